@@ -1,0 +1,27 @@
+-- What sources and sinks do.
+use Rattle.std.specs.Prelude.{◌≡◌, ◌⊎◌, ◌-◌, ◌^◌, ◌<◌, ◌≤◌, ℕ, List, [], ◌++◌, length, take, drop, Option, Some, IfSome}
+
+-- A count of faults rose. It stands still at its type's end, where it counts as having risen.
+abbrev pub Rose : ℕ → ℕ → Type 0
+Rose old new = (old < new) ⊎ (new ≡ 2 ^ 64 - 1)
+
+-- n bytes came from the front of what was left, to the front of a buffer; 0 is the end of the input
+pub record Gives (n : ℕ) (bytes buffer : List ℕ) (rest : Option (List ℕ)) : Type 0 where
+  pub enough : n ≤ length bytes
+  pub read : take n buffer ≡ take n bytes
+  pub left : rest ≡ Some (drop n bytes)
+  pub end : n ≡ 0 → bytes ≡ []
+
+-- the same, where the bytes left are told
+abbrev pub Gave : ℕ → Option (List ℕ) → List ℕ → Option (List ℕ) → Type 0
+Gave n before buffer after = IfSome before (λ bytes. Gives n bytes buffer after)
+
+-- the first n bytes of a piece were appended, where the bytes written are told
+abbrev pub Took : ℕ → List ℕ → Option (List ℕ) → Option (List ℕ) → Type 0
+Took n piece before after = IfSome before (λ written. after ≡ Some (written ++ take n piece))
+
+-- what a sink in memory holds: the bytes, the room for them, and how often it has failed
+pub record Holding : Type 0 where
+  pub written : List ℕ
+  pub room : ℕ
+  pub faults : ℕ

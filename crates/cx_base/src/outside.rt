@@ -1,0 +1,60 @@
+//! Where bytes come from and go to, and the gate that each command passes.
+
+ghost use Rattle.std.specs.Prelude.{◌≡◌, ◌<◌, ◌≤◌, length, IfOk, OnErr, List, ℕ, Option};
+ghost use Rattle.cx_base.specs.Outside.{Rose, Gave, Took};
+
+/// A call that a source or a sink refused.
+#[derive(Clone, Copy, Debug, PartialEq, Eq)]
+pub struct Failed;
+
+/// Where bytes come from.
+pub trait Source {
+    /// The bytes that it has left, where it tells them.
+    ghost left: { Self → Option (List ℕ) };
+
+    /// How often it has failed. The count stands still at 2^64 - 1.
+    ghost faults: { Self → ℕ };
+
+    /// Reads bytes to the front of `into`, at most as many as it holds, and answers how many. 0 is the end of
+    /// the input. After `Failed` no byte was taken. What `into` holds behind the bytes read is open.
+    fn read(&mut self, into: &mut [u8]) -> Result<usize, Failed>
+        requires { 0 < length into.old }
+        ensures ok { IfOk result (λ n. Gave n (left self.old) into.new (left self.new)) }
+        ensures within { IfOk result (λ n. n ≤ length into.old) }
+        ensures failed { OnErr result (Rose (faults self.old) (faults self.new)) }
+        ensures untouched { OnErr result (left self.new ≡ left self.old) }
+        ensures count { faults self.old ≤ faults self.new };
+}
+
+/// Where bytes go to.
+pub trait Sink {
+    /// The bytes written so far, where it tells them.
+    ghost written: { Self → Option (List ℕ) };
+
+    /// How often it has failed. The count stands still at 2^64 - 1.
+    ghost faults: { Self → ℕ };
+
+    /// Appends bytes from the front of `piece`, at least one of them, and answers how many. After `Failed`
+    /// nothing was appended. A sink that can take nothing fails.
+    fn write(&mut self, piece: &[u8]) -> Result<usize, Failed>
+        requires { 0 < length piece.now }
+        ensures ok { IfOk result (λ n. Took n piece.now (written self.old) (written self.new)) }
+        ensures some { IfOk result (λ n. 0 < n) }
+        ensures within { IfOk result (λ n. n ≤ length piece.now) }
+        ensures failed { OnErr result (Rose (faults self.old) (faults self.new)) }
+        ensures untouched { OnErr result (written self.new ≡ written self.old) }
+        ensures count { faults self.old ≤ faults self.new };
+}
+
+/// What each worker passes before a command (`after` false) and behind it (`after` true). It answers nothing.
+pub trait Gate {
+    fn pass(&self, client: u32, command: u64, after: bool);
+}
+
+/// The gate that is always open.
+#[derive(Clone, Copy, Debug)]
+pub struct OpenGate;
+
+impl Gate for OpenGate {
+    fn pass(&self, _client: u32, _command: u64, _after: bool) {}
+}
