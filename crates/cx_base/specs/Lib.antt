@@ -1,2 +1,9 @@
+pub mod Codes
+pub mod Memory
+pub mod Noted
 pub mod Outside
+pub mod Packing
 pub mod Store
+pub mod Tally
+pub mod TallyLaws
+pub mod VecMemory

@@ -2,10 +2,28 @@
 //! gates), and the definitions of a store and of the room that it takes.
 #![tactic(auto)]
 
+mod codes;
 mod lists;
+mod memory;
 mod memory_ends;
+#[cfg(test)]
+mod noted;
+mod object;
 mod outside;
+mod packing;
+mod steps;
+pub mod tally;
+#[cfg(test)]
+mod tests;
 
+pub use codes::{
+    link_cell, link_code, link_parts, link_ticket, link_whole, root_code, root_parts, root_place,
+    root_replica, root_whole,
+};
 pub use lists::{Bytes, Items};
+pub use memory::{Halt, Memory, VecMemory};
 pub use memory_ends::{SureSink, SureSource};
+pub use object::Object;
 pub use outside::{Failed, Gate, OpenGate, Sink, Source};
+pub use packing::{pack, packed_unpacks, unpack, unpacked_packs};
+pub use steps::Steps;

@@ -1,6 +1,7 @@
 //! A source and a sink in memory.
 
-ghost use Rattle.std.specs.Prelude.{◌≡◌, ◌+◌, ◌<◌, ◌≤◌, [], ◌++◌, IsOk, vec_capacity, length};
+ghost use Rattle.std.specs.Prelude.{◌≡◌, ◌↔◌, ◌<◌, ◌≤◌, length, vec_capacity, IfOk, IsOk, IsErr, OnErr, Some};
+ghost use Rattle.cx_base.specs.Outside.{Gave, Took, Rose};
 
 use crate::outside::{Failed, Sink, Source};
 use std::marker::Model;
@@ -37,7 +38,16 @@ impl Source for SureSource {
 
     ghost faults = { λ _. 0 };
 
-    fn read(&mut self, into: &mut [u8]) -> Result<usize, Failed> {
+    fn read(&mut self, into: &mut [u8]) -> Result<usize, Failed>
+        requires { 0 < length into.old }
+        ensures ok { IfOk result (λ n. Gave n (Some self.old) into.new (Some self.new)) }
+        ensures within { IfOk result (λ n. n ≤ length into.old) }
+        ensures failed { OnErr result (Rose 0 0) }
+        ensures untouched { OnErr result (Some self.new ≡ Some self.old) }
+        ensures count { 0 ≤ 0 }
+        // It never fails.
+        ensures sure { IsOk result }
+    {
         let n = into.len().min(self.bytes.len() - self.at);
         into[..n].copy_from_slice(&self.bytes[self.at..self.at + n]);
         self.at += n;
@@ -94,7 +104,18 @@ impl Sink for SureSink {
 
     ghost faults = { λ s. s.faults };
 
-    fn write(&mut self, piece: &[u8]) -> Result<usize, Failed> {
+    fn write(&mut self, piece: &[u8]) -> Result<usize, Failed>
+        requires { 0 < length piece.now }
+        ensures ok { IfOk result (λ n. Took n piece.now (Some self.old.written) (Some self.new.written)) }
+        ensures some { IfOk result (λ n. 0 < n) }
+        ensures within { IfOk result (λ n. n ≤ length piece.now) }
+        ensures failed { OnErr result (Rose self.old.faults self.new.faults) }
+        ensures untouched { OnErr result (Some self.new.written ≡ Some self.old.written) }
+        ensures count { self.old.faults ≤ self.new.faults }
+        // It fails exactly where no room is left, and the room stays.
+        ensures sure { IsErr result ↔ (self.old.room ≤ length self.old.written) }
+        ensures room { self.new.room ≡ self.old.room }
+    {
         let n = piece.len().min(self.room - self.bytes.len());
         if n == 0 || self.bytes.extend_from_slice(&piece[..n]).is_err() {
             self.faults = self.faults.saturating_add(1);

@@ -1,0 +1,74 @@
+-- How the pairs that stand go on from one access to the next.
+use Rattle.std.proofs.Common.{◌≡◌, ◌^◌, ◌<◌, ℕ, suc, List, slice_index, slice_set, Option, None, Some, is_some, refl, subst, sym}
+use Rattle.std.specs.List.{All}
+use Rattle.std.proofs.Math.Logic.{∥∥₁_elim}
+use Rattle.std.proofs.Math.Bridge.{le_prop}
+use Rattle.cx_base.specs.Memory.{Loaded, Stored, Becomes, Always, Known, one_less}
+
+module _ {Key : Type 0} where
+  -- nothing done
+  pub Becomes-same : (old : Key → List ℕ → Type 0) → Becomes old old ◌≡◌
+  Becomes-same old = record { from = λ first now s. (now, s, refl) }
+
+  -- another relation, which follows where the words now are known to stand
+  pub Becomes-weaker : {old new : Key → List ℕ → Type 0} {R S : List ℕ → List ℕ → Type 0} →
+      Becomes old new R → ((first : Key) (before now : List ℕ) → new first now → R before now → S before now) → Becomes old new S
+  Becomes-weaker b w = record {
+    from = λ first now s. (let p = b.from first now s in (p.0, p.1, w first p.0 now s p.2));
+  }
+
+  -- one after another
+  pub Becomes-then : {old mid new : Key → List ℕ → Type 0} {R S T : List ℕ → List ℕ → Type 0} →
+      Becomes old mid R → Becomes mid new S → ((x y z : List ℕ) → R x y → S y z → T x z) → Becomes old new T
+  Becomes-then b d w = record {
+    from = λ first now s. (let q = d.from first now s in let p = b.from first q.0 q.1 in (p.0, p.1, w p.0 q.0 now p.2 q.2));
+  }
+
+  -- a load behind what was done; the words loaded from are known to stand
+  pub Becomes-load : {old mid new : Key → List ℕ → Type 0} {R S : List ℕ → List ℕ → Type 0} {at v : ℕ} →
+      Becomes old mid R → Loaded at v mid new →
+      ((first : Key) (x y : List ℕ) → mid first y → R x y → slice_index y at ≡ v → S x y) → Becomes old new S
+  Becomes-load b l w = record {
+    from = λ first now s. (let q = l.back first now s in let p = b.from first now q.0 in (p.0, p.1, w first p.0 now q.0 p.2 q.1));
+  }
+
+  -- a store behind what was done; the words stored to are known to stand
+  pub Becomes-store : {old mid new : Key → List ℕ → Type 0} {R S : List ℕ → List ℕ → Type 0} {at v : ℕ} →
+      Becomes old mid R → Stored at v mid new →
+      ((first : Key) (x y : List ℕ) → mid first y → R x y → S x (slice_set y at v)) → Becomes old new S
+  Becomes-store {S = S} b d w = record {
+    from = λ first now s. (let q = d.back first now s in let p = b.from first q.0 q.1 in (p.0, p.1, subst (λ z. S p.0 z) (sym q.2) (w first p.0 q.0 q.1 p.2)));
+  }
+
+  -- what holds of the words after holds of all that may be there
+  pub Becomes-always : {old new : Key → List ℕ → Type 0} {R : List ℕ → List ℕ → Type 0} {P : List ℕ → Type 0} →
+      Becomes old new R → ((x y : List ℕ) → R x y → P y) → Always new P
+  Becomes-always b w first now s = (let p = b.from first now s in w p.0 now p.2)
+
+-- whether there is a limit stays the same over an access
+pub is_some-one_less : (left : Option ℕ) → is_some (one_less left) ≡ is_some left
+is_some-one_less None = refl
+is_some-one_less (Some n) = refl
+
+-- where all words are known, the words after are the known ones
+pub known_after : {R : List ℕ → List ℕ → Type 0} (ws vs : List ℕ) → All (λ x. x < 2 ^ 64) vs → Becomes (Known ws) (Known vs) R → R ws vs
+known_after {R = R} ws vs fit b =
+    let p = b.from vs vs (record { first_fits = record { long = refl; fit = fit }; same = refl }) in
+    subst (λ x. R x vs) p.1.same p.2
+
+-- what the known words are, all words that stand are
+pub known_always : (P : List ℕ → Type 0) (ws : List ℕ) → P ws → Always (Known ws) P
+known_always P ws p first now s = subst P (sym s.same) p
+
+module _ {Key : Type 0} where
+  -- a bound on the words that may be there bounds the word loaded: some words stand
+  pub loaded_below : {old new : Key → List ℕ → Type 0} (at v bound : ℕ) → ∥ ((first : Key) × (now : List ℕ) × new first now) ∥₁ →
+      Loaded at v old new → Always old (λ now. slice_index now at < bound) → v < bound
+  loaded_below {new = new} at v bound some l below =
+      ∥∥₁_elim some (le_prop {n = suc v} {m = bound}) (λ (p : (first : Key) × (now : List ℕ) × new first now). (
+      let q = l.back p.0 p.1 p.2 in
+      subst (λ n. n < bound) q.1 (below p.0 p.1 q.0)))
+
+  -- what may be there after a load may have been there before
+  pub Always-loaded : {old new : Key → List ℕ → Type 0} {at v : ℕ} (P : List ℕ → Type 0) → Loaded at v old new → Always old P → Always new P
+  Always-loaded P l always first now s = always first now (l.back first now s).0

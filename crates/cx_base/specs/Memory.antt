@@ -1,0 +1,46 @@
+-- What a memory tells: which words it may have held first, and which it then holds now.
+use Rattle.std.specs.Prelude.{◌≡◌, ◌-◌, ◌^◌, ◌<◌, ℕ, List, length, All, Option, Some, None, slice_index, slice_set}
+use Rattle.std.proofs.Common.{ap}
+use Rattle.std.proofs.lemmas.List.Elements.{All-same}
+
+-- n words of 64 bits
+pub record Words (n : ℕ) (ws : List ℕ) : Type 0 where
+  pub long : length ws ≡ n
+  pub fit : All (λ x. x < 2 ^ 64) ws
+
+-- what is left of a limit after one access more; no limit stays none
+abbrev pub one_less : Option ℕ → Option ℕ
+one_less None = None
+one_less (Some n) = Some (n - 1)
+
+-- the same pairs stand
+pub record Same {Key : Type 0} (old new : Key → List ℕ → Type 0) : Type 0 where
+  pub back : (first : Key) (now : List ℕ) → new first now → old first now
+  pub on : (first : Key) (now : List ℕ) → old first now → new first now
+
+-- the pairs that stand after a load at a place that gave v: those from before that have v there
+pub record Loaded {Key : Type 0} (at v : ℕ) (old new : Key → List ℕ → Type 0) : Type 0 where
+  pub back : (first : Key) (now : List ℕ) → new first now → old first now × (slice_index now at ≡ v)
+  pub on : (first : Key) (now : List ℕ) → old first now → slice_index now at ≡ v → new first now
+
+-- the pairs that stand after a store of v at a place: those from before with v put there
+pub record Stored {Key : Type 0} (at v : ℕ) (old new : Key → List ℕ → Type 0) : Type 0 where
+  pub back : (first : Key) (now : List ℕ) → new first now → (before : List ℕ) × old first before × (now ≡ slice_set before at v)
+  pub on : (first : Key) (before : List ℕ) → old first before → new first (slice_set before at v)
+
+-- each pair that stands now comes from one before, with the words before and after so related
+pub record Becomes {Key : Type 0} (old new : Key → List ℕ → Type 0) (R : List ℕ → List ℕ → Type 0) : Type 0 where
+  pub from : (first : Key) (now : List ℕ) → new first now → (before : List ℕ) × old first before × R before now
+
+-- all the words that may be there now are so
+abbrev pub Always : {Key : Type 0} → (Key → List ℕ → Type 0) → (List ℕ → Type 0) → Type 0
+Always {Key = Key} stands P = (first : Key) (now : List ℕ) → stands first now → P now
+
+-- a pair whose words now are known: any words first
+pub record Known (words first now : List ℕ) : Type 0 where
+  pub first_fits : Words (length words) first
+  pub same : now ≡ words
+
+-- the words now of such a pair are as many and as small as the known ones
+pub words_from_known : (words first now : List ℕ) → All (λ x. x < 2 ^ 64) words → Known words first now → Words (length words) now
+words_from_known words first now fit k = record { long = ap length k.same; fit = All-same (λ x. x < 2 ^ 64) now words k.same fit }

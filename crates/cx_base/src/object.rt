@@ -1,0 +1,97 @@
+//! Sequential objects: a deterministic step on an image of words.
+
+ghost use Rattle.std.specs.Prelude.{◌≡◌, ◌*◌, ◌↔◌, ℕ, Bool, List, length, slice_index, is_some, IsTrue, OnErr, OnOk, IfOk, Some};
+ghost use Rattle.cx_base.specs.Memory.{Words, Becomes, Always};
+
+use crate::memory::{Halt, Memory};
+use std::alloc::{AllocError, Global};
+
+/// A sequential object. Its state is an image, which is a list of words in lines of 8, and its meaning is a step
+/// from an image and an operation to the image after it and a reply. Operations and replies have 144 words.
+pub trait Object: Drop {
+    /// The lines of its image.
+    ghost line_count: { Self → ℕ };
+
+    /// The first word of each lawful image.
+    ghost version_number: { Self → ℕ };
+
+    /// Whether an image may be the object's.
+    ghost lawful: { Self → List ℕ → Type 0 };
+
+    /// The image that it opens with.
+    ghost opening: { Self → List ℕ };
+
+    /// The image after an operation, and the reply.
+    ghost step: { Self → List ℕ → List ℕ → List ℕ × List ℕ };
+
+    /// Whether an operation only reads.
+    ghost only_reads: { Self → List ℕ → Bool };
+
+    /// The lines of its image, a line is 8 words. It is a constant of the value.
+    fn lines(&self) -> u64
+        ensures { result ≡ line_count self.now };
+
+    /// The version of its image's format. It is a constant of the value.
+    fn version(&self) -> u64
+        ensures { result ≡ version_number self.now };
+
+    /// Makes the opening image, whatever the words were. `Halt` comes only where no access is left.
+    fn format<M: Memory>(&self, mem: &mut M) -> Result<(), Halt>
+        requires size { M.size mem.old ≡ 8 * line_count self.now }
+        requires writable { IsTrue (M.writable mem.old) }
+        ensures done { OnOk result (Becomes (M.stands mem.old) (M.stands mem.new) (λ _ now. now ≡ opening self.now)) }
+        ensures halts { OnErr result (M.left mem.new ≡ Some 0) }
+        ensures limited { is_some (M.left mem.new) ≡ is_some (M.left mem.old) }
+        ensures fixed { M.fixed mem.new ≡ M.fixed mem.old }
+        ensures size_kept { M.size mem.new ≡ M.size mem.old }
+        ensures writable_kept { M.writable mem.new ≡ M.writable mem.old };
+
+    /// Whether an operation only reads.
+    fn reads(&self, op: &[u64; 144]) -> bool
+        ensures { result ≡ only_reads self.now op.now };
+
+    /// Does one step, and gives the reply. `Halt` comes only where no access is left.
+    fn run<M: Memory>(&self, mem: &mut M, op: &[u64; 144]) -> Result<[u64; 144], Halt>
+        requires size { M.size mem.old ≡ 8 * line_count self.now }
+        requires writable { IsTrue (M.writable mem.old) }
+        requires lawful { Always (M.stands mem.old) (lawful self.now) }
+        ensures done { IfOk result (λ reply. Becomes (M.stands mem.old) (M.stands mem.new) (λ before now. step self.now before op.now ≡ (now, reply))) }
+        ensures halts { OnErr result (M.left mem.new ≡ Some 0) }
+        ensures limited { is_some (M.left mem.new) ≡ is_some (M.left mem.old) }
+        ensures fixed { M.fixed mem.new ≡ M.fixed mem.old }
+        ensures size_kept { M.size mem.new ≡ M.size mem.old }
+        ensures writable_kept { M.writable mem.new ≡ M.writable mem.old };
+
+    /// Gives the reply to an operation that only reads, and stores nothing. `Halt` comes only where no access is
+    /// left.
+    fn query<M: Memory>(&self, mem: &mut M, op: &[u64; 144]) -> Result<[u64; 144], Halt>
+        requires size { M.size mem.old ≡ 8 * line_count self.now }
+        requires lawful { Always (M.stands mem.old) (lawful self.now) }
+        requires reads { IsTrue (only_reads self.now op.now) }
+        ensures done { IfOk result (λ reply. Always (M.stands mem.new) (λ now. step self.now now op.now ≡ (now, reply))) }
+        ensures unchanged { Becomes (M.stands mem.old) (M.stands mem.new) ◌≡◌ }
+        ensures halts { OnErr result (M.left mem.new ≡ Some 0) }
+        ensures limited { is_some (M.left mem.new) ≡ is_some (M.left mem.old) }
+        ensures fixed { M.fixed mem.new ≡ M.fixed mem.old }
+        ensures size_kept { M.size mem.new ≡ M.size mem.old }
+        ensures writable_kept { M.writable mem.new ≡ M.writable mem.old };
+
+    /// Whether words are a lawful image. `Err` is want of memory.
+    fn check(&self, alloc: Global, words: &[u64]) -> Result<bool, AllocError>
+        ensures { IfOk result (λ yes. IsTrue yes ↔ lawful self.now words.now) };
+
+    /// The opening image is lawful.
+    ghost opens: { (o : Self) → lawful o (opening o) };
+
+    /// A step of a lawful image leaves a lawful image.
+    ghost keeps: { (o : Self) (image op : List ℕ) → lawful o image → Words 144 op → lawful o (step o image op).0 };
+
+    /// A lawful image has 8 words for each line, the first of which is the version.
+    ghost shape: { (o : Self) (image : List ℕ) → lawful o image → Words (8 * line_count o) image × (slice_index image 0 ≡ version_number o) };
+
+    /// A reply has 144 words.
+    ghost replies: { (o : Self) (image op : List ℕ) → lawful o image → Words 144 op → Words 144 (step o image op).1 };
+
+    /// An operation that only reads leaves the image.
+    ghost leaves: { (o : Self) (image op : List ℕ) → lawful o image → Words 144 op → IsTrue (only_reads o op) → (step o image op).0 ≡ image };
+}

@@ -1,0 +1,97 @@
+//! The object of the tests: a running sum.
+
+ghost use Rattle.std.specs.Prelude.{◌≡◌, ◌<◌, ◌^◌, ℕ, Bool, List, length, slice_index, IsTrue};
+ghost use Rattle.cx_base.specs.Memory.{Words};
+ghost use Rattle.cx_base.specs.Tally.{IsTally, tally_opening, tally_reads, tally_reply, tally_step};
+ghost use Rattle.cx_base.specs.TallyLaws.{tally_opens, tally_keeps, tally_shape, tally_replies, tally_leaves};
+
+use crate::memory::{Halt, Memory};
+use crate::object::Object;
+use std::alloc::{AllocError, Global};
+
+/// An object of 64 lines and version 7. Word 0 of an operation is added to word 1 of the image, wrapping; an
+/// operation whose word 1 is 1 only reads. Word 0 of the reply is the sum.
+#[derive(Clone, Copy, Debug, PartialEq, Eq)]
+pub struct Tally;
+
+const WORDS: u64 = 512;
+
+const VERSION: u64 = 7;
+
+impl Object for Tally {
+    ghost line_count = { λ _. 64 };
+
+    ghost version_number = { λ _. 7 };
+
+    ghost lawful = { λ _. IsTally };
+
+    ghost opening = { λ _. tally_opening };
+
+    ghost step = { λ _. tally_step };
+
+    ghost only_reads = { λ _. tally_reads };
+
+    ghost opens = { tally_opens };
+
+    ghost keeps = { tally_keeps };
+
+    ghost shape = { tally_shape };
+
+    ghost replies = { tally_replies };
+
+    ghost leaves = { tally_leaves };
+
+    fn lines(&self) -> u64 {
+        64
+    }
+
+    fn version(&self) -> u64 {
+        VERSION
+    }
+
+    fn format<M: Memory>(&self, mem: &mut M) -> Result<(), Halt> {
+        for at in 0..WORDS {
+            mem.store(at, opening_word(at))?;
+        }
+        Ok(())
+    }
+
+    fn reads(&self, op: &[u64; 144]) -> bool {
+        op[1] == 1
+    }
+
+    fn run<M: Memory>(&self, mem: &mut M, op: &[u64; 144]) -> Result<[u64; 144], Halt> {
+        if self.reads(op) {
+            return self.query(mem, op);
+        }
+        let sum = mem.load(1)?.wrapping_add(op[0]);
+        mem.store(1, sum)?;
+        Ok(reply(sum))
+    }
+
+    fn query<M: Memory>(&self, mem: &mut M, _op: &[u64; 144]) -> Result<[u64; 144], Halt> {
+        let sum = mem.load(1)?;
+        Ok(reply(sum))
+    }
+
+    fn check(&self, _alloc: Global, words: &[u64]) -> Result<bool, AllocError> {
+        Ok(words.len() == 512 && words[0] == VERSION)
+    }
+}
+
+/// A word of the opening image.
+fn opening_word(at: u64) -> u64
+    requires { at < 512 }
+    ensures { result ≡ slice_index tally_opening at }
+{
+    if at == 0 { VERSION } else { 0 }
+}
+
+/// A reply with this sum.
+fn reply(sum: u64) -> [u64; 144]
+    ensures { result ≡ tally_reply sum }
+{
+    let mut words = [0; 144];
+    words[0] = sum;
+    words
+}
