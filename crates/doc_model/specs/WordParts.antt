@@ -1,0 +1,67 @@
+-- The parts of words, and which of them are an operation's or a reply's.
+use Rattle.std.specs.Prelude.{◌≤◌, ◌<◌, ℕ, Bool, ◌&&◌, ◌||◌, ◌==◌, nat_le, List, length, All, if◌then◌else◌}
+use Rattle.std.specs.List.{list_all}
+use Rattle.std.specs.Int.{w64, cast_signed}
+use Rattle.doc_model.specs.declared.operations.Op.{Op}
+use Rattle.doc_model.specs.declared.operations.Op.TheVariants.{Put, Del, Add, Get, Next, Count}
+use Rattle.doc_model.specs.declared.operations.Reply.{Reply}
+use Rattle.doc_model.specs.declared.operations.Reply.TheVariants.{New, Replaced, Deleted, Absent, Doc, Sum, NotNumber, Overflow, NoRoom, Key, Number}
+
+-- so many bytes at most
+pub record IsText (most : ℕ) (text : List ℕ) : Type 0 where
+  pub short : length text ≤ most
+  pub bytes : All (λ b. b < 256) text
+
+-- the tests of a key and of a document
+abbrev pub is_key : List ℕ → Bool
+is_key key = nat_le 1 (length key) && nat_le (length key) 64 && list_all (λ b. nat_le 33 b && nat_le b 126) key
+
+abbrev pub is_document : List ℕ → Bool
+is_document document = nat_le 1 (length document) && nat_le (length document) 1024 && list_all (nat_le 32) document
+
+-- there is only a key, or neither key nor document
+abbrev pub has_key_only : List ℕ → List ℕ → Bool
+has_key_only key document = is_key key && length document == 0
+
+abbrev pub has_no_text : List ℕ → List ℕ → Bool
+has_no_text key document = length key == 0 && length document == 0
+
+-- whether an operation has these parts
+abbrev pub has_op : ℕ → List ℕ → List ℕ → ℕ → Bool
+has_op kind key document number =
+    if kind == 1 then is_key key && is_document document && number == 0
+    else (if kind == 2 || kind == 4 then has_key_only key document && number == 0
+    else (if kind == 3 then has_key_only key document
+    else (if kind == 5 then (has_key_only key document || has_no_text key document) && number == 0
+    else kind == 6 && has_no_text key document && number == 0)))
+
+-- the operation that has them
+abbrev pub op_with : ℕ → List ℕ → List ℕ → ℕ → Op
+op_with kind key document number =
+    if kind == 6 then Count
+    else (if kind == 1 then Put key document
+    else (if kind == 2 then Del key
+    else (if kind == 3 then Add key (cast_signed w64 number)
+    else (if kind == 4 then Get key else Next key))))
+
+-- whether a reply has these parts
+abbrev pub has_reply : ℕ → List ℕ → List ℕ → ℕ → Bool
+has_reply kind key document number =
+    if kind == 5 then length key == 0 && is_document document && number == 0
+    else (if kind == 10 then has_key_only key document && number == 0
+    else (if kind == 6 || kind == 11 then has_no_text key document
+    else nat_le 1 kind && nat_le kind 9 && has_no_text key document && number == 0))
+
+-- the reply that has them
+abbrev pub reply_with : ℕ → List ℕ → List ℕ → ℕ → Reply
+reply_with kind key document number =
+    if kind == 1 then New
+    else (if kind == 2 then Replaced
+    else (if kind == 3 then Deleted
+    else (if kind == 4 then Absent
+    else (if kind == 5 then Doc document
+    else (if kind == 6 then Sum (cast_signed w64 number)
+    else (if kind == 7 then NotNumber
+    else (if kind == 8 then Overflow
+    else (if kind == 9 then NoRoom
+    else (if kind == 10 then Key key else Number number)))))))))

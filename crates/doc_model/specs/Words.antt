@@ -1,0 +1,98 @@
+-- Operations and replies as words: a kind, a key, a document and a number.
+use Rattle.std.specs.Prelude.{◌≡◌, ◌≢◌, ◌^◌, ◌<◌, ℕ, List, [], ◌∷◌, ◌++◌, length, FitsSigned}
+use Rattle.std.specs.Int.{w64, cast_unsigned}
+use Rattle.cx_base.specs.Store.{IsKey, IsDocument}
+use Rattle.cx_base.specs.Packing.{packed}
+use Rattle.doc_model.specs.Meaning.{IsOp}
+use Rattle.doc_model.specs.declared.operations.Op.{Op}
+use Rattle.doc_model.specs.declared.operations.Op.TheVariants.{Put, Del, Add, Get, Next, Count}
+use Rattle.doc_model.specs.declared.operations.Reply.{Reply}
+use Rattle.doc_model.specs.declared.operations.Reply.TheVariants.{New, Replaced, Deleted, Absent, Doc, Sum, NotNumber, Overflow, NoRoom, Key, Number}
+
+-- the first eight words
+abbrev pub head_words : ℕ → List ℕ → List ℕ → ℕ → List ℕ
+head_words kind key document number = kind ∷ length key ∷ length document ∷ number ∷ 0 ∷ 0 ∷ 0 ∷ 0 ∷ []
+
+-- behind them the key in so many words, and the document in so many
+unfoldable pub words_in : ℕ → ℕ → ℕ → List ℕ → List ℕ → ℕ → List ℕ
+words_in key_words document_words kind key document number =
+    head_words kind key document number ++ (packed key_words key ++ packed document_words document)
+
+-- the 144 words of a kind, a key, a document and a number
+abbrev pub words_of : ℕ → List ℕ → List ℕ → ℕ → List ℕ
+words_of kind key document number = words_in 8 128 kind key document number
+
+-- the words of an operation
+abbrev pub op_words : Op → List ℕ
+op_words (Put key document) = words_of 1 key document 0
+op_words (Del key) = words_of 2 key [] 0
+op_words (Add key amount) = words_of 3 key [] (cast_unsigned w64 amount)
+op_words (Get key) = words_of 4 key [] 0
+op_words (Next above) = words_of 5 above [] 0
+op_words Count = words_of 6 [] [] 0
+
+-- the words of a reply
+abbrev pub reply_words : Reply → List ℕ
+reply_words New = words_of 1 [] [] 0
+reply_words Replaced = words_of 2 [] [] 0
+reply_words Deleted = words_of 3 [] [] 0
+reply_words Absent = words_of 4 [] [] 0
+reply_words (Doc document) = words_of 5 [] document 0
+reply_words (Sum sum) = words_of 6 [] [] (cast_unsigned w64 sum)
+reply_words NotNumber = words_of 7 [] [] 0
+reply_words Overflow = words_of 8 [] [] 0
+reply_words NoRoom = words_of 9 [] [] 0
+reply_words (Key key) = words_of 10 key [] 0
+reply_words (Number number) = words_of 11 [] [] number
+
+-- a reply whose key or document is within the limits
+abbrev pub IsReply : Reply → Type 0
+IsReply New = Unit {0}
+IsReply Replaced = Unit {0}
+IsReply Deleted = Unit {0}
+IsReply Absent = Unit {0}
+IsReply (Doc document) = IsDocument document
+IsReply (Sum sum) = Unit {0}
+IsReply NotNumber = Unit {0}
+IsReply Overflow = Unit {0}
+IsReply NoRoom = Unit {0}
+IsReply (Key key) = IsKey key
+IsReply (Number number) = Unit {0}
+
+-- the amount of an operation is a 64-bit integer, as each amount of the program is
+abbrev pub HasIntegerAmount : Op → Type 0
+HasIntegerAmount (Put key document) = Unit {0}
+HasIntegerAmount (Del key) = Unit {0}
+HasIntegerAmount (Add key amount) = FitsSigned w64 amount
+HasIntegerAmount (Get key) = Unit {0}
+HasIntegerAmount (Next above) = Unit {0}
+HasIntegerAmount Count = Unit {0}
+
+-- the number of a reply has 64 bits
+abbrev pub HasWordNumber : Reply → Type 0
+HasWordNumber New = Unit {0}
+HasWordNumber Replaced = Unit {0}
+HasWordNumber Deleted = Unit {0}
+HasWordNumber Absent = Unit {0}
+HasWordNumber (Doc document) = Unit {0}
+HasWordNumber (Sum sum) = FitsSigned w64 sum
+HasWordNumber NotNumber = Unit {0}
+HasWordNumber Overflow = Unit {0}
+HasWordNumber NoRoom = Unit {0}
+HasWordNumber (Key key) = Unit {0}
+HasWordNumber (Number number) = number < 2 ^ 64
+
+-- an operation within the limits has these words
+pub record AreOfAnOp (words : List ℕ) : Type 0 where
+  pub op : Op
+  pub limits : IsOp op
+  pub amount : HasIntegerAmount op
+  pub has : op_words op ≡ words
+
+-- no operation within the limits has these words
+abbrev pub AreOfNoOp : List ℕ → Type 0
+AreOfNoOp words = (op : Op) → IsOp op → HasIntegerAmount op → op_words op ≢ words
+
+-- no reply within the limits has these words
+abbrev pub AreOfNoReply : List ℕ → Type 0
+AreOfNoReply words = (reply : Reply) → IsReply reply → HasWordNumber reply → reply_words reply ≢ words

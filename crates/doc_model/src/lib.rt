@@ -1,0 +1,27 @@
+//! The operations of the document store, their replies, and what each operation means: the reply and the next
+//! store, as a table over a list of pairs. Numbers as decimal text stand here too.
+#![tactic(auto)]
+
+mod laws;
+mod numbers;
+mod operations;
+mod places;
+mod plain;
+mod table;
+#[cfg(test)]
+mod tests;
+mod word_laws;
+mod word_parts;
+#[cfg(test)]
+mod word_tests;
+mod words;
+
+pub use laws::{operations_keep_stores, readings_leave_stores};
+pub use numbers::{integer_of, integer_text_is_one_to_one, number_of, number_text_is_one_to_one};
+pub use operations::{Op, Pair, Reply};
+pub use plain::Pairs;
+pub use word_laws::{
+    kinds_tell_readings, op_words_are_one_to_one, parts_stand_in_words, reply_words_are_one_to_one,
+    words_are_words,
+};
+pub use words::{OpFault, is_op, op_of, op_words, reply_of, reply_words};

@@ -1,0 +1,230 @@
+//! Operations and replies as 144 words. Word 0 is the kind, word 1 the length of the key, word 2 the length of the
+//! document, word 3 a number, signed ones in two's complement. Words 4 to 7 are 0, 8 to 15 hold the key, and 16 to
+//! 143 the document, eight bytes a word. What a kind does not use is 0.
+
+ghost use Rattle.std.specs.Prelude.{◌≡◌, ◌↔◌, IfOk, IsErrOf, MatchBool, MatchResult, ◌&&◌, nat_le};
+ghost use Rattle.std.specs.List.{list_all};
+ghost use Rattle.doc_model.specs.Meaning.{IsOp};
+ghost use Rattle.doc_model.specs.Words as spec;
+ghost use Rattle.doc_model.specs.WordParts as kinds;
+ghost use Rattle.doc_model.specs.declared.operations.Op.{Op};
+ghost use Rattle.doc_model.specs.declared.operations.Reply.{Reply};
+ghost use Rattle.doc_model.specs.declared.words.OpFault.TheVariants.{BadOp, Memory};
+
+use crate::operations::{Op, Reply};
+use crate::word_parts::{Parts, words_of};
+use cx_base::Bytes;
+use std::alloc::{AllocError, Global};
+use std::error::Error;
+use std::fmt;
+
+/// Why words were not read.
+#[derive(Clone, Copy, Debug, PartialEq, Eq)]
+pub enum OpFault {
+    /// No operation, or no reply, has these words.
+    BadOp,
+    /// Memory is wanting.
+    Memory,
+}
+
+impl fmt::Display for OpFault {
+    fn fmt<W: fmt::Write>(&self, f: &mut fmt::Formatter<W>) -> fmt::Result {
+        match self {
+            OpFault::BadOp => f.write_str("no operation or reply has these words"),
+            OpFault::Memory => f.write_str("out of memory"),
+        }
+    }
+}
+
+impl Error for OpFault {}
+
+impl From<AllocError> for OpFault {
+    ghost from_gives = { λ _ e. e ≡ Memory };
+
+    fn from(_e: AllocError) -> OpFault {
+        OpFault::Memory
+    }
+}
+
+/// The words of an operation. They take no memory.
+pub fn op_words(op: &Op) -> [u64; 144]
+    requires { IsOp op.now }
+    ensures { result ≡ spec.op_words op.now }
+{
+    match op {
+        Op::Put { key, doc } => words_of(1, key.as_slice(), doc.as_slice(), 0),
+        Op::Del { key } => words_of(2, key.as_slice(), &[], 0),
+        Op::Add { key, amount } => words_of(3, key.as_slice(), &[], amount.cast_unsigned()),
+        Op::Get { key } => words_of(4, key.as_slice(), &[], 0),
+        Op::Next { above } => words_of(5, above.as_slice(), &[], 0),
+        Op::Count => words_of(6, &[], &[], 0),
+    }
+}
+
+/// The words of a reply. They take no memory.
+pub fn reply_words(reply: &Reply) -> [u64; 144]
+    requires { spec.IsReply reply.now }
+    ensures { result ≡ spec.reply_words reply.now }
+{
+    match reply {
+        Reply::New => words_of(1, &[], &[], 0),
+        Reply::Replaced => words_of(2, &[], &[], 0),
+        Reply::Deleted => words_of(3, &[], &[], 0),
+        Reply::Absent => words_of(4, &[], &[], 0),
+        Reply::Doc(doc) => words_of(5, &[], doc.as_slice(), 0),
+        Reply::Sum(sum) => words_of(6, &[], &[], sum.cast_unsigned()),
+        Reply::NotNumber => words_of(7, &[], &[], 0),
+        Reply::Overflow => words_of(8, &[], &[], 0),
+        Reply::NoRoom => words_of(9, &[], &[], 0),
+        Reply::Key(key) => words_of(10, key.as_slice(), &[], 0),
+        Reply::Number(number) => words_of(11, &[], &[], *number),
+    }
+}
+
+/// Whether an operation within the limits has these words. It takes no memory.
+pub fn is_op(words: &[u64; 144]) -> bool
+    ensures { MatchBool result (spec.AreOfAnOp words.now) (spec.AreOfNoOp words.now) }
+{
+    match Parts::of(words) {
+        Some(parts) => has_op(&parts),
+        None => false,
+    }
+}
+
+/// The operation that has these words. `BadOp` comes exactly where none within the limits has them.
+pub fn op_of(alloc: Global, words: &[u64; 144]) -> Result<Op, OpFault>
+    // What is read has these words.
+    ensures found { IfOk result (λ op. IsOp op × (spec.op_words op ≡ words.now)) }
+    // What has these words is read, unless memory is wanting.
+    ensures only { (op : Op) → IsOp op → spec.HasIntegerAmount op → spec.op_words op ≡ words.now → MatchResult result (λ read. read ≡ op) (λ fault. fault ≡ OpFault.Memory) }
+    ensures bad { IsErrOf result OpFault.BadOp ↔ spec.AreOfNoOp words.now }
+{
+    let Some(parts) = Parts::of(words) else {
+        return Err(OpFault::BadOp);
+    };
+    if !has_op(&parts) {
+        return Err(OpFault::BadOp);
+    }
+    Ok(op_with(alloc, &parts)?)
+}
+
+/// The reply that has these words. `BadOp` comes exactly where none within the limits has them.
+pub fn reply_of(alloc: Global, words: &[u64; 144]) -> Result<Reply, OpFault>
+    // What is read has these words.
+    ensures found { IfOk result (λ reply. spec.IsReply reply × (spec.reply_words reply ≡ words.now)) }
+    // What has these words is read, unless memory is wanting.
+    ensures only { (reply : Reply) → spec.IsReply reply → spec.HasWordNumber reply → spec.reply_words reply ≡ words.now → MatchResult result (λ read. read ≡ reply) (λ fault. fault ≡ OpFault.Memory) }
+    ensures bad { IsErrOf result OpFault.BadOp ↔ spec.AreOfNoReply words.now }
+{
+    let Some(parts) = Parts::of(words) else {
+        return Err(OpFault::BadOp);
+    };
+    if !has_reply(&parts) {
+        return Err(OpFault::BadOp);
+    }
+    Ok(reply_with(alloc, &parts)?)
+}
+
+fn are_visible(bytes: &[u8]) -> bool
+    ensures { result ≡ list_all (λ b. nat_le 33 b && nat_le b 126) bytes.now }
+{
+    bytes.iter().all(|byte| *byte >= 0x21 && *byte <= 0x7E)
+}
+
+fn are_plain(bytes: &[u8]) -> bool
+    ensures { result ≡ list_all (nat_le 32) bytes.now }
+{
+    bytes.iter().all(|byte| *byte >= 0x20)
+}
+
+/// Whether the bytes are a key.
+fn is_key(key: &[u8]) -> bool
+    ensures { result ≡ kinds.is_key key.now }
+{
+    !key.is_empty() && key.len() <= 64 && are_visible(key)
+}
+
+/// Whether the bytes are a document.
+fn is_document(document: &[u8]) -> bool
+    ensures { result ≡ kinds.is_document document.now }
+{
+    !document.is_empty() && document.len() <= 1024 && are_plain(document)
+}
+
+/// Whether some operation has these parts.
+fn has_op(parts: &Parts) -> bool
+    ensures { result ≡ kinds.has_op parts.now.kind parts.now.key parts.now.document parts.now.number }
+{
+    let key = parts.key.as_slice();
+    let document = parts.document.as_slice();
+    let no_number = parts.number == 0;
+    let only_key = is_key(key) && document.is_empty();
+    let no_text = key.is_empty() && document.is_empty();
+    match parts.kind {
+        1 => is_key(key) && is_document(document) && no_number,
+        2 | 4 => only_key && no_number,
+        3 => only_key,
+        5 => (only_key || no_text) && no_number,
+        6 => no_text && no_number,
+        _ => false,
+    }
+}
+
+/// The operation of some parts.
+fn op_with(alloc: Global, parts: &Parts) -> Result<Op, AllocError>
+    ensures { IfOk result (λ op. op ≡ kinds.op_with parts.now.kind parts.now.key parts.now.document parts.now.number) }
+{
+    if parts.kind == 6 {
+        return Ok(Op::Count);
+    }
+    let key = Bytes::of(alloc, parts.key.as_slice())?;
+    match parts.kind {
+        1 => Ok(Op::Put {
+            key,
+            doc: Bytes::of(alloc, parts.document.as_slice())?,
+        }),
+        2 => Ok(Op::Del { key }),
+        3 => Ok(Op::Add {
+            key,
+            amount: parts.number.cast_signed(),
+        }),
+        4 => Ok(Op::Get { key }),
+        _ => Ok(Op::Next { above: key }),
+    }
+}
+
+/// Whether some reply has these parts.
+fn has_reply(parts: &Parts) -> bool
+    ensures { result ≡ kinds.has_reply parts.now.kind parts.now.key parts.now.document parts.now.number }
+{
+    let key = parts.key.as_slice();
+    let document = parts.document.as_slice();
+    let no_number = parts.number == 0;
+    let no_text = key.is_empty() && document.is_empty();
+    match parts.kind {
+        1..=4 | 7..=9 => no_text && no_number,
+        5 => key.is_empty() && is_document(document) && no_number,
+        6 | 11 => no_text,
+        10 => is_key(key) && document.is_empty() && no_number,
+        _ => false,
+    }
+}
+
+/// The reply of some parts.
+fn reply_with(alloc: Global, parts: &Parts) -> Result<Reply, AllocError>
+    ensures { IfOk result (λ reply. reply ≡ kinds.reply_with parts.now.kind parts.now.key parts.now.document parts.now.number) }
+{
+    match parts.kind {
+        1 => Ok(Reply::New),
+        2 => Ok(Reply::Replaced),
+        3 => Ok(Reply::Deleted),
+        4 => Ok(Reply::Absent),
+        5 => Ok(Reply::Doc(Bytes::of(alloc, parts.document.as_slice())?)),
+        6 => Ok(Reply::Sum(parts.number.cast_signed())),
+        7 => Ok(Reply::NotNumber),
+        8 => Ok(Reply::Overflow),
+        9 => Ok(Reply::NoRoom),
+        10 => Ok(Reply::Key(Bytes::of(alloc, parts.key.as_slice())?)),
+        _ => Ok(Reply::Number(parts.number)),
+    }
+}
