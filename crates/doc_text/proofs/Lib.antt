@@ -1,0 +1,10 @@
+pub mod Adding
+pub mod Cuts
+pub mod Decimals
+pub mod JournalTexts
+pub mod LifeTexts
+pub mod OwnOps
+pub mod ReadTexts
+pub mod Records
+pub mod Saying
+pub mod WithinLimits

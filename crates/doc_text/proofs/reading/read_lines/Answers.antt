@@ -1,0 +1,32 @@
+use Rattle.std.proofs.Common.{◌≡◌, ◌≤◌, ◌+◌, length, [], refl, sym, ap, ◌∙◌, arith}
+use Rattle.std.proofs.lemmas.Bool.{eqb-true}
+use Rattle.std.proofs.lemmas.List.{nil_from_length}
+use Rattle.doc_text.specs.Grammar.{text_lines}
+use Rattle.doc_text.specs.Reading.{with_lines}
+use Rattle.doc_text.proofs.Adding.{fault, one_more, all_read}
+use Rattle.doc_text.proofs.reading.read_lines.Goals as goal
+
+pub loop-rest-init : goal.loop-rest-init
+unfolding with_lines
+loop-rest-init c = record { left = refl; read = refl; counted = omega arith }
+
+pub returns-then-not-branch-clause-refused : goal.returns-then-not-branch-clause-refused
+returns-then-not-branch-clause-refused c =
+    let left = c.loop-rest.invariant.left ∙ c.next_line.ensures.lines in
+    let refused = rw c.if-not-branch.true at (c.in_ok-add_line.ensures) in
+    fault c.args.bytes.now c.next_line.result.0.now (text_lines c.next_line.result.1.now) c.loop-rest.number c.loop-rest.draft left
+    c.loop-rest.invariant.read refused
+
+pub loop-rest-preserved : goal.loop-rest-preserved
+loop-rest-preserved c =
+    let left = c.loop-rest.invariant.left ∙ c.next_line.ensures.lines in
+    let added = rw c.if-not-branch.false at (c.in_ok-add_line.ensures) in
+    let more = one_more (text_lines c.args.bytes.now) c.next_line.result.0.now (text_lines c.next_line.result.1.now) c.loop-rest.number
+    c.loop-rest.draft c.add_line.new.self left c.loop-rest.invariant.read added in
+    let counted : c.loop-rest.number + 1 + length c.next_line.result.1.now ≤ length c.args.bytes.now = omega (arith, c.next_line.ensures.shorter, c.loop-rest.invariant.counted) in
+    record { left = more.0; read = more.1; counted = counted }
+
+pub returns-clause-script : goal.returns-clause-script
+returns-clause-script c =
+    let none_left : c.loop-rest.rest.now ≡ [] = nil_from_length c.loop-rest.rest.now (eqb-true _ _ (sym c.loop-rest-test.ensures)) in
+    all_read (text_lines c.args.bytes.now) c.loop-rest.number c.loop-rest.draft (c.loop-rest.invariant.left ∙ ap text_lines none_left) c.loop-rest.invariant.read

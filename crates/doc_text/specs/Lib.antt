@@ -1,0 +1,9 @@
+pub mod Grammar
+pub mod Index
+pub mod Limits
+pub mod Lives
+pub mod Reading
+pub mod Report
+pub use Rattle.doc_model.specs.Meaning
+pub use Rattle.doc_model.specs.Number
+pub use Rattle.doc_model.specs.Store

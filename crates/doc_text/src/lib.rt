@@ -1,0 +1,16 @@
+//! The texts: the script that clients are told by, and the report of what happened. Beside them stand the
+//! definitions of what may happen: an interleaving, a legal life and legal lives.
+#![tactic(auto)]
+
+mod grammar;
+mod indexed_life;
+mod laws;
+mod lives;
+mod printing;
+mod reading;
+
+pub use grammar::{Command, Cut, Life, Reason, Script, ScriptLine, TextFault};
+pub use laws::different_lives_have_different_reports;
+pub use lives::{JournalLine, LifeRecord, ReadLine};
+pub use printing::report;
+pub use reading::read_script;

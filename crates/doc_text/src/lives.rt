@@ -1,0 +1,39 @@
+//! What is recorded of a life.
+
+use cx_base::Items;
+use doc_model::Reply;
+
+/// A life as it went: the entries of its history by ticket, the reads that were answered beside it, and how many of
+/// the entries the loss of power kept.
+#[derive(Drop)]
+pub struct LifeRecord {
+    pub clients: u32,
+    /// The place at which the life began, the number of entries kept in all lives before.
+    pub from: u64,
+    pub journal: Items<JournalLine>,
+    pub reads: Items<ReadLine>,
+    pub choice: u64,
+    /// The first so many entries outlive the loss of power.
+    pub kept: u64,
+    /// The pairs of the store that the next life begins with.
+    pub documents: u64,
+}
+
+/// An entry of the history: which command of which client it is, and its reply where the client was answered. A
+/// client's commands are counted from 1 in each life.
+#[derive(Drop)]
+pub struct JournalLine {
+    pub ticket: u64,
+    pub client: u32,
+    pub command: u64,
+    pub reply: Option<Reply>,
+}
+
+/// A read that did not go through the history. It was answered by the store after the entries below its place.
+#[derive(Drop)]
+pub struct ReadLine {
+    pub client: u32,
+    pub command: u64,
+    pub place: u64,
+    pub reply: Reply,
+}
