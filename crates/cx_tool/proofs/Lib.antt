@@ -1,0 +1,6 @@
+pub mod Commands
+pub mod OneLife
+pub mod Runs
+pub mod OneMore
+pub mod Transfer
+pub mod Answering

@@ -1,0 +1,112 @@
+-- What a run answers: the status and the text that the words and the input call for.
+use Rattle.std.specs.Prelude.{◌≡◌, ◌⊎◌, ◌<◌, ◌≤◌, ℕ, List, [], ◌∷◌, ◌++◌, length, map, codes, Option, IfSome, string_bytes}
+use Rattle.std.specs.Fmt.{decimal}
+use Rattle.cx_base.specs.Outside.{Rose}
+use Rattle.doc_text.specs.declared.grammar.Script.{Script}
+use Rattle.doc_text.specs.declared.lives.LifeRecord.{LifeRecord}
+use Rattle.doc_text.specs.Grammar.{IsScript, IsFirstFault}
+use Rattle.doc_text.specs.Lives.{AreLegalLives}
+use Rattle.doc_text.specs.Report.{report_of}
+use Rattle.cx_tool.specs.Output.{Appends, AppendsFront}
+use Rattle.cx_tool.specs.declared.status.Status.{Status}
+use Rattle.cx_tool.specs.declared.status.Status.TheVariants.{Fine, Usage, Refused, ReadFault, WriteFault, Memory, BadImage, TooLong}
+
+-- the words are the command `run`
+abbrev pub run_words : List (List ℕ)
+run_words = codes "run" ∷ []
+
+abbrev pub IsRun : List (List ℕ) → Type 0
+IsRun words = words ≡ run_words
+
+-- the texts that stand for no report
+abbrev pub usage_text : List ℕ
+usage_text = codes "usage: cx_tool run\n"
+
+abbrev pub refused_text : ℕ → List ℕ
+refused_text line = codes "refused line " ++ decimal line ++ codes ": form\n"
+
+abbrev pub too_long_text : List ℕ
+too_long_text = codes "refused: input over 16777216 bytes\n"
+
+-- The text is a report of legal lives of the script that the input is.
+pub record IsReport (input text : List ℕ) : Type 0 where
+  pub short : length input ≤ 16777216
+  pub script : Script
+  pub read : IsScript input script
+  pub records : List LifeRecord
+  pub lives : AreLegalLives script records
+  pub report : text ≡ report_of script records
+
+-- The text names the first line of the input with which its lines are no script.
+pub record IsRefusal (input text : List ℕ) : Type 0 where
+  pub short : length input ≤ 16777216
+  pub line : ℕ
+  pub first : IsFirstFault input line
+  pub none : (script : Script) → IsScript input script → ⊥
+  pub refusal : text ≡ refused_text line
+
+-- The status and the whole text that words and input call for, where the source told the input.
+abbrev pub Owed : List (List ℕ) → Option (List ℕ) → Status → List ℕ → Type 0
+Owed words told Fine text = IsRun words × IfSome told (λ input. IsReport input text)
+Owed words told Usage text = (IsRun words → ⊥) × (text ≡ usage_text)
+Owed words told Refused text = IsRun words × IfSome told (λ input. IsRefusal input text)
+Owed words told TooLong text = IsRun words × IfSome told (λ input. 16777216 < length input) × (text ≡ too_long_text)
+Owed words told ReadFault text = ⊥
+Owed words told WriteFault text = ⊥
+Owed words told Memory text = ⊥
+Owed words told BadImage text = ⊥
+
+-- A text that words and input call for with some status.
+pub record IsOwed (words : List (List ℕ)) (told : Option (List ℕ)) (text : List ℕ) : Type 0 where
+  pub status : Status
+  pub owed : Owed words told status text
+
+-- What was written with a status: the whole text that it calls for; a front of some such text where the sink failed;
+-- and nothing where the source failed or memory was wanting.
+abbrev pub Answers : List (List ℕ) → Option (List ℕ) → Status → Option (List ℕ) → Option (List ℕ) → Type 0
+Answers words told Fine before after = (text : List ℕ) × Owed words told Fine text × Appends text before after
+Answers words told Usage before after = (text : List ℕ) × Owed words told Usage text × Appends text before after
+Answers words told Refused before after = (text : List ℕ) × Owed words told Refused text × Appends text before after
+Answers words told TooLong before after = (text : List ℕ) × Owed words told TooLong text × Appends text before after
+Answers words told WriteFault before after = (text : List ℕ) × IsOwed words told text × AppendsFront text before after
+Answers words told ReadFault before after = IsRun words × (after ≡ before)
+Answers words told Memory before after = IsRun words × (after ≡ before)
+Answers words told BadImage before after = ⊥
+
+-- a status that may come in place of another: of a fault, or for want of memory
+abbrev pub GivesUp : Status → Type 0
+GivesUp ReadFault = Unit {0}
+GivesUp WriteFault = Unit {0}
+GivesUp Memory = Unit {0}
+GivesUp Fine = ⊥
+GivesUp Usage = ⊥
+GivesUp Refused = ⊥
+GivesUp BadImage = ⊥
+GivesUp TooLong = ⊥
+
+-- the status that the input calls for, or one that may come in its place
+abbrev pub IsStatus : Status → Status → Type 0
+IsStatus wanted status = (status ≡ wanted) ⊎ GivesUp status
+
+-- which status an input calls for
+pub record IsExact (input : List ℕ) (status : Status) : Type 0 where
+  pub long : 16777216 < length input → IsStatus TooLong status
+  pub script : (script : Script) → length input ≤ 16777216 → IsScript input script → IsStatus Fine status
+  pub other : length input ≤ 16777216 → ((script : Script) → IsScript input script → ⊥) → IsStatus Refused status
+
+-- what faults a status tells of
+abbrev pub HasCause : Status → ℕ → ℕ → ℕ → ℕ → Type 0
+HasCause ReadFault reads reads' writes writes' = Rose reads reads'
+HasCause WriteFault reads reads' writes writes' = Rose writes writes'
+HasCause Fine reads reads' writes writes' = Unit {0}
+HasCause Usage reads reads' writes writes' = Unit {0}
+HasCause Refused reads reads' writes writes' = Unit {0}
+HasCause Memory reads reads' writes writes' = Unit {0}
+HasCause BadImage reads reads' writes writes' = Unit {0}
+HasCause TooLong reads reads' writes writes' = Unit {0}
+
+-- a whole text was written and has its status, or the sink failed behind a front of it
+abbrev pub Wrote : List ℕ → Status → Status → Option (List ℕ) → Option (List ℕ) → ℕ → ℕ → Type 0
+Wrote text status result before after faults faults' =
+    ((result ≡ status) × Appends text before after)
+    ⊎ ((result ≡ WriteFault) × AppendsFront text before after × Rose faults faults')

@@ -1,0 +1,5 @@
+pub mod Answer
+pub mod Input
+pub mod OneClient
+pub mod Output
+pub mod Status

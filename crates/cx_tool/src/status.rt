@@ -1,0 +1,49 @@
+//! How a run ended.
+
+ghost use Rattle.std.specs.Prelude.{◌≡◌};
+ghost use Rattle.cx_tool.specs.Status.{code_of};
+
+/// What a run came to.
+#[derive(Clone, Copy, Debug, PartialEq, Eq)]
+pub enum Status {
+    /// The output was written.
+    Fine,
+    /// The words are none of the commands.
+    Usage,
+    /// The input is no script.
+    Refused,
+    /// The source failed.
+    ReadFault,
+    /// The sink failed.
+    WriteFault,
+    /// Memory was wanting.
+    Memory,
+    /// The image was refused.
+    BadImage,
+    /// The input has too many bytes.
+    TooLong,
+}
+
+impl Status {
+    /// The exit code of the program.
+    pub fn code(self) -> u8
+        ensures { result ≡ code_of self }
+    {
+        match self {
+            Status::Fine => 0,
+            Status::Usage => 2,
+            Status::Refused => 3,
+            Status::ReadFault => 4,
+            Status::WriteFault => 5,
+            Status::Memory => 6,
+            Status::BadImage => 7,
+            Status::TooLong => 8,
+        }
+    }
+}
+
+/// What a run leaves behind.
+#[derive(Debug, Drop)]
+pub struct Ended {
+    pub status: Status,
+}

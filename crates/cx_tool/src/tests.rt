@@ -1,0 +1,282 @@
+//! Whole runs, from words and bytes to a status and bytes.
+
+ghost use Rattle.std.specs.Prelude.{◌≡◌, ◌≤◌, IfOk, Some, vec_len, drop};
+
+use crate::running::cx_run;
+use cx_base::{Failed, Gate, OpenGate, Sink, Source, SureSink, SureSource};
+use std::alloc::{AllocError, Global};
+use std::sync::atomic::{AtomicU64, Ordering};
+use std::test::Fail;
+
+const HEAD: &str = "lines 64\nlife 1 power 0\n";
+
+/// The room of a sink in these tests.
+const ROOM: usize = 4096;
+
+/// A source that gives few bytes a call, and fails at one of its calls.
+#[derive(Drop)]
+struct BrokenSource {
+    bytes: Vec<u8>,
+    at: usize,
+    chunk: usize,
+    fails: u64,
+    calls: u64,
+    faults: u64,
+    ghost within: { at ≤ vec_len bytes },
+    ghost some: { 1 ≤ chunk },
+}
+
+impl Source for BrokenSource {
+    ghost left = { λ s. Some (drop s.at s.bytes.items) };
+
+    ghost faults = { λ s. s.faults };
+
+    fn read(&mut self, into: &mut [u8]) -> Result<usize, Failed> {
+        self.calls = self.calls.saturating_add(1);
+        if self.calls == self.fails {
+            self.faults = self.faults.saturating_add(1);
+            return Err(Failed);
+        }
+        let n = into.len().min(self.chunk).min(self.bytes.len() - self.at);
+        into[..n].copy_from_slice(&self.bytes[self.at..self.at + n]);
+        self.at += n;
+        Ok(n)
+    }
+}
+
+/// A sink that takes few bytes a call, and fails at one of its calls.
+#[derive(Drop)]
+struct BrokenSink {
+    bytes: Vec<u8>,
+    chunk: usize,
+    fails: u64,
+    calls: u64,
+    faults: u64,
+    ghost some: { 1 ≤ chunk },
+}
+
+impl Sink for BrokenSink {
+    ghost written = { λ s. Some s.bytes.items };
+
+    ghost faults = { λ s. s.faults };
+
+    fn write(&mut self, piece: &[u8]) -> Result<usize, Failed> {
+        self.calls = self.calls.saturating_add(1);
+        let n = piece.len().min(self.chunk);
+        if self.calls == self.fails || self.bytes.extend_from_slice(&piece[..n]).is_err() {
+            self.faults = self.faults.saturating_add(1);
+            return Err(Failed);
+        }
+        Ok(n)
+    }
+}
+
+fn words_of(alloc: Global, words: &[&str]) -> Result<Vec<String>, AllocError> {
+    let mut all = Vec::new(alloc);
+    for word in words {
+        all.push(String::from_str(alloc, *word)?)?;
+    }
+    Ok(all)
+}
+
+fn ran(rt: &HostRuntime, words: &[&str], input: Vec<u8>) -> Result<(u8, Vec<u8>), AllocError> {
+    let alloc = rt.alloc();
+    let words = words_of(alloc, words)?;
+    let mut source = SureSource::new(input);
+    let mut sink = SureSink::new(Vec::with_capacity(alloc, ROOM)?);
+    let ended = cx_run(rt, alloc, &words, &mut source, &mut sink, &OpenGate);
+    Ok((ended.status.code(), Vec::from_slice(alloc, sink.written())?))
+}
+
+/// So many line feeds.
+fn line_feeds(alloc: Global, count: usize) -> Result<Vec<u8>, AllocError> {
+    vec![in alloc; b'\n'; count]
+}
+
+#[test]
+fn each_input_has_its_status_and_text(rt: HostRuntime) -> Result<(), Fail> {
+    let rows: [(&str, u8, &str); 12] = [
+        (
+            "lines 64\nlife 1 power 0\n0 put a 1\n0 get a\n",
+            0,
+            "life 0 clients 1 from 0\n0 0.1 put a 1 = new\nread 0.2 at 1 get a = 1\npower 0 kept 1 of 1 documents 1\n",
+        ),
+        (
+            "lines 64\nlife 1 power 0\n0 put a 1\n0 put a 2\n0 get a\n",
+            0,
+            "life 0 clients 1 from 0\n0 0.1 put a 1 = new\n1 0.2 put a 2 = replaced\nread 0.3 at 2 get a = 2\npower 0 kept 2 of 2 documents 1\n",
+        ),
+        (
+            "lines 64\nlife 1 power 0\n0 get a\n",
+            0,
+            "life 0 clients 1 from 0\nread 0.1 at 0 get a = none\npower 0 kept 0 of 0 documents 0\n",
+        ),
+        (
+            "# a life\r\nlines 16384\r\n\r\nlife 1 power 18446744073709551615\r\n0 put a -9223372036854775808\r\n0 get a",
+            0,
+            "life 0 clients 1 from 0\n0 0.1 put a -9223372036854775808 = new\nread 0.2 at 1 get a = -9223372036854775808\npower 18446744073709551615 kept 1 of 1 documents 1\n",
+        ),
+        ("", 0, ""),
+        ("lines 64\n", 0, ""),
+        (
+            "lines 64\nlife 1 power 0\n0 put a x\n",
+            3,
+            "refused line 3: form\n",
+        ),
+        (
+            "lines 64\nlife 1 power 0\n0 put a 01\n",
+            3,
+            "refused line 3: form\n",
+        ),
+        ("lines 64\nlife 2 power 0\n", 3, "refused line 2: form\n"),
+        ("lines 63\n", 3, "refused line 1: form\n"),
+        ("\n# x\nlife 1 power 0\n", 3, "refused line 3: form\n"),
+        (
+            "lines 64\nlife 1 power 0\n0 get a \n",
+            3,
+            "refused line 3: form\n",
+        ),
+    ];
+    for (input, code, text) in rows {
+        let (got, written) = ran(
+            &rt,
+            &["run"],
+            Vec::from_slice(rt.alloc(), input.as_bytes())?,
+        )?;
+        assert_eq!(rt; got, code, "at {input:?}");
+        assert_eq!(rt; written.as_slice(), text.as_bytes(), "at {input:?}");
+    }
+    let (got, written) = ran(
+        &rt,
+        &["run"],
+        Vec::from_slice(rt.alloc(), b"lines 64\n\xff\n")?,
+    )?;
+    assert_eq!(rt; got, 3);
+    assert_eq!(rt; written.as_slice(), b"refused line 2: form\n".as_slice());
+    Ok(())
+}
+
+#[test]
+fn other_words_are_refused_unread(rt: HostRuntime) -> Result<(), Fail> {
+    let rows: [&[&str]; 6] = [
+        &["walk"],
+        &[],
+        &["run", "x"],
+        &["run "],
+        &["--help"],
+        &["Run"],
+    ];
+    for words in rows {
+        let (code, written) = ran(&rt, words, Vec::from_slice(rt.alloc(), HEAD.as_bytes())?)?;
+        assert_eq!(rt; code, 2);
+        assert_eq!(rt; written.as_slice(), b"usage: cx_tool run\n".as_slice());
+    }
+    Ok(())
+}
+
+#[test]
+fn an_input_has_a_largest_size(rt: HostRuntime) -> Result<(), Fail> {
+    let (code, written) = ran(&rt, &["run"], line_feeds(rt.alloc(), 16_777_216)?)?;
+    assert_eq!(rt; code, 0);
+    assert_eq!(rt; written.as_slice(), b"".as_slice());
+    let (code, written) = ran(&rt, &["run"], line_feeds(rt.alloc(), 16_777_217)?)?;
+    assert_eq!(rt; code, 8);
+    assert_eq!(rt;
+        written.as_slice(),
+        b"refused: input over 16777216 bytes\n".as_slice()
+    );
+    Ok(())
+}
+
+const SCRIPT: &str = "lines 64\nlife 1 power 0\n0 put a 1\n0 put a 2\n0 get a\n";
+
+const REPORT: &str =
+    "life 0 clients 1 from 0\n0 0.1 put a 1 = new\n1 0.2 put a 2 = replaced\nread 0.3 at 2 get a = 2\npower 0 kept 2 of 2 documents 1\n";
+
+/// A run of the script over a source and a sink that may fail at one call each; 0 is no call.
+fn broken(rt: &HostRuntime, read: u64, write: u64) -> Result<(u8, Vec<u8>), AllocError> {
+    let alloc = rt.alloc();
+    let words = words_of(alloc, &["run"])?;
+    let mut source = BrokenSource {
+        bytes: Vec::from_slice(alloc, SCRIPT.as_bytes())?,
+        at: 0,
+        chunk: 8,
+        fails: read,
+        calls: 0,
+        faults: 0,
+    };
+    let mut sink = BrokenSink {
+        bytes: Vec::new(alloc),
+        chunk: 5,
+        fails: write,
+        calls: 0,
+        faults: 0,
+    };
+    let ended = cx_run(rt, alloc, &words, &mut source, &mut sink, &OpenGate);
+    Ok((ended.status.code(), sink.bytes))
+}
+
+#[test]
+fn a_fault_at_each_call_is_told(rt: HostRuntime) -> Result<(), Fail> {
+    // 52 bytes come in seven reads and the one at the end, and 125 bytes go in 25 writes
+    for call in 1..=8 {
+        let (code, written) = broken(&rt, call, 0)?;
+        assert_eq!(rt; code, 4, "at read {call}");
+        assert_eq!(rt; written.as_slice(), b"".as_slice());
+    }
+    for call in 1..=25usize {
+        let (code, written) = broken(&rt, 0, call as u64)?;
+        assert_eq!(rt; code, 5, "at write {call}");
+        assert_eq!(rt;
+            Some(written.as_slice()),
+            REPORT.as_bytes().get(..5 * (call - 1))
+        );
+    }
+    let (code, written) = broken(&rt, 9, 26)?;
+    assert_eq!(rt; code, 0);
+    assert_eq!(rt; written.as_slice(), REPORT.as_bytes());
+    Ok(())
+}
+
+/// A gate that counts the calls before commands and behind them.
+#[derive(Drop)]
+struct CountingGate {
+    before: AtomicU64,
+    after: AtomicU64,
+}
+
+impl Gate for CountingGate {
+    fn pass(&self, _client: u32, _command: u64, after: bool) {
+        let count = if after { &self.after } else { &self.before };
+        count.fetch_add(1, Ordering::SeqCst);
+    }
+}
+
+#[test]
+fn each_command_passes_the_gate_twice(rt: HostRuntime) -> Result<(), Fail> {
+    let alloc = rt.alloc();
+    let words = words_of(alloc, &["run"])?;
+    let gate = CountingGate {
+        before: AtomicU64::new(0),
+        after: AtomicU64::new(0),
+    };
+    let mut source = SureSource::new(Vec::from_slice(alloc, SCRIPT.as_bytes())?);
+    let mut sink = SureSink::new(Vec::with_capacity(alloc, ROOM)?);
+    let ended = cx_run(&rt, alloc, &words, &mut source, &mut sink, &gate);
+    assert_eq!(rt; ended.status.code(), 0);
+    assert_eq!(rt; gate.before.load(Ordering::SeqCst), 3);
+    assert_eq!(rt; gate.after.load(Ordering::SeqCst), 3);
+    Ok(())
+}
+
+#[test]
+fn a_sink_without_room_fails(rt: HostRuntime) -> Result<(), Fail> {
+    let alloc = rt.alloc();
+    let words = words_of(alloc, &["walk"])?;
+    let mut source = SureSource::new(Vec::new(alloc));
+    let mut sink = SureSink::new(Vec::new(alloc));
+    let ended = cx_run(&rt, alloc, &words, &mut source, &mut sink, &OpenGate);
+    assert_eq!(rt; ended.status.code(), 5);
+    assert_eq!(rt; sink.written(), b"".as_slice());
+    Ok(())
+}
