@@ -1,0 +1,13 @@
+pub mod CellLaws
+pub mod CellLinks
+pub mod CellNames
+pub mod CellPuts
+pub mod FrontLaws
+pub mod Keeps
+pub mod LinkLaws
+pub mod LiveLaws
+pub mod Locals
+pub mod Opening
+pub mod Pigeonhole
+pub mod Shapes
+pub mod TicketLaws

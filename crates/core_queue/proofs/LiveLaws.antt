@@ -1,0 +1,66 @@
+-- What a live ticket's cell gives: its entry, and no other live ticket.
+use Rattle.std.proofs.Common.{◌≡◌, ◌+◌, ◌-◌, ◌*◌, ◌%◌, ◌<◌, ◌≤◌, ℕ, ◌∷◌, slice_index, refl, ap, sym, subst, ◌∙◌, arith, Option, Some, None}
+use Rattle.std.proofs.lemmas.Nat.{mod-mul-add}
+use Rattle.std.specs.List.{slice_get}
+use Rattle.cx_base.specs.Codes.{link_cell_of, link_code_of}
+use Rattle.cx_core.specs.declared.entry.Entry.{Entry}
+use Rattle.cx_core.specs.declared.kinds.Kind.TheVariants.{ReadCell}
+use Rattle.cx_core.specs.declared.local.Local.{Local}
+use Rattle.cx_core.specs.declared.local.SeenSlot.{SeenSlot}
+use Rattle.cx_core.specs.Events.{Guard, ShowsTicket}
+use Rattle.cx_core.specs.Layout.{cell_count, cell_at, free_at, link_at}
+use Rattle.cx_core.specs.Lawful.{IsHeld, Lawful}
+use Rattle.cx_core.specs.Merge.{IsLinked}
+use Rattle.cx_core.specs.State.{Life, State}
+use Rattle.core_queue.proofs.CellLinks.{Taken, named_once, names_small}
+use Rattle.core_queue.proofs.Keeps.{linked_callers}
+
+-- a link code gives its cell back
+code_cell : (callers ticket k : ℕ) → k < 16 * callers → link_cell_of callers (link_code_of callers ticket k) ≡ k
+code_cell callers ticket k below =
+    let w = 16 * callers in
+    let one_off : ticket * w + k + 1 - 1 ≡ ticket * w + k = omega arith in
+    ap (λ n. n % w) one_off ∙ mod-mul-add ticket w k below
+
+-- the cell that the link slot of a live ticket names
+held_cell : (life : Life) (s : State) (law : Lawful life s) (ticket : ℕ) (entry : Entry) → IsLinked life.base.place law.history ticket entry →
+    (held : IsHeld life law.history s.words s.locals ticket entry) →
+    link_cell_of life.callers (slice_index s.words (link_at life.callers (ticket % cell_count life.callers))) ≡ 16 * entry.caller + held.j
+held_cell life s law ticket entry linked held =
+    let small = names_small life s.words s.locals entry.caller held.j ticket held.cell law.shape held.names in
+    let by = linked_callers life s law ticket entry linked in
+    let within : 16 * entry.caller + held.j < 16 * life.callers = omega (arith, small, by) in
+    ap (link_cell_of life.callers) held.link ∙ code_cell life.callers ticket (16 * entry.caller + held.j) within
+
+-- two live tickets with the same cell are one
+pub live_apart : (life : Life) (s : State) (law : Lawful life s) (t u : ℕ) (e f : Entry) → IsLinked life.base.place law.history t e → IsLinked life.base.place law.history u f →
+    slice_index s.words free_at ≤ t → slice_index s.words free_at ≤ u →
+    link_cell_of life.callers (slice_index s.words (link_at life.callers (t % cell_count life.callers)))
+    ≡ link_cell_of life.callers (slice_index s.words (link_at life.callers (u % cell_count life.callers))) → t ≡ u
+live_apart life s law t u e f t_linked u_linked t_live u_live same =
+    let a = law.cells.live t e t_linked t_live in
+    let b = law.cells.live u f u_linked u_live in
+    let k = 16 * e.caller + a.j in
+    let one : Taken s.locals t k = record { d = e.caller; j = a.j; cell = a.cell; names = a.names; is = refl {a = 16 * e.caller + a.j} } in
+    let two : Taken s.locals u k = record { d = f.caller; j = b.j; cell = b.cell; names = b.names; is = sym (held_cell life s law t e t_linked a) ∙ same ∙ held_cell life s law u f u_linked b } in
+    named_once life s.words s.locals t u k law.shape one two
+
+seen_shown : (callers : ℕ) (seen : Option SeenSlot) (ticket cell : ℕ) → ShowsTicket callers seen ticket cell → (x : SeenSlot) × (seen ≡ Some x) × ShowsTicket callers (Some x) ticket cell
+seen_shown callers None ticket cell shows = absurd shows
+seen_shown callers (Some x) ticket cell shows = (x, refl, shows)
+
+-- the word that a load of a cell finds for a live ticket is the history's at that ticket
+pub read_gives : (life : Life) (s : State) (law : Lawful life s) (caller : ℕ) (l : Local) (t k i : ℕ) → slice_get s.locals caller ≡ Some l → Guard life (ReadCell t k i) l →
+    slice_index s.words free_at ≤ t → (e : Entry) → IsLinked life.base.place law.history t e →
+    slice_index s.words (cell_at life.callers k i) ≡ slice_index (e.number ∷ e.op) i
+read_gives life s law caller l t k i at guard live e linked =
+    let shown = seen_shown life.callers l.seen_slot t k guard.2 in
+    let x = shown.0 in
+    let shows = shown.2 in
+    let seen = law.cells.seen caller l at x shown.1 in
+    let still : slice_index s.words (link_at life.callers x.slot) ≡ x.word = seen.stands shows.1 (subst (λ u. slice_index s.words free_at ≤ u) (sym shows.2) live) in
+    let held = law.cells.live t e linked live in
+    let slot : slice_index s.words (link_at life.callers (t % cell_count life.callers)) ≡ x.word = ap (λ n. slice_index s.words (link_at life.callers n)) (sym shows.0) ∙ still in
+    let is : k ≡ 16 * e.caller + held.j = sym shows.3 ∙ ap (link_cell_of life.callers) (sym slot) ∙ held_cell life s law t e linked held in
+    let there = law.cells.shown e.caller held.names.local held.names.of_caller held.j held.cell held.names.at in
+    ap (λ n. slice_index s.words (cell_at life.callers n i)) is ∙ there.entry i guard.1 ∙ ap (λ ws. slice_index ws i) held.holds

@@ -1,0 +1,5 @@
+use Rattle.core_queue.proofs.Keeps.{event_kept}
+use Rattle.core_queue.proofs.kinds.look_keeps.Goals as goal
+
+pub returns : goal.returns
+returns c = λ life before after caller s law made. event_kept life _ before after law made

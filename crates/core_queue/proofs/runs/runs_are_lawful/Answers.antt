@@ -1,0 +1,6 @@
+use Rattle.core_queue.proofs.Keeps.{run_kept}
+use Rattle.core_queue.proofs.Opening.{opening_lawful}
+use Rattle.core_queue.proofs.runs.runs_are_lawful.Goals as goal
+
+pub returns : goal.returns
+returns c = λ life events to some few place run. run_kept life _ events to (opening_lawful life some few place) run

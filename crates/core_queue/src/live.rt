@@ -1,0 +1,20 @@
+//! What the lawful state says of live tickets, which are the linked ones at or above FREE.
+
+ghost use Rattle.std.specs.Prelude.{◌≡◌, ◌%◌, ◌≤◌, ◌∷◌, ℕ, Some, slice_get, slice_index};
+ghost use Rattle.cx_base.specs.Codes.{link_cell_of};
+ghost use Rattle.cx_core.specs.Events.{Guard};
+ghost use Rattle.cx_core.specs.Layout.{cell_at, cell_count, free_at, link_at};
+ghost use Rattle.cx_core.specs.Lawful.{Lawful};
+ghost use Rattle.cx_core.specs.Merge.{IsLinked};
+ghost use Rattle.cx_core.specs.State.{Life, State};
+ghost use Rattle.cx_core.specs.declared.kinds.Kind.TheVariants.{ReadCell};
+
+/// No two live tickets share a cell.
+pub fn live_tickets_apart()
+    ensures { (life : Life) (s : State) (law : Lawful life s) (t u : ℕ) (e f : _) → IsLinked life.base.place law.history t e → IsLinked life.base.place law.history u f → slice_index s.words free_at ≤ t → slice_index s.words free_at ≤ u → link_cell_of life.callers (slice_index s.words (link_at life.callers (t % cell_count life.callers))) ≡ link_cell_of life.callers (slice_index s.words (link_at life.callers (u % cell_count life.callers))) → t ≡ u }
+{}
+
+/// Where a caller may load a word of a cell for a live ticket, the word there is that of the history's entry.
+pub fn reads_give_the_entry()
+    ensures { (life : Life) (s : State) (law : Lawful life s) (caller : ℕ) (l : _) (t k i : ℕ) → slice_get s.locals caller ≡ Some l → Guard life (ReadCell t k i) l → slice_index s.words free_at ≤ t → (e : _) → IsLinked life.base.place law.history t e → slice_index s.words (cell_at life.callers k i) ≡ slice_index (e.number ∷ e.op) i }
+{}

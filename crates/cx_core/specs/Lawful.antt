@@ -1,0 +1,153 @@
+-- The lawful state, by its parts. Between any two steps of any callers the state of a service is lawful.
+use Rattle.std.specs.Prelude.{◌≡◌, ◌≢◌, ◌+◌, ◌*◌, ◌%◌, ◌^◌, ◌<◌, ◌≤◌, ℕ, List, ◌∷◌, length, map, take, slice_get, slice_index, Some}
+use Rattle.cx_base.specs.Codes.{link_code_of, link_ticket_of, root_place_of}
+use Rattle.cx_core.specs.declared.entry.Entry.{Entry}
+use Rattle.cx_core.specs.declared.local.Answer.{Answer}
+use Rattle.cx_core.specs.declared.local.Cell.{Cell}
+use Rattle.cx_core.specs.declared.local.Linked.{Linked}
+use Rattle.cx_core.specs.declared.local.Local.{Local}
+use Rattle.cx_core.specs.declared.local.SeenOffer.{SeenOffer}
+use Rattle.cx_core.specs.declared.local.SeenSlot.{SeenSlot}
+use Rattle.cx_core.specs.declared.local.WonCode.{WonCode}
+use Rattle.cx_core.specs.Merge.{IsHistory, IsLinked}
+use Rattle.cx_core.specs.WriteSet.{IsWriteSetOf}
+use Rattle.cx_core.specs.Layout.{cell_count, dur_at, low_at, free_at, link_at, cell_at, offer_at, set_at, word_count}
+use Rattle.cx_core.specs.Region.{slot_number}
+use Rattle.cx_core.specs.State.{Life, State, EachLocal}
+
+-- a cell has 145 words, and its write set 513
+pub record CellShape (cell : Cell) : Type 0 where
+  pub words : length cell.words ≡ 145
+  pub set : length cell.set ≡ 513
+
+-- a caller's local state has the caller's number and 16 cells
+pub record LocalShape (caller : ℕ) (l : Local) : Type 0 where
+  pub number : l.number ≡ caller
+  pub cells : length l.cells ≡ 16
+  pub each : (j : ℕ) (cell : Cell) → slice_get l.cells j ≡ Some cell → CellShape cell
+
+-- Shape: there are 1 to 8 callers, a local state for each, and as many words as the table has
+pub record Shape (life : Life) (words : List ℕ) (locals : List Local) : Type 0 where
+  pub some : 1 ≤ life.callers
+  pub few : life.callers ≤ 8
+  pub long : length words ≡ word_count life.callers (length life.base.words)
+  pub count : length locals ≡ life.callers
+  pub each : EachLocal locals LocalShape
+
+-- the tickets and numbers of a caller: its numbers go up by 1 from its number in the base, and its entries are answered
+-- in order, at most the last one not yet
+pub record OwnTickets (life : Life) (caller : ℕ) (l : Local) : Type 0 where
+  pub numbers : (i : ℕ) (x : Linked) → slice_get l.own i ≡ Some x → x.entry.number ≡ slot_number caller life.base.words + i + 1
+  pub answered : map (λ (x : Answer). x.ticket) l.answered ≡ take (length l.answered) (map (λ (x : Linked). x.ticket) l.own)
+  pub one : length l.own ≤ length l.answered + 1
+
+-- Tickets: the own lists have the tickets from the base's place on, each once and below 2^40
+pub record Tickets (life : Life) (history : List Entry) (locals : List Local) : Type 0 where
+  pub merged : IsHistory life.base.place history locals
+  pub below : life.base.place + length history ≤ 2 ^ 40
+  pub each : EachLocal locals (OwnTickets life)
+
+-- a ticket is linked, has this link slot, and is the greatest such
+pub record IsGreatest (life : Life) (history : List Entry) (slot ticket : ℕ) (entry : Entry) : Type 0 where
+  pub linked : IsLinked life.base.place history ticket entry
+  pub at : ticket % cell_count life.callers ≡ slot
+  pub greatest : (other : ℕ) (e : Entry) → IsLinked life.base.place history other e → other % cell_count life.callers ≡ slot → other ≤ ticket
+
+-- a link word is 0 where no linked ticket has its slot. Else it is the link code of the greatest one, with some cell of
+-- that ticket's caller.
+pub data LinkWord (life : Life) (history : List Entry) (slot word : ℕ) : Type 0 where
+  Never : ((other : ℕ) (e : Entry) → IsLinked life.base.place history other e → other % cell_count life.callers ≢ slot) → word ≡ 0 → LinkWord life history slot word
+  Names : (ticket : ℕ) (entry : Entry) (j : ℕ) → IsGreatest life history slot ticket entry → j < 16 → word ≡ link_code_of life.callers ticket (16 * entry.caller + j) → LinkWord life history slot word
+
+-- Links: each link word is so
+pub record Links (life : Life) (history : List Entry) (words : List ℕ) : Type 0 where
+  pub each : (slot : ℕ) → slot < cell_count life.callers → LinkWord life history slot (slice_index words (link_at life.callers slot))
+
+-- a caller's local state names this ticket for its cell j
+pub record NamesCell (locals : List Local) (caller j ticket : ℕ) (cell : Cell) : Type 0 where
+  pub local : Local
+  pub of_caller : slice_get locals caller ≡ Some local
+  pub at : slice_get local.cells j ≡ Some cell
+  pub named : cell.ticket ≡ Some ticket
+
+-- a live ticket still stands in its link slot, with a cell that holds its entry, and its caller names it for that cell.
+-- So no two live tickets share a cell. Where the cell is offered with it, the cell's set is a write set of it.
+pub record IsHeld (life : Life) (history : List Entry) (words : List ℕ) (locals : List Local) (ticket : ℕ) (entry : Entry) : Type 0 where
+  pub j : ℕ
+  pub cell : Cell
+  pub names : NamesCell locals entry.caller j ticket cell
+  pub link : slice_index words (link_at life.callers (ticket % cell_count life.callers)) ≡ link_code_of life.callers ticket (16 * entry.caller + j)
+  pub holds : cell.words ≡ entry.number ∷ entry.op
+  pub offered : cell.offer ≡ ticket + 1 → IsWriteSetOf life history ticket cell.set
+
+-- the words of a cell, of its set and its offer word are as its caller's local state says
+pub record IsShown (callers : ℕ) (words : List ℕ) (k : ℕ) (cell : Cell) : Type 0 where
+  pub entry : (i : ℕ) → i < 145 → slice_index words (cell_at callers k i) ≡ slice_index cell.words i
+  pub pairs : (i : ℕ) → i < 513 → slice_index words (set_at callers k i) ≡ slice_index cell.set i
+  pub offer : slice_index words (offer_at callers k) ≡ cell.offer
+
+-- what a caller has seen of an offer with a ticket: the cell named is offered with it
+pub record IsOffered (locals : List Local) (k ticket : ℕ) : Type 0 where
+  pub caller : ℕ
+  pub j : ℕ
+  pub cell : Cell
+  pub is : k ≡ 16 * caller + j
+  pub names : NamesCell locals caller j ticket cell
+  pub offer : cell.offer ≡ ticket + 1
+
+-- each cell of a caller is shown
+abbrev pub ShowsCells : Life → List ℕ → ℕ → Local → Type 0
+ShowsCells life words caller l = (j : ℕ) (cell : Cell) → slice_get l.cells j ≡ Some cell → IsShown life.callers words (16 * caller + j) cell
+
+-- where the word in a link slot that was seen has a ticket at or above FREE, the slot still has that word
+pub record SeenStands (life : Life) (words : List ℕ) (seen : SeenSlot) : Type 0 where
+  pub slot : seen.slot < cell_count life.callers
+  pub stands : 0 < seen.word → slice_index words free_at ≤ link_ticket_of life.callers seen.word → slice_index words (link_at life.callers seen.slot) ≡ seen.word
+
+abbrev pub SlotStands : Life → List ℕ → Local → Type 0
+SlotStands life words l = (seen : SeenSlot) → l.seen_slot ≡ Some seen → SeenStands life words seen
+
+-- where the offer word that was seen is an offer of a ticket at or above FREE, the cell is offered with it
+abbrev pub OfferStands : List ℕ → List Local → Local → Type 0
+OfferStands words locals l = (seen : SeenOffer) → l.seen_offer ≡ Some seen → slice_index words free_at ≤ seen.ticket → seen.word ≡ seen.ticket + 1 → IsOffered locals seen.cell seen.ticket
+
+-- each offer word of a caller's cells that is not 0 is a linked ticket plus 1
+abbrev pub OffersLinked : Life → List Entry → Local → Type 0
+OffersLinked life history l =
+    (j : ℕ) (cell : Cell) → slice_get l.cells j ≡ Some cell → 0 < cell.offer →
+    (ticket : ℕ) × (entry : Entry) × IsLinked life.base.place history ticket entry × (cell.offer ≡ ticket + 1)
+
+-- Cells: each live ticket is held, which is a linked ticket at or above FREE, and what is shown, seen and offered is so
+pub record Cells (life : Life) (history : List Entry) (words : List ℕ) (locals : List Local) : Type 0 where
+  pub live : (ticket : ℕ) (entry : Entry) → IsLinked life.base.place history ticket entry → slice_index words free_at ≤ ticket → IsHeld life history words locals ticket entry
+  pub shown : EachLocal locals (ShowsCells life words)
+  pub seen : EachLocal locals (λ _ l. SlotStands life words l)
+  pub seen_offers : EachLocal locals (λ _ l. OfferStands words locals l)
+  pub offers : EachLocal locals (λ _ l. OffersLinked life history l)
+
+-- what a caller has seen is not ahead of what is there
+pub record IsBehind (life : Life) (history : List Entry) (words : List ℕ) (l : Local) : Type 0 where
+  -- each ticket from the base's place to below the front is linked
+  pub from : life.base.place ≤ l.front
+  pub to : l.front ≤ life.base.place + length history
+  pub floor : l.floor ≤ l.front
+  pub cur : root_place_of life.callers l.seen_cur ≤ l.front
+  pub free : l.seen_free ≤ slice_index words free_at
+  pub low : l.seen_low ≤ slice_index words low_at
+  pub raised : l.raised ≤ slice_index words dur_at
+  pub floor_dur : l.floor ≤ root_place_of life.callers (slice_index words dur_at)
+  pub floor_cur : l.floor ≤ root_place_of life.callers l.seen_cur
+  pub won : (won : WonCode) → l.won ≡ Some won → won.code ≤ l.seen_cur
+
+-- Fronts: it is so of each caller
+pub record Fronts (life : Life) (history : List Entry) (words : List ℕ) (locals : List Local) : Type 0 where
+  pub each : EachLocal locals (λ _ l. IsBehind life history words l)
+
+-- the lawful state, as far as its parts are built
+pub record Lawful (life : Life) (s : State) : Type 0 where
+  pub history : List Entry
+  pub shape : Shape life s.words s.locals
+  pub tickets : Tickets life history s.locals
+  pub links : Links life history s.words
+  pub cells : Cells life history s.words s.locals
+  pub fronts : Fronts life history s.words s.locals

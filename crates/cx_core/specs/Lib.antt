@@ -1,0 +1,11 @@
+pub mod Base
+pub mod Events
+pub mod History
+pub mod Inside
+pub mod Lawful
+pub mod Layout
+pub mod Merge
+pub mod Region
+pub mod State
+pub mod Step
+pub mod WriteSet

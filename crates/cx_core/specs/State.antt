@@ -1,0 +1,116 @@
+-- What stays as it is while a service lives, and the state that its callers' steps change.
+use Rattle.std.specs.Prelude.{◌≡◌, ◌-◌, ◌*◌, ◌≤◌, length, ℕ, zero, suc, Bool, false, List, [], ◌∷◌, ◌++◌, map, replicate, slice_get, Some, None}
+use Rattle.std.specs.List.{range_with_len}
+use Rattle.cx_base.specs.Codes.{root_code_of}
+use Rattle.cx_core.specs.declared.entry.Base.{Base}
+use Rattle.cx_core.specs.declared.local.Cell.{Cell}
+use Rattle.cx_core.specs.declared.local.Local.{Local}
+use Rattle.cx_core.specs.declared.local.Protection.TheVariants.{Unprotected}
+use Rattle.cx_core.specs.Layout.{none, word_count}
+
+-- what is fixed: how many callers there are, the base, and the object's meaning
+pub record Life : Type 0 where
+  pub callers : ℕ
+  pub base : Base
+  -- the image after an operation, and the reply
+  pub step : List ℕ → List ℕ → List ℕ × List ℕ
+  -- whether an operation only reads
+  pub reads : List ℕ → Bool
+
+-- it holds of the life with so many callers and this base, whatever the object means
+abbrev pub EachLife : ℕ → Base → (Life → Type 0) → Type 0
+EachLife callers base P =
+    (step : List ℕ → List ℕ → List ℕ × List ℕ) (reads : List ℕ → Bool) →
+    P (record { callers = callers; base = base; step = step; reads = reads })
+
+-- the shared words, and the local state of each caller
+pub record State : Type 0 where
+  pub words : List ℕ
+  pub locals : List Local
+
+-- what a core holds
+pub record Core : Type 0 where
+  pub callers : ℕ
+  pub lines : ℕ
+  pub base : Base
+  pub state : State
+
+-- the life of a core's service, for an object that means this
+abbrev pub life_of : Core → (List ℕ → List ℕ → List ℕ × List ℕ) → (List ℕ → Bool) → Life
+life_of core step reads = record { callers = core.callers; base = core.base; step = step; reads = reads }
+
+-- what a core holds is as large as its table: 1 to 8 callers, each with its local state, and all words
+pub record IsWhole (core : Core) : Type 0 where
+  pub some : 1 ≤ core.callers
+  pub few : core.callers ≤ 8
+  pub slots : 1168 ≤ length core.base.words
+  pub long : length core.state.words ≡ word_count core.callers (length core.base.words)
+  pub count : length core.state.locals ≡ core.callers
+  pub numbers : (caller : ℕ) (l : Local) → slice_get core.state.locals caller ≡ Some l → l.number ≡ caller
+
+-- so it is of each caller and its local state
+abbrev pub EachLocal : List Local → (ℕ → Local → Type 0) → Type 0
+EachLocal locals P = (caller : ℕ) (local : Local) → slice_get locals caller ≡ Some local → P caller local
+
+-- a cell never written
+abbrev pub blank_cell : Cell
+blank_cell = record { words = replicate 145 0; ticket = None; set = replicate 513 0; offer = 0 }
+
+-- the root code with which a service opens: its base's place, on replica 0
+abbrev pub opening_code : ℕ → ℕ → ℕ
+opening_code callers place = root_code_of callers place 0
+
+abbrev pub opening_local : ℕ → ℕ → ℕ → Local
+opening_local callers place caller = record {
+  number = caller;
+  front = place;
+  own = [];
+  answered = [];
+  seen_reads = [];
+  cells = replicate 16 blank_cell;
+  seen_slot = None;
+  seen_offer = None;
+  seen_free = place;
+  seen_low = place;
+  seen_need = None;
+  seen_cur = opening_code callers place;
+  fresh = false;
+  refused = [];
+  seen_lock = None;
+  exclusive = None;
+  shared = None;
+  passer = None;
+  downgraded = None;
+  won = None;
+  raised = opening_code callers place;
+  floor = place;
+  protection = Unprotected;
+  scan = None;
+  steps = 0;
+  limit = none;
+  met = 0;
+  scans = 0;
+}
+
+-- the opening local states of all callers
+abbrev pub opening_locals : ℕ → ℕ → List Local
+opening_locals callers place = map (opening_local callers place) (range_with_len 0 callers)
+
+-- so many copies of a list, one after another
+abbrev pub copies : ℕ → List ℕ → List ℕ
+copies zero xs = []
+copies (suc n) xs = xs ++ copies n xs
+
+-- CUR and DUR are the opening code, LOW and FREE the base's place. No caller is protected. Replica 0 is pinned, no
+-- other lock is held. Nothing was linked, written or offered, and every replica has the base's words.
+unfoldable pub opening_words : ℕ → Base → List ℕ
+opening_words callers base =
+    (opening_code callers base.place ∷ opening_code callers base.place ∷ base.place ∷ base.place ∷ [])
+    ++ replicate callers none
+    ++ (1 ∷ [])
+    ++ replicate (2 * callers - 1) 0
+    ++ replicate (10560 * callers) 0
+    ++ copies (4 * callers) base.words
+
+abbrev pub opening_state : ℕ → Base → State
+opening_state callers base = record { words = opening_words callers base; locals = opening_locals callers base.place }
