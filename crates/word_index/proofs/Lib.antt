@@ -1,0 +1,16 @@
+pub mod Arrangements
+pub mod BlockReads
+pub mod Frames
+pub mod Giving
+pub mod Inserting
+pub mod Linking
+pub mod Lines
+pub mod Memories
+pub mod NodeReads
+pub mod Pairs
+pub mod Putting
+pub mod Spots
+pub mod Taking
+pub mod Totals
+pub mod Walks
+pub mod Writing

@@ -1,0 +1,67 @@
+-- What a node names.
+use Rattle.std.proofs.Common.{◌≡◌, ◌*◌, ◌<◌, ◌≤◌, ℕ, List, ◌++◌, length, get_or, sym, ap, subst, ◌∙◌, arith, inl, inr}
+use Rattle.std.specs.List.{All}
+use Rattle.std.proofs.lemmas.Bool.{cases_lt}
+use Rattle.std.proofs.lemmas.List.{get_or_past}
+use Rattle.std.proofs.lemmas.List.Elements.{All-head, All-tail}
+use Rattle.cx_base.proofs.PackingLemmas.{unpacked-packed}
+use Rattle.cx_base.specs.Packing.{unpacked}
+use Rattle.cx_base.specs.Store.{IsKey, IsDocument}
+use Rattle.word_index.specs.Answers.{IsNodeOf, IsPackOf}
+use Rattle.word_index.specs.Blocks.{IsWithin, IsText, HasText}
+use Rattle.word_index.specs.Layout.{word_of, Holds}
+use Rattle.word_index.specs.Walk.{HasNode}
+use Rattle.word_index.proofs.Lines.{all_left, all_right}
+
+pub key_text : (ws : List ℕ) (node : ℕ) (pair : List ℕ × List ℕ) (is : IsNodeOf ws node pair) → IsText ws node 3 is.place.key_lines pair.0
+key_text ws node pair is =
+    let place = is.place in
+    let lines = All-tail (IsWithin ws) place.node (place.key_lines ++ place.document_lines) is.within in
+    record {
+      holds = subst (λ n. Holds ws (word_of ws n 3) place.key_lines pair.0) (sym is.here) is.holds.key;
+      long = subst (λ n. word_of ws n 4 ≡ length pair.0) (sym is.here) is.holds.key_length;
+      node_within = subst (IsWithin ws) (sym is.here) (All-head (IsWithin ws) place.node (place.key_lines ++ place.document_lines) is.within);
+      within = all_left (IsWithin ws) place.key_lines place.document_lines lines;
+    }
+
+pub document_text : (ws : List ℕ) (node : ℕ) (pair : List ℕ × List ℕ) (is : IsNodeOf ws node pair) → IsText ws node 5 is.place.document_lines pair.1
+document_text ws node pair is =
+    let place = is.place in
+    let lines = All-tail (IsWithin ws) place.node (place.key_lines ++ place.document_lines) is.within in
+    record {
+      holds = subst (λ n. Holds ws (word_of ws n 5) place.document_lines pair.1) (sym is.here) is.holds.document;
+      long = subst (λ n. word_of ws n 6 ≡ length pair.1) (sym is.here) is.holds.document_length;
+      node_within = subst (IsWithin ws) (sym is.here) (All-head (IsWithin ws) place.node (place.key_lines ++ place.document_lines) is.within);
+      within = all_right (IsWithin ws) place.key_lines place.document_lines lines;
+    }
+
+pub has_key : (ws : List ℕ) (node : ℕ) → HasNode ws node → HasText ws node 3 8
+has_key ws node h = record { lines = h.is.place.key_lines; bytes = h.pair.0; text = key_text ws node h.pair h.is; short = h.is.is_key.short }
+
+pub has_document : (ws : List ℕ) (node : ℕ) → HasNode ws node → HasText ws node 5 128
+has_document ws node h = record { lines = h.is.place.document_lines; bytes = h.pair.1; text = document_text ws node h.pair h.is; short = h.is.is_document.short }
+
+-- bytes are small, also behind the end
+pub small_everywhere : (P : ℕ → Type 0) (bytes : List ℕ) → ((b : ℕ) → P b → b < 256) → All P bytes → (i : ℕ) → get_or bytes i 0 < 256
+small_everywhere P bytes small all i =
+    elim (cases_lt i (length bytes)) [
+      | inl l ↦ small (get_or bytes i 0) (all i 0 l)
+      | inr l ↦ subst (λ b. b < 256) (sym (get_or_past bytes i 0 l)) (omega arith)
+    ]
+
+pub key_small : (key : List ℕ) → IsKey key → (i : ℕ) → get_or key i 0 < 256
+key_small key is = small_everywhere (λ b. (33 ≤ b) × (b ≤ 126)) key (λ b h. omega (arith, h.1)) is.visible
+
+pub document_small : (document : List ℕ) → IsDocument document → (i : ℕ) → get_or document i 0 < 256
+document_small document is = small_everywhere (λ b. (32 ≤ b) × (b < 256)) document (λ b h. h.1) is.plain
+
+-- packed bytes, unpacked
+pub unpacks : (n len : ℕ) (words bytes : List ℕ) → IsPackOf n len words bytes → ((i : ℕ) → get_or bytes i 0 < 256) → length bytes ≤ 8 * n → unpacked len words ≡ bytes
+unpacks n len words bytes is small short =
+    ap (λ k. unpacked k words) is.long ∙ ap (λ ws. unpacked (length bytes) ws) is.packs ∙ unpacked-packed n bytes small short
+
+pub unpacked_key : (len : ℕ) (words key : List ℕ) → IsPackOf 8 len words key → IsKey key → unpacked len words ≡ key
+unpacked_key len words key is limits = unpacks 8 len words key is (key_small key limits) limits.short
+
+pub node_within : (ws : List ℕ) (node : ℕ) → HasNode ws node → IsWithin ws node
+node_within ws node h = (key_text ws node h.pair h.is).node_within

@@ -1,0 +1,23 @@
+use Rattle.std.proofs.Common.{◌+◌, ◌*◌, ◌≤◌, arith}
+use Rattle.word_index.proofs.Memories.{line_inside}
+use Rattle.word_index.proofs.blocks.word.Goals as goal
+
+pub overflow_mul-line : goal.overflow_mul-line
+overflow_mul-line g c =
+    let m = c.args.mem.now in
+    let inside : 8 * c.args.line + 8 ≤ g.M.Memory.size m = line_inside (g.M.Memory.stands m) (g.M.Memory.size m) c.args.line (g.met.M.Memory.some_stands m) (g.met.M.Memory.words m) c.requires.line in
+    let sized = c.requires.sized in
+    omega (arith, sized.whole, sized.few)
+
+pub overflow_add-line : goal.overflow_add-line
+overflow_add-line g c =
+    let m = c.args.mem.now in
+    let inside : 8 * c.args.line + 8 ≤ g.M.Memory.size m = line_inside (g.M.Memory.stands m) (g.M.Memory.size m) c.args.line (g.met.M.Memory.some_stands m) (g.met.M.Memory.words m) c.requires.line in
+    let sized = c.requires.sized in
+    omega (arith, sized.whole, sized.few)
+
+pub load-requires : goal.load-requires
+load-requires g c =
+    let m = c.args.mem.now in
+    let inside : 8 * c.args.line + 8 ≤ g.M.Memory.size m = line_inside (g.M.Memory.stands m) (g.M.Memory.size m) c.args.line (g.met.M.Memory.some_stands m) (g.met.M.Memory.words m) c.requires.line in
+    omega (arith, c.requires.place)

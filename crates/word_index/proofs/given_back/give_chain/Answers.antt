@@ -1,0 +1,45 @@
+use Rattle.std.proofs.Common.{rules, arith, ◌∙◌}
+use Rattle.cx_base.proofs.MemoryLemmas.{Becomes-same, Becomes-then, Becomes-weaker}
+use Rattle.word_index.proofs.Memories.{Becomes-loaded, always_after}
+use Rattle.word_index.proofs.Giving.{so_far_none, next_can_be_given, so_far_more, so_far_all}
+use Rattle.word_index.proofs.given_back.give_chain.Goals as goal
+
+pub loop-init : goal.loop-init
+loop-init g c = record {
+  done = Becomes-weaker (Becomes-same _) (λ first x y s e. so_far_none c.args.first c.args.count x y e);
+  sized = search rules;
+  can_store = search rules;
+  size = search rules;
+  fixed = search rules;
+  writable = search rules;
+}
+
+pub word-requires-clause-line : goal.word-requires-clause-line
+word-requires-clause-line g c =
+    let l = c.loop in
+    always_after c.requires.chain l.invariant.done (λ x y h r. (next_can_be_given c.args.first c.args.count l.counter l.line x y c.loop-test.true h r).there)
+
+pub give_back-requires-clause-line : goal.give_back-requires-clause-line
+give_back-requires-clause-line g c =
+    let l = c.loop in
+    always_after c.requires.chain (Becomes-loaded l.invariant.done c.in_ok-next.ensures.done) (λ x y h r. next_can_be_given c.args.first c.args.count l.counter l.line x y c.loop-test.true h r.0)
+
+pub loop-preserved : goal.loop-preserved
+loop-preserved g c =
+    let l = c.loop in
+    let i = l.invariant in
+    let w = c.in_ok-next.ensures in
+    let b = c.in_ok-give_back.ensures in
+    record {
+      done = Becomes-then (Becomes-loaded i.done w.done) b.done (λ x y z r e. so_far_more c.args.first c.args.count l.counter l.line c.in_ok-next.next x y z c.loop-test.true r.0 r.1 e);
+      sized = search rules;
+      can_store = search rules;
+      size = b.size ∙ w.size ∙ i.size;
+      fixed = b.fixed ∙ w.fixed ∙ i.fixed;
+      writable = b.writable ∙ w.writable ∙ i.writable;
+    }
+
+pub returns-clause-done : goal.returns-clause-done
+returns-clause-done g c =
+    let l = c.loop in
+    Becomes-weaker l.invariant.done (λ first x y s r. so_far_all c.args.first c.args.count l.counter l.line x y (omega arith) r)

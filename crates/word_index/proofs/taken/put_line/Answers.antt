@@ -1,0 +1,34 @@
+use Rattle.std.proofs.Common.{◌∙◌, rules, arith}
+use Rattle.cx_base.proofs.MemoryLemmas.{Becomes-store, Becomes-weaker, Becomes-always}
+use Rattle.word_index.proofs.Memories.{Reads-none, Becomes-from-read}
+use Rattle.word_index.proofs.Writing.{line_begins, line_more, line_done}
+use Rattle.word_index.proofs.taken.put_line.Goals as goal
+
+pub loop-i-init : goal.loop-i-init
+loop-i-init g c = record {
+  done = Becomes-weaker (Becomes-from-read (Reads-none _ c.requires.line)) (λ first x y s r. line_begins c.args.line c.args.content.now x y r.0 r.1);
+  sized = search rules;
+  can_store = search rules;
+  size = search rules;
+  fixed = search rules;
+  writable = search rules;
+}
+
+pub put-requires-clause-line : goal.put-requires-clause-line
+put-requires-clause-line g c = Becomes-always c.loop-i.invariant.done (λ x y r. r.within)
+
+pub loop-i-preserved : goal.loop-i-preserved
+loop-i-preserved g c =
+    let i = c.loop-i.invariant in
+    let p = c.in_ok-put.ensures in
+    record {
+      done = Becomes-store i.done p.done (λ first x y s r. line_more c.args.line c.args.content.now c.loop-i.i _ x y (omega arith) (search rules) r);
+      sized = search rules;
+      can_store = search rules;
+      size = p.size ∙ i.size;
+      fixed = p.fixed ∙ i.fixed;
+      writable = p.writable ∙ i.writable;
+    }
+
+pub returns-clause-done : goal.returns-clause-done
+returns-clause-done g c = Becomes-weaker c.loop-i.invariant.done (λ first x y s r. line_done c.args.line c.args.content.now c.loop-i.i x y (omega arith) r)

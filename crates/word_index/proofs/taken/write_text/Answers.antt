@@ -1,0 +1,45 @@
+use Rattle.std.proofs.Common.{◌∙◌, rules, arith}
+use Rattle.cx_base.proofs.MemoryLemmas.{Becomes-same, Becomes-then, Becomes-weaker}
+use Rattle.word_index.proofs.Memories.{always_after, Becomes-both}
+use Rattle.word_index.proofs.Writing.{written_none, can_take_next, taken_within, written_more, written_all}
+use Rattle.word_index.proofs.taken.write_text.Goals as goal
+
+pub loop-j-init : goal.loop-j-init
+loop-j-init g c = record {
+  done = Becomes-weaker (Becomes-same _) (λ first x y s e. written_none c.args.words.now c.args.count x y e);
+  sized = search rules;
+  can_store = search rules;
+  size = search rules;
+  fixed = search rules;
+  writable = search rules;
+}
+
+pub take_line-requires-clause-room : goal.take_line-requires-clause-room
+take_line-requires-clause-room g c =
+    let l = c.loop-j in
+    always_after c.requires.room l.invariant.done (λ x y h r. can_take_next c.args.words.now c.args.count l.j l.next x y c.loop-j-test.true h r)
+
+pub put_line-requires-clause-line : goal.put_line-requires-clause-line
+put_line-requires-clause-line g c =
+    let l = c.loop-j in
+    always_after c.requires.room (Becomes-both l.invariant.done c.in_ok-line.ensures.done) (λ x z h r. taken_within c.args.words.now c.args.count l.j l.next c.in_ok-line.line x r.0 z c.loop-j-test.true h r.1 r.2)
+
+pub loop-j-preserved : goal.loop-j-preserved
+loop-j-preserved g c =
+    let l = c.loop-j in
+    let i = l.invariant in
+    let t = c.in_ok-line.ensures in
+    let p = c.in_ok-put_line.ensures in
+    record {
+      done = Becomes-then (Becomes-both i.done t.done) p.done (λ x z w r f. written_more c.args.words.now c.args.count l.j l.next c.in_ok-line.line c.block.result x r.0 z w c.loop-j-test.true r.1 r.2 c.block.ensures f);
+      sized = search rules;
+      can_store = search rules;
+      size = p.size ∙ t.size ∙ i.size;
+      fixed = p.fixed ∙ t.fixed ∙ i.fixed;
+      writable = p.writable ∙ t.writable ∙ i.writable;
+    }
+
+pub returns-clause-done : goal.returns-clause-done
+returns-clause-done g c =
+    let l = c.loop-j in
+    Becomes-weaker l.invariant.done (λ first x y s r. written_all c.args.words.now c.args.count l.j l.next x y (omega arith) r)

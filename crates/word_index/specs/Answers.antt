@@ -1,0 +1,37 @@
+-- What the calls of the index answer.
+use Rattle.std.specs.Prelude.{◌≡◌, ◌+◌, ◌*◌, ◌≤◌, ℕ, List, length, All, [], ◌∷◌, Option, Some, None, MatchOption}
+use Rattle.cx_base.specs.Store.{Store, IsKey, IsDocument}
+use Rattle.cx_base.specs.Packing.{packed, unpacked}
+use Rattle.doc_model.specs.Meaning.{document_at}
+use Rattle.word_index.specs.declared.texts.Key.{Key}
+use Rattle.word_index.specs.Layout.{Place, IsAt, lines_at, IsPartLength}
+
+-- at most 8n bytes in n words, unused bytes 0
+pub record IsPacked (n len : ℕ) (words : List ℕ) : Type 0 where
+  pub short : len ≤ 8 * n
+  pub unused : words ≡ packed n (unpacked len words)
+
+-- these bytes, packed
+pub record IsPackOf (n len : ℕ) (words bytes : List ℕ) : Type 0 where
+  pub long : len ≡ length bytes
+  pub packs : words ≡ packed n bytes
+
+-- a node of this pair
+pub record IsNodeOf (words : List ℕ) (node : ℕ) (pair : List ℕ × List ℕ) : Type 0 where
+  pub place : Place
+  pub here : node ≡ place.node
+  pub holds : IsAt words place pair
+  pub within : All (λ line. 8 * line + 8 ≤ length words) (lines_at place)
+  pub sized : IsPartLength (length words)
+  pub is_key : IsKey pair.0
+  pub is_document : IsDocument pair.1
+
+-- a node of the pair with this key, and none exactly where the key is not there
+abbrev pub IsFound : List ℕ → List ℕ → Option ℕ → Store → Type 0
+IsFound words key found store =
+    MatchOption found (document_at key store ≡ None)
+    (λ node. (document : List ℕ) × (document_at key store ≡ Some document) × IsNodeOf words node (key, document))
+
+-- the first key of the pairs above a key, and none exactly where there are no such pairs
+abbrev pub IsLeast : Option Key → Store → Type 0
+IsLeast found above = MatchOption found (above ≡ []) (λ key. (pair : List ℕ × List ℕ) × (after : Store) × (above ≡ pair ∷ after) × IsPackOf 8 key.len key.words pair.0)

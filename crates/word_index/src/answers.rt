@@ -1,0 +1,90 @@
+//! What is asked of an index by a key.
+
+ghost use Rattle.std.specs.Prelude.{◌≡◌, ◌≤◌, ℕ, IfOk, OnErr, Some};
+ghost use Rattle.cx_base.specs.Memory.{Always};
+ghost use Rattle.cx_base.specs.Packing.{unpacked};
+ghost use Rattle.cx_base.specs.Store.{Store};
+ghost use Rattle.doc_model.specs.Meaning.{pairs_above};
+ghost use Rattle.word_index.specs.Access.{Reads};
+ghost use Rattle.word_index.specs.Answers.{IsFound, IsLeast};
+ghost use Rattle.word_index.specs.Layout.{IsPartLength, IsIndex, StandsFor};
+ghost use Rattle.word_index.specs.Walk.{IsFirstNode};
+
+use crate::blocks::word;
+use crate::nodes::key_at;
+use crate::texts::Key;
+use crate::walk::seek;
+use cx_base::{Halt, Memory, Steps};
+use std::sync::ledger::Ledger;
+
+/// The node of a key: `None` exactly where the key is not there. `Halt` comes only where no access is left.
+pub fn find<M: Memory, L: Ledger>(
+    mem: &mut M,
+    key: &Key,
+    visits: &mut Steps<L>,
+) -> Result<Option<u64>, Halt>
+    requires sized { IsPartLength (M.size mem.old) }
+    requires lawful { Always (M.stands mem.old) IsIndex }
+    requires key { key.now.len ≤ 64 }
+    ensures done { IfOk result (λ found. Reads (M.stands mem.old) (M.stands mem.new)
+        (λ ws. (version : ℕ) (store : Store) → StandsFor ws version store → IsFound ws (unpacked key.now.len key.now.words) found store)) }
+    ensures halts { OnErr result (M.left mem.new ≡ Some 0) }
+    ensures size { M.size mem.new ≡ M.size mem.old }
+    ensures fixed { M.fixed mem.new ≡ M.fixed mem.old }
+    ensures writable { M.writable mem.new ≡ M.writable mem.old }
+{
+    let spot = seek(mem, key, visits)?;
+    if spot.same {
+        Ok(Some(spot.node))
+    } else {
+        Ok(None)
+    }
+}
+
+/// The first node with a key above a key, 0 for none.
+fn node_above<M: Memory, L: Ledger>(
+    mem: &mut M,
+    key: &Key,
+    visits: &mut Steps<L>,
+) -> Result<u64, Halt>
+    requires sized { IsPartLength (M.size mem.old) }
+    requires lawful { Always (M.stands mem.old) IsIndex }
+    requires key { key.now.len ≤ 64 }
+    ensures done { IfOk result (λ node. Reads (M.stands mem.old) (M.stands mem.new)
+        (λ ws. (version : ℕ) (store : Store) → StandsFor ws version store → IsFirstNode ws node (pairs_above (unpacked key.now.len key.now.words) store))) }
+    ensures halts { OnErr result (M.left mem.new ≡ Some 0) }
+    ensures size { M.size mem.new ≡ M.size mem.old }
+    ensures fixed { M.fixed mem.new ≡ M.fixed mem.old }
+    ensures writable { M.writable mem.new ≡ M.writable mem.old }
+{
+    let spot = seek(mem, key, visits)?;
+    if spot.same {
+        word(mem, spot.node, 1)
+    } else {
+        Ok(spot.node)
+    }
+}
+
+/// The least key above a key: `None` exactly where there is none. `Halt` comes only where no access is left.
+pub fn least_above<M: Memory, L: Ledger>(
+    mem: &mut M,
+    key: &Key,
+    visits: &mut Steps<L>,
+) -> Result<Option<Key>, Halt>
+    requires sized { IsPartLength (M.size mem.old) }
+    requires lawful { Always (M.stands mem.old) IsIndex }
+    requires key { key.now.len ≤ 64 }
+    ensures done { IfOk result (λ found. Reads (M.stands mem.old) (M.stands mem.new)
+        (λ ws. (version : ℕ) (store : Store) → StandsFor ws version store → IsLeast found (pairs_above (unpacked key.now.len key.now.words) store))) }
+    ensures halts { OnErr result (M.left mem.new ≡ Some 0) }
+    ensures size { M.size mem.new ≡ M.size mem.old }
+    ensures fixed { M.fixed mem.new ≡ M.fixed mem.old }
+    ensures writable { M.writable mem.new ≡ M.writable mem.old }
+{
+    let node = node_above(mem, key, visits)?;
+    if node == 0 {
+        return Ok(None);
+    }
+    let key = key_at(mem, node)?;
+    Ok(Some(key))
+}

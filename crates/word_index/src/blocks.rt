@@ -1,0 +1,105 @@
+//! Words of lines, and the bytes that a chain of blocks holds.
+
+ghost use Rattle.std.specs.Prelude.{◌≡◌, ◌+◌, ◌*◌, ◌/◌, ◌%◌, ◌<◌, ◌≤◌, ◌≢◌, ℕ, List, IsTrue, IfOk, OnErr, Some, length, replicate};
+ghost use Rattle.cx_base.specs.Memory.{Always, Loaded, Stored};
+ghost use Rattle.cx_base.specs.Packing.{packed};
+ghost use Rattle.word_index.specs.Access.{Reads};
+ghost use Rattle.word_index.specs.Answers.{IsPackOf};
+ghost use Rattle.word_index.specs.Blocks.{IsWithin, HasWords, IsText, HasText};
+ghost use Rattle.word_index.specs.Layout.{IsPartLength, Holds, word_of};
+
+use cx_base::{Halt, Memory};
+
+/// Loads word `place` of a line.
+pub fn word<M: Memory>(mem: &mut M, line: u64, place: u64) -> Result<u64, Halt>
+    requires sized { IsPartLength (M.size mem.old) }
+    requires line { Always (M.stands mem.old) (λ ws. IsWithin ws line) }
+    requires place { place < 8 }
+    ensures done { IfOk result
+        (λ v. Loaded (8 * line + place) v (M.stands mem.old) (M.stands mem.new)) }
+    ensures halts { OnErr result (M.left mem.new ≡ Some 0) }
+    ensures size { M.size mem.new ≡ M.size mem.old }
+    ensures fixed { M.fixed mem.new ≡ M.fixed mem.old }
+    ensures writable { M.writable mem.new ≡ M.writable mem.old }
+{
+    mem.load(8 * line + place)
+}
+
+/// The block line in which the word after the i-th one stands, where the i-th stands in `line`.
+fn line_after<M: Memory>(mem: &mut M, line: u64, i: usize) -> Result<u64, Halt>
+    requires sized { IsPartLength (M.size mem.old) }
+    requires line { Always (M.stands mem.old) (λ ws. IsWithin ws line) }
+    ensures done { IfOk result (λ next. Reads (M.stands mem.old) (M.stands mem.new)
+        (λ ws. (i % 7 ≡ 6 → word_of ws line 0 ≡ next) × (i % 7 ≢ 6 → next ≡ line))) }
+    ensures halts { OnErr result (M.left mem.new ≡ Some 0) }
+    ensures size { M.size mem.new ≡ M.size mem.old }
+    ensures fixed { M.fixed mem.new ≡ M.fixed mem.old }
+    ensures writable { M.writable mem.new ≡ M.writable mem.old }
+{
+    if i % 7 == 6 {
+        word(mem, line, 0)
+    } else {
+        Ok(line)
+    }
+}
+
+/// Reads the packed words of a chain of blocks, of which `count` have a byte in use.
+fn read_words<M: Memory>(
+    mem: &mut M,
+    first: u64,
+    count: usize,
+    into: &mut [u64],
+) -> Result<(), Halt>
+    requires sized { IsPartLength (M.size mem.old) }
+    requires zero { into.old ≡ replicate (length into.old) 0 }
+    requires room { count ≤ length into.old }
+    requires chain { Always (M.stands mem.old) (λ ws. HasWords ws first count) }
+    ensures done { IfOk result (λ _. Reads (M.stands mem.old) (M.stands mem.new)
+        (λ ws. (lines bytes : List ℕ) → Holds ws first lines bytes → count ≡ (length bytes + 7) / 8 → into.new ≡ packed (length into.old) bytes)) }
+    ensures halts { OnErr result (M.left mem.new ≡ Some 0) }
+    ensures size { M.size mem.new ≡ M.size mem.old }
+    ensures fixed { M.fixed mem.new ≡ M.fixed mem.old }
+    ensures writable { M.writable mem.new ≡ M.writable mem.old }
+{
+    let mut line = first;
+    for i in 0..count {
+        into[i] = word(mem, line, 1 + (i % 7) as u64)?;
+        line = line_after(mem, line, i)?;
+    }
+    Ok(())
+}
+
+/// Reads the bytes that a node names by its words `at` and `at + 1`, and gives their number.
+pub fn read_text<M: Memory>(mem: &mut M, node: u64, at: u64, into: &mut [u64]) -> Result<u64, Halt>
+    requires sized { IsPartLength (M.size mem.old) }
+    requires zero { into.old ≡ replicate (length into.old) 0 }
+    requires at { at < 7 }
+    requires text { Always (M.stands mem.old) (λ ws. HasText ws node at (length into.old)) }
+    ensures done { IfOk result (λ len. Reads (M.stands mem.old) (M.stands mem.new)
+        (λ ws. (lines bytes : List ℕ) → IsText ws node at lines bytes → IsPackOf (length into.old) len into.new bytes)) }
+    ensures halts { OnErr result (M.left mem.new ≡ Some 0) }
+    ensures size { M.size mem.new ≡ M.size mem.old }
+    ensures fixed { M.fixed mem.new ≡ M.fixed mem.old }
+    ensures writable { M.writable mem.new ≡ M.writable mem.old }
+{
+    let first = word(mem, node, at)?;
+    let len = word(mem, node, at + 1)?;
+    read_words(mem, first, len.div_ceil(8) as usize, into)?;
+    Ok(len)
+}
+
+/// Stores word `place` of a line.
+pub fn put<M: Memory>(mem: &mut M, line: u64, place: u64, v: u64) -> Result<(), Halt>
+    requires sized { IsPartLength (M.size mem.old) }
+    requires writable { IsTrue (M.writable mem.old) }
+    requires line { Always (M.stands mem.old) (λ ws. IsWithin ws line) }
+    requires place { place < 8 }
+    ensures done { IfOk result
+        (λ _. Stored (8 * line + place) v (M.stands mem.old) (M.stands mem.new)) }
+    ensures halts { OnErr result (M.left mem.new ≡ Some 0) }
+    ensures size { M.size mem.new ≡ M.size mem.old }
+    ensures fixed { M.fixed mem.new ≡ M.fixed mem.old }
+    ensures writable { M.writable mem.new ≡ M.writable mem.old }
+{
+    mem.store(8 * line + place, v)
+}

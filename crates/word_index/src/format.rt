@@ -1,0 +1,37 @@
+//! The empty index.
+
+ghost use Rattle.std.specs.Prelude.{◌≡◌, ◌<◌, ◌∷◌, [], IsTrue, IfOk, OnErr, Some, slice_index, replicate};
+ghost use Rattle.cx_base.specs.Memory.{Becomes};
+ghost use Rattle.word_index.specs.Layout.{IsPartLength, StandsFor};
+
+use cx_base::{Halt, Memory};
+
+/// Makes the words an index of no pairs, with a version of the caller's own. The words behind the header are left as
+/// they are. `Halt` comes only where no access is left; the words may then be anything.
+pub fn format_index<M: Memory>(mem: &mut M, version: u64) -> Result<(), Halt>
+    requires size { IsPartLength (M.size mem.old) }
+    requires writable { IsTrue (M.writable mem.old) }
+    ensures done { IfOk result
+        (λ _. Becomes (M.stands mem.old) (M.stands mem.new) (λ _ now. StandsFor now version [])) }
+    ensures halts { OnErr result (M.left mem.new ≡ Some 0) }
+    ensures size { M.size mem.new ≡ M.size mem.old }
+    ensures fixed { M.fixed mem.new ≡ M.fixed mem.old }
+    ensures writable { M.writable mem.new ≡ M.writable mem.old }
+{
+    for at in 0..8 {
+        mem.store(at, header_word(version, at))?;
+    }
+    Ok(())
+}
+
+/// A word of the empty index's header: the version, and 1 as the first line never given.
+fn header_word(version: u64, at: u64) -> u64
+    requires { at < 8 }
+    ensures { result ≡ slice_index (version ∷ 0 ∷ 0 ∷ 1 ∷ replicate 4 0) at }
+{
+    match at {
+        0 => version,
+        3 => 1,
+        _ => 0,
+    }
+}

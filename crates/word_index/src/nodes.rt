@@ -1,0 +1,77 @@
+//! Nodes: the key and the document that each names, and the number of them.
+
+ghost use Rattle.std.specs.Prelude.{◌≡◌, ◌≤◌, ℕ, List, IfOk, OnErr, Some, length};
+ghost use Rattle.cx_base.specs.Memory.{Always};
+ghost use Rattle.cx_base.specs.Packing.{unpacked};
+ghost use Rattle.cx_base.specs.Store.{Store, key_cmp};
+ghost use Rattle.word_index.specs.Access.{Reads};
+ghost use Rattle.word_index.specs.Answers.{IsPackOf, IsNodeOf};
+ghost use Rattle.word_index.specs.Layout.{IsPartLength, IsIndex, StandsFor};
+ghost use Rattle.word_index.specs.Walk.{HasNode};
+
+use crate::blocks::{read_text, word};
+use crate::texts::{Doc, Key, key_order};
+use cx_base::{Halt, Memory};
+use std::cmp::Ordering;
+
+/// The number of pairs.
+pub fn count<M: Memory>(mem: &mut M) -> Result<u64, Halt>
+    requires sized { IsPartLength (M.size mem.old) }
+    requires lawful { Always (M.stands mem.old) IsIndex }
+    ensures done { IfOk result (λ n. Reads (M.stands mem.old) (M.stands mem.new)
+        (λ ws. (version : ℕ) (store : Store) → StandsFor ws version store → n ≡ length store)) }
+    ensures halts { OnErr result (M.left mem.new ≡ Some 0) }
+    ensures size { M.size mem.new ≡ M.size mem.old }
+    ensures fixed { M.fixed mem.new ≡ M.fixed mem.old }
+    ensures writable { M.writable mem.new ≡ M.writable mem.old }
+{
+    word(mem, 0, 5)
+}
+
+/// The key of a node.
+pub fn key_at<M: Memory>(mem: &mut M, node: u64) -> Result<Key, Halt>
+    requires sized { IsPartLength (M.size mem.old) }
+    requires node { Always (M.stands mem.old) (λ ws. HasNode ws node) }
+    ensures done { IfOk result (λ key. Reads (M.stands mem.old) (M.stands mem.new)
+        (λ ws. (pair : List ℕ × List ℕ) → IsNodeOf ws node pair → IsPackOf 8 key.len key.words pair.0)) }
+    ensures halts { OnErr result (M.left mem.new ≡ Some 0) }
+    ensures size { M.size mem.new ≡ M.size mem.old }
+    ensures fixed { M.fixed mem.new ≡ M.fixed mem.old }
+    ensures writable { M.writable mem.new ≡ M.writable mem.old }
+{
+    let mut words = [0; 8];
+    let len = read_text(mem, node, 3, &mut words)?;
+    Ok(Key { len, words })
+}
+
+/// The document of a node that `find` gave on these words. `Halt` comes only where no access is left.
+pub fn doc_at<M: Memory>(mem: &mut M, node: u64) -> Result<Doc, Halt>
+    requires sized { IsPartLength (M.size mem.old) }
+    requires node { Always (M.stands mem.old) (λ ws. HasNode ws node) }
+    ensures done { IfOk result (λ doc. Reads (M.stands mem.old) (M.stands mem.new)
+        (λ ws. (pair : List ℕ × List ℕ) → IsNodeOf ws node pair → IsPackOf 128 doc.len doc.words pair.1)) }
+    ensures halts { OnErr result (M.left mem.new ≡ Some 0) }
+    ensures size { M.size mem.new ≡ M.size mem.old }
+    ensures fixed { M.fixed mem.new ≡ M.fixed mem.old }
+    ensures writable { M.writable mem.new ≡ M.writable mem.old }
+{
+    let mut words = [0; 128];
+    let len = read_text(mem, node, 5, &mut words)?;
+    Ok(Doc { len, words })
+}
+
+/// How the key of a node compares with another key.
+pub fn order_at<M: Memory>(mem: &mut M, node: u64, key: &Key) -> Result<Ordering, Halt>
+    requires sized { IsPartLength (M.size mem.old) }
+    requires node { Always (M.stands mem.old) (λ ws. HasNode ws node) }
+    requires key { key.now.len ≤ 64 }
+    ensures done { IfOk result (λ order. Reads (M.stands mem.old) (M.stands mem.new)
+        (λ ws. (pair : List ℕ × List ℕ) → IsNodeOf ws node pair → order ≡ key_cmp pair.0 (unpacked key.now.len key.now.words))) }
+    ensures halts { OnErr result (M.left mem.new ≡ Some 0) }
+    ensures size { M.size mem.new ≡ M.size mem.old }
+    ensures fixed { M.fixed mem.new ≡ M.fixed mem.old }
+    ensures writable { M.writable mem.new ≡ M.writable mem.old }
+{
+    let other = key_at(mem, node)?;
+    Ok(key_order(&other, key))
+}

@@ -1,0 +1,119 @@
+//! Lines are taken and filled.
+
+ghost use Rattle.std.specs.Prelude.{◌≡◌, ◌+◌, ◌*◌, ◌-◌, ◌<◌, ◌≤◌, ◌≢◌, ◌^◌, ℕ, IsTrue, IfOk, OnErr, Some, length};
+ghost use Rattle.cx_base.specs.Memory.{Always, Becomes};
+ghost use Rattle.word_index.specs.Blocks.{IsWithin};
+ghost use Rattle.word_index.specs.Changes.{with_word};
+ghost use Rattle.word_index.specs.Fresh.{CanTake, LineTaken, LineFilled, IsBlock, TextWritten};
+ghost use Rattle.word_index.specs.Layout.{IsPartLength, word_of};
+
+use crate::blocks::{put, word};
+use cx_base::{Halt, Memory};
+
+/// Takes the first line never given.
+fn take_new<M: Memory>(mem: &mut M) -> Result<u64, Halt>
+    requires sized { IsPartLength (M.size mem.old) }
+    requires writable { IsTrue (M.writable mem.old) }
+    requires few { Always (M.stands mem.old) (λ ws. word_of ws 0 3 ≤ 16384) }
+    ensures done { IfOk result (λ line. Becomes (M.stands mem.old) (M.stands mem.new)
+        (λ before now. (word_of before 0 3 ≡ line) × (now ≡ with_word 0 3 (line + 1) before))) }
+    ensures halts { OnErr result (M.left mem.new ≡ Some 0) }
+    ensures size { M.size mem.new ≡ M.size mem.old }
+    ensures fixed { M.fixed mem.new ≡ M.fixed mem.old }
+    ensures writable { M.writable mem.new ≡ M.writable mem.old }
+{
+    let line = word(mem, 0, 3)?;
+    put(mem, 0, 3, line + 1)?;
+    Ok(line)
+}
+
+/// Takes the first given-back line.
+fn take_given<M: Memory>(mem: &mut M, head: u64) -> Result<(), Halt>
+    requires sized { IsPartLength (M.size mem.old) }
+    requires writable { IsTrue (M.writable mem.old) }
+    requires head { Always (M.stands mem.old) (λ ws. IsWithin ws head × (1 ≤ word_of ws 0 4)) }
+    ensures done { IfOk result (λ _. Becomes (M.stands mem.old) (M.stands mem.new)
+        (λ before now. now ≡ with_word 0 4 (word_of before 0 4 - 1) (with_word 0 2 (word_of before head 0) before))) }
+    ensures halts { OnErr result (M.left mem.new ≡ Some 0) }
+    ensures size { M.size mem.new ≡ M.size mem.old }
+    ensures fixed { M.fixed mem.new ≡ M.fixed mem.old }
+    ensures writable { M.writable mem.new ≡ M.writable mem.old }
+{
+    let next = word(mem, head, 0)?;
+    let number = word(mem, 0, 4)?;
+    put(mem, 0, 2, next)?;
+    put(mem, 0, 4, number - 1)?;
+    Ok(())
+}
+
+/// Takes a line: the first given-back one, or else the first never given.
+pub fn take_line<M: Memory>(mem: &mut M) -> Result<u64, Halt>
+    requires sized { IsPartLength (M.size mem.old) }
+    requires writable { IsTrue (M.writable mem.old) }
+    requires room { Always (M.stands mem.old) (λ ws. CanTake ws 1) }
+    ensures done { IfOk result
+        (λ line. Becomes (M.stands mem.old) (M.stands mem.new) (LineTaken line)) }
+    ensures halts { OnErr result (M.left mem.new ≡ Some 0) }
+    ensures size { M.size mem.new ≡ M.size mem.old }
+    ensures fixed { M.fixed mem.new ≡ M.fixed mem.old }
+    ensures writable { M.writable mem.new ≡ M.writable mem.old }
+{
+    let head = word(mem, 0, 2)?;
+    if head == 0 {
+        return take_new(mem);
+    }
+    take_given(mem, head)?;
+    Ok(head)
+}
+
+/// Fills a line.
+pub fn put_line<M: Memory>(mem: &mut M, line: u64, content: &[u64; 8]) -> Result<(), Halt>
+    requires sized { IsPartLength (M.size mem.old) }
+    requires writable { IsTrue (M.writable mem.old) }
+    requires line { Always (M.stands mem.old) (λ ws. IsWithin ws line) }
+    ensures done { IfOk result
+        (λ _. Becomes (M.stands mem.old) (M.stands mem.new) (LineFilled line content.now)) }
+    ensures halts { OnErr result (M.left mem.new ≡ Some 0) }
+    ensures size { M.size mem.new ≡ M.size mem.old }
+    ensures fixed { M.fixed mem.new ≡ M.fixed mem.old }
+    ensures writable { M.writable mem.new ≡ M.writable mem.old }
+{
+    for i in 0..8 {
+        put(mem, line, i as u64, content[i])?;
+    }
+    Ok(())
+}
+
+/// The words of a block: the next line, and seven words from a place on, 0 behind the end.
+fn block(next: u64, words: &[u64], from: usize) -> [u64; 8]
+    requires { from < 2 ^ 32 }
+    ensures { IsBlock next words.now from result }
+{
+    let mut content = [next; 8];
+    for i in 0..7 {
+        content[1 + i] = words.get(from + i).copied().unwrap_or(0);
+    }
+    content
+}
+
+/// Writes words into a chain of so many new blocks, and gives its first line.
+pub fn write_text<M: Memory>(mem: &mut M, words: &[u64], count: usize) -> Result<u64, Halt>
+    requires sized { IsPartLength (M.size mem.old) }
+    requires writable { IsTrue (M.writable mem.old) }
+    requires few { count ≤ 16384 }
+    requires room { Always (M.stands mem.old) (λ ws. CanTake ws count) }
+    ensures done { IfOk result
+        (λ first. Becomes (M.stands mem.old) (M.stands mem.new) (TextWritten words.now count first)) }
+    ensures halts { OnErr result (M.left mem.new ≡ Some 0) }
+    ensures size { M.size mem.new ≡ M.size mem.old }
+    ensures fixed { M.fixed mem.new ≡ M.fixed mem.old }
+    ensures writable { M.writable mem.new ≡ M.writable mem.old }
+{
+    let mut next = 0;
+    for j in 0..count {
+        let line = take_line(mem)?;
+        put_line(mem, line, &block(next, words, 7 * (count - 1 - j)))?;
+        next = line;
+    }
+    Ok(next)
+}

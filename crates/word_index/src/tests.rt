@@ -1,0 +1,181 @@
+//! The calls of the index over a memory of 64 lines.
+
+ghost use Rattle.std.specs.Prelude.{◌≡◌, ◌*◌, ◌<◌, ◌≤◌, IsTrue, IfOk, OnOk, length};
+ghost use Rattle.cx_base.specs.Memory.{Always};
+ghost use Rattle.cx_base.specs.Packing.{unpacked, packed};
+ghost use Rattle.cx_base.specs.Store.{IsKey, IsDocument};
+ghost use Rattle.word_index.specs.Answers.{IsPacked};
+ghost use Rattle.word_index.specs.Layout.{IsPartLength, IsIndex};
+
+use crate::answers::{find, least_above};
+use crate::format::format_index;
+use crate::insertion::{Inserted, insert};
+use crate::nodes::{count, doc_at};
+use crate::removal::remove;
+use crate::texts::{Doc, Key};
+use cx_base::{Halt, Memory, Steps, VecMemory, pack, packed_unpacks};
+use std::marker::Brand;
+use std::process::Abort;
+use std::sync::ledger::{Blank, Ledger};
+use std::test::Fail;
+
+// A key of some bytes.
+fn key_of(bytes: &[u8]) -> Key
+    requires { IsKey bytes.now }
+    ensures packed { IsPacked 8 result.len result.words }
+    ensures is { unpacked result.len result.words ≡ bytes.now }
+{
+    let mut words = [0; 8];
+    pack(bytes, &mut words);
+    packed_unpacks(bytes, 8);
+    Key {
+        len: bytes.len() as u64,
+        words,
+    }
+}
+
+// A document of some bytes.
+fn doc_of(bytes: &[u8]) -> Doc
+    requires { IsDocument bytes.now }
+    ensures packed { IsPacked 128 result.len result.words }
+    ensures is { unpacked result.len result.words ≡ bytes.now }
+{
+    let mut words = [0; 128];
+    pack(bytes, &mut words);
+    packed_unpacks(bytes, 128);
+    Doc {
+        len: bytes.len() as u64,
+        words,
+    }
+}
+
+// Puts a document at a key, in 64 lines.
+fn put<M: Memory, L: Ledger>(
+    memory: &mut M,
+    key: &[u8],
+    document: &[u8],
+    visits: &mut Steps<L>,
+) -> Result<Inserted, Halt>
+    requires size { M.size memory.old ≡ 512 }
+    requires writable { IsTrue (M.writable memory.old) }
+    requires lawful { Always (M.stands memory.old) IsIndex }
+    requires key { IsKey key.now }
+    requires document { IsDocument document.now }
+    ensures size { M.size memory.new ≡ 512 }
+    ensures writable { IsTrue (M.writable memory.new) }
+    ensures lawful { OnOk result (Always (M.stands memory.new) IsIndex) }
+{
+    let done = insert(memory, 64, &key_of(key), &doc_of(document), visits)?;
+    Ok(done)
+}
+
+// Makes the empty index.
+fn format<M: Memory>(memory: &mut M) -> Result<(), Halt>
+    requires size { M.size memory.old ≡ 512 }
+    requires writable { IsTrue (M.writable memory.old) }
+    ensures size { M.size memory.new ≡ 512 }
+    ensures writable { IsTrue (M.writable memory.new) }
+    ensures lawful { OnOk result (Always (M.stands memory.new) IsIndex) }
+{
+    format_index(memory, 1)?;
+    Ok(())
+}
+
+// Takes a key out.
+fn take<M: Memory, L: Ledger>(
+    memory: &mut M,
+    key: &[u8],
+    visits: &mut Steps<L>,
+) -> Result<bool, Halt>
+    requires size { M.size memory.old ≡ 512 }
+    requires writable { IsTrue (M.writable memory.old) }
+    requires lawful { Always (M.stands memory.old) IsIndex }
+    requires key { IsKey key.now }
+    ensures size { M.size memory.new ≡ 512 }
+    ensures writable { IsTrue (M.writable memory.new) }
+    ensures lawful { OnOk result (Always (M.stands memory.new) IsIndex) }
+{
+    let there = remove(memory, &key_of(key), visits)?;
+    Ok(there)
+}
+
+// The number of pairs, and the first byte of the least key above a key.
+fn look<M: Memory, L: Ledger>(
+    memory: &mut M,
+    key: &[u8],
+    visits: &mut Steps<L>,
+) -> Result<(u64, Option<u64>), Halt>
+    requires size { M.size memory.old ≡ 512 }
+    requires lawful { Always (M.stands memory.old) IsIndex }
+    requires key { IsKey key.now }
+    ensures size { M.size memory.new ≡ 512 }
+    ensures writable { M.writable memory.new ≡ M.writable memory.old }
+    ensures lawful { OnOk result (Always (M.stands memory.new) IsIndex) }
+{
+    let pairs = count(memory)?;
+    let above = least_above(memory, &key_of(key), visits)?;
+    Ok((pairs, above.map(|key| key.words[0])))
+}
+
+// The first byte of the document of a key.
+fn read<M: Memory, L: Ledger>(
+    memory: &mut M,
+    key: &[u8],
+    visits: &mut Steps<L>,
+) -> Result<Option<u64>, Halt>
+    requires size { M.size memory.old ≡ 512 }
+    requires lawful { Always (M.stands memory.old) IsIndex }
+    requires key { IsKey key.now }
+    ensures size { M.size memory.new ≡ 512 }
+    ensures writable { M.writable memory.new ≡ M.writable memory.old }
+    ensures lawful { OnOk result (Always (M.stands memory.new) IsIndex) }
+{
+    let found = find(memory, &key_of(key), visits)?;
+    let Some(node) = found else {
+        return Ok(None);
+    };
+    let doc = doc_at(memory, node)?;
+    Ok(Some(doc.words[0]))
+}
+
+// Two keys, one of them twice, and what is there before and after one is taken out.
+fn two_keys<M: Memory, L: Ledger>(
+    rt: &impl Abort,
+    memory: &mut M,
+    visits: &mut Steps<L>,
+) -> Result<(), Fail>
+    requires size { M.size memory.old ≡ 512 }
+    requires writable { IsTrue (M.writable memory.old) }
+{
+    format(memory)?;
+    assert_eq!(rt; look(memory, b"a", visits)?, (0, None));
+    assert!(rt; !take(memory, b"a", visits)?);
+    assert_eq!(rt; put(memory, b"b", b"1", visits)?, Inserted::New);
+    assert_eq!(rt; put(memory, b"a", b"2", visits)?, Inserted::New);
+    assert_eq!(rt; put(memory, b"b", b"3", visits)?, Inserted::Replaced);
+    assert_eq!(rt; look(memory, b"a", visits)?, (2, Some(98)));
+    assert_eq!(rt; look(memory, b"b", visits)?, (2, None));
+    assert_eq!(rt; read(memory, b"b", visits)?, Some(51));
+    assert!(rt; take(memory, b"a", visits)?);
+    assert_eq!(rt; read(memory, b"a", visits)?, None);
+    assert_eq!(rt; look(memory, b"a", visits)?, (1, Some(98)));
+    Ok(())
+}
+
+// The same over a vector, with a counter of its own.
+fn over_a_vector<L: Ledger>(rt: &impl Abort, words: Vec<u64>, blank: Blank) -> Result<(), Fail>
+    requires long { length words.items ≡ 512 }
+    requires name { blank.name ≡ L.name }
+    requires parts { blank.parts ≡ L.parts }
+    requires some { 0 < L.parts }
+{
+    let mut memory = VecMemory::of(words, None);
+    let mut visits = Steps::<L>::open(blank);
+    two_keys(rt, &mut memory, &mut visits)
+}
+
+#[test]
+fn two_keys_over_a_vector(rt: HostRuntime) -> Result<(), Fail> {
+    let words = vec![in rt.alloc(); 0; 512]?;
+    over_a_vector::<Brand>(&rt, words, Blank::new(1))
+}
