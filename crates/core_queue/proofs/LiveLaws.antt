@@ -14,6 +14,8 @@ use Rattle.cx_core.specs.Merge.{IsLinked}
 use Rattle.cx_core.specs.State.{Life, State}
 use Rattle.core_queue.proofs.CellLinks.{Taken, named_once, names_small}
 use Rattle.core_queue.proofs.Keeps.{linked_callers}
+use Rattle.core_queue.proofs.Pigeonhole.{pigeonhole}
+use Rattle.core_queue.specs.Live.{IsLiveOf}
 
 -- a link code gives its cell back
 code_cell : (callers ticket k : ℕ) → k < 16 * callers → link_cell_of callers (link_code_of callers ticket k) ≡ k
@@ -44,6 +46,25 @@ live_apart life s law t u e f t_linked u_linked t_live u_live same =
     let one : Taken s.locals t k = record { d = e.caller; j = a.j; cell = a.cell; names = a.names; is = refl {a = 16 * e.caller + a.j} } in
     let two : Taken s.locals u k = record { d = f.caller; j = b.j; cell = b.cell; names = b.names; is = sym (held_cell life s law t e t_linked a) ∙ same ∙ held_cell life s law u f u_linked b } in
     named_once life s.words s.locals t u k law.shape one two
+
+-- a live ticket of a caller takes one of the caller's cells
+own_cell : (life : Life) (s : State) (law : Lawful life s) (caller ticket : ℕ) (entry : Entry) → IsLiveOf life s law.history caller ticket entry →
+    (j : ℕ) × Taken s.locals ticket (16 * caller + j) × (j < 16)
+own_cell life s law caller ticket entry live =
+    let held = law.cells.live ticket entry live.linked live.live in (
+      held.j,
+      record { d = entry.caller; j = held.j; cell = held.cell; names = held.names; is = ap (λ (d : ℕ). 16 * d + held.j) (sym live.own) },
+      names_small life s.words s.locals entry.caller held.j ticket held.cell law.shape held.names,
+    )
+
+-- no caller has 17 live tickets
+pub few_live : (life : Life) (s : State) (law : Lawful life s) (caller : ℕ) (ticket : ℕ → ℕ) (entry : ℕ → Entry) →
+    ((i : ℕ) → i ≤ 16 → IsLiveOf life s law.history caller (ticket i) (entry i)) →
+    ((i k : ℕ) → i ≤ 16 → k ≤ 16 → ticket i ≡ ticket k → i ≡ k) → ⊥
+few_live life s law caller ticket entry live apart =
+    pigeonhole 16 (λ i j. Taken s.locals (ticket i) (16 * caller + j))
+    (λ i within. own_cell life s law caller (ticket i) (entry i) (live i within))
+    (λ i k j i_within k_within one other. apart i k i_within k_within (named_once life s.words s.locals (ticket i) (ticket k) (16 * caller + j) law.shape one other))
 
 seen_shown : (callers : ℕ) (seen : Option SeenSlot) (ticket cell : ℕ) → ShowsTicket callers seen ticket cell → (x : SeenSlot) × (seen ≡ Some x) × ShowsTicket callers (Some x) ticket cell
 seen_shown callers None ticket cell shows = absurd shows

@@ -2,6 +2,7 @@
 
 ghost use Rattle.std.specs.Prelude.{◌≡◌, ◌%◌, ◌≤◌, ◌∷◌, ℕ, Some, slice_get, slice_index};
 ghost use Rattle.cx_base.specs.Codes.{link_cell_of};
+ghost use Rattle.core_queue.specs.Live.{IsLiveOf};
 ghost use Rattle.cx_core.specs.Events.{Guard};
 ghost use Rattle.cx_core.specs.Layout.{cell_at, cell_count, free_at, link_at};
 ghost use Rattle.cx_core.specs.Lawful.{Lawful};
@@ -12,6 +13,11 @@ ghost use Rattle.cx_core.specs.declared.kinds.Kind.TheVariants.{ReadCell};
 /// No two live tickets share a cell.
 pub fn live_tickets_apart()
     ensures { (life : Life) (s : State) (law : Lawful life s) (t u : ℕ) (e f : _) → IsLinked life.base.place law.history t e → IsLinked life.base.place law.history u f → slice_index s.words free_at ≤ t → slice_index s.words free_at ≤ u → link_cell_of life.callers (slice_index s.words (link_at life.callers (t % cell_count life.callers))) ≡ link_cell_of life.callers (slice_index s.words (link_at life.callers (u % cell_count life.callers))) → t ≡ u }
+{}
+
+/// No caller has more than 16 live tickets.
+pub fn callers_have_few_live_tickets()
+    ensures { (life : Life) (s : State) (law : Lawful life s) (caller : ℕ) (ticket : ℕ → ℕ) (entry : ℕ → _) → ((i : ℕ) → i ≤ 16 → IsLiveOf life s law.history caller (ticket i) (entry i)) → ((i k : ℕ) → i ≤ 16 → k ≤ 16 → ticket i ≡ ticket k → i ≡ k) → ⊥ }
 {}
 
 /// Where a caller may load a word of a cell for a live ticket, the word there is that of the history's entry.
