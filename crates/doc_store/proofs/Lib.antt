@@ -1,0 +1,4 @@
+pub mod Answering
+pub mod Changing
+pub mod OpParts
+pub mod Stepping

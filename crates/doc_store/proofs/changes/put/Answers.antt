@@ -1,0 +1,18 @@
+use Rattle.cx_base.specs.Packing.{unpacked}
+use Rattle.doc_store.proofs.Changing.{put_does, lines_are}
+use Rattle.doc_store.proofs.changes.put.Goals as goal
+
+pub returns-clause-done : goal.returns-clause-done
+returns-clause-done g c =
+    let key = unpacked c.args.key.now.len c.args.key.now.words in
+    let document = unpacked c.args.doc.now.len c.args.doc.now.words in
+    let m = c.args.mem.now in
+    record {
+      from = λ first now s. (
+          let p = c.in_ok-inserted.ensures.done.from first now s in (
+            p.0,
+            p.1,
+            put_does c.args.lines p.0 now c.put_reply.result key document
+                (lines_are p.0 (g.M.Memory.size m) c.args.lines (g.met.M.Memory.words m first p.0 p.1).long c.requires.lines) c.in_ok-inserted.inserted p.2 c.put_reply.ensures,
+          ));
+    }

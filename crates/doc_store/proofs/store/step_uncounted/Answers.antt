@@ -1,0 +1,30 @@
+use Rattle.std.proofs.Common.{sym, ◌∙◌}
+use Rattle.cx_base.specs.Memory.{Becomes}
+use Rattle.cx_base.proofs.MemoryLemmas.{Becomes-weaker}
+use Rattle.doc_model.specs.Meaning.{store_after, reply_to}
+use Rattle.doc_model.specs.declared.operations.Op.{Op}
+use Rattle.doc_store.specs.StepOnWords.{Does, IsOpOf}
+use Rattle.word_index.specs.Access.{Reads}
+use Rattle.word_index.proofs.Memories.{IfOk-weaker, Becomes-from-read}
+use Rattle.doc_store.proofs.Stepping.{Tells, steps_reading, steps_change}
+use Rattle.doc_store.proofs.store.step_uncounted.Goals as goal
+
+pub answer-requires-clause-reads : goal.answer-requires-clause-reads
+answer-requires-clause-reads g c = sym c.is_reading.ensures ∙ c.if-is_reading.true
+
+pub returns-then-is_reading-clause-done : goal.returns-then-is_reading-clause-done
+returns-then-is_reading-clause-done g c =
+    let op = c.args.op.now in
+    IfOk-weaker c.answer.result (λ reply. Reads (g.M.Memory.stands c.args.mem.now) (g.M.Memory.stands c.answer.new.mem) (Tells op reply)) _ c.answer.ensures.done
+    (λ reply r. Becomes-weaker (Becomes-from-read r) (λ first x y s t. steps_reading c.args.lines op reply x y c.requires.op (sym c.is_reading.ensures ∙ c.if-is_reading.true) t.0 t.1))
+
+pub change-requires-clause-changes : goal.change-requires-clause-changes
+change-requires-clause-changes g c = sym c.is_reading.ensures ∙ c.if-is_reading.false
+
+pub returns-clause-done : goal.returns-clause-done
+returns-clause-done g c =
+    let op = c.args.op.now in
+    let lines = c.args.lines in
+    IfOk-weaker c.change.result (λ reply. Becomes (g.M.Memory.stands c.args.mem.now) (g.M.Memory.stands c.change.new.mem)
+    (λ before now. (o : Op) → IsOpOf op o → Does (λ store. store_after lines store o) (λ store. reply_to lines store o) reply before now)) _ c.change.ensures.done
+    (λ reply b. Becomes-weaker b (λ first x y s d. steps_change lines op reply x y c.requires.op d))

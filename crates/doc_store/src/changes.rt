@@ -1,0 +1,242 @@
+//! The operations that change, over words that stand for a store.
+
+ghost use Rattle.std.specs.Prelude.{◌≡◌, ◌≤◌, ◌*◌, ◌+ℤ◌, ℕ, ℤ, List, Bool, true, false, IsTrue, IfOk, IfSome, OnErr, Some, length, slice_index, nat_le, ◌&&◌, is_some, if◌then◌else◌};
+ghost use Rattle.std.specs.Fmt.{signed_decimal};
+ghost use Rattle.cx_base.specs.Memory.{Always, Becomes};
+ghost use Rattle.cx_base.specs.Packing.{unpacked};
+ghost use Rattle.cx_base.specs.Store.{Store, IsKey, IsDocument};
+ghost use Rattle.doc_model.specs.Meaning as meaning;
+ghost use Rattle.doc_model.specs.Number.{is_i64};
+ghost use Rattle.doc_model.specs.Words.{AreOfAnOp, reply_words};
+ghost use Rattle.doc_model.specs.declared.operations.Op.{Op};
+ghost use Rattle.doc_model.specs.declared.operations.Reply.TheVariants.{Absent, Deleted};
+ghost use Rattle.doc_store.specs.StepOnWords.{Does, IsOpOf, put_told, sum_told, put_sum_reply};
+ghost use Rattle.word_index.specs.Access.{Reads};
+ghost use Rattle.word_index.specs.Answers.{IsPacked};
+ghost use Rattle.word_index.specs.Layout.{IsPartLength, IsIndex, StandsFor};
+
+use crate::numbers::{doc_of_number, number_in, sum_of};
+use crate::word_parts::{doc_in, key_in, short_reply};
+use cx_base::{Halt, Memory, Steps};
+use std::sync::ledger::Ledger;
+use word_index::{Doc, Inserted, Key, doc_at, find, insert, remove};
+
+/// The words of the reply to a put.
+fn put_reply(inserted: Inserted) -> [u64; 144]
+    ensures { result ≡ reply_words (put_told inserted) }
+{
+    match inserted {
+        Inserted::New => short_reply(1, 0),
+        Inserted::Replaced => short_reply(2, 0),
+        Inserted::NoRoom => short_reply(9, 0),
+    }
+}
+
+/// The words of the reply to a removal.
+fn removal_reply(there: bool) -> [u64; 144]
+    ensures { result ≡ reply_words (if there then Deleted else Absent) }
+{
+    if there {
+        short_reply(3, 0)
+    } else {
+        short_reply(4, 0)
+    }
+}
+
+/// The words of the reply to an addition that makes a sum.
+fn sum_reply(inserted: Inserted, sum: i64) -> [u64; 144]
+    ensures { result ≡ reply_words (sum_told sum inserted) }
+{
+    match inserted {
+        Inserted::New | Inserted::Replaced => short_reply(6, sum.cast_unsigned()),
+        Inserted::NoRoom => short_reply(9, 0),
+    }
+}
+
+/// Sets the document of a key.
+fn put<M: Memory, L: Ledger>(
+    mem: &mut M,
+    lines: u64,
+    key: &Key,
+    doc: &Doc,
+    visits: &mut Steps<L>,
+) -> Result<[u64; 144], Halt>
+    requires sized { IsPartLength (M.size mem.old) }
+    requires lines { M.size mem.old ≡ 8 * lines }
+    requires writable { IsTrue (M.writable mem.old) }
+    requires lawful { Always (M.stands mem.old) IsIndex }
+    requires key { IsPacked 8 key.now.len key.now.words }
+    requires doc { IsPacked 128 doc.now.len doc.now.words }
+    requires is_key { IsKey (unpacked key.now.len key.now.words) }
+    requires is_document { IsDocument (unpacked doc.now.len doc.now.words) }
+    ensures done { IfOk result (λ reply. Becomes (M.stands mem.old) (M.stands mem.new)
+        (Does (λ store. meaning.store_after_put lines store (unpacked key.now.len key.now.words) (unpacked doc.now.len doc.now.words)) (λ store. meaning.put_reply lines store (unpacked key.now.len key.now.words) (unpacked doc.now.len doc.now.words)) reply)) }
+    ensures halts { OnErr result (M.left mem.new ≡ Some 0) }
+    ensures size { M.size mem.new ≡ M.size mem.old }
+    ensures fixed { M.fixed mem.new ≡ M.fixed mem.old }
+    ensures writable { M.writable mem.new ≡ M.writable mem.old }
+{
+    let inserted = insert(mem, lines, key, doc, visits)?;
+    Ok(put_reply(inserted))
+}
+
+/// Removes a key.
+fn delete<M: Memory, L: Ledger>(
+    mem: &mut M,
+    key: &Key,
+    visits: &mut Steps<L>,
+) -> Result<[u64; 144], Halt>
+    requires sized { IsPartLength (M.size mem.old) }
+    requires writable { IsTrue (M.writable mem.old) }
+    requires lawful { Always (M.stands mem.old) IsIndex }
+    requires key { key.now.len ≤ 64 }
+    ensures done { IfOk result (λ reply. Becomes (M.stands mem.old) (M.stands mem.new)
+        (Does (λ store. meaning.without_key (unpacked key.now.len key.now.words) store) (λ store. if is_some (meaning.document_at (unpacked key.now.len key.now.words) store) then Deleted else Absent) reply)) }
+    ensures halts { OnErr result (M.left mem.new ≡ Some 0) }
+    ensures size { M.size mem.new ≡ M.size mem.old }
+    ensures fixed { M.fixed mem.new ≡ M.fixed mem.old }
+    ensures writable { M.writable mem.new ≡ M.writable mem.old }
+{
+    let there = remove(mem, key, visits)?;
+    Ok(removal_reply(there))
+}
+
+/// The number that an addition begins with: what the document says, and 0 where the key is missing.
+fn number_at<M: Memory, L: Ledger>(
+    mem: &mut M,
+    key: &Key,
+    visits: &mut Steps<L>,
+) -> Result<Option<i64>, Halt>
+    requires sized { IsPartLength (M.size mem.old) }
+    requires lawful { Always (M.stands mem.old) IsIndex }
+    requires key { key.now.len ≤ 64 }
+    ensures done { IfOk result (λ number. Reads (M.stands mem.old) (M.stands mem.new)
+        (λ ws. (version : ℕ) (store : Store) → StandsFor ws version store → number ≡ meaning.number_at (unpacked key.now.len key.now.words) store)) }
+    ensures fits { IfOk result (λ number. IfSome number (λ z. is_i64 z ≡ true)) }
+    ensures halts { OnErr result (M.left mem.new ≡ Some 0) }
+    ensures size { M.size mem.new ≡ M.size mem.old }
+    ensures fixed { M.fixed mem.new ≡ M.fixed mem.old }
+    ensures writable { M.writable mem.new ≡ M.writable mem.old }
+{
+    let found = find(mem, key, visits)?;
+    match found {
+        None => Ok(Some(0)),
+        Some(node) => {
+            let doc = doc_at(mem, node)?;
+            Ok(number_in(&doc))
+        }
+    }
+}
+
+/// Sets the text of a sum as the document of a key.
+fn put_sum<M: Memory, L: Ledger>(
+    mem: &mut M,
+    lines: u64,
+    key: &Key,
+    sum: i64,
+    visits: &mut Steps<L>,
+) -> Result<[u64; 144], Halt>
+    requires sized { IsPartLength (M.size mem.old) }
+    requires lines { M.size mem.old ≡ 8 * lines }
+    requires writable { IsTrue (M.writable mem.old) }
+    requires lawful { Always (M.stands mem.old) IsIndex }
+    requires key { IsPacked 8 key.now.len key.now.words }
+    requires is_key { IsKey (unpacked key.now.len key.now.words) }
+    requires sum { is_i64 sum ≡ true }
+    ensures done { IfOk result (λ reply. Becomes (M.stands mem.old) (M.stands mem.new)
+        (Does (λ store. meaning.store_after_put lines store (unpacked key.now.len key.now.words) (signed_decimal sum)) (λ store. put_sum_reply lines store (unpacked key.now.len key.now.words) sum) reply)) }
+    ensures halts { OnErr result (M.left mem.new ≡ Some 0) }
+    ensures size { M.size mem.new ≡ M.size mem.old }
+    ensures fixed { M.fixed mem.new ≡ M.fixed mem.old }
+    ensures writable { M.writable mem.new ≡ M.writable mem.old }
+{
+    let doc = doc_of_number(sum);
+    let inserted = insert(mem, lines, key, &doc, visits)?;
+    Ok(sum_reply(inserted, sum))
+}
+
+/// Sets the sum of two integers as the document of a key.
+fn add_to<M: Memory, L: Ledger>(
+    mem: &mut M,
+    lines: u64,
+    key: &Key,
+    before: i64,
+    amount: i64,
+    visits: &mut Steps<L>,
+) -> Result<[u64; 144], Halt>
+    requires sized { IsPartLength (M.size mem.old) }
+    requires lines { M.size mem.old ≡ 8 * lines }
+    requires writable { IsTrue (M.writable mem.old) }
+    requires lawful { Always (M.stands mem.old) IsIndex }
+    requires key { IsPacked 8 key.now.len key.now.words }
+    requires is_key { IsKey (unpacked key.now.len key.now.words) }
+    ensures done { IfOk result (λ reply. Becomes (M.stands mem.old) (M.stands mem.new)
+        (Does (λ store. meaning.store_after_sum lines store (unpacked key.now.len key.now.words) (before +ℤ amount)) (λ store. meaning.sum_reply lines store (unpacked key.now.len key.now.words) (before +ℤ amount)) reply)) }
+    ensures halts { OnErr result (M.left mem.new ≡ Some 0) }
+    ensures size { M.size mem.new ≡ M.size mem.old }
+    ensures fixed { M.fixed mem.new ≡ M.fixed mem.old }
+    ensures writable { M.writable mem.new ≡ M.writable mem.old }
+{
+    let made = sum_of(before, amount);
+    match made {
+        None => Ok(short_reply(8, 0)),
+        Some(sum) => put_sum(mem, lines, key, sum, visits),
+    }
+}
+
+/// Adds to the number that is the document of a key.
+fn add<M: Memory, L: Ledger>(
+    mem: &mut M,
+    lines: u64,
+    key: &Key,
+    amount: i64,
+    visits: &mut Steps<L>,
+) -> Result<[u64; 144], Halt>
+    requires sized { IsPartLength (M.size mem.old) }
+    requires lines { M.size mem.old ≡ 8 * lines }
+    requires writable { IsTrue (M.writable mem.old) }
+    requires lawful { Always (M.stands mem.old) IsIndex }
+    requires key { IsPacked 8 key.now.len key.now.words }
+    requires is_key { IsKey (unpacked key.now.len key.now.words) }
+    ensures done { IfOk result (λ reply. Becomes (M.stands mem.old) (M.stands mem.new)
+        (Does (λ store. meaning.store_after_add lines store (unpacked key.now.len key.now.words) amount (meaning.number_at (unpacked key.now.len key.now.words) store)) (λ store. meaning.add_reply lines store (unpacked key.now.len key.now.words) amount (meaning.number_at (unpacked key.now.len key.now.words) store)) reply)) }
+    ensures halts { OnErr result (M.left mem.new ≡ Some 0) }
+    ensures size { M.size mem.new ≡ M.size mem.old }
+    ensures fixed { M.fixed mem.new ≡ M.fixed mem.old }
+    ensures writable { M.writable mem.new ≡ M.writable mem.old }
+{
+    let number = number_at(mem, key, visits)?;
+    match number {
+        None => Ok(short_reply(7, 0)),
+        Some(before) => add_to(mem, lines, key, before, amount, visits),
+    }
+}
+
+/// Does an operation that changes, and gives the reply. `Halt` comes only where no access is left; the words may then
+/// be anything.
+pub(crate) fn change<M: Memory, L: Ledger>(
+    mem: &mut M,
+    lines: u64,
+    op: &[u64; 144],
+    visits: &mut Steps<L>,
+) -> Result<[u64; 144], Halt>
+    requires sized { IsPartLength (M.size mem.old) }
+    requires lines { M.size mem.old ≡ 8 * lines }
+    requires writable { IsTrue (M.writable mem.old) }
+    requires lawful { Always (M.stands mem.old) IsIndex }
+    requires op { AreOfAnOp op.now }
+    requires changes { (nat_le 4 (slice_index op.now 0) && nat_le (slice_index op.now 0) 6) ≡ false }
+    ensures done { IfOk result (λ reply. Becomes (M.stands mem.old) (M.stands mem.new)
+        (λ before now. (o : Op) → IsOpOf op.now o → Does (λ store. meaning.store_after lines store o) (λ store. meaning.reply_to lines store o) reply before now)) }
+    ensures halts { OnErr result (M.left mem.new ≡ Some 0) }
+    ensures size { M.size mem.new ≡ M.size mem.old }
+    ensures fixed { M.fixed mem.new ≡ M.fixed mem.old }
+    ensures writable { M.writable mem.new ≡ M.writable mem.old }
+{
+    let key = key_in(op);
+    match op[0] {
+        1 => put(mem, lines, &key, &doc_in(op), visits),
+        2 => delete(mem, &key, visits),
+        _ => add(mem, lines, &key, op[3].cast_signed(), visits),
+    }
+}
