@@ -1,0 +1,177 @@
+-- What a table that was closed leaves.
+use Rattle.std.proofs.Common.{◌≡◌, ◌+◌, ◌*◌, ◌<◌, ℕ, zero, suc, Bool, true, false, List, [], ◌∷◌, length, map, replicate, slice_index, refl, sym, ap, subst, ◌∙◌, inl, arith, Some, All, get_or, zero-add}
+use Rattle.std.proofs.lemmas.List.{length-map, length-replicate, get_or-map}
+use Rattle.std.proofs.lemmas.List.Elements.{All-map}
+use Rattle.std.proofs.lemmas.List.FromFn.{length-range_with_len, get_or-range_with_len}
+use Rattle.std.proofs.lemmas.Option.{same_Some, none-some, slice_get_within, slice_get-get_or, get_or_from_slice_get}
+use Rattle.std.proofs.lemmas.Simd.{map-map}
+use Rattle.std.specs.List.{range_with_len, slice_get, slice_range}
+use mathlib.Core.Option.{some, some-injective, some-ne-none}
+use lib.ListN.{get_elem?}
+use Rattle.atomic_table.specs.Table.{State}
+use Rattle.cx_core.specs.declared.entry.Base.{Base}
+use Rattle.cx_core.specs.declared.entry.Entry.{Entry}
+use Rattle.cx_core.specs.declared.local.Local.{Local}
+use Rattle.cx_core.specs.Lawful.{Lawful}
+use Rattle.cx_core.specs.Merge.{IsHistory}
+use Rattle.cx_core.specs.State.{Life, opening_words}
+use Rattle.cx_table.specs.declared.rule.Known.{Known}
+use Rattle.cx_core.specs.Layout.{vol_at, per_at}
+use Rattle.cx_table.specs.declared.remains.Remains.{Remains}
+use Rattle.cx_table.specs.Ending.{IsChain, history_of}
+use Rattle.cx_table.specs.Remains.{AreSeats, Leaves, MarksDirty, known_by, locals_of, opening_seat}
+use Rattle.cx_table.specs.Rule.{Held, HoldsNone, NotesHold, StandStill}
+use Rattle.cx_table.specs.Running.{IsSeatOf, Running, life_at}
+use Rattle.cx_table.specs.Seats.{Seated}
+use Rattle.cx_table.proofs.Merged.{history_is}
+use Rattle.cx_table.proofs.Moves.{same_items}
+
+map-id : {A : Type 0} (xs : List A) → map (λ (x : A). x) xs ≡ xs
+map-id [] = refl
+map-id (x ∷ xs) = ap (λ ys. x ∷ ys) (map-id xs)
+
+-- the seats that are made are the table's, one of each caller
+pub all_seated : {O : Type 0} (t : Running O) (limits : List ℕ) (seats : List Seated) → seats ≡ map (opening_seat t limits) (range_with_len 0 t.callers) → AreSeats t seats
+all_seated t limits seats is =
+    let f = opening_seat t limits in
+    let range = range_with_len 0 t.callers in
+    subst (AreSeats t) (sym is) (record {
+      of = All-map (IsSeatOf t) f range (λ k d below. (
+          let within : k < t.callers = omega (arith, length-range_with_len 0 t.callers) in
+          let at : get_or range k d ≡ k = get_or-range_with_len 0 t.callers k d within ∙ zero-add k in
+          record { table = refl; caller = subst (λ c. c < t.callers) (sym at) within; before = refl }));
+      numbers = map-map (λ (s : Seated). s.known.local.number) f range ∙ map-id range;
+    })
+
+-- an item of a list that was made from another
+map_at : {A B : Type 0} (f : A → B) (xs : List A) (i : ℕ) (y : B) → slice_get (map f xs) i ≡ Some y → (x : A) × (slice_get xs i ≡ Some x) × (f x ≡ y)
+map_at f [] i y at = absurd (none-some y at)
+map_at f (x ∷ xs) zero y at = (x, refl, same_Some (f x) y at)
+map_at f (x ∷ xs) (suc i) y at = map_at f xs i y at
+
+-- the seats' callers have the numbers from 0 on
+numbered : (callers : ℕ) (seats : List Seated) → map (λ (s : Seated). s.known.local.number) seats ≡ range_with_len 0 callers → (i : ℕ) (k : Known) → slice_get (known_by seats) i ≡ Some k → k.local.number ≡ i
+numbered callers seats numbers i k at =
+    let s = map_at (λ (s : Seated). s.known) seats i k at in
+    let f = λ (s : Seated). s.known.local.number in
+    let within : i < length seats = slice_get_within seats i s.0 s.1 in
+    let below : i < callers = omega (arith, length-map seats f, ap length numbers, length-range_with_len 0 callers) in
+    ap (λ (x : Known). x.local.number) (sym s.2)
+    ∙ ap f (sym (get_or_from_slice_get seats i s.0 s.0 s.1))
+    ∙ sym (get_or-map f seats i s.0 0 within)
+    ∙ ap (λ (ns : List ℕ). get_or ns i 0) numbers
+    ∙ get_or-range_with_len 0 callers i 0 below ∙ zero-add i
+
+seats_count : {O : Type 0} (t : Running O) (seats : List Seated) → AreSeats t seats → length seats ≡ t.callers
+seats_count t seats are = sym (length-map seats (λ (s : Seated). s.known.local.number)) ∙ ap length are.numbers ∙ length-range_with_len 0 t.callers
+
+-- what the rule knows of the local states is what the seats know
+pub locals_are : {O : Type 0} (t : Running O) (life : Life) (seats : List Seated) (s : State ℕ (List Known)) (id : ℕ) → life.callers ≡ t.callers → AreSeats t seats → (held : Held life s) →
+    get_elem? s.views id ≡ some (known_by seats) → held.locals ≡ locals_of seats
+locals_are t life seats s id callers are held me =
+    let count : length (locals_of seats) ≡ t.callers = length-map (known_by seats) (λ (k : Known). k.local) ∙ length-map seats (λ (x : Seated). x.known) ∙ seats_count t seats are in
+    same_items held.locals (locals_of seats) (held.law.shape.count ∙ callers ∙ sym count) (λ i l at. (
+    let k = map_at (λ (k : Known). k.local) (known_by seats) i l at in
+    let is = (held.each id i (known_by seats) k.0 me k.1).local in
+    let n = numbered t.callers seats are.numbers i k.0 k.1 in
+    subst (λ (x : Local). slice_get held.locals i ≡ Some x) k.2 (subst (λ (m : ℕ). slice_get held.locals m ≡ Some k.0.local) n is)))
+
+-- what the seats noted is the history's
+pub notes_are : (life : Life) (seats : List Seated) (s : State ℕ (List Known)) (id : ℕ) (history : List Entry) → (held : Held life s) → get_elem? s.views id ≡ some (known_by seats) →
+    held.law.history ≡ history → All (λ (x : Seated). NotesHold life history x.known.noted) seats
+notes_are life seats s id history held me same i d below =
+    let seat = get_or seats i d in
+    let at : slice_get (known_by seats) i ≡ Some seat.known =
+    slice_get-get_or (known_by seats) i seat.known (omega (arith, length-map seats (λ (x : Seated). x.known))) ∙ ap Some (get_or-map (λ (x : Seated). x.known) seats i d seat.known below) in
+    subst (λ h. NotesHold life h seat.known.noted) same (held.each id i (known_by seats) seat.known me at).notes
+
+not_marked : (n i : ℕ) → slice_get (replicate n false) i ≡ Some true → ⊥
+not_marked zero i at = none-some true at
+not_marked (suc n) zero at = cc
+not_marked (suc n) (suc i) at = not_marked n i at
+
+-- no word is dirty where no caller holds a replica
+pub none_dirty : (locals : List Local) (replicas region : ℕ) (marks : List Bool) → ((c : ℕ) (l : Local) → slice_get locals c ≡ Some l → HoldsNone l) → marks ≡ replicate (region * replicas) false →
+    MarksDirty locals replicas region marks
+none_dirty locals replicas region marks none is = record {
+  long = ap length is ∙ length-replicate (region * replicas) false;
+  is = λ replica at r a. (
+    (λ marked. absurd (not_marked (region * replicas) (region * replica + at) (ap (λ (bs : List Bool). slice_get bs (region * replica + at)) (sym is) ∙ marked))),
+    (λ dirty. absurd (none-some dirty.held (sym (none dirty.caller dirty.local dirty.of_caller).exclusive ∙ dirty.holds))),
+  );
+}
+
+-- the words of a list that is read
+read_is : (xs : List ℕ) (i x : ℕ) → get_elem? xs i ≡ some x → slice_index xs i ≡ x
+read_is [] i x at = absurd (some-ne-none x (sym at))
+read_is (y ∷ ys) zero x at = some-injective y x at
+read_is (y ∷ ys) (suc i) x at = read_is ys i x at
+
+-- no code was published since the table was opened
+pub one_code : (life : Life) (words : List ℕ) (locals : List Local) (code : ℕ) (codes : List ℕ) → StandStill life words → get_elem? words 0 ≡ some code → codes ≡ code ∷ [] → IsChain words locals codes
+unfolding opening_words
+one_code life words locals code codes still at is =
+    let dur : slice_index words 1 ≡ slice_index (opening_words life.callers life.base) 1 = still 1 (inl (omega arith)) in
+    let cur : slice_index words 0 ≡ slice_index (opening_words life.callers life.base) 0 = still 0 (inl (omega arith)) in
+    let here = read_is words 0 code at in
+    subst (IsChain words locals) (sym is) (dur ∙ sym cur ∙ here, sym here)
+
+-- a part of the words that were handed out, at the same places
+pub same_part : (words ws : List ℕ) (a b c d : ℕ) → words ≡ ws → a ≡ c → b ≡ d → slice_range ws a b ≡ slice_range words c d
+same_part words ws a b c d same from to =
+    ap (λ (xs : List ℕ). slice_range xs a b) (sym same) ∙ ap (λ k. slice_range words k b) from ∙ ap (λ k. slice_range words c k) to
+
+-- what is handed out of a table at its end
+pub record Handed {O : Type 0} (t : Running O) (seats : List Seated) (words : List ℕ) (r : Remains) : Type 0 where
+  pub callers : r.callers ≡ t.callers
+  pub lines : r.lines ≡ t.lines
+  pub first : r.first ≡ t.base.place
+  pub published : r.published.items ≡ r.trail.chain
+  pub code : ℕ
+  pub chain : r.trail.chain ≡ code ∷ []
+  pub cur : get_elem? words 0 ≡ some code
+  pub of : r.trail.table ≡ t.table
+  pub base : r.trail.base ≡ t.base
+  pub locals : r.trail.locals ≡ locals_of seats
+  pub history : r.trail.history ≡ history_of t.base.place (locals_of seats)
+  pub volatile : r.volatile.items ≡ slice_range words (vol_at t.callers (length t.base.words) 0 0) (vol_at t.callers (length t.base.words) (2 * t.callers) 0)
+  pub durable : r.durable.items ≡ slice_range words (per_at t.callers (length t.base.words) 0 0) (per_at t.callers (length t.base.words) (2 * t.callers) 0)
+  pub dirty : r.dirty.items ≡ replicate (length t.base.words * (2 * t.callers)) false
+
+pub leaves : {O : Type 0} (t : Running O) (life : Life) (seats : List Seated) (r : Remains) (s : State ℕ (List Known)) (id : ℕ) → life.callers ≡ t.callers → life.base ≡ t.base →
+    AreSeats t seats → Held life s → get_elem? s.views id ≡ some (known_by seats) → Handed t seats s.words r → Leaves t life seats r
+leaves t life seats r s id callers base are held me h =
+    let locals = locals_are t life seats s id callers are held me in
+    let state : Lawful life (record { words = s.words; locals = locals_of seats }) = subst (λ (ls : List Local). Lawful life (record { words = s.words; locals = ls })) locals held.law in
+    let place : life.base.place ≡ t.base.place = ap (λ (b : Base). b.place) base in
+    let history : r.trail.history ≡ history_of life.base.place (locals_of seats) = h.history ∙ ap (λ p. history_of p (locals_of seats)) (sym place) in
+    let is : state.history ≡ r.trail.history = sym (history_is life.base.place state.history (locals_of seats) state.tickets.merged) ∙ sym history in
+    let was : held.law.history ≡ r.trail.history = sym (history_is life.base.place held.law.history held.locals held.law.tickets.merged) ∙ ap (history_of life.base.place) locals ∙ sym history in
+    record {
+      callers = h.callers;
+      lines = h.lines;
+      first = h.first;
+      published = h.published;
+      of = h.of;
+      base = h.base;
+      locals = h.locals;
+      words = s.words;
+      state = state;
+      history = is;
+      merged = subst (λ (p : ℕ). IsHistory p r.trail.history (locals_of seats)) place (subst (λ (es : List Entry). IsHistory life.base.place es (locals_of seats)) is state.tickets.merged);
+      chain = one_code life s.words (locals_of seats) h.code r.trail.chain held.still h.cur h.chain;
+      volatile = h.volatile;
+      durable = h.durable;
+      dirty = none_dirty (locals_of seats) (2 * t.callers) (length t.base.words) r.dirty.items (λ c l at. held.rest c l (subst (λ (ls : List Local). slice_get ls c ≡ Some l) (sym locals) at)) h.dirty;
+      notes = notes_are life seats s id r.trail.history held me was;
+    }
+
+abbrev pub Same : Life → Life → Type 0
+Same a b = a ≡ b
+
+-- the life of a table, which its key and its fields tell
+pub same_life : {O : Type 0} (step : O → List ℕ → List ℕ → List ℕ × List ℕ) (reads : O → List ℕ → Bool) (t : Running O) (callers : ℕ) (base : Base) (object : O) →
+    callers ≡ t.callers → base ≡ t.base → object ≡ t.object → Same (record { callers = callers; base = base; step = step object; reads = reads object }) (life_at t step reads)
+same_life {O = O} step reads t callers base object c b o =
+    let L : ℕ → Base → O → Life = λ n x y. record { callers = n; base = x; step = step y; reads = reads y } in
+    ap (λ n. L n base object) c ∙ ap (λ x. L t.callers x object) b ∙ ap (λ y. L t.callers t.base y) o

@@ -1,0 +1,99 @@
+-- The rule holds of the table as it is opened.
+use Rattle.std.proofs.Common.{◌≡◌, ◌≢◌, ◌^◌, ◌<◌, ◌≤◌, inl, inr, ℕ, zero, suc, List, [], ◌∷◌, length, map, set, slice_index, refl, ap, sym, subst, ◌∙◌, arith, Some}
+use Rattle.std.proofs.lemmas.List.FromFn.{length-map-range_with_len, get_or-map-range_with_len}
+use Rattle.std.proofs.lemmas.Bool.{cases_eq}
+use Rattle.std.proofs.lemmas.Option.{slice_get_within, slice_get-get_or, get_or_from_slice_get, none-some, same_Some}
+use Rattle.std.specs.List.{range_with_len, slice_get}
+use mathlib.Core.Option.{some, some-injective, some-ne-none}
+use lib.ListN.{get_elem?}
+use Rattle.atomic_table.specs.Table as atomic
+use Rattle.cx_core.specs.declared.local.Local.{Local}
+use Rattle.cx_core.specs.Lawful.{Lawful}
+use Rattle.cx_core.specs.State.{Life, opening_local, opening_locals, opening_words}
+use Rattle.cx_core.proofs.ListLemmas.{slice_get-set_same, slice_get-set_other}
+use Rattle.core_queue.proofs.FrontLaws.{behind_kept}
+use Rattle.core_queue.proofs.Keeps.{loads_kept}
+use Rattle.core_queue.proofs.Opening.{opening_lawful}
+use Rattle.cx_table.specs.declared.rule.Known.{Known}
+use Rattle.cx_table.specs.Rule.{Held, HoldsNone, IsKnown}
+use Rattle.cx_table.specs.Seats.{opening_known, opening_view}
+
+-- an item of a list made item by item
+pub mapped_at : {X : Type 0} (f : ℕ → X) (n i : ℕ) (x : X) → slice_get (map f (range_with_len 0 n)) i ≡ Some x → (i < n) × (x ≡ f i)
+mapped_at f n i x at =
+    let within : i < n = omega (arith, slice_get_within (map f (range_with_len 0 n)) i x at, length-map-range_with_len f 0 n) in
+    (within, sym (get_or_from_slice_get (map f (range_with_len 0 n)) i x x at) ∙ get_or-map-range_with_len f 0 n i i x within (omega arith))
+
+pub mapped_there : {X : Type 0} (f : ℕ → X) (n i : ℕ) → i < n → slice_get (map f (range_with_len 0 n)) i ≡ Some (f i)
+mapped_there f n i within =
+    let long : i < length (map f (range_with_len 0 n)) = omega (arith, length-map-range_with_len f 0 n) in
+    slice_get-get_or (map f (range_with_len 0 n)) i (f i) long ∙ ap Some (get_or-map-range_with_len f 0 n i i (f i) within (omega arith))
+
+-- a limit of steps is in no part of the lawful state
+limit_kept : (life : Life) (words : List ℕ) (locals : List Local) (caller : ℕ) (l : Local) (limit : ℕ) → Lawful life (record { words = words; locals = locals }) → slice_get locals caller ≡ Some l →
+    Lawful life (record { words = words; locals = set locals caller (record l { limit = limit }) })
+limit_kept life words locals caller l limit law at =
+    loads_kept life (record { words = words; locals = locals }) caller l (record l { limit = limit }) law at refl refl refl refl refl (law.cells.seen caller l at)
+    (behind_kept life law.history law.history words words l (record l { limit = limit }) (law.fronts.each caller l at) (omega arith) (record { dur = refl; low = refl; free = refl })
+    (record { front = refl; floor = refl; seen_cur = refl; seen_free = refl; seen_low = refl; raised = refl; won = refl }))
+
+-- the first n callers have their limits
+record Limited (life : Life) (limits : List ℕ) (n : ℕ) : Type 0 where
+  locals : List Local
+  law : Lawful life (record { words = opening_words life.callers life.base; locals = locals })
+  done : (c : ℕ) → c < n → slice_get locals c ≡ Some (opening_known life.callers life.base.place limits c).local
+  rest : (c : ℕ) → n ≤ c → c < life.callers → slice_get locals c ≡ Some (opening_local life.callers life.base.place c)
+
+limited : (life : Life) (limits : List ℕ) (n : ℕ) → 1 ≤ life.callers → life.callers ≤ 8 → life.base.place ≤ 2 ^ 40 → n ≤ life.callers → Limited life limits n
+limited life limits zero one few place within = record {
+  locals = opening_locals life.callers life.base.place;
+  law = opening_lawful life one few place;
+  done = λ c below. absurd (omega arith);
+  rest = λ c _ below. mapped_there (opening_local life.callers life.base.place) life.callers c below;
+}
+limited life limits (suc n) one few place within =
+    let before = limited life limits n one few place (omega arith) in
+    let l = opening_local life.callers life.base.place n in
+    let l' = (opening_known life.callers life.base.place limits n).local in
+    let at = before.rest n (omega arith) (omega arith) in
+    record {
+      locals = set before.locals n l';
+      law = limit_kept life (opening_words life.callers life.base) before.locals n l (slice_index limits n) before.law at;
+      done = λ c below. elim (cases_eq c n) [
+        | inl e ↦ subst (λ k. slice_get (set before.locals n l') k ≡ Some (opening_known life.callers life.base.place limits k).local) (sym e) (slice_get-set_same before.locals n l' (slice_get_within before.locals n l at))
+        | inr ne ↦ slice_get-set_other before.locals n c l' ne ∙ before.done c (omega (arith, ne))
+      ];
+      rest = λ c from below. (let ne : c ≢ n = λ e. omega arith in slice_get-set_other before.locals n c l' ne ∙ before.rest c (omega arith) below);
+    }
+
+only_view : (v w : List Known) (seat : ℕ) → get_elem? (v ∷ []) seat ≡ some w → (seat ≡ 0) × (v ≡ w)
+only_view v w zero at = (refl, some-injective v w at)
+only_view v w (suc seat) at = absurd (some-ne-none w (sym at))
+
+-- the rule holds at the opening, where the first seat knows all callers
+pub opening_held : (life : Life) (limits : List ℕ) → 1 ≤ life.callers → life.callers ≤ 8 → life.base.place ≤ 2 ^ 40 →
+    Held life (atomic.opening (opening_words life.callers life.base) [] (opening_view life.callers life.base.place limits))
+opening_held life limits one few place =
+    let all = limited life limits life.callers one few place (omega arith) in
+    let view = opening_view life.callers life.base.place limits in
+    let f = opening_known life.callers life.base.place limits in
+    record {
+      locals = all.locals;
+      place_of = λ c. (0, c);
+      law = all.law;
+      each = λ seat i v known view_at item. (
+          let first = only_view view v seat view_at in
+          let at = mapped_at f life.callers i known (ap (λ (w : List Known). slice_get w i) first.1 ∙ item) in
+          let here : IsKnown life all.law.history all.locals (λ c. (0, c)) 0 i (f i) = record {
+            local = all.done i at.0;
+            only = refl;
+            notes = λ n noted there from. absurd (none-some noted there);
+          } in
+          subst (IsKnown life all.law.history all.locals (λ c. (0, c)) seat i) (sym at.1) (subst (λ n. IsKnown life all.law.history all.locals (λ c. (0, c)) n i (f i)) (sym first.0) here));
+      still = λ at off. refl;
+      rest = λ c l at. (
+          let count = all.law.shape.count in
+          let within : c < life.callers = omega (arith, slice_get_within all.locals c l at) in
+          let is = same_Some (f c).local l (sym (all.done c within) ∙ at) in
+          subst HoldsNone is (record { exclusive = refl; shared = refl; passer = refl; downgraded = refl; won = refl }));
+    }

@@ -1,0 +1,63 @@
+use Rattle.std.proofs.Common.{◌≡◌, ◌+◌, ◌<◌, ℕ, [], List, slice_index, ◌*◌, drop, sym, ap, ◌∙◌, arith}
+use Rattle.atomic_table.specs.Seated.{TableId}
+use Rattle.cx_core.specs.Region.{slot_number}
+use Rattle.cx_core.specs.State.{opening_local}
+use Rattle.cx_table.specs.declared.rule.Known.{Known}
+use Rattle.cx_table.specs.Mirrors.{mirror_of}
+use Rattle.cx_table.specs.Seats.{Seated, opening_known, opening_view}
+use Rattle.cx_table.proofs.Moves.{cut_rests, one_caller, opening_mirrored, splits}
+use Rattle.cx_table.proofs.shared.Shared.next_seat.Goals as goal
+
+-- two seats that contracts see the same of
+abbrev Same : Seated → Seated → Type 0
+Same a b = a ≡ b
+
+seated_at : (t u : TableId) (a b : ℕ) (k l : Known) → t ≡ u → a ≡ b → k ≡ l → Same (record { table = t; before = a; known = k }) (record { table = u; before = b; known = l })
+seated_at t u a b k l table before known =
+    ap (λ x. record { table = x; before = a; known = k }) table
+    ∙ ap (λ x. record { table = u; before = x; known = k }) before
+    ∙ ap (λ x. record { table = u; before = b; known = x }) known
+
+pub split_seat-seat-requires : goal.split_seat-seat-requires
+split_seat-seat-requires g c = (
+  c.requires.table ∙ sym (ap (λ s. s.table) c.self.view_is),
+  omega (arith, c.self.invariant.0.words),
+  λ s h me. splits _ s _ c.args.first.now.me.0 h me,
+)
+
+pub invariant_of-result : goal.invariant_of-result
+invariant_of-result g c =
+    let n = c.args.number in
+    let place = c.args.self.now.base.place in
+    let limits = c.args.limits.now in
+    let callers = c.args.self.now.callers in
+    let view = c.self.view_is in
+    let r = cut_rests callers place limits n c.args.first.now.me.0 c.requires.caller (ap (λ m. m.0) c.requires.me) in
+    let running = c.self.invariant.0 in
+    let eight : n < 8 = omega (arith, running.few, c.requires.caller, ap (λ s. s.callers) view) in
+    let before : slice_index c.as_slice.result.now (8 + 145 * n) ≡ slot_number n c.self.inside.base.words = ap (λ ws. slice_index ws (8 + 145 * n)) c.as_slice.ensures in
+    opening_mirrored c.split_seat-seat.result.me c.opening_mirror-mirror.result (slice_index c.as_slice.result.now (8 + 145 * n)) callers place n limits
+    (c.split_seat-seat.ensures.4 ∙ ap (λ (v : List Known). (v, [])) r.1)
+    (c.opening_mirror-mirror.ensures ∙ ap (λ s. mirror_of (record (opening_local s.callers s.base.place n) { limit = slice_index limits n })) view)
+    (omega (arith, ap (λ s. s.base.place) view, running.base.place_within))
+    (omega (arith, before, running.base.numbers n eight, running.base.place_within))
+
+pub returns-clause-me : goal.returns-clause-me
+returns-clause-me g c =
+    let callers = c.args.self.now.callers in
+    let place = c.args.self.now.base.place in
+    let limits = c.args.limits.now in
+    let r = cut_rests callers place limits c.args.number c.args.first.now.me.0 c.requires.caller (ap (λ m. m.0) c.requires.me) in
+    c.split_seat-seat.ensures.2 ∙ ap (λ (v : List Known). (v, c.args.first.now.me.1)) r.0 ∙ ap (λ m. (drop (c.args.number + 1) (opening_view callers place limits), m.1)) c.requires.me
+
+pub returns-clause-seat : goal.returns-clause-seat
+returns-clause-seat g c =
+    let callers = c.args.self.now.callers in
+    let place = c.args.self.now.base.place in
+    let limits = c.args.limits.now in
+    let n = c.args.number in
+    let r = cut_rests callers place limits n c.args.first.now.me.0 c.requires.caller (ap (λ m. m.0) c.requires.me) in
+    let one = one_caller c.split_seat-seat.result.me (opening_known callers place limits n) (c.split_seat-seat.ensures.4 ∙ ap (λ (v : List Known). (v, [])) r.1) in
+    let table = c.split_seat-seat.ensures.3 ∙ c.requires.table in
+    let before = ap (λ ws. slice_index ws (8 + 145 * n)) (c.as_slice.ensures ∙ ap (λ s. s.base.words) c.self.view_is) in
+    seated_at (c.split_seat-seat.result.table_id) c.args.self.now.table _ _ _ _ table before one.1

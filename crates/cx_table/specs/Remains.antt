@@ -1,0 +1,71 @@
+-- What is handed to the closing of a table, and what it leaves.
+use Rattle.std.specs.Prelude.{◌≡◌, ◌+◌, ◌*◌, ◌<◌, ◌↔◌, ℕ, Bool, true, List, All, Contains, length, map, slice_get, slice_range, Some}
+use Rattle.std.specs.List.{range_with_len}
+use Rattle.cx_core.specs.declared.local.HeldExclusive.{HeldExclusive}
+use Rattle.cx_core.specs.declared.local.Local.{Local}
+use Rattle.cx_core.specs.Lawful.{Lawful}
+use Rattle.cx_core.specs.Layout.{vol_at, per_at}
+use Rattle.cx_core.specs.Merge.{IsHistory}
+use Rattle.cx_core.specs.Region.{slot_number}
+use Rattle.cx_core.specs.State.{Life}
+use Rattle.cx_table.specs.declared.rule.Known.{Known}
+use Rattle.cx_table.specs.declared.remains.Remains.{Remains}
+use Rattle.cx_table.specs.Ending.{IsChain, locals_known}
+use Rattle.cx_table.specs.Rule.{NotesHold}
+use Rattle.cx_table.specs.Running.{IsSeatOf, Running}
+use Rattle.cx_table.specs.Seats.{Seated, opening_known}
+
+-- what the seats know of their callers
+abbrev pub known_by : List Seated → List Known
+known_by seats = map (λ (s : Seated). s.known) seats
+
+-- the local states of the seats' callers
+abbrev pub locals_of : List Seated → List Local
+locals_of seats = locals_known (known_by seats)
+
+-- item i is the seat of caller i of this table, and there are all
+pub record AreSeats {O : Type 0} (r : Running O) (seats : List Seated) : Type 0 where
+  pub of : All (IsSeatOf r) seats
+  pub numbers : map (λ (s : Seated). s.known.local.number) seats ≡ range_with_len 0 r.callers
+
+-- a caller's seat as it is made
+abbrev pub opening_seat : {O : Type 0} → Running O → List ℕ → ℕ → Seated
+opening_seat r limits caller = record { table = r.table; before = slot_number caller r.base.words; known = opening_known r.callers r.base.place limits caller }
+
+-- a word of a replica is dirty: some caller holds the replica exclusively, and stored there and did not persist
+pub record IsDirty (locals : List Local) (replica at : ℕ) : Type 0 where
+  pub caller : ℕ
+  pub local : Local
+  pub held : HeldExclusive
+  pub of_caller : slice_get locals caller ≡ Some local
+  pub holds : local.exclusive ≡ Some held
+  pub here : held.replica ≡ replica
+  pub dirty : Contains held.dirty at
+
+-- the marks say of each word of each replica, which has so many words, whether it is dirty
+pub record MarksDirty (locals : List Local) (replicas region : ℕ) (marks : List Bool) : Type 0 where
+  pub long : length marks ≡ region * replicas
+  pub is : (replica at : ℕ) → replica < replicas → at < region → (slice_get marks (region * replica + at) ≡ Some true) ↔ IsDirty locals replica at
+
+-- What a closed table leaves whose callers had these seats. There are words that with the callers' local states are a
+-- lawful state of the core, whose history is the trail's: each caller's own entries are in it, each once and in order.
+pub record Leaves {O : Type 0} (table : Running O) (life : Life) (seats : List Seated) (r : Remains) : Type 0 where
+  pub callers : r.callers ≡ table.callers
+  pub lines : r.lines ≡ table.lines
+  pub first : r.first ≡ table.base.place
+  pub published : r.published.items ≡ r.trail.chain
+  -- the trail is of this table
+  pub of : r.trail.table ≡ table.table
+  pub base : r.trail.base ≡ table.base
+  pub locals : r.trail.locals ≡ locals_of seats
+  -- the state that was closed
+  pub words : List ℕ
+  pub state : Lawful life (record { words = words; locals = locals_of seats })
+  pub history : state.history ≡ r.trail.history
+  pub merged : IsHistory table.base.place r.trail.history (locals_of seats)
+  pub chain : IsChain words (locals_of seats) r.trail.chain
+  pub volatile : r.volatile.items ≡ slice_range words (vol_at table.callers (length table.base.words) 0 0) (vol_at table.callers (length table.base.words) (2 * table.callers) 0)
+  pub durable : r.durable.items ≡ slice_range words (per_at table.callers (length table.base.words) 0 0) (per_at table.callers (length table.base.words) (2 * table.callers) 0)
+  pub dirty : MarksDirty (locals_of seats) (2 * table.callers) (length table.base.words) r.dirty.items
+  -- what a caller noted of entries is the history's
+  pub notes : All (λ (s : Seated). NotesHold life r.trail.history s.known.noted) seats

@@ -1,0 +1,21 @@
+//! The running table: the words of the core as atomic words that threads share, with a seat for each caller. Each step
+//! call is one event of the core, made by one atomic instruction.
+#![tactic(auto)]
+
+mod events;
+mod gather;
+mod make;
+mod mirror;
+mod remains;
+mod rule;
+mod seat;
+mod shared;
+mod steps;
+mod threads;
+
+pub use gather::KeptTable;
+pub use remains::{Remains, Trail};
+pub use rule::{CoreRule, Key, Known, Noted, View};
+pub use seat::CallerSeat;
+pub use shared::Shared;
+pub use threads::cross_threads;

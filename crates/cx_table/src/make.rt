@@ -1,0 +1,149 @@
+//! Making a table, and a seat for each caller.
+
+ghost use Rattle.std.specs.Prelude.{◌≡◌, ◌+◌, ◌^◌, ◌<◌, ◌≤◌, ℕ, [], IfOk, drop, length, map, slice_index, vec_capacity};
+ghost use Rattle.std.specs.List.{range_with_len};
+ghost use Rattle.cx_core.specs.Base.{LawfulBase};
+ghost use Rattle.cx_core.specs.State.{opening_local};
+ghost use Rattle.cx_table.specs.Mirrors.{mirror_of};
+ghost use Rattle.cx_table.specs.Remains.{AreSeats, opening_seat};
+ghost use Rattle.cx_table.specs.Seats.{opening_view};
+
+use crate::mirror::Mirror;
+use crate::rule::{Key, View};
+use crate::seat::CallerSeat;
+use crate::shared::Shared;
+use atomic_table::{Seat, Split, Table};
+use cx_base::{Items, Object, root_code};
+use cx_core::{Base, CoreState};
+use std::alloc::{AllocError, Global};
+use std::snapshot::Snapshot;
+
+/// Cuts the first caller off.
+pub struct CutFirst;
+
+impl Split<View> for CutFirst {
+    ghost use Rattle.std.specs.Prelude.{take, drop};
+
+    ghost left = { λ view. drop 1 view };
+
+    ghost right = { λ view. take 1 view };
+}
+
+impl<O: Object> Shared<O> {
+    /// Makes the table of 1 to 8 callers that opens from a base, and the callers' seats, of caller 0 first. The limit of
+    /// caller `c` is item `c` of `limits`; 2^64 - 1 is no limit. `Err` is want of memory, and drops the object.
+    pub fn make(
+        alloc: Global,
+        object: O,
+        callers: u32,
+        limits: &[u64],
+        base: &Base,
+    ) -> Result<(Shared<O>, Vec<CallerSeat>), AllocError>
+        requires some { 1 ≤ callers }
+        requires few { callers ≤ 8 }
+        requires enough { 64 ≤ O.line_count object }
+        requires small { O.line_count object ≤ 16384 }
+        requires base { LawfulBase (O.line_count object) (O.lawful object) base.now }
+        requires limits { length limits.now ≡ callers }
+        ensures table { IfOk result (λ r. r.0 ≡ record { table = r.0.table; callers = callers; lines = O.line_count object; base = base.now; object = object }) }
+        ensures seats { IfOk result (λ r. r.1.items ≡ map (opening_seat r.0 limits.now) (range_with_len 0 callers)) }
+        ensures all { IfOk result (λ r. AreSeats r.0 r.1.items) }
+    {
+        let seats = Vec::with_capacity(alloc, callers as usize)?;
+        let own = Base {
+            place: base.place,
+            words: Items::of(Vec::from_slice(alloc, base.words.as_slice())?),
+        };
+        let opening = CoreState::opening(alloc, &object, callers, base)?;
+        let key = Key {
+            callers,
+            limits: Items::of(Vec::from_slice(alloc, limits)?),
+            base: Snapshot::of(&own),
+            object: Snapshot::of(&object),
+        };
+        let (table, first) = Table::of_words(alloc, opening.words(), &key)?;
+        let shared = Shared {
+            table,
+            callers,
+            lines: object.lines(),
+            base: own,
+            object,
+        };
+        let seats = shared.seated(first, limits, seats);
+        Ok((shared, seats))
+    }
+
+    /// The seats of all callers, out of the first seat.
+    fn seated(
+        &self,
+        mut first: Seat<u8, View>,
+        limits: &[u64],
+        mut seats: Vec<CallerSeat>,
+    ) -> Vec<CallerSeat>
+        requires table { first.table_id ≡ self.now.table }
+        requires me { first.me ≡ (opening_view self.now.callers self.now.base.place limits.now, []) }
+        requires limits { length limits.now ≡ self.now.callers }
+        requires none { seats.items ≡ [] }
+        requires room { self.now.callers ≤ vec_capacity seats }
+        ensures { result.items ≡ map (opening_seat self.now limits.now) (range_with_len 0 self.now.callers) }
+    {
+        for number in 0..self.callers {
+            let seat = self.next_seat(&mut first, number, limits);
+            seats.push_reserved(seat);
+        }
+        seats
+    }
+
+    /// The seat of a caller, cut from the first seat, which has those from this caller on.
+    fn next_seat(&self, first: &mut Seat<u8, View>, number: u32, limits: &[u64]) -> CallerSeat
+        requires table { first.old.table_id ≡ self.now.table }
+        requires me { first.old.me ≡ (drop number (opening_view self.now.callers self.now.base.place limits.now), []) }
+        requires limits { length limits.now ≡ self.now.callers }
+        requires caller { number < self.now.callers }
+        ensures table { first.new.table_id ≡ first.old.table_id }
+        ensures me { first.new.me ≡ (drop (number + 1) (opening_view self.now.callers self.now.base.place limits.now), []) }
+        ensures seat { result ≡ opening_seat self.now limits.now number }
+    {
+        let mirror = opening_mirror(
+            self.callers,
+            self.base.place,
+            number,
+            limits[number as usize],
+        );
+        let before = self.base.words.as_slice()[8 + 145 * number as usize];
+        let seat = self.table.shared.split_seat::<CutFirst>(first);
+        CallerSeat {
+            seat,
+            mirror,
+            before,
+        }
+    }
+}
+
+/// The numbers of a caller that made no step.
+fn opening_mirror(callers: u32, place: u64, number: u32, limit: u64) -> Mirror
+    requires some { 1 ≤ callers }
+    requires few { callers ≤ 8 }
+    requires place { place ≤ 2 ^ 40 }
+    ensures { result ≡ mirror_of (record (opening_local callers place number) { limit = limit }) }
+{
+    let code = root_code(callers, place, 0);
+    Mirror {
+        number,
+        front: place,
+        linked: 0,
+        unanswered: None,
+        tickets: [None; 16],
+        seen_slot: None,
+        seen_free: place,
+        seen_low: place,
+        seen_cur: code,
+        fresh: false,
+        raised: code,
+        floor: place,
+        steps: 0,
+        limit,
+        met: 0,
+        scans: 0,
+    }
+}

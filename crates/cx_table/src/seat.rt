@@ -1,0 +1,151 @@
+//! A caller's seat: its right to step, and the numbers of its local state that code reads.
+
+ghost use Rattle.std.specs.Prelude.{◌≡◌, ◌+◌, ◌^◌, ◌<◌, ◌≤◌, length};
+ghost use Rattle.cx_core.specs.Events.{cell_of};
+ghost use Rattle.cx_table.specs.Seats.{HasCells, unanswered_ticket};
+
+use crate::mirror::Mirror;
+use crate::rule::View;
+use atomic_table::Seat;
+use cx_core::SeenSlot;
+use std::marker::Model;
+
+/// The seat of one caller. It has no bytes of the table, and what it knows changes only at its own steps. Contracts see
+/// its table, the number of its caller's last entry in the table's base, and what it knows.
+#[derive(Drop)]
+pub struct CallerSeat {
+    pub(crate) seat: Seat<u8, View>,
+    pub(crate) mirror: Mirror,
+    /// The number of the caller's last entry before this service.
+    pub(crate) before: u64,
+}
+
+impl Model for CallerSeat {
+    ghost use Rattle.cx_table.specs.Seats.{Seated, known_of};
+
+    ghost Value = { Seated };
+
+    ghost use Rattle.cx_table.specs.Mirrors.{IsMirrored};
+
+    ghost view = { λ s. record { table = s.seat.table_id; before = s.before; known = known_of s.seat.me.0 } };
+
+    ghost invariant = { λ s. IsMirrored s.seat.me s.mirror s.before };
+}
+
+impl CallerSeat {
+    /// The caller, from 0.
+    pub fn number(&self) -> u32
+        ensures value { result ≡ self.now.known.local.number }
+        ensures cells { HasCells self.now.known.local }
+    {
+        self.mirror.number
+    }
+
+    /// The steps made. This stays at 2^64 - 1 once there.
+    pub fn steps(&self) -> u64
+        ensures { result ≡ self.now.known.local.steps }
+    {
+        self.mirror.steps
+    }
+
+    /// The steps allowed, where 2^64 - 1 is no limit.
+    pub fn limit(&self) -> u64
+        ensures { result ≡ self.now.known.local.limit }
+    {
+        self.mirror.limit
+    }
+
+    /// Every ticket from the base's place to below it is linked.
+    pub fn front(&self) -> u64
+        ensures value { result ≡ self.now.known.local.front }
+        ensures small { result ≤ 2 ^ 40 }
+    {
+        self.mirror.front
+    }
+
+    /// The refusals met. This stays at 2^64 - 1 once there.
+    pub fn met(&self) -> u64
+        ensures { result ≡ self.now.known.local.met }
+    {
+        self.mirror.met
+    }
+
+    /// The number of the caller's next entry: its numbers go on from the one in the base.
+    pub fn next_number(&self) -> u64
+        ensures value { result ≡ self.now.before + length self.now.known.local.own + 1 }
+        ensures cells { HasCells self.now.known.local }
+    {
+        self.before + self.mirror.linked + 1
+    }
+
+    /// The ticket of the caller's entry that is not answered yet.
+    pub fn unanswered(&self) -> Option<u64>
+        ensures { result ≡ unanswered_ticket self.now.known.local }
+    {
+        self.mirror.unanswered
+    }
+
+    /// The ticket with which a cell of the caller was linked since it was last written.
+    pub fn cell_ticket(&self, j: u64) -> Option<u64>
+        requires { j < 16 }
+        ensures { result ≡ (cell_of self.now.known.local j).ticket }
+    {
+        self.mirror.tickets[j as usize]
+    }
+
+    /// The link slot last looked at, and the word found there.
+    pub fn seen_slot(&self) -> Option<SeenSlot>
+        ensures { result ≡ self.now.known.local.seen_slot }
+    {
+        self.mirror.seen_slot
+    }
+
+    /// The greatest FREE found.
+    pub fn seen_free(&self) -> u64
+        ensures { result ≡ self.now.known.local.seen_free }
+    {
+        self.mirror.seen_free
+    }
+
+    /// The greatest LOW found.
+    pub fn seen_low(&self) -> u64
+        ensures { result ≡ self.now.known.local.seen_low }
+    {
+        self.mirror.seen_low
+    }
+
+    /// The last word found in CUR.
+    pub fn seen_cur(&self) -> u64
+        ensures { result ≡ self.now.known.local.seen_cur }
+    {
+        self.mirror.seen_cur
+    }
+
+    /// Whether `seen_cur` was loaded, and nothing that ends its use came since.
+    pub fn fresh(&self) -> bool
+        ensures { result ≡ self.now.known.local.fresh }
+    {
+        self.mirror.fresh
+    }
+
+    /// The greatest code with which the caller raised DUR.
+    pub fn raised(&self) -> u64
+        ensures { result ≡ self.now.known.local.raised }
+    {
+        self.mirror.raised
+    }
+
+    /// The greatest place at which the caller was answered.
+    pub fn floor(&self) -> u64
+        ensures { result ≡ self.now.known.local.floor }
+    {
+        self.mirror.floor
+    }
+
+    /// The scans ended. This stays at 2^64 - 1 once there.
+    pub fn scans(&self) -> u64
+        ensures { result ≡ self.now.known.local.scans }
+    {
+        self.mirror.scans
+    }
+}

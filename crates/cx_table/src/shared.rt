@@ -1,0 +1,57 @@
+//! The running table of an object.
+
+ghost use Rattle.std.specs.Prelude.{◌≡◌, ◌≤◌};
+
+use crate::rule::{CoreRule, Key, View};
+use atomic_table::Table;
+use cx_base::Object;
+use cx_core::Base;
+use std::alloc::Global;
+use std::marker::Model;
+
+/// The words of the core as atomic words that threads share, and the object. Contracts see which table it is, its number
+/// of callers, the lines of the object, the base that it was made with, and the object.
+#[derive(Drop)]
+pub struct Shared<O: Object> {
+    pub(crate) table: Table<u8, View, Key<O>, CoreRule<O>, Global>,
+    pub(crate) callers: u32,
+    pub(crate) lines: u64,
+    pub(crate) base: Base,
+    pub(crate) object: O,
+}
+
+impl<O: Object> Model for Shared<O> {
+    ghost use Rattle.std.specs.Prelude.{◌≡◌};
+    ghost use Rattle.cx_table.specs.Running.{Running, IsRunning};
+
+    ghost Value = { Running O };
+
+    ghost view = { λ s. record { table = s.table.shared.table_id; callers = s.callers; lines = s.lines; base = s.base; object = s.object } };
+
+    ghost invariant = { λ s. IsRunning O.line_count O.lawful (record { table = s.table.shared.table_id; callers = s.callers; lines = s.lines; base = s.base; object = s.object }) × (s.table.shared.key.callers ≡ s.callers) × (s.table.shared.key.base.value ≡ s.base) × (s.table.shared.key.object.value ≡ s.object) };
+}
+
+impl<O: Object> Shared<O> {
+    /// The number of callers.
+    pub fn callers(&self) -> u32
+        ensures value { result ≡ self.now.callers }
+        ensures some { 1 ≤ result }
+        ensures few { result ≤ 8 }
+    {
+        self.callers
+    }
+
+    /// The lines of the object.
+    pub fn lines(&self) -> u64
+        ensures { result ≡ self.now.lines }
+    {
+        self.lines
+    }
+
+    /// The object.
+    pub fn object(&self) -> &O
+        ensures { result.now ≡ self.now.object }
+    {
+        &self.object
+    }
+}

@@ -1,0 +1,133 @@
+-- Reading the words of an entry, one step each.
+use Rattle.std.proofs.Common.{◌≡◌, ◌+◌, ◌/◌, ◌<◌, ℕ, zero, suc, List, [], ◌∷◌, ◌++◌, length, take, set, refl, sym, ap, subst, ◌∙◌, arith, append-nil, add-one, inr}
+use Rattle.std.proofs.lemmas.List.{append_assoc, length-append}
+use Rattle.cx_core.specs.declared.kinds.Kind.TheVariants.{ReadCell}
+use Rattle.cx_core.specs.declared.local.Local.{Local}
+use Rattle.cx_core.specs.Events.{one_more}
+use Rattle.cx_core.specs.Layout.{none}
+use borrow.Author.Count.{below_more}
+use Rattle.cx_core.specs.State.{Life}
+use Rattle.cx_table.specs.declared.rule.Noted.{Noted}
+use Rattle.cx_table.specs.Seats.{IsAtLimit, Seated, stepped}
+use Rattle.mutation_queue.specs.Entries.{EndsAfter, HaltsAmong, HaltsReading, Looked, ReadsEntry, notes_of, steps_after, with_look, with_read}
+
+-- ---- steps
+
+reached : (n s : ℕ) → s + n < none → steps_after n s ≡ s + n
+reached zero s h = omega arith
+reached (suc n) s h = ap one_more (reached n s (omega arith)) ∙ omega arith
+
+ended : (n s limit : ℕ) → steps_after n s ≡ limit → limit < none → s + n ≡ limit
+ended zero s limit e h = omega (arith, e)
+ended (suc n) s limit e h =
+    let before : steps_after n s + 1 ≡ limit = omega (arith, e) in
+    omega (arith, ended n s (steps_after n s) refl (omega arith))
+
+-- a limit that is come to is one that so many further steps come to
+pub ends : (n : ℕ) (l : Local) → (steps_after n l.steps ≡ l.limit) × (l.limit < none) → EndsAfter n l
+ends n l at = (ended n l.steps l.limit at.0 at.1, at.1)
+
+pub at_end : (n : ℕ) (l : Local) → EndsAfter n l → (steps_after n l.steps ≡ l.limit) × (l.limit < none)
+at_end n l e = (let h = e.1 in (reached n l.steps (omega (arith, e.0)) ∙ e.0, e.1))
+
+-- ---- notes
+
+abbrev note : ℕ → ℕ → ℕ → ℕ → Noted
+note caller ticket i w = record { ticket = ticket; caller = caller; index = i; word = w }
+
+notes_more : (caller ticket i : ℕ) (ws : List ℕ) (w : ℕ) → notes_of caller ticket i (ws ++ w ∷ []) ≡ notes_of caller ticket i ws ++ record { ticket = ticket; caller = caller; index = i + length ws; word = w } ∷ []
+notes_more caller ticket i [] w = ap (λ k. note caller ticket k w ∷ []) (omega arith)
+notes_more caller ticket i (x ∷ ws) w =
+    ap (λ rest. note caller ticket i x ∷ rest)
+    (notes_more caller ticket (i + 1) ws w ∙ ap (λ k. notes_of caller ticket (i + 1) ws ++ note caller ticket k w ∷ []) (omega arith))
+
+-- a seat with these steps and notes
+abbrev with_steps : Seated → ℕ → List Noted → Seated
+with_steps s steps notes = record { table = s.table; before = s.before; known = record { local = record s.known.local { steps = steps }; noted = notes } }
+
+-- nothing was read yet
+pub none_read : (caller ticket : ℕ) (s : Seated) → s ≡ with_read caller ticket [] s
+none_read caller ticket s = ap (with_steps s s.known.local.steps) (sym (append-nil s.known.noted))
+
+-- one word more was read
+pub read_one : (life : Life) (ticket cell : ℕ) (ws : List ℕ) (v i : ℕ) (s now after : Seated) → now ≡ with_read (cell / 16) ticket ws s → i ≡ length ws →
+    after ≡ stepped life (ReadCell ticket cell i) now v → after ≡ with_read (cell / 16) ticket (ws ++ v ∷ []) s
+read_one life ticket cell ws v i s now after is at step =
+    let long : length (ws ++ v ∷ []) ≡ suc (length ws) = omega (arith, length-append ws (v ∷ [])) in
+    let c = cell / 16 in
+    let from : i ≡ 0 + length ws = omega (arith, at) in
+    step
+    ∙ ap (λ x. stepped life (ReadCell ticket cell i) x v) is
+    ∙ ap (λ k. with_steps s (one_more (steps_after (length ws) s.known.local.steps)) ((s.known.noted ++ notes_of c ticket 0 ws) ++ note c ticket k v ∷ [])) from
+    ∙ ap (with_steps s (one_more (steps_after (length ws) s.known.local.steps))) (append_assoc s.known.noted (notes_of c ticket 0 ws) (note c ticket (0 + length ws) v ∷ []) ∙ ap (λ ns. s.known.noted ++ ns) (sym (notes_more c ticket 0 ws v)))
+    ∙ ap (λ k. with_steps s k (s.known.noted ++ notes_of c ticket 0 (ws ++ v ∷ []))) (sym (ap (λ k. steps_after k s.known.local.steps) long))
+
+-- one more of the words is in its place
+take_set_at : (ws : List ℕ) (i v : ℕ) → i < length ws → take (suc i) (set ws i v) ≡ take i ws ++ v ∷ []
+take_set_at [] i v below = absurd (omega arith)
+take_set_at (w ∷ ws) zero v below = refl
+take_set_at (w ∷ ws) (suc i) v below = ap (λ xs. w ∷ xs) (take_set_at ws i v (omega arith))
+
+pub take_set : (ws : List ℕ) (i v : ℕ) → i < length ws → take (i + 1) (set ws i v) ≡ take i ws ++ v ∷ []
+take_set ws i v below = ap (λ k. take k (set ws i v)) (add-one i) ∙ take_set_at ws i v below
+
+-- the limit was come to among the words
+pub halts_among : (caller ticket : ℕ) (ws : List ℕ) (s now after : Seated) → length ws < 145 → now ≡ with_read caller ticket ws s → after ≡ now → IsAtLimit now.known.local → HaltsAmong caller ticket s after
+halts_among caller ticket ws s now after fewer is same limit = record {
+  words = ws;
+  fewer = fewer;
+  seat = same ∙ is;
+  limit = ends (length ws) s.known.local (subst (λ (x : Seated). IsAtLimit x.known.local) is limit);
+}
+
+-- no step so far came to the limit, and neither did this one
+pub none_ends : (caller ticket : ℕ) (ws : List ℕ) (i : ℕ) (s now : Seated) → now ≡ with_read caller ticket ws s → i ≡ length ws → ((n : ℕ) → n < i → EndsAfter n s.known.local → ⊥) → (IsAtLimit now.known.local → ⊥) →
+    (n : ℕ) → n < i + 1 → EndsAfter n s.known.local → ⊥
+none_ends caller ticket ws i s now is at before here =
+    below_more (λ n. EndsAfter n s.known.local → ⊥) i before
+    (λ e. here (subst (λ (x : Seated). IsAtLimit x.known.local) (sym is) (at_end (length ws) s.known.local (subst (λ n. EndsAfter n s.known.local) at e))))
+
+-- ---- the entry
+
+-- a limit that is come to later by one step than from the seat after the look
+later : (s looked : Seated) (n : ℕ) → looked ≡ with_look looked.known.local.seen_slot s → EndsAfter (suc n) s.known.local → EndsAfter n looked.known.local
+later s looked n is e =
+    let steps : looked.known.local.steps ≡ one_more s.known.local.steps = ap (λ (x : Seated). x.known.local.steps) is in
+    let limit : looked.known.local.limit ≡ s.known.local.limit = ap (λ (x : Seated). x.known.local.limit) is in
+    let few = e.1 in
+    let sum = e.0 in (omega (arith, steps, limit), omega (arith, limit))
+
+sooner : (s looked : Seated) (n : ℕ) → looked ≡ with_look looked.known.local.seen_slot s → EndsAfter n looked.known.local → EndsAfter (suc n) s.known.local
+sooner s looked n is e =
+    let steps : looked.known.local.steps ≡ one_more s.known.local.steps = ap (λ (x : Seated). x.known.local.steps) is in
+    let limit : looked.known.local.limit ≡ s.known.local.limit = ap (λ (x : Seated). x.known.local.limit) is in
+    let few = e.1 in
+    let sum = e.0 in (omega (arith, steps, limit), omega (arith, limit))
+
+within_all : (s looked : Seated) → looked ≡ with_look looked.known.local.seen_slot s → (IsAtLimit s.known.local → ⊥) → ((n : ℕ) → n < 145 → EndsAfter n looked.known.local → ⊥) → (n : ℕ) → n < 146 → EndsAfter n s.known.local → ⊥
+within_all s looked is first rest zero below e = first (at_end zero s.known.local e)
+within_all s looked is first rest (suc n) below e = rest n (omega arith) (later s looked n is e)
+
+-- what was read stands behind the look
+behind : (caller ticket : ℕ) (words : List ℕ) (s looked after : Seated) → looked ≡ with_look looked.known.local.seen_slot s → after ≡ with_read caller ticket words looked →
+    after ≡ with_read caller ticket words (with_look after.known.local.seen_slot s)
+behind caller ticket words s looked after look is =
+    let seen : after.known.local.seen_slot ≡ looked.known.local.seen_slot = ap (λ (x : Seated). x.known.local.seen_slot) is in
+    is ∙ ap (with_read caller ticket words) (look ∙ ap (λ x. with_look x s) (sym seen))
+
+pub reads_entry : (callers caller ticket cell : ℕ) (words : List ℕ) (s looked after : Seated) → Looked callers ticket cell s looked → after ≡ with_read caller ticket words looked → length words ≡ 145 →
+    (IsAtLimit s.known.local → ⊥) → ((n : ℕ) → n < 145 → EndsAfter n looked.known.local → ⊥) → ReadsEntry caller ticket words s after
+reads_entry callers caller ticket cell words s looked after l is long first rest = record {
+  seat = behind caller ticket words s looked after l.seat is;
+  long = long;
+  within = within_all s looked l.seat first rest;
+}
+
+pub halts_reading : (callers caller ticket cell : ℕ) (s looked after : Seated) → Looked callers ticket cell s looked → HaltsAmong caller ticket looked after → HaltsReading ticket s after
+halts_reading callers caller ticket cell s looked after l h =
+    let fewer = h.fewer in record {
+      made = suc (length h.words);
+      fewer = omega arith;
+      limit = sooner s looked (length h.words) l.seat h.limit;
+      seat = inr (caller, h.words, behind caller ticket h.words s looked after l.seat h.seat);
+    }

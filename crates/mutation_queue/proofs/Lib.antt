@@ -1,0 +1,5 @@
+mod EntryReads
+mod OneOfEach
+mod Tries
+mod Updates
+mod Writes

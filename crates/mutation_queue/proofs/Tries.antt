@@ -1,0 +1,213 @@
+-- One try to link.
+use Rattle.std.proofs.Common.{◌≡◌, ◌≢◌, ◌+◌, ◌-◌, ◌%◌, ◌^◌, ◌<◌, ◌≤◌, ◌⊎◌, ℕ, max, cond, List, [], ◌∷◌, ◌++◌, length, slice_index, set, refl, sym, ap, subst, ◌∙◌, inl, inr, arith, Some, None}
+use Rattle.std.proofs.lemmas.Bool.{cases_eq, cases_lt, eq-eqb, ne_eqb}
+use Rattle.std.proofs.lemmas.List.{append-nil}
+use Rattle.std.proofs.Math.Nat.{add-mod_right}
+use Rattle.atomic_table.proofs.Lists.{one_turn}
+use Rattle.cx_base.specs.Codes.{link_ticket_of, root_place_of}
+use Rattle.cx_core.specs.declared.entry.Base.{Base}
+use Rattle.cx_core.specs.declared.kinds.Kind.TheVariants.{Link, Look}
+use Rattle.cx_core.specs.declared.local.Local.{Local}
+use Rattle.cx_core.specs.Events.{Guard, IsIdle, cell_of, entry_in, linked, lost, next, next_number, raised_front, seen_word}
+use Rattle.cx_core.specs.Layout.{cell_count}
+use Rattle.cx_core.specs.State.{Life}
+use Rattle.cx_table.specs.declared.rule.Noted.{Noted}
+use Rattle.cx_core.specs.Region.{slot_number}
+use Rattle.cx_table.specs.Running.{IsSeatOf, Running}
+use Rattle.cx_table.specs.Seats.{Seated, stepped}
+use Rattle.cx_table.specs.Told.{LinkTold, LookTold}
+use Rattle.mutation_queue.specs.Links.{LinksAt, LinksNone, LinksPast, but_linked}
+
+-- a raised front, by the word found
+raised_zero : (callers front found : ℕ) → found ≡ 0 → raised_front callers front found ≡ front
+raised_zero callers front found zero = ap (λ b. cond b front (max front (link_ticket_of callers found + 1))) (eq-eqb found 0 zero)
+
+raised_some : (callers front found : ℕ) → 0 < found → raised_front callers front found ≡ max front (link_ticket_of callers found + 1)
+raised_some callers front found some = ap (λ b. cond b front (max front (link_ticket_of callers found + 1))) (ne_eqb found 0 (λ e. omega arith))
+
+raised_least : (callers front found : ℕ) → front ≤ raised_front callers front found
+raised_least callers front found =
+    elim (cases_eq found 0) [
+      | inl e ↦ omega (arith, raised_zero callers front found e)
+      | inr ne ↦ (let some : 0 < found = omega arith in omega (arith, raised_some callers front found some))
+    ]
+
+-- two tickets of one slot, the lower one by less than a round
+same_slot : (a b q : ℕ) → a % q ≡ b % q → b < a + q → a < b → ⊥
+same_slot a b q mods near below = let e = one_turn a b q (omega arith) near mods in omega arith
+
+-- the ticket a round before has the same slot
+round_before : (t q : ℕ) → q ≤ t → (t - q) % q ≡ t % q
+round_before t q within = sym (add-mod_right (t - q) q) ∙ ap (λ n. n % q) (let e : t - q + q ≡ t = omega arith in e)
+
+-- a look at the front's slot
+module _ (life : Life) (l : Local) (found : ℕ) (some : 1 ≤ life.callers) (told : LookTold life (l.front % cell_count life.callers) l found) where
+  -- the ticket a round before, where it is one of this life, stands in the slot
+  before_stands : life.base.place + cell_count life.callers ≤ l.front → (0 < found) × (link_ticket_of life.callers found + cell_count life.callers ≡ l.front)
+  before_stands within =
+      let there = told.live (l.front - cell_count life.callers) (omega arith) (omega arith) (round_before l.front (cell_count life.callers) (omega arith)) in
+      (there.0, (let e = there.1 in omega arith))
+
+  module _ (open_ : 0 < found → link_ticket_of life.callers found < l.front) where
+    -- the slot was never used in this life, or has the ticket a round before
+    pub opens : ((found ≡ 0) × (l.front < life.base.place + cell_count life.callers)) ⊎ ((0 < found) × (link_ticket_of life.callers found + cell_count life.callers ≡ l.front))
+    opens =
+        elim (cases_lt l.front (life.base.place + cell_count life.callers)) [
+          | inl near ↦ elim (cases_eq found 0) [
+            | inl zero ↦ inl (zero, near)
+            | inr ne ↦ (
+                let used : 0 < found = omega arith in
+                let of = told.names used in
+                let from = of.from in
+                let below = open_ used in
+                absurd (same_slot (link_ticket_of life.callers found) l.front (cell_count life.callers) of.slot (omega arith) below))
+          ]
+          | inr far ↦ inr (before_stands far)
+        ]
+
+    pub front_stays : raised_front life.callers l.front found ≡ l.front
+    front_stays =
+        elim (cases_eq found 0) [
+          | inl e ↦ raised_zero life.callers l.front found e
+          | inr ne ↦ (let used : 0 < found = omega arith in let below = open_ used in raised_some life.callers l.front found used ∙ omega arith)
+        ]
+
+    -- the entry may be tried then
+    pub may_link : (cell : ℕ) → cell < 16 → IsIdle l cell → slice_index (cell_of l cell).words 0 ≡ next_number life.base l → l.front < 2 ^ 40 → length l.answered ≡ length l.own →
+        Guard life (Link cell) (next life (Look (l.front % cell_count life.callers)) l found)
+    may_link cell small idle announced below answered =
+        let here = front_stays in
+        let shows = λ (f : ℕ). ((l.front % cell_count life.callers ≡ f % cell_count life.callers) × ((found ≡ 0) ⊎ ((0 < found) × (link_ticket_of life.callers found + cell_count life.callers ≡ f)))) in
+        let now : shows l.front = (refl, elim opens [ inl a ↦ inl a.0 | inr b ↦ inr b ]) in
+        (small, idle, announced, omega arith, subst shows (sym here) now, answered)
+
+    -- a link that was lost found a ticket from the front on
+    pub past_front : (found2 : ℕ) → LinkTold life (next life (Look (l.front % cell_count life.callers)) l found) found2 → found2 ≢ found → (0 < found2) × (l.front ≤ link_ticket_of life.callers found2)
+    past_front found2 lost ne =
+        let t = link_ticket_of life.callers found2 in
+        let some2 : 0 < found2 = elim opens [
+          | inl a ↦ (let zero = a.0 in omega arith)
+          | inr b ↦ (lost.later b.0 (told.names b.0).from ne).0
+        ] in
+        let of = lost.names some2 in
+        let from = of.from in
+        let mods : t % cell_count life.callers ≡ l.front % cell_count life.callers = of.slot ∙ ap (λ f. f % cell_count life.callers) front_stays in
+        let near : l.front < t + cell_count life.callers = elim opens [
+          | inl a ↦ (let b = a.1 in omega arith)
+          | inr b ↦ (let p = (lost.later b.0 (told.names b.0).from ne).1 in let e = b.1 in omega arith)
+        ] in
+        (some2, elim (cases_lt t l.front) [ inl below ↦ absurd (same_slot t l.front (cell_count life.callers) mods near below) | inr from_on ↦ from_on ])
+
+-- the slot of the front was taken
+pub taken : (life : Life) (s : Seated) (found : ℕ) → let slot = s.known.local.front % cell_count life.callers in root_place_of life.callers s.known.local.seen_cur ≤ s.known.local.front → 0 < found → s.known.local.front ≤ link_ticket_of life.callers found →
+    LinksPast life.callers s (stepped life (Look slot) s found)
+taken life s found cur used from =
+    let l = s.known.local in
+    record {
+      none = record {
+        same = ap (λ n. record { table = s.table; before = s.before; known = record { local = record l { front = 0; seen_slot = None; steps = 0 }; noted = n } }) (append-nil s.known.noted);
+        front = raised_least life.callers l.front found;
+      };
+      front = omega (arith, raised_some life.callers l.front found used);
+      cur = cur;
+    }
+
+-- what a link makes of the local state
+link_lost : (life : Life) (l : Local) (j found : ℕ) → found ≢ seen_word l.seen_slot → next life (Link j) l found ≡ lost life.callers l found
+link_lost life l j found ne = ap (λ b. cond b (linked l j) (lost life.callers l found)) (ne_eqb found (seen_word l.seen_slot) ne)
+
+link_won : (life : Life) (l : Local) (j found : ℕ) → found ≡ seen_word l.seen_slot → next life (Link j) l found ≡ linked l j
+link_won life l j found e = ap (λ b. cond b (linked l j) (lost life.callers l found)) (eq-eqb found (seen_word l.seen_slot) e)
+
+-- a seat with another local state and other notes
+abbrev seat_with : Seated → Local → List Noted → Seated
+seat_with s l notes = record { table = s.table; before = s.before; known = record { local = l; noted = notes } }
+
+-- the link was lost
+pub lost_to : (life : Life) (s : Seated) (found found2 cell : ℕ) → let l = s.known.local in let slot = l.front % cell_count life.callers in let s1 = stepped life (Look slot) s found in
+    root_place_of life.callers l.seen_cur ≤ l.front → raised_front life.callers l.front found ≡ l.front → found2 ≢ found → 0 < found2 → l.front ≤ link_ticket_of life.callers found2 →
+    LinksPast life.callers s (stepped life (Link cell) s1 found2)
+lost_to life s found found2 cell cur stays ne used from =
+    let l = s.known.local in
+    let s1 = stepped life (Look (l.front % cell_count life.callers)) s found in
+    let l1 = s1.known.local in
+    let is : stepped life (Link cell) s1 found2 ≡ seat_with s1 (lost life.callers l1 found2) s.known.noted =
+    ap (λ (x : Local). seat_with s1 x ((s.known.noted ++ []) ++ [])) (link_lost life l1 cell found2 ne)
+    ∙ ap (λ n. seat_with s1 (lost life.callers l1 found2) n) (append-nil (s.known.noted ++ []) ∙ append-nil s.known.noted) in
+    let rises : raised_front life.callers l1.front found2 ≡ max l1.front (link_ticket_of life.callers found2 + 1) = raised_some life.callers l1.front found2 used in
+    subst (LinksPast life.callers s) (sym is) (record {
+      none = record { same = refl; front = omega (arith, rises) };
+      front = omega (arith, rises);
+      cur = cur;
+    })
+
+-- the link was won
+pub won_at : (life : Life) (s : Seated) (found found2 cell : ℕ) → let l = s.known.local in let slot = l.front % cell_count life.callers in let s1 = stepped life (Look slot) s found in
+    raised_front life.callers l.front found ≡ l.front → found2 ≡ found → LinksAt cell l.front s (stepped life (Link cell) s1 found2)
+won_at life s found found2 cell stays e =
+    let l = s.known.local in
+    let s1 = stepped life (Look (l.front % cell_count life.callers)) s found in
+    let l1 = s1.known.local in
+    let is : stepped life (Link cell) s1 found2 ≡ seat_with s1 (linked l1 cell) s.known.noted =
+    ap (λ (x : Local). seat_with s1 x ((s.known.noted ++ []) ++ [])) (link_won life l1 cell found2 e)
+    ∙ ap (λ n. seat_with s1 (linked l1 cell) n) (append-nil (s.known.noted ++ []) ∙ append-nil s.known.noted) in
+    subst (LinksAt cell l.front s) (sym is) (record {
+      same = refl;
+      own = ap (λ t. l.own ++ record { ticket = t; entry = entry_in l cell } ∷ []) stays;
+      cells = ap (λ t. set l.cells cell (record (cell_of l cell) { ticket = Some t })) stays;
+      front = ap (λ t. t + 1) stays;
+      from = omega arith;
+    })
+
+-- what holds of a seat but for its front, slot and steps holds before a try and after one that linked nothing
+pub still_of : {O : Type 0} (r : Running O) (s t : Seated) → LinksNone s t → IsSeatOf r s → IsSeatOf r t
+still_of r s t none of =
+    let number = ap (λ (x : Seated). x.known.local.number) none.same in record {
+      table = ap (λ (x : Seated). x.table) none.same ∙ of.table;
+      caller = subst (λ n. n < r.callers) (sym number) of.caller;
+      before = ap (λ (x : Seated). x.before) none.same ∙ of.before ∙ ap (λ n. slot_number n r.base.words) (sym number);
+    }
+
+pub still_idle : (s t : Seated) (cell : ℕ) → LinksNone s t → IsIdle s.known.local cell → IsIdle t.known.local cell
+still_idle s t cell none idle = subst (λ (x : Seated). IsIdle x.known.local cell) (sym none.same) idle
+
+pub still_announced : (base : Base) (s t : Seated) (cell : ℕ) → LinksNone s t → slice_index (cell_of s.known.local cell).words 0 ≡ next_number base s.known.local →
+    slice_index (cell_of t.known.local cell).words 0 ≡ next_number base t.known.local
+still_announced base s t cell none announced = subst (λ (x : Seated). slice_index (cell_of x.known.local cell).words 0 ≡ next_number base x.known.local) (sym none.same) announced
+
+pub still_answered : (s t : Seated) → LinksNone s t → length s.known.local.answered ≡ length s.known.local.own → length t.known.local.answered ≡ length t.known.local.own
+still_answered s t none answered = subst (λ (x : Seated). length x.known.local.answered ≡ length x.known.local.own) (sym none.same) answered
+
+pub none_here : (s : Seated) → LinksNone s s
+none_here s = record { same = refl; front = omega arith }
+
+pub none_then : (s t u : Seated) → LinksNone s t → LinksNone t u → LinksNone s u
+none_then s t u a b = record { same = b.same ∙ a.same; front = omega (arith, a.front, b.front) }
+
+pub none_at : (cell ticket : ℕ) (s t u : Seated) → LinksNone s t → LinksAt cell ticket t u → LinksAt cell ticket s u
+none_at cell ticket s t u none at = record {
+  same = at.same ∙ ap but_linked none.same;
+  own = at.own ∙ ap (λ (x : Seated). x.known.local.own ++ record { ticket = ticket; entry = entry_in x.known.local cell } ∷ []) none.same;
+  cells = at.cells ∙ ap (λ (x : Seated). set x.known.local.cells cell (record (cell_of x.known.local cell) { ticket = Some ticket })) none.same;
+  front = at.front;
+  from = omega (arith, none.front, at.from);
+}
+
+-- what was loaded from CUR is as it was
+pub same_cur : (s t : Seated) → LinksNone s t → t.known.local.seen_cur ≡ s.known.local.seen_cur
+same_cur s t none = ap (λ (x : Seated). x.known.local.seen_cur) none.same
+
+-- a seat whose entry was linked is still its caller's
+pub linked_of : {O : Type 0} (r : Running O) (cell ticket : ℕ) (s t : Seated) → LinksAt cell ticket s t → IsSeatOf r s → IsSeatOf r t
+linked_of r cell ticket s t at of =
+    let number = ap (λ (x : Seated). x.known.local.number) at.same in record {
+      table = ap (λ (x : Seated). x.table) at.same ∙ of.table;
+      caller = subst (λ n. n < r.callers) (sym number) of.caller;
+      before = ap (λ (x : Seated). x.before) at.same ∙ of.before ∙ ap (λ n. slot_number n r.base.words) (sym number);
+    }
+
+pub linked_number : (cell ticket : ℕ) (s t : Seated) → LinksAt cell ticket s t → t.known.local.number ≡ s.known.local.number
+linked_number cell ticket s t at = ap (λ (x : Seated). x.known.local.number) at.same
+
+pub none_number : (s t : Seated) → LinksNone s t → t.known.local.number ≡ s.known.local.number
+none_number s t none = ap (λ (x : Seated). x.known.local.number) none.same

@@ -1,0 +1,17 @@
+use Rattle.std.proofs.Common.{◌/◌, Result, Ok, Err, OnErr}
+use Rattle.mutation_queue.proofs.EntryReads.{halts_reading, reads_entry}
+use Rattle.mutation_queue.proofs.reading.entry.Goals as goal
+
+on_err : {A E : Type 0} (r : Result A E) (X : Type 0) → X → OnErr r X
+on_err (Ok a) X x = tt
+on_err (Err e) X x = x
+
+pub returns-in_err-read_words-clause-halted : goal.returns-in_err-read_words-clause-halted
+returns-in_err-read_words-clause-halted g c =
+    on_err c.from_residual-in_err-read_words.result _
+    (halts_reading c.args.shared.now.callers (c.in_ok-cell.cell / 16) c.args.ticket c.in_ok-cell.cell c.args.seat.now c.find_cell.new.seat c.read_words.new.seat c.in_ok-cell.ensures.found c.in_err-read_words.ensures.halted)
+
+pub returns-clause-read : goal.returns-clause-read
+returns-clause-read g c =
+    reads_entry c.args.shared.now.callers (c.in_ok-cell.cell / 16) c.args.ticket c.in_ok-cell.cell c.read_words.new.into c.args.seat.now c.find_cell.new.seat c.read_words.new.seat
+    c.in_ok-cell.ensures.found c.in_ok-read_words.ensures.read c.read_words.array_long c.in_ok-cell.ensures.within c.in_ok-read_words.ensures.within

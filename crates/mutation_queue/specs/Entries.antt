@@ -1,0 +1,67 @@
+-- An entry that is read, word after word.
+use Rattle.std.specs.Prelude.{◌≡◌, ◌+◌, ◌<◌, ◌⊎◌, ℕ, zero, suc, List, [], ◌∷◌, ◌++◌, length, Option}
+use Rattle.cx_core.specs.declared.local.Local.{Local}
+use Rattle.cx_core.specs.declared.local.SeenSlot.{SeenSlot}
+use Rattle.cx_core.specs.Events.{ShowsTicket, one_more}
+use Rattle.cx_core.specs.Layout.{none}
+use Rattle.cx_table.specs.declared.rule.Noted.{Noted}
+use Rattle.cx_table.specs.Seats.{Seated}
+
+-- the notes of words of the entry with a ticket, from an index on
+abbrev pub notes_of : ℕ → ℕ → ℕ → List ℕ → List Noted
+notes_of caller ticket i [] = []
+notes_of caller ticket i (w ∷ words) = record { ticket = ticket; caller = caller; index = i; word = w } ∷ notes_of caller ticket (i + 1) words
+
+-- a count of steps after so many more; it stays at 2^64 - 1
+abbrev pub steps_after : ℕ → ℕ → ℕ
+steps_after zero steps = steps
+steps_after (suc n) steps = one_more (steps_after n steps)
+
+-- the seat after the first words of an entry were read, one step each: they are noted, and nothing else changes
+abbrev pub with_read : ℕ → ℕ → List ℕ → Seated → Seated
+with_read caller ticket words s = record {
+  table = s.table;
+  before = s.before;
+  known = record {
+    local = record s.known.local { steps = steps_after (length words) s.known.local.steps };
+    noted = s.known.noted ++ notes_of caller ticket 0 words;
+  };
+}
+
+-- the seat after one look at a slot, where the front is not raised
+abbrev pub with_look : Option SeenSlot → Seated → Seated
+with_look seen s = record {
+  table = s.table;
+  before = s.before;
+  known = record { local = record s.known.local { seen_slot = seen; steps = one_more s.known.local.steps }; noted = s.known.noted };
+}
+
+-- the limit is come to by so many further steps; 2^64 - 1 is no limit
+abbrev pub EndsAfter : ℕ → Local → Type 0
+EndsAfter n l = (l.steps + n ≡ l.limit) × (l.limit < none)
+
+-- one look at the ticket's slot shows the ticket in a cell
+pub record Looked (callers ticket cell : ℕ) (before after : Seated) : Type 0 where
+  pub seat : after ≡ with_look after.known.local.seen_slot before
+  pub shows : ShowsTicket callers after.known.local.seen_slot ticket cell
+
+-- the limit was come to before all words were read
+pub record HaltsAmong (caller ticket : ℕ) (before after : Seated) : Type 0 where
+  pub words : List ℕ
+  pub fewer : length words < 145
+  pub seat : after ≡ with_read caller ticket words before
+  pub limit : EndsAfter (length words) before.known.local
+
+-- The entry of this caller was read: these are its words, its number first, and each is noted with the ticket. Beside the
+-- steps and the slot last looked at nothing else is changed, and the 146 steps were within the limit.
+pub record ReadsEntry (caller ticket : ℕ) (words : List ℕ) (before after : Seated) : Type 0 where
+  pub seat : after ≡ with_read caller ticket words (with_look after.known.local.seen_slot before)
+  pub long : length words ≡ 145
+  pub within : (n : ℕ) → n < 146 → EndsAfter n before.known.local → ⊥
+
+-- The limit was come to before the entry was read: at the look, or among the words, of which those read are noted.
+pub record HaltsReading (ticket : ℕ) (before after : Seated) : Type 0 where
+  pub made : ℕ
+  pub fewer : made < 146
+  pub limit : EndsAfter made before.known.local
+  pub seat : (after ≡ before) ⊎ ((caller : ℕ) × (words : List ℕ) × (after ≡ with_read caller ticket words (with_look after.known.local.seen_slot before)))

@@ -1,0 +1,97 @@
+//! An announced entry is linked at the end of the queue.
+
+ghost use Rattle.std.specs.Prelude.{◌≡◌, ◌^◌, ◌<◌, ◌≤◌, ◌⊎◌, IfOk, IsErr, MatchBool, OnErr, length, slice_index};
+ghost use Rattle.cx_base.specs.Codes.{link_ticket_of};
+ghost use Rattle.cx_core.specs.Events.{IsIdle, cell_of, next_number};
+ghost use Rattle.cx_table.specs.Running.{IsSeatOf};
+ghost use Rattle.cx_table.specs.Seats.{IsAtLimit};
+ghost use Rattle.mutation_queue.specs.Links.{LinksNone, Tried, TriedOnce};
+
+use cx_base::{Halt, Object, link_ticket};
+use cx_table::{CallerSeat, Shared};
+
+/// The end of tickets: each is below it.
+const END: u64 = 1 << 40;
+
+/// What tries to link an entry came to.
+#[derive(Clone, Copy, Debug, PartialEq, Eq, Drop)]
+pub enum LinkTried {
+    /// The entry is linked with this ticket.
+    Linked { ticket: u64 },
+    /// Each try found another's link.
+    Again,
+    /// There is no further ticket.
+    Worn,
+}
+
+/// Tries at most `tries` times to link the entry that was announced in a cell of the caller. A try is one look at the
+/// front's slot and, where the slot is open, one compare-exchange. `Worn` comes exactly where the entry was not linked and
+/// the front is then 2^40; else `Again` exactly where each of the tries found another's link. `Halt` comes exactly where a
+/// further step is to be made and the seat's steps equal its limit; then nothing is linked.
+pub fn link<O: Object>(
+    shared: &Shared<O>,
+    seat: &mut CallerSeat,
+    cell: u32,
+    tries: u64,
+) -> Result<LinkTried, Halt>
+    requires seat { IsSeatOf shared.now seat.old }
+    requires cell { (cell < 16) × IsIdle seat.old.known.local cell }
+    requires announced { slice_index (cell_of seat.old.known.local cell).words 0 ≡ next_number shared.now.base seat.old.known.local }
+    requires answered { length seat.old.known.local.answered ≡ length seat.old.known.local.own }
+    requires tries { 1 ≤ tries }
+    ensures tried { IfOk result (λ tried. Tried shared.now.callers cell tries seat.old seat.new tried) }
+    ensures halted { OnErr result (LinksNone seat.old seat.new × IsAtLimit seat.new.known.local) }
+    ensures halts { IsAtLimit seat.old.known.local → IsErr result ⊎ (seat.old.known.local.front ≡ 2 ^ 40) }
+    ensures seat { IsSeatOf shared.now seat.new }
+    ensures number { seat.new.known.local.number ≡ seat.old.known.local.number }
+{
+    for _tried in 0..tries {
+        if seat.front() >= END {
+            return Ok(LinkTried::Worn);
+        }
+        if let Some(ticket) = try_link(shared, seat, cell)? {
+            return Ok(LinkTried::Linked { ticket });
+        }
+    }
+    if seat.front() >= END {
+        return Ok(LinkTried::Worn);
+    }
+    Ok(LinkTried::Again)
+}
+
+/// One try: the ticket with which the entry was linked, or `None` where another's link was found.
+fn try_link<O: Object>(
+    shared: &Shared<O>,
+    seat: &mut CallerSeat,
+    cell: u32,
+) -> Result<Option<u64>, Halt>
+    requires seat { IsSeatOf shared.now seat.old }
+    requires cell { (cell < 16) × IsIdle seat.old.known.local cell }
+    requires announced { slice_index (cell_of seat.old.known.local cell).words 0 ≡ next_number shared.now.base seat.old.known.local }
+    requires answered { length seat.old.known.local.answered ≡ length seat.old.known.local.own }
+    requires front { seat.old.known.local.front < 2 ^ 40 }
+    ensures tried { IfOk result (λ tried. TriedOnce shared.now.callers cell seat.old seat.new tried) }
+    ensures halted { OnErr result (LinksNone seat.old seat.new × IsAtLimit seat.new.known.local) }
+    ensures halts { IsAtLimit seat.old.known.local → IsErr result }
+{
+    let callers = shared.callers();
+    let front = seat.front();
+    let slot = front % (16 * u64::from(callers));
+    let seen = shared.look(seat, slot)?;
+    if is_taken(callers, front, seen) {
+        return Ok(None);
+    }
+    let found = shared.link(seat, u64::from(cell))?;
+    if found == seen {
+        return Ok(Some(front));
+    }
+    Ok(None)
+}
+
+/// Whether a link word found in the front's slot has a ticket from the front on.
+fn is_taken(callers: u32, front: u64, word: u64) -> bool
+    requires { (1 ≤ callers) × (callers ≤ 8) }
+    ensures { MatchBool result ((0 < word) × (front ≤ link_ticket_of callers word)) (0 < word → link_ticket_of callers word < front) }
+{
+    word != 0 && link_ticket(callers, word) >= front
+}

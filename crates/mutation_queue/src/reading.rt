@@ -1,0 +1,71 @@
+//! An entry is read from the cell that it was announced in.
+
+ghost use Rattle.std.specs.Prelude.{◌≡◌, ◌<◌, ◌≤◌, ◌/◌, ℕ, IfOk, IsErr, OnErr, OnOk, length};
+ghost use Rattle.cx_core.specs.Events.{ShowsTicket};
+ghost use Rattle.cx_table.specs.Running.{IsSeatOf};
+ghost use Rattle.cx_table.specs.Seats.{IsAtLimit};
+ghost use Rattle.mutation_queue.specs.Entries.{EndsAfter, HaltsAmong, HaltsReading, Looked, ReadsEntry, with_read};
+
+use cx_base::{Halt, Object, link_cell};
+use cx_table::{CallerSeat, Shared};
+
+/// Reads the entry with a ticket, which is linked: its number and its operation, in 146 steps. It gives the entry's
+/// caller. Each word is noted with the ticket, and a noted word is the history's. `Halt` comes exactly where a further
+/// step is to be made and the seat's steps equal its limit.
+pub fn entry<O: Object>(
+    shared: &Shared<O>,
+    seat: &mut CallerSeat,
+    ticket: u64,
+    into: &mut [u64; 145],
+) -> Result<u32, Halt>
+    requires seat { IsSeatOf shared.now seat.old }
+    requires linked { ticket < seat.old.known.local.front }
+    requires later { shared.now.base.place ≤ ticket }
+    ensures read { IfOk result (λ caller. ReadsEntry caller ticket into.new seat.old seat.new) }
+    ensures halted { OnErr result (HaltsReading ticket seat.old seat.new) }
+    ensures seat { IsSeatOf shared.now seat.new }
+{
+    let cell = find_cell(shared, seat, ticket)?;
+    read_words(shared, seat, ticket, cell, into)?;
+    Ok((cell / 16) as u32)
+}
+
+/// The cell of a ticket, by one look at its slot.
+fn find_cell<O: Object>(shared: &Shared<O>, seat: &mut CallerSeat, ticket: u64) -> Result<u64, Halt>
+    requires seat { IsSeatOf shared.now seat.old }
+    requires linked { ticket < seat.old.known.local.front }
+    requires later { shared.now.base.place ≤ ticket }
+    ensures found { IfOk result (λ cell. Looked shared.now.callers ticket cell seat.old seat.new) }
+    ensures small { IfOk result (λ cell. cell < 128) }
+    ensures halted { OnErr result (seat.new ≡ seat.old) }
+    ensures halts { IsErr result → IsAtLimit seat.old.known.local }
+    ensures within { OnOk result (IsAtLimit seat.old.known.local → ⊥) }
+    ensures seat { IsSeatOf shared.now seat.new }
+{
+    let callers = shared.callers();
+    let slot = ticket % (16 * u64::from(callers));
+    let word = shared.look(seat, slot)?;
+    Ok(u64::from(link_cell(callers, word)))
+}
+
+/// Reads the words of the entry with a ticket from the cell that its slot was seen to show.
+fn read_words<O: Object>(
+    shared: &Shared<O>,
+    seat: &mut CallerSeat,
+    ticket: u64,
+    cell: u64,
+    into: &mut [u64; 145],
+) -> Result<(), Halt>
+    requires seat { IsSeatOf shared.now seat.old }
+    requires linked { ticket < seat.old.known.local.front }
+    requires shows { ShowsTicket shared.now.callers seat.old.known.local.seen_slot ticket cell }
+    ensures read { OnOk result (seat.new ≡ with_read (cell / 16) ticket into.new seat.old) }
+    ensures within { OnOk result ((n : ℕ) → n < 145 → EndsAfter n seat.old.known.local → ⊥) }
+    ensures halted { OnErr result (HaltsAmong (cell / 16) ticket seat.old seat.new) }
+    ensures seat { IsSeatOf shared.now seat.new }
+{
+    for i in 0..145 {
+        into[i as usize] = shared.read_cell(seat, ticket, cell, i)?;
+    }
+    Ok(())
+}
