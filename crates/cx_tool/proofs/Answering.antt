@@ -1,11 +1,9 @@
 -- What was written with a status, from what was written of a text.
-use Rattle.std.proofs.Common.{◌≡◌, ◌∙◌, refl, sym, ap, subst, ◌⊎◌, inl, inr, ℕ, ◌<◌, ◌≤◌, List, length, arith, Option, Some, None, IfSome}
-use Rattle.cx_tool.specs.Answer.{IsRun, run_words, Owed, IsOwed, Answers, IsReport, IsRefusal, IsExact, IsStatus, GivesUp, HasCause, Wrote}
-use Rattle.cx_tool.specs.Output.{Appends, AppendsFront}
+use Rattle.std.proofs.Common.{◌≡◌, refl, sym, subst, inl, inr, ℕ, ◌<◌, List, length, arith, Option, Some, None, IfSome}
+use Rattle.cx_tool.specs.Answer.{IsRun, Owed, Answers, IsReport, IsRefusal, IsExact, HasCause, Wrote}
+use Rattle.cx_tool.specs.Output.{Appends}
 use Rattle.cx_tool.specs.declared.status.Status.{Status}
 use Rattle.cx_tool.specs.declared.status.Status.TheVariants.{Fine, Usage, Refused, ReadFault, WriteFault, Memory, BadImage, TooLong}
-use Rattle.doc_text.specs.declared.grammar.Script.{Script}
-use Rattle.doc_text.specs.Grammar.{IsScript}
 
 -- a text that is owed, once written whole
 whole : (words : List (List ℕ)) (told : Option (List ℕ)) (status : Status) (text : List ℕ) (before after : Option (List ℕ)) → Owed words told status text → Appends text before after → Answers words told status before after

@@ -1,4 +1,5 @@
 pub mod Commands
+pub mod Held
 pub mod OneLife
 pub mod Runs
 pub mod OneMore

@@ -1,27 +1,20 @@
 -- A life of one client is legal so far, and stays so with one more command.
-use Rattle.std.proofs.Common.{◌≡◌, ◌≢◌, ◌∙◌, refl, sym, ap, subst, ◌⊎◌, inl, inr, ℕ, suc, zero, ◌+◌, ◌-◌, ◌<◌, ◌≤◌, Bool, true, false, ◌&&◌, ◌==◌, List, [], ◌∷◌, ◌++◌, length, take, filter, map, arith, rules, Option, Some, None, IsSome, IfSome, is_some, append-nil, add-one, cond, eq-eqb}
-use Rattle.std.specs.Prelude.{slice_get, count_by, Contains, All, AllPairs}
-use Rattle.std.specs.List.{filter_map, cons_option}
-use Rattle.std.specs.List.Sorted.{IsStrictlyIncreasing}
+use Rattle.std.proofs.Common.{◌≡◌, ◌∙◌, refl, sym, ap, subst, ◌⊎◌, inl, inr, ℕ, suc, zero, ◌+◌, ◌<◌, ◌≤◌, Bool, true, false, ◌==◌, List, [], ◌∷◌, ◌++◌, length, take, filter, map, arith, Option, Some, None, IsSome, add-one, cond, eq-eqb}
+use Rattle.std.specs.Prelude.{slice_get, All}
+use Rattle.std.specs.List.{cons_option}
 use Rattle.std.proofs.lemmas.Bool.{ne_eqb}
 use Rattle.std.proofs.lemmas.Grind.{common_steps}
-use Rattle.std.proofs.lemmas.List.Sums.{sum_by-append}
-use Rattle.std.proofs.lemmas.List.{map-append, take-append-le, take_all, length-append}
-use Rattle.std.proofs.lemmas.List.Elements.{All-head, All-tail, All-take, All-push, All-append, All-weaker, All-map, All-filter, All-contains, All-nil, filter-append, filter_map-append, Contains-append_cases, Contains-append_left, Contains-append_right}
-use Rattle.std.proofs.lemmas.Option.{slice_get_within}
+use Rattle.std.proofs.lemmas.List.{map-append, take-append-le, take_all}
+use Rattle.std.proofs.lemmas.List.Elements.{All-head, All-tail, All-take, All-weaker, filter-append, filter_map-append}
 use Rattle.cx_base.specs.Store.{Store}
 use Rattle.doc_model.specs.declared.operations.Op.{Op}
 use Rattle.doc_model.specs.declared.operations.Op.TheVariants.{Put, Del, Add, Get, Next, Count}
-use Rattle.doc_model.specs.declared.operations.Reply.{Reply}
-use Rattle.doc_model.specs.Meaning.{reply_to, store_after, only_reads}
+use Rattle.doc_model.specs.Meaning.{store_after, only_reads}
 use Rattle.doc_text.specs.declared.grammar.Command.{Command}
 use Rattle.doc_text.specs.declared.grammar.Life.{Life}
 use Rattle.doc_text.specs.declared.lives.JournalLine.{JournalLine}
-use Rattle.doc_text.specs.declared.lives.ReadLine.{ReadLine}
-use Rattle.doc_text.specs.Lives.{own_ops, op_of, Names, ops_of, store_after_all, store_at, numbers_of, Interleaves, Answer, journal_answer, read_answer, answers_of, count_to, IsReadBefore, HasReply, IsLegalRead, IsLegal}
-use Rattle.cx_tool.specs.declared.lives.Running.{Running}
-use Rattle.cx_tool.specs.OneClient.{after_read, after_entry}
-use Rattle.cx_tool.proofs.Commands.{some_of, get-append, get-last, get-push_cases, there-push_cases, there-below, AllPairs-push, filter_map-agree, All-filter_map, IsStrictlyIncreasing-push}
+use Rattle.doc_text.specs.Lives.{own_ops, op_of, Names, ops_of, store_after_all, store_at, Answer, count_to}
+use Rattle.cx_tool.proofs.Commands.{some_of, get-append, get-last, there-push_cases, there-below, filter_map-agree}
 
 -- the life with these commands
 abbrev pub with_commands : Life → List Command → Life

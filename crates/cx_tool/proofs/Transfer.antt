@@ -3,9 +3,8 @@ use Rattle.std.proofs.Common.{◌≡◌, ◌∙◌, refl, sym, ap, subst, ℕ, �
 use Rattle.std.proofs.lemmas.List.{length-append, length-take-le, length-drop, take-append-drop}
 use Rattle.std.proofs.Math.Seq.{take-add}
 use Rattle.std.proofs.lemmas.List.{drop-drop}
-use Rattle.cx_base.specs.Outside.{Gives, Gave, Took}
+use Rattle.cx_base.specs.Outside.{Gave, Took}
 use Rattle.cx_tool.specs.Input.{Moves, Moved, Takes, TookAtMost}
-use Rattle.cx_tool.specs.Output.{Appends, AppendsFront}
 
 -- these bytes are the front of all, and the rest is left
 pub record IsFront (all : List ℕ) (left : Option (List ℕ)) (bytes : List ℕ) : Type 0 where

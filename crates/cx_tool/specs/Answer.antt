@@ -1,10 +1,13 @@
 -- What a run answers: the status and the text that the words and the input call for.
-use Rattle.std.specs.Prelude.{◌≡◌, ◌⊎◌, ◌<◌, ◌≤◌, ℕ, List, [], ◌∷◌, ◌++◌, length, map, codes, Option, IfSome, string_bytes}
+use Rattle.std.specs.Prelude.{◌≡◌, ◌⊎◌, ◌<◌, ◌≤◌, ℕ, List, [], ◌∷◌, ◌++◌, length, codes, Option, IfSome}
 use Rattle.std.specs.Fmt.{decimal}
 use Rattle.cx_base.specs.Outside.{Rose}
 use Rattle.doc_text.specs.declared.grammar.Script.{Script}
 use Rattle.doc_text.specs.declared.lives.LifeRecord.{LifeRecord}
 use Rattle.doc_text.specs.Grammar.{IsScript, IsFirstFault}
+use Rattle.doc_text.specs.Refusal.{IsReasonAt}
+use Rattle.doc_text.specs.Reasons.{reason_text}
+use Rattle.doc_text.specs.declared.grammar.Reason.{Reason}
 use Rattle.doc_text.specs.Lives.{AreLegalLives}
 use Rattle.doc_text.specs.Report.{report_of}
 use Rattle.cx_tool.specs.Output.{Appends, AppendsFront}
@@ -22,8 +25,8 @@ IsRun words = words ≡ run_words
 abbrev pub usage_text : List ℕ
 usage_text = codes "usage: cx_tool run\n"
 
-abbrev pub refused_text : ℕ → List ℕ
-refused_text line = codes "refused line " ++ decimal line ++ codes ": form\n"
+abbrev pub refused_text : ℕ → Reason → List ℕ
+refused_text line reason = codes "refused line " ++ decimal line ++ codes ": " ++ reason_text reason ++ codes "\n"
 
 abbrev pub too_long_text : List ℕ
 too_long_text = codes "refused: input over 16777216 bytes\n"
@@ -37,13 +40,15 @@ pub record IsReport (input text : List ℕ) : Type 0 where
   pub lives : AreLegalLives script records
   pub report : text ≡ report_of script records
 
--- The text names the first line of the input with which its lines are no script.
+-- The text names the first line of the input with which its lines are no script, and the first reason that fits.
 pub record IsRefusal (input text : List ℕ) : Type 0 where
   pub short : length input ≤ 16777216
   pub line : ℕ
+  pub reason : Reason
   pub first : IsFirstFault input line
+  pub because : IsReasonAt input line reason
   pub none : (script : Script) → IsScript input script → ⊥
-  pub refusal : text ≡ refused_text line
+  pub refusal : text ≡ refused_text line reason
 
 -- The status and the whole text that words and input call for, where the source told the input.
 abbrev pub Owed : List (List ℕ) → Option (List ℕ) → Status → List ℕ → Type 0

@@ -1,5 +1,5 @@
 -- A life of one client, one command after another.
-use Rattle.std.specs.Prelude.{◌≡◌, ℕ, List, [], ◌∷◌, ◌++◌, length, All, Some, if◌then◌else◌}
+use Rattle.std.specs.Prelude.{ℕ, [], ◌∷◌, ◌++◌, length, Some, if◌then◌else◌}
 use Rattle.doc_model.specs.Meaning.{reply_to, store_after, only_reads}
 use Rattle.doc_text.specs.declared.grammar.Command.{Command}
 use Rattle.cx_tool.specs.declared.lives.Running.{Running}

@@ -1,19 +1,20 @@
-//! One life of one client, by a one-thread store.
+//! One life of one client, over the words of a document store.
 
 ghost use Rattle.std.specs.Prelude.{◌≡◌, ℕ, ◌<◌, ◌≤◌, ◌^◌, [], All, IfOk, OnOk, length};
 ghost use Rattle.doc_text.specs.Lives.{IsLegalLife};
 ghost use Rattle.doc_text.specs.Limits.{IsOneClient};
+ghost use Rattle.doc_model.specs.Meaning.{IsOp};
 ghost use Rattle.cx_tool.specs.OneClient.{answered};
 
+use crate::memory_store::MemoryStore;
 use cx_base::{Gate, Items};
-use doc_store::ListStore;
 use doc_text::{Command, JournalLine, Life, LifeRecord, ReadLine};
 use std::alloc::{AllocError, Global};
 
 // What is known of a life while it runs: the store, the entries so far and the reads beside them.
 #[derive(Drop)]
 pub(crate) struct Running {
-    pub(crate) store: ListStore,
+    pub(crate) store: MemoryStore,
     pub(crate) journal: Items<JournalLine>,
     pub(crate) reads: Items<ReadLine>,
 }
@@ -21,6 +22,7 @@ pub(crate) struct Running {
 impl Running {
     // Answers a client's next command. An entry takes the next ticket, and a read the place behind all entries.
     fn answer(&mut self, alloc: Global, number: u64, command: &Command) -> Result<(), AllocError>
+        requires { IsOp command.now.op }
         ensures { OnOk result (self.new ≡ answered number command.now self.old) }
     {
         let place = self.journal.len() as u64;
@@ -50,11 +52,13 @@ pub(crate) fn run_life<G: Gate>(
     life: &Life,
     gate: &G,
 ) -> Result<LifeRecord, AllocError>
-    requires { IsOneClient life.now }
+    requires some { 1 ≤ lines }
+    requires few { lines ≤ 2 ^ 32 }
+    requires client { IsOneClient life.now }
     ensures { IfOk result (λ told. IsLegalLife lines 0 [] life.now told) }
 {
     let mut running = Running {
-        store: ListStore::new(alloc, lines),
+        store: MemoryStore::new(alloc, lines)?,
         journal: Items::new(alloc),
         reads: Items::new(alloc),
     };
@@ -65,7 +69,7 @@ pub(crate) fn run_life<G: Gate>(
         gate.pass(command.client, number, true);
     }
     let kept = running.journal.len() as u64;
-    let documents = running.store.len() as u64;
+    let documents = running.store.len(alloc)?;
     Ok(LifeRecord {
         clients: life.clients,
         from: 0,

@@ -3,6 +3,7 @@
 
 mod input;
 mod lives;
+mod memory_store;
 mod output;
 mod running;
 mod standard;

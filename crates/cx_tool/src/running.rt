@@ -15,7 +15,7 @@ use crate::lives::run_life;
 use crate::output::write_text;
 use crate::status::{Ended, Status};
 use cx_base::{Gate, Sink, Source};
-use doc_text::{Script, TextFault, read_script, report};
+use doc_text::{Reason, Script, TextFault, read_script, report};
 use std::alloc::{AllocError, Global};
 use std::marker::Brand;
 use std::sync::ledger::Blank;
@@ -107,17 +107,22 @@ fn text_of<G: Gate>(alloc: Global, bytes: &[u8], gate: &G) -> Result<(Vec<u8>, S
 {
     match read_script(alloc, bytes) {
         Ok(script) => Ok((run_script(alloc, &script, gate)?, Status::Fine)),
-        Err(TextFault::Refused { line, reason: _ }) => Ok((refusal(alloc, line)?, Status::Refused)),
+        Err(TextFault::Refused { line, reason }) => {
+            Ok((refusal(alloc, line, reason)?, Status::Refused))
+        }
         Err(TextFault::Memory) => Err(AllocError),
     }
 }
 
-// The text that names a line at fault.
-fn refusal(alloc: Global, line: u64) -> Result<Vec<u8>, AllocError>
-    ensures { IfOk result (λ text. text.items ≡ refused_text line) }
+// The text that names a line at fault and why it is refused.
+fn refusal(alloc: Global, line: u64, reason: Reason) -> Result<Vec<u8>, AllocError>
+    ensures { IfOk result (λ text. text.items ≡ refused_text line reason) }
 {
-    let text = format!(in alloc; "refused line {line}: form\n")?;
-    Ok(text.into_bytes())
+    let text = format!(in alloc; "refused line {line}: ")?;
+    let mut bytes = text.into_bytes();
+    bytes.extend_from_slice(reason.word().as_bytes())?;
+    bytes.extend_from_slice(b"\n")?;
+    Ok(bytes)
 }
 
 // The report of a script's lives, each run in turn.

@@ -93,56 +93,105 @@ fn line_feeds(alloc: Global, count: usize) -> Result<Vec<u8>, AllocError> {
     vec![in alloc; b'\n'; count]
 }
 
+/// Inputs with their statuses and texts. An input that begins with a client's line has the header and the first line of
+/// a life before it.
+const ROWS: [(&str, u8, &str); 33] = [
+    // a write is read back
+    (
+        "0 put a 1\n0 put a 2\n0 get a\n",
+        0,
+        "life 0 clients 1 from 0\n0 0.1 put a 1 = new\n1 0.2 put a 2 = replaced\nread 0.3 at 2 get a = 2\npower 0 kept 2 of 2 documents 1\n",
+    ),
+    (
+        "# a life\r\nlines 16384\r\n\r\nlife 1 power 18446744073709551615\r\n0 put a -9223372036854775808\r\n0 get a",
+        0,
+        "life 0 clients 1 from 0\n0 0.1 put a -9223372036854775808 = new\nread 0.2 at 1 get a = -9223372036854775808\npower 18446744073709551615 kept 1 of 1 documents 1\n",
+    ),
+    // nothing
+    ("", 0, ""),
+    ("lines 64\n", 0, ""),
+    // an empty store
+    (
+        "0 get a\n",
+        0,
+        "life 0 clients 1 from 0\nread 0.1 at 0 get a = none\npower 0 kept 0 of 0 documents 0\n",
+    ),
+    // the type's end
+    (
+        "0 add k 9223372036854775807\n0 add k 1\n0 get k\n",
+        0,
+        "life 0 clients 1 from 0\n0 0.1 add k 9223372036854775807 = sum 9223372036854775807\n1 0.2 add k 1 = overflow\nread 0.3 at 2 get k = 9223372036854775807\npower 0 kept 2 of 2 documents 1\n",
+    ),
+    (
+        "0 add k -9223372036854775808\n0 add k -1\n0 get k\n",
+        0,
+        "life 0 clients 1 from 0\n0 0.1 add k -9223372036854775808 = sum -9223372036854775808\n1 0.2 add k -1 = overflow\nread 0.3 at 2 get k = -9223372036854775808\npower 0 kept 2 of 2 documents 1\n",
+    ),
+    // compact text
+    (
+        "0 put a {\"b\":1, \"a\":[]}\n0 get a\n0 add a 1\n0 del a\n0 del a\n",
+        0,
+        "life 0 clients 1 from 0\n0 0.1 put a {\"a\":[],\"b\":1} = new\n1 0.3 add a 1 = notnumber\n2 0.4 del a = deleted\n3 0.5 del a = none\nread 0.2 at 1 get a = {\"a\":[],\"b\":1}\npower 0 kept 4 of 4 documents 0\n",
+    ),
+    // refusals
+    ("0 put a 1.5\n", 3, "refused line 3: fraction\n"),
+    ("0 put a {\n", 3, "refused line 3: json\n"),
+    ("0 add a 01\n", 3, "refused line 3: number\n"),
+    ("1 count\n", 3, "refused line 3: client\n"),
+    ("0 push a 1\n", 3, "refused line 3: command\n"),
+    ("life 1 power 0\n", 3, "refused line 1: header\n"),
+    ("lines 63\n", 3, "refused line 1: header\n"),
+    ("lines 64\nlife 9 power 0\n", 3, "refused line 2: life\n"),
+    ("0 put a x\n", 3, "refused line 3: json\n"),
+    ("0 put a 1e400\n", 3, "refused line 3: json\n"),
+    ("0 put a \"\\ud800\"\n", 3, "refused line 3: json\n"),
+    ("0 put a -0\n", 3, "refused line 3: fraction\n"),
+    (
+        "0 put a 18446744073709551616\n",
+        3,
+        "refused line 3: fraction\n",
+    ),
+    ("0 get a \n", 3, "refused line 3: command\n"),
+    ("0 get  a\n", 3, "refused line 3: command\n"),
+    ("0 get a\rb\n", 3, "refused line 3: key\n"),
+    ("0 get \u{e4}\n", 3, "refused line 3: key\n"),
+    ("0\n", 3, "refused line 3: command\n"),
+    ("\n# x\nlife 1 power 0\n", 3, "refused line 3: header\n"),
+    ("lines 64\n\n#\n0 get a\n", 3, "refused line 4: life\n"),
+    // forms that are not built
+    ("lines 64\nlife 2 power 0\n", 3, "refused line 2: form\n"),
+    (
+        "lines 64\nlife 1 power 0\ncut 0 1\n",
+        3,
+        "refused line 3: form\n",
+    ),
+    (
+        "lines 64\nlife 1 power 0\ncut 1 1\n",
+        3,
+        "refused line 3: cut\n",
+    ),
+    (
+        "lines 64\nlife 1 power 0\nlife 1 power 0\n",
+        3,
+        "refused line 3: form\n",
+    ),
+    // next and count
+    (
+        "0 put a 1\n0 put c 2\n0 next\n0 next a\n0 next b\n0 next c\n0 count\n",
+        0,
+        "life 0 clients 1 from 0\n0 0.1 put a 1 = new\n1 0.2 put c 2 = new\nread 0.3 at 2 next = key a\nread 0.4 at 2 next a = key c\nread 0.5 at 2 next b = key c\nread 0.6 at 2 next c = none\nread 0.7 at 2 count = count 2\npower 0 kept 2 of 2 documents 2\n",
+    ),
+];
+
 #[test]
 fn each_input_has_its_status_and_text(rt: HostRuntime) -> Result<(), Fail> {
-    let rows: [(&str, u8, &str); 12] = [
-        (
-            "lines 64\nlife 1 power 0\n0 put a 1\n0 get a\n",
-            0,
-            "life 0 clients 1 from 0\n0 0.1 put a 1 = new\nread 0.2 at 1 get a = 1\npower 0 kept 1 of 1 documents 1\n",
-        ),
-        (
-            "lines 64\nlife 1 power 0\n0 put a 1\n0 put a 2\n0 get a\n",
-            0,
-            "life 0 clients 1 from 0\n0 0.1 put a 1 = new\n1 0.2 put a 2 = replaced\nread 0.3 at 2 get a = 2\npower 0 kept 2 of 2 documents 1\n",
-        ),
-        (
-            "lines 64\nlife 1 power 0\n0 get a\n",
-            0,
-            "life 0 clients 1 from 0\nread 0.1 at 0 get a = none\npower 0 kept 0 of 0 documents 0\n",
-        ),
-        (
-            "# a life\r\nlines 16384\r\n\r\nlife 1 power 18446744073709551615\r\n0 put a -9223372036854775808\r\n0 get a",
-            0,
-            "life 0 clients 1 from 0\n0 0.1 put a -9223372036854775808 = new\nread 0.2 at 1 get a = -9223372036854775808\npower 18446744073709551615 kept 1 of 1 documents 1\n",
-        ),
-        ("", 0, ""),
-        ("lines 64\n", 0, ""),
-        (
-            "lines 64\nlife 1 power 0\n0 put a x\n",
-            3,
-            "refused line 3: form\n",
-        ),
-        (
-            "lines 64\nlife 1 power 0\n0 put a 01\n",
-            3,
-            "refused line 3: form\n",
-        ),
-        ("lines 64\nlife 2 power 0\n", 3, "refused line 2: form\n"),
-        ("lines 63\n", 3, "refused line 1: form\n"),
-        ("\n# x\nlife 1 power 0\n", 3, "refused line 3: form\n"),
-        (
-            "lines 64\nlife 1 power 0\n0 get a \n",
-            3,
-            "refused line 3: form\n",
-        ),
-    ];
-    for (input, code, text) in rows {
-        let (got, written) = ran(
-            &rt,
-            &["run"],
-            Vec::from_slice(rt.alloc(), input.as_bytes())?,
-        )?;
+    for (input, code, text) in ROWS {
+        let mut bytes = Vec::new(rt.alloc());
+        if input.starts_with("0") || input.starts_with("1") {
+            bytes.extend_from_slice(HEAD.as_bytes())?;
+        }
+        bytes.extend_from_slice(input.as_bytes())?;
+        let (got, written) = ran(&rt, &["run"], bytes)?;
         assert_eq!(rt; got, code, "at {input:?}");
         assert_eq!(rt; written.as_slice(), text.as_bytes(), "at {input:?}");
     }
@@ -152,7 +201,64 @@ fn each_input_has_its_status_and_text(rt: HostRuntime) -> Result<(), Fail> {
         Vec::from_slice(rt.alloc(), b"lines 64\n\xff\n")?,
     )?;
     assert_eq!(rt; got, 3);
-    assert_eq!(rt; written.as_slice(), b"refused line 2: form\n".as_slice());
+    assert_eq!(rt; written.as_slice(), b"refused line 2: utf8\n".as_slice());
+    Ok(())
+}
+
+/// A put of a JSON string of so many letters, or of a key of so many.
+fn put_of(alloc: Global, key: usize, letters: usize) -> Result<Vec<u8>, AllocError> {
+    let mut line = Vec::from_slice(alloc, HEAD.as_bytes())?;
+    line.extend_from_slice(b"0 put ")?;
+    for _ in 0..key {
+        line.push(b'k')?;
+    }
+    line.extend_from_slice(b" \"")?;
+    for _ in 0..letters {
+        line.push(b'x')?;
+    }
+    line.extend_from_slice(b"\"\n")?;
+    Ok(line)
+}
+
+#[test]
+fn keys_and_documents_have_a_largest_length(rt: HostRuntime) -> Result<(), Fail> {
+    let rows: [(usize, usize, u8); 4] = [(64, 1, 0), (65, 1, 3), (1, 1022, 0), (1, 1023, 3)];
+    for (key, letters, code) in rows {
+        let (got, written) = ran(&rt, &["run"], put_of(rt.alloc(), key, letters)?)?;
+        assert_eq!(rt; got, code);
+        let text = match (key, code) {
+            (_, 0) => "life 0 clients 1 from 0\n",
+            (65, _) => "refused line 3: key\n",
+            _ => "refused line 3: long\n",
+        };
+        assert!(rt; written.starts_with(text.as_bytes()), "{key} {letters}");
+    }
+    Ok(())
+}
+
+#[test]
+fn a_full_store_has_no_room(rt: HostRuntime) -> Result<(), Fail> {
+    let alloc = rt.alloc();
+    let mut script = Vec::from_slice(alloc, HEAD.as_bytes())?;
+    for i in 0..19 {
+        let line = format!(in alloc; "0 put k{i:02} 0\n")?;
+        script.extend_from_slice(line.as_bytes())?;
+    }
+    script.extend_from_slice(b"0 put k19 \"")?;
+    for _ in 0..198 {
+        script.push(b'x')?;
+    }
+    script.extend_from_slice(b"\"\n0 put k20 0\n0 put k19 0\n0 put k20 0\n")?;
+    let (code, written) = ran(&rt, &["run"], script)?;
+    assert_eq!(rt; code, 0);
+    let end =
+        "20 0.21 put k20 0 = noroom\n21 0.22 put k19 0 = replaced\n22 0.23 put k20 0 = new\npower 0 kept 23 of 23 documents 21\n";
+    assert!(rt; written.ends_with(end.as_bytes()));
+    let news = written
+        .windows(6)
+        .filter(|six| *six == b" = new".as_slice())
+        .count();
+    assert_eq!(rt; news, 21);
     Ok(())
 }
 

@@ -1,34 +1,19 @@
 -- One step over words.
-use Rattle.std.proofs.Common.{◌≡◌, ◌*◌, ◌/◌, ◌≤◌, ℕ, List, get_or, replicate, Bool, true, false, ◌&&◌, nat_le, refl, sym, ap, subst, ◌∙◌, arith}
+use Rattle.std.proofs.Common.{◌≡◌, ◌^◌, ◌*◌, ◌<◌, ℕ, List, length, get_or, Bool, true, false, ◌&&◌, nat_le, IsTrue, ◌↔◌, sym, ap, ap₂, subst, ◌∙◌}
 use Rattle.std.specs.Bool.{MatchBool}
-use Rattle.cx_base.specs.Memory.{Words, Always}
-use Rattle.doc_model.specs.Meaning.{only_reads, reply_to, store_after}
+use Rattle.std.proofs.lemmas.List.{get_or_default}
+use Rattle.cx_base.specs.Memory.{Words, Always, Becomes}
+use Rattle.doc_model.specs.Meaning.{only_reads, reply_to}
 use Rattle.doc_model.specs.Words.{AreOfAnOp, AreOfNoOp}
 use Rattle.doc_model.specs.declared.operations.Op.{Op}
 use Rattle.doc_model.proofs.OpKinds.{reads_by_kind}
-use Rattle.doc_model.proofs.Stores.{reading_leaves}
-use Rattle.doc_store.specs.StepOnWords.{Told, Does, IsOpOf, IsReading, IsAnswer, IsStep}
+use Rattle.doc_store.specs.ExactStep.{op_in, reads_in, store_step, IsImage}
+use Rattle.doc_store.specs.OpsRead.{op_is_read, no_op_is_read}
+use Rattle.doc_store.specs.StoreLaws.{step_keeps}
+use Rattle.doc_store.specs.StepOnWords.{Told, IsOpOf, IsReading, IsAnswer}
 use Rattle.doc_store.proofs.OpParts.{some_op}
-use Rattle.word_index.specs.Layout.{IsPartLength, IsIndex, StandsFor}
-use Rattle.word_index.proofs.Memories.{always_at_most}
-
-module _ {Key : Type 0} (stands : Key → List ℕ → Type 0) (n : ℕ) where
-  part_length : ((first : Key) (now : List ℕ) → stands first now → Words n now) → Always stands IsIndex → (first : Key) (now : List ℕ) → stands first now → IsPartLength n
-  part_length words all first now s = subst IsPartLength (words first now s).long (all first now s).stands.arranged.sized
-
-  at_most_whole : IsPartLength n → n ≤ 8 * (n / 8)
-  at_most_whole h = (let w = h.whole in omega (arith, w))
-
-  -- the size of a memory in which some store stands
-  pub sized_from : ∥ ((first : Key) × (now : List ℕ) × stands first now) ∥₁ →
-      ((first : Key) (now : List ℕ) → stands first now → Words n now) → Always stands IsIndex → IsPartLength n
-  sized_from some words all =
-      let up : n ≤ 8 * (n / 8) = always_at_most stands some n (8 * (n / 8)) (λ first now s. at_most_whole (part_length words all first now s)) in
-      record {
-        whole = omega (arith, up);
-        some = always_at_most stands some 64 (n / 8) (λ first now s. (part_length words all first now s).some);
-        few = always_at_most stands some (n / 8) 16384 (λ first now s. (part_length words all first now s).few);
-      }
+use Rattle.word_index.specs.Lawful.{IsLawful}
+use Rattle.word_index.specs.Layout.{StandsFor}
 
 abbrev pub reading_kind : List ℕ → Bool
 reading_kind words = nat_le 4 (get_or words 0 0) && nat_le (get_or words 0 0) 6
@@ -60,26 +45,33 @@ Tells op reply words = (lines : ℕ) (o : Op) → IsOpOf op o → Told (λ store
 pub answers : (lines : ℕ) (op reply words : List ℕ) → AreOfAnOp op → Tells op reply words → IsAnswer lines op reply words
 answers lines op reply words a t = record { told = λ o is. t lines o is; zeros = λ none. absurd (not_none op a none) }
 
-pub steps_none : (lines : ℕ) (op x y : List ℕ) → AreOfNoOp op → x ≡ y → IsStep lines op (replicate 144 0) x y
-steps_none lines op x y none e = record { does = λ o is. absurd (none o is.limits is.amount is.has); zeros = λ _. (sym e, refl) }
+-- words of 64 bits
+pub are_words : (n : ℕ) (words : List ℕ) → length words ≡ n → ((i : ℕ) → get_or words i 0 < 2 ^ 64) → Words n words
+are_words n words long fits = record { long = long; fit = λ k d l. subst (λ v. v < 2 ^ 64) (get_or_default words k 0 d l) (fits k) }
 
-pub steps_reading : (lines : ℕ) (op reply x y : List ℕ) → AreOfAnOp op → reading_kind op ≡ true → y ≡ x → Tells op reply y → IsStep lines op reply x y
-steps_reading lines op reply x y a kind same t = record {
-  does = λ o is version store s. (
-      let st = subst (λ w. StandsFor w version store) (sym same) s in
-      record {
-        after = subst (λ z. StandsFor y version z) (sym (reading_leaves lines store o (kind_reads op o is ∙ kind))) st;
-        answer = t lines o is version store st;
-      });
-  zeros = λ none. absurd (not_none op a none);
-}
+pub op_are_words : (op : List ℕ) → length op ≡ 144 → ((i : ℕ) → get_or op i 0 < 2 ^ 64) → Words 144 op
+op_are_words op long fits = are_words 144 op long fits
 
-pub steps_change : (lines : ℕ) (op reply x y : List ℕ) → AreOfAnOp op →
-    ((o : Op) → IsOpOf op o → Does (λ store. store_after lines store o) (λ store. reply_to lines store o) reply x y) → IsStep lines op reply x y
-steps_change lines op reply x y a d = record { does = d; zeros = λ none. absurd (not_none op a none) }
+-- what a check of words tells
+pub image_exactly : (lines version : ℕ) (words : List ℕ) (yes : Bool) → version ≡ 1 → length words ≡ 8 * lines → ((i : ℕ) → get_or words i 0 < 2 ^ 64) → IsTrue yes ↔ IsLawful words version → IsTrue yes ↔ IsImage lines words
+image_exactly lines version words found e long fits h = (
+  λ t. (let l = h.0 t in record { words = are_words (8 * lines) words long fits; store = l.0; stands = subst (λ v. StandsFor words v l.0) e l.1 }),
+  λ i. h.1 (i.store, subst (λ v. StandsFor words v i.store) (sym e) i.stands),
+)
 
--- words that stand for some store do so after a step
-pub step_stands : (lines : ℕ) (op reply x y : List ℕ) → AreOfAnOp op → IsIndex x → IsStep lines op reply x y → IsIndex y
-step_stands lines op reply x y a i h =
-    let d = h.does a.op (some_op op a) i.version i.store i.stands in
-    record { version = i.version; store = store_after lines i.store a.op; stands = d.after }
+-- the words of operations that only read
+pub reads_of_op : (words : List ℕ) → AreOfAnOp words → reads_in words ≡ reading_kind words
+unfolding reads_in
+reads_of_op words a =
+    let read = op_is_read words a.op (some_op words a) in
+    ap₂ (λ b o. b && only_reads o) read.0 read.1 ∙ kind_reads words a.op (some_op words a)
+
+pub reads_of_none : (words : List ℕ) → Words 144 words → AreOfNoOp words → reads_in words ≡ false
+unfolding reads_in
+reads_of_none words w none = ap (λ b. b && only_reads (op_in words)) (no_op_is_read words 144 w none)
+
+-- a lawful image stays one over a step
+pub image_goes_on : {Key : Type 0} {old new : Key → List ℕ → Type 0} (lines : ℕ) (op reply : List ℕ) → Words 144 op → Always old (IsImage lines) → Becomes old new (λ before now. store_step lines before op ≡ (now, reply)) → Always new (IsImage lines)
+image_goes_on lines op reply w all b first now s =
+    let p = b.from first now s in
+    subst (IsImage lines) (ap (λ q. q.0) p.2) (step_keeps lines p.0 op (all first p.0 p.1) w)

@@ -10,9 +10,11 @@ ghost use Rattle.doc_model.specs.Number.{is_i64};
 ghost use Rattle.doc_model.specs.Words.{AreOfAnOp, reply_words};
 ghost use Rattle.doc_model.specs.declared.operations.Op.{Op};
 ghost use Rattle.doc_model.specs.declared.operations.Reply.TheVariants.{Absent, Deleted};
-ghost use Rattle.doc_store.specs.StepOnWords.{Does, IsOpOf, put_told, sum_told, put_sum_reply};
+ghost use Rattle.doc_store.specs.ExactStep.{Exactly, with_sum, with_addition, image_after};
+ghost use Rattle.doc_store.specs.StepOnWords.{IsOpOf, put_told, sum_told, put_sum_reply};
 ghost use Rattle.word_index.specs.Access.{Reads};
 ghost use Rattle.word_index.specs.Answers.{IsPacked};
+ghost use Rattle.word_index.specs.Exact.{store_in, with_document, with_key_removed};
 ghost use Rattle.word_index.specs.Layout.{IsPartLength, IsIndex, StandsFor};
 
 use crate::numbers::{doc_of_number, number_in, sum_of};
@@ -70,8 +72,9 @@ fn put<M: Memory, L: Ledger>(
     requires is_key { IsKey (unpacked key.now.len key.now.words) }
     requires is_document { IsDocument (unpacked doc.now.len doc.now.words) }
     ensures done { IfOk result (λ reply. Becomes (M.stands mem.old) (M.stands mem.new)
-        (Does (λ store. meaning.store_after_put lines store (unpacked key.now.len key.now.words) (unpacked doc.now.len doc.now.words)) (λ store. meaning.put_reply lines store (unpacked key.now.len key.now.words) (unpacked doc.now.len doc.now.words)) reply)) }
+        (Exactly (λ ws. meaning.put_reply lines (store_in ws) (unpacked key.now.len key.now.words) (unpacked doc.now.len doc.now.words)) (with_document (unpacked key.now.len key.now.words) (unpacked doc.now.len doc.now.words)) reply)) }
     ensures halts { OnErr result (M.left mem.new ≡ Some 0) }
+    ensures limited { is_some (M.left mem.new) ≡ is_some (M.left mem.old) }
     ensures size { M.size mem.new ≡ M.size mem.old }
     ensures fixed { M.fixed mem.new ≡ M.fixed mem.old }
     ensures writable { M.writable mem.new ≡ M.writable mem.old }
@@ -91,8 +94,9 @@ fn delete<M: Memory, L: Ledger>(
     requires lawful { Always (M.stands mem.old) IsIndex }
     requires key { key.now.len ≤ 64 }
     ensures done { IfOk result (λ reply. Becomes (M.stands mem.old) (M.stands mem.new)
-        (Does (λ store. meaning.without_key (unpacked key.now.len key.now.words) store) (λ store. if is_some (meaning.document_at (unpacked key.now.len key.now.words) store) then Deleted else Absent) reply)) }
+        (Exactly (λ ws. if is_some (meaning.document_at (unpacked key.now.len key.now.words) (store_in ws)) then Deleted else Absent) (with_key_removed (unpacked key.now.len key.now.words)) reply)) }
     ensures halts { OnErr result (M.left mem.new ≡ Some 0) }
+    ensures limited { is_some (M.left mem.new) ≡ is_some (M.left mem.old) }
     ensures size { M.size mem.new ≡ M.size mem.old }
     ensures fixed { M.fixed mem.new ≡ M.fixed mem.old }
     ensures writable { M.writable mem.new ≡ M.writable mem.old }
@@ -114,6 +118,7 @@ fn number_at<M: Memory, L: Ledger>(
         (λ ws. (version : ℕ) (store : Store) → StandsFor ws version store → number ≡ meaning.number_at (unpacked key.now.len key.now.words) store)) }
     ensures fits { IfOk result (λ number. IfSome number (λ z. is_i64 z ≡ true)) }
     ensures halts { OnErr result (M.left mem.new ≡ Some 0) }
+    ensures limited { is_some (M.left mem.new) ≡ is_some (M.left mem.old) }
     ensures size { M.size mem.new ≡ M.size mem.old }
     ensures fixed { M.fixed mem.new ≡ M.fixed mem.old }
     ensures writable { M.writable mem.new ≡ M.writable mem.old }
@@ -144,8 +149,9 @@ fn put_sum<M: Memory, L: Ledger>(
     requires is_key { IsKey (unpacked key.now.len key.now.words) }
     requires sum { is_i64 sum ≡ true }
     ensures done { IfOk result (λ reply. Becomes (M.stands mem.old) (M.stands mem.new)
-        (Does (λ store. meaning.store_after_put lines store (unpacked key.now.len key.now.words) (signed_decimal sum)) (λ store. put_sum_reply lines store (unpacked key.now.len key.now.words) sum) reply)) }
+        (Exactly (λ ws. put_sum_reply lines (store_in ws) (unpacked key.now.len key.now.words) sum) (with_document (unpacked key.now.len key.now.words) (signed_decimal sum)) reply)) }
     ensures halts { OnErr result (M.left mem.new ≡ Some 0) }
+    ensures limited { is_some (M.left mem.new) ≡ is_some (M.left mem.old) }
     ensures size { M.size mem.new ≡ M.size mem.old }
     ensures fixed { M.fixed mem.new ≡ M.fixed mem.old }
     ensures writable { M.writable mem.new ≡ M.writable mem.old }
@@ -171,8 +177,9 @@ fn add_to<M: Memory, L: Ledger>(
     requires key { IsPacked 8 key.now.len key.now.words }
     requires is_key { IsKey (unpacked key.now.len key.now.words) }
     ensures done { IfOk result (λ reply. Becomes (M.stands mem.old) (M.stands mem.new)
-        (Does (λ store. meaning.store_after_sum lines store (unpacked key.now.len key.now.words) (before +ℤ amount)) (λ store. meaning.sum_reply lines store (unpacked key.now.len key.now.words) (before +ℤ amount)) reply)) }
+        (Exactly (λ ws. meaning.sum_reply lines (store_in ws) (unpacked key.now.len key.now.words) (before +ℤ amount)) (with_sum (unpacked key.now.len key.now.words) (before +ℤ amount)) reply)) }
     ensures halts { OnErr result (M.left mem.new ≡ Some 0) }
+    ensures limited { is_some (M.left mem.new) ≡ is_some (M.left mem.old) }
     ensures size { M.size mem.new ≡ M.size mem.old }
     ensures fixed { M.fixed mem.new ≡ M.fixed mem.old }
     ensures writable { M.writable mem.new ≡ M.writable mem.old }
@@ -199,8 +206,9 @@ fn add<M: Memory, L: Ledger>(
     requires key { IsPacked 8 key.now.len key.now.words }
     requires is_key { IsKey (unpacked key.now.len key.now.words) }
     ensures done { IfOk result (λ reply. Becomes (M.stands mem.old) (M.stands mem.new)
-        (Does (λ store. meaning.store_after_add lines store (unpacked key.now.len key.now.words) amount (meaning.number_at (unpacked key.now.len key.now.words) store)) (λ store. meaning.add_reply lines store (unpacked key.now.len key.now.words) amount (meaning.number_at (unpacked key.now.len key.now.words) store)) reply)) }
+        (Exactly (λ ws. meaning.add_reply lines (store_in ws) (unpacked key.now.len key.now.words) amount (meaning.number_at (unpacked key.now.len key.now.words) (store_in ws))) (λ ws. with_addition (unpacked key.now.len key.now.words) amount (meaning.number_at (unpacked key.now.len key.now.words) (store_in ws)) ws) reply)) }
     ensures halts { OnErr result (M.left mem.new ≡ Some 0) }
+    ensures limited { is_some (M.left mem.new) ≡ is_some (M.left mem.old) }
     ensures size { M.size mem.new ≡ M.size mem.old }
     ensures fixed { M.fixed mem.new ≡ M.fixed mem.old }
     ensures writable { M.writable mem.new ≡ M.writable mem.old }
@@ -227,8 +235,9 @@ pub(crate) fn change<M: Memory, L: Ledger>(
     requires op { AreOfAnOp op.now }
     requires changes { (nat_le 4 (slice_index op.now 0) && nat_le (slice_index op.now 0) 6) ≡ false }
     ensures done { IfOk result (λ reply. Becomes (M.stands mem.old) (M.stands mem.new)
-        (λ before now. (o : Op) → IsOpOf op.now o → Does (λ store. meaning.store_after lines store o) (λ store. meaning.reply_to lines store o) reply before now)) }
+        (λ before now. (o : Op) → IsOpOf op.now o → Exactly (λ ws. meaning.reply_to lines (store_in ws) o) (image_after o) reply before now)) }
     ensures halts { OnErr result (M.left mem.new ≡ Some 0) }
+    ensures limited { is_some (M.left mem.new) ≡ is_some (M.left mem.old) }
     ensures size { M.size mem.new ≡ M.size mem.old }
     ensures fixed { M.fixed mem.new ≡ M.fixed mem.old }
     ensures writable { M.writable mem.new ≡ M.writable mem.old }

@@ -1,17 +1,16 @@
-//! The document store: pairs of a key and a document in a fixed number of lines, behind one function that does
-//! each operation as the table of operations says.
+//! The document store: pairs of a key and a document in a fixed number of lines, over the words of any memory.
 #![tactic(auto)]
 
 mod changes;
-mod list_store;
+#[cfg(test)]
+mod mixed_tests;
 mod numbers;
 mod readings;
+mod step_laws;
 mod store;
 #[cfg(test)]
 mod store_tests;
-#[cfg(test)]
-mod tests;
 mod word_parts;
 
-pub use list_store::ListStore;
-pub use store::DocStore;
+pub use step_laws::{operations_are_read, steps_do_as_operations_mean};
+pub use store::{DocStore, documents, stores_cross_threads};

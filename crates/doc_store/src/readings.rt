@@ -1,8 +1,8 @@
 //! The operations that only read, over words that stand for a store.
 
-ghost use Rattle.std.specs.Prelude.{◌≡◌, ◌≤◌, ◌<◌, ℕ, List, IfOk, OnErr, Some, length, replicate, slice_index, nat_le, ◌&&◌, true};
+ghost use Rattle.std.specs.Prelude.{◌≡◌, ◌≤◌, ◌<◌, ℕ, List, IfOk, OnErr, Some, length, replicate, slice_index, nat_le, ◌&&◌, true, is_some};
 ghost use Rattle.std.specs.Option.{option_map_or};
-ghost use Rattle.cx_base.specs.Memory.{Always};
+ghost use Rattle.cx_base.specs.Memory.{Always, Becomes};
 ghost use Rattle.cx_base.specs.Packing.{unpacked};
 ghost use Rattle.doc_model.specs.Meaning as meaning;
 ghost use Rattle.doc_model.specs.Words.{AreOfAnOp};
@@ -28,7 +28,9 @@ fn get<M: Memory, L: Ledger>(
     requires key { key.now.len ≤ 64 }
     ensures done { IfOk result (λ reply. Reads (M.stands mem.old) (M.stands mem.new)
         (Told (λ store. option_map_or TheDoc (meaning.document_at (unpacked key.now.len key.now.words) store) Absent) reply)) }
+    ensures kept { Becomes (M.stands mem.old) (M.stands mem.new) ◌≡◌ }
     ensures halts { OnErr result (M.left mem.new ≡ Some 0) }
+    ensures limited { is_some (M.left mem.new) ≡ is_some (M.left mem.old) }
     ensures size { M.size mem.new ≡ M.size mem.old }
     ensures fixed { M.fixed mem.new ≡ M.fixed mem.old }
     ensures writable { M.writable mem.new ≡ M.writable mem.old }
@@ -54,7 +56,9 @@ fn next<M: Memory, L: Ledger>(
     requires key { key.now.len ≤ 64 }
     ensures done { IfOk result (λ reply. Reads (M.stands mem.old) (M.stands mem.new)
         (Told (λ store. meaning.least_key (meaning.pairs_above (unpacked key.now.len key.now.words) store)) reply)) }
+    ensures kept { Becomes (M.stands mem.old) (M.stands mem.new) ◌≡◌ }
     ensures halts { OnErr result (M.left mem.new ≡ Some 0) }
+    ensures limited { is_some (M.left mem.new) ≡ is_some (M.left mem.old) }
     ensures size { M.size mem.new ≡ M.size mem.old }
     ensures fixed { M.fixed mem.new ≡ M.fixed mem.old }
     ensures writable { M.writable mem.new ≡ M.writable mem.old }
@@ -72,7 +76,9 @@ fn number<M: Memory>(mem: &mut M) -> Result<[u64; 144], Halt>
     requires lawful { Always (M.stands mem.old) IsIndex }
     ensures done { IfOk result (λ reply. Reads (M.stands mem.old) (M.stands mem.new)
         (Told (λ store. Number (length store)) reply)) }
+    ensures kept { Becomes (M.stands mem.old) (M.stands mem.new) ◌≡◌ }
     ensures halts { OnErr result (M.left mem.new ≡ Some 0) }
+    ensures limited { is_some (M.left mem.new) ≡ is_some (M.left mem.old) }
     ensures size { M.size mem.new ≡ M.size mem.old }
     ensures fixed { M.fixed mem.new ≡ M.fixed mem.old }
     ensures writable { M.writable mem.new ≡ M.writable mem.old }
@@ -93,7 +99,9 @@ pub(crate) fn answer<M: Memory, L: Ledger>(
     requires reads { (nat_le 4 (slice_index op.now 0) && nat_le (slice_index op.now 0) 6) ≡ true }
     ensures done { IfOk result (λ reply. Reads (M.stands mem.old) (M.stands mem.new)
         (λ ws. (lines : ℕ) (o : Op) → IsOpOf op.now o → Told (λ store. meaning.reply_to lines store o) reply ws)) }
+    ensures kept { Becomes (M.stands mem.old) (M.stands mem.new) ◌≡◌ }
     ensures halts { OnErr result (M.left mem.new ≡ Some 0) }
+    ensures limited { is_some (M.left mem.new) ≡ is_some (M.left mem.old) }
     ensures size { M.size mem.new ≡ M.size mem.old }
     ensures fixed { M.fixed mem.new ≡ M.fixed mem.old }
     ensures writable { M.writable mem.new ≡ M.writable mem.old }
@@ -121,7 +129,9 @@ pub(crate) fn answer_uncounted<M: Memory, L: Ledger>(
     requires reads { (nat_le 4 (slice_index op.now 0) && nat_le (slice_index op.now 0) 6) ≡ true }
     ensures done { IfOk result (λ reply. Reads (M.stands mem.old) (M.stands mem.new)
         (λ ws. (lines : ℕ) (o : Op) → IsOpOf op.now o → Told (λ store. meaning.reply_to lines store o) reply ws)) }
+    ensures kept { Becomes (M.stands mem.old) (M.stands mem.new) ◌≡◌ }
     ensures halts { OnErr result (M.left mem.new ≡ Some 0) }
+    ensures limited { is_some (M.left mem.new) ≡ is_some (M.left mem.old) }
     ensures size { M.size mem.new ≡ M.size mem.old }
     ensures fixed { M.fixed mem.new ≡ M.fixed mem.old }
     ensures writable { M.writable mem.new ≡ M.writable mem.old }

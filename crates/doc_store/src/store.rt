@@ -1,33 +1,29 @@
 //! The document store over the words of a memory.
 
-ghost use Rattle.std.specs.Prelude.{◌≡◌, ◌*◌, ◌^◌, ◌<◌, ◌≤◌, ◌↔◌, ℕ, [], IsTrue, IfOk, OnErr, Some, slice_index, nat_le, ◌&&◌, replicate};
+ghost use Rattle.std.specs.Prelude.{◌≡◌, ◌*◌, ◌^◌, ◌<◌, ◌≤◌, ◌↔◌, ℕ, [], IsTrue, IfOk, OnErr, Some, slice_index, nat_le, ◌&&◌, replicate, is_some};
 ghost use Rattle.cx_base.specs.Memory.{Always, Becomes};
 ghost use Rattle.doc_model.specs.Words.{AreOfAnOp};
-ghost use Rattle.doc_store.specs.StepOnWords.{IsReading, IsAnswer, IsStep};
-ghost use Rattle.word_index.specs.Access.{Reads};
+ghost use Rattle.doc_store.specs.ExactStep.{IsImage, opening_image, store_step, reads_in};
+ghost use Rattle.doc_store.specs.StoreLaws as laws;
+ghost use Rattle.word_index.specs.Exact.{store_in};
 ghost use Rattle.word_index.specs.Layout.{IsPartLength, IsIndex, StandsFor};
 
 use crate::changes::change;
 use crate::readings::{answer, answer_uncounted};
-use cx_base::{Halt, Memory, Steps};
-use doc_model::is_op;
-use std::marker::{Brand, Model};
+use cx_base::{Halt, Memory, Object, Steps};
+use doc_model::{Pair, is_op};
+use std::alloc::{AllocError, Global};
+use std::marker::Brand;
 use std::sync::ledger::{Blank, Ledger};
-use word_index::format_index;
+use word_index::{format_index, lawful, pairs_of};
 
 /// The document store in a number of lines of 8 words, the first of which holds no pair. Its state is the words of a
 /// memory that is lent to each call; the value itself is only the number of lines.
 #[derive(Drop)]
 pub struct DocStore {
     lines: u64,
-}
-
-impl Model for DocStore {
-    ghost use Rattle.std.specs.Prelude.{ℕ};
-
-    ghost Value = { ℕ };
-
-    ghost view = { λ s. s.lines };
+    ghost some: { 1 ≤ lines },
+    ghost few: { lines ≤ 2 ^ 32 },
 }
 
 impl DocStore {
@@ -35,88 +31,101 @@ impl DocStore {
     pub fn of(lines: u64) -> DocStore
         requires some { 1 ≤ lines }
         requires few { lines ≤ 2 ^ 32 }
-        ensures { result ≡ lines }
+        ensures { result.lines ≡ lines }
     {
         DocStore { lines }
     }
+}
 
-    /// The number of lines.
-    pub fn lines(&self) -> u64
-        ensures { result ≡ self.now }
-    {
+impl Object for DocStore {
+    ghost line_count = { λ s. s.lines };
+
+    ghost version_number = { λ _. 1 };
+
+    ghost lawful = { λ s. IsImage s.lines };
+
+    ghost opening = { λ s. opening_image s.lines };
+
+    ghost step = { λ s. store_step s.lines };
+
+    ghost only_reads = { λ _. reads_in };
+
+    ghost opens = { λ s. laws.opens s.lines s.some s.few };
+
+    ghost keeps = { λ s. laws.step_keeps s.lines };
+
+    ghost shape = { λ s. laws.image_shape s.lines };
+
+    ghost replies = { λ s. laws.step_replies s.lines };
+
+    ghost leaves = { λ s image op i w reads. laws.step_leaves s.lines image op reads };
+
+    fn lines(&self) -> u64 {
         self.lines
     }
 
-    /// The version of the words' format, which is their first word.
-    pub fn version(&self) -> u64
-        ensures { result ≡ 1 }
-    {
+    fn version(&self) -> u64 {
         1
     }
 
-    /// Whether the words are those of an operation that only reads.
-    pub fn reads(&self, op: &[u64; 144]) -> bool
-        ensures { IsTrue result ↔ IsReading op.now }
-    {
+    fn format<M: Memory>(&self, mem: &mut M) -> Result<(), Halt> {
+        clear(mem, self.lines)?;
+        format_index(mem, self.version())
+    }
+
+    fn reads(&self, op: &[u64; 144]) -> bool {
         if !is_op(op) {
             return false;
         }
         is_reading(op[0])
     }
 
-    /// Makes the words stand for the empty store, whatever they were. `Halt` comes only where no access is left; the
-    /// words may then be anything.
-    pub fn format<M: Memory>(&self, mem: &mut M) -> Result<(), Halt>
-        requires size { M.size mem.old ≡ 8 * self.now }
-        requires sized { IsPartLength (M.size mem.old) }
-        requires writable { IsTrue (M.writable mem.old) }
-        ensures done { IfOk result
-            (λ _. Becomes (M.stands mem.old) (M.stands mem.new) (λ _ now. StandsFor now 1 [])) }
-        ensures lawful { IfOk result (λ _. Always (M.stands mem.new) IsIndex) }
-        ensures halts { OnErr result (M.left mem.new ≡ Some 0) }
-        ensures size_kept { M.size mem.new ≡ M.size mem.old }
-        ensures fixed { M.fixed mem.new ≡ M.fixed mem.old }
-        ensures writable_kept { M.writable mem.new ≡ M.writable mem.old }
-    {
-        format_index(mem, self.version())
-    }
-
-    /// Gives the reply to an operation that only reads, and stores nothing. `Halt` comes only where no access is
-    /// left.
-    pub fn query<M: Memory>(&self, mem: &mut M, op: &[u64; 144]) -> Result<[u64; 144], Halt>
-        requires size { M.size mem.old ≡ 8 * self.now }
-        requires lawful { Always (M.stands mem.old) IsIndex }
-        requires reads { IsReading op.now }
-        ensures done { IfOk result
-            (λ reply. Reads (M.stands mem.old) (M.stands mem.new) (IsAnswer self.now op.now reply)) }
-        ensures halts { OnErr result (M.left mem.new ≡ Some 0) }
-        ensures size_kept { M.size mem.new ≡ M.size mem.old }
-        ensures fixed { M.fixed mem.new ≡ M.fixed mem.old }
-        ensures writable_kept { M.writable mem.new ≡ M.writable mem.old }
-    {
-        answer_uncounted::<M, Brand>(mem, op, Blank::new(1))
-    }
-
-    /// Does the operation that has these words, and gives the reply. Words that are no operation's change nothing, and
-    /// the reply is zeros. `Halt` comes only where no access is left; the words may then be anything.
-    pub fn run<M: Memory>(&self, mem: &mut M, op: &[u64; 144]) -> Result<[u64; 144], Halt>
-        requires size { M.size mem.old ≡ 8 * self.now }
-        requires writable { IsTrue (M.writable mem.old) }
-        requires lawful { Always (M.stands mem.old) IsIndex }
-        ensures done { IfOk result
-            (λ reply. Becomes (M.stands mem.old) (M.stands mem.new) (IsStep self.now op.now reply)) }
-        ensures lawful { IfOk result (λ _. Always (M.stands mem.new) IsIndex) }
-        ensures halts { OnErr result (M.left mem.new ≡ Some 0) }
-        ensures size_kept { M.size mem.new ≡ M.size mem.old }
-        ensures fixed { M.fixed mem.new ≡ M.fixed mem.old }
-        ensures writable_kept { M.writable mem.new ≡ M.writable mem.old }
-    {
+    fn run<M: Memory>(&self, mem: &mut M, op: &[u64; 144]) -> Result<[u64; 144], Halt> {
         if !is_op(op) {
             return Ok([0; 144]);
         }
         let lines = self.lines();
         step_uncounted::<M, Brand>(mem, lines, op, Blank::new(1))
     }
+
+    fn query<M: Memory>(&self, mem: &mut M, op: &[u64; 144]) -> Result<[u64; 144], Halt> {
+        answer_uncounted::<M, Brand>(mem, op, Blank::new(1))
+    }
+
+    fn check(&self, alloc: Global, words: &[u64]) -> Result<bool, AllocError> {
+        if words.len() as u64 != 8 * self.lines {
+            return Ok(false);
+        }
+        lawful(alloc, words, self.version())
+    }
+}
+
+/// The pairs of the store that a lawful image stands for, in the order of their keys. `Err` is want of memory.
+pub fn documents(alloc: Global, words: &[u64]) -> Result<Vec<Pair>, AllocError>
+    requires lawful { (lines : ℕ) × IsImage lines words.now }
+    ensures pairs { IfOk result (λ pairs. pairs.items ≡ store_in words.now) }
+    ensures stands { IfOk result (λ pairs. StandsFor words.now 1 pairs.items) }
+{
+    pairs_of(alloc, words)
+}
+
+/// Stores 0 in each word of so many lines.
+fn clear<M: Memory>(mem: &mut M, lines: u64) -> Result<(), Halt>
+    requires size { M.size mem.old ≡ 8 * lines }
+    requires few { lines ≤ 2 ^ 32 }
+    requires writable { IsTrue (M.writable mem.old) }
+    ensures done { IfOk result
+        (λ _. Becomes (M.stands mem.old) (M.stands mem.new) (λ _ now. now ≡ replicate (8 * lines) 0)) }
+    ensures halts { OnErr result (M.left mem.new ≡ Some 0) }
+    ensures limited { is_some (M.left mem.new) ≡ is_some (M.left mem.old) }
+    ensures size { M.size mem.new ≡ M.size mem.old }
+    ensures fixed { M.fixed mem.new ≡ M.fixed mem.old }
+    ensures writable { M.writable mem.new ≡ M.writable mem.old }
+{
+    for at in 0..8 * lines {
+        mem.store(at, 0)?;
+    }
+    Ok(())
 }
 
 /// The step of an operation's words in that many lines, for a caller that counts no visits, on a new ledger.
@@ -134,8 +143,9 @@ fn step_uncounted<M: Memory, L: Ledger>(
     requires writable { IsTrue (M.writable mem.old) }
     requires lawful { Always (M.stands mem.old) IsIndex }
     requires op { AreOfAnOp op.now }
-    ensures done { IfOk result (λ reply. Becomes (M.stands mem.old) (M.stands mem.new) (IsStep lines op.now reply)) }
+    ensures done { IfOk result (λ reply. Becomes (M.stands mem.old) (M.stands mem.new) (λ before now. store_step lines before op.now ≡ (now, reply))) }
     ensures halts { OnErr result (M.left mem.new ≡ Some 0) }
+    ensures limited { is_some (M.left mem.new) ≡ is_some (M.left mem.old) }
     ensures size { M.size mem.new ≡ M.size mem.old }
     ensures fixed { M.fixed mem.new ≡ M.fixed mem.old }
     ensures writable { M.writable mem.new ≡ M.writable mem.old }
@@ -153,4 +163,11 @@ fn is_reading(kind: u64) -> bool
     ensures { result ≡ (nat_le 4 kind && nat_le kind 6) }
 {
     kind >= 4 && kind <= 6
+}
+
+const fn crosses_threads<T: Send + Sync>() {}
+
+/// A store may go to another thread, and be shared by threads.
+pub const fn stores_cross_threads() {
+    crosses_threads::<DocStore>();
 }

@@ -1,25 +1,25 @@
 //! Worked rows over words: the words of operations, and the words that they are answered.
 
-ghost use Rattle.std.specs.Prelude.{◌≡◌, ◌*◌, IsTrue, IfOk, length, replicate};
+ghost use Rattle.std.specs.Prelude.{◌≡◌, ◌≤◌, ◌*◌, IsTrue, IfOk, OnOk, length, replicate};
 ghost use Rattle.cx_base.specs.Memory.{Always};
-ghost use Rattle.word_index.specs.Layout.{IsPartLength, IsIndex};
+ghost use Rattle.doc_store.specs.ExactStep.{IsImage};
 
 use crate::DocStore;
-use cx_base::{Halt, Memory, VecMemory};
+use cx_base::{Halt, Memory, Object, VecMemory};
 use std::alloc::{AllocError, Global};
 use std::test::Fail;
 
 /// The parts of words, as the rows give them: the kind, the key, the document and the number.
 type Row = (u64, &'static str, &'static str, u64);
 
-fn put_word(words: &mut [u64], at: usize, word: u64) {
+pub(crate) fn put_word(words: &mut [u64], at: usize, word: u64) {
     if let Some(place) = words.get_mut(at) {
         *place = word;
     }
 }
 
 /// Lays bytes out from a word on: byte i is in word i / 8 at bits 8 * (i mod 8).
-fn lay(words: &mut [u64], from: usize, bytes: &[u8]) {
+pub(crate) fn lay(words: &mut [u64], from: usize, bytes: &[u8]) {
     for (i, byte) in bytes.iter().enumerate() {
         if let Some(word) = words.get_mut(from.saturating_add(i / 8)) {
             *word |= u64::from(*byte) << (8 * (i % 8));
@@ -28,7 +28,7 @@ fn lay(words: &mut [u64], from: usize, bytes: &[u8]) {
 }
 
 /// The words of a row.
-fn words_of(row: Row) -> [u64; 144] {
+pub(crate) fn words_of(row: Row) -> [u64; 144] {
     let (kind, key, document, number) = row;
     let mut words = [0; 144];
     put_word(&mut words, 0, kind);
@@ -40,15 +40,42 @@ fn words_of(row: Row) -> [u64; 144] {
     words
 }
 
+/// The reply to an operation's words.
+pub(crate) fn asked<M: Memory>(
+    store: &DocStore,
+    mem: &mut M,
+    op: &[u64; 144],
+) -> Result<[u64; 144], Halt>
+    requires size { M.size mem.old ≡ 8 * store.now.lines }
+    requires writable { IsTrue (M.writable mem.old) }
+    requires lawful { Always (M.stands mem.old) (IsImage store.now.lines) }
+    ensures size { M.size mem.new ≡ 8 * store.now.lines }
+    ensures writable { IsTrue (M.writable mem.new) }
+    ensures lawful { IfOk result (λ _. Always (M.stands mem.new) (IsImage store.now.lines)) }
+{
+    store.run(mem, op)
+}
+
+/// Makes the words those of the empty store.
+pub(crate) fn opened<M: Memory>(store: &DocStore, mem: &mut M) -> Result<(), Halt>
+    requires size { M.size mem.old ≡ 8 * store.now.lines }
+    requires writable { IsTrue (M.writable mem.old) }
+    ensures size { M.size mem.new ≡ 8 * store.now.lines }
+    ensures writable { IsTrue (M.writable mem.new) }
+    ensures lawful { OnOk result (Always (M.stands mem.new) (IsImage store.now.lines)) }
+{
+    store.format(mem)
+}
+
 /// How many rows are answered as told, from the first on.
 fn answered<M: Memory>(store: &DocStore, mem: &mut M, rows: &[(Row, Row)]) -> Result<usize, Halt>
-    requires size { M.size mem.old ≡ 8 * store.now }
+    requires size { M.size mem.old ≡ 8 * store.now.lines }
     requires writable { IsTrue (M.writable mem.old) }
-    requires lawful { Always (M.stands mem.old) IsIndex }
+    requires lawful { Always (M.stands mem.old) (IsImage store.now.lines) }
 {
     let mut right = 0;
     for (ask, want) in rows {
-        let reply = store.run(mem, &words_of(*ask))?;
+        let reply = asked(store, mem, &words_of(*ask))?;
         if reply != words_of(*want) {
             return Ok(right);
         }
@@ -63,26 +90,34 @@ fn answered_from_empty<M: Memory>(
     mem: &mut M,
     rows: &[(Row, Row)],
 ) -> Result<usize, Halt>
-    requires size { M.size mem.old ≡ 8 * store.now }
-    requires sized { IsPartLength (M.size mem.old) }
+    requires size { M.size mem.old ≡ 8 * store.now.lines }
     requires writable { IsTrue (M.writable mem.old) }
 {
-    store.format(mem)?;
+    opened(store, mem)?;
     answered(store, mem, rows)
 }
 
-/// A memory of 64 lines of words that say nothing.
-fn memory(alloc: Global) -> Result<VecMemory, AllocError>
-    ensures { IfOk result (λ m. length m.words.items ≡ 512) }
+/// A memory of so many lines of words that say nothing.
+fn memory(alloc: Global, lines: u64) -> Result<VecMemory, AllocError>
+    requires { lines ≤ 64 }
+    ensures { IfOk result (λ m. length m.words.items ≡ 8 * lines) }
 {
-    let words = vec![in alloc; u64::MAX; 512]?;
+    let words = vec![in alloc; u64::MAX; 8 * lines as usize]?;
     Ok(VecMemory::of(words, None))
 }
 
-/// How many rows are answered as told in 64 lines; `None` where an access was refused.
+/// How many rows are answered as told in 64 lines.
 fn answered_in_64_lines(alloc: Global, rows: &[(Row, Row)]) -> Result<Option<usize>, AllocError> {
-    let store = DocStore::of(64);
-    let mut mem = memory(alloc)?;
+    answered_in(alloc, 64, rows)
+}
+
+/// How many rows are answered as told in so many lines; `None` where an access was refused.
+fn answered_in(alloc: Global, lines: u64, rows: &[(Row, Row)]) -> Result<Option<usize>, AllocError>
+    requires some { 1 ≤ lines }
+    requires few { lines ≤ 64 }
+{
+    let store = DocStore::of(lines);
+    let mut mem = memory(alloc, lines)?;
     match answered_from_empty(&store, &mut mem, rows) {
         Ok(right) => Ok(Some(right)),
         Err(_) => Ok(None),
@@ -222,6 +257,25 @@ fn words_that_are_no_operation(rt: HostRuntime) -> Result<(), Fail> {
 #[test]
 fn all_lines_are_used(rt: HostRuntime) -> Result<(), Fail> {
     assert_eq!(rt; answered_in_64_lines(rt.alloc(), &FULL)?, Some(FULL.len()));
+    Ok(())
+}
+
+#[test]
+fn seven_lines_hold_two_short_pairs(rt: HostRuntime) -> Result<(), Fail> {
+    // a document of 56 bytes takes one line, and one of 57 bytes takes two
+    let one_line = "xxxxxxxxxxxxxxxxxxxxxxxxxxxxxxxxxxxxxxxxxxxxxxxxxxxxxxxx";
+    let two_lines = "xxxxxxxxxxxxxxxxxxxxxxxxxxxxxxxxxxxxxxxxxxxxxxxxxxxxxxxxx";
+    let rows: [(Row, Row); 8] = [
+        ((5, "", "", 0), (4, "", "", 0)),
+        ((1, "b", "1", 0), (1, "", "", 0)),
+        ((3, "a", "", 41), (6, "", "", 41)),
+        ((1, "c", "1", 0), (9, "", "", 0)),
+        ((1, "b", two_lines, 0), (9, "", "", 0)),
+        ((1, "b", one_line, 0), (2, "", "", 0)),
+        ((5, "a", "", 0), (10, "b", "", 0)),
+        ((6, "", "", 0), (11, "", "", 2)),
+    ];
+    assert_eq!(rt; answered_in(rt.alloc(), 7, &rows)?, Some(rows.len()));
     Ok(())
 }
 

@@ -1,47 +1,83 @@
 -- What is added to a script, line by line.
-use Rattle.std.proofs.Common.{◌≡◌, ℕ, zero, suc, ◌+◌, ◌-◌, ◌<◌, List, [], ◌∷◌, ◌++◌, length, take, drop, Option, Some, None, Result, Ok, Err, refl, sym, ap, ◌∙◌, arith, inl, inr}
-use Rattle.std.specs.Prelude.{option_and_then, IfOk, IfErr}
-use Rattle.std.proofs.lemmas.Bool.{cases_Bool, lt-ltb}
+use Rattle.std.proofs.Common.{◌≡◌, ℕ, zero, suc, ◌+◌, ◌-◌, ◌<◌, List, [], ◌∷◌, ◌++◌, length, take, drop, Option, Some, None, Result, Ok, Err, refl, sym, ap, ◌∙◌, arith, inl, inr, true}
+use Rattle.std.specs.Prelude.{option_and_then, IfOk, IfErr, slice_get}
+use Rattle.std.specs.Result.{result_ok}
+use Rattle.std.proofs.lemmas.Bool.{cases_Bool}
 use Rattle.std.proofs.lemmas.List.{append-nil, take-append-drop}
-use Rattle.doc_text.specs.Grammar.{is_passed_over, command_count, after_line, Adds, AddsAll, no_script, text_lines, AreLinesOf, IsScript, IsFirstFault, IsFault, IsOkOr}
-use Rattle.doc_text.specs.Reading.{line_of, with_line, with_lines}
-use Rattle.doc_text.specs.declared.grammar.Command.{Command}
-use Rattle.doc_text.specs.declared.grammar.Life.{Life}
+use Rattle.doc_text.specs.Grammar.{is_passed_over, is_built, with_said, Adds, AddsAll, no_script, text_lines, AreLinesOf, IsScript, IsFirstFault}
+use Rattle.doc_text.specs.Reading.{line_of, with_read, judged, with_line, with_lines}
+use Rattle.doc_text.specs.Refusal.{IsReason, IsReasonAt, IsFault, IsOkOr}
+use Rattle.doc_text.specs.declared.grammar.Reason.{Reason}
+use Rattle.doc_text.specs.declared.grammar.Reason.TheVariants as reasons
 use Rattle.doc_text.specs.declared.grammar.Script.{Script}
-use Rattle.doc_text.specs.declared.grammar.ScriptLine.TheVariants.{Request}
+use Rattle.doc_text.specs.declared.grammar.ScriptLine.{ScriptLine}
 use Rattle.doc_text.specs.declared.grammar.TextFault.{TextFault}
 use Rattle.doc_text.specs.declared.grammar.TextFault.TheVariants.{Refused, Memory}
-use Rattle.doc_text.proofs.Saying.{step_some, line_of_is, line_of-spelling, spelling-not_passed}
-
--- a command of a client that takes part, where there is room for it
-pub command_added : (lines : ℕ) (life : Life) (command : Command) → command.client < life.clients → length life.commands < 100000
-    → after_line (record { lines = lines; lives = life ∷ [] }) (Request command)
-    ≡ Some (record { lines = lines; lives = record life { commands = life.commands ++ command ∷ [] } ∷ [] })
-command_added lines life command takes_part room =
-    let counted : command_count (life ∷ []) < 100000 = omega arith in
-    rw (lt-ltb _ _ counted, lt-ltb _ _ takes_part) refl
+use Rattle.doc_text.proofs.Said.{step_some, accepted}
+use Rattle.doc_text.proofs.Again.{read_again, not_passed}
+use Rattle.doc_text.proofs.Why.{why}
 
 -- ---- one line more
 
+read_some : (before : Script) (r : Result ScriptLine Reason) (after : Script) → result_ok (with_read before r) ≡ Some after
+    → (says : ScriptLine) × (r ≡ Ok says) × (is_built before says ≡ true) × (after ≡ with_said before says)
+read_some before (Err reason) after e = absurd cc
+read_some before (Ok says) after e =
+    elim (cases_Bool (is_built before says)) [
+      | inl built ↦
+          let h : Some (with_said before says) ≡ Some after = rw built at e in
+          let same : with_said before says ≡ after = cc in
+          (says, refl, built, sym same)
+      | inr not_built ↦ let h : None ≡ Some after = rw not_built at e in absurd cc
+    ]
+
 pub Adds-from : (before : Script) (line : List ℕ) (after : Script) → with_line before line ≡ Some after → Adds before line after
-unfolding with_line
+unfolding judged
 Adds-from before line after e =
     elim (cases_Bool (is_passed_over line)) [
       | inl passed ↦
           let kept : Some before ≡ Some after = rw passed at e in
-          inl (passed, cc)
+          let same : before ≡ after = cc in
+          inl (passed, sym same)
       | inr said ↦
-          let read : option_and_then (after_line before) (line_of line) ≡ Some after = rw said at e in
-          let says = step_some (after_line before) (line_of line) after read in
-          let spelled = line_of_is line says.0 says.1 in
-          inr (says.0, spelled.0, spelled.1, says.2)
+          let read : result_ok (with_read before (line_of before line)) ≡ Some after = rw said at e in
+          let says = read_some before (line_of before line) after read in
+          inr (says.0, accepted before line says.0 says.1, says.2, says.3)
     ]
 
 pub with_line-from : (before : Script) (line : List ℕ) (after : Script) → Adds before line after → with_line before line ≡ Some after
-unfolding with_line
+unfolding judged
 with_line-from before line after (inl (passed, same)) = rw (passed, same) refl
-with_line-from before line after (inr (says, may, spelled, added)) =
-    rw (spelled, spelling-not_passed says may, line_of-spelling says may) added
+with_line-from before line after (inr (says, is, built, same)) =
+    rw (not_passed line says is.says_it, read_again before line says is, built, same) refl
+
+-- why a line is refused
+refused_read : (before : Script) (line : List ℕ) (r : Result ScriptLine Reason) (reason : Reason) → line_of before line ≡ r
+    → with_read before r ≡ Err reason → IsReason before line reason
+refused_read before line (Err found) reason read e =
+    let same : found ≡ reason = cc in
+    inr (
+      (λ says is. let both : Ok says ≡ Err found = sym (read_again before line says is) ∙ read in absurd cc),
+      why before line reason (read ∙ ap Err same),
+    )
+refused_read before line (Ok says) reason read e =
+    elim (cases_Bool (is_built before says)) [
+      | inl built ↦ let h : Ok (with_said before says) ≡ Err reason = rw built at e in absurd cc
+      | inr not_built ↦
+          let h : Err reasons.Form ≡ Err reason = rw not_built at e in
+          let same : reasons.Form ≡ reason = cc in
+          inl (sym same, (says, accepted before line says read, not_built))
+    ]
+
+pub refused_for : (before : Script) (line : List ℕ) (reason : Reason) → judged before line ≡ Err reason → IsReason before line reason
+unfolding judged
+refused_for before line reason e =
+    elim (cases_Bool (is_passed_over line)) [
+      | inl passed ↦ let h : Ok before ≡ Err reason = rw passed at e in absurd cc
+      | inr said ↦
+          let read : with_read before (line_of before line) ≡ Err reason = rw said at e in
+          refused_read before line (line_of before line) reason refl read
+    ]
 
 -- ---- several lines more
 
@@ -87,12 +123,13 @@ pub record Comes (lines : List (List ℕ)) (n : ℕ) (line : List ℕ) (rest : L
   pub within : n < length lines
   pub taken : take (n + 1) lines ≡ take n lines ++ line ∷ []
   pub left : drop (n + 1) lines ≡ rest
+  pub at : slice_get lines n ≡ Some line
 
 pub comes : (n : ℕ) (lines : List (List ℕ)) (line : List ℕ) (rest : List (List ℕ)) → drop n lines ≡ line ∷ rest → Comes lines n line rest
 comes zero [] line rest e = absurd cc
 comes zero (first ∷ lines) line rest e =
     let same : first ≡ line = cc in
-    record { within = omega arith; taken = ap (λ (l : List ℕ). l ∷ []) same; left = cc }
+    record { within = omega arith; taken = ap (λ (l : List ℕ). l ∷ []) same; left = cc; at = ap Some same }
 comes (suc n) [] line rest e = absurd cc
 comes (suc n) (first ∷ lines) line rest e =
     let later = comes n lines line rest e in
@@ -101,26 +138,38 @@ comes (suc n) (first ∷ lines) line rest e =
       within = let h = later.within in omega arith;
       taken = rw k (ap (λ (ls : List (List ℕ)). first ∷ ls) later.taken);
       left = rw k later.left;
+      at = later.at;
     }
 
 -- ---- the first line at fault
 
--- lines that were read, and one more that says nothing which may stand there
-pub fault : (text line : List ℕ) (rest : List (List ℕ)) (n : ℕ) (between : Script) → drop n (text_lines text) ≡ line ∷ rest
-    → with_lines no_script (take n (text_lines text)) ≡ Some between → with_line between line ≡ None → IsFirstFault text (n + 1)
-fault text line rest n between left read refused =
+-- lines that were read, and one more that is refused
+pub fault : (text line : List ℕ) (rest : List (List ℕ)) (n : ℕ) (between : Script) (reason : Reason) → drop n (text_lines text) ≡ line ∷ rest
+    → with_lines no_script (take n (text_lines text)) ≡ Some between → judged between line ≡ Err reason
+    → IsFirstFault text (n + 1) × IsReasonAt text (n + 1) reason
+fault text line rest n between reason left read refused =
     let next = comes n (text_lines text) line rest left in
     let one_less : n + 1 - 1 ≡ n = omega arith in
-    record {
-      some = omega arith;
-      there = let h = next.within in omega arith;
-      before = (between, rw one_less (AddsAll-from no_script (take n (text_lines text)) between read));
-      none = λ script are.
-          let all = with_lines-from no_script (take (n + 1) (text_lines text)) script are in
-          let one_more = with_lines-push no_script (take n (text_lines text)) line between read in
-          let made : Some script ≡ None = sym all ∙ ap (with_lines no_script) next.taken ∙ one_more ∙ refused in
-          absurd cc;
-    }
+    let are : AreLinesOf (take n (text_lines text)) between = AddsAll-from no_script (take n (text_lines text)) between read in (
+      record {
+        some = omega arith;
+        there = let h = next.within in omega arith;
+        before = (between, rw one_less are);
+        none = λ script are_more.
+            let all = with_lines-from no_script (take (n + 1) (text_lines text)) script are_more in
+            let one_more = with_lines-push no_script (take n (text_lines text)) line between read in
+            let none : with_line between line ≡ None = ap result_ok refused in
+            let made : Some script ≡ None = sym all ∙ ap (with_lines no_script) next.taken ∙ one_more ∙ none in
+            absurd cc;
+      },
+      record {
+        before = between;
+        are = rw one_less are;
+        this = line;
+        stands = rw one_less next.at;
+        because = refused_for between line reason refused;
+      },
+    )
 
 -- every front of a script's lines is the lines of a script
 pub front_of_script : (lines : List (List ℕ)) (n : ℕ) (script : Script) → AreLinesOf lines script → (front : Script) × AreLinesOf (take n lines) front
@@ -171,5 +220,5 @@ finished_only text read (Err Memory) e same memory script is = tt
 
 -- a text that is refused is no script's
 pub refused_only : (text : List ℕ) (error : TextFault) → IsFault text error → (script : Script) → IsScript text script → IsOkOr script (Err error)
-refused_only text (Refused line reason) first script is = fault_of_script text line script first is
+refused_only text (Refused line reason) first script is = fault_of_script text line script first.0 is
 refused_only text Memory first script is = tt

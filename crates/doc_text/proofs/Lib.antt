@@ -1,10 +1,15 @@
 pub mod Adding
+pub mod Again
 pub mod Cuts
 pub mod Decimals
+pub mod Documents
 pub mod JournalTexts
+pub mod Keys
 pub mod LifeTexts
 pub mod OwnOps
 pub mod ReadTexts
 pub mod Records
-pub mod Saying
+pub mod Said
+pub mod Spaces
+pub mod Why
 pub mod WithinLimits

@@ -1,118 +1,107 @@
 -- Each script keeps the limits.
-use Rattle.std.proofs.Common.{◌≡◌, refl, sym, ap, subst, ◌⊎◌, inl, inr, ℕ, suc, ◌+◌, ◌<◌, ◌≤◌, ◌^◌, Bool, true, false, cond, ◌&&◌, ◌==◌, List, [], ◌∷◌, ◌++◌, length, arith, Option, Some, None}
-use Rattle.std.specs.Prelude.{All, nat_lt}
-use Rattle.std.specs.Option.{option_map}
-use Rattle.std.proofs.lemmas.Bool.{eqb-true, ltb-true}
-use Rattle.std.proofs.lemmas.List.{length-append}
+use Rattle.std.proofs.Common.{◌≡◌, refl, sym, ap, subst, ◌⊎◌, inl, inr, ℕ, ◌+◌, ◌<◌, ◌≤◌, ◌^◌, true, eqb, List, [], ◌∷◌, ◌++◌, length, arith, Some}
+use Rattle.std.specs.Prelude.{All}
+use Rattle.std.proofs.lemmas.Bool.{and_parts, eqb-true, true≢false}
+use Rattle.std.proofs.lemmas.List.{length-append, nil_from_length}
 use Rattle.std.proofs.lemmas.List.Elements.{All-nil, All-cons, All-head, All-push}
 use Rattle.doc_text.specs.declared.grammar.Command.{Command}
 use Rattle.doc_text.specs.declared.grammar.Life.{Life}
 use Rattle.doc_text.specs.declared.grammar.Script.{Script}
 use Rattle.doc_text.specs.declared.grammar.ScriptLine.{ScriptLine}
-use Rattle.doc_text.specs.declared.grammar.ScriptLine.TheVariants.{Header, Start, Request}
-use Rattle.doc_text.specs.Grammar.{IsRead, MaySay, command_count, with_command, after_line, Adds, AddsAll, no_script, text_lines, IsScript}
-use Rattle.doc_text.specs.Limits.{IsOneClient, KeepsLimits}
+use Rattle.doc_text.specs.declared.grammar.ScriptLine.TheVariants.{Header, Start, Stop, Request}
+use Rattle.doc_text.specs.Grammar.{Says, MayStand, is_built, command_count, last_life, with_last, with_command, with_said, Adds, AddsAll, no_script, text_lines, IsScript}
+use Rattle.doc_text.specs.Limits.{HaveOps, KeepsLimits}
+
+-- a life of one client
+record IsAlone (life : Life) : Type 0 where
+  alone : life.clients ≡ 1
+  choice : life.choice < 2 ^ 64
+  own : All (λ c. c.client ≡ 0) life.commands
 
 -- what holds of the script of each front of the lines
 record IsWithin (script : Script) : Type 0 where
   lines : ((script.lines ≡ 0) × (length script.lives ≡ 0)) ⊎ ((64 ≤ script.lines) × (script.lines ≤ 16384))
   lives : length script.lives ≤ 1
-  clients : All IsOneClient script.lives
+  clients : All IsAlone script.lives
   commands : command_count script.lives ≤ 100000
 
--- a guarded value that is there
-guarded : {X : Type 0} (b : Bool) (x y : X) → cond b (Some x) None ≡ Some y → (b ≡ true) × (x ≡ y)
-guarded true x y e = (refl, cc)
-guarded false x y e = cc
+-- the lines of a script that has a header
+headed : (script : Script) → IsWithin script → 0 < script.lines → (64 ≤ script.lines) × (script.lines ≤ 16384)
+headed script within some = elim within.lines [ inl none ↦ absurd (omega (arith, none.0, some)) | inr known ↦ known ]
 
-both : (a b : Bool) → (a && b) ≡ true → (a ≡ true) × (b ≡ true)
-both true b e = (refl, e)
-both false b e = cc
-
--- with one more command
-command-within : (script after : Script) (command : Command) (fits : Bool) (lives : List Life) → lives ≡ script.lives → (fits ≡ true → command_count script.lives < 100000) → IsWithin script → MaySay (Request command)
-    → cond fits (option_map (λ others. record script { lives = others }) (with_command lives command)) None ≡ Some after → IsWithin after
-command-within script after command false lives same few within may e = cc
-command-within script after command true [] same few within may e = cc
-command-within script after command true (life ∷ next ∷ lives) same few within may e =
-    let long : suc (suc (length lives)) ≡ length script.lives = ap (length {A = Life}) same in absurd (omega (arith, within.lives, long))
-command-within script after command true (life ∷ []) same few within may e =
-    with_life (nat_lt command.client life.clients) e
-  where
-    with_life : (b : Bool) → option_map (λ others. record script { lives = others }) (cond b (Some (record life { commands = life.commands ++ command ∷ [] } ∷ [])) None) ≡ Some after → IsWithin after
-    with_life false h = cc
-    with_life true h =
-        let is : record script { lives = record life { commands = life.commands ++ command ∷ [] } ∷ [] } ≡ after = cc in
-        let one : IsOneClient life = All-head IsOneClient life [] (subst (All IsOneClient) (sym same) within.clients) in
-        let count : command_count (life ∷ []) ≡ command_count script.lives = ap command_count same in
-        let longer : length (life.commands ++ command ∷ []) ≡ length life.commands + 1 = length-append life.commands (command ∷ []) in
-        let lines : (64 ≤ script.lines) × (script.lines ≤ 16384) =
-        elim within.lines [
-          | inl none ↦ let empty : 1 ≡ length script.lives = ap (length {A = Life}) same in absurd (omega (arith, none.1, empty))
-          | inr some ↦ some
-        ] in
-        subst IsWithin is (record {
-          lines = inr lines;
-          lives = omega arith;
-          clients = All-cons IsOneClient (record life { commands = life.commands ++ command ∷ [] }) [] (record {
-            alone = one.alone;
-            choice = one.choice;
-            own = All-push (λ (c : Command). c.client ≡ 0) life.commands command one.own may.0;
-            read = All-push (λ (c : Command). IsRead c.op) life.commands command one.read may.1;
-          }) (All-nil IsOneClient);
-          commands = omega (arith, few refl, count, longer);
-        })
-
--- with one more line
-line-within : (script after : Script) (says : ScriptLine) → IsWithin script → MaySay says → after_line script says ≡ Some after → IsWithin after
-line-within script after (Header lines) within may e =
-    let parts : ((script.lines == 0) ≡ true) × (record script { lines = lines } ≡ after) = guarded (script.lines == 0) (record script { lines = lines }) after e in
-    subst IsWithin parts.1 (record {
-      lines = inr may;
-      lives = within.lives;
-      clients = within.clients;
-      commands = within.commands;
-    })
-line-within script after (Start clients choice) within may e =
+-- with a life begun
+start-within : (script : Script) (clients choice : ℕ) → IsWithin script → 0 < script.lines → choice < 2 ^ 64 → is_built script (Start clients choice) ≡ true
+    → IsWithin (with_said script (Start clients choice))
+start-within script clients choice within some fits built =
+    let tests = and_parts (eqb clients 1) (eqb (length script.lives) 0) built in
     let begun : Life = record { clients = clients; choice = choice; cuts = []; commands = [] } in
-    let parts : ((nat_lt 0 script.lines && (length script.lives == 0)) ≡ true) × (record script { lives = begun ∷ [] } ≡ after) =
-    guarded (nat_lt 0 script.lines && (length script.lives == 0)) (record script { lives = begun ∷ [] }) after e in
-    let tests : (nat_lt 0 script.lines ≡ true) × ((length script.lives == 0) ≡ true) = both (nat_lt 0 script.lines) (length script.lives == 0) parts.0 in
-    let some : 0 < script.lines = ltb-true 0 script.lines tests.0 in
-    subst IsWithin parts.1 (record {
-      lines = elim within.lines [ inl none ↦ absurd (omega (arith, none.0, some)) | inr known ↦ inr known ];
+    let none : script.lives ≡ [] = nil_from_length script.lives (eqb-true (length script.lives) 0 tests.1) in
+    subst (λ (lives : List Life). IsWithin (record script { lives = lives ++ begun ∷ [] })) (sym none) (record {
+      lines = inr (headed script within some);
       lives = omega arith;
-      clients = All-cons IsOneClient begun [] (record {
-        alone = may.0;
-        choice = may.1;
+      clients = All-cons IsAlone begun [] (record {
+        alone = eqb-true clients 1 tests.0;
+        choice = fits;
         own = All-nil (λ (c : Command). c.client ≡ 0);
-        read = All-nil (λ (c : Command). IsRead c.op);
-      }) (All-nil IsOneClient);
+      }) (All-nil IsAlone);
       commands = omega arith;
     })
-line-within script after (Request command) within may e =
-    command-within script after command (nat_lt (command_count script.lives) 100000) script.lives refl (ltb-true (command_count script.lives) 100000) within may e
+
+-- with one more command
+command-within : (script : Script) (command : Command) (lives : List Life) (last : Life) → lives ≡ script.lives → IsWithin script → 0 < script.lines
+    → last_life lives ≡ Some last → command.client < last.clients → command_count lives < 100000
+    → IsWithin (record script { lives = with_last (with_command command) lives })
+command-within script command [] last same within some is below few = absurd cc
+command-within script command (life ∷ next ∷ lives) last same within some is below few =
+    let long : length (life ∷ next ∷ lives) ≡ length script.lives = ap (length {A = Life}) same in absurd (omega (arith, within.lives, long))
+command-within script command (life ∷ []) last same within some is below few =
+    let one : life ≡ last = cc in
+    let alone : IsAlone life = All-head IsAlone life [] (subst (All IsAlone) (sym same) within.clients) in
+    let client : command.client < life.clients = subst (λ (l : Life). command.client < l.clients) (sym one) below in
+    let longer : length (life.commands ++ command ∷ []) ≡ length life.commands + 1 = length-append life.commands (command ∷ []) in
+    record {
+      lines = inr (headed script within some);
+      lives = omega arith;
+      clients = All-cons IsAlone (with_command command life) [] (record {
+        alone = alone.alone;
+        choice = alone.choice;
+        own = All-push (λ (c : Command). c.client ≡ 0) life.commands command alone.own (omega (arith, alone.alone, client));
+      }) (All-nil IsAlone);
+      commands = omega (arith, few, longer);
+    }
+
+-- with one more line
+said-within : (script : Script) (line : List ℕ) (says : ScriptLine) → IsWithin script → Says says line → MayStand script says → is_built script says ≡ true
+    → IsWithin (with_said script says)
+said-within script line (Header lines) within (spelled, least, most) stands built =
+    record { lines = inr (least, most); lives = within.lives; clients = within.clients; commands = within.commands }
+said-within script line (Start clients choice) within (spelled, least, most, fits) (some, few) built = start-within script clients choice within some fits built
+said-within script line (Stop cut) within says stands built = absurd (true≢false (sym built))
+said-within script line (Request command) within says (some, (life, last, below), few) built =
+    command-within script command script.lives life refl within some last below few
+
+line-within : (script : Script) (line : List ℕ) (after : Script) → IsWithin script → Adds script line after → IsWithin after
+line-within script line after within (inl (passed, same)) = subst IsWithin (sym same) within
+line-within script line after within (inr (says, is, built, same)) =
+    subst IsWithin (sym same) (said-within script line says within is.says_it is.stands built)
 
 lines-within : (lines : List (List ℕ)) (script after : Script) → IsWithin script → AddsAll script lines after → IsWithin after
 lines-within [] script after within adds = subst IsWithin (sym adds) within
-lines-within (line ∷ lines) script after within adds =
-    lines-within lines adds.0 after (one adds.1) adds.2
-  where
-    one : Adds script line adds.0 → IsWithin adds.0
-    one (inl passed) = subst IsWithin (sym passed.1) within
-    one (inr said) = line-within script adds.0 said.0 within said.1 said.3
+lines-within (line ∷ lines) script after within (between, one, more) = lines-within lines between after (line-within script line between within one) more
 
-pub limits-script : (text : List ℕ) (script : Script) → IsScript text script → KeepsLimits script
-limits-script text script is =
+pub limits-script : (text : List ℕ) (script : Script) → IsScript text script → HaveOps script → KeepsLimits script
+limits-script text script is ops =
     let within : IsWithin script = lines-within (text_lines text) no_script script (record {
       lines = inl (refl, refl);
       lives = omega arith;
-      clients = All-nil IsOneClient;
+      clients = All-nil IsAlone;
       commands = omega arith;
     }) is in
     record {
       lines = λ some. elim within.lines [ inl none ↦ absurd (omega (arith, none.1, some)) | inr known ↦ known ];
       lives = within.lives;
-      clients = within.clients;
+      clients = λ k d below.
+          let life = within.clients k d below in
+          record { alone = life.alone; choice = life.choice; own = life.own; ops = ops k d below };
       commands = within.commands;
     }

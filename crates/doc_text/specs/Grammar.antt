@@ -1,18 +1,19 @@
--- What a script is: the lines of a text, what a line says, and what lines say together.
-use Rattle.std.specs.Prelude.{◌≡◌, ◌⊎◌, ◌-◌, ◌^◌, ◌<◌, ◌≤◌, ℕ, Bool, true, false, ◌&&◌, ◌==◌, nat_lt, List, [], ◌∷◌, ◌++◌, length, take, sum_by, codes, Option, None, Some, IsSome, Result, Ok, Err, if◌then◌else◌}
-use Rattle.std.specs.Option.{option_map}
+-- What a script is: the lines of a text, what a line says, where it may stand, and what lines say together.
+use Rattle.std.specs.Prelude.{◌≡◌, ◌⊎◌, ◌-◌, ◌^◌, ◌<◌, ◌≤◌, ℕ, Bool, true, false, ◌&&◌, ◌==◌, List, [], ◌∷◌, ◌++◌, length, take, sum_by, codes, Option, None, Some, if◌then◌else◌}
+use Rattle.std.specs.List.{list_any}
 use Rattle.std.specs.Fmt.{decimal, signed_decimal}
+use Rattle.std.specs.Str.{is_utf8}
 use Rattle.cx_base.specs.Store.{IsKey}
-use Rattle.doc_model.specs.Number.{integer_of}
+use Rattle.doc_model.specs.Number.{is_i64}
 use Rattle.doc_model.specs.declared.operations.Op.{Op}
 use Rattle.doc_model.specs.declared.operations.Op.TheVariants.{Put, Del, Add, Get, Next, Count}
+use Rattle.doc_text.specs.Document.{IsJsonOf}
 use Rattle.doc_text.specs.declared.grammar.Command.{Command}
+use Rattle.doc_text.specs.declared.grammar.Cut.{Cut}
 pub use Rattle.doc_text.specs.declared.grammar.Life.{Life}
 pub use Rattle.doc_text.specs.declared.grammar.Script.{Script}
 use Rattle.doc_text.specs.declared.grammar.ScriptLine.{ScriptLine}
-use Rattle.doc_text.specs.declared.grammar.ScriptLine.TheVariants.{Header, Start, Request}
-use Rattle.doc_text.specs.declared.grammar.TextFault.{TextFault}
-use Rattle.doc_text.specs.declared.grammar.TextFault.TheVariants.{Refused, Memory}
+use Rattle.doc_text.specs.declared.grammar.ScriptLine.TheVariants.{Header, Start, Stop, Request}
 
 -- a byte at the front of the first line
 abbrev pub onto : ℕ → List (List ℕ) → List (List ℕ)
@@ -47,58 +48,90 @@ command_text (Next []) = codes "next"
 command_text (Next (b ∷ above)) = codes "next " ++ (b ∷ above)
 command_text Count = codes "count"
 
--- what is said, as a line
-abbrev pub spelling : ScriptLine → List ℕ
-spelling (Header lines) = codes "lines " ++ decimal lines
-spelling (Start clients choice) = codes "life " ++ decimal clients ++ codes " power " ++ decimal choice
-spelling (Request command) = decimal command.client ++ codes " " ++ command_text command.op
+-- a client asks for an operation by this text
+abbrev pub Asks : Op → List ℕ → Type 0
+Asks (Put key document) text = (json : List ℕ) × (text ≡ codes "put " ++ key ++ codes " " ++ json) × IsKey key × IsJsonOf json document
+Asks (Del key) text = (text ≡ command_text (Del key)) × IsKey key
+Asks (Add key amount) text = (text ≡ command_text (Add key amount)) × IsKey key × (is_i64 amount ≡ true)
+Asks (Get key) text = (text ≡ command_text (Get key)) × IsKey key
+Asks (Next []) text = text ≡ command_text (Next [])
+Asks (Next (b ∷ above)) text = (text ≡ command_text (Next (b ∷ above))) × IsKey (b ∷ above)
+Asks Count text = text ≡ command_text Count
 
--- the operations that are read: to put an integer, and to get
-abbrev pub IsRead : Op → Type 0
-IsRead (Put key document) = IsKey key × IsSome (integer_of document)
-IsRead (Get key) = IsKey key
-IsRead (Del key) = ⊥
-IsRead (Add key amount) = ⊥
-IsRead (Next above) = ⊥
-IsRead Count = ⊥
-
--- what may be said at all: 64 to 16,384 lines, one client, a choice of 64 bits
-abbrev pub MaySay : ScriptLine → Type 0
-MaySay (Header lines) = (64 ≤ lines) × (lines ≤ 16384)
-MaySay (Start clients choice) = (clients ≡ 1) × (choice < 2 ^ 64)
-MaySay (Request command) = (command.client ≡ 0) × IsRead command.op
+-- A line says this: `lines L`, `life N power C`, `cut K S`, or `K COMMAND`.
+abbrev pub Says : ScriptLine → List ℕ → Type 0
+Says (Header lines) line = (line ≡ codes "lines " ++ decimal lines) × (64 ≤ lines) × (lines ≤ 16384)
+Says (Start clients choice) line =
+    (line ≡ codes "life " ++ decimal clients ++ codes " power " ++ decimal choice) × (1 ≤ clients) × (clients ≤ 8) × (choice < 2 ^ 64)
+Says (Stop cut) line = (line ≡ codes "cut " ++ decimal cut.client ++ codes " " ++ decimal cut.steps) × (cut.client < 2 ^ 64) × (cut.steps < 2 ^ 64)
+Says (Request command) line =
+    (text : List ℕ) × (line ≡ decimal command.client ++ codes " " ++ text) × (command.client < 2 ^ 64) × Asks command.op text
 
 -- the commands of all lives
 abbrev pub command_count : List Life → ℕ
 command_count lives = sum_by (λ life. length life.commands) lives
 
--- the lives with one more command in the last, where there is a life and it has this client
-abbrev pub with_command : List Life → Command → Option (List Life)
-with_command [] command = None
-with_command (life ∷ []) command =
-    if nat_lt command.client life.clients
-    then Some (record life { commands = life.commands ++ command ∷ [] } ∷ [])
-    else None
-with_command (life ∷ next ∷ lives) command = option_map (λ others. life ∷ others) (with_command (next ∷ lives) command)
+-- the life that was begun last
+abbrev pub last_life : List Life → Option Life
+last_life [] = None
+last_life (life ∷ []) = Some life
+last_life (life ∷ next ∷ lives) = last_life (next ∷ lives)
 
--- The script after one more line that says this, where it may stand there: the header first and once, then one life,
--- then commands, 100,000 at the most.
-abbrev pub after_line : Script → ScriptLine → Option Script
-after_line script (Header lines) = if script.lines == 0 then Some (record script { lines = lines }) else None
-after_line script (Start clients choice) =
-    if nat_lt 0 script.lines && (length script.lives == 0)
-    then Some (record script { lives = record { clients = clients; choice = choice; cuts = []; commands = [] } ∷ [] })
-    else None
-after_line script (Request command) =
-    if nat_lt (command_count script.lives) 100000
-    then option_map (λ lives. record script { lives = lives }) (with_command script.lives command)
-    else None
+-- whether a client has a cut line
+abbrev pub has_cut : ℕ → List Cut → Bool
+has_cut client cuts = list_any (λ cut. cut.client == client) cuts
+
+-- Where a line may stand: the header first and once; then up to 1,000 lives; in a life the commands of its clients, up
+-- to 100,000 in all lives, and a cut line for each of its clients.
+abbrev pub MayStand : Script → ScriptLine → Type 0
+MayStand script (Header lines) = script.lines ≡ 0
+MayStand script (Start clients choice) = (0 < script.lines) × (length script.lives < 1000)
+MayStand script (Stop cut) =
+    (0 < script.lines)
+    × ((life : Life) × (last_life script.lives ≡ Some life) × (cut.client < life.clients) × (has_cut cut.client life.cuts ≡ false))
+MayStand script (Request command) =
+    (0 < script.lines)
+    × ((life : Life) × (last_life script.lives ≡ Some life) × (command.client < life.clients))
+    × (command_count script.lives < 100000)
+
+-- A line that is not passed over, of which the whole grammar says that it may stand behind these lines, and what it says.
+pub record IsAccepted (before : Script) (line : List ℕ) (says : ScriptLine) : Type 0 where
+  pub text : is_utf8 line ≡ true
+  pub says_it : Says says line
+  pub stands : MayStand before says
+
+-- The forms that are read today: one life, of one client, and no cut line.
+abbrev pub is_built : Script → ScriptLine → Bool
+is_built script (Header lines) = true
+is_built script (Start clients choice) = (clients == 1) && (length script.lives == 0)
+is_built script (Stop cut) = false
+is_built script (Request command) = true
+
+-- the lives with a change to the last
+abbrev pub with_last : (Life → Life) → List Life → List Life
+with_last change [] = []
+with_last change (life ∷ []) = change life ∷ []
+with_last change (life ∷ next ∷ lives) = life ∷ with_last change (next ∷ lives)
+
+abbrev pub with_cut : Cut → Life → Life
+with_cut cut life = record life { cuts = life.cuts ++ cut ∷ [] }
+
+abbrev pub with_command : Command → Life → Life
+with_command command life = record life { commands = life.commands ++ command ∷ [] }
+
+-- the script with what one more line says
+abbrev pub with_said : Script → ScriptLine → Script
+with_said script (Header lines) = record script { lines = lines }
+with_said script (Start clients choice) =
+    record script { lives = script.lives ++ record { clients = clients; choice = choice; cuts = []; commands = [] } ∷ [] }
+with_said script (Stop cut) = record script { lives = with_last (with_cut cut) script.lives }
+with_said script (Request command) = record script { lives = with_last (with_command command) script.lives }
 
 -- the script after one more line
 abbrev pub Adds : Script → List ℕ → Script → Type 0
 Adds before line after =
     ((is_passed_over line ≡ true) × (after ≡ before))
-    ⊎ ((says : ScriptLine) × MaySay says × (line ≡ spelling says) × (after_line before says ≡ Some after))
+    ⊎ ((says : ScriptLine) × IsAccepted before line says × (is_built before says ≡ true) × (after ≡ with_said before says))
 
 -- the script after more lines
 abbrev pub AddsAll : Script → List (List ℕ) → Script → Type 0
@@ -123,14 +156,3 @@ pub record IsFirstFault (text : List ℕ) (line : ℕ) : Type 0 where
   pub there : line ≤ length (text_lines text)
   pub before : (script : Script) × AreLinesOf (take (line - 1) (text_lines text)) script
   pub none : (script : Script) → AreLinesOf (take line (text_lines text)) script → ⊥
-
--- what is told of a text that was not read
-abbrev pub IsFault : List ℕ → TextFault → Type 0
-IsFault text (Refused line reason) = IsFirstFault text line
-IsFault text Memory = Unit {0}
-
--- this script was read, or memory was wanting
-abbrev pub IsOkOr : Script → Result Script TextFault → Type 0
-IsOkOr script (Ok read) = read ≡ script
-IsOkOr script (Err (Refused line reason)) = ⊥
-IsOkOr script (Err Memory) = Unit {0}

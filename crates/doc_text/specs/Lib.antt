@@ -1,9 +1,13 @@
+pub mod Document
 pub mod Grammar
 pub mod Index
 pub mod Limits
 pub mod Lives
 pub mod Reading
+pub mod Reasons
+pub mod Refusal
 pub mod Report
+pub mod Words
 pub use Rattle.doc_model.specs.Meaning
 pub use Rattle.doc_model.specs.Number
 pub use Rattle.doc_model.specs.Store

@@ -1,15 +1,29 @@
 -- The limits that each script that is read keeps.
-use Rattle.std.specs.Prelude.{◌≡◌, ◌<◌, ◌≤◌, ◌^◌, ℕ, length, All}
-use Rattle.doc_text.specs.Grammar.{IsRead, command_count}
+use Rattle.std.specs.Prelude.{◌≡◌, ◌<◌, ◌≤◌, ◌^◌, length, All}
+use Rattle.doc_model.specs.Meaning.{IsOp}
+use Rattle.doc_text.specs.Grammar.{command_count}
 use Rattle.doc_text.specs.declared.grammar.Life.{Life}
 use Rattle.doc_text.specs.declared.grammar.Script.{Script}
+use Rattle.doc_text.specs.declared.grammar.ScriptLine.{ScriptLine}
+use Rattle.doc_text.specs.declared.grammar.ScriptLine.TheVariants.{Header, Start, Stop, Request}
 
--- the life has one client, and each command is this client's and of a kind that is read
+-- the operation asked for has a key and a document within the limits
+abbrev pub HasOp : ScriptLine → Type 0
+HasOp (Header lines) = Unit {0}
+HasOp (Start clients choice) = Unit {0}
+HasOp (Stop cut) = Unit {0}
+HasOp (Request command) = IsOp command.op
+
+-- the same of all operations
+abbrev pub HaveOps : Script → Type 0
+HaveOps script = All (λ life. All (λ c. IsOp c.op) life.commands) script.lives
+
+-- the life has one client, and each command is this client's, with a key and a document within the limits
 pub record IsOneClient (life : Life) : Type 0 where
   pub alone : life.clients ≡ 1
   pub choice : life.choice < 2 ^ 64
   pub own : All (λ c. c.client ≡ 0) life.commands
-  pub read : All (λ c. IsRead c.op) life.commands
+  pub ops : All (λ c. IsOp c.op) life.commands
 
 -- one life at the most, 64 to 16,384 lines where there is a life, and 100,000 commands at the most
 pub record KeepsLimits (script : Script) : Type 0 where

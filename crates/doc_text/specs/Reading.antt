@@ -1,25 +1,31 @@
--- How a script is read: what a line says, and what lines say one after the other.
-use Rattle.std.specs.Prelude.{ℕ, Bool, ◌&&◌, ◌==◌, nat_le, nat_lt, List, [], ◌∷◌, length, take, drop, codes, Option, None, Some, is_some, option_and_then, if◌then◌else◌}
+-- How a script is read: what a line says or why it is refused, and what lines say one after the other.
+use Rattle.std.specs.Prelude.{ℕ, Bool, ◌&&◌, ◌==◌, nat_le, nat_lt, List, [], ◌∷◌, length, codes, Option, None, Some, is_some, option_and_then, Result, Ok, Err, if◌then◌else◌, ℤ}
 use Rattle.std.specs.Char.{is_ascii_graphic}
-use Rattle.std.specs.List.{list_all, before_first, after_first, position_or_len}
-use Rattle.std.specs.Option.{option_map}
-use Rattle.std.specs.Str.{bytes_eq}
+use Rattle.std.specs.List.{list_all, position_or_len}
+use Rattle.std.specs.Option.{option_map, ok_or}
+use Rattle.std.specs.Result.{result_ok}
+use Rattle.std.specs.Str.{is_utf8}
 use Rattle.doc_model.specs.Number.{number_of, integer_of}
 use Rattle.doc_model.specs.declared.operations.Op.{Op}
-use Rattle.doc_model.specs.declared.operations.Op.TheVariants.{Put, Get}
-use Rattle.doc_text.specs.Grammar.{is_passed_over, after_line}
-use Rattle.doc_text.specs.declared.grammar.Script.{Script}
+use Rattle.doc_model.specs.declared.operations.Op.TheVariants.{Put, Del, Add, Get, Next, Count}
+use Rattle.doc_text.specs.Document.{document_of}
+use Rattle.doc_text.specs.Grammar.{Life, Script, is_passed_over, command_count, last_life, has_cut, is_built, with_said}
+use Rattle.doc_text.specs.Words.{first_word, rest_of, is_word}
+use Rattle.doc_text.specs.declared.grammar.Cut.{Cut}
+use Rattle.doc_text.specs.declared.grammar.Reason.{Reason}
+use Rattle.doc_text.specs.declared.grammar.Reason.TheVariants as reasons
 use Rattle.doc_text.specs.declared.grammar.ScriptLine.{ScriptLine}
-use Rattle.doc_text.specs.declared.grammar.ScriptLine.TheVariants.{Header, Start, Request}
+use Rattle.doc_text.specs.declared.grammar.ScriptLine.TheVariants.{Header, Start, Stop, Request}
+use Rattle.doc_text.specs.declared.line.Verb.{Verb}
+use Rattle.doc_text.specs.declared.line.Verb.TheVariants as verbs
+
+-- ---- bytes
 
 -- the line without a carriage return at its end
 abbrev pub without_return : List ℕ → List ℕ
 without_return [] = []
 without_return (b ∷ []) = if b == 13 then [] else b ∷ []
 without_return (b ∷ c ∷ line) = b ∷ without_return (c ∷ line)
-
-abbrev pub begins_with : List ℕ → List ℕ → Bool
-begins_with front line = bytes_eq (take (length front) line) front
 
 -- whether a byte is this one
 abbrev pub is_byte : ℕ → ℕ → Bool
@@ -33,42 +39,158 @@ has p bytes = nat_lt (position_or_len p bytes) (length bytes)
 unfoldable pub is_key : List ℕ → Bool
 is_key key = nat_lt 0 (length key) && nat_le (length key) 64 && list_all is_ascii_graphic key
 
--- what a header says, from the number on
-unfoldable pub header_of : List ℕ → Option ScriptLine
-header_of text = option_and_then (λ lines. if nat_le 64 lines && nat_le lines 16384 then Some (Header lines) else None) (number_of text)
+-- ---- commands
 
--- what a life's first line says, from the choice on
+-- the command that a word names
+unfoldable pub verb_of : List ℕ → Option Verb
+verb_of word =
+    if is_word (codes "put") word then Some verbs.Put
+    else if is_word (codes "del") word then Some verbs.Del
+    else if is_word (codes "add") word then Some verbs.Add
+    else if is_word (codes "get") word then Some verbs.Get
+    else if is_word (codes "next") word then Some verbs.Next
+    else if is_word (codes "count") word then Some verbs.Count
+    else None
+
+-- what was read, under f
+abbrev pub then_ok : {A B : Type 0} → (A → B) → Result A Reason → Result B Reason
+then_ok f (Ok x) = Ok (f x)
+then_ok f (Err reason) = Err reason
+
+-- the key that is the only word left
+abbrev pub only_key : List ℕ → Result (List ℕ) Reason
+only_key text = if is_some (rest_of text) then Err reasons.Command else (if is_key text then Ok text else Err reasons.Key)
+
+-- what a put asks for: a key, and JSON to the end of the line
+abbrev pub put_with : List ℕ → Option (List ℕ) → Result Op Reason
+put_with key None = Err reasons.Command
+put_with key (Some json) = if is_key key then then_ok (Put key) (document_of json) else Err reasons.Key
+
+-- what an addition asks for: a key and an amount
+abbrev pub add_amount : List ℕ → Option ℤ → Result Op Reason
+add_amount key None = Err reasons.Number
+add_amount key (Some amount) = Ok (Add key amount)
+
+abbrev pub add_with : List ℕ → Option (List ℕ) → Result Op Reason
+add_with key None = Err reasons.Command
+add_with key (Some text) =
+    if is_some (rest_of text) then Err reasons.Command
+    else (if is_key key then add_amount key (integer_of text) else Err reasons.Key)
+
+-- what a command asks for, by its verb and what stands behind it
+abbrev pub op_with : Option Verb → Option (List ℕ) → Result Op Reason
+op_with None words = Err reasons.Command
+op_with (Some verbs.Put) None = Err reasons.Command
+op_with (Some verbs.Put) (Some text) = put_with (first_word text) (rest_of text)
+op_with (Some verbs.Del) None = Err reasons.Command
+op_with (Some verbs.Del) (Some text) = then_ok Del (only_key text)
+op_with (Some verbs.Add) None = Err reasons.Command
+op_with (Some verbs.Add) (Some text) = add_with (first_word text) (rest_of text)
+op_with (Some verbs.Get) None = Err reasons.Command
+op_with (Some verbs.Get) (Some text) = then_ok Get (only_key text)
+op_with (Some verbs.Next) None = Ok (Next [])
+op_with (Some verbs.Next) (Some text) = then_ok Next (only_key text)
+op_with (Some verbs.Count) None = Ok Count
+op_with (Some verbs.Count) (Some text) = Err reasons.Command
+
+-- what is asked for by the words behind the client
+abbrev pub op_of : Option (List ℕ) → Result Op Reason
+op_of None = Err reasons.Command
+op_of (Some text) = op_with (verb_of (first_word text)) (rest_of text)
+
+-- ---- the other lines
+
+-- the number, where it lies between two
+abbrev pub within : ℕ → ℕ → ℕ → Option ℕ
+within least most number = if nat_le least number && nat_le number most then Some number else None
+
+-- the number of lines that a header gives
+unfoldable pub header_of : List ℕ → Option ℕ
+header_of line =
+    if is_word (codes "lines") (first_word line)
+    then option_and_then (λ text. option_and_then (within 64 16384) (number_of text)) (rest_of line)
+    else None
+
+-- the choice at the end of a life's first line, with its word
+unfoldable pub choice_of : List ℕ → Option ℕ
+choice_of text = if is_word (codes "power") (first_word text) then option_and_then number_of (rest_of text) else None
+
+-- the life that begins, from the number of clients on
 unfoldable pub start_of : List ℕ → Option ScriptLine
-start_of text = option_map (λ choice. Start 1 choice) (number_of text)
+start_of text =
+    option_and_then (λ clients. option_map (λ choice. Start clients choice) (option_and_then choice_of (rest_of text)))
+    (option_and_then (within 1 8) (number_of (first_word text)))
 
-abbrev pub asks : Op → ScriptLine
-asks op = Request (record { client = 0; op = op })
+-- the life that begins with a line
+unfoldable pub life_of : List ℕ → Option ScriptLine
+life_of line = if is_word (codes "life") (first_word line) then option_and_then start_of (rest_of line) else None
 
--- what a put says, from the key on: the key, a space and the document
-unfoldable pub put_of : List ℕ → Option ScriptLine
-put_of text =
-    if has (is_byte 32) text && is_key (before_first (is_byte 32) text) && is_some (integer_of (after_first (is_byte 32) text))
-    then Some (asks (Put (before_first (is_byte 32) text) (after_first (is_byte 32) text)))
-    else None
+-- the client that a word names, of so many
+unfoldable pub client_of : ℕ → List ℕ → Option ℕ
+client_of clients word = option_and_then (λ client. if nat_lt client clients then Some client else None) (number_of word)
 
--- what a get says, from the key on
-unfoldable pub get_of : List ℕ → Option ScriptLine
-get_of text = if is_key text then Some (asks (Get text)) else None
+-- the cut of a client that has none, from the client on
+unfoldable pub cut_of : Life → List ℕ → Option Cut
+cut_of life text =
+    option_and_then (λ client. if has_cut client life.cuts then None
+    else option_map (λ steps. record { client = client; steps = steps }) (option_and_then number_of (rest_of text)))
+    (client_of life.clients (first_word text))
 
--- what a line says
-unfoldable pub line_of : List ℕ → Option ScriptLine
-line_of line =
-    if begins_with (codes "lines ") line then header_of (drop 6 line)
-    else if begins_with (codes "life 1 power ") line then start_of (drop 13 line)
-    else if begins_with (codes "0 put ") line then put_of (drop 6 line)
-    else if begins_with (codes "0 get ") line then get_of (drop 6 line)
-    else None
+-- ---- lines
+
+-- what a client's line says, where so many commands stand before it
+abbrev pub request_of : ℕ → Option ℕ → Option (List ℕ) → Result ScriptLine Reason
+request_of count None text = Err reasons.Client
+request_of count (Some client) text =
+    if nat_lt count 100000 then then_ok (λ op. Request (record { client = client; op = op })) (op_of text) else Err reasons.Commands
+
+-- what a line says that stands in a life and begins none, by its first word and the rest
+abbrev pub said_by : ℕ → Life → List ℕ → Option (List ℕ) → Result ScriptLine Reason
+said_by count life word rest =
+    if is_word (codes "cut") word then ok_or (option_map Stop (option_and_then (cut_of life) rest)) reasons.Cut
+    else request_of count (client_of life.clients word) rest
+
+abbrev pub said_in : ℕ → Option Life → List ℕ → Result ScriptLine Reason
+said_in count None line = Err reasons.Life
+said_in count (Some life) line = said_by count life (first_word line) (rest_of line)
+
+-- what a life's first line says, where so many lives stand before it
+abbrev pub begun : ℕ → Option ScriptLine → Result ScriptLine Reason
+begun count None = Err reasons.Life
+begun count (Some says) = if nat_lt count 1000 then Ok says else Err reasons.Lives
+
+-- what a line behind the header says
+abbrev pub said_below : List Life → List ℕ → Result ScriptLine Reason
+said_below lives line =
+    if is_word (codes "life") (first_word line) then begun (length lives) (life_of line)
+    else said_in (command_count lives) (last_life lives) line
+
+-- what a line says that is not passed over
+unfoldable pub line_of : Script → List ℕ → Result ScriptLine Reason
+line_of before line =
+    if is_utf8 line
+    then (if before.lines == 0 then ok_or (option_map Header (header_of line)) reasons.Header else said_below before.lives line)
+    else Err reasons.Utf8
+
+-- the script with what was said, where its form is read
+abbrev pub with_read : Script → Result ScriptLine Reason → Result Script Reason
+with_read before (Ok says) = if is_built before says then Ok (with_said before says) else Err reasons.Form
+with_read before (Err reason) = Err reason
+
+-- the script after one more line, or why the line is refused
+unfoldable pub judged : Script → List ℕ → Result Script Reason
+judged before line = if is_passed_over line then Ok before else with_read before (line_of before line)
 
 -- the script after one more line
-unfoldable pub with_line : Script → List ℕ → Option Script
-with_line before line = if is_passed_over line then Some before else option_and_then (after_line before) (line_of line)
+abbrev pub with_line : Script → List ℕ → Option Script
+with_line before line = result_ok (judged before line)
 
 -- the script after more lines
 unfoldable pub with_lines : Script → List (List ℕ) → Option Script
 with_lines before [] = Some before
 with_lines before (line ∷ lines) = option_and_then (λ between. with_lines between lines) (with_line before line)
+
+-- what is known after a line: the script with it, or why it is refused
+abbrev pub outcome : Option Reason → Script → Result Script Reason
+outcome None after = Ok after
+outcome (Some reason) after = Err reason

@@ -2,12 +2,15 @@
 //! definitions of what may happen: an interleaving, a legal life and legal lives.
 #![tactic(auto)]
 
+mod document;
 mod grammar;
 mod indexed_life;
 mod laws;
+mod line;
 mod lives;
 mod printing;
 mod reading;
+mod words;
 
 pub use grammar::{Command, Cut, Life, Reason, Script, ScriptLine, TextFault};
 pub use laws::different_lives_have_different_reports;

@@ -1,25 +1,19 @@
 //! Scripts read from their text.
 
-ghost use Rattle.std.specs.Prelude.{◌≡◌, ◌<◌, ◌&&◌, ◌∷◌, None, Some, IfOk, IfErr, IfNone, IfSome, true, false, length, option_and_then, if◌then◌else◌};
-ghost use Rattle.std.specs.Char.{is_ascii_graphic};
-ghost use Rattle.std.specs.List.{list_all, position, before_first, after_first};
-ghost use Rattle.doc_text.specs.Grammar.{Script, IsScript, IsFault, IsOkOr, text_lines, is_passed_over, after_line, no_script};
-ghost use Rattle.doc_text.specs.Limits.{KeepsLimits};
-ghost use Rattle.doc_text.specs.Reading.{has, is_byte, without_return, is_key, header_of, start_of, put_of, get_of, line_of, with_line, with_lines};
+ghost use Rattle.std.specs.Prelude.{◌≡◌, ◌<◌, ◌∷◌, None, Some, Ok, Err, true, IfOk, IfErr, IfSome, OnOk, IsUtf8, IsTrue, length, option_and_then};
+ghost use Rattle.std.specs.Option.{option_copied};
+ghost use Rattle.std.specs.Str.{is_utf8};
+ghost use Rattle.doc_text.specs.Grammar.{Script, IsScript, text_lines, is_built, with_said, no_script};
+ghost use Rattle.doc_text.specs.Limits.{HasOp, HaveOps, KeepsLimits};
+ghost use Rattle.doc_text.specs.Reading.{without_return, said_by, cut_of, line_of, judged, with_lines, outcome};
+ghost use Rattle.doc_text.specs.Refusal.{IsFault, IsOkOr};
 
-use crate::grammar::{Command, Life, Reason, Script, ScriptLine, TextFault};
-use cx_base::{Bytes, Items};
-use doc_model::{Op, integer_of, number_of};
+use crate::grammar::{Command, Cut, Life, Reason, Script, ScriptLine, TextFault};
+use crate::line::{read_client, read_cut, read_header, read_life, read_op};
+use crate::words::{cut_at, is_word, split_word};
+use cx_base::Items;
 use std::alloc::{AllocError, Global};
 use std::marker::Model;
-
-/// The fewest and the most lines that a store may have.
-const MIN_LINES: u64 = 64;
-
-const MAX_LINES: u64 = 16_384;
-
-/// The most bytes of a key.
-const MAX_KEY: usize = 64;
 
 /// The most commands of a script.
 const MAX_COMMANDS: usize = 100_000;
@@ -41,6 +35,7 @@ pub fn read_script(alloc: Global, bytes: &[u8]) -> Result<Script, TextFault>
 /// Adds line after line to the script of no lines.
 fn read_lines(alloc: Global, bytes: &[u8]) -> Result<Draft, TextFault>
     ensures script { IfOk result (λ draft. with_lines no_script (text_lines bytes.now) ≡ Some draft) }
+    ensures limits { IfOk result HaveOps }
     ensures refused { IfErr result (IsFault bytes.now) }
 {
     let mut draft = Draft {
@@ -52,10 +47,10 @@ fn read_lines(alloc: Global, bytes: &[u8]) -> Result<Draft, TextFault>
     while !rest.is_empty() {
         let (line, after) = next_line(rest);
         number += 1;
-        if !draft.add_line(alloc, line)? {
+        if let Some(reason) = draft.add_line(alloc, line)? {
             return Err(TextFault::Refused {
                 line: number,
-                reason: Reason::Form,
+                reason,
             });
         }
         rest = after;
@@ -82,27 +77,6 @@ fn without_return(line: &[u8]) -> &[u8]
     line.strip_suffix(b"\r").unwrap_or(line)
 }
 
-/// What stands before the first such byte, and what stands after it.
-fn cut_at(bytes: &[u8], byte: u8) -> Option<(&[u8], &[u8])>
-    ensures none { IfNone result (has (is_byte byte) bytes.now ≡ false) }
-    ensures some { IfSome result (λ parts. (has (is_byte byte) bytes.now ≡ true)
-        × (parts.0.now ≡ before_first (is_byte byte) bytes.now)
-        × (parts.1.now ≡ after_first (is_byte byte) bytes.now)) }
-{
-    match place_of(bytes, byte) {
-        Some(at) => Some((&bytes[..at], &bytes[at + 1..])),
-        None => None,
-    }
-}
-
-/// The place of the first such byte.
-fn place_of(bytes: &[u8], byte: u8) -> Option<usize>
-    ensures value { result ≡ position (is_byte byte) bytes.now }
-    ensures bound { IfSome result (λ at. at < length bytes.now) }
-{
-    bytes.iter().position(|b| *b == byte)
-}
-
 /// The script of the lines so far. It has one life at the most.
 #[derive(Drop)]
 struct Draft {
@@ -120,63 +94,93 @@ impl Model for Draft {
 }
 
 impl Draft {
-    /// Adds a line. False where the lines with this one are no script.
-    #[tactic(auto, unfolding(crate::specs::Reading::with_line))]
-    fn add_line(&mut self, alloc: Global, line: &[u8]) -> Result<bool, AllocError>
-        ensures { IfOk result (λ added. with_line self.old line.now ≡ (if added then Some self.new else None)) }
+    /// Adds a line, or gives the reason for which it is refused.
+    #[tactic(auto, unfolding(crate::specs::Reading::judged))]
+    fn add_line(&mut self, alloc: Global, line: &[u8]) -> Result<Option<Reason>, AllocError>
+        ensures value { IfOk result (λ refused. judged self.old line.now ≡ outcome refused self.new) }
+        ensures limits { OnOk result (HaveOps self.old → HaveOps self.new) }
     {
         if matches!(line, [] | [b'#', ..]) {
-            return Ok(true);
+            return Ok(None);
         }
-        match read_line(alloc, line)? {
-            Some(ScriptLine::Header(lines)) => Ok(self.add_header(lines)),
-            Some(ScriptLine::Start { clients, choice }) => Ok(self.add_life(
-                alloc, clients, choice,
-            )),
-            Some(ScriptLine::Request(command)) => self.add_command(command),
-            None => Ok(false),
-        }
-    }
-
-    /// Adds a header. False where it may not stand here.
-    fn add_header(&mut self, lines: u64) -> bool
-        ensures { after_line self.old (ScriptLine.Header lines) ≡ (if result then Some self.new else None) }
-    {
-        if self.lines != 0 {
-            return false;
-        }
-        self.lines = lines;
-        true
-    }
-
-    /// Begins a life. False where none may begin here.
-    fn add_life(&mut self, alloc: Global, clients: u32, choice: u64) -> bool
-        ensures { after_line self.old (ScriptLine.Start clients choice) ≡ (if result then Some self.new else None) }
-    {
-        if self.lines == 0 || self.life.is_some() {
-            return false;
-        }
-        self.life = Some(Life {
-            clients,
-            choice,
-            cuts: Items::new(alloc),
-            commands: Items::new(alloc),
-        });
-        true
-    }
-
-    /// Adds a command to the life. False where none has begun, or where it has no such client or no room.
-    fn add_command(&mut self, command: Command) -> Result<bool, AllocError>
-        ensures { IfOk result (λ added. after_line self.old (ScriptLine.Request command) ≡ (if added then Some self.new else None)) }
-    {
-        let Some(life) = self.life.as_mut() else {
-            return Ok(false);
+        let says = match self.read_line(alloc, line)? {
+            Ok(says) => says,
+            Err(reason) => return Ok(Some(reason)),
         };
-        if command.client >= life.clients || life.commands.as_slice().len() >= MAX_COMMANDS {
-            return Ok(false);
+        if !self.is_built(&says) {
+            return Ok(Some(Reason::Form));
         }
-        life.commands.push(command)?;
-        Ok(true)
+        self.add(alloc, says)?;
+        Ok(None)
+    }
+
+    /// What a line says that is not passed over, or why it is refused. `Err` is want of memory.
+    #[tactic(auto, unfolding(crate::specs::Reading::line_of))]
+    fn read_line(
+        &self,
+        alloc: Global,
+        line: &[u8],
+    ) -> Result<Result<ScriptLine, Reason>, AllocError>
+        ensures value { IfOk result (λ read. read ≡ line_of self.now line.now) }
+        ensures limits { IfOk result (λ read. IfOk read HasOp) }
+    {
+        if !is_text(line) {
+            return Ok(Err(Reason::Utf8));
+        }
+        if self.lines == 0 {
+            return Ok(match read_header(line) {
+                Some(lines) => Ok(ScriptLine::Header(lines)),
+                None => Err(Reason::Header),
+            });
+        }
+        let (word, rest) = split_word(line);
+        if is_word(b"life", word) {
+            return Ok(match read_life(line) {
+                Some(life) => Ok(life),
+                None => Err(Reason::Life),
+            });
+        }
+        let Some(life) = &self.life else {
+            return Ok(Err(Reason::Life));
+        };
+        read_in(alloc, life, word, rest)
+    }
+
+    /// Whether the form of a line is read already: one life of one client, and no cut line.
+    fn is_built(&self, says: &ScriptLine) -> bool
+        ensures { result ≡ is_built self.now says.now }
+    {
+        match says {
+            ScriptLine::Header(_) | ScriptLine::Request(_) => true,
+            ScriptLine::Start { clients, .. } => *clients == 1 && self.life.is_none(),
+            ScriptLine::Stop(_) => false,
+        }
+    }
+
+    /// Adds what a line says, of a form that is read. `Err` is want of memory.
+    fn add(&mut self, alloc: Global, says: ScriptLine) -> Result<(), AllocError>
+        requires { is_built self.old says ≡ true }
+        ensures value { OnOk result (self.new ≡ with_said self.old says) }
+        ensures limits { OnOk result (HasOp says → HaveOps self.old → HaveOps self.new) }
+    {
+        match says {
+            ScriptLine::Header(lines) => self.lines = lines,
+            ScriptLine::Start { clients, choice } => {
+                self.life = Some(Life {
+                    clients,
+                    choice,
+                    cuts: Items::new(alloc),
+                    commands: Items::new(alloc),
+                });
+            }
+            ScriptLine::Stop(_) => {}
+            ScriptLine::Request(command) => {
+                if let Some(life) = self.life.as_mut() {
+                    life.commands.push(command)?;
+                }
+            }
+        }
+        Ok(())
     }
 
     /// The script, once all lines are read. `Err` is want of memory.
@@ -193,93 +197,54 @@ impl Draft {
     }
 }
 
-/// What a line says. `Err` is want of memory.
-#[tactic(auto, unfolding(crate::specs::Reading::line_of))]
-fn read_line(alloc: Global, line: &[u8]) -> Result<Option<ScriptLine>, AllocError>
-    ensures { IfOk result (λ said. said ≡ line_of line.now) }
+/// What a line says that stands in a life and begins none, by its first word and the rest.
+fn read_in(
+    alloc: Global,
+    life: &Life,
+    word: &[u8],
+    rest: Option<&[u8]>,
+) -> Result<Result<ScriptLine, Reason>, AllocError>
+    requires { IfSome rest (λ text. IsUtf8 text.now) }
+    ensures limits { IfOk result (λ read. IfOk read HasOp) }
+    ensures value { IfOk result (λ read. read ≡ said_by (length life.now.commands) life.now word.now (option_copied rest.entry)) }
 {
-    if let Some(text) = line.strip_prefix(b"lines ") {
-        Ok(read_header(text))
-    } else if let Some(text) = line.strip_prefix(b"life 1 power ") {
-        Ok(read_start(text))
-    } else if let Some(text) = line.strip_prefix(b"0 put ") {
-        read_put(alloc, text)
-    } else if let Some(text) = line.strip_prefix(b"0 get ") {
-        read_get(alloc, text)
-    } else {
-        Ok(None)
+    if is_word(b"cut", word) {
+        return Ok(match read_stop(life, rest) {
+            Some(cut) => Ok(ScriptLine::Stop(cut)),
+            None => Err(Reason::Cut),
+        });
     }
-}
-
-/// What a header says, from the number on.
-#[tactic(auto, unfolding(crate::specs::Reading::header_of))]
-fn read_header(text: &[u8]) -> Option<ScriptLine>
-    ensures { result ≡ header_of text.now }
-{
-    let lines = number_of(text)?;
-    if (MIN_LINES..=MAX_LINES).contains(&lines) {
-        Some(ScriptLine::Header(lines))
-    } else {
-        None
-    }
-}
-
-/// What the first line of a life says, from the choice on. A life has one client.
-#[tactic(auto, unfolding(crate::specs::Reading::start_of))]
-fn read_start(text: &[u8]) -> Option<ScriptLine>
-    ensures { result ≡ start_of text.now }
-{
-    let choice = number_of(text)?;
-    Some(ScriptLine::Start { clients: 1, choice })
-}
-
-/// What a put says, from the key on. `Err` is want of memory.
-#[tactic(auto, unfolding(crate::specs::Reading::put_of))]
-fn read_put(alloc: Global, text: &[u8]) -> Result<Option<ScriptLine>, AllocError>
-    ensures { IfOk result (λ said. said ≡ put_of text.now) }
-{
-    let Some((key, doc)) = cut_at(text, b' ') else {
-        return Ok(None);
+    let Some(client) = read_client(life.clients, word) else {
+        return Ok(Err(Reason::Client));
     };
-    if !is_key(key) || integer_of(doc).is_none() {
-        return Ok(None);
+    if life.commands.as_slice().len() >= MAX_COMMANDS {
+        return Ok(Err(Reason::Commands));
     }
-    let key = Bytes::of(alloc, key)?;
-    let doc = Bytes::of(alloc, doc)?;
-    Ok(Some(asks(Op::Put { key, doc })))
+    Ok(match read_op(alloc, rest)? {
+        Ok(op) => Ok(ScriptLine::Request(Command { client, op })),
+        Err(reason) => Err(reason),
+    })
 }
 
-/// What a get says, from the key on. `Err` is want of memory.
-#[tactic(auto, unfolding(crate::specs::Reading::get_of))]
-fn read_get(alloc: Global, text: &[u8]) -> Result<Option<ScriptLine>, AllocError>
-    ensures { IfOk result (λ said. said ≡ get_of text.now) }
+/// The cut that stands behind the word `cut`.
+fn read_stop(life: &Life, rest: Option<&[u8]>) -> Option<Cut>
+    ensures { result ≡ option_and_then (cut_of life.now) (option_copied rest.entry) }
 {
-    if !is_key(text) {
-        return Ok(None);
+    match rest {
+        Some(text) => read_cut(life, text),
+        None => None,
     }
-    let key = Bytes::of(alloc, text)?;
-    Ok(Some(asks(Op::Get { key })))
 }
 
-/// The one client asks for an operation.
-fn asks(op: Op) -> ScriptLine
-    ensures { result ≡ ScriptLine.Request (record { client = 0; op = op }) }
+/// Whether the bytes are UTF-8.
+fn is_text(bytes: &[u8]) -> bool
+    ensures value { result ≡ is_utf8 bytes.now }
+    ensures some { IsTrue result → IsUtf8 bytes.now }
 {
-    ScriptLine::Request(Command { client: 0, op })
-}
-
-/// Whether the bytes are a key: 1 to 64 visible ASCII characters.
-#[tactic(auto, unfolding(crate::specs::Reading::is_key))]
-fn is_key(key: &[u8]) -> bool
-    ensures { result ≡ is_key key.now }
-{
-    !key.is_empty() && key.len() <= MAX_KEY && are_visible(key)
-}
-
-fn are_visible(bytes: &[u8]) -> bool
-    ensures { result ≡ list_all is_ascii_graphic bytes.now }
-{
-    bytes.iter().all(|b| b.is_ascii_graphic())
+    match simdutf8::basic::from_utf8(bytes) {
+        Ok(_) => true,
+        Err(_) => false,
+    }
 }
 
 #[cfg(test)]

@@ -1,8 +1,9 @@
 -- Words that stand for a store.
-use Rattle.std.proofs.Common.{◌≡◌, ◌<◌, ℕ, cond, ltb, leb, ◌&&◌, List, [], ◌∷◌, length, get_or, take, replicate, sym, ap, ◌∙◌, arith}
+use Rattle.std.proofs.Common.{◌≡◌, ◌<◌, ◌+◌, ◌++◌, ℕ, drop, set, refl, subst, cond, ltb, leb, ◌&&◌, List, [], ◌∷◌, length, get_or, take, replicate, sym, ap, ◌∙◌, arith}
 use Rattle.std.proofs.lemmas.Bool.Decides.{nat_tests}
-use Rattle.std.proofs.lemmas.List.{get_or-take}
+use Rattle.std.proofs.lemmas.List.{get_or-take, take-append-drop, take_more, take_more_set, drop-set-lt}
 use Rattle.std.proofs.lemmas.List.Elements.{All-nil}
+use Rattle.word_index.specs.Exact.{with_empty_header}
 use Rattle.word_index.specs.Layout.{IsPartLength, StandsFor}
 
 -- the header of no pairs
@@ -34,3 +35,30 @@ stands_empty ws version sized header =
         lawful = record { rising = tt; keys = All-nil _; documents = All-nil _ };
       };
     }
+
+-- so many words of the header are stored, and those behind the header are as they were
+pub record EmptySoFar (version at : ℕ) (before now : List ℕ) : Type 0 where
+  pub front : take at now ≡ take at (version ∷ 0 ∷ 0 ∷ 1 ∷ replicate 4 0)
+  pub behind : drop 8 now ≡ drop 8 before
+
+pub empty_begins : (version : ℕ) (x y : List ℕ) → x ≡ y → EmptySoFar version 0 x y
+empty_begins version x y e = record { front = refl; behind = ap (drop 8) (sym e) }
+
+pub empty_more : (version at v : ℕ) (x y : List ℕ) → at < 8 → IsPartLength (length y) → v ≡ get_or (version ∷ 0 ∷ 0 ∷ 1 ∷ replicate 4 0) at 0 → EmptySoFar version at x y → EmptySoFar version (at + 1) x (set y at v)
+empty_more version at v x y below sized is so =
+    let front : List ℕ = version ∷ 0 ∷ 0 ∷ 1 ∷ replicate 4 0 in
+    record {
+      front = take_more_set y at v (let some = sized.some in omega arith) ∙ ap (λ s. s ++ v ∷ []) so.front ∙ ap (λ w. take at front ++ w ∷ []) is ∙ sym (take_more front at 0 below);
+      behind = drop-set-lt 8 y at v below ∙ so.behind;
+    }
+
+-- the whole header
+whole_header : (version at : ℕ) (x y : List ℕ) → at ≡ 8 → EmptySoFar version at x y → take 8 y ≡ version ∷ 0 ∷ 0 ∷ 1 ∷ replicate 4 0
+whole_header version at x y e so = subst (λ n. take n y ≡ take n (version ∷ 0 ∷ 0 ∷ 1 ∷ replicate 4 0)) e so.front
+
+pub empty_stands : (version at : ℕ) (x y : List ℕ) → at ≡ 8 → IsPartLength (length y) → EmptySoFar version at x y → StandsFor y version []
+empty_stands version at x y e sized so = stands_empty y version sized (whole_header version at x y e so)
+
+pub empty_done : (version at : ℕ) (x y : List ℕ) → at ≡ 8 → EmptySoFar version at x y → y ≡ with_empty_header version x
+unfolding with_empty_header
+empty_done version at x y e so = sym (take-append-drop 8 y) ∙ ap (λ s. s ++ drop 8 y) (whole_header version at x y e so) ∙ ap (λ s. (version ∷ 0 ∷ 0 ∷ 1 ∷ replicate 4 0) ++ s) so.behind

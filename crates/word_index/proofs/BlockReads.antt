@@ -36,7 +36,7 @@ ReadSoFar first count i line into ws = (lines bytes : List ℕ) → Holds ws fir
 word_within : (i count bytes lines : ℕ) → i < count → count ≡ (bytes + 7) / 8 → lines ≡ (bytes + 55) / 56 → i < 7 * lines
 word_within i count bytes lines l c e = omega arith
 
-line_within : (i lines : ℕ) → i < 7 * lines → i / 7 < lines
+pub line_within : (i lines : ℕ) → i < 7 * lines → i / 7 < lines
 line_within i lines l = omega arith
 
 pub next_within : (ws : List ℕ) (first count i line : ℕ) (into : List ℕ) → i < count → HasWords ws first count → ReadSoFar first count i line into ws → IsWithin ws line
@@ -50,7 +50,7 @@ pub read_none : (ws : List ℕ) (first count : ℕ) (into : List ℕ) → ReadSo
 read_none ws first count into lines bytes h c = record { at = chain_first ws lines first h.chain; front = λ k l. absurd (omega arith) }
 
 -- the place of the next word, on the same line or on the next
-next_line : (ws lines : List ℕ) (first i line next : ℕ) → IsChain ws first lines → i < 7 * length lines → line ≡ get_or lines (i / 7) 0 →
+pub next_line : (ws lines : List ℕ) (first i line next : ℕ) → IsChain ws first lines → i < 7 * length lines → line ≡ get_or lines (i / 7) 0 →
     (i % 7 ≡ 6 → word_of ws line 0 ≡ next) → (i % 7 ≢ 6 → next ≡ line) → (i % 7 ≡ 6) ⊎ (i % 7 ≢ 6) → next ≡ get_or lines ((i + 1) / 7) 0
 next_line ws lines first i line next c l at last other (inl h) =
     let place : i / 7 + 1 ≡ (i + 1) / 7 = omega arith in

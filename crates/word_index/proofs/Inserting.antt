@@ -1,5 +1,5 @@
 -- What an insertion does to the store.
-use Rattle.std.proofs.Common.{◌≡◌, ◌+◌, ◌-◌, ◌*◌, ◌/◌, ◌<◌, ◌≤◌, ℕ, Bool, true, false, leb, List, [], ◌∷◌, ◌++◌, length, Some, is_some, refl, sym, ap, subst, ◌∙◌, arith}
+use Rattle.std.proofs.Common.{◌≡◌, ◌^◌, ◌+◌, ◌-◌, ◌*◌, ◌/◌, ◌<◌, ◌≤◌, ℕ, Bool, true, false, leb, List, [], ◌∷◌, ◌++◌, length, Some, is_some, refl, sym, ap, subst, ◌∙◌, arith}
 use Rattle.std.proofs.lemmas.Bool.Decides.{nat_tests}
 use Rattle.cx_base.specs.Store.{Store, IsKey, IsDocument, pair_lines, lines_of}
 use Rattle.doc_model.specs.Meaning.{document_at, pairs_below, pairs_above, with_pair, without_key, has_room}
@@ -88,7 +88,7 @@ pub old_below : (key : List ℕ) (before node : ℕ) (same : Bool) (used old n :
 old_below key before node same used old n ws k i =
     omega (arith, k.in_use i.version i.store i.stands, k.here key k.spot i.version i.store i.stands)
 
-pub used_few : (key : List ℕ) (before node : ℕ) (same : Bool) (used old n : ℕ) (ws : List ℕ) → IsKnown key before node same used old n ws → IsIndex ws → used ≤ 16384
+pub used_few : (key : List ℕ) (before node : ℕ) (same : Bool) (used old n : ℕ) (ws : List ℕ) → IsKnown key before node same used old n ws → IsIndex ws → used ≤ 2 ^ 32
 used_few key before node same used old n ws k i =
     let s = i.stands in
     let a = s.arranged in

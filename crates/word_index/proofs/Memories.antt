@@ -1,8 +1,8 @@
 -- What is known of a memory's words, over loads and stores.
-use Rattle.std.proofs.Common.{◌≡◌, ◌+◌, ◌*◌, ◌≤◌, ◌<◌, ℕ, List, length, slice_index, Result, Ok, Err, IfOk, refl, subst}
+use Rattle.std.proofs.Common.{◌≡◌, ◌+◌, ◌*◌, ◌≤◌, ◌<◌, ℕ, List, length, slice_index, Result, Ok, Err, IfOk, OnErr, refl, ◌∙◌, subst}
 use Rattle.std.proofs.Math.Logic.{∥∥₁_elim}
 use Rattle.std.proofs.Math.Bridge.{le_prop}
-use Rattle.cx_base.specs.Memory.{Words, Loaded, Becomes, Always}
+use Rattle.cx_base.specs.Memory.{Words, Same, Loaded, Becomes, Always}
 use Rattle.word_index.specs.Access.{Reads}
 use Rattle.word_index.specs.Blocks.{IsWithin}
 
@@ -47,6 +47,17 @@ module _ {Key : Type 0} where
 
 pub always_with : {Key : Type 0} {old new : Key → List ℕ → Type 0} {P Q : List ℕ → Type 0} → Always old P → Reads old new Q → Always new (λ ws. P ws × Q ws)
 always_with all r first now s = (let p = r.from first now s in (all first now p.0, p.1))
+
+-- nothing stored, twice
+pub kept_then : {Key : Type 0} {old mid new : Key → List ℕ → Type 0} → Becomes old mid ◌≡◌ → Becomes mid new ◌≡◌ → Becomes old new ◌≡◌
+kept_then b d = record { from = λ first now s. (let q = d.from first now s in let p = b.from first q.0 q.1 in (p.0, p.1, p.2 ∙ q.2)) }
+
+pub kept_loading : {Key : Type 0} {E : Type 0} {old new : Key → List ℕ → Type 0} (r : Result ℕ E) (at : ℕ) → OnErr r (Same old new) → IfOk r (λ v. Loaded at v old new) → Becomes old new ◌≡◌
+kept_loading (Ok v) at e l = record { from = λ first now s. (now, (l.back first now s).0, refl) }
+kept_loading (Err x) at e l = record { from = λ first now s. (now, e.back first now s, refl) }
+
+pub Reads-with : {Key : Type 0} {old new : Key → List ℕ → Type 0} {P Q : List ℕ → Type 0} → Always old P → Reads old new Q → Reads old new (λ ws. P ws × Q ws)
+Reads-with all r = record { from = λ first now s. (let p = r.from first now s in (p.0, (all first now p.0, p.1))) }
 
 module _ {Key : Type 0} where
   -- changes, and what is read behind them

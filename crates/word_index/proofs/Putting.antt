@@ -1,5 +1,5 @@
 -- A pair is put into a gap among the nodes.
-use Rattle.std.proofs.Common.{◌≡◌, ◌≢◌, ◌+◌, ◌*◌, ◌/◌, ◌%◌, ◌<◌, ◌≤◌, ℕ, min, cond, eqb, leb, ltb, ◌&&◌, List, [], ◌∷◌, ◌++◌, length, get_or, refl, sym, ap, subst, ◌∙◌, inl, inr, zero-add, arith, length-append}
+use Rattle.std.proofs.Common.{◌≡◌, ◌^◌, ◌≢◌, ◌+◌, ◌*◌, ◌/◌, ◌%◌, ◌<◌, ◌≤◌, ℕ, min, cond, eqb, leb, ltb, ◌&&◌, List, [], ◌∷◌, ◌++◌, length, get_or, refl, sym, ap, subst, ◌∙◌, inl, inr, zero-add, arith, length-append}
 use Rattle.std.specs.List.{flat_map, All}
 use Rattle.std.specs.Int.{div_ceil}
 use Rattle.std.proofs.lemmas.Bool.{cases_lt}
@@ -178,7 +178,7 @@ pairs_of_lines : (store : Store) → length store ≤ lines_of store
 pairs_of_lines [] = omega arith
 pairs_of_lines (q ∷ store) = omega (arith, pairs_of_lines store, sum_by-cons pair_lines q store)
 
-pub few_pairs : (ws : List ℕ) (version : ℕ) (store : Store) (places : List Place) (given loose : List ℕ) → Arranged ws version store places given loose → word_of ws 0 5 ≤ 16384
+pub few_pairs : (ws : List ℕ) (version : ℕ) (store : Store) (places : List Place) (given loose : List ℕ) → Arranged ws version store places given loose → word_of ws 0 5 ≤ 2 ^ 32
 few_pairs ws version store places given loose a =
     omega (arith, pairs_of_lines store, lines_of_places ws (word_of ws 0 1) 0 places store a.nodes, all_lines ws version store places given loose a, a.pair_count, a.end_to, a.sized.few)
 
@@ -198,10 +198,10 @@ link_inside ws before node c =
     let b = c.beside in
     subst (IsWithin ws) (sym b.last) (link_within ws c.version c.lower c.others c.pair c.front c.rest b.place b.given b.next (word_of ws 0 5) b.arranged b.up_to b.onward b.is b.next_is refl b.lawful)
 
-pub link_few : (ws : List ℕ) (before node n : ℕ) → CanLink ws before node → word_of ws 0 5 ≡ n → n ≤ 16384
+pub link_few : (ws : List ℕ) (before node n : ℕ) → CanLink ws before node → word_of ws 0 5 ≡ n → n ≤ 2 ^ 32
 link_few ws before node n c e =
     let b = c.beside in
-    subst (λ x. x ≤ 16384) e (few_pairs ws c.version (c.lower ++ c.others) (c.front ++ c.rest) b.given (lines_at b.place) b.arranged)
+    subst (λ x. x ≤ 2 ^ 32) e (few_pairs ws c.version (c.lower ++ c.others) (c.front ++ c.rest) b.given (lines_at b.place) b.arranged)
 
 -- room for what comes next
 pub room_less : (ws : List ℕ) (more less : ℕ) → less ≤ more → CanTake ws more → CanTake ws less

@@ -1,5 +1,5 @@
 -- Lines are taken from the given-back ones, or from those never given.
-use Rattle.std.proofs.Common.{◌≡◌, ◌≢◌, ◌+◌, ◌-◌, ◌/◌, ◌<◌, ◌≤◌, ℕ, cond, eqb, leb, ltb, ◌&&◌, List, [], ◌∷◌, ◌++◌, length, get_or, sym, ap, subst, ◌∙◌, arith}
+use Rattle.std.proofs.Common.{◌≡◌, ◌^◌, ◌≢◌, ◌+◌, ◌-◌, ◌/◌, ◌<◌, ◌≤◌, ℕ, cond, eqb, leb, ltb, ◌&&◌, List, [], ◌∷◌, ◌++◌, length, get_or, sym, ap, subst, ◌∙◌, arith}
 use Rattle.std.specs.List.{flat_map, All}
 use Rattle.std.proofs.lemmas.Bool.Decides.{nat_tests}
 use Rattle.std.proofs.lemmas.List.{get_or-set_same, get_or-set_other, length-set}
@@ -7,7 +7,7 @@ use Rattle.std.proofs.lemmas.List.Elements.{All-head, All-tail, All-weaker}
 use Rattle.cx_base.specs.Store.{Store}
 use Rattle.word_index.specs.Blocks.{IsWithin}
 use Rattle.word_index.specs.Changes.{SameLine, with_word}
-use Rattle.word_index.specs.Fresh.{HasRoom, CanTake, IsTaken}
+use Rattle.word_index.specs.Fresh.{HasRoom, CanTake, IsTaken, LineTaken}
 use Rattle.word_index.specs.Layout.{word_of, IsChain, Place, lines_at, Nodes, Arranged, IsPartLength}
 use Rattle.word_index.proofs.Frames.{times, times_append, times_cons, stored_elsewhere, same_then, chain_same, nodes_same}
 use Rattle.word_index.proofs.Giving.{moved_line}
@@ -106,7 +106,7 @@ given_taken x version store places (g ∷ given) loose head a some is =
     })
 
 -- what taking needs to know
-pub end_small : (x : List ℕ) (more : ℕ) → CanTake x more → word_of x 0 3 ≤ 16384
+pub end_small : (x : List ℕ) (more : ℕ) → CanTake x more → word_of x 0 3 ≤ 2 ^ 32
 end_small x more c = omega (arith, c.arranged.end_to, c.arranged.sized.few)
 
 head_known : (x : List ℕ) (version : ℕ) (store : Store) (places : List Place) (given loose : List ℕ) (head : ℕ) → Arranged x version store places given loose → (head ≡ 0 → ⊥) → word_of x 0 2 ≡ head →
@@ -118,3 +118,17 @@ head_known x version store places (g ∷ given) loose head a some is =
 
 pub head_there : (x : List ℕ) (head more : ℕ) → CanTake x more → (head ≡ 0 → ⊥) → word_of x 0 2 ≡ head → IsWithin x head × (1 ≤ word_of x 0 4)
 head_there x head more c some is = head_known x c.version c.store c.places c.given c.loose head c.arranged some is
+
+-- from the words before
+pub new_line : (x y z : List ℕ) (head line : ℕ) → y ≡ x → word_of y 0 2 ≡ head → head ≡ 0 → (word_of y 0 3 ≡ line) × (z ≡ with_word 0 3 (line + 1) y) → LineTaken line x z
+new_line x y z head line e is none r version store places given loose a room =
+    let last : word_of x 0 3 ≡ line = subst (λ w. word_of w 0 3 ≡ line) e r.0 in
+    let first : word_of x 0 2 ≡ 0 = subst (λ w. word_of w 0 2 ≡ 0) e (subst (λ n. word_of y 0 2 ≡ n) none is) in
+    let now : z ≡ with_word 0 3 (line + 1) x = subst (λ w. z ≡ with_word 0 3 (line + 1) w) e r.1 in
+    subst (λ w. IsTaken x w version store places (line ∷ []) loose) (sym now) (new_taken x version store places given loose line a room first last)
+
+pub given_line : (x y z : List ℕ) (head : ℕ) → y ≡ x → word_of y 0 2 ≡ head → (head ≡ 0 → ⊥) → z ≡ with_word 0 4 (word_of y 0 4 - 1) (with_word 0 2 (word_of y head 0) y) → LineTaken head x z
+given_line x y z head e is some r version store places given loose a room =
+    let first : word_of x 0 2 ≡ head = subst (λ w. word_of w 0 2 ≡ head) e is in
+    let now = subst (λ w. z ≡ with_word 0 4 (word_of w 0 4 - 1) (with_word 0 2 (word_of w head 0) w)) e r in
+    subst (λ w. IsTaken x w version store places (head ∷ []) loose) (sym now) (given_taken x version store places given loose head a some first)

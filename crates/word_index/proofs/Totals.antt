@@ -1,5 +1,5 @@
 -- How many lines there are.
-use Rattle.std.proofs.Common.{◌≡◌, ◌≢◌, ◌+◌, ◌<◌, ◌≤◌, ℕ, zero, suc, cond, eqb, leb, ltb, ◌&&◌, List, [], ◌∷◌, ◌++◌, length, length-append, refl, inl, inr, arith}
+use Rattle.std.proofs.Common.{◌≡◌, ◌^◌, ◌≢◌, ◌+◌, ◌<◌, ◌≤◌, ℕ, zero, suc, cond, eqb, leb, ltb, ◌&&◌, List, [], ◌∷◌, ◌++◌, length, length-append, refl, inl, inr, arith}
 use Rattle.std.specs.List.{flat_map, All}
 use Rattle.std.proofs.lemmas.Bool.{cases_eq}
 use Rattle.std.proofs.lemmas.Bool.Decides.{nat_tests}
@@ -24,7 +24,7 @@ unfolding sum_below
 sum_plus zero f g = refl
 sum_plus (suc n) f g = omega (arith, sum_plus n f g)
 
-not_same : (l n : ℕ) → l ≢ n → ◌≡◌ {A = ℕ} (cond (eqb l n) 1 0) 0
+pub not_same : (l n : ℕ) → l ≢ n → ◌≡◌ {A = ℕ} (cond (eqb l n) 1 0) 0
 not_same l n ne = grind (arith, nat_tests)
 
 is_same : (l n : ℕ) → l ≡ n → ◌≡◌ {A = ℕ} (cond (eqb l n) 1 0) 1
@@ -86,5 +86,5 @@ all_lines ws version store places given loose a =
     let total = lines_total (word_of ws 0 3) (used ++ given ++ loose) a.end_from below a.once in
     omega (arith, total, length-append (used ++ given) loose, length-append used given)
 
-pub few_given : (ws : List ℕ) (version : ℕ) (store : Store) (places : List Place) (given loose : List ℕ) → Arranged ws version store places given loose → word_of ws 0 4 ≤ 16384
+pub few_given : (ws : List ℕ) (version : ℕ) (store : Store) (places : List Place) (given loose : List ℕ) → Arranged ws version store places given loose → word_of ws 0 4 ≤ 2 ^ 32
 few_given ws version store places given loose a = omega (arith, all_lines ws version store places given loose a, a.given_count, a.end_to, a.sized.few)

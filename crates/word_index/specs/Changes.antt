@@ -1,5 +1,5 @@
 -- What a change of words leaves and does.
-use Rattle.std.specs.Prelude.{◌≡◌, ◌+◌, ◌*◌, ◌<◌, ◌≤◌, ℕ, List, ◌++◌, ◌∷◌, [], length, slice_set, All, Bool, is_some}
+use Rattle.std.specs.Prelude.{◌≡◌, ◌^◌, ◌+◌, ◌*◌, ◌<◌, ◌≤◌, ℕ, List, ◌++◌, ◌∷◌, [], length, slice_set, All, Bool, is_some}
 use Rattle.cx_base.specs.Store.{Store}
 use Rattle.word_index.specs.Blocks.{IsWithin, IsText}
 use Rattle.word_index.specs.Layout.{word_of, IsChain, Place, lines_at, IsAt, Nodes, Arranged, StandsFor}
@@ -21,7 +21,7 @@ with_given line words = with_word 0 4 (word_of words 0 4 + 1) (with_word 0 2 lin
 -- the line can be given back
 pub record CanGive (words : List ℕ) (line : ℕ) : Type 0 where
   pub there : IsWithin words line
-  pub few : word_of words 0 4 ≤ 16384
+  pub few : word_of words 0 4 ≤ 2 ^ 32
 
 -- the first lines of a chain are loose, and so are others
 pub record IsLoose (words : List ℕ) (version : ℕ) (store : Store) (places : List Place) (lines others : List ℕ) : Type 0 where

@@ -1,6 +1,6 @@
 -- How words stand for a store: a header, a chain of nodes, chains of blocks, and a chain of given-back lines.
 -- A line is 8 words; line 0 is the header, and a word that names no line is 0.
-use Rattle.std.specs.Prelude.{◌≡◌, ◌+◌, ◌*◌, ◌/◌, ◌%◌, ◌<◌, ◌≤◌, ◌==◌, ◌&&◌, nat_le, nat_lt, ℕ, List, [], ◌∷◌, ◌++◌, length, slice_index, count_by, if◌then◌else◌}
+use Rattle.std.specs.Prelude.{◌≡◌, ◌^◌, ◌+◌, ◌*◌, ◌/◌, ◌%◌, ◌<◌, ◌≤◌, ◌==◌, ◌&&◌, nat_le, nat_lt, ℕ, List, [], ◌∷◌, ◌++◌, length, slice_index, count_by, if◌then◌else◌}
 use Rattle.std.specs.List.{flat_map}
 use Rattle.cx_base.specs.Store.{Store, IsStore, blocks}
 use Rattle.cx_base.specs.Packing.{word_at}
@@ -12,11 +12,11 @@ word_of words line i = slice_index words (8 * line + i)
 abbrev pub line_count : List ℕ → ℕ
 line_count words = length words / 8
 
--- so many words are 64 to 16,384 lines
+-- so many words are 1 to 2 ^ 32 lines
 pub record IsPartLength (n : ℕ) : Type 0 where
   pub whole : n ≡ 8 * (n / 8)
-  pub some : 64 ≤ n / 8
-  pub few : n / 8 ≤ 16384
+  pub some : 1 ≤ n / 8
+  pub few : n / 8 ≤ 2 ^ 32
 
 -- word 0 of each line of a chain is the next line, and 0 at the end
 abbrev pub IsChain : List ℕ → ℕ → List ℕ → Type 0

@@ -1,7 +1,7 @@
 //! What is asked of an index by a key.
 
-ghost use Rattle.std.specs.Prelude.{◌≡◌, ◌≤◌, ℕ, IfOk, OnErr, Some};
-ghost use Rattle.cx_base.specs.Memory.{Always};
+ghost use Rattle.std.specs.Prelude.{◌≡◌, ◌≤◌, ℕ, IfOk, OnErr, Some, is_some};
+ghost use Rattle.cx_base.specs.Memory.{Always, Becomes};
 ghost use Rattle.cx_base.specs.Packing.{unpacked};
 ghost use Rattle.cx_base.specs.Store.{Store};
 ghost use Rattle.doc_model.specs.Meaning.{pairs_above};
@@ -28,7 +28,9 @@ pub fn find<M: Memory, L: Ledger>(
     requires key { key.now.len ≤ 64 }
     ensures done { IfOk result (λ found. Reads (M.stands mem.old) (M.stands mem.new)
         (λ ws. (version : ℕ) (store : Store) → StandsFor ws version store → IsFound ws (unpacked key.now.len key.now.words) found store)) }
+    ensures kept { Becomes (M.stands mem.old) (M.stands mem.new) ◌≡◌ }
     ensures halts { OnErr result (M.left mem.new ≡ Some 0) }
+    ensures limited { is_some (M.left mem.new) ≡ is_some (M.left mem.old) }
     ensures size { M.size mem.new ≡ M.size mem.old }
     ensures fixed { M.fixed mem.new ≡ M.fixed mem.old }
     ensures writable { M.writable mem.new ≡ M.writable mem.old }
@@ -52,7 +54,9 @@ fn node_above<M: Memory, L: Ledger>(
     requires key { key.now.len ≤ 64 }
     ensures done { IfOk result (λ node. Reads (M.stands mem.old) (M.stands mem.new)
         (λ ws. (version : ℕ) (store : Store) → StandsFor ws version store → IsFirstNode ws node (pairs_above (unpacked key.now.len key.now.words) store))) }
+    ensures kept { Becomes (M.stands mem.old) (M.stands mem.new) ◌≡◌ }
     ensures halts { OnErr result (M.left mem.new ≡ Some 0) }
+    ensures limited { is_some (M.left mem.new) ≡ is_some (M.left mem.old) }
     ensures size { M.size mem.new ≡ M.size mem.old }
     ensures fixed { M.fixed mem.new ≡ M.fixed mem.old }
     ensures writable { M.writable mem.new ≡ M.writable mem.old }
@@ -76,7 +80,9 @@ pub fn least_above<M: Memory, L: Ledger>(
     requires key { key.now.len ≤ 64 }
     ensures done { IfOk result (λ found. Reads (M.stands mem.old) (M.stands mem.new)
         (λ ws. (version : ℕ) (store : Store) → StandsFor ws version store → IsLeast found (pairs_above (unpacked key.now.len key.now.words) store))) }
+    ensures kept { Becomes (M.stands mem.old) (M.stands mem.new) ◌≡◌ }
     ensures halts { OnErr result (M.left mem.new ≡ Some 0) }
+    ensures limited { is_some (M.left mem.new) ≡ is_some (M.left mem.old) }
     ensures size { M.size mem.new ≡ M.size mem.old }
     ensures fixed { M.fixed mem.new ≡ M.fixed mem.old }
     ensures writable { M.writable mem.new ≡ M.writable mem.old }

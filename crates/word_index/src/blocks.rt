@@ -1,7 +1,7 @@
 //! Words of lines, and the bytes that a chain of blocks holds.
 
-ghost use Rattle.std.specs.Prelude.{◌≡◌, ◌+◌, ◌*◌, ◌/◌, ◌%◌, ◌<◌, ◌≤◌, ◌≢◌, ℕ, List, IsTrue, IfOk, OnErr, Some, length, replicate};
-ghost use Rattle.cx_base.specs.Memory.{Always, Loaded, Stored};
+ghost use Rattle.std.specs.Prelude.{◌≡◌, ◌+◌, ◌*◌, ◌/◌, ◌%◌, ◌<◌, ◌≤◌, ◌≢◌, ℕ, List, IsTrue, IfOk, OnErr, Some, length, replicate, is_some};
+ghost use Rattle.cx_base.specs.Memory.{Always, Loaded, Stored, Becomes};
 ghost use Rattle.cx_base.specs.Packing.{packed};
 ghost use Rattle.word_index.specs.Access.{Reads};
 ghost use Rattle.word_index.specs.Answers.{IsPackOf};
@@ -17,7 +17,9 @@ pub fn word<M: Memory>(mem: &mut M, line: u64, place: u64) -> Result<u64, Halt>
     requires place { place < 8 }
     ensures done { IfOk result
         (λ v. Loaded (8 * line + place) v (M.stands mem.old) (M.stands mem.new)) }
+    ensures kept { Becomes (M.stands mem.old) (M.stands mem.new) ◌≡◌ }
     ensures halts { OnErr result (M.left mem.new ≡ Some 0) }
+    ensures limited { is_some (M.left mem.new) ≡ is_some (M.left mem.old) }
     ensures size { M.size mem.new ≡ M.size mem.old }
     ensures fixed { M.fixed mem.new ≡ M.fixed mem.old }
     ensures writable { M.writable mem.new ≡ M.writable mem.old }
@@ -31,7 +33,9 @@ fn line_after<M: Memory>(mem: &mut M, line: u64, i: usize) -> Result<u64, Halt>
     requires line { Always (M.stands mem.old) (λ ws. IsWithin ws line) }
     ensures done { IfOk result (λ next. Reads (M.stands mem.old) (M.stands mem.new)
         (λ ws. (i % 7 ≡ 6 → word_of ws line 0 ≡ next) × (i % 7 ≢ 6 → next ≡ line))) }
+    ensures kept { Becomes (M.stands mem.old) (M.stands mem.new) ◌≡◌ }
     ensures halts { OnErr result (M.left mem.new ≡ Some 0) }
+    ensures limited { is_some (M.left mem.new) ≡ is_some (M.left mem.old) }
     ensures size { M.size mem.new ≡ M.size mem.old }
     ensures fixed { M.fixed mem.new ≡ M.fixed mem.old }
     ensures writable { M.writable mem.new ≡ M.writable mem.old }
@@ -56,7 +60,9 @@ fn read_words<M: Memory>(
     requires chain { Always (M.stands mem.old) (λ ws. HasWords ws first count) }
     ensures done { IfOk result (λ _. Reads (M.stands mem.old) (M.stands mem.new)
         (λ ws. (lines bytes : List ℕ) → Holds ws first lines bytes → count ≡ (length bytes + 7) / 8 → into.new ≡ packed (length into.old) bytes)) }
+    ensures kept { Becomes (M.stands mem.old) (M.stands mem.new) ◌≡◌ }
     ensures halts { OnErr result (M.left mem.new ≡ Some 0) }
+    ensures limited { is_some (M.left mem.new) ≡ is_some (M.left mem.old) }
     ensures size { M.size mem.new ≡ M.size mem.old }
     ensures fixed { M.fixed mem.new ≡ M.fixed mem.old }
     ensures writable { M.writable mem.new ≡ M.writable mem.old }
@@ -77,7 +83,9 @@ pub fn read_text<M: Memory>(mem: &mut M, node: u64, at: u64, into: &mut [u64]) -
     requires text { Always (M.stands mem.old) (λ ws. HasText ws node at (length into.old)) }
     ensures done { IfOk result (λ len. Reads (M.stands mem.old) (M.stands mem.new)
         (λ ws. (lines bytes : List ℕ) → IsText ws node at lines bytes → IsPackOf (length into.old) len into.new bytes)) }
+    ensures kept { Becomes (M.stands mem.old) (M.stands mem.new) ◌≡◌ }
     ensures halts { OnErr result (M.left mem.new ≡ Some 0) }
+    ensures limited { is_some (M.left mem.new) ≡ is_some (M.left mem.old) }
     ensures size { M.size mem.new ≡ M.size mem.old }
     ensures fixed { M.fixed mem.new ≡ M.fixed mem.old }
     ensures writable { M.writable mem.new ≡ M.writable mem.old }
@@ -97,6 +105,7 @@ pub fn put<M: Memory>(mem: &mut M, line: u64, place: u64, v: u64) -> Result<(), 
     ensures done { IfOk result
         (λ _. Stored (8 * line + place) v (M.stands mem.old) (M.stands mem.new)) }
     ensures halts { OnErr result (M.left mem.new ≡ Some 0) }
+    ensures limited { is_some (M.left mem.new) ≡ is_some (M.left mem.old) }
     ensures size { M.size mem.new ≡ M.size mem.old }
     ensures fixed { M.fixed mem.new ≡ M.fixed mem.old }
     ensures writable { M.writable mem.new ≡ M.writable mem.old }

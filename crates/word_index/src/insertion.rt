@@ -1,6 +1,6 @@
 //! A pair is put in.
 
-ghost use Rattle.std.specs.Prelude.{◌≡◌, ◌+◌, ◌*◌, ◌≤◌, ℕ, Bool, true, List, IsTrue, IfOk, OnErr, Some, length};
+ghost use Rattle.std.specs.Prelude.{◌≡◌, ◌+◌, ◌*◌, ◌≤◌, ℕ, Bool, true, List, IsTrue, IfOk, OnErr, Some, length, is_some};
 ghost use Rattle.cx_base.specs.Memory.{Always, Becomes};
 ghost use Rattle.cx_base.specs.Packing.{unpacked};
 ghost use Rattle.cx_base.specs.Store.{Store, IsKey, IsDocument, lines_of, pair_lines};
@@ -9,6 +9,7 @@ ghost use Rattle.word_index.specs.Access.{Reads};
 ghost use Rattle.word_index.specs.Answers.{IsPacked, IsNodeOf};
 ghost use Rattle.word_index.specs.Fresh.{CanTake};
 ghost use Rattle.word_index.specs.Insertion.{PairWritten, CanLink, Linked, HasSpot, LinesAt, Cleared, CanPut, PutIn, Inserts};
+ghost use Rattle.word_index.specs.Exact.{with_new_pair, with_linked, with_put_in, with_cleared, inserted_in, with_document};
 ghost use Rattle.word_index.specs.Layout.{IsPartLength, IsIndex, StandsFor};
 ghost use Rattle.word_index.specs.Walk.{HasNode, AtSpot};
 
@@ -45,6 +46,7 @@ fn lines_of_node<M: Memory>(mem: &mut M, node: u64) -> Result<u64, Halt>
     ensures done { IfOk result (λ n. Reads (M.stands mem.old) (M.stands mem.new)
         (λ ws. (pair : List ℕ × List ℕ) → IsNodeOf ws node pair → n ≡ pair_lines pair)) }
     ensures halts { OnErr result (M.left mem.new ≡ Some 0) }
+    ensures limited { is_some (M.left mem.new) ≡ is_some (M.left mem.old) }
     ensures size { M.size mem.new ≡ M.size mem.old }
     ensures fixed { M.fixed mem.new ≡ M.fixed mem.old }
     ensures writable { M.writable mem.new ≡ M.writable mem.old }
@@ -61,6 +63,7 @@ fn lines_in_use<M: Memory>(mem: &mut M) -> Result<u64, Halt>
     ensures done { IfOk result (λ n. Reads (M.stands mem.old) (M.stands mem.new)
         (λ ws. (version : ℕ) (store : Store) → StandsFor ws version store → n ≡ lines_of store)) }
     ensures halts { OnErr result (M.left mem.new ≡ Some 0) }
+    ensures limited { is_some (M.left mem.new) ≡ is_some (M.left mem.old) }
     ensures size { M.size mem.new ≡ M.size mem.old }
     ensures fixed { M.fixed mem.new ≡ M.fixed mem.old }
     ensures writable { M.writable mem.new ≡ M.writable mem.old }
@@ -80,7 +83,10 @@ fn write_pair<M: Memory>(mem: &mut M, next: u64, key: &Key, doc: &Doc) -> Result
         (λ ws. CanTake ws (pair_lines (unpacked key.now.len key.now.words, unpacked doc.now.len doc.now.words))) }
     ensures done { IfOk result (λ node. Becomes (M.stands mem.old) (M.stands mem.new)
         (PairWritten next (unpacked key.now.len key.now.words, unpacked doc.now.len doc.now.words) node)) }
+    ensures exact { IfOk result (λ node. Becomes (M.stands mem.old) (M.stands mem.new)
+        (λ old now. with_new_pair next (unpacked key.now.len key.now.words, unpacked doc.now.len doc.now.words) old ≡ (node, now))) }
     ensures halts { OnErr result (M.left mem.new ≡ Some 0) }
+    ensures limited { is_some (M.left mem.new) ≡ is_some (M.left mem.old) }
     ensures size { M.size mem.new ≡ M.size mem.old }
     ensures fixed { M.fixed mem.new ≡ M.fixed mem.old }
     ensures writable { M.writable mem.new ≡ M.writable mem.old }
@@ -103,7 +109,10 @@ fn link<M: Memory>(mem: &mut M, before: u64, node: u64) -> Result<(), Halt>
     requires gap { Always (M.stands mem.old) (λ ws. CanLink ws before node) }
     ensures done { IfOk result
         (λ _. Becomes (M.stands mem.old) (M.stands mem.new) (Linked before node)) }
+    ensures exact { IfOk result (λ _. Becomes (M.stands mem.old) (M.stands mem.new)
+        (λ old now. now ≡ with_linked before node old)) }
     ensures halts { OnErr result (M.left mem.new ≡ Some 0) }
+    ensures limited { is_some (M.left mem.new) ≡ is_some (M.left mem.old) }
     ensures size { M.size mem.new ≡ M.size mem.old }
     ensures fixed { M.fixed mem.new ≡ M.fixed mem.old }
     ensures writable { M.writable mem.new ≡ M.writable mem.old }
@@ -124,7 +133,10 @@ fn put_in<M: Memory>(mem: &mut M, before: u64, next: u64, key: &Key, doc: &Doc) 
         (λ ws. CanPut ws before next (unpacked key.now.len key.now.words, unpacked doc.now.len doc.now.words)) }
     ensures done { IfOk result (λ _. Becomes (M.stands mem.old) (M.stands mem.new)
         (PutIn before next (unpacked key.now.len key.now.words, unpacked doc.now.len doc.now.words))) }
+    ensures exact { IfOk result (λ _. Becomes (M.stands mem.old) (M.stands mem.new)
+        (λ old now. now ≡ with_put_in before next (unpacked key.now.len key.now.words, unpacked doc.now.len doc.now.words) old)) }
     ensures halts { OnErr result (M.left mem.new ≡ Some 0) }
+    ensures limited { is_some (M.left mem.new) ≡ is_some (M.left mem.old) }
     ensures size { M.size mem.new ≡ M.size mem.old }
     ensures fixed { M.fixed mem.new ≡ M.fixed mem.old }
     ensures writable { M.writable mem.new ≡ M.writable mem.old }
@@ -141,6 +153,7 @@ fn lines_at_spot<M: Memory>(mem: &mut M, spot: &Spot) -> Result<u64, Halt>
     ensures done { IfOk result (λ n. Reads (M.stands mem.old) (M.stands mem.new)
         (LinesAt spot.now.before spot.now.node spot.now.same n)) }
     ensures halts { OnErr result (M.left mem.new ≡ Some 0) }
+    ensures limited { is_some (M.left mem.new) ≡ is_some (M.left mem.old) }
     ensures size { M.size mem.new ≡ M.size mem.old }
     ensures fixed { M.fixed mem.new ≡ M.fixed mem.old }
     ensures writable { M.writable mem.new ≡ M.writable mem.old }
@@ -160,7 +173,10 @@ fn clear<M: Memory>(mem: &mut M, spot: &Spot) -> Result<u64, Halt>
         (λ ws. HasSpot ws spot.now.before spot.now.node spot.now.same) }
     ensures done { IfOk result (λ next. Becomes (M.stands mem.old) (M.stands mem.new)
         (Cleared spot.now.before spot.now.node spot.now.same next)) }
+    ensures exact { IfOk result (λ next. Becomes (M.stands mem.old) (M.stands mem.new)
+        (λ old now. with_cleared spot.now.before spot.now.node spot.now.same old ≡ (next, now))) }
     ensures halts { OnErr result (M.left mem.new ≡ Some 0) }
+    ensures limited { is_some (M.left mem.new) ≡ is_some (M.left mem.old) }
     ensures size { M.size mem.new ≡ M.size mem.old }
     ensures fixed { M.fixed mem.new ≡ M.fixed mem.old }
     ensures writable { M.writable mem.new ≡ M.writable mem.old }
@@ -191,7 +207,10 @@ pub fn insert<M: Memory, L: Ledger>(
     requires is_document { IsDocument (unpacked doc.now.len doc.now.words) }
     ensures done { IfOk result (λ inserted. Becomes (M.stands mem.old) (M.stands mem.new)
         (Inserts (unpacked key.now.len key.now.words) (unpacked doc.now.len doc.now.words) inserted)) }
+    ensures exact { IfOk result (λ inserted. Becomes (M.stands mem.old) (M.stands mem.new)
+        (λ old now. (inserted ≡ inserted_in (unpacked key.now.len key.now.words) (unpacked doc.now.len doc.now.words) old) × (now ≡ with_document (unpacked key.now.len key.now.words) (unpacked doc.now.len doc.now.words) old))) }
     ensures halts { OnErr result (M.left mem.new ≡ Some 0) }
+    ensures limited { is_some (M.left mem.new) ≡ is_some (M.left mem.old) }
     ensures size { M.size mem.new ≡ M.size mem.old }
     ensures fixed { M.fixed mem.new ≡ M.fixed mem.old }
     ensures writable { M.writable mem.new ≡ M.writable mem.old }

@@ -1,7 +1,7 @@
 //! Nodes: the key and the document that each names, and the number of them.
 
-ghost use Rattle.std.specs.Prelude.{◌≡◌, ◌≤◌, ℕ, List, IfOk, OnErr, Some, length};
-ghost use Rattle.cx_base.specs.Memory.{Always};
+ghost use Rattle.std.specs.Prelude.{◌≡◌, ◌≤◌, ℕ, List, IfOk, OnErr, Some, length, is_some};
+ghost use Rattle.cx_base.specs.Memory.{Always, Becomes};
 ghost use Rattle.cx_base.specs.Packing.{unpacked};
 ghost use Rattle.cx_base.specs.Store.{Store, key_cmp};
 ghost use Rattle.word_index.specs.Access.{Reads};
@@ -20,7 +20,9 @@ pub fn count<M: Memory>(mem: &mut M) -> Result<u64, Halt>
     requires lawful { Always (M.stands mem.old) IsIndex }
     ensures done { IfOk result (λ n. Reads (M.stands mem.old) (M.stands mem.new)
         (λ ws. (version : ℕ) (store : Store) → StandsFor ws version store → n ≡ length store)) }
+    ensures kept { Becomes (M.stands mem.old) (M.stands mem.new) ◌≡◌ }
     ensures halts { OnErr result (M.left mem.new ≡ Some 0) }
+    ensures limited { is_some (M.left mem.new) ≡ is_some (M.left mem.old) }
     ensures size { M.size mem.new ≡ M.size mem.old }
     ensures fixed { M.fixed mem.new ≡ M.fixed mem.old }
     ensures writable { M.writable mem.new ≡ M.writable mem.old }
@@ -34,7 +36,9 @@ pub fn key_at<M: Memory>(mem: &mut M, node: u64) -> Result<Key, Halt>
     requires node { Always (M.stands mem.old) (λ ws. HasNode ws node) }
     ensures done { IfOk result (λ key. Reads (M.stands mem.old) (M.stands mem.new)
         (λ ws. (pair : List ℕ × List ℕ) → IsNodeOf ws node pair → IsPackOf 8 key.len key.words pair.0)) }
+    ensures kept { Becomes (M.stands mem.old) (M.stands mem.new) ◌≡◌ }
     ensures halts { OnErr result (M.left mem.new ≡ Some 0) }
+    ensures limited { is_some (M.left mem.new) ≡ is_some (M.left mem.old) }
     ensures size { M.size mem.new ≡ M.size mem.old }
     ensures fixed { M.fixed mem.new ≡ M.fixed mem.old }
     ensures writable { M.writable mem.new ≡ M.writable mem.old }
@@ -50,7 +54,9 @@ pub fn doc_at<M: Memory>(mem: &mut M, node: u64) -> Result<Doc, Halt>
     requires node { Always (M.stands mem.old) (λ ws. HasNode ws node) }
     ensures done { IfOk result (λ doc. Reads (M.stands mem.old) (M.stands mem.new)
         (λ ws. (pair : List ℕ × List ℕ) → IsNodeOf ws node pair → IsPackOf 128 doc.len doc.words pair.1)) }
+    ensures kept { Becomes (M.stands mem.old) (M.stands mem.new) ◌≡◌ }
     ensures halts { OnErr result (M.left mem.new ≡ Some 0) }
+    ensures limited { is_some (M.left mem.new) ≡ is_some (M.left mem.old) }
     ensures size { M.size mem.new ≡ M.size mem.old }
     ensures fixed { M.fixed mem.new ≡ M.fixed mem.old }
     ensures writable { M.writable mem.new ≡ M.writable mem.old }
@@ -67,7 +73,9 @@ pub fn order_at<M: Memory>(mem: &mut M, node: u64, key: &Key) -> Result<Ordering
     requires key { key.now.len ≤ 64 }
     ensures done { IfOk result (λ order. Reads (M.stands mem.old) (M.stands mem.new)
         (λ ws. (pair : List ℕ × List ℕ) → IsNodeOf ws node pair → order ≡ key_cmp pair.0 (unpacked key.now.len key.now.words))) }
+    ensures kept { Becomes (M.stands mem.old) (M.stands mem.new) ◌≡◌ }
     ensures halts { OnErr result (M.left mem.new ≡ Some 0) }
+    ensures limited { is_some (M.left mem.new) ≡ is_some (M.left mem.old) }
     ensures size { M.size mem.new ≡ M.size mem.old }
     ensures fixed { M.fixed mem.new ≡ M.fixed mem.old }
     ensures writable { M.writable mem.new ≡ M.writable mem.old }

@@ -1,10 +1,11 @@
 //! A pair is taken out.
 
-ghost use Rattle.std.specs.Prelude.{◌≡◌, ◌+◌, ◌*◌, ◌<◌, ◌≤◌, ℕ, IsTrue, IfOk, OnErr, Some};
+ghost use Rattle.std.specs.Prelude.{◌≡◌, ◌+◌, ◌*◌, ◌<◌, ◌≤◌, ℕ, IsTrue, IfOk, OnErr, Some, is_some};
 ghost use Rattle.cx_base.specs.Memory.{Always, Becomes};
 ghost use Rattle.cx_base.specs.Packing.{unpacked};
 ghost use Rattle.word_index.specs.Changes.{LooseText, TextGiven, HasLoosePair, PairGiven, HasGap, Unlinked, TakenOut, IsRemoved};
-ghost use Rattle.word_index.specs.Layout.{IsPartLength, IsIndex};
+ghost use Rattle.word_index.specs.Exact.{with_text_given, with_pair_given, with_unlinked, with_taken_out, is_key_in, with_key_removed};
+ghost use Rattle.word_index.specs.Layout.{IsPartLength, IsIndex, word_of};
 
 use crate::blocks::{put, word};
 use crate::given_back::{give_back, give_chain};
@@ -21,7 +22,10 @@ fn give_text<M: Memory>(mem: &mut M, node: u64, at: u64) -> Result<(), Halt>
     requires text { Always (M.stands mem.old) (λ ws. LooseText ws node at) }
     ensures done { IfOk result
         (λ _. Becomes (M.stands mem.old) (M.stands mem.new) (TextGiven node at)) }
+    ensures exact { IfOk result (λ _. Becomes (M.stands mem.old) (M.stands mem.new)
+        (λ old now. now ≡ with_text_given node at old)) }
     ensures halts { OnErr result (M.left mem.new ≡ Some 0) }
+    ensures limited { is_some (M.left mem.new) ≡ is_some (M.left mem.old) }
     ensures size { M.size mem.new ≡ M.size mem.old }
     ensures fixed { M.fixed mem.new ≡ M.fixed mem.old }
     ensures writable { M.writable mem.new ≡ M.writable mem.old }
@@ -38,7 +42,10 @@ fn give_pair<M: Memory>(mem: &mut M, node: u64) -> Result<(), Halt>
     requires pair { Always (M.stands mem.old) (λ ws. HasLoosePair ws node) }
     ensures done { IfOk result
         (λ _. Becomes (M.stands mem.old) (M.stands mem.new) (PairGiven node)) }
+    ensures exact { IfOk result (λ _. Becomes (M.stands mem.old) (M.stands mem.new)
+        (λ old now. now ≡ with_pair_given node old)) }
     ensures halts { OnErr result (M.left mem.new ≡ Some 0) }
+    ensures limited { is_some (M.left mem.new) ≡ is_some (M.left mem.old) }
     ensures size { M.size mem.new ≡ M.size mem.old }
     ensures fixed { M.fixed mem.new ≡ M.fixed mem.old }
     ensures writable { M.writable mem.new ≡ M.writable mem.old }
@@ -55,7 +62,10 @@ fn unlink<M: Memory>(mem: &mut M, before: u64, node: u64) -> Result<u64, Halt>
     requires gap { Always (M.stands mem.old) (λ ws. HasGap ws before node) }
     ensures done { IfOk result
         (λ next. Becomes (M.stands mem.old) (M.stands mem.new) (Unlinked before node next)) }
+    ensures exact { IfOk result (λ next. Becomes (M.stands mem.old) (M.stands mem.new)
+        (λ old now. (next ≡ word_of old node 1) × (now ≡ with_unlinked before node old))) }
     ensures halts { OnErr result (M.left mem.new ≡ Some 0) }
+    ensures limited { is_some (M.left mem.new) ≡ is_some (M.left mem.old) }
     ensures size { M.size mem.new ≡ M.size mem.old }
     ensures fixed { M.fixed mem.new ≡ M.fixed mem.old }
     ensures writable { M.writable mem.new ≡ M.writable mem.old }
@@ -74,7 +84,10 @@ pub fn take_out<M: Memory>(mem: &mut M, before: u64, node: u64) -> Result<u64, H
     requires gap { Always (M.stands mem.old) (λ ws. HasGap ws before node) }
     ensures done { IfOk result
         (λ next. Becomes (M.stands mem.old) (M.stands mem.new) (TakenOut before node next)) }
+    ensures exact { IfOk result (λ next. Becomes (M.stands mem.old) (M.stands mem.new)
+        (λ old now. (next ≡ word_of old node 1) × (now ≡ with_taken_out before node old))) }
     ensures halts { OnErr result (M.left mem.new ≡ Some 0) }
+    ensures limited { is_some (M.left mem.new) ≡ is_some (M.left mem.old) }
     ensures size { M.size mem.new ≡ M.size mem.old }
     ensures fixed { M.fixed mem.new ≡ M.fixed mem.old }
     ensures writable { M.writable mem.new ≡ M.writable mem.old }
@@ -97,7 +110,10 @@ pub fn remove<M: Memory, L: Ledger>(
     requires key { key.now.len ≤ 64 }
     ensures done { IfOk result
         (λ there. Becomes (M.stands mem.old) (M.stands mem.new) (IsRemoved (unpacked key.now.len key.now.words) there)) }
+    ensures exact { IfOk result (λ there. Becomes (M.stands mem.old) (M.stands mem.new)
+        (λ old now. (there ≡ is_key_in (unpacked key.now.len key.now.words) old) × (now ≡ with_key_removed (unpacked key.now.len key.now.words) old))) }
     ensures halts { OnErr result (M.left mem.new ≡ Some 0) }
+    ensures limited { is_some (M.left mem.new) ≡ is_some (M.left mem.old) }
     ensures size { M.size mem.new ≡ M.size mem.old }
     ensures fixed { M.fixed mem.new ≡ M.fixed mem.old }
     ensures writable { M.writable mem.new ≡ M.writable mem.old }

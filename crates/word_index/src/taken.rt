@@ -1,10 +1,11 @@
 //! Lines are taken and filled.
 
-ghost use Rattle.std.specs.Prelude.{◌≡◌, ◌+◌, ◌*◌, ◌-◌, ◌<◌, ◌≤◌, ◌≢◌, ◌^◌, ℕ, IsTrue, IfOk, OnErr, Some, length};
+ghost use Rattle.std.specs.Prelude.{◌≡◌, ◌+◌, ◌*◌, ◌-◌, ◌<◌, ◌≤◌, ◌≢◌, ◌^◌, ℕ, IsTrue, IfOk, OnErr, Some, length, is_some};
 ghost use Rattle.cx_base.specs.Memory.{Always, Becomes};
 ghost use Rattle.word_index.specs.Blocks.{IsWithin};
 ghost use Rattle.word_index.specs.Changes.{with_word};
 ghost use Rattle.word_index.specs.Fresh.{CanTake, LineTaken, LineFilled, IsBlock, TextWritten};
+ghost use Rattle.word_index.specs.Exact.{line_to_take, with_line_taken, with_row, with_text};
 ghost use Rattle.word_index.specs.Layout.{IsPartLength, word_of};
 
 use crate::blocks::{put, word};
@@ -14,10 +15,11 @@ use cx_base::{Halt, Memory};
 fn take_new<M: Memory>(mem: &mut M) -> Result<u64, Halt>
     requires sized { IsPartLength (M.size mem.old) }
     requires writable { IsTrue (M.writable mem.old) }
-    requires few { Always (M.stands mem.old) (λ ws. word_of ws 0 3 ≤ 16384) }
+    requires few { Always (M.stands mem.old) (λ ws. word_of ws 0 3 ≤ 2 ^ 32) }
     ensures done { IfOk result (λ line. Becomes (M.stands mem.old) (M.stands mem.new)
         (λ before now. (word_of before 0 3 ≡ line) × (now ≡ with_word 0 3 (line + 1) before))) }
     ensures halts { OnErr result (M.left mem.new ≡ Some 0) }
+    ensures limited { is_some (M.left mem.new) ≡ is_some (M.left mem.old) }
     ensures size { M.size mem.new ≡ M.size mem.old }
     ensures fixed { M.fixed mem.new ≡ M.fixed mem.old }
     ensures writable { M.writable mem.new ≡ M.writable mem.old }
@@ -35,6 +37,7 @@ fn take_given<M: Memory>(mem: &mut M, head: u64) -> Result<(), Halt>
     ensures done { IfOk result (λ _. Becomes (M.stands mem.old) (M.stands mem.new)
         (λ before now. now ≡ with_word 0 4 (word_of before 0 4 - 1) (with_word 0 2 (word_of before head 0) before))) }
     ensures halts { OnErr result (M.left mem.new ≡ Some 0) }
+    ensures limited { is_some (M.left mem.new) ≡ is_some (M.left mem.old) }
     ensures size { M.size mem.new ≡ M.size mem.old }
     ensures fixed { M.fixed mem.new ≡ M.fixed mem.old }
     ensures writable { M.writable mem.new ≡ M.writable mem.old }
@@ -53,7 +56,10 @@ pub fn take_line<M: Memory>(mem: &mut M) -> Result<u64, Halt>
     requires room { Always (M.stands mem.old) (λ ws. CanTake ws 1) }
     ensures done { IfOk result
         (λ line. Becomes (M.stands mem.old) (M.stands mem.new) (LineTaken line)) }
+    ensures exact { IfOk result (λ line. Becomes (M.stands mem.old) (M.stands mem.new)
+        (λ old now. (line ≡ line_to_take old) × (now ≡ with_line_taken old))) }
     ensures halts { OnErr result (M.left mem.new ≡ Some 0) }
+    ensures limited { is_some (M.left mem.new) ≡ is_some (M.left mem.old) }
     ensures size { M.size mem.new ≡ M.size mem.old }
     ensures fixed { M.fixed mem.new ≡ M.fixed mem.old }
     ensures writable { M.writable mem.new ≡ M.writable mem.old }
@@ -73,7 +79,10 @@ pub fn put_line<M: Memory>(mem: &mut M, line: u64, content: &[u64; 8]) -> Result
     requires line { Always (M.stands mem.old) (λ ws. IsWithin ws line) }
     ensures done { IfOk result
         (λ _. Becomes (M.stands mem.old) (M.stands mem.new) (LineFilled line content.now)) }
+    ensures exact { IfOk result (λ _. Becomes (M.stands mem.old) (M.stands mem.new)
+        (λ old now. now ≡ with_row (8 * line) content.now old)) }
     ensures halts { OnErr result (M.left mem.new ≡ Some 0) }
+    ensures limited { is_some (M.left mem.new) ≡ is_some (M.left mem.old) }
     ensures size { M.size mem.new ≡ M.size mem.old }
     ensures fixed { M.fixed mem.new ≡ M.fixed mem.old }
     ensures writable { M.writable mem.new ≡ M.writable mem.old }
@@ -86,7 +95,7 @@ pub fn put_line<M: Memory>(mem: &mut M, line: u64, content: &[u64; 8]) -> Result
 
 /// The words of a block: the next line, and seven words from a place on, 0 behind the end.
 fn block(next: u64, words: &[u64], from: usize) -> [u64; 8]
-    requires { from < 2 ^ 32 }
+    requires { from < 2 ^ 40 }
     ensures { IsBlock next words.now from result }
 {
     let mut content = [next; 8];
@@ -100,11 +109,14 @@ fn block(next: u64, words: &[u64], from: usize) -> [u64; 8]
 pub fn write_text<M: Memory>(mem: &mut M, words: &[u64], count: usize) -> Result<u64, Halt>
     requires sized { IsPartLength (M.size mem.old) }
     requires writable { IsTrue (M.writable mem.old) }
-    requires few { count ≤ 16384 }
+    requires few { count ≤ 2 ^ 32 }
     requires room { Always (M.stands mem.old) (λ ws. CanTake ws count) }
     ensures done { IfOk result
         (λ first. Becomes (M.stands mem.old) (M.stands mem.new) (TextWritten words.now count first)) }
+    ensures exact { IfOk result (λ first. Becomes (M.stands mem.old) (M.stands mem.new)
+        (λ old now. with_text words.now count 0 old ≡ (first, now))) }
     ensures halts { OnErr result (M.left mem.new ≡ Some 0) }
+    ensures limited { is_some (M.left mem.new) ≡ is_some (M.left mem.old) }
     ensures size { M.size mem.new ≡ M.size mem.old }
     ensures fixed { M.fixed mem.new ≡ M.fixed mem.old }
     ensures writable { M.writable mem.new ≡ M.writable mem.old }

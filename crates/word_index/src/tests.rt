@@ -50,7 +50,7 @@ fn doc_of(bytes: &[u8]) -> Doc
 }
 
 // Puts a document at a key, in 64 lines.
-fn put<M: Memory, L: Ledger>(
+pub fn put<M: Memory, L: Ledger>(
     memory: &mut M,
     key: &[u8],
     document: &[u8],
@@ -70,7 +70,7 @@ fn put<M: Memory, L: Ledger>(
 }
 
 // Makes the empty index.
-fn format<M: Memory>(memory: &mut M) -> Result<(), Halt>
+pub fn format<M: Memory>(memory: &mut M) -> Result<(), Halt>
     requires size { M.size memory.old ≡ 512 }
     requires writable { IsTrue (M.writable memory.old) }
     ensures size { M.size memory.new ≡ 512 }
@@ -82,7 +82,7 @@ fn format<M: Memory>(memory: &mut M) -> Result<(), Halt>
 }
 
 // Takes a key out.
-fn take<M: Memory, L: Ledger>(
+pub fn take<M: Memory, L: Ledger>(
     memory: &mut M,
     key: &[u8],
     visits: &mut Steps<L>,

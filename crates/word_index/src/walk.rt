@@ -1,7 +1,7 @@
 //! A walk along the nodes to the place of a key.
 
-ghost use Rattle.std.specs.Prelude.{◌≡◌, ◌≤◌, ℕ, List, IfOk, OnErr, Some, length};
-ghost use Rattle.cx_base.specs.Memory.{Always};
+ghost use Rattle.std.specs.Prelude.{◌≡◌, ◌≤◌, ℕ, List, IfOk, OnErr, Some, length, is_some};
+ghost use Rattle.cx_base.specs.Memory.{Always, Becomes};
 ghost use Rattle.cx_base.specs.Packing.{unpacked};
 ghost use Rattle.word_index.specs.Access.{Reads};
 ghost use Rattle.word_index.specs.Layout.{IsPartLength, IsIndex};
@@ -33,7 +33,9 @@ pub fn seek<M: Memory, L: Ledger>(
     requires key { key.now.len ≤ 64 }
     ensures done { IfOk result (λ spot. Reads (M.stands mem.old) (M.stands mem.new)
         (AtSpot (unpacked key.now.len key.now.words) spot.before spot.node spot.same)) }
+    ensures kept { Becomes (M.stands mem.old) (M.stands mem.new) ◌≡◌ }
     ensures halts { OnErr result (M.left mem.new ≡ Some 0) }
+    ensures limited { is_some (M.left mem.new) ≡ is_some (M.left mem.old) }
     ensures size { M.size mem.new ≡ M.size mem.old }
     ensures fixed { M.fixed mem.new ≡ M.fixed mem.old }
     ensures writable { M.writable mem.new ≡ M.writable mem.old }

@@ -1,4 +1,4 @@
-use Rattle.std.proofs.Common.{◌≤◌, ◌+◌, ◌-◌, vec_len, length, ◌≡◌}
+use Rattle.std.proofs.Common.{◌≤◌, ◌+◌, ◌-◌, vec_len, ◌≡◌}
 use Rattle.cx_tool.proofs.Transfer.{HasRead}
 use Rattle.cx_tool.proofs.input.read_input.Given as goal
 

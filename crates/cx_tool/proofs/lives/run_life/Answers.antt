@@ -1,4 +1,4 @@
-use Rattle.std.proofs.Common.{◌≡◌, ◌∙◌, ◌<◌, ◌≤◌, ap, arith, length, get_or, List}
+use Rattle.std.proofs.Common.{◌≡◌, ◌∙◌, ap, arith, length, get_or, List}
 use Rattle.doc_text.specs.declared.grammar.Command.{Command}
 use Rattle.cx_tool.proofs.OneMore.{runs-more, runs-whole}
 use Rattle.cx_tool.proofs.lives.run_life.Goals as goal
@@ -9,10 +9,10 @@ loop-i-preserved g c =
     runs-more c.args.lines c.args.life.now c.loop-i.i c.command-item.result c.loop-i.running c.answer.new.self
     (omega (arith, ap length items, c.loop-i-test.true))
     (c.command-item.is ∙ ap (λ (all : List Command). get_or all c.loop-i.i c.command-item.result) items)
-    c.requires c.loop-i.invariant c.in_ok-answer.ensures
+    c.requires.client c.loop-i.invariant c.in_ok-answer.ensures
 
 pub returns : goal.returns
 returns g c =
     let items : c.as_slice-command-items.result.now ≡ c.args.life.now.commands = c.as_slice-command-items.ensures in
-    runs-whole c.args.lines c.args.life.now c.loop-i.running c.loop-i.i c.len-kept.result c.len-documents.result
-    (omega (arith, ap length items, c.loop-i-test.false)) c.loop-i.invariant c.len-kept.ensures c.len-documents.ensures
+    runs-whole c.args.lines c.args.life.now c.loop-i.running c.loop-i.i c.len-kept.result c.in_ok-documents.documents
+    (omega (arith, ap length items, c.loop-i-test.false)) c.loop-i.invariant c.len-kept.ensures c.in_ok-documents.ensures.len

@@ -1,5 +1,4 @@
 use Rattle.std.proofs.Common.{arith, subst, List, ℕ}
-use Rattle.std.proofs.lemmas.List.{length-drop}
 use Rattle.cx_base.specs.Outside.{Took}
 use Rattle.cx_tool.proofs.Transfer.{written-more}
 use Rattle.cx_tool.proofs.output.write_text.Goals as goal

@@ -1,5 +1,4 @@
 use Rattle.std.proofs.Common.{◌≤◌, ◌-◌, length}
-use Rattle.cx_tool.specs.Output.{AppendsFront}
 use Rattle.cx_tool.proofs.Transfer.{HasWritten}
 use Rattle.cx_tool.proofs.output.write_text.Given as goal
 

@@ -1,4 +1,4 @@
-use Rattle.std.proofs.Common.{◌≡◌, ◌∙◌, ap, sym, ◌<◌, ◌≤◌, arith, refl, List, [], ◌∷◌, length, get_or, map, ℕ}
+use Rattle.std.proofs.Common.{◌≡◌, ◌∙◌, ap, sym, ◌<◌, ◌≤◌, arith, List, [], ◌∷◌, length, get_or, map, ℕ}
 use Rattle.std.specs.Bool.{Decides}
 use Rattle.std.specs.Prelude.{string_bytes, codes}
 use Rattle.std.proofs.lemmas.Slice.Eq.{slice_eq-Decides}

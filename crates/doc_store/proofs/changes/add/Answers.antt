@@ -3,10 +3,13 @@ use Rattle.std.specs.Prelude.{◌+ℤ◌}
 use Rattle.cx_base.specs.Memory.{Becomes}
 use Rattle.cx_base.specs.Packing.{unpacked}
 use Rattle.cx_base.proofs.MemoryLemmas.{Becomes-weaker, Becomes-then}
-use Rattle.doc_model.specs.Meaning.{store_after_sum, sum_reply}
-use Rattle.doc_store.specs.StepOnWords.{Does}
-use Rattle.word_index.proofs.Memories.{IfOk-weaker, Becomes-from-read, always_read}
-use Rattle.doc_store.proofs.Changing.{add_none, add_some, passed, passed_sum, fits_from, some_fits}
+use Rattle.doc_model.specs.Meaning.{sum_reply}
+use Rattle.doc_store.specs.ExactStep.{Exactly, with_sum}
+use Rattle.word_index.specs.Exact.{store_in}
+use Rattle.word_index.proofs.ExactStores.{stands_read}
+use Rattle.word_index.proofs.Memories.{IfOk-weaker, Becomes-from-read, Reads-with, always_read}
+use Rattle.doc_store.proofs.Changing.{passed, passed_sum, fits_from, some_fits}
+use Rattle.doc_store.proofs.ExactSteps.{add_none_runs, add_some_runs}
 use Rattle.doc_store.proofs.changes.add.Goals as goal
 
 pub add_to-requires-clause-lawful : goal.add_to-requires-clause-lawful
@@ -15,7 +18,8 @@ add_to-requires-clause-lawful g c = always_read c.requires.lawful c.in_ok-number
 pub returns-in-None-clause-done : goal.returns-in-None-clause-done
 returns-in-None-clause-done g c =
     let key = unpacked c.args.key.now.len c.args.key.now.words in
-    Becomes-weaker (Becomes-from-read c.in_ok-number.ensures.done) (λ first x y s r. add_none c.args.lines key c.args.amount c.in_ok-number.number x y c.short_reply.result r.0 r.1 c.in-None.is c.short_reply.ensures)
+    Becomes-weaker (Becomes-from-read (Reads-with c.requires.lawful c.in_ok-number.ensures.done)) (λ first x y s r.
+    add_none_runs c.args.lines key c.args.amount c.in_ok-number.number x y c.short_reply.result r.0 (r.1.1 r.1.0.version (store_in y) (stands_read y r.1.0)) c.in-None.is c.short_reply.ensures)
 
 pub returns-in-Some-clause-done : goal.returns-in-Some-clause-done
 returns-in-Some-clause-done g c =
@@ -24,7 +28,7 @@ returns-in-Some-clause-done g c =
     let total = passed before +ℤ passed c.args.amount in
     let fits = fits_from before (some_fits c.in_ok-number.number before c.in-Some.is c.in_ok-number.ensures.fits) in
     let same = passed_sum before c.args.amount fits c.ranges.amount in
-    IfOk-weaker c.add_to.result (λ reply. Becomes (g.M.Memory.stands c.number_at.new.mem) (g.M.Memory.stands c.add_to.new.mem) (Does (λ store. store_after_sum c.args.lines store key total) (λ store. sum_reply c.args.lines store key total) reply)) _ c.add_to.ensures.done
-    (λ reply b. Becomes-then (Becomes-from-read c.in_ok-number.ensures.done) b (λ x y z r d.
-    add_some c.args.lines key c.args.amount c.in_ok-number.number x y reply r.0 r.1 z before c.in-Some.is
-    (subst (λ t. Does (λ store. store_after_sum c.args.lines store key t) (λ store. sum_reply c.args.lines store key t) reply y z) same d)))
+    IfOk-weaker c.add_to.result (λ reply. Becomes (g.M.Memory.stands c.number_at.new.mem) (g.M.Memory.stands c.add_to.new.mem) (Exactly (λ ws. sum_reply c.args.lines (store_in ws) key total) (with_sum key total) reply)) _ c.add_to.ensures.done
+    (λ reply b. Becomes-then (Becomes-from-read (Reads-with c.requires.lawful c.in_ok-number.ensures.done)) b (λ x y z r d.
+    add_some_runs c.args.lines key c.args.amount c.in_ok-number.number x y reply r.0 (r.1.1 r.1.0.version (store_in y) (stands_read y r.1.0)) z before c.in-Some.is
+    (subst (λ t. Exactly (λ ws. sum_reply c.args.lines (store_in ws) key t) (with_sum key t) reply y z) same d)))

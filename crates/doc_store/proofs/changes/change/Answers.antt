@@ -6,10 +6,11 @@ use Rattle.cx_base.specs.Memory.{Becomes}
 use Rattle.cx_base.specs.Packing.{unpacked}
 use Rattle.cx_base.specs.Store.{IsKey, IsDocument}
 use Rattle.cx_base.proofs.MemoryLemmas.{Becomes-weaker}
-use Rattle.doc_model.specs.Meaning.{store_after_put, put_reply, without_key, document_at, store_after_add, add_reply, number_at}
+use Rattle.doc_model.specs.Meaning.{put_reply, document_at, add_reply, number_at}
 use Rattle.doc_model.specs.declared.operations.Reply.TheVariants.{Deleted, Absent}
 use Rattle.doc_model.proofs.OpKinds.{op_key}
-use Rattle.doc_store.specs.StepOnWords.{Does}
+use Rattle.doc_store.specs.ExactStep.{Exactly, with_addition}
+use Rattle.word_index.specs.Exact.{store_in, with_document, with_key_removed}
 use Rattle.word_index.proofs.Memories.{IfOk-weaker}
 use Rattle.doc_store.proofs.OpParts.{some_op, kind_at, key_read, document_read, key_short, key_fits, document_fits, number_at_op}
 use Rattle.doc_store.proofs.Changing.{is_put, is_add, kind_some, kind_below, put_case, delete_case, add_case, passed, passed_is}
@@ -68,10 +69,10 @@ returns-in-1-clause-done g c =
     let lines = c.args.lines in
     let kind : get_or op 0 0 ≡ 1 = omega arith in
     IfOk-weaker c.put.result (λ reply. Becomes (g.M.Memory.stands c.args.mem.now) (g.M.Memory.stands c.put.new.mem)
-    (Does (λ store. store_after_put lines store (unpacked key.len key.words) (unpacked doc.len doc.words)) (λ store. put_reply lines store (unpacked key.len key.words) (unpacked doc.len doc.words)) reply)) _ c.put.ensures.done
+    (Exactly (λ ws. put_reply lines (store_in ws) (unpacked key.len key.words) (unpacked doc.len doc.words)) (with_document (unpacked key.len key.words) (unpacked doc.len doc.words)) reply)) _ c.put.ensures.done
     (λ reply b. Becomes-weaker b (λ first x y s d o is. put_case lines x y reply o (sym (kind_at op o is) ∙ kind)
-    (subst (λ t. Does (λ store. store_after_put lines store (op_key o) t) (λ store. put_reply lines store (op_key o) t) reply x y) (document_read op o doc.len doc.words is c.doc_in.ensures.len c.doc_in.ensures.words)
-    (subst (λ k. Does (λ store. store_after_put lines store k (unpacked doc.len doc.words)) (λ store. put_reply lines store k (unpacked doc.len doc.words)) reply x y) (key_read op o key.len key.words is c.key_in-key.ensures.len c.key_in-key.ensures.words) d))))
+    (subst (λ t. Exactly (λ ws. put_reply lines (store_in ws) (op_key o) t) (with_document (op_key o) t) reply x y) (document_read op o doc.len doc.words is c.doc_in.ensures.len c.doc_in.ensures.words)
+    (subst (λ k. Exactly (λ ws. put_reply lines (store_in ws) k (unpacked doc.len doc.words)) (with_document k (unpacked doc.len doc.words)) reply x y) (key_read op o key.len key.words is c.key_in-key.ensures.len c.key_in-key.ensures.words) d))))
 
 pub returns-in-2-clause-done : goal.returns-in-2-clause-done
 returns-in-2-clause-done g c =
@@ -80,9 +81,9 @@ returns-in-2-clause-done g c =
     let lines = c.args.lines in
     let kind : get_or op 0 0 ≡ 2 = omega arith in
     IfOk-weaker c.delete.result (λ reply. Becomes (g.M.Memory.stands c.args.mem.now) (g.M.Memory.stands c.delete.new.mem)
-    (Does (λ store. without_key (unpacked key.len key.words) store) (λ store. cond (is_some (document_at (unpacked key.len key.words) store)) Deleted Absent) reply)) _ c.delete.ensures.done
+    (Exactly (λ ws. cond (is_some (document_at (unpacked key.len key.words) (store_in ws))) Deleted Absent) (with_key_removed (unpacked key.len key.words)) reply)) _ c.delete.ensures.done
     (λ reply b. Becomes-weaker b (λ first x y s d o is. delete_case lines x y reply o (sym (kind_at op o is) ∙ kind)
-    (subst (λ k. Does (λ store. without_key k store) (λ store. cond (is_some (document_at k store)) Deleted Absent) reply x y) (key_read op o key.len key.words is c.key_in-key.ensures.len c.key_in-key.ensures.words) d)))
+    (subst (λ k. Exactly (λ ws. cond (is_some (document_at k (store_in ws))) Deleted Absent) (with_key_removed k) reply x y) (key_read op o key.len key.words is c.key_in-key.ensures.len c.key_in-key.ensures.words) d)))
 
 pub returns-in_default-clause-done : goal.returns-in_default-clause-done
 returns-in_default-clause-done g c =
@@ -98,6 +99,6 @@ returns-in_default-clause-done g c =
     let fits = subst (λ z. FitsSigned w64 z) (sym c.cast_signed.ensures) (read_sfits w64 (get_or op 3 0)) in
     let amount_is : amount ≡ cast_signed w64 (get_or op 3 0) = passed_is c.cast_signed.result fits ∙ c.cast_signed.ensures in
     IfOk-weaker c.add.result (λ reply. Becomes (g.M.Memory.stands c.args.mem.now) (g.M.Memory.stands c.add.new.mem)
-    (Does (λ store. store_after_add lines store (unpacked key.len key.words) amount (number_at (unpacked key.len key.words) store)) (λ store. add_reply lines store (unpacked key.len key.words) amount (number_at (unpacked key.len key.words) store)) reply)) _ c.add.ensures.done
+    (Exactly (λ ws. add_reply lines (store_in ws) (unpacked key.len key.words) amount (number_at (unpacked key.len key.words) (store_in ws))) (λ ws. with_addition (unpacked key.len key.words) amount (number_at (unpacked key.len key.words) (store_in ws)) ws) reply)) _ c.add.ensures.done
     (λ reply b. Becomes-weaker b (λ first x y s d o is. add_case lines x y reply o amount (sym (kind_at op o is) ∙ kind) is.amount (amount_is ∙ ap (λ n. cast_signed w64 n) (number_at_op op o is))
-    (subst (λ k. Does (λ store. store_after_add lines store k amount (number_at k store)) (λ store. add_reply lines store k amount (number_at k store)) reply x y) (key_read op o key.len key.words is c.key_in-key.ensures.len c.key_in-key.ensures.words) d)))
+    (subst (λ k. Exactly (λ ws. add_reply lines (store_in ws) k amount (number_at k (store_in ws))) (λ ws. with_addition k amount (number_at k (store_in ws)) ws) reply x y) (key_read op o key.len key.words is c.key_in-key.ensures.len c.key_in-key.ensures.words) d)))

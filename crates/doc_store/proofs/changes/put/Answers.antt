@@ -1,5 +1,6 @@
 use Rattle.cx_base.specs.Packing.{unpacked}
-use Rattle.doc_store.proofs.Changing.{put_does, lines_are}
+use Rattle.doc_store.proofs.Changing.{lines_are}
+use Rattle.doc_store.proofs.ExactSteps.{put_runs}
 use Rattle.doc_store.proofs.changes.put.Goals as goal
 
 pub returns-clause-done : goal.returns-clause-done
@@ -9,10 +10,10 @@ returns-clause-done g c =
     let m = c.args.mem.now in
     record {
       from = λ first now s. (
-          let p = c.in_ok-inserted.ensures.done.from first now s in (
+          let p = c.in_ok-inserted.ensures.exact.from first now s in (
             p.0,
             p.1,
-            put_does c.args.lines p.0 now c.put_reply.result key document
-                (lines_are p.0 (g.M.Memory.size m) c.args.lines (g.met.M.Memory.words m first p.0 p.1).long c.requires.lines) c.in_ok-inserted.inserted p.2 c.put_reply.ensures,
+            put_runs c.args.lines p.0 now c.put_reply.result key document c.in_ok-inserted.inserted
+                (lines_are p.0 (g.M.Memory.size m) c.args.lines (g.met.M.Memory.words m first p.0 p.1).long c.requires.lines) p.2 c.put_reply.ensures,
           ));
     }

@@ -4,7 +4,8 @@ use Rattle.cx_base.specs.Packing.{unpacked}
 use Rattle.doc_model.specs.Words.{reply_words}
 use Rattle.doc_store.specs.StepOnWords.{sum_told}
 use Rattle.word_index.specs.Answers.{IsPackOf}
-use Rattle.doc_store.proofs.Changing.{put_sum_done, lines_are, sum_text, sum_packed, sum_is_document, passed_is}
+use Rattle.doc_store.proofs.Changing.{lines_are, sum_text, sum_packed, sum_is_document, passed_is}
+use Rattle.doc_store.proofs.ExactSteps.{put_sum_runs}
 use Rattle.doc_store.proofs.changes.put_sum.Goals as goal
 
 pub insert-requires-clause-doc : goal.insert-requires-clause-doc
@@ -29,10 +30,10 @@ returns-clause-done g c =
     let told = subst (λ z. c.sum_reply.result ≡ reply_words (sum_told z c.in_ok-inserted.inserted)) same c.sum_reply.ensures in
     record {
       from = λ first now s. (
-          let p = c.in_ok-inserted.ensures.done.from first now s in (
+          let p = c.in_ok-inserted.ensures.exact.from first now s in (
             p.0,
             p.1,
-            put_sum_done c.args.lines p.0 now c.sum_reply.result key (unpacked doc.len doc.words) c.args.sum c.in_ok-inserted.inserted
+            put_sum_runs c.args.lines p.0 now c.sum_reply.result key (unpacked doc.len doc.words) c.args.sum c.in_ok-inserted.inserted
                 (lines_are p.0 (g.M.Memory.size m) c.args.lines (g.met.M.Memory.words m first p.0 p.1).long c.requires.lines)
                 (sum_text c.args.sum doc.len doc.words c.requires.sum packs) p.2 told,
           ));

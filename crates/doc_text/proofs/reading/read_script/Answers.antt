@@ -1,8 +1,9 @@
 use Rattle.std.proofs.lemmas.Result.{err_from_is_err_and, IfOk-weaker}
-use Rattle.doc_text.specs.Grammar.{IsScript}
+use Rattle.std.proofs.Common.{◌≡◌, sym, subst}
+use Rattle.doc_text.specs.Grammar.{IsScript, no_script, text_lines}
 use Rattle.doc_text.specs.Limits.{KeepsLimits}
 use Rattle.doc_text.proofs.WithinLimits.{limits-script}
-use Rattle.doc_text.proofs.Adding.{finished_script, finished_only, refused_only}
+use Rattle.doc_text.proofs.Adding.{AddsAll-from, finished_script, finished_only, refused_only}
 use Rattle.doc_text.proofs.reading.read_script.Goals as goal
 
 pub returns-in_err-read_lines-clause-only : goal.returns-in_err-read_lines-clause-only
@@ -20,5 +21,7 @@ returns-clause-only c =
 
 pub returns-clause-limits : goal.returns-clause-limits
 returns-clause-limits c =
-    IfOk-weaker c.finish.result (IsScript c.args.bytes.now) KeepsLimits (λ script is. limits-script c.args.bytes.now script is)
-    (finished_script c.args.bytes.now c.in_ok-read_lines.field-0 c.finish.result c.in_ok-read_lines.ensures.script c.finish.ensures.ok)
+    let draft = c.in_ok-read_lines.field-0 in
+    let is : IsScript c.args.bytes.now draft = AddsAll-from no_script (text_lines c.args.bytes.now) draft c.in_ok-read_lines.ensures.script in
+    IfOk-weaker c.finish.result (λ script. script ≡ draft) KeepsLimits
+    (λ script same. subst KeepsLimits (sym same) (limits-script c.args.bytes.now draft is c.in_ok-read_lines.ensures.limits)) c.finish.ensures.ok

@@ -1,4 +1,5 @@
-use Rattle.std.proofs.Common.{◌+◌, ◌*◌, ◌≤◌, arith}
+use Rattle.std.proofs.Common.{is_some, ap, ◌∙◌, ◌+◌, ◌*◌, ◌≤◌, arith}
+use Rattle.cx_base.proofs.MemoryLemmas.{is_some-one_less}
 use Rattle.word_index.proofs.Memories.{line_inside}
 use Rattle.word_index.proofs.blocks.put.Goals as goal
 
@@ -21,3 +22,6 @@ store-requires-clause-at g c =
     let m = c.args.mem.now in
     let inside : 8 * c.args.line + 8 ≤ g.M.Memory.size m = line_inside (g.M.Memory.stands m) (g.M.Memory.size m) c.args.line (g.met.M.Memory.some_stands m) (g.met.M.Memory.words m) c.requires.line in
     omega (arith, c.requires.place)
+
+pub returns-clause-limited : goal.returns-clause-limited
+returns-clause-limited g c = ap is_some c.store.ensures.left ∙ is_some-one_less _

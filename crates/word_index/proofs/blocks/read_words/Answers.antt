@@ -1,7 +1,7 @@
 use Rattle.std.proofs.Common.{◌≡◌, ◌≢◌, ◌<◌, length, arith, rules, subst, ◌∙◌}
 use Rattle.std.proofs.lemmas.List.{length-set, get_or-set_other}
 use Rattle.cx_base.specs.Packing.{packed}
-use Rattle.word_index.proofs.Memories.{Reads-loaded, Reads-then, Reads-weaker}
+use Rattle.word_index.proofs.Memories.{kept_then, Reads-loaded, Reads-then, Reads-weaker}
 use Rattle.word_index.proofs.BlockReads.{read_more, read_all}
 use Rattle.word_index.proofs.blocks.read_words.Goals as goal
 
@@ -16,10 +16,12 @@ loop-i-preserved g c =
       done = Reads-then (Reads-loaded i.done w.done) a.done (λ ws pe q. read_more ws c.args.first c.args.count c.loop-i.i c.loop-i.line c.in_ok-line.line c.in_ok-into.field-0 c.loop-i.into below room pe.0 pe.1 q);
       rest = λ k past. (let ne : k ≢ c.loop-i.i = omega arith in rw get_or-set_other (i.rest k (omega arith)));
       room = rw length-set i.room;
+      kept = kept_then (kept_then i.kept w.kept) a.kept;
       sized = search rules;
       size = a.size ∙ w.size ∙ i.size;
       fixed = a.fixed ∙ w.fixed ∙ i.fixed;
       writable = a.writable ∙ w.writable ∙ i.writable;
+      limited = a.limited ∙ w.limited ∙ i.limited;
     }
 
 pub returns-clause-done : goal.returns-clause-done

@@ -1,15 +1,42 @@
-use Rattle.std.proofs.Common.{◌∷◌, replicate, ℕ, List, sym, take, arith, subst, ◌≡◌}
-use Rattle.cx_base.proofs.MemoryLemmas.{Becomes-weaker}
+use Rattle.std.proofs.Common.{is_some, rules, ap, sym, arith, subst, ◌∙◌}
+use Rattle.cx_base.proofs.MemoryLemmas.{Becomes-same, Becomes-store, Becomes-weaker, is_some-one_less}
 use Rattle.word_index.specs.Layout.{IsPartLength}
-use Rattle.word_index.proofs.Arrangements.{stands_empty}
+use Rattle.word_index.proofs.Arrangements.{empty_begins, empty_more, empty_stands, empty_done}
 use Rattle.word_index.proofs.format.format_index.Goals as goal
 
-header_is : (at version : ℕ) (ws : List ℕ) → at ≡ 8 → take at ws ≡ take at (version ∷ 0 ∷ 0 ∷ 1 ∷ replicate 4 0) → take 8 ws ≡ version ∷ 0 ∷ 0 ∷ 1 ∷ replicate 4 0
-header_is at version ws e h = subst (λ n. take n ws ≡ take n (version ∷ 0 ∷ 0 ∷ 1 ∷ replicate 4 0)) e h
+pub loop-at-init : goal.loop-at-init
+loop-at-init g c = record {
+  done = Becomes-weaker (Becomes-same _) (λ first x y s e. empty_begins c.args.version x y e);
+  sized = search rules;
+  can_store = search rules;
+  size = search rules;
+  fixed = search rules;
+  writable = search rules;
+  limited = search rules;
+}
+
+pub loop-at-preserved : goal.loop-at-preserved
+loop-at-preserved g c =
+    let i = c.loop-at.invariant in
+    let e = c.in_ok-store.ensures in
+    record {
+      done = Becomes-store i.done e.stands (λ first x y s r.
+          empty_more c.args.version c.loop-at.at c.header_word.result x y (omega arith) (subst IsPartLength (sym (g.met.M.Memory.words c.loop-at.mem first y s).long) i.sized) c.header_word.ensures r);
+      sized = search rules;
+      can_store = search rules;
+      size = e.size ∙ i.size;
+      fixed = e.fixed ∙ i.fixed;
+      writable = e.writable ∙ i.writable;
+      limited = ap is_some e.left ∙ is_some-one_less _ ∙ i.limited;
+    }
 
 pub returns-clause-done : goal.returns-clause-done
 returns-clause-done g c =
     let i = c.loop-at.invariant in
-    Becomes-weaker i.done (λ first x y s front.
-    let long = (g.met.M.Memory.words c.loop-at.mem first y s).long in
-    stands_empty y c.args.version (subst IsPartLength (sym long) i.sized) (header_is c.loop-at.at c.args.version y (omega arith) front))
+    Becomes-weaker i.done (λ first x y s r.
+    empty_stands c.args.version c.loop-at.at x y (omega arith) (subst IsPartLength (sym (g.met.M.Memory.words c.loop-at.mem first y s).long) i.sized) r)
+
+pub returns-clause-exact : goal.returns-clause-exact
+returns-clause-exact g c =
+    let i = c.loop-at.invariant in
+    Becomes-weaker i.done (λ first x y s r. empty_done c.args.version c.loop-at.at x y (omega arith) r)

@@ -1,18 +1,18 @@
-use Rattle.std.proofs.Common.{◌≡◌, ◌+◌, ◌≤◌, ℕ, List, slice_index, sym, ap, ◌∙◌, arith}
+use Rattle.std.proofs.Common.{◌≡◌, ◌^◌, ◌+◌, ◌≤◌, ℕ, List, slice_index, sym, ap, ◌∙◌, arith}
 use Rattle.cx_base.proofs.MemoryLemmas.{Becomes-same, Becomes-store}
 use Rattle.word_index.specs.Changes.{with_given, with_word, CanGive}
 use Rattle.word_index.specs.Layout.{word_of}
 use Rattle.word_index.proofs.Memories.{Reads-none, Reads-loaded, Becomes-loaded, always_at_most}
 use Rattle.word_index.proofs.given_back.give_back.Goals as goal
 
-small : (ws : List ℕ) (line number : ℕ) → CanGive ws line → word_of ws 0 4 ≡ number → number ≤ 16384
+small : (ws : List ℕ) (line number : ℕ) → CanGive ws line → word_of ws 0 4 ≡ number → number ≤ 2 ^ 32
 small ws line number can e = omega (arith, can.few)
 
 pub overflow_add-number : goal.overflow_add-number
 overflow_add-number g c =
     let m = c.word-2.new.mem in
     let r = Reads-loaded (Reads-loaded (Reads-none _ c.requires.line) c.in_ok-head.ensures.done) c.in_ok-number.ensures.done in
-    let few : c.in_ok-number.number ≤ 16384 = always_at_most (g.M.Memory.stands m) (g.met.M.Memory.some_stands m) c.in_ok-number.number 16384
+    let few : c.in_ok-number.number ≤ 2 ^ 32 = always_at_most (g.M.Memory.stands m) (g.met.M.Memory.some_stands m) c.in_ok-number.number (2 ^ 32)
     (λ first now s. (let p = r.from first now s in small now c.args.line c.in_ok-number.number p.1.0.0 p.1.1)) in
     omega arith
 

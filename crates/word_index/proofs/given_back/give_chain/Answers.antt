@@ -1,5 +1,7 @@
 use Rattle.std.proofs.Common.{rules, arith, ◌∙◌}
 use Rattle.cx_base.proofs.MemoryLemmas.{Becomes-same, Becomes-then, Becomes-weaker}
+use Rattle.word_index.specs.Exact.{with_chain_given}
+use Rattle.word_index.proofs.ExactRuns.{chain_begins, chain_goes_on, chain_ends}
 use Rattle.word_index.proofs.Memories.{Becomes-loaded, always_after}
 use Rattle.word_index.proofs.Giving.{so_far_none, next_can_be_given, so_far_more, so_far_all}
 use Rattle.word_index.proofs.given_back.give_chain.Goals as goal
@@ -7,11 +9,13 @@ use Rattle.word_index.proofs.given_back.give_chain.Goals as goal
 pub loop-init : goal.loop-init
 loop-init g c = record {
   done = Becomes-weaker (Becomes-same _) (λ first x y s e. so_far_none c.args.first c.args.count x y e);
+  exact = Becomes-weaker (Becomes-same _) (λ first x y s e. chain_begins c.args.count c.args.first x y e);
   sized = search rules;
   can_store = search rules;
   size = search rules;
   fixed = search rules;
   writable = search rules;
+  limited = search rules;
 }
 
 pub word-requires-clause-line : goal.word-requires-clause-line
@@ -32,14 +36,21 @@ loop-preserved g c =
     let b = c.in_ok-give_back.ensures in
     record {
       done = Becomes-then (Becomes-loaded i.done w.done) b.done (λ x y z r e. so_far_more c.args.first c.args.count l.counter l.line c.in_ok-next.next x y z c.loop-test.true r.0 r.1 e);
+      exact = Becomes-then (Becomes-loaded i.exact w.done) b.done (λ x y z r e. chain_goes_on c.args.count l.counter l.line c.in_ok-next.next y z (with_chain_given c.args.count c.args.first x) c.loop-test.true r.0 r.1 e);
       sized = search rules;
       can_store = search rules;
       size = b.size ∙ w.size ∙ i.size;
       fixed = b.fixed ∙ w.fixed ∙ i.fixed;
       writable = b.writable ∙ w.writable ∙ i.writable;
+      limited = b.limited ∙ w.limited ∙ i.limited;
     }
 
 pub returns-clause-done : goal.returns-clause-done
 returns-clause-done g c =
     let l = c.loop in
     Becomes-weaker l.invariant.done (λ first x y s r. so_far_all c.args.first c.args.count l.counter l.line x y (omega arith) r)
+
+pub returns-clause-exact : goal.returns-clause-exact
+returns-clause-exact g c =
+    let l = c.loop in
+    Becomes-weaker l.invariant.exact (λ first x y s r. chain_ends c.args.count l.counter l.line y (with_chain_given c.args.count c.args.first x) (omega arith) r)

@@ -1,5 +1,6 @@
-use Rattle.std.proofs.Common.{◌≡◌, IsTrue}
+use Rattle.std.proofs.Common.{◌≡◌, ◌-◌, is_some, IsTrue}
 use Rattle.cx_base.specs.Memory.{Becomes}
+use Rattle.word_index.specs.Exact.{with_chain_given}
 use Rattle.word_index.specs.Layout.{IsPartLength}
 use Rattle.word_index.proofs.Giving.{ChainSoFar}
 use Rattle.word_index.proofs.given_back.give_chain.Given as goal
@@ -7,9 +8,11 @@ use Rattle.word_index.proofs.given_back.give_chain.Given as goal
 abbrev pub invariant-loop : goal.invariant-loop
 invariant-loop g l = record {
   done : Becomes (g.M.Memory.stands l.fn.mem) (g.M.Memory.stands l.mem) (ChainSoFar l.first l.count l.counter l.line);
+  exact : Becomes (g.M.Memory.stands l.fn.mem) (g.M.Memory.stands l.mem) (λ x y. with_chain_given (l.count - l.counter) l.line y ≡ with_chain_given l.count l.first x);
   sized : IsPartLength (g.M.Memory.size l.mem);
   can_store : IsTrue (g.M.Memory.writable l.mem);
   size : g.M.Memory.size l.mem ≡ g.M.Memory.size l.fn.mem;
   fixed : g.M.Memory.fixed l.mem ≡ g.M.Memory.fixed l.fn.mem;
   writable : g.M.Memory.writable l.mem ≡ g.M.Memory.writable l.fn.mem;
+  limited : is_some (g.M.Memory.left l.mem) ≡ is_some (g.M.Memory.left l.fn.mem);
 }

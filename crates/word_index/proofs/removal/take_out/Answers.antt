@@ -1,6 +1,7 @@
 use Rattle.cx_base.proofs.MemoryLemmas.{Becomes-then}
 use Rattle.std.proofs.Common.{◌++◌}
 use Rattle.word_index.proofs.Linking.{taken_out}
+use Rattle.word_index.proofs.ExactRuns.{out_runs}
 use Rattle.word_index.proofs.Memories.{always_after}
 use Rattle.word_index.proofs.removal.take_out.Goals as goal
 
@@ -18,3 +19,7 @@ give_pair-requires-clause-pair g c =
 pub returns-clause-done : goal.returns-clause-done
 returns-clause-done g c =
     Becomes-then c.in_ok-next.ensures.done c.in_ok-give_pair.ensures.done (λ x y z u p. taken_out x y z c.args.before c.args.node c.in_ok-next.next u p)
+
+pub returns-clause-exact : goal.returns-clause-exact
+returns-clause-exact g c =
+    Becomes-then c.in_ok-next.ensures.exact c.in_ok-give_pair.ensures.exact (λ x y z u p. out_runs c.args.before c.args.node c.in_ok-next.next x y z u p)

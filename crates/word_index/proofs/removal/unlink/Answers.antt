@@ -3,6 +3,7 @@ use Rattle.cx_base.proofs.MemoryLemmas.{Becomes-same, Becomes-store}
 use Rattle.word_index.specs.Changes.{with_word}
 use Rattle.word_index.specs.Layout.{word_of}
 use Rattle.word_index.proofs.Linking.{node_inside, before_inside, some_pairs, unlinked}
+use Rattle.word_index.proofs.ExactRuns.{unlink_runs}
 use Rattle.word_index.proofs.Memories.{Reads-none, Reads-loaded, Becomes-loaded, always_at_most}
 use Rattle.word_index.proofs.removal.unlink.Goals as goal
 
@@ -42,3 +43,13 @@ returns-clause-done g c =
     let b = Becomes-loaded (Becomes-loaded (Becomes-same _) c.in_ok-next.ensures.done) c.in_ok-pairs.ensures.done in
     let p = Becomes-store {S = AfterLink before node next n} b c.in_ok-put.ensures.done (λ first x y s r. after_link before node next n x y r) in
     Becomes-store p c.in_ok-put-2.ensures.done (λ first x y s r. unlinked x (with_word 0 5 (n - 1) y) before node next n r.next_is r.number (ap (with_word 0 5 (n - 1)) r.is))
+
+pub returns-clause-exact : goal.returns-clause-exact
+returns-clause-exact g c =
+    let before = c.args.before in
+    let node = c.args.node in
+    let next = c.in_ok-next.next in
+    let n = c.in_ok-pairs.pairs in
+    let b = Becomes-loaded (Becomes-loaded (Becomes-same _) c.in_ok-next.ensures.done) c.in_ok-pairs.ensures.done in
+    let p = Becomes-store {S = AfterLink before node next n} b c.in_ok-put.ensures.done (λ first x y s r. after_link before node next n x y r) in
+    Becomes-store p c.in_ok-put-2.ensures.done (λ first x y s r. unlink_runs before node next n x y r.next_is r.number r.is)

@@ -1,5 +1,7 @@
 use Rattle.std.proofs.Common.{◌∙◌, rules, arith}
 use Rattle.cx_base.proofs.MemoryLemmas.{Becomes-same, Becomes-then, Becomes-weaker}
+use Rattle.word_index.specs.Exact.{with_text}
+use Rattle.word_index.proofs.ExactRuns.{text_begins, text_goes_on, text_ends}
 use Rattle.word_index.proofs.Memories.{always_after, Becomes-both}
 use Rattle.word_index.proofs.Writing.{written_none, can_take_next, taken_within, written_more, written_all}
 use Rattle.word_index.proofs.taken.write_text.Goals as goal
@@ -7,11 +9,13 @@ use Rattle.word_index.proofs.taken.write_text.Goals as goal
 pub loop-j-init : goal.loop-j-init
 loop-j-init g c = record {
   done = Becomes-weaker (Becomes-same _) (λ first x y s e. written_none c.args.words.now c.args.count x y e);
+  exact = Becomes-weaker (Becomes-same _) (λ first x y s e. text_begins c.args.words.now c.args.count x y e);
   sized = search rules;
   can_store = search rules;
   size = search rules;
   fixed = search rules;
   writable = search rules;
+  limited = search rules;
 }
 
 pub take_line-requires-clause-room : goal.take_line-requires-clause-room
@@ -32,14 +36,21 @@ loop-j-preserved g c =
     let p = c.in_ok-put_line.ensures in
     record {
       done = Becomes-then (Becomes-both i.done t.done) p.done (λ x z w r f. written_more c.args.words.now c.args.count l.j l.next c.in_ok-line.line c.block.result x r.0 z w c.loop-j-test.true r.1 r.2 c.block.ensures f);
+      exact = Becomes-then (Becomes-both i.exact t.exact) p.exact (λ x z w r f. text_goes_on c.args.words.now c.args.count l.j l.next c.in_ok-line.line c.block.result r.0 z w (with_text c.args.words.now c.args.count 0 x) c.loop-j-test.true r.1 r.2 c.block.ensures f);
       sized = search rules;
       can_store = search rules;
       size = p.size ∙ t.size ∙ i.size;
       fixed = p.fixed ∙ t.fixed ∙ i.fixed;
       writable = p.writable ∙ t.writable ∙ i.writable;
+      limited = p.limited ∙ t.limited ∙ i.limited;
     }
 
 pub returns-clause-done : goal.returns-clause-done
 returns-clause-done g c =
     let l = c.loop-j in
     Becomes-weaker l.invariant.done (λ first x y s r. written_all c.args.words.now c.args.count l.j l.next x y (omega arith) r)
+
+pub returns-clause-exact : goal.returns-clause-exact
+returns-clause-exact g c =
+    let l = c.loop-j in
+    Becomes-weaker l.invariant.exact (λ first x y s r. text_ends c.args.words.now c.args.count l.j l.next y (with_text c.args.words.now c.args.count 0 x) (omega arith) r)

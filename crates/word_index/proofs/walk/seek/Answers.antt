@@ -1,6 +1,6 @@
 use Rattle.std.proofs.Common.{rules, arith, ◌∙◌}
 use Rattle.cx_base.specs.Packing.{unpacked}
-use Rattle.word_index.proofs.Memories.{Reads-then, Reads-weaker, Reads-load, Reads-loaded, always_read}
+use Rattle.word_index.proofs.Memories.{kept_then, Reads-then, Reads-weaker, Reads-load, Reads-loaded, always_read}
 use Rattle.word_index.proofs.NodeReads.{node_within}
 use Rattle.word_index.proofs.Walks.{way_begins, way_has_node, way_goes_on, ends_at_key, ends_before, ends_behind}
 use Rattle.word_index.proofs.walk.seek.Goals as goal
@@ -11,10 +11,12 @@ loop-init g c =
     let b = c.in_ok-node.ensures in
     record {
       done = Reads-load a.done b.done (λ ws p e. way_begins ws (unpacked c.args.key.now.len c.args.key.now.words) c.in_ok-pairs.pairs c.in_ok-node.node p e);
+      kept = kept_then a.kept b.kept;
       sized = search rules;
       size = b.size ∙ a.size;
       fixed = b.fixed ∙ a.fixed;
       writable = b.writable ∙ a.writable;
+      limited = b.limited ∙ a.limited;
     }
 
 pub order_at-requires-clause-node : goal.order_at-requires-clause-node
@@ -46,10 +48,12 @@ loop-preserved g c =
     let w = c.in_ok-node-2.ensures in
     record {
       done = Reads-then i.done (Reads-loaded o.done w.done) (λ ws p q. way_goes_on ws (unpacked c.args.key.now.len c.args.key.now.words) c.in_ok-pairs.pairs l.counter l.before l.node c.in_ok-node-2.node c.in_ok-order_at.field-0 p c.loop-test.true q.0 c.in-Less.is q.1);
+      kept = kept_then (kept_then i.kept o.kept) w.kept;
       sized = search rules;
       size = w.size ∙ o.size ∙ i.size;
       fixed = w.fixed ∙ o.fixed ∙ i.fixed;
       writable = w.writable ∙ o.writable ∙ i.writable;
+      limited = w.limited ∙ o.limited ∙ i.limited;
     }
 
 pub returns-clause-done : goal.returns-clause-done

@@ -1,0 +1,40 @@
+#!/usr/bin/env python3
+"""Nanoseconds of the running table's calls on one thread and on two, and the memory of its largest table.
+
+Build the program first: cd crates/table_bench && rt run
+The time of a link includes one reading of the clock. Each link is won, or lost to the other thread and tried again.
+"""
+import os
+import subprocess
+import sys
+
+TABLE = os.path.join(os.path.dirname(__file__), "..", "crates", "table_bench", "out", "table_bench")
+
+
+def nanoseconds(work, count, threads):
+    words = [TABLE, work, str(count), str(threads)]
+    return int(subprocess.run(words, check=True, capture_output=True).stdout)
+
+
+def time_of(work, count):
+    one, two = (min(nanoseconds(work, count, threads) for _ in range(3)) for threads in (1, 2))
+    print(f"{work}: {one / count:.1f} ns on one thread, {two / count:.1f} ns on each of two at once, best of 3 runs")
+
+
+def memory():
+    with subprocess.Popen([TABLE, "table"], stdin=subprocess.PIPE, stdout=subprocess.PIPE) as child:
+        made = child.stdout.readline().decode().strip()
+        with open(f"/proc/{child.pid}/status") as file:
+            status = dict(line.split(":", 1) for line in file)
+        child.communicate(b"\n")
+    peak, now = (int(status[name].split()[0]) / 1024 for name in ("VmHWM", "VmRSS"))
+    print(f"8 callers, 16,384 lines: {made}, {now:.1f} MiB held, peak {peak:.1f} MiB")
+
+
+if __name__ == "__main__":
+    if not os.path.exists(TABLE):
+        sys.exit(__doc__)
+    time_of("look", 20_000_000)
+    time_of("announce", 300_000)
+    time_of("link", 3_000)
+    memory()

@@ -1,0 +1,20 @@
+-- The reasons of refusal as words.
+use Rattle.std.specs.Prelude.{ℕ, List, codes}
+use Rattle.doc_text.specs.declared.grammar.Reason.{Reason}
+use Rattle.doc_text.specs.declared.grammar.Reason.TheVariants as reasons
+
+abbrev pub reason_text : Reason → List ℕ
+reason_text reasons.Utf8 = codes "utf8"
+reason_text reasons.Header = codes "header"
+reason_text reasons.Life = codes "life"
+reason_text reasons.Lives = codes "lives"
+reason_text reasons.Cut = codes "cut"
+reason_text reasons.Client = codes "client"
+reason_text reasons.Commands = codes "commands"
+reason_text reasons.Command = codes "command"
+reason_text reasons.Key = codes "key"
+reason_text reasons.Number = codes "number"
+reason_text reasons.Json = codes "json"
+reason_text reasons.Fraction = codes "fraction"
+reason_text reasons.Long = codes "long"
+reason_text reasons.Form = codes "form"

@@ -1,0 +1,78 @@
+//! Documents: JSON, kept as its compact text.
+
+ghost use Rattle.std.specs.Prelude.{◌≡◌, IfOk, IsUtf8};
+ghost use Rattle.serde_json.specs.Written.{has_float, items_have_float, members_have_float};
+ghost use Rattle.serde_json.specs.View.{view, items_view, members_view};
+ghost use Rattle.cx_base.specs.Store.{IsDocument};
+ghost use Rattle.doc_text.specs.Document.{document_of};
+
+use crate::grammar::Reason;
+use cx_base::Bytes;
+use serde_json::{Map, Value};
+use std::alloc::{AllocError, Global};
+
+/// The most bytes of a document.
+const MAX_DOCUMENT: usize = 1024;
+
+/// The document that a JSON text is kept as, or why it is none. `Err` is want of memory.
+pub(crate) fn read_document(alloc: Global, json: &[u8]) -> Result<Result<Bytes, Reason>, AllocError>
+    requires { IsUtf8 json.now }
+    ensures value { IfOk result (λ read. read ≡ document_of json.now) }
+    ensures limits { IfOk result (λ read. IfOk read IsDocument) }
+{
+    let value = match Value::from_slice(alloc, json) {
+        Ok(value) => value,
+        Err(error) => {
+            return if error.is_memory() {
+                Err(AllocError)
+            } else {
+                Ok(Err(Reason::Json))
+            };
+        }
+    };
+    if has_float(&value) {
+        return Ok(Err(Reason::Fraction));
+    }
+    let text = value.to_string(alloc)?;
+    if text.len() > MAX_DOCUMENT {
+        return Ok(Err(Reason::Long));
+    }
+    Ok(Ok(Bytes::of_vec(text.into_bytes())))
+}
+
+/// Whether some number of the value is no 64-bit integer.
+#[cycle(has_float)]
+fn has_float(value: &Value) -> bool
+    ensures { result ≡ has_float (view value.now) }
+{
+    match value {
+        Value::Null | Value::Bool(_) | Value::String(_) => false,
+        Value::Number(number) => number.is_f64(),
+        Value::Array(items) => items_have_float(items),
+        Value::Object(members) => members_have_float(members),
+    }
+}
+
+#[cycle(has_float)]
+fn items_have_float(items: &Vec<Value>) -> bool
+    ensures { result ≡ items_have_float (items_view items.now.items) }
+{
+    for item in items {
+        if has_float(item) {
+            return true;
+        }
+    }
+    false
+}
+
+#[cycle(has_float)]
+fn members_have_float(members: &Map<String, Value>) -> bool
+    ensures { result ≡ members_have_float (members_view members.now.entries) }
+{
+    for (_key, member) in members.iter() {
+        if has_float(member) {
+            return true;
+        }
+    }
+    false
+}

@@ -1,0 +1,54 @@
+//! Nanoseconds of the calls of the running table, on one thread and on two, and a table to be weighed from outside. With
+//! no words it does nothing. `look N T`, `announce N T` and `link N T` do a call N times on each of T threads and print
+//! the nanoseconds that it took; `table` makes a table of 8 callers and 16,384 lines, and waits for a line of input.
+#![tactic(auto)]
+
+mod works;
+
+use crate::works::{announces, links, looks, table};
+use std::alloc::Global;
+use std::process::ExitCode;
+use std::rt::Runtime;
+use std::thread::Threads;
+use std::{env, io};
+
+fn main(rt: HostRuntime) -> ExitCode {
+    let done = match words(&rt) {
+        Ok(words) => run(&rt, rt.alloc(), &words),
+        Err(fault) => Err(fault),
+    };
+    match done {
+        Ok(()) => ExitCode::SUCCESS,
+        Err(_) => ExitCode::FAILURE,
+    }
+}
+
+// The words behind the program's name.
+fn words(rt: &HostRuntime) -> io::Result<Vec<String>> {
+    Ok(env::args(rt)?.skip(1).collect(rt.alloc())?)
+}
+
+// Does what the words say.
+fn run<R: Runtime + Threads + Sync>(rt: &R, alloc: Global, words: &[String]) -> io::Result<()> {
+    let Some(work) = words.first() else {
+        return Ok(());
+    };
+    let count = number(words.get(1));
+    let two = number(words.get(2)) == 2;
+    let nanoseconds = match work.as_str() {
+        "look" => looks(rt, alloc, count, two)?,
+        "announce" => announces(rt, alloc, count, two)?,
+        "link" => links(rt, alloc, count, two)?,
+        _ => return table(rt, alloc),
+    };
+    println!(rt; "{nanoseconds}")?;
+    Ok(())
+}
+
+// The number that a word is, 0 where it is none.
+fn number(word: Option<&String>) -> u64 {
+    match word {
+        Some(word) => word.parse().unwrap_or(0),
+        None => 0,
+    }
+}

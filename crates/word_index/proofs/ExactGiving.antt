@@ -1,0 +1,132 @@
+-- What is taken out leaves the exact words of its meaning.
+use Rattle.std.proofs.Common.{◌≡◌, ◌^◌, ◌+◌, ◌-◌, ◌*◌, ◌/◌, ◌<◌, ◌≤◌, ℕ, zero, suc, List, length, get_or, set, refl, sym, ap, subst, ◌∙◌, inl, inr, lit<, arith}
+use Rattle.std.specs.Int.{div_ceil}
+use Rattle.std.proofs.lemmas.Bool.{cases_lt}
+use Rattle.std.proofs.lemmas.List.{get_or_past, length-set}
+use Rattle.std.proofs.lemmas.List.Elements.{All-set}
+use Rattle.cx_base.specs.Memory.{Words}
+use Rattle.word_index.specs.Changes.{with_word, with_given, LooseChain, ChainGiven, LooseText, TextGiven, HasLoosePair, PairGiven, HasGap, Unlinked, TakenOut}
+use Rattle.word_index.specs.Exact.{with_chain_given, with_text_given, with_pair_given, with_unlinked, with_taken_out}
+use Rattle.word_index.specs.Layout.{word_of}
+use Rattle.word_index.proofs.Giving.{ChainSoFar, so_far_none, so_far_more, so_far_all, next_can_be_given}
+use Rattle.word_index.proofs.Linking.{unlinked, taken_out}
+use Rattle.word_index.proofs.Pairs.{text_given, pair_given, has_document_text, has_key_text, node_can_be_given}
+use Rattle.std.proofs.Common.{◌++◌}
+
+-- words among words
+pub word_fits : (n : ℕ) (ws : List ℕ) → Words n ws → (i : ℕ) → get_or ws i 0 < 2 ^ 64
+word_fits n ws w i = elim (cases_lt i (length ws)) [
+  | inl lt ↦ w.fit i 0 lt
+  | inr ge ↦ subst (λ v. v < 2 ^ 64) (sym (get_or_past ws i 0 ge)) (lit< tt)
+]
+
+pub set_at_words : (n : ℕ) (ws : List ℕ) (at v : ℕ) → v < 2 ^ 64 → Words n ws → Words n (set ws at v)
+set_at_words n ws at v small w = record { long = length-set ws at v ∙ w.long; fit = All-set (λ x. x < 2 ^ 64) ws at v small w.fit }
+
+pub set_words : (n : ℕ) (ws : List ℕ) (line i v : ℕ) → v < 2 ^ 64 → Words n ws → Words n (with_word line i v ws)
+set_words n ws line i v small w = record { long = length-set ws (8 * line + i) v ∙ w.long; fit = All-set (λ x. x < 2 ^ 64) ws (8 * line + i) v small w.fit }
+
+pub given_words : (n : ℕ) (ws : List ℕ) (line : ℕ) → line < 2 ^ 64 → word_of ws 0 4 ≤ 2 ^ 32 → Words n ws → Words n (with_given line ws)
+unfolding with_given
+given_words n ws line small few w =
+    let w1 = with_word line 0 (word_of ws 0 2) ws in
+    let w2 = with_word 0 2 line w1 in
+    set_words n w2 0 4 (word_of ws 0 4 + 1) (omega arith) (set_words n w1 0 2 line small (set_words n ws line 0 (word_of ws 0 2) (word_fits n ws w 2) w))
+
+-- a chain
+module _ (first count : ℕ) (x : List ℕ) where
+  chain_goes : (n i line : ℕ) (y : List ℕ) → i + n ≡ count → ChainSoFar first count i line x y → ChainGiven first count x (with_chain_given n line y)
+  chain_goes zero i line y e r = so_far_all first count i line x y (omega arith) r
+  chain_goes (suc n) i line y e r =
+      chain_goes n (i + 1) (word_of y line 0) (with_given line y) (omega arith) (so_far_more first count i line (word_of y line 0) x y (with_given line y) (omega arith) r refl refl)
+
+  chain_words_go : (k n i line : ℕ) (y : List ℕ) → i + n ≡ count → LooseChain x first count → ChainSoFar first count i line x y → line < 2 ^ 64 → Words k y → Words k (with_chain_given n line y)
+  chain_words_go k zero i line y e h r small w = w
+  chain_words_go k (suc n) i line y e h r small w =
+      let can = next_can_be_given first count i line x y (omega arith) h r in
+      chain_words_go k n (i + 1) (word_of y line 0) (with_given line y) (omega arith) h (so_far_more first count i line (word_of y line 0) x y (with_given line y) (omega arith) r refl refl)
+      (word_fits k y w (8 * line + 0)) (given_words k y line small can.few w)
+
+  pub chain_is_given : ChainGiven first count x (with_chain_given count first x)
+  chain_is_given = chain_goes count 0 first x (omega arith) (so_far_none first count x x refl)
+
+  pub chain_given_words : (k : ℕ) → LooseChain x first count → first < 2 ^ 64 → Words k x → Words k (with_chain_given count first x)
+  chain_given_words k h small w = chain_words_go k count 0 first x (omega arith) h (so_far_none first count x x refl) small w
+
+pub blocks_are : (len : ℕ) → (len + 55) / 56 ≡ div_ceil len 56
+blocks_are len = omega arith
+
+pub text_is_given : (node at : ℕ) (x : List ℕ) → TextGiven node at x (with_text_given node at x)
+unfolding with_text_given
+text_is_given node at x =
+    let len = word_of x node (at + 1) in
+    text_given node at (word_of x node at) len ((len + 55) / 56) x x (with_chain_given ((len + 55) / 56) (word_of x node at) x) refl refl refl (blocks_are len)
+    (chain_is_given (word_of x node at) ((len + 55) / 56) x)
+
+loose_chain : (x : List ℕ) (node at : ℕ) → LooseText x node at → LooseChain x (word_of x node at) ((word_of x node (at + 1) + 55) / 56)
+loose_chain x node at t = record {
+  version = t.version;
+  store = t.store;
+  places = t.places;
+  lines = t.lines;
+  others = t.others;
+  loose = t.loose;
+  chain = t.text.holds.chain;
+  counted = ap (λ n. (n + 55) / 56) t.text.long ∙ sym t.text.holds.enough;
+}
+
+pub text_given_words : (k node at : ℕ) (x : List ℕ) → LooseText x node at → Words k x → Words k (with_text_given node at x)
+unfolding with_text_given
+text_given_words k node at x t w =
+    chain_given_words (word_of x node at) ((word_of x node (at + 1) + 55) / 56) x k (loose_chain x node at t) (word_fits k x w (8 * node + at)) w
+
+-- a pair
+pub pair_is_given : (node : ℕ) (x : List ℕ) → PairGiven node x (with_pair_given node x)
+unfolding with_pair_given
+pair_is_given node x =
+    let y = with_text_given node 5 x in
+    let z = with_text_given node 3 y in
+    pair_given x y z (with_given node z) node (text_is_given node 5 x) (text_is_given node 3 y) refl
+
+pub pair_given_words : (k node : ℕ) (x : List ℕ) → HasLoosePair x node → node < 2 ^ 64 → Words k x → Words k (with_pair_given node x)
+unfolding with_pair_given
+pair_given_words k node x h small w =
+    let y = with_text_given node 5 x in
+    let z = with_text_given node 3 y in
+    let t = text_is_given node 5 x in
+    let can = node_can_be_given x y z node h t (text_is_given node 3 y) in
+    given_words k z node small can.few (text_given_words k node 3 y (has_key_text x y node h t) (text_given_words k node 5 x (has_document_text x node h) w))
+
+pub unlinked_is : (before node : ℕ) (x : List ℕ) → Unlinked before node (word_of x node 1) x (with_unlinked before node x)
+unfolding with_unlinked
+unlinked_is before node x = unlinked x (with_word 0 5 (word_of x 0 5 - 1) (with_word before 1 (word_of x node 1) x)) before node (word_of x node 1) (word_of x 0 5) refl refl refl
+
+one_less_fits : (v : ℕ) → v < 2 ^ 64 → v - 1 < 2 ^ 64
+one_less_fits v l = omega arith
+
+pub unlinked_words : (k before node : ℕ) (x : List ℕ) → Words k x → Words k (with_unlinked before node x)
+unfolding with_unlinked
+unlinked_words k before node x w =
+    set_words k (with_word before 1 (word_of x node 1) x) 0 5 (word_of x 0 5 - 1) (one_less_fits (word_of x 0 5) (word_fits k x w 5)) (set_words k x before 1 (word_of x node 1) (word_fits k x w (8 * node + 1)) w)
+
+pub taken_out_is : (before node : ℕ) (x : List ℕ) → TakenOut before node (word_of x node 1) x (with_taken_out before node x)
+unfolding with_taken_out
+taken_out_is before node x =
+    let y = with_unlinked before node x in
+    taken_out x y (with_pair_given node y) before node (word_of x node 1) (unlinked_is before node x) (pair_is_given node y)
+
+pub loose_pair : (before node : ℕ) (x : List ℕ) → HasGap x before node → HasLoosePair (with_unlinked before node x) node
+loose_pair before node x h = record {
+  version = h.version;
+  store = h.lower ++ h.after;
+  places = h.front ++ h.rest;
+  place = h.place;
+  pair = h.pair;
+  there = (unlinked_is before node x h.version h.lower h.after h.pair h.front h.rest h.place h.gap).0;
+}
+
+pub taken_out_words : (k before node : ℕ) (x : List ℕ) → HasGap x before node → node < 2 ^ 64 → Words k x → Words k (with_taken_out before node x)
+unfolding with_taken_out
+taken_out_words k before node x h small w =
+    let y = with_unlinked before node x in
+    pair_given_words k node y (loose_pair before node x h) small (unlinked_words k before node x w)

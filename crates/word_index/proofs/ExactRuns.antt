@@ -1,0 +1,204 @@
+-- How the calls come to the exact words, step by step.
+use Rattle.std.proofs.Common.{◌≡◌, ◌+◌, ◌-◌, ◌*◌, ◌/◌, ◌<◌, ◌≤◌, ◌==◌, ℕ, zero, suc, Bool, true, false, cond, List, [], ◌∷◌, ◌++◌, length, get_or, set, take, map, zero-add, sym, ap, ap₂, ◌∙◌, arith}
+use Rattle.std.specs.Int.{div_ceil}
+use Rattle.std.specs.List.{range_with_len}
+use Rattle.std.proofs.lemmas.Bool.Decides.{nat_tests}
+use Rattle.std.proofs.lemmas.List.{take_more, take_all, length-take-le}
+use Rattle.std.proofs.lemmas.Grind.{same_number_lists}
+use Rattle.std.proofs.lemmas.List.FromFn.{length-map-range_with_len, get_or-map-range_with_len}
+use Rattle.cx_base.specs.Packing.{packed, unpacked}
+use Rattle.cx_base.specs.Store.{blocks}
+use Rattle.doc_model.specs.Meaning.{with_pair, has_room}
+use Rattle.word_index.specs.Answers.{IsPacked}
+use Rattle.word_index.specs.Changes.{with_word, with_given}
+use Rattle.word_index.specs.Exact.{store_in, node_below, is_key_in, with_chain_given, with_text_given, with_pair_given, with_unlinked, with_taken_out, with_key_removed, line_to_take, with_line_taken, with_row, block_words, with_text, with_new_pair, with_linked, with_put_in, with_cleared, with_placed, with_document, inserted_in}
+use Rattle.word_index.specs.Fresh.{IsBlock}
+use Rattle.word_index.specs.Insertion.{Inserts}
+use Rattle.word_index.specs.declared.insertion.Inserted.{Inserted}
+use Rattle.word_index.specs.declared.insertion.Inserted.TheVariants.{New, Replaced, NoRoom}
+use Rattle.word_index.specs.Layout.{word_of, line_count, IsIndex}
+use Rattle.word_index.specs.Walk.{AtSpot}
+use Rattle.word_index.proofs.ExactGiving.{blocks_are}
+use Rattle.word_index.proofs.ExactStores.{stands_read, place_is}
+use Rattle.word_index.proofs.ExactTaking.{row_more}
+use Rattle.word_index.proofs.Putting.{length_unpacked}
+
+-- a chain given back
+pub chain_begins : (count first : ℕ) (x y : List ℕ) → x ≡ y → with_chain_given (count - 0) first y ≡ with_chain_given count first x
+chain_begins count first x y e = (let z : count - 0 ≡ count = omega arith in ap (λ n. with_chain_given n first y) z ∙ ap (with_chain_given count first) (sym e))
+
+pub chain_goes_on : (count i line next : ℕ) (y z target : List ℕ) → i < count → with_chain_given (count - i) line y ≡ target → word_of y line 0 ≡ next → z ≡ with_given line y → with_chain_given (count - (i + 1)) next z ≡ target
+chain_goes_on count i line next y z target l r word is =
+    let less : count - i ≡ suc (count - (i + 1)) = omega arith in
+    ap (λ n. with_chain_given (count - (i + 1)) n z) (sym word) ∙ ap (with_chain_given (count - (i + 1)) (word_of y line 0)) is ∙ ap (λ n. with_chain_given n line y) (sym less) ∙ r
+
+pub chain_ends : (count i line : ℕ) (y target : List ℕ) → i ≡ count → with_chain_given (count - i) line y ≡ target → y ≡ target
+chain_ends count i line y target e r = (let none : count - i ≡ 0 = omega arith in ap (λ n. with_chain_given n line y) (sym none) ∙ r)
+
+pub text_runs : (node at first len count : ℕ) (x y z : List ℕ) → y ≡ x → word_of y node at ≡ first → word_of y node (at + 1) ≡ len → count ≡ div_ceil len 56 → z ≡ with_chain_given count first y → z ≡ with_text_given node at x
+unfolding with_text_given
+text_runs node at first len count x y z e first_is len_is counted is =
+    let len_here : word_of x node (at + 1) ≡ len = ap (λ w. word_of w node (at + 1)) (sym e) ∙ len_is in
+    let first_here : word_of x node at ≡ first = ap (λ w. word_of w node at) (sym e) ∙ first_is in
+    let blocks : count ≡ (word_of x node (at + 1) + 55) / 56 = counted ∙ sym (blocks_are len) ∙ ap (λ n. (n + 55) / 56) (sym len_here) in
+    is ∙ ap (with_chain_given count first) e ∙ ap (λ n. with_chain_given n first x) blocks ∙ ap (λ n. with_chain_given ((word_of x node (at + 1) + 55) / 56) n x) (sym first_here)
+
+pub pair_runs : (node : ℕ) (x y z w : List ℕ) → y ≡ with_text_given node 5 x → z ≡ with_text_given node 3 y → w ≡ with_given node z → w ≡ with_pair_given node x
+unfolding with_pair_given
+pair_runs node x y z w d k is = is ∙ ap (with_given node) (k ∙ ap (with_text_given node 3) d)
+
+pub unlink_runs : (before node next n : ℕ) (x y : List ℕ) → word_of x node 1 ≡ next → word_of x 0 5 ≡ n → y ≡ with_word before 1 next x → (next ≡ word_of x node 1) × (with_word 0 5 (n - 1) y ≡ with_unlinked before node x)
+unfolding with_unlinked
+unlink_runs before node next n x y next_is number is = (
+  sym next_is,
+  ap (with_word 0 5 (n - 1)) is ∙ ap (λ m. with_word 0 5 (m - 1) (with_word before 1 next x)) (sym number) ∙ ap (λ m. with_word 0 5 (word_of x 0 5 - 1) (with_word before 1 m x)) (sym next_is),
+)
+
+pub out_runs : (before node next : ℕ) (x y z : List ℕ) → (next ≡ word_of x node 1) × (y ≡ with_unlinked before node x) → z ≡ with_pair_given node y → (next ≡ word_of x node 1) × (z ≡ with_taken_out before node x)
+unfolding with_taken_out
+out_runs before node next x y z u is = (u.0, is ∙ ap (with_pair_given node) u.1)
+
+pub removal_runs : (key : List ℕ) (before node : ℕ) (x y z : List ℕ) → IsIndex y → y ≡ x → AtSpot key before node true y → z ≡ with_taken_out before node y → (true ≡ is_key_in key x) × (z ≡ with_key_removed key x)
+unfolding with_key_removed
+removal_runs key before node x y z i e spot is =
+    let p = place_is y key before node true spot i in
+    let here : true ≡ is_key_in key x = p.same_is ∙ ap (is_key_in key) e in (
+      here,
+      is ∙ ap₂ (λ b n. with_taken_out b n y) p.before_is p.node_is ∙ ap (λ w. with_taken_out (node_below key w) (word_of w (node_below key w) 1) w) e
+          ∙ ap (λ b. cond b (with_taken_out (node_below key x) (word_of x (node_below key x) 1) x) x) here,
+    )
+
+pub no_removal_runs : (key : List ℕ) (before node : ℕ) (x y : List ℕ) → IsIndex y → y ≡ x → AtSpot key before node false y → (false ≡ is_key_in key x) × (y ≡ with_key_removed key x)
+unfolding with_key_removed
+no_removal_runs key before node x y i e spot =
+    let p = place_is y key before node false spot i in
+    let here : false ≡ is_key_in key x = p.same_is ∙ ap (is_key_in key) e in
+    (here, e ∙ ap (λ b. cond b (with_taken_out (node_below key x) (word_of x (node_below key x) 1) x) x) here)
+
+-- a line taken
+pub new_line_runs : (x y z : List ℕ) (head line : ℕ) → y ≡ x → word_of y 0 2 ≡ head → head ≡ 0 → (word_of y 0 3 ≡ line) × (z ≡ with_word 0 3 (line + 1) y) → (line ≡ line_to_take x) × (z ≡ with_line_taken x)
+unfolding line_to_take with_line_taken
+new_line_runs x y z head line e is none r =
+    let first : word_of x 0 2 ≡ 0 = ap (λ w. word_of w 0 2) (sym e) ∙ is ∙ none in
+    let test : (word_of x 0 2 == 0) ≡ true = ap (λ n. n == 0) first in
+    let last : line ≡ word_of x 0 3 = sym r.0 ∙ ap (λ w. word_of w 0 3) e in (
+      last ∙ ap (λ b. cond b (word_of x 0 3) (word_of x 0 2)) (sym test),
+      r.1 ∙ ap₂ (λ n w. with_word 0 3 (n + 1) w) last e
+          ∙ ap (λ b. cond b (with_word 0 3 (word_of x 0 3 + 1) x) (with_word 0 4 (word_of x 0 4 - 1) (with_word 0 2 (word_of x (word_of x 0 2) 0) x))) (sym test),
+    )
+
+not_zero : (n m : ℕ) → n ≡ m → (m ≡ 0 → ⊥) → (n == 0) ≡ false
+not_zero n m e some = (let other : n ≡ 0 → ⊥ = λ h. some (sym e ∙ h) in grind (arith, nat_tests))
+
+pub given_line_runs : (x y z : List ℕ) (head : ℕ) → y ≡ x → word_of y 0 2 ≡ head → (head ≡ 0 → ⊥) → z ≡ with_word 0 4 (word_of y 0 4 - 1) (with_word 0 2 (word_of y head 0) y) → (head ≡ line_to_take x) × (z ≡ with_line_taken x)
+unfolding line_to_take with_line_taken
+given_line_runs x y z head e is some r =
+    let first : word_of x 0 2 ≡ head = ap (λ w. word_of w 0 2) (sym e) ∙ is in
+    let test : (word_of x 0 2 == 0) ≡ false = not_zero (word_of x 0 2) head first some in (
+      sym first ∙ ap (λ b. cond b (word_of x 0 3) (word_of x 0 2)) (sym test),
+      r ∙ ap (λ w. with_word 0 4 (word_of w 0 4 - 1) (with_word 0 2 (word_of w head 0) w)) e ∙ ap (λ h. with_word 0 4 (word_of x 0 4 - 1) (with_word 0 2 (word_of x h 0) x)) (sym first)
+          ∙ ap (λ b. cond b (with_word 0 3 (word_of x 0 3 + 1) x) (with_word 0 4 (word_of x 0 4 - 1) (with_word 0 2 (word_of x (word_of x 0 2) 0) x))) (sym test),
+    )
+
+-- a line filled
+pub row_goes_on : (line i v : ℕ) (content x y : List ℕ) → i < length content → v ≡ get_or content i 0 → y ≡ with_row (8 * line) (take i content) x → with_word line i v y ≡ with_row (8 * line) (take (i + 1) content) x
+row_goes_on line i v content x y l is r =
+    let long : length (take i content) ≡ i = length-take-le i content (omega arith) in
+    ap (with_word line i v) r ∙ ap (λ n. set (with_row (8 * line) (take i content) x) (8 * line + n) v) (sym long) ∙ sym (row_more (8 * line) v (take i content) x)
+    ∙ ap (λ s. with_row (8 * line) s x) (ap (λ u. take i content ++ u ∷ []) is ∙ sym (take_more content i 0 l))
+
+pub row_ends : (line i : ℕ) (content x y : List ℕ) → length content ≤ i → y ≡ with_row (8 * line) (take i content) x → y ≡ with_row (8 * line) content x
+row_ends line i content x y l r = r ∙ ap (λ s. with_row (8 * line) s x) (take_all i content l)
+
+pub block_exact : (next : ℕ) (text : List ℕ) (from : ℕ) (content : List ℕ) → IsBlock next text from content → content ≡ block_words next text from
+unfolding block_words
+block_exact next text from content b =
+    same_number_lists content (next ∷ map (λ i. get_or text (from + i) 0) (range_with_len 0 7)) (b.long ∙ sym (ap suc (length-map-range_with_len (λ i. get_or text (from + i) 0) 0 7))) (λ k l. at_place k l)
+  where
+    at_place : (k : ℕ) → k < length content → get_or content k 0 ≡ get_or (next ∷ map (λ i. get_or text (from + i) 0) (range_with_len 0 7)) k 0
+    at_place zero l = b.first
+    at_place (suc j) l =
+        let e : 1 + j ≡ suc j = omega arith in
+        let small : j < 7 = omega (arith, b.long) in
+        sym (ap (λ n. get_or content n 0) e) ∙ b.rest j small ∙ sym (get_or-map-range_with_len (λ i. get_or text (from + i) 0) 0 7 j j 0 small (zero-add j))
+
+-- a text written
+pub text_begins : (text : List ℕ) (count : ℕ) (x y : List ℕ) → x ≡ y → with_text text (count - 0) 0 y ≡ with_text text count 0 x
+text_begins text count x y e = (let z : count - 0 ≡ count = omega arith in ap (λ n. with_text text n 0 y) z ∙ ap (with_text text count 0) (sym e))
+
+pub text_goes_on : (text : List ℕ) (count j next line : ℕ) (content y z w : List ℕ) (target : ℕ × List ℕ) → j < count → with_text text (count - j) next y ≡ target → (line ≡ line_to_take y) × (z ≡ with_line_taken y) →
+    IsBlock next text (7 * (count - 1 - j)) content → w ≡ with_row (8 * line) content z → with_text text (count - (j + 1)) line w ≡ target
+text_goes_on text count j next line content y z w target l r t b f =
+    let less : count - j ≡ suc (count - (j + 1)) = omega arith in
+    let from : count - 1 - j ≡ count - (j + 1) = omega arith in
+    let block : content ≡ block_words next text (7 * (count - (j + 1))) = block_exact next text (7 * (count - 1 - j)) content b ∙ ap (λ n. block_words next text (7 * n)) from in
+    let row : w ≡ with_row (8 * line_to_take y) (block_words next text (7 * (count - (j + 1)))) (with_line_taken y) =
+    f ∙ ap (λ s. with_row (8 * line) s z) block ∙ ap₂ (λ n v. with_row (8 * n) (block_words next text (7 * (count - (j + 1)))) v) t.0 t.1 in
+    ap₂ (λ n v. with_text text (count - (j + 1)) n v) t.0 row ∙ ap (λ n. with_text text n next y) (sym less) ∙ r
+
+pub text_ends : (text : List ℕ) (count j next : ℕ) (y : List ℕ) (target : ℕ × List ℕ) → j ≡ count → with_text text (count - j) next y ≡ target → target ≡ (next, y)
+text_ends text count j next y target e r = (let none : count - j ≡ 0 = omega arith in sym r ∙ ap (λ n. with_text text n next y) none)
+
+-- a pair written
+pub new_pair_runs : (next node key_first doc_first key_len doc_len count other : ℕ) (key_words doc_words x y z w v : List ℕ) → IsPacked 8 key_len key_words → IsPacked 128 doc_len doc_words → count ≡ div_ceil key_len 56 → other ≡ div_ceil doc_len 56 →
+    (node ≡ line_to_take x) × (y ≡ with_line_taken x) → with_text key_words count 0 y ≡ (key_first, z) → with_text doc_words other 0 z ≡ (doc_first, w) →
+    v ≡ with_row (8 * node) (0 ∷ next ∷ 0 ∷ key_first ∷ key_len ∷ doc_first ∷ doc_len ∷ 0 ∷ []) w → with_new_pair next (unpacked key_len key_words, unpacked doc_len doc_words) x ≡ (node, v)
+unfolding with_new_pair
+new_pair_runs next node key_first doc_first key_len doc_len count other key_words doc_words x y z w v key_packed doc_packed counted other_counted t k d f =
+    let key = unpacked key_len key_words in
+    let doc = unpacked doc_len doc_words in
+    let key_long : length key ≡ key_len = length_unpacked key_len key_words in
+    let doc_long : length doc ≡ doc_len = length_unpacked doc_len doc_words in
+    let key_blocks : blocks key ≡ count = ap (λ n. (n + 55) / 56) key_long ∙ blocks_are key_len ∙ sym counted in
+    let doc_blocks : blocks doc ≡ other = ap (λ n. (n + 55) / 56) doc_long ∙ blocks_are doc_len ∙ sym other_counted in
+    let key_text : with_text (packed 8 key) (blocks key) 0 (with_line_taken x) ≡ (key_first, z) =
+    ap₂ (λ s n. with_text s n 0 (with_line_taken x)) (sym key_packed.unused) key_blocks ∙ ap (with_text key_words count 0) (sym t.1) ∙ k in
+    let after : (with_text (packed 8 key) (blocks key) 0 (with_line_taken x)).1 ≡ z = ap (λ p. p.1) key_text in
+    let doc_text : with_text (packed 128 doc) (blocks doc) 0 (with_text (packed 8 key) (blocks key) 0 (with_line_taken x)).1 ≡ (doc_first, w) =
+    ap (with_text (packed 128 doc) (blocks doc) 0) after ∙ ap₂ (λ s n. with_text s n 0 z) (sym doc_packed.unused) doc_blocks ∙ d in
+    let row : ℕ × List ℕ → ℕ × List ℕ → ℕ → ℕ → ℕ → ℕ × List ℕ = λ a b m i j. (m, with_row (8 * m) (0 ∷ next ∷ 0 ∷ a.0 ∷ i ∷ b.0 ∷ j ∷ 0 ∷ []) b.1) in
+    ap₂ (λ a b. row a b (line_to_take x) (length key) (length doc)) key_text doc_text
+    ∙ ap (λ m. row (key_first, z) (doc_first, w) m (length key) (length doc)) (sym t.0)
+    ∙ ap₂ (λ i j. row (key_first, z) (doc_first, w) node i j) key_long doc_long
+    ∙ ap (λ u. (node, u)) (sym f)
+
+pub link_runs : (before node n : ℕ) (x y : List ℕ) → word_of x 0 5 ≡ n → y ≡ with_word before 1 node x → with_word 0 5 (n + 1) y ≡ with_linked before node x
+unfolding with_linked
+link_runs before node n x y number is = ap (with_word 0 5 (n + 1)) is ∙ ap (λ m. with_word 0 5 (m + 1) (with_word before 1 node x)) (sym number)
+
+pub put_in_runs : (before next node : ℕ) (pair : List ℕ × List ℕ) (x y z : List ℕ) → with_new_pair next pair x ≡ (node, y) → z ≡ with_linked before node y → z ≡ with_put_in before next pair x
+unfolding with_put_in
+put_in_runs before next node pair x y z w is = is ∙ ap (λ (p : ℕ × List ℕ). with_linked before p.0 p.1) (sym w)
+
+-- a place cleared
+pub cleared_runs : (before node next : ℕ) (same : Bool) (x z : List ℕ) → same ≡ true → (next ≡ word_of x node 1) × (z ≡ with_taken_out before node x) → with_cleared before node same x ≡ (next, z)
+unfolding with_cleared
+cleared_runs before node next same x z is t = ap (λ b. cond {A = ℕ × List ℕ} b (word_of x node 1, with_taken_out before node x) (node, x)) is ∙ ap₂ (λ n w. (n, w)) (sym t.0) (sym t.1)
+
+pub not_cleared_runs : (before node : ℕ) (same : Bool) (x z : List ℕ) → same ≡ false → x ≡ z → with_cleared before node same x ≡ (node, z)
+unfolding with_cleared
+not_cleared_runs before node same x z is e = ap (λ b. cond {A = ℕ × List ℕ} b (word_of x node 1, with_taken_out before node x) (node, x)) is ∙ ap (λ w. (node, w)) e
+
+-- an insertion
+pub no_room_runs : (key document x y : List ℕ) → IsIndex x → Inserts key document NoRoom x y → (NoRoom ≡ inserted_in key document x) × (y ≡ with_document key document x)
+unfolding inserted_in with_document
+no_room_runs key document x y i r =
+    let d = r i.version (store_in x) (stands_read x i) in (
+      ap (λ b. cond b (cond (is_key_in key x) Replaced New) NoRoom) (sym d.0),
+      d.1 ∙ ap (λ b. cond b (with_placed (node_below key x) (word_of x (node_below key x) 1) (is_key_in key x) (key, document) x) x) (sym d.0),
+    )
+
+pub room_runs : (key document : List ℕ) (before node next : ℕ) (same : Bool) (answer : Inserted) (x y z w : List ℕ) → IsIndex y → y ≡ x → AtSpot key before node same y → has_room (line_count y) (with_pair key document (store_in y)) ≡ true →
+    with_cleared before node same y ≡ (next, z) → w ≡ with_put_in before next (key, document) z → answer ≡ cond same Replaced New → (answer ≡ inserted_in key document x) × (w ≡ with_document key document x)
+unfolding inserted_in with_document with_placed
+room_runs key document before node next same answer x y z w i e spot room c p told =
+    let here = place_is y key before node same spot i in
+    let placed : w ≡ with_placed before node same (key, document) y = p ∙ ap (λ (q : ℕ × List ℕ). with_put_in before q.0 (key, document) q.1) (sym c) in
+    let at : with_placed before node same (key, document) y ≡ with_placed (node_below key y) (word_of y (node_below key y) 1) (is_key_in key y) (key, document) y =
+    ap (λ b. with_placed b node same (key, document) y) here.before_is ∙ ap (λ n. with_placed (node_below key y) n same (key, document) y) here.node_is
+    ∙ ap (λ s. with_placed (node_below key y) (word_of y (node_below key y) 1) s (key, document) y) here.same_is in
+    let room_x = ap (λ v. has_room (line_count v) (with_pair key document (store_in v))) (sym e) ∙ room in (
+      told ∙ ap (λ s. cond s Replaced New) (here.same_is ∙ ap (is_key_in key) e) ∙ ap (λ b. cond b (cond (is_key_in key x) Replaced New) NoRoom) (sym room_x),
+      placed ∙ at ∙ ap (λ v. with_placed (node_below key v) (word_of v (node_below key v) 1) (is_key_in key v) (key, document) v) e
+          ∙ ap (λ b. cond b (with_placed (node_below key x) (word_of x (node_below key x) 1) (is_key_in key x) (key, document) x) x) (sym room_x),
+    )

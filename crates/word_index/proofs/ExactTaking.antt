@@ -1,0 +1,232 @@
+-- What is taken and written has the exact words of its meaning.
+use Rattle.std.proofs.Common.{◌≡◌, ◌^◌, ◌+◌, ◌-◌, ◌*◌, ◌<◌, ◌≤◌, ◌==◌, ℕ, zero, suc, Bool, true, false, cond, List, [], ◌∷◌, ◌++◌, length, get_or, set, map, refl, zero-add, sym, ap, subst, ◌∙◌, lit<, arith}
+use Rattle.std.specs.List.{range_with_len, All}
+use Rattle.std.proofs.lemmas.Bool.{eqb-true, eqb-false}
+use Rattle.std.proofs.lemmas.List.Elements.{All-head, All-tail, All-cons, All-nil, All-map}
+use Rattle.std.proofs.lemmas.List.FromFn.{length-map-range_with_len, get_or-map-range_with_len}
+use Rattle.cx_base.specs.Memory.{Words}
+use Rattle.cx_base.specs.Packing.{packed, unpacked, word_at}
+use Rattle.cx_base.specs.Store.{blocks, pair_lines}
+use Rattle.cx_base.proofs.PackingLemmas.{unpacked-packed, packed_fit}
+use Rattle.word_index.specs.Answers.{IsPacked}
+use Rattle.word_index.specs.Blocks.{IsWithin}
+use Rattle.word_index.specs.Changes.{with_word}
+use Rattle.word_index.specs.Exact.{line_to_take, with_line_taken, with_row, block_words, with_text, with_new_pair, with_linked, with_put_in}
+use Rattle.word_index.specs.Fresh.{CanTake, LineTaken, LineFilled, IsBlock, TextWritten}
+use Rattle.word_index.specs.Insertion.{PairWritten, CanPut, CanLink, Linked, PutIn}
+use Rattle.word_index.specs.Layout.{word_of}
+use Rattle.word_index.proofs.ExactGiving.{word_fits, set_at_words, set_words, blocks_are}
+use Rattle.word_index.proofs.Putting.{linked, link_few, room_less, room_after_line, room_after_text, node_still, pair_written, put_room, put_can_link, put_in_done}
+use Rattle.word_index.proofs.Taking.{end_small, new_line, given_line}
+use Rattle.word_index.proofs.Writing.{LineSoFar, line_begins, line_more, line_done, WrittenSoFar, written_none, can_take_next, taken_within, written_more, written_all}
+
+-- a line
+module _ (x : List ℕ) where
+  taken_by : (b : Bool) → (word_of x 0 2 == 0) ≡ b →
+      LineTaken (cond b (word_of x 0 3) (word_of x 0 2)) x (cond b (with_word 0 3 (word_of x 0 3 + 1) x) (with_word 0 4 (word_of x 0 4 - 1) (with_word 0 2 (word_of x (word_of x 0 2) 0) x)))
+  taken_by true e = new_line x x (with_word 0 3 (word_of x 0 3 + 1) x) (word_of x 0 2) (word_of x 0 3) refl refl (eqb-true (word_of x 0 2) 0 e) (refl, refl)
+  taken_by false e = given_line x x (with_word 0 4 (word_of x 0 4 - 1) (with_word 0 2 (word_of x (word_of x 0 2) 0) x)) (word_of x 0 2) refl refl (eqb-false (word_of x 0 2) 0 e) refl
+
+  pub line_is_taken : LineTaken (line_to_take x) x (with_line_taken x)
+  unfolding line_to_take with_line_taken
+  line_is_taken = taken_by (word_of x 0 2 == 0) refl
+
+  taken_words_by : (k : ℕ) (b : Bool) → word_of x 0 3 ≤ 2 ^ 32 → Words k x →
+      (cond b (word_of x 0 3) (word_of x 0 2) < 2 ^ 64) × Words k (cond b (with_word 0 3 (word_of x 0 3 + 1) x) (with_word 0 4 (word_of x 0 4 - 1) (with_word 0 2 (word_of x (word_of x 0 2) 0) x)))
+  taken_words_by k true few w = (word_fits k x w 3, set_words k x 0 3 (word_of x 0 3 + 1) (omega arith) w)
+  taken_words_by k false few w =
+      let next = word_fits k x w (8 * word_of x 0 2 + 0) in
+      let number = word_fits k x w 4 in
+      (word_fits k x w 2, set_words k (with_word 0 2 (word_of x (word_of x 0 2) 0) x) 0 4 (word_of x 0 4 - 1) (omega arith) (set_words k x 0 2 (word_of x (word_of x 0 2) 0) next w))
+
+  pub line_taken_words : (k more : ℕ) → CanTake x more → Words k x → (line_to_take x < 2 ^ 64) × Words k (with_line_taken x)
+  unfolding line_to_take with_line_taken
+  line_taken_words k more c w = taken_words_by k (word_of x 0 2 == 0) (end_small x more c) w
+
+-- a row of words
+pub row_more : (at v : ℕ) (row ws : List ℕ) → with_row at (row ++ v ∷ []) ws ≡ with_row (at + length row) (v ∷ []) (with_row at row ws)
+row_more at v [] ws = (let e : at + 0 ≡ at = omega arith in ap (λ n. with_row n (v ∷ []) ws) (sym e))
+row_more at v (u ∷ row) ws =
+    let e : (at + 1) + length row ≡ at + suc (length row) = omega arith in
+    row_more (at + 1) v row (with_row at (u ∷ []) ws) ∙ ap (λ n. with_row n (v ∷ []) (with_row (at + 1) row (with_row at (u ∷ []) ws))) e
+
+pub row_words : (k at : ℕ) (row ws : List ℕ) → All (λ w. w < 2 ^ 64) row → Words k ws → Words k (with_row at row ws)
+row_words k at [] ws small w = w
+row_words k at (v ∷ row) ws small w =
+    row_words k (at + 1) row (set ws at v) (All-tail (λ w. w < 2 ^ 64) v row small) (set_at_words k ws at v (All-head (λ w. w < 2 ^ 64) v row small) w)
+
+module _ (line : ℕ) (content x : List ℕ) where
+  row_goes : (i : ℕ) (rest y : List ℕ) → i + length rest ≡ 8 → ((k : ℕ) → k < length rest → get_or content (i + k) 0 ≡ get_or rest k 0) → LineSoFar line content i x y → LineFilled line content x (with_row (8 * line + i) rest y)
+  row_goes i [] y e same r = line_done line content i x y (omega arith) r
+  row_goes i (v ∷ rest) y e same r =
+      let first : v ≡ get_or content i 0 = sym (same 0 (omega arith)) ∙ (let z : i + 0 ≡ i = omega arith in ap (λ n. get_or content n 0) z) in
+      let at : 8 * line + (i + 1) ≡ 8 * line + i + 1 = omega arith in
+      subst (λ n. LineFilled line content x (with_row n rest (with_word line i v y))) at
+      (row_goes (i + 1) rest (with_word line i v y) (omega arith) (λ k l. (let z : i + suc k ≡ (i + 1) + k = omega arith in sym (ap (λ n. get_or content n 0) z) ∙ same (suc k) (omega arith)))
+      (line_more line content i v x y (omega arith) first r))
+
+  pub row_is_filled : length content ≡ 8 → IsWithin x line → LineFilled line content x (with_row (8 * line) content x)
+  row_is_filled long within =
+      let at : 8 * line + 0 ≡ 8 * line = omega arith in
+      subst (λ n. LineFilled line content x (with_row n content x)) at (row_goes 0 content x (zero-add (length content) ∙ long) (λ k l. ap (λ n. get_or content n 0) (zero-add k)) (line_begins line content x x refl within))
+
+-- a block
+pub block_is : (next : ℕ) (text : List ℕ) (from : ℕ) → IsBlock next text from (block_words next text from)
+unfolding block_words
+block_is next text from = record {
+  first = refl;
+  rest = λ i l. (let e : 1 + i ≡ suc i = omega arith in ap (λ n. get_or (next ∷ map (λ i. get_or text (from + i) 0) (range_with_len 0 7)) n 0) e) ∙ get_or-map-range_with_len (λ i. get_or text (from + i) 0) 0 7 i i 0 l (zero-add i);
+  long = ap suc (length-map-range_with_len (λ i. get_or text (from + i) 0) 0 7);
+}
+
+-- a text
+module _ (text : List ℕ) (count : ℕ) (x : List ℕ) (can : CanTake x count) where
+  text_goes : (n j next : ℕ) (y : List ℕ) → j + n ≡ count → WrittenSoFar text count j next x y → TextWritten text count (with_text text n next y).0 x (with_text text n next y).1
+  text_goes zero j next y e r = written_all text count j next x y (omega arith) r
+  text_goes (suc n) j next y e r =
+      let line = line_to_take y in
+      let z = with_line_taken y in
+      let content = block_words next text (7 * n) in
+      let t = line_is_taken y in
+      let b = block_is next text (7 * n) in
+      let from : 7 * n ≡ 7 * (count - 1 - j) = omega arith in
+      let f = row_is_filled line content z b.long (taken_within text count j next line x y z (omega arith) can r t) in
+      text_goes n (j + 1) line (with_row (8 * line) content z) (omega arith)
+      (written_more text count j next line content x y z (with_row (8 * line) content z) (omega arith) r t (subst (λ m. IsBlock next text m content) from b) f)
+
+  pub text_is_written : TextWritten text count (with_text text count 0 x).0 x (with_text text count 0 x).1
+  text_is_written = text_goes count 0 0 x (omega arith) (written_none text count x x refl)
+
+-- the words of a text
+module _ (k : ℕ) (text : List ℕ) (count : ℕ) (x : List ℕ) (can : CanTake x count) (small : (i : ℕ) → get_or text i 0 < 2 ^ 64) where
+  block_fits : (next from : ℕ) → next < 2 ^ 64 → All (λ w. w < 2 ^ 64) (block_words next text from)
+  unfolding block_words
+  block_fits next from l = All-cons (λ w. w < 2 ^ 64) next (map (λ i. get_or text (from + i) 0) (range_with_len 0 7)) l (All-map (λ w. w < 2 ^ 64) (λ i. get_or text (from + i) 0) (range_with_len 0 7) (λ i d m. small (from + get_or (range_with_len 0 7) i d)))
+
+  text_words_go : (n j next : ℕ) (y : List ℕ) → j + n ≡ count → WrittenSoFar text count j next x y → next < 2 ^ 64 → Words k y → ((with_text text n next y).0 < 2 ^ 64) × Words k (with_text text n next y).1
+  text_words_go zero j next y e r l w = (l, w)
+  text_words_go (suc n) j next y e r l w =
+      let line = line_to_take y in
+      let z = with_line_taken y in
+      let content = block_words next text (7 * n) in
+      let t = line_is_taken y in
+      let b = block_is next text (7 * n) in
+      let from : 7 * n ≡ 7 * (count - 1 - j) = omega arith in
+      let f = row_is_filled line content z b.long (taken_within text count j next line x y z (omega arith) can r t) in
+      let taken = line_taken_words y k 1 (can_take_next text count j next x y (omega arith) can r) w in
+      text_words_go n (j + 1) line (with_row (8 * line) content z) (omega arith)
+      (written_more text count j next line content x y z (with_row (8 * line) content z) (omega arith) r t (subst (λ m. IsBlock next text m content) from b) f)
+      taken.0 (row_words k (8 * line) content z (block_fits next (7 * n) l) taken.1)
+
+  pub text_words : Words k x → ((with_text text count 0 x).0 < 2 ^ 64) × Words k (with_text text count 0 x).1
+  text_words w = text_words_go count 0 0 x (omega arith) (written_none text count x x refl) (lit< tt) w
+
+-- a pair of bytes, at most so many
+pub record IsPlain (pair : List ℕ × List ℕ) : Type 0 where
+  pub key_short : length pair.0 ≤ 64
+  pub document_short : length pair.1 ≤ 1024
+  pub key_bytes : (i : ℕ) → get_or pair.0 i 0 < 256
+  pub document_bytes : (i : ℕ) → get_or pair.1 i 0 < 256
+
+pub packs_itself : (n : ℕ) (bytes : List ℕ) → length bytes ≤ 8 * n → ((i : ℕ) → get_or bytes i 0 < 256) → IsPacked n (length bytes) (packed n bytes)
+packs_itself n bytes short small = record { short = short; unused = ap (packed n) (sym (unpacked-packed n bytes small short)) }
+
+packed_small : (n : ℕ) (bytes : List ℕ) → ((i : ℕ) → get_or bytes i 0 < 256) → (i : ℕ) → get_or (packed n bytes) i 0 < 2 ^ 64
+packed_small n bytes small i = word_fits n (packed n bytes) (record { long = length-map-range_with_len (word_at bytes) 0 n; fit = packed_fit n bytes small }) i
+
+-- the words of a node
+node_fits : (b d e f g : ℕ) → b < 2 ^ 64 → d < 2 ^ 64 → e < 2 ^ 64 → f < 2 ^ 64 → g < 2 ^ 64 → All (λ v. v < 2 ^ 64) (0 ∷ b ∷ 0 ∷ d ∷ e ∷ f ∷ g ∷ 0 ∷ [])
+node_fits b d e f g p q r s t =
+    let zero_fits : 0 < 2 ^ 64 = lit< tt in
+    let fits : ℕ → Type 0 = λ v. v < 2 ^ 64 in
+    let l7 = All-cons fits 0 [] zero_fits (All-nil fits) in
+    let l6 = All-cons fits g (0 ∷ []) t l7 in
+    let l5 = All-cons fits f (g ∷ 0 ∷ []) s l6 in
+    let l4 = All-cons fits e (f ∷ g ∷ 0 ∷ []) r l5 in
+    let l3 = All-cons fits d (e ∷ f ∷ g ∷ 0 ∷ []) q l4 in
+    let l2 = All-cons fits 0 (d ∷ e ∷ f ∷ g ∷ 0 ∷ []) zero_fits l3 in
+    let l1 = All-cons fits b (0 ∷ d ∷ e ∷ f ∷ g ∷ 0 ∷ []) p l2 in
+    All-cons fits 0 (b ∷ 0 ∷ d ∷ e ∷ f ∷ g ∷ 0 ∷ []) zero_fits l1
+
+module _ (next : ℕ) (pair : List ℕ × List ℕ) (x : List ℕ) (is : IsPlain pair) (can : CanTake x (pair_lines pair)) where
+  room_for_all : CanTake x (1 + (blocks pair.0 + blocks pair.1))
+  room_for_all = room_less x (pair_lines pair) (1 + (blocks pair.0 + blocks pair.1)) (omega arith) can
+
+  key_written : ℕ × List ℕ
+  key_written = with_text (packed 8 pair.0) (blocks pair.0) 0 (with_line_taken x)
+
+  room_for_key : CanTake (with_line_taken x) (blocks pair.0 + blocks pair.1)
+  room_for_key = room_after_line x (with_line_taken x) (line_to_take x) (blocks pair.0 + blocks pair.1) room_for_all (line_is_taken x)
+
+  key_can : CanTake (with_line_taken x) (blocks pair.0)
+  key_can = room_less (with_line_taken x) (blocks pair.0 + blocks pair.1) (blocks pair.0) (omega arith) room_for_key
+
+  key_is : TextWritten (packed 8 pair.0) (blocks pair.0) (with_text (packed 8 pair.0) (blocks pair.0) 0 (with_line_taken x)).0 (with_line_taken x) (with_text (packed 8 pair.0) (blocks pair.0) 0 (with_line_taken x)).1
+  key_is = text_is_written (packed 8 pair.0) (blocks pair.0) (with_line_taken x) key_can
+
+  document_can : CanTake (with_text (packed 8 pair.0) (blocks pair.0) 0 (with_line_taken x)).1 (blocks pair.1)
+  document_can =
+      let y = with_line_taken x in
+      let k = with_text (packed 8 pair.0) (blocks pair.0) 0 y in
+      room_after_text y k.1 (packed 8 pair.0) (blocks pair.0) k.0 (blocks pair.1) room_for_key key_is
+
+  pub new_pair_is : PairWritten next pair (with_new_pair next pair x).0 x (with_new_pair next pair x).1
+  unfolding with_new_pair
+  new_pair_is =
+      let node = line_to_take x in
+      let y = with_line_taken x in
+      let k = with_text (packed 8 pair.0) (blocks pair.0) 0 y in
+      let d = with_text (packed 128 pair.1) (blocks pair.1) 0 k.1 in
+      let content : List ℕ = 0 ∷ next ∷ 0 ∷ k.0 ∷ length pair.0 ∷ d.0 ∷ length pair.1 ∷ 0 ∷ [] in
+      let d_is = text_is_written (packed 128 pair.1) (blocks pair.1) k.1 document_can in
+      let still = node_still x y k.1 d.1 node (blocks pair.0) (blocks pair.1) k.0 d.0 (packed 8 pair.0) (packed 128 pair.1) room_for_all (line_is_taken x) key_is d_is in
+      let f = row_is_filled node content d.1 refl still in
+      let key_same = unpacked-packed 8 pair.0 is.key_bytes is.key_short in
+      let document_same = unpacked-packed 128 pair.1 is.document_bytes is.document_short in
+      let made = pair_written x y k.1 d.1 (with_row (8 * node) content d.1) next node (blocks pair.0) (blocks pair.1) k.0 d.0 (length pair.0) (length pair.1) (packed 8 pair.0) (packed 128 pair.1)
+      (packs_itself 8 pair.0 is.key_short is.key_bytes) (packs_itself 128 pair.1 is.document_short is.document_bytes) (blocks_are (length pair.0)) (blocks_are (length pair.1)) (line_is_taken x) key_is d_is f in
+      subst (λ b. PairWritten next (pair.0, b) node x (with_row (8 * node) content d.1)) document_same
+      (subst (λ a. PairWritten next (a, unpacked (length pair.1) (packed 128 pair.1)) node x (with_row (8 * node) content d.1)) key_same made)
+
+  pub new_pair_words : (k : ℕ) → next < 2 ^ 64 → Words k x → ((with_new_pair next pair x).0 < 2 ^ 64) × Words k (with_new_pair next pair x).1
+  unfolding with_new_pair
+  new_pair_words n l w =
+      let y = with_line_taken x in
+      let k = with_text (packed 8 pair.0) (blocks pair.0) 0 y in
+      let t = line_taken_words x n (pair_lines pair) can w in
+      let kw = text_words n (packed 8 pair.0) (blocks pair.0) y key_can (packed_small 8 pair.0 is.key_bytes) t.1 in
+      let dw = text_words n (packed 128 pair.1) (blocks pair.1) k.1 document_can (packed_small 128 pair.1 is.document_bytes) kw.1 in
+      let d = with_text (packed 128 pair.1) (blocks pair.1) 0 k.1 in
+      let key_short = is.key_short in
+      let document_short = is.document_short in (
+        t.0,
+        row_words n (8 * line_to_take x) (0 ∷ next ∷ 0 ∷ k.0 ∷ length pair.0 ∷ d.0 ∷ length pair.1 ∷ 0 ∷ []) d.1
+            (node_fits next k.0 (length pair.0) d.0 (length pair.1) l kw.0 (omega arith) dw.0 (omega arith))
+            dw.1,
+      )
+
+-- a node linked, and a pair put in
+pub linked_is : (before node : ℕ) (x : List ℕ) → Linked before node x (with_linked before node x)
+unfolding with_linked
+linked_is before node x = linked x (with_word 0 5 (word_of x 0 5 + 1) (with_word before 1 node x)) before node (word_of x 0 5) refl refl
+
+pub linked_words : (k before node : ℕ) (x : List ℕ) → CanLink x before node → node < 2 ^ 64 → Words k x → Words k (with_linked before node x)
+unfolding with_linked
+linked_words k before node x can small w =
+    let few = link_few x before node (word_of x 0 5) can refl in
+    set_words k (with_word before 1 node x) 0 5 (word_of x 0 5 + 1) (omega arith) (set_words k x before 1 node small w)
+
+module _ (before next : ℕ) (pair : List ℕ × List ℕ) (x : List ℕ) (is : IsPlain pair) (can : CanPut x before next pair) where
+  pub put_in_is : PutIn before next pair x (with_put_in before next pair x)
+  unfolding with_put_in
+  put_in_is =
+      let w = with_new_pair next pair x in
+      put_in_done x w.1 (with_linked before w.0 w.1) before next w.0 pair (new_pair_is next pair x is (put_room x before next pair can)) (linked_is before w.0 w.1)
+
+  pub put_in_words : (k : ℕ) → next < 2 ^ 64 → Words k x → Words k (with_put_in before next pair x)
+  unfolding with_put_in
+  put_in_words k small words =
+      let w = with_new_pair next pair x in
+      let room = put_room x before next pair can in
+      let new = new_pair_words next pair x is room k small words in
+      linked_words k before w.0 w.1 (put_can_link x w.1 before next w.0 pair can (new_pair_is next pair x is room)) new.0 new.1

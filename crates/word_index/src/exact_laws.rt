@@ -1,0 +1,29 @@
+//! Laws of the exact words that changes leave. The words after a call of the index are a function of the words before
+//! it (`with_document`, `with_key_removed`), so a memory that runs calls in turn holds the same words wherever it runs.
+
+ghost use Rattle.std.specs.Prelude.{◌≡◌, ℕ, List};
+ghost use Rattle.cx_base.specs.Memory.{Words};
+ghost use Rattle.cx_base.specs.Store.{Store, IsKey, IsDocument};
+ghost use Rattle.word_index.specs.Changes.{IsRemoved};
+ghost use Rattle.word_index.specs.Exact.{store_in, with_document, inserted_in, is_key_in, with_key_removed};
+ghost use Rattle.word_index.specs.Insertion.{Inserts};
+ghost use Rattle.word_index.specs.Layout.{StandsFor, IsIndex};
+
+/// The store that words stand for is read off them.
+pub fn words_tell_their_store()
+    ensures { (words : List ℕ) (version : ℕ) (store : Store) → StandsFor words version store → store_in words ≡ store }
+{}
+
+/// The words that a document put at a key leaves: they stand for the store with it, where there is room, and are as
+/// many words of 64 bits as before.
+pub fn documents_are_put()
+    ensures stands { (key document words : List ℕ) (n : ℕ) → IsIndex words → Words n words → IsKey key → IsDocument document → Inserts key document (inserted_in key document words) words (with_document key document words) }
+    ensures words { (key document words : List ℕ) (n : ℕ) → IsIndex words → Words n words → IsKey key → IsDocument document → Words n (with_document key document words) }
+{}
+
+/// The words that a key taken out leaves: they stand for the store without it, and are as many words of 64 bits as
+/// before.
+pub fn keys_are_removed()
+    ensures stands { (key words : List ℕ) → IsIndex words → IsRemoved key (is_key_in key words) words (with_key_removed key words) }
+    ensures words { (key words : List ℕ) (n : ℕ) → IsIndex words → Words n words → Words n (with_key_removed key words) }
+{}
