@@ -12,5 +12,7 @@ mod store;
 mod store_tests;
 mod word_parts;
 
-pub use step_laws::{operations_are_read, steps_do_as_operations_mean};
+pub use step_laws::{
+    operations_are_read, readings_are_those_operations, steps_do_as_operations_mean,
+};
 pub use store::{DocStore, documents, stores_cross_threads};

@@ -531,11 +531,19 @@ fn as_many_commands_as_may_be(rt: HostRuntime) -> Result<(), Fail> {
         text.extend_from_slice(b"0 put some_key 1234567890\n")?;
     }
     assert_eq!(rt; read(rt.alloc(), &text), Outcome::Script(64, 1, 100_000));
-    text.extend_from_slice(b"0 push\n")?;
-    assert_eq!(rt;
-        read(rt.alloc(), &text),
-        Outcome::Refused(100_003, Reason::Commands)
-    );
+    let whole = text.len();
+    for line in [
+        b"0 push\n".as_slice(),
+        b"0 get some_key\n".as_slice(),
+        b"0\n".as_slice(),
+    ] {
+        text.truncate(whole);
+        text.extend_from_slice(line)?;
+        assert_eq!(rt;
+            read(rt.alloc(), &text),
+            Outcome::Refused(100_003, Reason::Commands)
+        );
+    }
     Ok(())
 }
 
