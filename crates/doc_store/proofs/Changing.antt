@@ -1,11 +1,11 @@
 -- What the operations that change do.
-use Rattle.std.proofs.Common.{inl, inr, IfSome, ap₂, ◌≡◌, ◌*◌, ◌<◌, ◌≤◌, ◌^◌, ℕ, List, length, true, false, cond, ◌&&◌, nat_le, Option, Some, None, is_some, sym, ap, subst, ◌∙◌, arith}
+use Rattle.std.proofs.Common.{inl, inr, IfSome, ap₂, ◌≡◌, ◌<◌, ◌≤◌, ℕ, List, true, false, cond, ◌&&◌, nat_le, Option, Some, None, is_some, sym, ap, subst, ◌∙◌, arith}
 use Rattle.std.specs.Prelude.{ℤ, pos, ◌+ℤ◌}
 use Rattle.std.specs.Option.{option_map_or}
 use Rattle.std.specs.Int.{w64, cast_signed, cast_unsigned}
-use Rattle.std.specs.Prelude.{FitsSigned, negsuc}
+use Rattle.std.specs.Prelude.{FitsSigned}
 use Rattle.std.specs.Fmt.{signed_decimal}
-use Rattle.std.proofs.lemmas.Bool.{ltb-true, false≢true, and_from, le-leb, cases_lt}
+use Rattle.std.proofs.lemmas.Bool.{false≢true, and_from, le-leb, cases_lt}
 use Rattle.std.proofs.lemmas.Int.{to_z-of_z}
 use Rattle.cx_base.specs.Packing.{unpacked}
 use Rattle.cx_base.specs.Store.{Store, IsKey, IsDocument}
@@ -23,11 +23,8 @@ use Rattle.doc_store.proofs.Answering.{Found}
 use Rattle.doc_store.proofs.OpParts.{packed_from}
 use Rattle.word_index.specs.Answers.{IsFound, IsNodeOf, IsPacked, IsPackOf}
 use Rattle.word_index.specs.Exact.{store_in, with_document, with_key_removed}
-use Rattle.word_index.specs.Layout.{StandsFor, line_count}
+use Rattle.word_index.specs.Layout.{StandsFor}
 use Rattle.word_index.proofs.NodeReads.{unpacks, document_small}
-
-pub lines_are : (words : List ℕ) (n lines : ℕ) → length words ≡ n → n ≡ 8 * lines → line_count words ≡ lines
-lines_are words n lines long size = omega (arith, long, size)
 
 -- the text of a sum, read from the words that were put
 pub sum_text : (sum : ℤ) (len : ℕ) (words : List ℕ) → is_i64 sum ≡ true → IsPackOf 128 len words (signed_decimal sum) → unpacked len words ≡ signed_decimal sum
@@ -120,10 +117,6 @@ module _ (lines : ℕ) (before now reply : List ℕ) where
   add_case Count amount e has is d = absurd (omega (arith, e))
 
 -- 64-bit integers, as they are passed on
-pub fits_from : (z : ℤ) → is_i64 z ≡ true → FitsSigned w64 z
-fits_from (pos n) h = record { sfits = ltb-true n (2 ^ 63) h }
-fits_from (negsuc n) h = record { sfits = ltb-true n (2 ^ 63) h }
-
 abbrev pub passed : ℤ → ℤ
 passed z = cast_signed w64 (cast_unsigned w64 z)
 

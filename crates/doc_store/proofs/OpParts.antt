@@ -1,10 +1,11 @@
 -- The parts of an operation in its words.
 use Rattle.std.proofs.Common.{◌≡◌, ◌*◌, ◌<◌, ◌≤◌, ℕ, List, length, get_or, take, drop, refl, sym, ap, subst, ◌∙◌}
 use Rattle.cx_base.specs.Packing.{packed, unpacked}
-use Rattle.doc_model.specs.Words.{words_of, AreOfAnOp}
+use Rattle.doc_model.specs.Words.{AreOfAnOp}
 use Rattle.doc_model.specs.declared.operations.Op.{Op}
-use Rattle.doc_model.proofs.OpKinds.{op_kind, op_key, op_document, op_number, op_words_are, op_key_text, op_document_text}
+use Rattle.doc_model.proofs.OpKinds.{op_kind, op_key, op_document, op_number, op_key_text, op_document_text}
 use Rattle.doc_model.proofs.PartPlaces.{kind_in, key_length_in, document_length_in, number_in, key_in, document_in}
+use Rattle.doc_store.specs.OpsRead.{op_is}
 use Rattle.doc_store.specs.StepOnWords.{IsOpOf}
 use Rattle.word_index.specs.Answers.{IsPacked, IsPackOf}
 use Rattle.word_index.proofs.NodeReads.{unpacks, small_everywhere}
@@ -14,9 +15,6 @@ packed_from n len words bytes is small short = record {
   short = subst (λ k. k ≤ 8 * n) (sym is.long) short;
   unused = is.packs ∙ ap (packed n) (sym (unpacks n len words bytes is small short));
 }
-
-pub op_is : (words : List ℕ) (op : Op) → IsOpOf words op → words_of (op_kind op) (op_key op) (op_document op) (op_number op) ≡ words
-op_is words op is = sym (op_words_are op) ∙ is.has
 
 pub kind_at : (words : List ℕ) (op : Op) → IsOpOf words op → get_or words 0 0 ≡ op_kind op
 kind_at words op is = ap (λ w. get_or w 0 0) (sym (op_is words op is)) ∙ kind_in 8 128 (op_kind op) (op_key op) (op_document op) (op_number op)

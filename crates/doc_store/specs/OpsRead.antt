@@ -13,7 +13,8 @@ use Rattle.doc_store.specs.ExactStep.{key_of, document_of, is_op_in, op_in}
 use Rattle.doc_store.specs.StepOnWords.{IsOpOf}
 use Rattle.word_index.proofs.ExactGiving.{word_fits}
 
-op_is : (words : List ℕ) (op : Op) → IsOpOf words op → words_of (op_kind op) (op_key op) (op_document op) (op_number op) ≡ words
+-- the words of an operation are those of its parts
+pub op_is : (words : List ℕ) (op : Op) → IsOpOf words op → words_of (op_kind op) (op_key op) (op_document op) (op_number op) ≡ words
 op_is words op is = sym (op_words_are op) ∙ is.has
 
 pub op_is_read : (words : List ℕ) (o : Op) → IsOpOf words o → (is_op_in words ≡ true) × (op_in words ≡ o)

@@ -164,7 +164,7 @@ pub step_keeps : (lines : ℕ) (image op : List ℕ) → IsImage lines image →
 step_keeps lines image op i w = keeps_by lines image op (is_op_in op) refl i w
 
 -- replies within the limits
-abbrev Fits : Reply → Type 0
+abbrev pub Fits : Reply → Type 0
 Fits reply = IsReply reply × HasWordNumber reply
 
 put_fits : (b t : Bool) → Fits (cond b (cond t Replaced New) NoRoom)
@@ -207,11 +207,16 @@ reply_fits lines store (Get key) s few = found_fits key store s.documents
 reply_fits lines store (Next above) s few = least_fits (pairs_above above store) (All-filter (λ p. is_lt (key_cmp above p.0)) (λ p. IsKey p.0) store s.keys)
 reply_fits lines store Count s few = (tt, few)
 
-replies_by : (lines : ℕ) (image op : List ℕ) (b : Bool) → is_op_in op ≡ b → IsImage lines image → Words 144 (store_step lines image op).1
-replies_by lines image op true passes i =
+-- the reply to an operation in the store that an image stands for
+pub image_reply_fits : (lines : ℕ) (image : List ℕ) (o : Op) (i : IsImage lines image) → Fits (reply_to lines i.store o)
+image_reply_fits lines image o i =
     let a = i.stands.arranged in
     let few : length i.store < 2 ^ 64 = omega (arith, a.pair_count, few_pairs image 1 i.store i.stands.places i.stands.given [] a) in
-    let fits = reply_fits lines i.store (op_in op) a.lawful few in
+    reply_fits lines i.store o a.lawful few
+
+replies_by : (lines : ℕ) (image op : List ℕ) (b : Bool) → is_op_in op ≡ b → IsImage lines image → Words 144 (store_step lines image op).1
+replies_by lines image op true passes i =
+    let fits = image_reply_fits lines image (op_in op) i in
     let words = reply_words_fit (reply_to lines i.store (op_in op)) fits.0 fits.1 in
     let is : (store_step lines image op).1 ≡ reply_words (reply_to lines i.store (op_in op)) = ap (λ p. p.1) (step_of lines image op (op_in op) passes refl) ∙ ap (λ st. reply_words (reply_to lines st (op_in op))) (store_is image 1 i.store i.stands) in
     subst (Words 144) (sym is) (record { long = words.0; fit = words.1 })

@@ -1,5 +1,6 @@
 mod EntryReads
 mod OneOfEach
+mod Results
 mod Tries
 mod Updates
 mod Writes

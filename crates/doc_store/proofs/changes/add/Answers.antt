@@ -8,7 +8,8 @@ use Rattle.doc_store.specs.ExactStep.{Exactly, with_sum}
 use Rattle.word_index.specs.Exact.{store_in}
 use Rattle.word_index.proofs.ExactStores.{stands_read}
 use Rattle.word_index.proofs.Memories.{IfOk-weaker, Becomes-from-read, Reads-with, always_read}
-use Rattle.doc_store.proofs.Changing.{passed, passed_sum, fits_from, some_fits}
+use Rattle.doc_store.specs.StoreLaws.{fits_from}
+use Rattle.doc_store.proofs.Changing.{passed, passed_sum, some_fits}
 use Rattle.doc_store.proofs.ExactSteps.{add_none_runs, add_some_runs}
 use Rattle.doc_store.proofs.changes.add.Goals as goal
 

@@ -10,7 +10,8 @@ use Rattle.doc_store.specs.StepOnWords.{put_sum_reply}
 use Rattle.doc_store.proofs.ExactSteps.{over_runs, sum_runs}
 use Rattle.word_index.specs.Exact.{store_in, with_document}
 use Rattle.word_index.proofs.Memories.{IfOk-weaker}
-use Rattle.doc_store.proofs.Changing.{passed, passed_is, passed_sum, fits_from}
+use Rattle.doc_store.specs.StoreLaws.{fits_from}
+use Rattle.doc_store.proofs.Changing.{passed, passed_is, passed_sum}
 use Rattle.doc_store.proofs.changes.add_to.Goals as goal
 
 pub put_sum-requires-clause-sum : goal.put_sum-requires-clause-sum

@@ -1,5 +1,5 @@
 use Rattle.cx_base.specs.Packing.{unpacked}
-use Rattle.doc_store.proofs.Changing.{lines_are}
+use Rattle.doc_store.specs.StoreLaws.{lines_are}
 use Rattle.doc_store.proofs.ExactSteps.{put_runs}
 use Rattle.doc_store.proofs.changes.put.Goals as goal
 

@@ -4,7 +4,8 @@ use Rattle.cx_base.specs.Packing.{unpacked}
 use Rattle.doc_model.specs.Words.{reply_words}
 use Rattle.doc_store.specs.StepOnWords.{sum_told}
 use Rattle.word_index.specs.Answers.{IsPackOf}
-use Rattle.doc_store.proofs.Changing.{lines_are, sum_text, sum_packed, sum_is_document, passed_is}
+use Rattle.doc_store.specs.StoreLaws.{lines_are}
+use Rattle.doc_store.proofs.Changing.{sum_text, sum_packed, sum_is_document, passed_is}
 use Rattle.doc_store.proofs.ExactSteps.{put_sum_runs}
 use Rattle.doc_store.proofs.changes.put_sum.Goals as goal
 

@@ -1,4 +1,4 @@
-use Rattle.std.proofs.Common.{◌≡◌, ◌+◌, ◌<◌, ◌∷◌, ℕ, List, length, slice_index, sym, refl, ap, subst, ◌∙◌, arith, add-one, Result, Ok, Err, OnErr}
+use Rattle.std.proofs.Common.{◌≡◌, ◌+◌, ◌<◌, ◌∷◌, ℕ, List, length, slice_index, sym, refl, ap, subst, ◌∙◌, arith, add-one}
 use Rattle.std.proofs.lemmas.Bool.{false≢true}
 use Rattle.cx_core.specs.declared.kinds.Kind.TheVariants.{WriteCell}
 use Rattle.cx_core.specs.Events.{IsIdle, next_number}
@@ -6,12 +6,9 @@ use Rattle.cx_table.specs.Running.{IsSeatOf, Running, life_at}
 use Rattle.cx_core.specs.State.{Life}
 use Rattle.cx_table.specs.Seats.{HasCells, Seated, stepped}
 use Rattle.mutation_queue.specs.Cells.{written_to}
+use Rattle.mutation_queue.proofs.Results.{on_err}
 use Rattle.mutation_queue.proofs.Writes.{announced_ready, announces, halted_of, halts, not_yet, nothing, still_idle, still_of, then_one}
 use Rattle.mutation_queue.proofs.announcing.announce.Goals as goal
-
-on_err : {A E : Type 0} (r : Result A E) (X : Type 0) → X → OnErr r X
-on_err (Ok a) X x = tt
-on_err (Err e) X x = x
 
 next_word : (number i : ℕ) (op : List ℕ) → slice_index op i ≡ slice_index (number ∷ op) (i + 1)
 next_word number i op = ap (λ k. slice_index (number ∷ op) k) (sym (add-one i))

@@ -1,14 +1,11 @@
-use Rattle.std.proofs.Common.{◌≡◌, ◌+◌, ◌^◌, ◌<◌, ◌≤◌, ◌⊎◌, inl, inr, ℕ, zero, suc, true, false, sym, refl, ap, subst, ◌∙◌, arith, Result, Ok, Err, OnErr}
+use Rattle.std.proofs.Common.{◌≡◌, ◌+◌, ◌^◌, ◌<◌, ◌≤◌, ◌⊎◌, inl, inr, ℕ, zero, suc, true, false, sym, refl, ap, subst, ◌∙◌, arith}
 use Rattle.std.proofs.lemmas.Bool.{false≢true}
 use Rattle.cx_base.specs.Codes.{root_place_of}
 use Rattle.cx_table.specs.Seats.{IsAtLimit, Seated}
 use Rattle.mutation_queue.specs.Links.{LinksPast, TriedOnce}
+use Rattle.mutation_queue.proofs.Results.{on_err}
 use Rattle.mutation_queue.proofs.Tries.{linked_number, linked_of, none_at, none_here, none_number, none_then, still_announced, still_answered, still_idle, still_of}
 use Rattle.mutation_queue.proofs.linking.link.Goals as goal
-
-on_err : {A E : Type 0} (r : Result A E) (X : Type 0) → X → OnErr r X
-on_err (Ok a) X x = tt
-on_err (Err e) X x = x
 
 pub loop-tried-init : goal.loop-tried-init
 loop-tried-init g c = record {

@@ -1,10 +1,7 @@
-use Rattle.std.proofs.Common.{◌/◌, Result, Ok, Err, OnErr}
+use Rattle.std.proofs.Common.{◌/◌}
+use Rattle.mutation_queue.proofs.Results.{on_err}
 use Rattle.mutation_queue.proofs.EntryReads.{halts_reading, reads_entry}
 use Rattle.mutation_queue.proofs.reading.entry.Goals as goal
-
-on_err : {A E : Type 0} (r : Result A E) (X : Type 0) → X → OnErr r X
-on_err (Ok a) X x = tt
-on_err (Err e) X x = x
 
 pub returns-in_err-read_words-clause-halted : goal.returns-in_err-read_words-clause-halted
 returns-in_err-read_words-clause-halted g c =

@@ -1,14 +1,11 @@
-use Rattle.std.proofs.Common.{◌≡◌, ◌<◌, ◌/◌, ℕ, List, length, take, refl, sym, ap, ◌∙◌, arith, Result, Ok, Err, OnErr}
+use Rattle.std.proofs.Common.{◌≡◌, ◌<◌, ◌/◌, ℕ, List, length, take, refl, sym, ap, ◌∙◌, arith}
 use Rattle.std.proofs.lemmas.Bool.{false≢true}
 use Rattle.std.proofs.lemmas.List.{length-set, length-take, take_all}
 use Rattle.cx_table.specs.Running.{life_at}
 use Rattle.mutation_queue.specs.Entries.{with_read}
+use Rattle.mutation_queue.proofs.Results.{on_err}
 use Rattle.mutation_queue.proofs.EntryReads.{halts_among, none_ends, none_read, read_one, take_set}
 use Rattle.mutation_queue.proofs.reading.read_words.Goals as goal
-
-on_err : {A E : Type 0} (r : Result A E) (X : Type 0) → X → OnErr r X
-on_err (Ok a) X x = tt
-on_err (Err e) X x = x
 
 -- so many words were read
 so_far : (into : List ℕ) (i : ℕ) → length into ≡ 145 → i < 145 → i ≡ length (take i into)

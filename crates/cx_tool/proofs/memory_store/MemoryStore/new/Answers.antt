@@ -16,4 +16,4 @@ invariant_of-result c =
 pub returns-clause-empty : goal.returns-clause-empty
 returns-clause-empty c =
     let after : words_of c.format.new.mem ≡ opening_image c.of-store.result.lines = (c.in-Ok.ensures.done.from _ _ (known c.format.new.mem c.format.new.mem.fit)).2 in
-    opening_empty c.of-store.result.lines (words_of c.format.new.mem) after (opens c.of-store.result.lines c.of-store.result.some c.of-store.result.few)
+    opening_empty c.of-store.result.lines (words_of c.format.new.mem) after
