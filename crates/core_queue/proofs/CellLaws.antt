@@ -9,17 +9,17 @@ use Rattle.cx_core.specs.declared.entry.Entry.{Entry}
 use Rattle.cx_core.specs.declared.local.Cell.{Cell}
 use Rattle.cx_core.specs.declared.local.Local.{Local}
 use Rattle.cx_core.specs.Layout.{cell_count, free_at, link_at, cell_at, offer_at, set_at}
-use Rattle.cx_core.specs.Lawful.{Cells, IsHeld, IsShown, OfferStands, OffersLinked, Shape, ShowsCells, SlotStands}
-use Rattle.cx_core.specs.State.{EachLocal, Life}
+use Rattle.cx_core.specs.Lawful.{Cells, IsLive, IsShown, OfferStands, OffersLinked, Shape, ShowsCells, SlotStands}
+use Rattle.cx_core.specs.State.{EachLocal, Instance}
 use Rattle.cx_core.specs.WriteSet.{IsWriteSetOf}
 use Rattle.core_queue.specs.Frames.{IsOff, SameCells}
 use Rattle.core_queue.proofs.CellNames.{KeepsNames, names_same, offered_still}
 use Rattle.core_queue.proofs.Locals.{EachLocal-set}
 
 -- the cells of a caller are in the table
-pub cell_within : (life : Life) (words : List ℕ) (locals : List Local) (caller : ℕ) (l : Local) (j : ℕ) (cell : Cell) → Shape life words locals →
-    slice_get locals caller ≡ Some l → slice_get l.cells j ≡ Some cell → 16 * caller + j < 16 * life.callers
-cell_within life words locals caller l j cell shape at there =
+pub cell_within : (instance : Instance) (words : List ℕ) (locals : List Local) (caller : ℕ) (l : Local) (j : ℕ) (cell : Cell) → Shape instance words locals →
+    slice_get locals caller ≡ Some l → slice_get l.cells j ≡ Some cell → 16 * caller + j < 16 * instance.callers
+cell_within instance words locals caller l j cell shape at there =
     let a = slice_get_within locals caller l at in
     let b = slice_get_within l.cells j cell there in
     omega (arith, a, b, shape.count, (shape.each caller l at).cells)
@@ -40,12 +40,12 @@ shown_off callers words at v k cell within off shown = record {
 }
 
 -- a held ticket is held still where its cell is named still, and its link word and the write sets are as before
-pub held_still : (life : Life) (history history' : List Entry) (words words' : List ℕ) (locals locals' : List Local) (free ticket : ℕ) (entry : Entry) →
+pub held_still : (instance : Instance) (history history' : List Entry) (words words' : List ℕ) (locals locals' : List Local) (free ticket : ℕ) (entry : Entry) →
     KeepsNames free locals locals' → free ≤ ticket →
-    slice_index words' (link_at life.callers (ticket % cell_count life.callers)) ≡ slice_index words (link_at life.callers (ticket % cell_count life.callers)) →
-    ((sets : List ℕ) → IsWriteSetOf life history ticket sets → IsWriteSetOf life history' ticket sets) →
-    IsHeld life history words locals ticket entry → IsHeld life history' words' locals' ticket entry
-held_still life history history' words words' locals locals' free ticket entry keeps live same sets held = record {
+    slice_index words' (link_at instance.callers (ticket % cell_count instance.callers)) ≡ slice_index words (link_at instance.callers (ticket % cell_count instance.callers)) →
+    ((sets : List ℕ) → IsWriteSetOf instance history ticket sets → IsWriteSetOf instance history' ticket sets) →
+    IsLive instance history words locals ticket entry → IsLive instance history' words' locals' ticket entry
+held_still instance history history' words words' locals locals' free ticket entry keeps live same sets held = record {
   j = held.j;
   cell = held.cell;
   names = keeps entry.caller held.j ticket held.cell held.names live;
@@ -55,60 +55,60 @@ held_still life history history' words words' locals locals' free ticket entry k
 }
 
 -- where a caller's cells and what it saw of offers are as before, and what it saw of slots stands
-pub cells_local : (life : Life) (history : List Entry) (words : List ℕ) (locals : List Local) (caller : ℕ) (l l' : Local) → Cells life history words locals →
-    slice_get locals caller ≡ Some l → l'.cells ≡ l.cells → l'.seen_offer ≡ l.seen_offer → SlotStands life words l' →
-    Cells life history words (set locals caller l')
-cells_local life history words locals caller l l' cells at same offer stands =
+pub cells_local : (instance : Instance) (history : List Entry) (words : List ℕ) (locals : List Local) (caller : ℕ) (l l' : Local) → Cells instance history words locals →
+    slice_get locals caller ≡ Some l → l'.cells ≡ l.cells → l'.seen_offer ≡ l.seen_offer → SlotStands instance words l' →
+    Cells instance history words (set locals caller l')
+cells_local instance history words locals caller l l' cells at same offer stands =
     let free = slice_index words free_at in
     let keeps = names_same free locals caller l l' at same in
     record {
-      live = λ ticket entry linked live. held_still life history history words words locals (set locals caller l') free ticket entry keeps live refl (λ _ s. s) (cells.live ticket entry linked live);
-      shown = EachLocal-set locals caller l l' (ShowsCells life words) at cells.shown
+      live = λ ticket entry linked live. held_still instance history history words words locals (set locals caller l') free ticket entry keeps live refl (λ _ s. s) (cells.live ticket entry linked live);
+      shown = EachLocal-set locals caller l l' (ShowsCells instance words) at cells.shown
           (λ j cell there. cells.shown caller l at j cell (subst (λ cs. slice_get cs j ≡ Some cell) same there));
-      seen = EachLocal-set locals caller l l' (λ _ x. SlotStands life words x) at cells.seen stands;
+      seen = EachLocal-set locals caller l l' (λ _ x. SlotStands instance words x) at cells.seen stands;
       seen_offers = (
           let kept : EachLocal locals (λ _ x. OfferStands words (set locals caller l') x) = λ c x there seen is live word.
           offered_still free locals (set locals caller l') seen.cell seen.ticket keeps live (cells.seen_offers c x there seen is live word) in
           EachLocal-set locals caller l l' (λ _ x. OfferStands words (set locals caller l') x) at kept
           (λ seen is live word. kept caller l at seen (sym offer ∙ is) live word));
-      offers = EachLocal-set locals caller l l' (λ _ x. OffersLinked life history x) at cells.offers
+      offers = EachLocal-set locals caller l l' (λ _ x. OffersLinked instance history x) at cells.offers
           (λ j cell there some. cells.offers caller l at j cell (subst (λ cs. slice_get cs j ≡ Some cell) same there) some);
     }
 
 -- the same words of FREE, the links and the cells
-pub cells_words : (life : Life) (history : List Entry) (words : List ℕ) (locals : List Local) (at v : ℕ) → Cells life history words locals → Shape life words locals →
-    at ≢ free_at → IsOff (link_at life.callers 0) (4 + 10563 * life.callers) at → Cells life history (set words at v) locals
-cells_words life history words locals at v cells shape not_free off =
+pub cells_words : (instance : Instance) (history : List Entry) (words : List ℕ) (locals : List Local) (at v : ℕ) → Cells instance history words locals → Shape instance words locals →
+    at ≢ free_at → IsOff (link_at instance.callers 0) (4 + 10563 * instance.callers) at → Cells instance history (set words at v) locals
+cells_words instance history words locals at v cells shape not_free off =
     let some = shape.some in
     let words' = set words at v in
     let free : slice_index words' free_at ≡ slice_index words free_at = get_or-set_other words at 3 v 0 (λ e. not_free (sym e)) in
-    let link : (slot : ℕ) → slot < cell_count life.callers → slice_index words' (link_at life.callers slot) ≡ slice_index words (link_at life.callers slot) = λ slot below. (
-    let apart : link_at life.callers slot ≢ at = elim off [ inl a ↦ omega arith | inr b ↦ omega arith ] in
-    get_or-set_other words at (link_at life.callers slot) v 0 apart) in
-    let off_cells : IsOff (cell_at life.callers 0 0) (4 + 10563 * life.callers) at = elim off [ inl a ↦ inl (omega arith) | inr b ↦ inr b ] in
+    let link : (slot : ℕ) → slot < cell_count instance.callers → slice_index words' (link_at instance.callers slot) ≡ slice_index words (link_at instance.callers slot) = λ slot below. (
+    let apart : link_at instance.callers slot ≢ at = elim off [ inl a ↦ omega arith | inr b ↦ omega arith ] in
+    get_or-set_other words at (link_at instance.callers slot) v 0 apart) in
+    let off_cells : IsOff (cell_at instance.callers 0 0) (4 + 10563 * instance.callers) at = elim off [ inl a ↦ inl (omega arith) | inr b ↦ inr b ] in
     record {
       live = λ ticket entry linked live. (
           let before : slice_index words free_at ≤ ticket = subst (λ f. f ≤ ticket) free live in
-          let slot : ticket % cell_count life.callers < cell_count life.callers = mod_below ticket (cell_count life.callers) (omega arith) in
-          held_still life history history words words' locals locals (slice_index words free_at) ticket entry (λ _ _ _ _ names _. names) before (link _ slot) (λ _ s. s)
+          let slot : ticket % cell_count instance.callers < cell_count instance.callers = mod_below ticket (cell_count instance.callers) (omega arith) in
+          held_still instance history history words words' locals locals (slice_index words free_at) ticket entry (λ _ _ _ _ names _. names) before (link _ slot) (λ _ s. s)
           (cells.live ticket entry linked before));
-      shown = λ c x there j cell at_j. shown_off life.callers words at v (16 * c + j) cell (cell_within life words locals c x j cell shape there at_j) off_cells (cells.shown c x there j cell at_j);
+      shown = λ c x there j cell at_j. shown_off instance.callers words at v (16 * c + j) cell (cell_within instance words locals c x j cell shape there at_j) off_cells (cells.shown c x there j cell at_j);
       seen = λ c x there seen is. (
           let old = cells.seen c x there seen is in
           record {
             slot = old.slot;
-            stands = λ some_word live. link seen.slot old.slot ∙ old.stands some_word (subst (λ f. f ≤ link_ticket_of life.callers seen.word) free live);
+            stands = λ some_word live. link seen.slot old.slot ∙ old.stands some_word (subst (λ f. f ≤ link_ticket_of instance.callers seen.word) free live);
           });
       seen_offers = λ c x there seen is live word. cells.seen_offers c x there seen is (subst (λ f. f ≤ seen.ticket) free live) word;
       offers = cells.offers;
     }
 
 -- the framing law: cells name FREE, the links, the cells, offers and sets, and of a local state the fields of SameCells
-pub cells_framed : (life : Life) (history : List Entry) (words : List ℕ) (locals : List Local) (at v caller : ℕ) (l l' : Local) →
-    Cells life history words locals → Shape life words locals → slice_get locals caller ≡ Some l →
-    at ≢ free_at → IsOff (link_at life.callers 0) (4 + 10563 * life.callers) at → SameCells l l' →
-    Cells life history (set words at v) (set locals caller l')
-cells_framed life history words locals at v caller l l' cells shape there not_free off same =
-    let after = cells_words life history words locals at v cells shape not_free off in
-    cells_local life history (set words at v) locals caller l l' after there same.cells same.seen_offer
+pub cells_framed : (instance : Instance) (history : List Entry) (words : List ℕ) (locals : List Local) (at v caller : ℕ) (l l' : Local) →
+    Cells instance history words locals → Shape instance words locals → slice_get locals caller ≡ Some l →
+    at ≢ free_at → IsOff (link_at instance.callers 0) (4 + 10563 * instance.callers) at → SameCells l l' →
+    Cells instance history (set words at v) (set locals caller l')
+cells_framed instance history words locals at v caller l l' cells shape there not_free off same =
+    let after = cells_words instance history words locals at v cells shape not_free off in
+    cells_local instance history (set words at v) locals caller l l' after there same.cells same.seen_offer
     (λ seen is. after.seen caller l there seen (sym same.seen_slot ∙ is))

@@ -14,10 +14,10 @@ use Rattle.cx_core.specs.declared.local.SeenSlot.{SeenSlot}
 use Rattle.cx_core.specs.Events.{IsIdle, ShowsOpen, cell_of, entry_in, linked, seen_word}
 use Rattle.cx_core.specs.History.{full_image}
 use Rattle.cx_core.specs.Layout.{cell_count, free_at, link_at, cell_at}
-use Rattle.cx_core.specs.Lawful.{Cells, IsHeld, Links, NamesCell, Shape}
+use Rattle.cx_core.specs.Lawful.{Cells, IsLive, Links, NamesCell, Shape}
 use Rattle.cx_core.specs.Lawful.LinkWord.{Never, Names}
 use Rattle.cx_core.specs.Merge.{IsLinked}
-use Rattle.cx_core.specs.State.{Life}
+use Rattle.cx_core.specs.State.{Instance}
 use Rattle.cx_core.specs.WriteSet.{IsWriteSet, IsWriteSetOf}
 use Rattle.cx_core.proofs.ListLemmas.{slice_get-set_same}
 use Rattle.core_queue.specs.Frames.{IsOff}
@@ -37,13 +37,13 @@ full_image-push step base history more place within =
     let enough : place - base.place ≤ length history = omega arith in
     rw (take-append-le (place - base.place) history (more ∷ []) enough) refl
 
-write_set_still : (life : Life) (history : List Entry) (more : Entry) (ticket : ℕ) (sets : List ℕ) → ticket < life.base.place + length history →
-    IsWriteSetOf life history ticket sets → IsWriteSetOf life (history ++ more ∷ []) ticket sets
-write_set_still life history more ticket sets below old =
-    let one = full_image-push life.step life.base history more ticket (omega arith) in
-    let two = full_image-push life.step life.base history more (ticket + 1) (omega arith) in
-    subst (λ image. IsWriteSet sets image (full_image life.step life.base (history ++ more ∷ []) (ticket + 1))) (sym one)
-    (subst (λ image. IsWriteSet sets (full_image life.step life.base history ticket) image) (sym two) old)
+write_set_still : (instance : Instance) (history : List Entry) (more : Entry) (ticket : ℕ) (sets : List ℕ) → ticket < instance.base.place + length history →
+    IsWriteSetOf instance history ticket sets → IsWriteSetOf instance (history ++ more ∷ []) ticket sets
+write_set_still instance history more ticket sets below old =
+    let one = full_image-push instance.step instance.base history more ticket (omega arith) in
+    let two = full_image-push instance.step instance.base history more (ticket + 1) (omega arith) in
+    subst (λ image. IsWriteSet sets image (full_image instance.step instance.base (history ++ more ∷ []) (ticket + 1))) (sym one)
+    (subst (λ image. IsWriteSet sets (full_image instance.step instance.base history ticket) image) (sym two) old)
 
 -- a cell that some ticket is named for
 pub record Taken (locals : List Local) (ticket k : ℕ) : Type 0 where
@@ -53,16 +53,16 @@ pub record Taken (locals : List Local) (ticket k : ℕ) : Type 0 where
   pub names : NamesCell locals d j ticket cell
   pub is : k ≡ 16 * d + j
 
-pub names_small : (life : Life) (words : List ℕ) (locals : List Local) (d j ticket : ℕ) (cell : Cell) → Shape life words locals → NamesCell locals d j ticket cell → j < 16
-names_small life words locals d j ticket cell shape names =
+pub names_small : (instance : Instance) (words : List ℕ) (locals : List Local) (d j ticket : ℕ) (cell : Cell) → Shape instance words locals → NamesCell locals d j ticket cell → j < 16
+names_small instance words locals d j ticket cell shape names =
     let within = slice_get_within names.local.cells j cell names.at in
     omega (arith, within, (shape.each d names.local names.of_caller).cells)
 
 -- a cell is named with one ticket
-pub named_once : (life : Life) (words : List ℕ) (locals : List Local) (t u k : ℕ) → Shape life words locals → Taken locals t k → Taken locals u k → t ≡ u
-named_once life words locals t u k shape a b =
-    let a_small = names_small life words locals a.d a.j t a.cell shape a.names in
-    let b_small = names_small life words locals b.d b.j u b.cell shape b.names in
+pub named_once : (instance : Instance) (words : List ℕ) (locals : List Local) (t u k : ℕ) → Shape instance words locals → Taken locals t k → Taken locals u k → t ≡ u
+named_once instance words locals t u k shape a b =
+    let a_small = names_small instance words locals a.d a.j t a.cell shape a.names in
+    let b_small = names_small instance words locals b.d b.j u b.cell shape b.names in
     let both : 16 * a.d + a.j ≡ 16 * b.d + b.j = sym a.is ∙ b.is in
     let d_same : a.d ≡ b.d = omega arith in
     let j_same : a.j ≡ b.j = omega arith in
@@ -71,10 +71,10 @@ named_once life words locals t u k shape a b =
     same_Some t u (sym a.names.named ∙ ap (λ (x : Cell). x.ticket) cell ∙ b.names.named)
 
 -- an idle cell is not taken by a live ticket
-idle_not_taken : (life : Life) (words : List ℕ) (locals : List Local) (caller : ℕ) (l : Local) (j free ticket : ℕ) → Shape life words locals →
+idle_not_taken : (instance : Instance) (words : List ℕ) (locals : List Local) (caller : ℕ) (l : Local) (j free ticket : ℕ) → Shape instance words locals →
     slice_get locals caller ≡ Some l → j < 16 → IsIdle l j → l.seen_free ≤ free → free ≤ ticket → Taken locals ticket (16 * caller + j) → ⊥
-idle_not_taken life words locals caller l j free ticket shape at small idle behind live a =
-    let a_small = names_small life words locals a.d a.j ticket a.cell shape a.names in
+idle_not_taken instance words locals caller l j free ticket shape at small idle behind live a =
+    let a_small = names_small instance words locals a.d a.j ticket a.cell shape a.names in
     let both : 16 * caller + j ≡ 16 * a.d + a.j = a.is in
     let d_same : a.d ≡ caller = omega arith in
     let j_same : a.j ≡ j = omega arith in
@@ -84,65 +84,65 @@ idle_not_taken life words locals caller l j free ticket shape at small idle behi
     idle_is_dead l.seen_free free ticket (cell_of l j).ticket behind live idle (ap (λ (x : Cell). x.ticket) cell ∙ a.names.named)
 
 -- what is known where a link of an idle cell has won, at the end of the history
-pub record Wins (life : Life) (history : List Entry) (words : List ℕ) (locals : List Local) (caller : ℕ) (l : Local) (j : ℕ) : Type 0 where
-  pub shape : Shape life words locals
-  pub links : Links life history words
-  pub cells : Cells life history words locals
-  pub callers : (ticket : ℕ) (entry : Entry) → IsLinked life.base.place history ticket entry → entry.caller < life.callers
+pub record Wins (instance : Instance) (history : List Entry) (words : List ℕ) (locals : List Local) (caller : ℕ) (l : Local) (j : ℕ) : Type 0 where
+  pub shape : Shape instance words locals
+  pub links : Links instance history words
+  pub cells : Cells instance history words locals
+  pub callers : (ticket : ℕ) (entry : Entry) → IsLinked instance.base.place history ticket entry → entry.caller < instance.callers
   pub at : slice_get locals caller ≡ Some l
   pub small : j < 16
   pub idle : IsIdle l j
   pub behind : l.seen_free ≤ slice_index words free_at
-  pub end : l.front ≡ life.base.place + length history
-  pub open_ : ShowsOpen life.callers l.seen_slot l.front
-  pub found : slice_index words (link_at life.callers (l.front % cell_count life.callers)) ≡ seen_word l.seen_slot
+  pub end : l.front ≡ instance.base.place + length history
+  pub open_ : ShowsOpen instance.callers l.seen_slot l.front
+  pub found : slice_index words (link_at instance.callers (l.front % cell_count instance.callers)) ≡ seen_word l.seen_slot
 
 -- All cells would be taken by live tickets, if a live ticket had the slot of the front: it would be the one a whole round
 -- before, and each ticket from there on is live and has a cell of its own. But the caller's cell is idle.
-round_not_live : (life : Life) (history : List Entry) (words : List ℕ) (locals : List Local) (caller : ℕ) (l : Local) (j ticket : ℕ) → Wins life history words locals caller l j →
-    life.base.place ≤ ticket → slice_index words free_at ≤ ticket → ticket + cell_count life.callers ≡ l.front → ⊥
-round_not_live life history words locals caller l j ticket w from live round =
-    let q = cell_count life.callers in
-    let caller_below : caller < life.callers = (let within = slice_get_within locals caller l w.at in omega (arith, within, w.shape.count)) in
+round_not_live : (instance : Instance) (history : List Entry) (words : List ℕ) (locals : List Local) (caller : ℕ) (l : Local) (j ticket : ℕ) → Wins instance history words locals caller l j →
+    instance.base.place ≤ ticket → slice_index words free_at ≤ ticket → ticket + cell_count instance.callers ≡ l.front → ⊥
+round_not_live instance history words locals caller l j ticket w from live round =
+    let q = cell_count instance.callers in
+    let caller_below : caller < instance.callers = (let within = slice_get_within locals caller l w.at in omega (arith, within, w.shape.count)) in
     let small = w.small in
     let end = w.end in
     pigeonhole q (λ i k. ((i < q) × Taken locals (ticket + i) k) ⊎ ((i ≡ q) × (k ≡ 16 * caller + j)))
     (λ i le. elim (cases_lt i q) [
       | inl below ↦ (
-          let there = linked_below life.base.place history (ticket + i) (omega arith) (omega arith) in
+          let there = linked_below instance.base.place history (ticket + i) (omega arith) (omega arith) in
           let held = w.cells.live (ticket + i) there.0 there.1 (omega arith) in
-          let j_small = names_small life words locals there.0.caller held.j (ticket + i) held.cell w.shape held.names in
+          let j_small = names_small instance words locals there.0.caller held.j (ticket + i) held.cell w.shape held.names in
           let by = w.callers (ticket + i) there.0 there.1 in
           (16 * there.0.caller + held.j, inl (below, record { d = there.0.caller; j = held.j; cell = held.cell; names = held.names; is = refl {a = 16 * there.0.caller + held.j} }), omega (arith, j_small, by)))
       | inr past ↦ (let last : i ≡ q = omega arith in (16 * caller + j, inr (last, refl), omega arith))
     ])
     (λ i m k ile mle a b. elim a [
       | inl x ↦ elim b [
-        | inl y ↦ (let same = named_once life words locals (ticket + i) (ticket + m) k w.shape x.1 y.1 in omega (arith, same))
-        | inr y ↦ absurd (idle_not_taken life words locals caller l j (slice_index words free_at) (ticket + i) w.shape w.at w.small w.idle w.behind (omega arith) (subst (Taken locals (ticket + i)) y.1 x.1))
+        | inl y ↦ (let same = named_once instance words locals (ticket + i) (ticket + m) k w.shape x.1 y.1 in omega (arith, same))
+        | inr y ↦ absurd (idle_not_taken instance words locals caller l j (slice_index words free_at) (ticket + i) w.shape w.at w.small w.idle w.behind (omega arith) (subst (Taken locals (ticket + i)) y.1 x.1))
       ]
       | inr x ↦ elim b [
-        | inl y ↦ absurd (idle_not_taken life words locals caller l j (slice_index words free_at) (ticket + m) w.shape w.at w.small w.idle w.behind (omega arith) (subst (Taken locals (ticket + m)) x.1 y.1))
+        | inl y ↦ absurd (idle_not_taken instance words locals caller l j (slice_index words free_at) (ticket + m) w.shape w.at w.small w.idle w.behind (omega arith) (subst (Taken locals (ticket + m)) x.1 y.1))
         | inr y ↦ (let one = x.0 in let two = y.0 in omega (arith, one, two))
       ]
     ])
 
 -- no live ticket has the slot of the front
-slot_free : (life : Life) (history : List Entry) (words : List ℕ) (locals : List Local) (caller : ℕ) (l : Local) (j ticket : ℕ) (entry : Entry) → Wins life history words locals caller l j →
-    IsLinked life.base.place history ticket entry → slice_index words free_at ≤ ticket → ticket % cell_count life.callers ≡ l.front % cell_count life.callers → ⊥
-slot_free life history words locals caller l j ticket entry w linked live slot =
+slot_free : (instance : Instance) (history : List Entry) (words : List ℕ) (locals : List Local) (caller : ℕ) (l : Local) (j ticket : ℕ) (entry : Entry) → Wins instance history words locals caller l j →
+    IsLinked instance.base.place history ticket entry → slice_index words free_at ≤ ticket → ticket % cell_count instance.callers ≡ l.front % cell_count instance.callers → ⊥
+slot_free instance history words locals caller l j ticket entry w linked live slot =
     let held = w.cells.live ticket entry linked live in
-    let small = names_small life words locals entry.caller held.j ticket held.cell w.shape held.names in
+    let small = names_small instance words locals entry.caller held.j ticket held.cell w.shape held.names in
     let by = w.callers ticket entry linked in
     let k = 16 * entry.caller + held.j in
-    let k_within : k < 16 * life.callers = omega (arith, small, by) in
-    let is : link_code_of life.callers ticket k ≡ seen_word l.seen_slot = sym held.link ∙ ap (λ s. slice_index words (link_at life.callers s)) slot ∙ w.found in
-    elim (shown_open life.callers l.seen_slot l.front w.open_) [
-      | inl zero ↦ (let nothing : ticket * (16 * life.callers) + k + 1 ≡ 0 = is ∙ zero in omega arith)
+    let k_within : k < 16 * instance.callers = omega (arith, small, by) in
+    let is : link_code_of instance.callers ticket k ≡ seen_word l.seen_slot = sym held.link ∙ ap (λ s. slice_index words (link_at instance.callers s)) slot ∙ w.found in
+    elim (shown_open instance.callers l.seen_slot l.front w.open_) [
+      | inl zero ↦ (let nothing : ticket * (16 * instance.callers) + k + 1 ≡ 0 = is ∙ zero in omega arith)
       | inr older ↦ (
-          let is_ticket : link_ticket_of life.callers (seen_word l.seen_slot) ≡ ticket = ap (link_ticket_of life.callers) (sym is) ∙ code_ticket life.callers ticket k k_within in
-          let before : link_ticket_of life.callers (seen_word l.seen_slot) + cell_count life.callers ≡ l.front = older.1 in
-          round_not_live life history words locals caller l j ticket w linked.from live (omega arith))
+          let is_ticket : link_ticket_of instance.callers (seen_word l.seen_slot) ≡ ticket = ap (link_ticket_of instance.callers) (sym is) ∙ code_ticket instance.callers ticket k k_within in
+          let before : link_ticket_of instance.callers (seen_word l.seen_slot) + cell_count instance.callers ≡ l.front = older.1 in
+          round_not_live instance history words locals caller l j ticket w linked.from live (omega arith))
     ]
 
 -- the words of a cell are its entry's
@@ -151,42 +151,42 @@ entry_words [] long = absurd (omega arith)
 entry_words (x ∷ xs) long = let enough : length xs ≤ 144 = omega arith in ap (λ ys. x ∷ ys) (sym (take_all 144 xs enough))
 
 -- no live ticket was seen in the slot of the front
-seen_elsewhere : (life : Life) (history : List Entry) (words : List ℕ) (locals : List Local) (caller : ℕ) (l : Local) (j : ℕ) → Wins life history words locals caller l j →
-    (seen : SeenSlot) → 0 < seen.word → slice_index words free_at ≤ link_ticket_of life.callers seen.word →
-    slice_index words (link_at life.callers seen.slot) ≡ seen.word → seen.slot ≡ l.front % cell_count life.callers → ⊥
-seen_elsewhere life history words locals caller l j w seen some_word live still same =
+seen_elsewhere : (instance : Instance) (history : List Entry) (words : List ℕ) (locals : List Local) (caller : ℕ) (l : Local) (j : ℕ) → Wins instance history words locals caller l j →
+    (seen : SeenSlot) → 0 < seen.word → slice_index words free_at ≤ link_ticket_of instance.callers seen.word →
+    slice_index words (link_at instance.callers seen.slot) ≡ seen.word → seen.slot ≡ l.front % cell_count instance.callers → ⊥
+seen_elsewhere instance history words locals caller l j w seen some_word live still same =
     let some = w.shape.some in
-    let slot_small : l.front % cell_count life.callers < cell_count life.callers = mod_below l.front (cell_count life.callers) (omega arith) in
-    elim (w.links.each seen.slot (subst (λ s. s < cell_count life.callers) (sym same) slot_small)) [
+    let slot_small : l.front % cell_count instance.callers < cell_count instance.callers = mod_below l.front (cell_count instance.callers) (omega arith) in
+    elim (w.links.each seen.slot (subst (λ s. s < cell_count instance.callers) (sym same) slot_small)) [
       | Never none zero ↦ (let nothing : seen.word ≡ 0 = sym still ∙ zero in omega arith)
       | Names ticket entry i greatest small is ↦ (
           let by = w.callers ticket entry greatest.linked in
-          let k_within : 16 * entry.caller + i < 16 * life.callers = omega (arith, by) in
-          let is_ticket : link_ticket_of life.callers seen.word ≡ ticket = ap (link_ticket_of life.callers) (sym still ∙ is) ∙ code_ticket life.callers ticket _ k_within in
-          slot_free life history words locals caller l j ticket entry w greatest.linked (subst (λ t. slice_index words free_at ≤ t) is_ticket live) (greatest.at ∙ same))
+          let k_within : 16 * entry.caller + i < 16 * instance.callers = omega (arith, by) in
+          let is_ticket : link_ticket_of instance.callers seen.word ≡ ticket = ap (link_ticket_of instance.callers) (sym still ∙ is) ∙ code_ticket instance.callers ticket _ k_within in
+          slot_free instance history words locals caller l j ticket entry w greatest.linked (subst (λ t. slice_index words free_at ≤ t) is_ticket live) (greatest.at ∙ same))
     ]
 
 -- the part on cells after the link
-pub cells_linked : (life : Life) (history : List Entry) (words : List ℕ) (locals : List Local) (caller : ℕ) (l : Local) (j : ℕ) → Wins life history words locals caller l j →
-    Cells life (history ++ entry_in l j ∷ [])
-    (set words (link_at life.callers (l.front % cell_count life.callers)) (link_code_of life.callers l.front (16 * l.number + j)))
+pub cells_linked : (instance : Instance) (history : List Entry) (words : List ℕ) (locals : List Local) (caller : ℕ) (l : Local) (j : ℕ) → Wins instance history words locals caller l j →
+    Cells instance (history ++ entry_in l j ∷ [])
+    (set words (link_at instance.callers (l.front % cell_count instance.callers)) (link_code_of instance.callers l.front (16 * l.number + j)))
     (set locals caller (linked l j))
-cells_linked life history words locals caller l j w =
-    let q = cell_count life.callers in
+cells_linked instance history words locals caller l j w =
+    let q = cell_count instance.callers in
     let some = w.shape.some in
     let entry = entry_in l j in
     let old = cell_of l j in
     let local_shape = w.shape.each caller l w.at in
     let there = cell_there caller l j local_shape w.small in
     let slot = l.front % q in
-    let place = link_at life.callers slot in
-    let code = link_code_of life.callers l.front (16 * l.number + j) in
+    let place = link_at instance.callers slot in
+    let code = link_code_of instance.callers l.front (16 * l.number + j) in
     let words' = set words place code in
     let locals' = set locals caller (linked l j) in
     let slot_small : slot < q = mod_below l.front q (omega arith) in
     let inside : place < length words = omega (arith, w.shape.long) in
     let free_apart : 3 ≢ place = omega arith in
-    let p : Puts life words words' locals caller l (linked l j) j old (record old { ticket = Some l.front }) = record {
+    let p : Puts instance words words' locals caller l (linked l j) j old (record old { ticket = Some l.front }) = record {
       at = w.at;
       there = there;
       idle = w.idle;
@@ -197,24 +197,24 @@ cells_linked life history words locals caller l j w =
       seen_offer = refl;
       free = get_or-set_other words place 3 code 0 free_apart;
     } in
-    let keeps = keeps_put life words words' locals caller l (linked l j) j old _ p in
-    let link : (s : ℕ) → s ≢ slot → slice_index words' (link_at life.callers s) ≡ slice_index words (link_at life.callers s) = λ s ne. (
-    let apart : link_at life.callers s ≢ place = λ same. ne (omega arith) in
-    get_or-set_other words place (link_at life.callers s) code 0 apart) in
-    let off : IsOff (cell_at life.callers 0 0) (4 + 10563 * life.callers) place = inl (omega arith) in
+    let keeps = keeps_put instance words words' locals caller l (linked l j) j old _ p in
+    let link : (s : ℕ) → s ≢ slot → slice_index words' (link_at instance.callers s) ≡ slice_index words (link_at instance.callers s) = λ s ne. (
+    let apart : link_at instance.callers s ≢ place = λ same. ne (omega arith) in
+    get_or-set_other words place (link_at instance.callers s) code 0 apart) in
+    let off : IsOff (cell_at instance.callers 0 0) (4 + 10563 * instance.callers) place = inl (omega arith) in
     let shown = w.cells.shown caller l w.at j old there in
-    let here = shown_off life.callers words place code (16 * caller + j) old (cell_within life words locals caller l j old w.shape w.at there) off shown in
-    cells_put life history (history ++ entry ∷ []) words words' locals caller l (linked l j) j old _ p w.shape w.cells
-    (linked_still life.base.place history entry)
-    (λ ticket e is_linked live. elim (linked_then life.base.place history entry ticket e is_linked) [
+    let here = shown_off instance.callers words place code (16 * caller + j) old (cell_within instance words locals caller l j old w.shape w.at there) off shown in
+    cells_put instance history (history ++ entry ∷ []) words words' locals caller l (linked l j) j old _ p w.shape w.cells
+    (linked_still instance.base.place history entry)
+    (λ ticket e is_linked live. elim (linked_then instance.base.place history entry ticket e is_linked) [
       | inl before ↦ (
-          let below = linked_within life.base.place history ticket e before in
-          let other : ticket % q ≢ slot = λ same. slot_free life history words locals caller l j ticket e w before live same in
-          held_still life history (history ++ entry ∷ []) words words' locals locals' (slice_index words free_at) ticket e keeps live (link (ticket % q) other)
-          (λ sets old_set. write_set_still life history entry ticket sets below old_set) (w.cells.live ticket e before live))
-      | inr new ↦ subst (λ x. IsHeld life (history ++ entry ∷ []) words' locals' ticket x) new.1 (
+          let below = linked_within instance.base.place history ticket e before in
+          let other : ticket % q ≢ slot = λ same. slot_free instance history words locals caller l j ticket e w before live same in
+          held_still instance history (history ++ entry ∷ []) words words' locals locals' (slice_index words free_at) ticket e keeps live (link (ticket % q) other)
+          (λ sets old_set. write_set_still instance history entry ticket sets below old_set) (w.cells.live ticket e before live))
+      | inr new ↦ subst (λ x. IsLive instance (history ++ entry ∷ []) words' locals' ticket x) new.1 (
           let at_front : ticket ≡ l.front = new.0 ∙ sym w.end in
-          subst (λ t. IsHeld life (history ++ entry ∷ []) words' locals' t entry) (sym at_front) (record {
+          subst (λ t. IsLive instance (history ++ entry ∷ []) words' locals' t entry) (sym at_front) (record {
             j = j;
             cell = record old { ticket = Some l.front };
             names = record {
@@ -227,22 +227,22 @@ cells_linked life history words locals caller l j w =
             holds = entry_words old.words (local_shape.each j old there).words;
             offered = λ offer. (
                 let o = w.cells.offers caller l w.at j old there (let one_more : old.offer ≡ l.front + 1 = offer in omega arith) in
-                let earlier = linked_within life.base.place history o.0 o.1 o.2 in
+                let earlier = linked_within instance.base.place history o.0 o.1 o.2 in
                 let is : old.offer ≡ o.0 + 1 = o.3 in
                 let one_more : old.offer ≡ l.front + 1 = offer in
                 let end = w.end in
                 absurd (omega arith));
           }))
     ])
-    (λ m cell ne within s. shown_off life.callers words place code m cell within off s)
+    (λ m cell ne within s. shown_off instance.callers words place code m cell within off s)
     (record { entry = here.entry; pairs = here.pairs; offer = here.offer })
     (λ seen stands. record {
       slot = stands.slot;
       stands = λ some_word live. (
-          let before : slice_index words free_at ≤ link_ticket_of life.callers seen.word = subst (λ f. f ≤ link_ticket_of life.callers seen.word) p.free live in
+          let before : slice_index words free_at ≤ link_ticket_of instance.callers seen.word = subst (λ f. f ≤ link_ticket_of instance.callers seen.word) p.free live in
           let still = stands.stands some_word before in
           elim (cases_eq seen.slot slot) [
-            | inl same ↦ absurd (seen_elsewhere life history words locals caller l j w seen some_word before still same)
+            | inl same ↦ absurd (seen_elsewhere instance history words locals caller l j w seen some_word before still same)
             | inr ne ↦ link seen.slot ne ∙ still
           ]);
     })

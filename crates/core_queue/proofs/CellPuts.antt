@@ -12,16 +12,16 @@ use Rattle.cx_core.specs.declared.local.Local.{Local}
 use Rattle.cx_core.specs.declared.local.SeenSlot.{SeenSlot}
 use Rattle.cx_core.specs.Events.{IsIdle, IsIdleAt, cell_of, written}
 use Rattle.cx_core.specs.Layout.{cell_count, free_at, link_at, cell_at, offer_at, set_at}
-use Rattle.cx_core.specs.Lawful.{Cells, IsHeld, IsShown, OfferStands, OffersLinked, SeenStands, Shape, ShowsCells, SlotStands}
+use Rattle.cx_core.specs.Lawful.{Cells, IsLive, IsShown, OfferStands, OffersLinked, SeenStands, Shape, ShowsCells, SlotStands}
 use Rattle.cx_core.specs.Merge.{IsLinked}
-use Rattle.cx_core.specs.State.{EachLocal, Life}
+use Rattle.cx_core.specs.State.{EachLocal, Instance}
 use Rattle.core_queue.proofs.CellLaws.{cell_within, held_still}
 use Rattle.core_queue.proofs.CellNames.{KeepsNames, names_put, offered_still}
 use Rattle.core_queue.proofs.Locals.{EachLocal-set, item_after}
 use Rattle.core_queue.proofs.Shapes.{cell_there}
 
 -- what a put cell is: an idle cell of a caller, put with the same offer word, and nothing else that cells name changed
-pub record Puts (life : Life) (words words' : List ℕ) (locals : List Local) (caller : ℕ) (l l' : Local) (k : ℕ) (old new : Cell) : Type 0 where
+pub record Puts (instance : Instance) (words words' : List ℕ) (locals : List Local) (caller : ℕ) (l l' : Local) (k : ℕ) (old new : Cell) : Type 0 where
   pub at : slice_get locals caller ≡ Some l
   pub there : slice_get l.cells k ≡ Some old
   pub idle : IsIdleAt l.seen_free old.ticket
@@ -32,46 +32,46 @@ pub record Puts (life : Life) (words words' : List ℕ) (locals : List Local) (c
   pub seen_offer : l'.seen_offer ≡ l.seen_offer
   pub free : slice_index words' free_at ≡ slice_index words free_at
 
-pub keeps_put : (life : Life) (words words' : List ℕ) (locals : List Local) (caller : ℕ) (l l' : Local) (k : ℕ) (old new : Cell) →
-    Puts life words words' locals caller l l' k old new → KeepsNames (slice_index words free_at) locals (set locals caller l')
-keeps_put life words words' locals caller l l' k old new p =
+pub keeps_put : (instance : Instance) (words words' : List ℕ) (locals : List Local) (caller : ℕ) (l l' : Local) (k : ℕ) (old new : Cell) →
+    Puts instance words words' locals caller l l' k old new → KeepsNames (slice_index words free_at) locals (set locals caller l')
+keeps_put instance words words' locals caller l l' k old new p =
     names_put l.seen_free (slice_index words free_at) locals caller l l' k old new p.at p.there p.idle p.behind p.put
 
 -- the cells shown, where the put cell is shown and each other is still
-shown_put : (life : Life) (words words' : List ℕ) (locals : List Local) (caller : ℕ) (l l' : Local) (k : ℕ) (old new : Cell) →
-    Puts life words words' locals caller l l' k old new → Shape life words locals → EachLocal locals (ShowsCells life words) →
-    ((m : ℕ) (cell : Cell) → m ≢ 16 * caller + k → m < 16 * life.callers → IsShown life.callers words m cell → IsShown life.callers words' m cell) →
-    IsShown life.callers words' (16 * caller + k) new → EachLocal (set locals caller l') (ShowsCells life words')
-shown_put life words words' locals caller l l' k old new p shape shown still here d x there_d j cell there_j =
+shown_put : (instance : Instance) (words words' : List ℕ) (locals : List Local) (caller : ℕ) (l l' : Local) (k : ℕ) (old new : Cell) →
+    Puts instance words words' locals caller l l' k old new → Shape instance words locals → EachLocal locals (ShowsCells instance words) →
+    ((m : ℕ) (cell : Cell) → m ≢ 16 * caller + k → m < 16 * instance.callers → IsShown instance.callers words m cell → IsShown instance.callers words' m cell) →
+    IsShown instance.callers words' (16 * caller + k) new → EachLocal (set locals caller l') (ShowsCells instance words')
+shown_put instance words words' locals caller l l' k old new p shape shown still here d x there_d j cell there_j =
     let k_within = slice_get_within l.cells k old p.there in
     let k_small : k < 16 = omega (arith, k_within, (shape.each caller l p.at).cells) in
-    let other : (e : ℕ) (y : Local) → slice_get locals e ≡ Some y → slice_get y.cells j ≡ Some cell → (e ≢ caller) ⊎ (j ≢ k) → IsShown life.callers words' (16 * e + j) cell =
+    let other : (e : ℕ) (y : Local) → slice_get locals e ≡ Some y → slice_get y.cells j ≡ Some cell → (e ≢ caller) ⊎ (j ≢ k) → IsShown instance.callers words' (16 * e + j) cell =
     λ e y at_e at_j apart. (
     let j_within = slice_get_within y.cells j cell at_j in
     let j_small : j < 16 = omega (arith, j_within, (shape.each e y at_e).cells) in
     let ne : 16 * e + j ≢ 16 * caller + k = λ same. elim apart [ inl a ↦ a (omega arith) | inr b ↦ b (omega arith) ] in
-    still (16 * e + j) cell ne (cell_within life words locals e y j cell shape at_e at_j) (shown e y at_e j cell at_j)) in
+    still (16 * e + j) cell ne (cell_within instance words locals e y j cell shape at_e at_j) (shown e y at_e j cell at_j)) in
     elim (item_after locals caller d l' x (slice_get_within locals caller l p.at) there_d) [
       | inl e ↦ (
           let put : slice_get (set l.cells k new) j ≡ Some cell = subst (λ cs. slice_get cs j ≡ Some cell) (ap (λ (y : Local). y.cells) (sym e.1) ∙ p.put) there_j in
-          subst (λ n. IsShown life.callers words' (16 * n + j) cell) (sym e.0) (
+          subst (λ n. IsShown instance.callers words' (16 * n + j) cell) (sym e.0) (
           elim (item_after l.cells k j new cell k_within put) [
-            | inl f ↦ subst (λ m. IsShown life.callers words' (16 * caller + m) cell) (sym f.0) (subst (IsShown life.callers words' (16 * caller + k)) f.1 here)
+            | inl f ↦ subst (λ m. IsShown instance.callers words' (16 * caller + m) cell) (sym f.0) (subst (IsShown instance.callers words' (16 * caller + k)) f.1 here)
             | inr f ↦ other caller l p.at f.1 (inr f.0)
           ]))
       | inr ne ↦ other d x ne.1 there_j (inl ne.0)
     ]
 
 -- the offers, which are as before
-offers_put : (life : Life) (history history' : List Entry) (words words' : List ℕ) (locals : List Local) (caller : ℕ) (l l' : Local) (k : ℕ) (old new : Cell) →
-    Puts life words words' locals caller l l' k old new → EachLocal locals (λ _ x. OffersLinked life history x) →
-    ((ticket : ℕ) (entry : Entry) → IsLinked life.base.place history ticket entry → IsLinked life.base.place history' ticket entry) →
-    EachLocal (set locals caller l') (λ _ x. OffersLinked life history' x)
-offers_put life history history' words words' locals caller l l' k old new p offers more =
-    let kept : EachLocal locals (λ _ x. OffersLinked life history' x) = λ c x there j cell at some. (
+offers_put : (instance : Instance) (history history' : List Entry) (words words' : List ℕ) (locals : List Local) (caller : ℕ) (l l' : Local) (k : ℕ) (old new : Cell) →
+    Puts instance words words' locals caller l l' k old new → EachLocal locals (λ _ x. OffersLinked instance history x) →
+    ((ticket : ℕ) (entry : Entry) → IsLinked instance.base.place history ticket entry → IsLinked instance.base.place history' ticket entry) →
+    EachLocal (set locals caller l') (λ _ x. OffersLinked instance history' x)
+offers_put instance history history' words words' locals caller l l' k old new p offers more =
+    let kept : EachLocal locals (λ _ x. OffersLinked instance history' x) = λ c x there j cell at some. (
     let o = offers c x there j cell at some in
     (o.0, o.1, more o.0 o.1 o.2, o.3)) in
-    EachLocal-set locals caller l l' (λ _ x. OffersLinked life history' x) p.at kept
+    EachLocal-set locals caller l l' (λ _ x. OffersLinked instance history' x) p.at kept
     (λ j cell at some. elim (item_after l.cells k j new cell (slice_get_within l.cells k old p.there) (subst (λ cs. slice_get cs j ≡ Some cell) p.put at)) [
       | inl e ↦ (
           let same : cell.offer ≡ old.offer = ap (λ (y : Cell). y.offer) (sym e.1) ∙ p.offer in
@@ -82,29 +82,29 @@ offers_put life history history' words words' locals caller l l' k old new p off
     ])
 
 -- the part on cells after a cell was put, given what it says of live tickets, of cells shown and of slots seen
-pub cells_put : (life : Life) (history history' : List Entry) (words words' : List ℕ) (locals : List Local) (caller : ℕ) (l l' : Local) (k : ℕ) (old new : Cell) →
-    Puts life words words' locals caller l l' k old new → Shape life words locals → Cells life history words locals →
-    ((ticket : ℕ) (entry : Entry) → IsLinked life.base.place history ticket entry → IsLinked life.base.place history' ticket entry) →
-    ((ticket : ℕ) (entry : Entry) → IsLinked life.base.place history' ticket entry → slice_index words free_at ≤ ticket → IsHeld life history' words' (set locals caller l') ticket entry) →
-    ((m : ℕ) (cell : Cell) → m ≢ 16 * caller + k → m < 16 * life.callers → IsShown life.callers words m cell → IsShown life.callers words' m cell) →
-    IsShown life.callers words' (16 * caller + k) new →
-    ((seen : SeenSlot) → SeenStands life words seen → SeenStands life words' seen) →
-    Cells life history' words' (set locals caller l')
-cells_put life history history' words words' locals caller l l' k old new p shape cells more held still here stands =
-    let keeps = keeps_put life words words' locals caller l l' k old new p in
+pub cells_put : (instance : Instance) (history history' : List Entry) (words words' : List ℕ) (locals : List Local) (caller : ℕ) (l l' : Local) (k : ℕ) (old new : Cell) →
+    Puts instance words words' locals caller l l' k old new → Shape instance words locals → Cells instance history words locals →
+    ((ticket : ℕ) (entry : Entry) → IsLinked instance.base.place history ticket entry → IsLinked instance.base.place history' ticket entry) →
+    ((ticket : ℕ) (entry : Entry) → IsLinked instance.base.place history' ticket entry → slice_index words free_at ≤ ticket → IsLive instance history' words' (set locals caller l') ticket entry) →
+    ((m : ℕ) (cell : Cell) → m ≢ 16 * caller + k → m < 16 * instance.callers → IsShown instance.callers words m cell → IsShown instance.callers words' m cell) →
+    IsShown instance.callers words' (16 * caller + k) new →
+    ((seen : SeenSlot) → SeenStands instance words seen → SeenStands instance words' seen) →
+    Cells instance history' words' (set locals caller l')
+cells_put instance history history' words words' locals caller l l' k old new p shape cells more held still here stands =
+    let keeps = keeps_put instance words words' locals caller l l' k old new p in
     record {
       live = λ ticket entry linked live. held ticket entry linked (subst (λ f. f ≤ ticket) p.free live);
-      shown = shown_put life words words' locals caller l l' k old new p shape cells.shown still here;
+      shown = shown_put instance words words' locals caller l l' k old new p shape cells.shown still here;
       seen = (
-          let kept : EachLocal locals (λ _ x. SlotStands life words' x) = λ c x there seen is. stands seen (cells.seen c x there seen is) in
-          EachLocal-set locals caller l l' (λ _ x. SlotStands life words' x) p.at kept (λ seen is. kept caller l p.at seen (sym p.seen_slot ∙ is)));
+          let kept : EachLocal locals (λ _ x. SlotStands instance words' x) = λ c x there seen is. stands seen (cells.seen c x there seen is) in
+          EachLocal-set locals caller l l' (λ _ x. SlotStands instance words' x) p.at kept (λ seen is. kept caller l p.at seen (sym p.seen_slot ∙ is)));
       seen_offers = (
           let kept : EachLocal locals (λ _ x. OfferStands words' (set locals caller l') x) = λ c x there seen is live word. (
           let before : slice_index words free_at ≤ seen.ticket = subst (λ f. f ≤ seen.ticket) p.free live in
           offered_still (slice_index words free_at) locals (set locals caller l') seen.cell seen.ticket keeps before (cells.seen_offers c x there seen is before word)) in
           EachLocal-set locals caller l l' (λ _ x. OfferStands words' (set locals caller l') x) p.at kept
           (λ seen is live word. kept caller l p.at seen (sym p.seen_offer ∙ is) live word));
-      offers = offers_put life history history' words words' locals caller l l' k old new p cells.offers more;
+      offers = offers_put instance history history' words words' locals caller l l' k old new p cells.offers more;
     }
 
 -- a word of another cell
@@ -149,20 +149,20 @@ shown_written callers words k i v old k_within i_within long words_long shown =
     }
 
 -- a word written into an idle cell
-pub cells_written : (life : Life) (history : List Entry) (words : List ℕ) (locals : List Local) (caller : ℕ) (l l' : Local) (j i v : ℕ) →
-    Shape life words locals → Cells life history words locals → slice_get locals caller ≡ Some l → j < 16 → i < 145 → IsIdle l j →
+pub cells_written : (instance : Instance) (history : List Entry) (words : List ℕ) (locals : List Local) (caller : ℕ) (l l' : Local) (j i v : ℕ) →
+    Shape instance words locals → Cells instance history words locals → slice_get locals caller ≡ Some l → j < 16 → i < 145 → IsIdle l j →
     l.seen_free ≤ slice_index words free_at → l'.cells ≡ written l j i v → l'.seen_slot ≡ l.seen_slot → l'.seen_offer ≡ l.seen_offer →
-    Cells life history (set words (cell_at life.callers (16 * caller + j) i) v) (set locals caller l')
-cells_written life history words locals caller l l' j i v shape cells at j_small i_small idle behind put seen_slot seen_offer =
+    Cells instance history (set words (cell_at instance.callers (16 * caller + j) i) v) (set locals caller l')
+cells_written instance history words locals caller l l' j i v shape cells at j_small i_small idle behind put seen_slot seen_offer =
     let old = cell_of l j in
     let there = cell_there caller l j (shape.each caller l at) j_small in
     let k = 16 * caller + j in
-    let place = cell_at life.callers k i in
+    let place = cell_at instance.callers k i in
     let words' = set words place v in
-    let k_within : k < 16 * life.callers = cell_within life words locals caller l j old shape at there in
-    let long : 4 + 10563 * life.callers ≤ length words = omega (arith, shape.long) in
+    let k_within : k < 16 * instance.callers = cell_within instance words locals caller l j old shape at there in
+    let long : 4 + 10563 * instance.callers ≤ length words = omega (arith, shape.long) in
     let free_apart : 3 ≢ place = omega arith in
-    let p : Puts life words words' locals caller l l' j old (record old { words = set old.words i v; ticket = None }) = record {
+    let p : Puts instance words words' locals caller l l' j old (record old { words = set old.words i v; ticket = None }) = record {
       at = at;
       there = there;
       idle = idle;
@@ -173,18 +173,18 @@ cells_written life history words locals caller l l' j i v shape cells at j_small
       seen_offer = seen_offer;
       free = get_or-set_other words place 3 v 0 free_apart;
     } in
-    let keeps = keeps_put life words words' locals caller l l' j old _ p in
+    let keeps = keeps_put instance words words' locals caller l l' j old _ p in
     let some = shape.some in
-    let link : (slot : ℕ) → slot < cell_count life.callers → slice_index words' (link_at life.callers slot) ≡ slice_index words (link_at life.callers slot) = λ slot below. (
-    let apart : link_at life.callers slot ≢ place = omega arith in
-    get_or-set_other words place (link_at life.callers slot) v 0 apart) in
-    cells_put life history history words words' locals caller l l' j old _ p shape cells (λ _ _ x. x)
+    let link : (slot : ℕ) → slot < cell_count instance.callers → slice_index words' (link_at instance.callers slot) ≡ slice_index words (link_at instance.callers slot) = λ slot below. (
+    let apart : link_at instance.callers slot ≢ place = omega arith in
+    get_or-set_other words place (link_at instance.callers slot) v 0 apart) in
+    cells_put instance history history words words' locals caller l l' j old _ p shape cells (λ _ _ x. x)
     (λ ticket entry linked live. (
-    let slot : ticket % cell_count life.callers < cell_count life.callers = mod_below ticket (cell_count life.callers) (omega arith) in
-    held_still life history history words words' locals (set locals caller l') (slice_index words free_at) ticket entry keeps live (link _ slot) (λ _ s. s) (cells.live ticket entry linked live)))
-    (λ m cell ne within shown. shown_apart life.callers words k i v m cell k_within i_small ne within shown)
-    (shown_written life.callers words k i v old k_within i_small long ((shape.each caller l at).each j old there).words (cells.shown caller l at j old there))
+    let slot : ticket % cell_count instance.callers < cell_count instance.callers = mod_below ticket (cell_count instance.callers) (omega arith) in
+    held_still instance history history words words' locals (set locals caller l') (slice_index words free_at) ticket entry keeps live (link _ slot) (λ _ s. s) (cells.live ticket entry linked live)))
+    (λ m cell ne within shown. shown_apart instance.callers words k i v m cell k_within i_small ne within shown)
+    (shown_written instance.callers words k i v old k_within i_small long ((shape.each caller l at).each j old there).words (cells.shown caller l at j old there))
     (λ seen old_seen. record {
       slot = old_seen.slot;
-      stands = λ some_word live. link seen.slot old_seen.slot ∙ old_seen.stands some_word (subst (λ f. f ≤ link_ticket_of life.callers seen.word) p.free live);
+      stands = λ some_word live. link seen.slot old_seen.slot ∙ old_seen.stands some_word (subst (λ f. f ≤ link_ticket_of instance.callers seen.word) p.free live);
     })

@@ -6,7 +6,7 @@ use Rattle.cx_core.specs.declared.entry.Entry.{Entry}
 use Rattle.cx_core.specs.declared.local.Local.{Local}
 use Rattle.cx_core.specs.Layout.{dur_at, low_at, free_at}
 use Rattle.cx_core.specs.Lawful.{Fronts, IsBehind}
-use Rattle.cx_core.specs.State.{Life}
+use Rattle.cx_core.specs.State.{Instance}
 use Rattle.core_queue.specs.Frames.{SameFront}
 use Rattle.core_queue.proofs.Locals.{EachLocal-set}
 
@@ -28,9 +28,9 @@ same_words words at v off =
     }
 
 -- a longer history and the same words leave a caller behind
-pub behind_kept : (life : Life) (history history' : List Entry) (words words' : List ℕ) (l l' : Local) → IsBehind life history words l →
-    length history ≤ length history' → SameWords words words' → SameFront l l' → IsBehind life history' words' l'
-behind_kept life history history' words words' l l' old longer same fields = record {
+pub behind_kept : (instance : Instance) (history history' : List Entry) (words words' : List ℕ) (l l' : Local) → IsBehind instance history words l →
+    length history ≤ length history' → SameWords words words' → SameFront l l' → IsBehind instance history' words' l'
+behind_kept instance history history' words words' l l' old longer same fields = record {
   from = rw fields.front old.from;
   to = rw fields.front (omega (arith, old.to));
   floor = rw (fields.floor, fields.front) old.floor;
@@ -47,29 +47,29 @@ pub same_front : (l : Local) → SameFront l l
 same_front l = record { front = refl; floor = refl; seen_cur = refl; seen_free = refl; seen_low = refl; raised = refl; won = refl }
 
 -- all callers are behind after one local state was put that is
-pub fronts_put : (life : Life) (history history' : List Entry) (words words' : List ℕ) (locals : List Local) (caller : ℕ) (l l' : Local) →
-    Fronts life history words locals → slice_get locals caller ≡ Some l → length history ≤ length history' → SameWords words words' →
-    IsBehind life history' words' l' → Fronts life history' words' (set locals caller l')
-fronts_put life history history' words words' locals caller l l' fronts at longer same here = record {
-  each = EachLocal-set locals caller l l' (λ _ x. IsBehind life history' words' x) at
-      (λ d x there. behind_kept life history history' words words' x x (fronts.each d x there) longer same (same_front x)) here;
+pub fronts_put : (instance : Instance) (history history' : List Entry) (words words' : List ℕ) (locals : List Local) (caller : ℕ) (l l' : Local) →
+    Fronts instance history words locals → slice_get locals caller ≡ Some l → length history ≤ length history' → SameWords words words' →
+    IsBehind instance history' words' l' → Fronts instance history' words' (set locals caller l')
+fronts_put instance history history' words words' locals caller l l' fronts at longer same here = record {
+  each = EachLocal-set locals caller l l' (λ _ x. IsBehind instance history' words' x) at
+      (λ d x there. behind_kept instance history history' words words' x x (fronts.each d x there) longer same (same_front x)) here;
 }
 
 -- the framing law: fronts name DUR, LOW and FREE, and of a local state the fields of SameFront
-pub fronts_framed : (life : Life) (history : List Entry) (words : List ℕ) (locals : List Local) (at v caller : ℕ) (l l' : Local) →
-    Fronts life history words locals → slice_get locals caller ≡ Some l → 4 ≤ at ⊎ (at ≡ 0) → SameFront l l' →
-    Fronts life history (set words at v) (set locals caller l')
-fronts_framed life history words locals at v caller l l' fronts there off fields =
+pub fronts_framed : (instance : Instance) (history : List Entry) (words : List ℕ) (locals : List Local) (at v caller : ℕ) (l l' : Local) →
+    Fronts instance history words locals → slice_get locals caller ≡ Some l → 4 ≤ at ⊎ (at ≡ 0) → SameFront l l' →
+    Fronts instance history (set words at v) (set locals caller l')
+fronts_framed instance history words locals at v caller l l' fronts there off fields =
     let same = same_words words at v off in
-    fronts_put life history history words (set words at v) locals caller l l' fronts there (omega arith) same
-    (behind_kept life history history words (set words at v) l l' (fronts.each caller l there) (omega arith) same fields)
+    fronts_put instance history history words (set words at v) locals caller l l' fronts there (omega arith) same
+    (behind_kept instance history history words (set words at v) l l' (fronts.each caller l there) (omega arith) same fields)
 
 -- a caller whose front rises, but not past the end
-pub behind_raised : (life : Life) (history history' : List Entry) (words words' : List ℕ) (l l' : Local) → IsBehind life history words l →
-    length history ≤ length history' → SameWords words words' → l.front ≤ l'.front → l'.front ≤ life.base.place + length history' →
-    SameFront l (record l' { front = l.front }) → IsBehind life history' words' l'
-behind_raised life history history' words words' l l' old longer same up within fields =
-    let kept = behind_kept life history history' words words' l (record l' { front = l.front }) old longer same fields in
+pub behind_raised : (instance : Instance) (history history' : List Entry) (words words' : List ℕ) (l l' : Local) → IsBehind instance history words l →
+    length history ≤ length history' → SameWords words words' → l.front ≤ l'.front → l'.front ≤ instance.base.place + length history' →
+    SameFront l (record l' { front = l.front }) → IsBehind instance history' words' l'
+behind_raised instance history history' words words' l l' old longer same up within fields =
+    let kept = behind_kept instance history history' words words' l (record l' { front = l.front }) old longer same fields in
     record {
       from = omega (arith, kept.from);
       to = within;
@@ -84,10 +84,10 @@ behind_raised life history history' words words' l l' old longer same up within 
     }
 
 -- a caller that found FREE
-pub behind_free : (life : Life) (history : List Entry) (words : List ℕ) (l l' : Local) → IsBehind life history words l →
-    l'.seen_free ≡ max l.seen_free (slice_index words free_at) → SameFront l (record l' { seen_free = l.seen_free }) → IsBehind life history words l'
-behind_free life history words l l' old found fields =
-    let kept = behind_kept life history history words words l (record l' { seen_free = l.seen_free }) old (omega arith) (record { dur = refl; low = refl; free = refl }) fields in
+pub behind_free : (instance : Instance) (history : List Entry) (words : List ℕ) (l l' : Local) → IsBehind instance history words l →
+    l'.seen_free ≡ max l.seen_free (slice_index words free_at) → SameFront l (record l' { seen_free = l.seen_free }) → IsBehind instance history words l'
+behind_free instance history words l l' old found fields =
+    let kept = behind_kept instance history history words words l (record l' { seen_free = l.seen_free }) old (omega arith) (record { dur = refl; low = refl; free = refl }) fields in
     record {
       from = kept.from;
       to = kept.to;

@@ -10,18 +10,18 @@ use Rattle.cx_core.specs.declared.entry.Base.{Base}
 use Rattle.cx_core.specs.declared.entry.Entry.{Entry}
 use Rattle.cx_core.specs.declared.local.Cell.{Cell}
 use Rattle.cx_core.specs.declared.local.Local.{Local}
-use Rattle.cx_core.specs.Layout.{cell_at, dur_at, free_at, link_at, low_at, none, offer_at, set_at}
+use Rattle.cx_core.specs.Layout.{cell_at, dur_at, free_at, link_at, low_at, max_word, offer_at, set_at}
 use Rattle.cx_core.specs.Lawful.{CellShape, IsShown, Lawful, LocalShape}
 use Rattle.cx_core.specs.Lawful.LinkWord.{Never}
 use Rattle.cx_core.specs.Merge.{IsLinked}
-use Rattle.cx_core.specs.State.{Life, blank_cell, copies, opening_code, opening_local, opening_locals, opening_state, opening_words}
+use Rattle.cx_core.specs.State.{Instance, blank_cell, copies, opening_code, opening_local, opening_locals, opening_state, opening_words}
 use Rattle.cx_core.proofs.StateLemmas.{length-opening, opening_at}
 
 -- the words of links, cells, offers and sets are 0
 zeros : (callers : ℕ) (base : Base) (at : ℕ) → 1 ≤ callers → 4 + 3 * callers ≤ at → at < 4 + 10563 * callers → slice_index (opening_words callers base) at ≡ 0
 unfolding opening_words
 zeros callers base at some from to =
-    let head = (opening_code callers base.place ∷ opening_code callers base.place ∷ base.place ∷ base.place ∷ []) ++ replicate callers none ++ (1 ∷ []) ++ replicate (2 * callers - 1) 0 in
+    let head = (opening_code callers base.place ∷ opening_code callers base.place ∷ base.place ∷ base.place ∷ []) ++ replicate callers max_word ++ (1 ∷ []) ++ replicate (2 * callers - 1) 0 in
     let middle : List ℕ = replicate (10560 * callers) 0 in
     let head_long : length head ≡ 4 + 3 * callers = simp (length-append {A = ℕ}, length-replicate {A = ℕ}) (omega arith) in
     let front_long : length (head ++ middle) ≡ 4 + 10563 * callers = length-append head middle ∙ omega (arith, head_long, length-replicate {A = ℕ} (10560 * callers) 0) in
@@ -62,11 +62,11 @@ blank_shown callers base k some within = record {
   offer = zeros callers base (offer_at callers k) some (omega arith) (omega arith);
 }
 
-pub opening_lawful : (life : Life) → 1 ≤ life.callers → life.callers ≤ 8 → life.base.place ≤ 2 ^ 40 → Lawful life (opening_state life.callers life.base)
-opening_lawful life some few place_small =
-    let callers = life.callers in
-    let base = life.base in
-    let place = life.base.place in
+pub opening_lawful : (instance : Instance) → 1 ≤ instance.callers → instance.callers ≤ 8 → instance.base.place ≤ 2 ^ 40 → Lawful instance (opening_state instance.callers instance.base)
+opening_lawful instance some few place_small =
+    let callers = instance.callers in
+    let base = instance.base in
+    let place = instance.base.place in
     let words = opening_words callers base in
     let at = opening_at callers place in
     let r = roots callers base in

@@ -7,7 +7,7 @@ use Rattle.cx_core.specs.declared.local.Cell.{Cell}
 use Rattle.cx_core.specs.declared.local.Local.{Local}
 use Rattle.cx_core.specs.Events.{cell_of, linked, written}
 use Rattle.cx_core.specs.Lawful.{CellShape, LocalShape, Shape}
-use Rattle.cx_core.specs.State.{Life}
+use Rattle.cx_core.specs.State.{Instance}
 use Rattle.core_queue.proofs.Locals.{EachLocal-set, item_after}
 
 -- a caller's cell is among its cells
@@ -49,9 +49,9 @@ shape_same caller l l' shape number cells = record {
 }
 
 -- a put word and a put local state of the same shape
-pub shape_kept : (life : Life) (words : List ℕ) (locals : List Local) (at v caller : ℕ) (l l' : Local) → Shape life words locals →
-    slice_get locals caller ≡ Some l → LocalShape caller l' → Shape life (set words at v) (set locals caller l')
-shape_kept life words locals at v caller l l' shape there here = record {
+pub shape_kept : (instance : Instance) (words : List ℕ) (locals : List Local) (at v caller : ℕ) (l l' : Local) → Shape instance words locals →
+    slice_get locals caller ≡ Some l → LocalShape caller l' → Shape instance (set words at v) (set locals caller l')
+shape_kept instance words locals at v caller l l' shape there here = record {
   some = shape.some;
   few = shape.few;
   long = length-set words at v ∙ shape.long;

@@ -10,37 +10,37 @@ use Rattle.cx_core.specs.Events.{CanLink, entry_in, linked}
 use Rattle.cx_core.specs.Lawful.{OwnTickets, Tickets}
 use Rattle.cx_core.specs.Merge.{own_of}
 use Rattle.cx_core.specs.Region.{slot_number}
-use Rattle.cx_core.specs.State.{Life}
+use Rattle.cx_core.specs.State.{Instance}
 use Rattle.core_queue.proofs.Locals.{EachLocal-set, item_after, own_of-other, own_of-push, own_of-same, slice_get-push}
 
-own_same : (life : Life) (caller : ℕ) (l l' : Local) → OwnTickets life caller l → l'.own ≡ l.own → l'.answered ≡ l.answered → OwnTickets life caller l'
-own_same life caller l l' old own answered = record {
+own_same : (instance : Instance) (caller : ℕ) (l l' : Local) → OwnTickets instance caller l → l'.own ≡ l.own → l'.answered ≡ l.answered → OwnTickets instance caller l'
+own_same instance caller l l' old own answered = record {
   numbers = λ i x at. old.numbers i x (subst (λ o. slice_get o i ≡ Some x) own at);
   answered = rw (own, answered) old.answered;
   one = rw (own, answered) old.one;
 }
 
 -- the framing law: tickets name no shared word, and of a local state the own list and the answers
-pub tickets_framed : (life : Life) (history : List Entry) (locals : List Local) (caller : ℕ) (l l' : Local) → Tickets life history locals →
-    slice_get locals caller ≡ Some l → l'.own ≡ l.own → l'.answered ≡ l.answered → Tickets life history (set locals caller l')
-tickets_framed life history locals caller l l' tickets at own answered = record {
+pub tickets_framed : (instance : Instance) (history : List Entry) (locals : List Local) (caller : ℕ) (l l' : Local) → Tickets instance history locals →
+    slice_get locals caller ≡ Some l → l'.own ≡ l.own → l'.answered ≡ l.answered → Tickets instance history (set locals caller l')
+tickets_framed instance history locals caller l l' tickets at own answered = record {
   merged = record {
-    own = EachLocal-set locals caller l l' (λ c x. x.own ≡ own_of c life.base.place history) at tickets.merged.own (own ∙ tickets.merged.own caller l at);
+    own = EachLocal-set locals caller l l' (λ c x. x.own ≡ own_of c instance.base.place history) at tickets.merged.own (own ∙ tickets.merged.own caller l at);
     of_callers = λ i entry there. subst (λ n. entry.caller < n) (sym (length-set locals caller l')) (tickets.merged.of_callers i entry there);
   };
   below = tickets.below;
-  each = EachLocal-set locals caller l l' (OwnTickets life) at tickets.each (own_same life caller l l' (tickets.each caller l at) own answered);
+  each = EachLocal-set locals caller l l' (OwnTickets instance) at tickets.each (own_same instance caller l l' (tickets.each caller l at) own answered);
 }
 
 -- the own list and the answers after a link that won
-own_linked : (life : Life) (caller : ℕ) (l : Local) (j : ℕ) → OwnTickets life caller l → l.number ≡ caller → CanLink life.callers life.base l j → OwnTickets life caller (linked l j)
-own_linked life caller l j old number guard = record {
+own_linked : (instance : Instance) (caller : ℕ) (l : Local) (j : ℕ) → OwnTickets instance caller l → l.number ≡ caller → CanLink instance.callers instance.base l j → OwnTickets instance caller (linked l j)
+own_linked instance caller l j old number guard = record {
   numbers = λ i x at. elim (slice_get-push l.own (record { ticket = l.front; entry = entry_in l j }) i x at) [
     | inl a ↦ old.numbers i x a
     | inr b ↦ (
         let is : (entry_in l j).number ≡ x.entry.number = ap (λ (y : Linked). y.entry.number) b.1 in
-        let named : (entry_in l j).number ≡ slot_number l.number life.base.words + length l.own + 1 = guard.2 in
-        sym is ∙ named ∙ ap (λ n. slot_number n life.base.words + length l.own + 1) number ∙ ap (λ n. slot_number caller life.base.words + n + 1) (sym b.0))
+        let named : (entry_in l j).number ≡ slot_number l.number instance.base.words + length l.own + 1 = guard.2 in
+        sym is ∙ named ∙ ap (λ n. slot_number n instance.base.words + length l.own + 1) number ∙ ap (λ n. slot_number caller instance.base.words + n + 1) (sym b.0))
   ];
   answered = (
       let tickets = λ (x : Linked). x.ticket in
@@ -52,11 +52,11 @@ own_linked life caller l j old number guard = record {
 }
 
 -- a link that won at the end of the history
-pub tickets_linked : (life : Life) (history : List Entry) (locals : List Local) (caller : ℕ) (l : Local) (j : ℕ) → Tickets life history locals →
-    slice_get locals caller ≡ Some l → l.number ≡ caller → CanLink life.callers life.base l j → l.front ≡ life.base.place + length history →
-    Tickets life (history ++ entry_in l j ∷ []) (set locals caller (linked l j))
-tickets_linked life history locals caller l j tickets at number guard end =
-    let place = life.base.place in
+pub tickets_linked : (instance : Instance) (history : List Entry) (locals : List Local) (caller : ℕ) (l : Local) (j : ℕ) → Tickets instance history locals →
+    slice_get locals caller ≡ Some l → l.number ≡ caller → CanLink instance.callers instance.base l j → l.front ≡ instance.base.place + length history →
+    Tickets instance (history ++ entry_in l j ∷ []) (set locals caller (linked l j))
+tickets_linked instance history locals caller l j tickets at number guard end =
+    let place = instance.base.place in
     let entry = entry_in l j in
     let l' = linked l j in
     record {
@@ -84,5 +84,5 @@ tickets_linked life history locals caller l j tickets at number guard end =
             ]);
       };
       below = (let low : l.front < 2 ^ 40 = guard.3 in simp length-append (omega arith));
-      each = EachLocal-set locals caller l l' (OwnTickets life) at tickets.each (own_linked life caller l j (tickets.each caller l at) number guard);
+      each = EachLocal-set locals caller l l' (OwnTickets instance) at tickets.each (own_linked instance caller l j (tickets.each caller l at) number guard);
     }

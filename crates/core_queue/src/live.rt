@@ -7,20 +7,20 @@ ghost use Rattle.cx_core.specs.Events.{Guard};
 ghost use Rattle.cx_core.specs.Layout.{cell_at, cell_count, free_at, link_at};
 ghost use Rattle.cx_core.specs.Lawful.{Lawful};
 ghost use Rattle.cx_core.specs.Merge.{IsLinked};
-ghost use Rattle.cx_core.specs.State.{Life, State};
+ghost use Rattle.cx_core.specs.State.{Instance, State};
 ghost use Rattle.cx_core.specs.declared.kinds.Kind.TheVariants.{ReadCell};
 
 /// No two live tickets share a cell.
 pub fn live_tickets_apart()
-    ensures { (life : Life) (s : State) (law : Lawful life s) (t u : ℕ) (e f : _) → IsLinked life.base.place law.history t e → IsLinked life.base.place law.history u f → slice_index s.words free_at ≤ t → slice_index s.words free_at ≤ u → link_cell_of life.callers (slice_index s.words (link_at life.callers (t % cell_count life.callers))) ≡ link_cell_of life.callers (slice_index s.words (link_at life.callers (u % cell_count life.callers))) → t ≡ u }
+    ensures { (instance : Instance) (s : State) (law : Lawful instance s) (t u : ℕ) (e f : _) → IsLinked instance.base.place law.history t e → IsLinked instance.base.place law.history u f → slice_index s.words free_at ≤ t → slice_index s.words free_at ≤ u → link_cell_of instance.callers (slice_index s.words (link_at instance.callers (t % cell_count instance.callers))) ≡ link_cell_of instance.callers (slice_index s.words (link_at instance.callers (u % cell_count instance.callers))) → t ≡ u }
 {}
 
 /// No caller has more than 16 live tickets.
 pub fn callers_have_few_live_tickets()
-    ensures { (life : Life) (s : State) (law : Lawful life s) (caller : ℕ) (ticket : ℕ → ℕ) (entry : ℕ → _) → ((i : ℕ) → i ≤ 16 → IsLiveOf life s law.history caller (ticket i) (entry i)) → ((i k : ℕ) → i ≤ 16 → k ≤ 16 → ticket i ≡ ticket k → i ≡ k) → ⊥ }
+    ensures { (instance : Instance) (s : State) (law : Lawful instance s) (caller : ℕ) (ticket : ℕ → ℕ) (entry : ℕ → _) → ((i : ℕ) → i ≤ 16 → IsLiveOf instance s law.history caller (ticket i) (entry i)) → ((i k : ℕ) → i ≤ 16 → k ≤ 16 → ticket i ≡ ticket k → i ≡ k) → ⊥ }
 {}
 
 /// Where a caller may load a word of a cell for a live ticket, the word there is that of the history's entry.
 pub fn reads_give_the_entry()
-    ensures { (life : Life) (s : State) (law : Lawful life s) (caller : ℕ) (l : _) (t k i : ℕ) → slice_get s.locals caller ≡ Some l → Guard life (ReadCell t k i) l → slice_index s.words free_at ≤ t → (e : _) → IsLinked life.base.place law.history t e → slice_index s.words (cell_at life.callers k i) ≡ slice_index (e.number ∷ e.op) i }
+    ensures { (instance : Instance) (s : State) (law : Lawful instance s) (caller : ℕ) (l : _) (t k i : ℕ) → slice_get s.locals caller ≡ Some l → Guard instance (ReadCell t k i) l → slice_index s.words free_at ≤ t → (e : _) → IsLinked instance.base.place law.history t e → slice_index s.words (cell_at instance.callers k i) ≡ slice_index (e.number ∷ e.op) i }
 {}

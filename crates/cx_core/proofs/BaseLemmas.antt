@@ -3,10 +3,10 @@ use Rattle.std.proofs.Common.{◌≡◌, ◌+◌, ◌-◌, ◌*◌, ◌^◌, ◌
 use Rattle.std.specs.List.{All}
 use Rattle.std.proofs.lemmas.List.{append-nil, length-append, length-replicate, replicate-append-replicate, get_or_append_left, get_or-replicate, drop-append-le, drop-replicate, take-append-le, take-replicate, drop_at}
 use Rattle.cx_base.specs.Memory.{Words}
-use Rattle.cx_core.specs.Region.{region_words, slot_start, slot_reply, object_part, put, LawfulResults}
+use Rattle.cx_core.specs.Region.{region_words, slot_start, slot_reply, object_part, overwritten, LawfulResults}
 use Rattle.cx_core.specs.Base.{LawfulBase, no_results, fresh_region}
 use Rattle.cx_core.specs.Step.{OnPart}
-use Rattle.cx_core.proofs.StepLemmas.{put_middle}
+use Rattle.cx_core.proofs.StepLemmas.{overwritten_middle}
 
 no_results_long : length no_results ≡ 1168
 unfolding no_results
@@ -24,9 +24,9 @@ pub fresh_made : (lines n : ℕ) (opening ws vs : List ℕ) → n ≡ region_wor
     OnPart 1168 (λ _ now. now ≡ opening) ws vs → vs ≡ fresh_region opening
 fresh_made lines n opening ws vs count zeros long done =
     done.rest
-    ∙ ap (λ xs. put 1168 xs ws) done.part
-    ∙ ap (put 1168 opening) (zeros ∙ zeros_split lines n count)
-    ∙ put_middle opening no_results (replicate {A = ℕ} (8 * lines) 0) [] 1168 no_results_long (long ∙ sym (length-replicate {A = ℕ} (8 * lines) 0))
+    ∙ ap (λ xs. overwritten 1168 xs ws) done.part
+    ∙ ap (overwritten 1168 opening) (zeros ∙ zeros_split lines n count)
+    ∙ overwritten_middle opening no_results (replicate {A = ℕ} (8 * lines) 0) [] 1168 no_results_long (long ∙ sym (length-replicate {A = ℕ} (8 * lines) 0))
     ∙ append-nil (no_results ++ opening)
 
 module _ (opening : List ℕ) where

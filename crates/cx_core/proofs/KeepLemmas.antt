@@ -5,93 +5,93 @@ use Rattle.std.proofs.lemmas.List.{length-set, length-drop, length-take-le, get_
 use Rattle.std.proofs.lemmas.List.Elements.{All-set, All-head, All-tail, All-cons, All-nil}
 use Rattle.std.proofs.lemmas.Bool.{cases_order}
 use Rattle.cx_base.specs.Memory.{Words}
-use Rattle.cx_core.specs.Region.{region_words, place_of, slot_start, slot_number, slot_reply, object_part, put, LawfulResults}
+use Rattle.cx_core.specs.Region.{region_words, place_of, slot_start, slot_number, slot_reply, object_part, overwritten, LawfulResults}
 use Rattle.cx_core.specs.Base.{LawfulBase}
 use Rattle.cx_core.specs.Step.{full_step_of}
 use Rattle.cx_core.specs.declared.entry.Base.{Base}
 use Rattle.cx_core.specs.declared.entry.Entry.{Entry}
 
-put_long : (vs ws : List ℕ) (at : ℕ) → length (put at vs ws) ≡ length ws
-unfolding put
-put_long [] ws at = refl
-put_long (v ∷ vs) ws at = put_long vs (slice_set ws at v) (at + 1) ∙ length-set ws at v
+overwritten_long : (vs ws : List ℕ) (at : ℕ) → length (overwritten at vs ws) ≡ length ws
+unfolding overwritten
+overwritten_long [] ws at = refl
+overwritten_long (v ∷ vs) ws at = overwritten_long vs (slice_set ws at v) (at + 1) ∙ length-set ws at v
 
-put_fit : (vs ws : List ℕ) (at : ℕ) → All (λ x. x < 2 ^ 64) vs → All (λ x. x < 2 ^ 64) ws → All (λ x. x < 2 ^ 64) (put at vs ws)
-unfolding put
-put_fit [] ws at f g = g
-put_fit (v ∷ vs) ws at f g =
-    put_fit vs (slice_set ws at v) (at + 1) (All-tail (λ x. x < 2 ^ 64) v vs f) (All-set (λ x. x < 2 ^ 64) ws at v (All-head (λ x. x < 2 ^ 64) v vs f) g)
+overwritten_fit : (vs ws : List ℕ) (at : ℕ) → All (λ x. x < 2 ^ 64) vs → All (λ x. x < 2 ^ 64) ws → All (λ x. x < 2 ^ 64) (overwritten at vs ws)
+unfolding overwritten
+overwritten_fit [] ws at f g = g
+overwritten_fit (v ∷ vs) ws at f g =
+    overwritten_fit vs (slice_set ws at v) (at + 1) (All-tail (λ x. x < 2 ^ 64) v vs f) (All-set (λ x. x < 2 ^ 64) ws at v (All-head (λ x. x < 2 ^ 64) v vs f) g)
 
-put_before : (vs ws : List ℕ) (at i : ℕ) → i < at → slice_index (put at vs ws) i ≡ slice_index ws i
-unfolding put
-put_before [] ws at i below = refl
-put_before (v ∷ vs) ws at i below =
+overwritten_before : (vs ws : List ℕ) (at i : ℕ) → i < at → slice_index (overwritten at vs ws) i ≡ slice_index ws i
+unfolding overwritten
+overwritten_before [] ws at i below = refl
+overwritten_before (v ∷ vs) ws at i below =
     let apart : i ≢ at = λ e. omega (arith, e) in
-    put_before vs (slice_set ws at v) (at + 1) i (omega arith) ∙ get_or-set_other ws at i v 0 apart
+    overwritten_before vs (slice_set ws at v) (at + 1) i (omega arith) ∙ get_or-set_other ws at i v 0 apart
 
-put_behind : (vs ws : List ℕ) (at i : ℕ) → at + length vs ≤ i → slice_index (put at vs ws) i ≡ slice_index ws i
-unfolding put
-put_behind [] ws at i past = refl
-put_behind (v ∷ vs) ws at i past =
+overwritten_behind : (vs ws : List ℕ) (at i : ℕ) → at + length vs ≤ i → slice_index (overwritten at vs ws) i ≡ slice_index ws i
+unfolding overwritten
+overwritten_behind [] ws at i past = refl
+overwritten_behind (v ∷ vs) ws at i past =
     let apart : i ≢ at = λ e. omega (arith, e) in
-    put_behind vs (slice_set ws at v) (at + 1) i (omega arith) ∙ get_or-set_other ws at i v 0 apart
+    overwritten_behind vs (slice_set ws at v) (at + 1) i (omega arith) ∙ get_or-set_other ws at i v 0 apart
 
-put_within : (vs ws : List ℕ) (at k i : ℕ) → k < length vs → i ≡ at + k → i < length ws → slice_index (put at vs ws) i ≡ slice_index vs k
-unfolding put
-put_within [] ws at k i below e inside = absurd (omega arith)
-put_within (v ∷ vs) ws at zero i below e inside =
+overwritten_within : (vs ws : List ℕ) (at k i : ℕ) → k < length vs → i ≡ at + k → i < length ws → slice_index (overwritten at vs ws) i ≡ slice_index vs k
+unfolding overwritten
+overwritten_within [] ws at k i below e inside = absurd (omega arith)
+overwritten_within (v ∷ vs) ws at zero i below e inside =
     let here : i ≡ at = omega (arith, e) in
-    put_before vs (slice_set ws at v) (at + 1) i (omega (arith, e)) ∙ ap (λ n. slice_index (slice_set ws at v) n) here ∙ get_or-set_same ws at v 0 (omega (arith, e))
-put_within (v ∷ vs) ws at (suc k) i below e inside =
-    put_within vs (slice_set ws at v) (at + 1) k i (omega arith) (omega (arith, e)) (omega (arith, length-set ws at v))
+    overwritten_before vs (slice_set ws at v) (at + 1) i (omega (arith, e)) ∙ ap (λ n. slice_index (slice_set ws at v) n) here ∙ get_or-set_same ws at v 0 (omega (arith, e))
+overwritten_within (v ∷ vs) ws at (suc k) i below e inside =
+    overwritten_within vs (slice_set ws at v) (at + 1) k i (omega arith) (omega (arith, e)) (omega (arith, length-set ws at v))
 
 -- a region after its full step: image, number and reply are the ones put there
 module _ (lines : ℕ) (region image reply : List ℕ) (caller number place : ℕ) (few : caller < 8)
     (size : length region ≡ region_words lines) (image_long : length image ≡ 8 * lines) (reply_long : length reply ≡ 144) where
   with_object : List ℕ
-  with_object = put 1168 image region
+  with_object = overwritten 1168 image region
 
   with_slot : List ℕ
-  with_slot = put (slot_start caller) (number ∷ reply) with_object
+  with_slot = overwritten (slot_start caller) (number ∷ reply) with_object
 
   stepped : List ℕ
-  stepped = put 0 (place ∷ []) with_slot
+  stepped = overwritten 0 (place ∷ []) with_slot
 
   stepped_long : length stepped ≡ region_words lines
   unfolding stepped with_slot with_object
-  stepped_long = put_long (place ∷ []) with_slot 0 ∙ put_long (number ∷ reply) with_object (slot_start caller) ∙ put_long image region 1168 ∙ size
+  stepped_long = overwritten_long (place ∷ []) with_slot 0 ∙ overwritten_long (number ∷ reply) with_object (slot_start caller) ∙ overwritten_long image region 1168 ∙ size
 
   slot_long : length with_slot ≡ region_words lines
   unfolding with_slot with_object
-  slot_long = put_long (number ∷ reply) with_object (slot_start caller) ∙ put_long image region 1168 ∙ size
+  slot_long = overwritten_long (number ∷ reply) with_object (slot_start caller) ∙ overwritten_long image region 1168 ∙ size
 
   object_long : length with_object ≡ region_words lines
   unfolding with_object
-  object_long = put_long image region 1168 ∙ size
+  object_long = overwritten_long image region 1168 ∙ size
 
   at_start : slice_index stepped 0 ≡ place
   unfolding stepped
-  at_start = put_within (place ∷ []) with_slot 0 0 0 (omega arith) refl (omega (arith, slot_long))
+  at_start = overwritten_within (place ∷ []) with_slot 0 0 0 (omega arith) refl (omega (arith, slot_long))
 
   in_front : (i : ℕ) → 0 < i → i < 1168 → (i < slot_start caller) ⊎ (slot_start caller + 145 ≤ i) → slice_index stepped i ≡ slice_index region i
   unfolding stepped with_slot with_object
   in_front i some below apart =
-      put_behind (place ∷ []) with_slot 0 i (omega arith)
-      ∙ ⊎_elim (λ l. put_before (number ∷ reply) with_object (slot_start caller) i l) (λ r. put_behind (number ∷ reply) with_object (slot_start caller) i (omega (arith, reply_long))) apart
-      ∙ put_before image region 1168 i below
+      overwritten_behind (place ∷ []) with_slot 0 i (omega arith)
+      ∙ ⊎_elim (λ l. overwritten_before (number ∷ reply) with_object (slot_start caller) i l) (λ r. overwritten_behind (number ∷ reply) with_object (slot_start caller) i (omega (arith, reply_long))) apart
+      ∙ overwritten_before image region 1168 i below
 
   in_slot : (k i : ℕ) → k < 145 → i ≡ slot_start caller + k → slice_index stepped i ≡ slice_index (number ∷ reply) k
   unfolding stepped with_slot
   in_slot k i below e =
-      put_behind (place ∷ []) with_slot 0 i (omega (arith, e))
-      ∙ put_within (number ∷ reply) with_object (slot_start caller) k i (omega (arith, reply_long)) e (omega (arith, e, object_long))
+      overwritten_behind (place ∷ []) with_slot 0 i (omega (arith, e))
+      ∙ overwritten_within (number ∷ reply) with_object (slot_start caller) k i (omega (arith, reply_long)) e (omega (arith, e, object_long))
 
   in_object : (k i : ℕ) → k < length image → i ≡ 1168 + k → slice_index stepped i ≡ slice_index image k
   unfolding stepped with_slot with_object
   in_object k i below e =
-      put_behind (place ∷ []) with_slot 0 i (omega (arith, e))
-      ∙ put_behind (number ∷ reply) with_object (slot_start caller) i (omega (arith, e, reply_long))
-      ∙ put_within image region 1168 k i below e (omega (arith, e, size, image_long))
+      overwritten_behind (place ∷ []) with_slot 0 i (omega (arith, e))
+      ∙ overwritten_behind (number ∷ reply) with_object (slot_start caller) i (omega (arith, e, reply_long))
+      ∙ overwritten_within image region 1168 k i below e (omega (arith, e, size, image_long))
 
   its_object : object_part stepped ≡ image
   unfolding object_part
@@ -149,11 +149,11 @@ module _ (lines : ℕ) (lawful : List ℕ → Type 0) (base : Base) (image reply
   next_fit : base.place < 2 ^ 40 → number < 2 ^ 64 → All (λ x. x < 2 ^ 64) next_words
   unfolding next_words stepped with_slot with_object
   next_fit below small =
-      put_fit ((base.place + 1) ∷ []) (put (slot_start caller) (number ∷ reply) (put 1168 image base.words)) 0
+      overwritten_fit ((base.place + 1) ∷ []) (overwritten (slot_start caller) (number ∷ reply) (overwritten 1168 image base.words)) 0
       (All-cons (λ x. x < 2 ^ 64) (base.place + 1) [] (omega arith) (All-nil (λ x. x < 2 ^ 64)))
-      (put_fit (number ∷ reply) (put 1168 image base.words) (slot_start caller)
+      (overwritten_fit (number ∷ reply) (overwritten 1168 image base.words) (slot_start caller)
       (All-cons (λ x. x < 2 ^ 64) number reply small reply_words.fit)
-      (put_fit image base.words 1168 image_words.fit law.size.fit))
+      (overwritten_fit image base.words 1168 image_words.fit law.size.fit))
 
   next_results : 0 < number → LawfulResults next_words
   unfolding next_words

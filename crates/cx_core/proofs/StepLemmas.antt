@@ -4,7 +4,7 @@ use Rattle.std.specs.Result.{IfOk}
 use Rattle.std.proofs.lemmas.List.{append-nil, take-append-drop, length-append, length-take-le, length-drop, drop_at, nil_from_length, set_at, length_push}
 use Rattle.cx_base.specs.Memory.{Loaded, Stored, Becomes, Always}
 use Rattle.cx_core.specs.Inside.{Inside, inside_store}
-use Rattle.cx_core.specs.Region.{place_of, slot_start, object_part, put}
+use Rattle.cx_core.specs.Region.{place_of, slot_start, object_part, overwritten}
 use Rattle.cx_core.specs.Step.{full_step_of, OnPart}
 use Rattle.cx_core.specs.declared.entry.Entry.{Entry}
 
@@ -28,27 +28,27 @@ drop_front front part behind from f e =
     ∙ append-nil part
 
 -- words put over as many
-pub put_middle : (vs front part behind : List ℕ) (from : ℕ) → length front ≡ from → length vs ≡ length part → put from vs (front ++ part ++ behind) ≡ front ++ vs ++ behind
-unfolding put
-put_middle [] front [] behind from f e = refl
-put_middle [] front (y ∷ part) behind from f e = absurd (omega (arith, e))
-put_middle (v ∷ vs) front [] behind from f e = absurd (omega (arith, e))
-put_middle (v ∷ vs) front (y ∷ part) behind from f e =
+pub overwritten_middle : (vs front part behind : List ℕ) (from : ℕ) → length front ≡ from → length vs ≡ length part → overwritten from vs (front ++ part ++ behind) ≡ front ++ vs ++ behind
+unfolding overwritten
+overwritten_middle [] front [] behind from f e = refl
+overwritten_middle [] front (y ∷ part) behind from f e = absurd (omega (arith, e))
+overwritten_middle (v ∷ vs) front [] behind from f e = absurd (omega (arith, e))
+overwritten_middle (v ∷ vs) front (y ∷ part) behind from f e =
     let one : slice_set (front ++ (y ∷ part) ++ behind) from v ≡ (front ++ v ∷ []) ++ part ++ behind =
     ap (λ xs. slice_set xs from v) (append_assoc front (y ∷ part) behind)
     ∙ set_at front y (part ++ behind) v from f
     ∙ sym (append_assoc front (v ∷ part) behind)
     ∙ ap (λ xs. xs ++ behind) (sym (append_assoc front (v ∷ []) part)) in
-    let rest = put_middle vs (front ++ v ∷ []) part behind (from + 1) (length_push front v ∙ ap (λ n. n + 1) f) (omega (arith, e)) in
-    ap (put (from + 1) vs) one ∙ rest ∙ ap (λ xs. xs ++ behind) (append_assoc front (v ∷ []) vs)
+    let rest = overwritten_middle vs (front ++ v ∷ []) part behind (from + 1) (length_push front v ∙ ap (λ n. n + 1) f) (omega (arith, e)) in
+    ap (overwritten (from + 1) vs) one ∙ rest ∙ ap (λ xs. xs ++ behind) (append_assoc front (v ∷ []) vs)
 
 -- one word more at the end
-pub put_more : (vs ws : List ℕ) (at i v : ℕ) → length vs ≡ i → put at (vs ++ v ∷ []) ws ≡ slice_set (put at vs ws) (at + i) v
-unfolding put
-put_more [] ws at i v e = ap (λ n. slice_set ws n v) (omega (arith, e))
-put_more (x ∷ vs) ws at i v e =
+pub overwritten_more : (vs ws : List ℕ) (at i v : ℕ) → length vs ≡ i → overwritten at (vs ++ v ∷ []) ws ≡ slice_set (overwritten at vs ws) (at + i) v
+unfolding overwritten
+overwritten_more [] ws at i v e = ap (λ n. slice_set ws n v) (omega (arith, e))
+overwritten_more (x ∷ vs) ws at i v e =
     let here : at + 1 + length vs ≡ at + i = omega (arith, e) in
-    put_more vs (slice_set ws at x) (at + 1) (length vs) v refl ∙ ap (λ n. slice_set (put (at + 1) vs (slice_set ws at x)) n v) here
+    overwritten_more vs (slice_set ws at x) (at + 1) (length vs) v refl ∙ ap (λ n. slice_set (overwritten (at + 1) vs (slice_set ws at x)) n v) here
 
 module _ {Key : Type 0} where
   -- what holds of the words from a place on holds of that part
@@ -76,7 +76,7 @@ module _ {Key : Type 0} where
           p.1.whole,
           record {
             part = subst (λ xs. R xs part) (sym (drop_front front p.0 [] from front_long refl)) p.2;
-            rest = sym (put_middle part front p.0 [] from front_long same_length ∙ split);
+            rest = sym (overwritten_middle part front p.0 [] from front_long same_length ∙ split);
           },
         ));
   }
@@ -92,17 +92,17 @@ module _ {Key : Type 0} where
 -- the five changes of a full step, one after another
 step_of_changes : (step : List ℕ → List ℕ → List ℕ × List ℕ) (entry : Entry) (place : ℕ) (reply ws a b c d : List ℕ) →
     slice_index ws 0 ≡ place → OnPart 1168 (λ before now. step before entry.op ≡ (now, reply)) ws a →
-    b ≡ slice_set a (slot_start entry.caller) entry.number → c ≡ put (slot_start entry.caller + 1) reply b → d ≡ slice_set c 0 (place + 1) →
+    b ≡ slice_set a (slot_start entry.caller) entry.number → c ≡ overwritten (slot_start entry.caller + 1) reply b → d ≡ slice_set c 0 (place + 1) →
     d ≡ full_step_of step entry ws
-unfolding put full_step_of object_part
+unfolding overwritten full_step_of object_part
 step_of_changes step entry place reply ws a b c d at_place done number told last =
     let slot = slot_start entry.caller in
     let image : drop 1168 a ≡ (step (drop 1168 ws) entry.op).0 = ap (λ p. p.0) (sym done.part) in
     let answer : reply ≡ (step (drop 1168 ws) entry.op).1 = ap (λ p. p.1) (sym done.part) in
-    let object : a ≡ put 1168 (step (drop 1168 ws) entry.op).0 ws = done.rest ∙ ap (λ vs. put 1168 vs ws) image in
+    let object : a ≡ overwritten 1168 (step (drop 1168 ws) entry.op).0 ws = done.rest ∙ ap (λ vs. overwritten 1168 vs ws) image in
     last
     ∙ ap (λ n. slice_set c 0 (n + 1)) (sym at_place)
-    ∙ ap (λ xs. slice_set xs 0 (place_of ws + 1)) (told ∙ ap (put (slot + 1) reply) number ∙ ap (λ vs. put (slot + 1) vs (slice_set a slot entry.number)) answer ∙ ap (λ xs. put (slot + 1) (step (drop 1168 ws) entry.op).1 (slice_set xs slot entry.number)) object)
+    ∙ ap (λ xs. slice_set xs 0 (place_of ws + 1)) (told ∙ ap (overwritten (slot + 1) reply) number ∙ ap (λ vs. overwritten (slot + 1) vs (slice_set a slot entry.number)) answer ∙ ap (λ xs. overwritten (slot + 1) (step (drop 1168 ws) entry.op).1 (slice_set xs slot entry.number)) object)
 
 module _ {Key : Type 0} where
   -- what these five do to the pairs that stand
@@ -111,7 +111,7 @@ module _ {Key : Type 0} where
       Loaded 0 place old m₁ →
       Becomes m₁ m₂ (OnPart 1168 (λ before now. step before entry.op ≡ (now, reply))) →
       Becomes m₂ m₃ (λ before now. now ≡ slice_set before slot entry.number) →
-      Becomes m₃ m₄ (λ before now. now ≡ put (slot + 1) reply before) →
+      Becomes m₃ m₄ (λ before now. now ≡ overwritten (slot + 1) reply before) →
       Stored 0 (place + 1) m₄ new →
       Becomes old new (λ before now. now ≡ full_step_of step entry before)
   full_step_done step entry place slot reply there loaded object number told stored = record {
@@ -122,6 +122,6 @@ module _ {Key : Type 0} where
         let a = object.from first b.0 b.1 in
         let l = loaded.back first a.0 a.1 in
         let number_at : c.0 ≡ slice_set b.0 (slot_start entry.caller) entry.number = b.2 ∙ ap (λ n. slice_set b.0 n entry.number) there in
-        let told_at : d.0 ≡ put (slot_start entry.caller + 1) reply c.0 = c.2 ∙ ap (λ n. put (n + 1) reply c.0) there in
+        let told_at : d.0 ≡ overwritten (slot_start entry.caller + 1) reply c.0 = c.2 ∙ ap (λ n. overwritten (n + 1) reply c.0) there in
         (a.0, l.0, step_of_changes step entry place reply a.0 b.0 c.0 d.0 now l.1 a.2 number_at told_at d.2));
   }

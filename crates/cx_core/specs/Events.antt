@@ -10,9 +10,9 @@ use Rattle.cx_core.specs.declared.kinds.Kind.TheVariants.{WriteCell, Link, Look,
 use Rattle.cx_core.specs.declared.local.Cell.{Cell}
 use Rattle.cx_core.specs.declared.local.Local.{Local}
 use Rattle.cx_core.specs.declared.local.SeenSlot.{SeenSlot}
-use Rattle.cx_core.specs.Layout.{cell_count, link_at, cell_at, free_at, none}
+use Rattle.cx_core.specs.Layout.{cell_count, link_at, cell_at, free_at, max_word}
 use Rattle.cx_core.specs.Region.{slot_number}
-use Rattle.cx_core.specs.State.{Life, State}
+use Rattle.cx_core.specs.State.{Instance, State}
 
 -- a caller's cell, of which there are 16
 abbrev pub cell_of : Local → ℕ → Cell
@@ -67,32 +67,32 @@ CanLink callers base l j =
     × (length l.answered ≡ length l.own)
 
 -- when a step is allowed
-abbrev pub Guard : Life → Kind → Local → Type 0
-Guard life (WriteCell j i v) l = (j < 16) × (i < 145) × IsIdle l j
-Guard life (Link j) l = CanLink life.callers life.base l j
-Guard life (Look s) l = s < cell_count life.callers
-Guard life (ReadCell t k i) l = (t < l.front) × (i < 145) × ShowsTicket life.callers l.seen_slot t k
-Guard life LoadFree l = Unit {0}
+abbrev pub Guard : Instance → Kind → Local → Type 0
+Guard instance (WriteCell j i v) l = (j < 16) × (i < 145) × IsIdle l j
+Guard instance (Link j) l = CanLink instance.callers instance.base l j
+Guard instance (Look s) l = s < cell_count instance.callers
+Guard instance (ReadCell t k i) l = (t < l.front) × (i < 145) × ShowsTicket instance.callers l.seen_slot t k
+Guard instance LoadFree l = Unit {0}
 
 -- the word that a step is on
-abbrev pub place : Life → Kind → Local → ℕ
-place life (WriteCell j i v) l = cell_at life.callers (16 * l.number + j) i
-place life (Link j) l = link_at life.callers (l.front % cell_count life.callers)
-place life (Look s) l = link_at life.callers s
-place life (ReadCell t k i) l = cell_at life.callers k i
-place life LoadFree l = free_at
+abbrev pub word_at : Instance → Kind → Local → ℕ
+word_at instance (WriteCell j i v) l = cell_at instance.callers (16 * l.number + j) i
+word_at instance (Link j) l = link_at instance.callers (l.front % cell_count instance.callers)
+word_at instance (Look s) l = link_at instance.callers s
+word_at instance (ReadCell t k i) l = cell_at instance.callers k i
+word_at instance LoadFree l = free_at
 
 -- a link is a compare-exchange from the word seen to the link code of the front and the cell
 abbrev pub exchanged : ℕ → Local → ℕ → ℕ → ℕ
 exchanged callers l j found = if found == seen_word l.seen_slot then link_code_of callers l.front (16 * l.number + j) else found
 
 -- what the word becomes, given the word found
-abbrev pub put : Life → Kind → Local → ℕ → ℕ
-put life (WriteCell j i v) l found = v
-put life (Link j) l found = exchanged life.callers l j found
-put life (Look s) l found = found
-put life (ReadCell t k i) l found = found
-put life LoadFree l found = found
+abbrev pub new_word : Instance → Kind → Local → ℕ → ℕ
+new_word instance (WriteCell j i v) l found = v
+new_word instance (Link j) l found = exchanged instance.callers l j found
+new_word instance (Look s) l found = found
+new_word instance (ReadCell t k i) l found = found
+new_word instance LoadFree l found = found
 
 -- a front after a link word was found: the ticket in it is linked, and so is each one before it
 abbrev pub raised_front : ℕ → ℕ → ℕ → ℕ
@@ -100,7 +100,7 @@ raised_front callers front found = if found == 0 then front else max front (link
 
 -- a count that stays at its type's end
 abbrev pub one_more : ℕ → ℕ
-one_more n = min (n + 1) none
+one_more n = min (n + 1) max_word
 
 -- the cells after a word was written into one, whose old ticket is forgotten
 abbrev pub written : Local → ℕ → ℕ → ℕ → List Cell
@@ -120,52 +120,52 @@ abbrev pub lost : ℕ → Local → ℕ → Local
 lost callers l found = record l { front = raised_front callers l.front found; steps = one_more l.steps }
 
 -- the caller's local state afterwards, given the word found
-abbrev pub next : Life → Kind → Local → ℕ → Local
-next life (WriteCell j i v) l found = record l { cells = written l j i v; fresh = false; steps = one_more l.steps }
-next life (Link j) l found = if found == seen_word l.seen_slot then linked l j else lost life.callers l found
-next life (Look s) l found = record l {
+abbrev pub next : Instance → Kind → Local → ℕ → Local
+next instance (WriteCell j i v) l found = record l { cells = written l j i v; fresh = false; steps = one_more l.steps }
+next instance (Link j) l found = if found == seen_word l.seen_slot then linked l j else lost instance.callers l found
+next instance (Look s) l found = record l {
   seen_slot = Some (record { slot = s; word = found });
-  front = raised_front life.callers l.front found;
+  front = raised_front instance.callers l.front found;
   steps = one_more l.steps;
 }
-next life (ReadCell t k i) l found = record l { steps = one_more l.steps }
-next life LoadFree l found = record l { seen_free = max l.seen_free found; steps = one_more l.steps }
+next instance (ReadCell t k i) l found = record l { steps = one_more l.steps }
+next instance LoadFree l found = record l { seen_free = max l.seen_free found; steps = one_more l.steps }
 
 -- the words after a step of a caller with this local state, and the word that it found
-abbrev pub found_by : Life → Kind → Local → List ℕ → ℕ
-found_by life kind l words = slice_index words (place life kind l)
+abbrev pub found_by : Instance → Kind → Local → List ℕ → ℕ
+found_by instance kind l words = slice_index words (word_at instance kind l)
 
-abbrev pub words_after : Life → Kind → Local → List ℕ → List ℕ
-words_after life kind l words = slice_set words (place life kind l) (put life kind l (found_by life kind l words))
+abbrev pub words_after : Instance → Kind → Local → List ℕ → List ℕ
+words_after instance kind l words = slice_set words (word_at instance kind l) (new_word instance kind l (found_by instance kind l words))
 
-abbrev pub local_after : Life → Kind → Local → List ℕ → Local
-local_after life kind l words = next life kind l (found_by life kind l words)
+abbrev pub local_after : Instance → Kind → Local → List ℕ → Local
+local_after instance kind l words = next instance kind l (found_by instance kind l words)
 
 -- whether a caller's step was allowed and made, or not allowed and nothing changed
-abbrev pub Did : Bool → Life → Kind → Local → List ℕ → Local → List ℕ → Type 0
-Did true life kind l words l' words' = Guard life kind l × (l' ≡ local_after life kind l words) × (words' ≡ words_after life kind l words)
-Did false life kind l words l' words' = (¬ Guard life kind l) × (l' ≡ l) × (words' ≡ words)
+abbrev pub Did : Bool → Instance → Kind → Local → List ℕ → Local → List ℕ → Type 0
+Did true instance kind l words l' words' = Guard instance kind l × (l' ≡ local_after instance kind l words) × (words' ≡ words_after instance kind l words)
+Did false instance kind l words l' words' = (¬ Guard instance kind l) × (l' ≡ l) × (words' ≡ words)
 
 -- an event is allowed where its caller is one and its guard holds
-pub record Allowed (life : Life) (event : Event) (locals : List Local) : Type 0 where
+pub record Allowed (instance : Instance) (event : Event) (locals : List Local) : Type 0 where
   pub local : Local
   pub of_caller : slice_get locals event.caller ≡ Some local
-  pub guard : Guard life event.kind local
+  pub guard : Guard instance event.kind local
 
 -- an allowed event makes one step on one word, and changes the local state of its caller alone
-pub record Makes (life : Life) (event : Event) (before after : State) : Type 0 where
+pub record Makes (instance : Instance) (event : Event) (before after : State) : Type 0 where
   pub local : Local
   pub of_caller : slice_get before.locals event.caller ≡ Some local
-  pub guard : Guard life event.kind local
-  pub words : after.words ≡ words_after life event.kind local before.words
-  pub locals : after.locals ≡ slice_set before.locals event.caller (local_after life event.kind local before.words)
+  pub guard : Guard instance event.kind local
+  pub words : after.words ≡ words_after instance event.kind local before.words
+  pub locals : after.locals ≡ slice_set before.locals event.caller (local_after instance event.kind local before.words)
 
 -- whether an event was allowed and made, or not allowed and nothing changed
-abbrev pub Applied : Bool → Life → Event → State → State → Type 0
-Applied true life event before after = Makes life event before after
-Applied false life event before after = (¬ Allowed life event before.locals) × (after ≡ before)
+abbrev pub Applied : Bool → Instance → Event → State → State → Type 0
+Applied true instance event before after = Makes instance event before after
+Applied false instance event before after = (¬ Allowed instance event before.locals) × (after ≡ before)
 
 -- a run: a list of allowed events, one after another
-abbrev pub Run : Life → State → List Event → State → Type 0
-Run life from [] to = to ≡ from
-Run life from (event ∷ events) to = (then_ : State) × Makes life event from then_ × Run life then_ events to
+abbrev pub Run : Instance → State → List Event → State → Type 0
+Run instance from [] to = to ≡ from
+Run instance from (event ∷ events) to = (then_ : State) × Makes instance event from then_ × Run instance then_ events to

@@ -50,5 +50,5 @@ abbrev pub word_count : ℕ → ℕ → ℕ
 word_count callers region = 4 + 10563 * callers + region * (4 * callers)
 
 -- the protection word of a caller without one, and the limit that is none
-abbrev pub none : ℕ
-none = 2 ^ 64 - 1
+abbrev pub max_word : ℕ
+max_word = 2 ^ 64 - 1

@@ -27,9 +27,9 @@ unfoldable pub object_part : List ℕ → List ℕ
 object_part region = drop 1168 region
 
 -- words put over those from a place on
-unfoldable pub put : ℕ → List ℕ → List ℕ → List ℕ
-put at [] region = region
-put at (v ∷ vs) region = put (at + 1) vs (slice_set region at v)
+unfoldable pub overwritten : ℕ → List ℕ → List ℕ → List ℕ
+overwritten at [] region = region
+overwritten at (v ∷ vs) region = overwritten (at + 1) vs (slice_set region at v)
 
 -- words 1 to 7 are 0, and a slot without a number has no reply
 pub record LawfulResults (region : List ℕ) : Type 0 where

@@ -1,4 +1,4 @@
--- What stays as it is while a service lives, and the state that its callers' steps change.
+-- What stays as it is while an instance of the construction runs, and the state that its callers' steps change.
 use Rattle.std.specs.Prelude.{◌≡◌, ◌-◌, ◌*◌, ◌≤◌, length, ℕ, zero, suc, Bool, false, List, [], ◌∷◌, ◌++◌, map, replicate, slice_get, Some, None}
 use Rattle.std.specs.List.{range_with_len}
 use Rattle.cx_base.specs.Codes.{root_code_of}
@@ -6,10 +6,10 @@ use Rattle.cx_core.specs.declared.entry.Base.{Base}
 use Rattle.cx_core.specs.declared.local.Cell.{Cell}
 use Rattle.cx_core.specs.declared.local.Local.{Local}
 use Rattle.cx_core.specs.declared.local.Protection.TheVariants.{Unprotected}
-use Rattle.cx_core.specs.Layout.{none, word_count}
+use Rattle.cx_core.specs.Layout.{max_word, word_count}
 
 -- what is fixed: how many callers there are, the base, and the object's meaning
-pub record Life : Type 0 where
+pub record Instance : Type 0 where
   pub callers : ℕ
   pub base : Base
   -- the image after an operation, and the reply
@@ -17,9 +17,9 @@ pub record Life : Type 0 where
   -- whether an operation only reads
   pub reads : List ℕ → Bool
 
--- it holds of the life with so many callers and this base, whatever the object means
-abbrev pub EachLife : ℕ → Base → (Life → Type 0) → Type 0
-EachLife callers base P =
+-- it holds of the instance with so many callers and this base, whatever the object means
+abbrev pub EachInstance : ℕ → Base → (Instance → Type 0) → Type 0
+EachInstance callers base P =
     (step : List ℕ → List ℕ → List ℕ × List ℕ) (reads : List ℕ → Bool) →
     P (record { callers = callers; base = base; step = step; reads = reads })
 
@@ -35,9 +35,9 @@ pub record Core : Type 0 where
   pub base : Base
   pub state : State
 
--- the life of a core's service, for an object that means this
-abbrev pub life_of : Core → (List ℕ → List ℕ → List ℕ × List ℕ) → (List ℕ → Bool) → Life
-life_of core step reads = record { callers = core.callers; base = core.base; step = step; reads = reads }
+-- the instance of a core, for an object that means this
+abbrev pub instance_of : Core → (List ℕ → List ℕ → List ℕ × List ℕ) → (List ℕ → Bool) → Instance
+instance_of core step reads = record { callers = core.callers; base = core.base; step = step; reads = reads }
 
 -- what a core holds is as large as its table: 1 to 8 callers, each with its local state, and all words
 pub record IsWhole (core : Core) : Type 0 where
@@ -87,7 +87,7 @@ opening_local callers place caller = record {
   protection = Unprotected;
   scan = None;
   steps = 0;
-  limit = none;
+  limit = max_word;
   met = 0;
   scans = 0;
 }
@@ -106,7 +106,7 @@ copies (suc n) xs = xs ++ copies n xs
 unfoldable pub opening_words : ℕ → Base → List ℕ
 opening_words callers base =
     (opening_code callers base.place ∷ opening_code callers base.place ∷ base.place ∷ base.place ∷ [])
-    ++ replicate callers none
+    ++ replicate callers max_word
     ++ (1 ∷ [])
     ++ replicate (2 * callers - 1) 0
     ++ replicate (10560 * callers) 0

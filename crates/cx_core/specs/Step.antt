@@ -1,16 +1,16 @@
 -- The full step of an entry.
 use Rattle.std.specs.Prelude.{◌≡◌, ◌+◌, ℕ, List, [], ◌∷◌, drop}
 use Rattle.cx_core.specs.declared.entry.Entry.{Entry}
-use Rattle.cx_core.specs.Region.{place_of, slot_start, object_part, put}
+use Rattle.cx_core.specs.Region.{place_of, slot_start, object_part, overwritten}
 
 -- The object's step is done on the object part, the entry's number and the reply are put into the slot of its caller,
 -- and 1 is added to the place.
 unfoldable pub full_step_of : (List ℕ → List ℕ → List ℕ × List ℕ) → Entry → List ℕ → List ℕ
 full_step_of step entry region =
     let done = step (object_part region) entry.op in
-    put 0 ((place_of region + 1) ∷ []) (put (slot_start entry.caller) (entry.number ∷ done.1) (put 1168 done.0 region))
+    overwritten 0 ((place_of region + 1) ∷ []) (overwritten (slot_start entry.caller) (entry.number ∷ done.1) (overwritten 1168 done.0 region))
 
 -- the words from a place on are so related, and the words in front are kept
 pub record OnPart (from : ℕ) (R : List ℕ → List ℕ → Type 0) (before now : List ℕ) : Type 0 where
   pub part : R (drop from before) (drop from now)
-  pub rest : now ≡ put from (drop from now) before
+  pub rest : now ≡ overwritten from (drop from now) before

@@ -2,7 +2,7 @@
 use Rattle.std.specs.Prelude.{◌≡◌, ◌+◌, ◌*◌, ◌<◌, ◌≤◌, ℕ, zero, suc, List, length, slice_index, slice_set}
 use Rattle.cx_core.specs.declared.entry.Entry.{Entry}
 use Rattle.cx_core.specs.History.{full_image}
-use Rattle.cx_core.specs.State.{Life}
+use Rattle.cx_core.specs.State.{Instance}
 
 -- a region after the first n pairs of a set were stored in order: word 2m + 1 of the set is the address of pair m, and
 -- word 2m + 2 its value
@@ -16,6 +16,6 @@ pub record IsWriteSet (set before after : List ℕ) : Type 0 where
   pub within : (m : ℕ) → m < slice_index set 0 → slice_index set (2 * m + 1) < length before
   pub gives : stored (slice_index set 0) set before ≡ after
 
-abbrev pub IsWriteSetOf : Life → List Entry → ℕ → List ℕ → Type 0
-IsWriteSetOf life history ticket set =
-    IsWriteSet set (full_image life.step life.base history ticket) (full_image life.step life.base history (ticket + 1))
+abbrev pub IsWriteSetOf : Instance → List Entry → ℕ → List ℕ → Type 0
+IsWriteSetOf instance history ticket set =
+    IsWriteSet set (full_image instance.step instance.base history ticket) (full_image instance.step instance.base history (ticket + 1))

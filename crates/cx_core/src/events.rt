@@ -6,7 +6,7 @@ ghost use Rattle.cx_core.specs.declared.kinds.Kind.TheVariants.{WriteCell, Link,
 ghost use Rattle.cx_core.specs.Events.{Applied, Did, CanLink, IsIdle, next_number, exchanged, lost, ShowsOpen, ShowsTicket, cell_of, entry_in, linked, raised_front, one_more, seen_word};
 ghost use Rattle.cx_core.specs.Layout.{cell_count, link_at, cell_at};
 ghost use Rattle.cx_core.specs.Region.{slot_number};
-ghost use Rattle.cx_core.specs.State.{EachLife, life_of};
+ghost use Rattle.cx_core.specs.State.{EachInstance, instance_of};
 
 use crate::entry::{Base, Entry};
 use crate::kinds::{Event, Kind};
@@ -24,7 +24,7 @@ pub fn apply<O: Object>(
     state: &mut CoreState,
     event: &Event,
 ) -> Result<bool, AllocError>
-    ensures ok { let life = life_of state.old (O.step _object.now) (O.only_reads _object.now) in IfOk result (λ made. Applied made life event.now state.old.state state.new.state) }
+    ensures ok { let instance = instance_of state.old (O.step _object.now) (O.only_reads _object.now) in IfOk result (λ made. Applied made instance event.now state.old.state state.new.state) }
     ensures err { OnErr result (state.new.state ≡ state.old.state) }
     ensures fixed { state.new ≡ record state.old { state = state.new.state } }
 {
@@ -56,7 +56,7 @@ fn step(
     requires long { 4 + 10563 * callers ≤ length words.old }
     requires caller { local.old.number < callers }
     requires slots { 1168 ≤ length base.now.words }
-    ensures ok { IfOk result (λ made. EachLife callers base.now (λ life. Did made life kind.now local.old words.old local.new words.new)) }
+    ensures ok { IfOk result (λ made. EachInstance callers base.now (λ instance. Did made instance kind.now local.old words.old local.new words.new)) }
     ensures err { OnErr result ((local.new ≡ local.old) × (words.new ≡ words.old)) }
 {
     match *kind {
@@ -169,7 +169,7 @@ fn write_cell(callers: u32, words: &mut [u64], local: &mut Local, j: u64, i: u64
     requires few { callers ≤ 8 }
     requires long { 4 + 10563 * callers ≤ length words.old }
     requires caller { local.old.number < callers }
-    ensures { (base : _) → EachLife callers base (λ life. Did result life (WriteCell j i v) local.old words.old local.new words.new) }
+    ensures { (base : _) → EachInstance callers base (λ instance. Did result instance (WriteCell j i v) local.old words.old local.new words.new) }
 {
     if j >= 16 || i >= 145 || !is_idle(local, j) {
         return false;
@@ -197,7 +197,7 @@ fn link(
     requires long { 4 + 10563 * callers ≤ length words.old }
     requires caller { local.old.number < callers }
     requires slots { 1168 ≤ length base.now.words }
-    ensures ok { IfOk result (λ b. EachLife callers base.now (λ life. Did b life (Link j) local.old words.old local.new words.new)) }
+    ensures ok { IfOk result (λ b. EachInstance callers base.now (λ instance. Did b instance (Link j) local.old words.old local.new words.new)) }
     ensures err { OnErr result ((local.new ≡ local.old) × (words.new ≡ words.old)) }
 {
     if !can_link(callers, base, local, j) {
@@ -281,7 +281,7 @@ fn look(callers: u32, words: &[u64], local: &mut Local, s: u64) -> bool
     requires some { 1 ≤ callers }
     requires few { callers ≤ 8 }
     requires long { 4 + 10563 * callers ≤ length words.now }
-    ensures { (base : _) → EachLife callers base (λ life. Did result life (Look s) local.old words.now local.new words.now) }
+    ensures { (base : _) → EachInstance callers base (λ instance. Did result instance (Look s) local.old words.now local.new words.now) }
 {
     if s >= 16 * u64::from(callers) {
         return false;
@@ -301,7 +301,7 @@ fn look(callers: u32, words: &[u64], local: &mut Local, s: u64) -> bool
 fn read_cell(callers: u32, words: &[u64], local: &mut Local, t: u64, k: u64, i: u64) -> bool
     requires some { 1 ≤ callers }
     requires few { callers ≤ 8 }
-    ensures { (base : _) → EachLife callers base (λ life. Did result life (ReadCell t k i) local.old words.now local.new words.now) }
+    ensures { (base : _) → EachInstance callers base (λ instance. Did result instance (ReadCell t k i) local.old words.now local.new words.now) }
 {
     if t >= local.front || i >= 145 || !shows_ticket(callers, local.seen_slot, t, k) {
         return false;
@@ -313,7 +313,7 @@ fn read_cell(callers: u32, words: &[u64], local: &mut Local, t: u64, k: u64, i: 
 /// Loads FREE, which is always allowed.
 fn load_free(words: &[u64], local: &mut Local) -> bool
     requires { 4 ≤ length words.now }
-    ensures { (callers : ℕ) (base : _) → EachLife callers base (λ life. Did result life LoadFree local.old words.now local.new words.now) }
+    ensures { (callers : ℕ) (base : _) → EachInstance callers base (λ instance. Did result instance LoadFree local.old words.now local.new words.now) }
 {
     local.seen_free = local.seen_free.max(words[3]);
     local.steps = local.steps.saturating_add(1);

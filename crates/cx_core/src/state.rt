@@ -2,7 +2,7 @@
 
 ghost use Rattle.std.specs.Prelude.{◌≡◌, ◌+◌, ◌*◌, ◌^◌, ◌<◌, ◌≤◌, ◌++◌, ◌∷◌, [], ℕ, length, replicate, IfOk, OnOk, slice_get, slice_index, slice_range};
 ghost use Rattle.cx_core.specs.Base.{LawfulBase};
-ghost use Rattle.cx_core.specs.Layout.{cell_count, cur_at, dur_at, low_at, free_at, link_at, lock_at, need_at, cell_at, offer_at, set_at, vol_at, per_at, word_count, none};
+ghost use Rattle.cx_core.specs.Layout.{cell_count, cur_at, dur_at, low_at, free_at, link_at, lock_at, need_at, cell_at, offer_at, set_at, vol_at, per_at, word_count, max_word};
 ghost use Rattle.cx_core.specs.State.{blank_cell, copies, opening_code, opening_local, opening_locals, opening_words, opening_state};
 
 use crate::entry::Base;

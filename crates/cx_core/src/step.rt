@@ -2,7 +2,7 @@
 
 ghost use Rattle.std.specs.Prelude.{◌≡◌, ◌+◌, ◌*◌, ◌^◌, ◌<◌, ◌≤◌, ℕ, List, length, drop, slice_set, take, is_some, IsTrue, OnOk, OnErr, IfOk, Some};
 ghost use Rattle.cx_base.specs.Memory.{Becomes, Always};
-ghost use Rattle.cx_core.specs.Region.{region_words, place_of, object_part, put};
+ghost use Rattle.cx_core.specs.Region.{region_words, place_of, object_part, overwritten};
 ghost use Rattle.cx_core.specs.Step.{full_step_of, OnPart};
 
 use crate::entry::Entry;
@@ -90,7 +90,7 @@ fn put_words<M: Memory>(mem: &mut M, at: u64, words: &[u64]) -> Result<(), Halt>
     requires within { at + length words.now ≤ M.size mem.old }
     requires small { at + length words.now < 2 ^ 64 }
     requires writable { IsTrue (M.writable mem.old) }
-    ensures done { OnOk result (Becomes (M.stands mem.old) (M.stands mem.new) (λ before now. now ≡ put at words.now before)) }
+    ensures done { OnOk result (Becomes (M.stands mem.old) (M.stands mem.new) (λ before now. now ≡ overwritten at words.now before)) }
     ensures halts { OnErr result (M.left mem.new ≡ Some 0) }
     ensures limited { is_some (M.left mem.new) ≡ is_some (M.left mem.old) }
     ensures fixed { M.fixed mem.new ≡ M.fixed mem.old }

@@ -14,14 +14,14 @@ use Rattle.cx_core.specs.declared.entry.Entry.{Entry}
 use Rattle.cx_core.specs.declared.local.Local.{Local}
 use Rattle.cx_core.specs.Lawful.{Lawful}
 use Rattle.cx_core.specs.Merge.{IsHistory}
-use Rattle.cx_core.specs.State.{Life, opening_words}
+use Rattle.cx_core.specs.State.{Instance, opening_words}
 use Rattle.cx_table.specs.declared.rule.Known.{Known}
 use Rattle.cx_core.specs.Layout.{vol_at, per_at}
 use Rattle.cx_table.specs.declared.remains.Remains.{Remains}
 use Rattle.cx_table.specs.Ending.{IsChain, history_of}
 use Rattle.cx_table.specs.Remains.{AreSeats, Leaves, MarksDirty, known_by, locals_of, opening_seat}
-use Rattle.cx_table.specs.Rule.{Held, HoldsNone, NotesHold, StandStill}
-use Rattle.cx_table.specs.Running.{IsSeatOf, Running, life_at}
+use Rattle.cx_table.specs.Rule.{RuleHolds, HoldsNone, NotesHold, StandStill}
+use Rattle.cx_table.specs.Running.{IsSeatOf, Running, instance_at}
 use Rattle.cx_table.specs.Seats.{Seated}
 use Rattle.cx_table.proofs.Merged.{history_is}
 use Rattle.cx_table.proofs.Moves.{same_items}
@@ -66,9 +66,9 @@ seats_count : {O : Type 0} (t : Running O) (seats : List Seated) → AreSeats t 
 seats_count t seats are = sym (length-map seats (λ (s : Seated). s.known.local.number)) ∙ ap length are.numbers ∙ length-range_with_len 0 t.callers
 
 -- what the rule knows of the local states is what the seats know
-pub locals_are : {O : Type 0} (t : Running O) (life : Life) (seats : List Seated) (s : State ℕ (List Known)) (id : ℕ) → life.callers ≡ t.callers → AreSeats t seats → (held : Held life s) →
+pub locals_are : {O : Type 0} (t : Running O) (instance : Instance) (seats : List Seated) (s : State ℕ (List Known)) (id : ℕ) → instance.callers ≡ t.callers → AreSeats t seats → (held : RuleHolds instance s) →
     get_elem? s.views id ≡ some (known_by seats) → held.locals ≡ locals_of seats
-locals_are t life seats s id callers are held me =
+locals_are t instance seats s id callers are held me =
     let count : length (locals_of seats) ≡ t.callers = length-map (known_by seats) (λ (k : Known). k.local) ∙ length-map seats (λ (x : Seated). x.known) ∙ seats_count t seats are in
     same_items held.locals (locals_of seats) (held.law.shape.count ∙ callers ∙ sym count) (λ i l at. (
     let k = map_at (λ (k : Known). k.local) (known_by seats) i l at in
@@ -77,13 +77,13 @@ locals_are t life seats s id callers are held me =
     subst (λ (x : Local). slice_get held.locals i ≡ Some x) k.2 (subst (λ (m : ℕ). slice_get held.locals m ≡ Some k.0.local) n is)))
 
 -- what the seats noted is the history's
-pub notes_are : (life : Life) (seats : List Seated) (s : State ℕ (List Known)) (id : ℕ) (history : List Entry) → (held : Held life s) → get_elem? s.views id ≡ some (known_by seats) →
-    held.law.history ≡ history → All (λ (x : Seated). NotesHold life history x.known.noted) seats
-notes_are life seats s id history held me same i d below =
+pub notes_are : (instance : Instance) (seats : List Seated) (s : State ℕ (List Known)) (id : ℕ) (history : List Entry) → (held : RuleHolds instance s) → get_elem? s.views id ≡ some (known_by seats) →
+    held.law.history ≡ history → All (λ (x : Seated). NotesHold instance history x.known.noted) seats
+notes_are instance seats s id history held me same i d below =
     let seat = get_or seats i d in
     let at : slice_get (known_by seats) i ≡ Some seat.known =
     slice_get-get_or (known_by seats) i seat.known (omega (arith, length-map seats (λ (x : Seated). x.known))) ∙ ap Some (get_or-map (λ (x : Seated). x.known) seats i d seat.known below) in
-    subst (λ h. NotesHold life h seat.known.noted) same (held.each id i (known_by seats) seat.known me at).notes
+    subst (λ h. NotesHold instance h seat.known.noted) same (held.each id i (known_by seats) seat.known me at).notes
 
 not_marked : (n i : ℕ) → slice_get (replicate n false) i ≡ Some true → ⊥
 not_marked zero i at = none-some true at
@@ -108,11 +108,11 @@ read_is (y ∷ ys) zero x at = some-injective y x at
 read_is (y ∷ ys) (suc i) x at = read_is ys i x at
 
 -- no code was published since the table was opened
-pub one_code : (life : Life) (words : List ℕ) (locals : List Local) (code : ℕ) (codes : List ℕ) → StandStill life words → get_elem? words 0 ≡ some code → codes ≡ code ∷ [] → IsChain words locals codes
+pub one_code : (instance : Instance) (words : List ℕ) (locals : List Local) (code : ℕ) (codes : List ℕ) → StandStill instance words → get_elem? words 0 ≡ some code → codes ≡ code ∷ [] → IsChain words locals codes
 unfolding opening_words
-one_code life words locals code codes still at is =
-    let dur : slice_index words 1 ≡ slice_index (opening_words life.callers life.base) 1 = still 1 (inl (omega arith)) in
-    let cur : slice_index words 0 ≡ slice_index (opening_words life.callers life.base) 0 = still 0 (inl (omega arith)) in
+one_code instance words locals code codes still at is =
+    let dur : slice_index words 1 ≡ slice_index (opening_words instance.callers instance.base) 1 = still 1 (inl (omega arith)) in
+    let cur : slice_index words 0 ≡ slice_index (opening_words instance.callers instance.base) 0 = still 0 (inl (omega arith)) in
     let here = read_is words 0 code at in
     subst (IsChain words locals) (sym is) (dur ∙ sym cur ∙ here, sym here)
 
@@ -138,15 +138,15 @@ pub record Handed {O : Type 0} (t : Running O) (seats : List Seated) (words : Li
   pub durable : r.durable.items ≡ slice_range words (per_at t.callers (length t.base.words) 0 0) (per_at t.callers (length t.base.words) (2 * t.callers) 0)
   pub dirty : r.dirty.items ≡ replicate (length t.base.words * (2 * t.callers)) false
 
-pub leaves : {O : Type 0} (t : Running O) (life : Life) (seats : List Seated) (r : Remains) (s : State ℕ (List Known)) (id : ℕ) → life.callers ≡ t.callers → life.base ≡ t.base →
-    AreSeats t seats → Held life s → get_elem? s.views id ≡ some (known_by seats) → Handed t seats s.words r → Leaves t life seats r
-leaves t life seats r s id callers base are held me h =
-    let locals = locals_are t life seats s id callers are held me in
-    let state : Lawful life (record { words = s.words; locals = locals_of seats }) = subst (λ (ls : List Local). Lawful life (record { words = s.words; locals = ls })) locals held.law in
-    let place : life.base.place ≡ t.base.place = ap (λ (b : Base). b.place) base in
-    let history : r.trail.history ≡ history_of life.base.place (locals_of seats) = h.history ∙ ap (λ p. history_of p (locals_of seats)) (sym place) in
-    let is : state.history ≡ r.trail.history = sym (history_is life.base.place state.history (locals_of seats) state.tickets.merged) ∙ sym history in
-    let was : held.law.history ≡ r.trail.history = sym (history_is life.base.place held.law.history held.locals held.law.tickets.merged) ∙ ap (history_of life.base.place) locals ∙ sym history in
+pub leaves : {O : Type 0} (t : Running O) (instance : Instance) (seats : List Seated) (r : Remains) (s : State ℕ (List Known)) (id : ℕ) → instance.callers ≡ t.callers → instance.base ≡ t.base →
+    AreSeats t seats → RuleHolds instance s → get_elem? s.views id ≡ some (known_by seats) → Handed t seats s.words r → Leaves t instance seats r
+leaves t instance seats r s id callers base are held me h =
+    let locals = locals_are t instance seats s id callers are held me in
+    let state : Lawful instance (record { words = s.words; locals = locals_of seats }) = subst (λ (ls : List Local). Lawful instance (record { words = s.words; locals = ls })) locals held.law in
+    let place : instance.base.place ≡ t.base.place = ap (λ (b : Base). b.place) base in
+    let history : r.trail.history ≡ history_of instance.base.place (locals_of seats) = h.history ∙ ap (λ p. history_of p (locals_of seats)) (sym place) in
+    let is : state.history ≡ r.trail.history = sym (history_is instance.base.place state.history (locals_of seats) state.tickets.merged) ∙ sym history in
+    let was : held.law.history ≡ r.trail.history = sym (history_is instance.base.place held.law.history held.locals held.law.tickets.merged) ∙ ap (history_of instance.base.place) locals ∙ sym history in
     record {
       callers = h.callers;
       lines = h.lines;
@@ -158,20 +158,20 @@ leaves t life seats r s id callers base are held me h =
       words = s.words;
       state = state;
       history = is;
-      merged = subst (λ (p : ℕ). IsHistory p r.trail.history (locals_of seats)) place (subst (λ (es : List Entry). IsHistory life.base.place es (locals_of seats)) is state.tickets.merged);
-      chain = one_code life s.words (locals_of seats) h.code r.trail.chain held.still h.cur h.chain;
+      merged = subst (λ (p : ℕ). IsHistory p r.trail.history (locals_of seats)) place (subst (λ (es : List Entry). IsHistory instance.base.place es (locals_of seats)) is state.tickets.merged);
+      chain = one_code instance s.words (locals_of seats) h.code r.trail.chain held.still h.cur h.chain;
       volatile = h.volatile;
       durable = h.durable;
       dirty = none_dirty (locals_of seats) (2 * t.callers) (length t.base.words) r.dirty.items (λ c l at. held.rest c l (subst (λ (ls : List Local). slice_get ls c ≡ Some l) (sym locals) at)) h.dirty;
-      notes = notes_are life seats s id r.trail.history held me was;
+      notes = notes_are instance seats s id r.trail.history held me was;
     }
 
-abbrev pub Same : Life → Life → Type 0
+abbrev pub Same : Instance → Instance → Type 0
 Same a b = a ≡ b
 
--- the life of a table, which its key and its fields tell
-pub same_life : {O : Type 0} (step : O → List ℕ → List ℕ → List ℕ × List ℕ) (reads : O → List ℕ → Bool) (t : Running O) (callers : ℕ) (base : Base) (object : O) →
-    callers ≡ t.callers → base ≡ t.base → object ≡ t.object → Same (record { callers = callers; base = base; step = step object; reads = reads object }) (life_at t step reads)
-same_life {O = O} step reads t callers base object c b o =
-    let L : ℕ → Base → O → Life = λ n x y. record { callers = n; base = x; step = step y; reads = reads y } in
+-- the instance of a table, which its key and its fields tell
+pub same_instance : {O : Type 0} (step : O → List ℕ → List ℕ → List ℕ × List ℕ) (reads : O → List ℕ → Bool) (t : Running O) (callers : ℕ) (base : Base) (object : O) →
+    callers ≡ t.callers → base ≡ t.base → object ≡ t.object → Same (record { callers = callers; base = base; step = step object; reads = reads object }) (instance_at t step reads)
+same_instance {O = O} step reads t callers base object c b o =
+    let L : ℕ → Base → O → Instance = λ n x y. record { callers = n; base = x; step = step y; reads = reads y } in
     ap (λ n. L n base object) c ∙ ap (λ x. L t.callers x object) b ∙ ap (λ y. L t.callers t.base y) o

@@ -10,7 +10,7 @@ use Rattle.cx_core.specs.declared.local.Linked.{Linked}
 use Rattle.cx_core.specs.declared.local.Local.{Local}
 use Rattle.cx_core.specs.Events.{entry_in, linked, lost, next, seen_word}
 use Rattle.cx_core.specs.Merge.{IsHistory, IsLinked, own_of}
-use Rattle.cx_core.specs.State.{Life}
+use Rattle.cx_core.specs.State.{Instance}
 use Rattle.cx_core.proofs.ListLemmas.{slice_get-set_same, slice_get-set_other}
 use Rattle.core_queue.proofs.Locals.{slice_get-append_left}
 
@@ -70,22 +70,22 @@ own_from caller ticket (y ∷ ys) i x at =
     at_front ticket y ys rest (suc i) x deeper at = deeper i at
 
 -- the own list goes on at each step
-pub goes_on : (life : Life) (kind : Kind) (l : Local) (found : ℕ) → GoesOn l (next life kind l found)
-goes_on life (WriteCell j i v) l found = λ _ _ at. at
-goes_on life (Link j) l found =
-    elim (found == seen_word l.seen_slot) as (λ b. GoesOn l (cond b (linked l j) (lost life.callers l found))) [
+pub goes_on : (instance : Instance) (kind : Kind) (l : Local) (found : ℕ) → GoesOn l (next instance kind l found)
+goes_on instance (WriteCell j i v) l found = λ _ _ at. at
+goes_on instance (Link j) l found =
+    elim (found == seen_word l.seen_slot) as (λ b. GoesOn l (cond b (linked l j) (lost instance.callers l found))) [
       | true ↦ λ n x at. slice_get-append_left l.own (record { ticket = l.front; entry = entry_in l j } ∷ []) n x at
       | false ↦ λ _ _ at. at
     ]
-goes_on life (Look s) l found = λ _ _ at. at
-goes_on life (ReadCell t k i) l found = λ _ _ at. at
-goes_on life LoadFree l found = λ _ _ at. at
+goes_on instance (Look s) l found = λ _ _ at. at
+goes_on instance (ReadCell t k i) l found = λ _ _ at. at
+goes_on instance LoadFree l found = λ _ _ at. at
 
 -- what is linked stays linked where one caller's own list goes on
-pub still_linked : (life : Life) (place : ℕ) (history history' : List Entry) (locals : List Local) (caller : ℕ) (l l' : Local) →
+pub still_linked : (instance : Instance) (place : ℕ) (history history' : List Entry) (locals : List Local) (caller : ℕ) (l l' : Local) →
     IsHistory place history locals → IsHistory place history' (set locals caller l') → slice_get locals caller ≡ Some l → GoesOn l l' →
     (ticket : ℕ) (entry : Entry) → IsLinked place history ticket entry → IsLinked place history' ticket entry
-still_linked life place history history' locals caller l l' before after at goes ticket entry is_linked =
+still_linked instance place history history' locals caller l l' before after at goes ticket entry is_linked =
     let by = entry.caller in
     let n = ticket - place in
     let within = before.of_callers n entry is_linked.at in

@@ -11,7 +11,7 @@ use Rattle.cx_core.specs.declared.local.Cell.{Cell}
 use Rattle.cx_core.specs.declared.local.Linked.{Linked}
 use Rattle.cx_core.specs.declared.local.Local.{Local}
 use Rattle.cx_core.specs.Events.{Guard, cell_of, entry_in, linked, lost, next, one_more, raised_front, seen_word}
-use Rattle.cx_core.specs.State.{Life}
+use Rattle.cx_core.specs.State.{Instance}
 use Rattle.cx_core.specs.Lawful.{LocalShape}
 use Rattle.core_queue.proofs.Locals.{slice_get-last}
 use Rattle.core_queue.proofs.Shapes.{shape_linked, shape_same, shape_written}
@@ -27,10 +27,10 @@ ticket_in c = c.ticket
 abbrev pub after_write : ℕ → Mirror → Mirror
 after_write j m = record m { tickets = set m.tickets j None; fresh = false; steps = one_more m.steps }
 
-pub mirror_written : (life : Life) (l : Local) (m : Mirror) (j i v found : ℕ) → m ≡ mirror_of l → after_write j m ≡ mirror_of (next life (WriteCell j i v) l found)
-mirror_written life l m j i v found is =
+pub mirror_written : (instance : Instance) (l : Local) (m : Mirror) (j i v found : ℕ) → m ≡ mirror_of l → after_write j m ≡ mirror_of (next instance (WriteCell j i v) l found)
+mirror_written instance l m j i v found is =
     ap (after_write j) is
-    ∙ (λ k. record (mirror_of (next life (WriteCell j i v) l found)) { tickets = sym (map-set ticket_in l.cells j (record (cell_of l j) { words = set (cell_of l j).words i v; ticket = None })) k })
+    ∙ (λ k. record (mirror_of (next instance (WriteCell j i v) l found)) { tickets = sym (map-set ticket_in l.cells j (record (cell_of l j) { words = set (cell_of l j).words i v; ticket = None })) k })
 
 -- the numbers after the entry in cell j was linked
 abbrev pub after_win : ℕ → Mirror → Mirror
@@ -54,51 +54,51 @@ raises : (callers front found : ℕ) → front ≤ raised_front callers front fo
 raises callers front found =
     elim (found == 0) as (λ b. front ≤ cond b front (max front (link_ticket_of callers found + 1))) [ true ↦ omega arith | false ↦ omega arith ]
 
-small_after : (life : Life) (kind : Kind) (l : Local) (found : ℕ) → Guard life kind l → IsSmall l → IsSmall (next life kind l found)
-small_after life (WriteCell j i v) l found guard small = small
-small_after life (Link j) l found guard small =
+small_after : (instance : Instance) (kind : Kind) (l : Local) (found : ℕ) → Guard instance kind l → IsSmall l → IsSmall (next instance kind l found)
+small_after instance (WriteCell j i v) l found guard small = small
+small_after instance (Link j) l found guard small =
     let front = guard.3 in
     let own = small.0 in
-    let up = raises life.callers l.front found in
-    elim (found == seen_word l.seen_slot) as (λ b. IsSmall (cond b (linked l j) (lost life.callers l found))) [
+    let up = raises instance.callers l.front found in
+    elim (found == seen_word l.seen_slot) as (λ b. IsSmall (cond b (linked l j) (lost instance.callers l found))) [
       | true ↦ (simp length-append (omega arith), simp length-append (omega arith))
       | false ↦ (omega arith, small.1)
     ]
-small_after life (Look s) l found guard small = (let own = small.0 in let up = raises life.callers l.front found in (omega arith, small.1))
-small_after life (ReadCell t k i) l found guard small = small
-small_after life LoadFree l found guard small = small
+small_after instance (Look s) l found guard small = (let own = small.0 in let up = raises instance.callers l.front found in (omega arith, small.1))
+small_after instance (ReadCell t k i) l found guard small = small
+small_after instance LoadFree l found guard small = small
 
-shape_after : (life : Life) (kind : Kind) (l : Local) (found : ℕ) → Guard life kind l → LocalShape l.number l → LocalShape l.number (next life kind l found)
-shape_after life (WriteCell j i v) l found guard shape = shape_written l.number l (next life (WriteCell j i v) l found) j i v shape guard.0 refl refl
-shape_after life (Link j) l found guard shape =
-    elim (found == seen_word l.seen_slot) as (λ b. LocalShape l.number (cond b (linked l j) (lost life.callers l found))) [
+shape_after : (instance : Instance) (kind : Kind) (l : Local) (found : ℕ) → Guard instance kind l → LocalShape l.number l → LocalShape l.number (next instance kind l found)
+shape_after instance (WriteCell j i v) l found guard shape = shape_written l.number l (next instance (WriteCell j i v) l found) j i v shape guard.0 refl refl
+shape_after instance (Link j) l found guard shape =
+    elim (found == seen_word l.seen_slot) as (λ b. LocalShape l.number (cond b (linked l j) (lost instance.callers l found))) [
       | true ↦ shape_linked l.number l j shape guard.0
-      | false ↦ shape_same l.number l (lost life.callers l found) shape refl refl
+      | false ↦ shape_same l.number l (lost instance.callers l found) shape refl refl
     ]
-shape_after life (Look s) l found guard shape = shape_same l.number l (next life (Look s) l found) shape refl refl
-shape_after life (ReadCell t k i) l found guard shape = shape_same l.number l (next life (ReadCell t k i) l found) shape refl refl
-shape_after life LoadFree l found guard shape = shape_same l.number l (next life LoadFree l found) shape refl refl
+shape_after instance (Look s) l found guard shape = shape_same l.number l (next instance (Look s) l found) shape refl refl
+shape_after instance (ReadCell t k i) l found guard shape = shape_same l.number l (next instance (ReadCell t k i) l found) shape refl refl
+shape_after instance LoadFree l found guard shape = shape_same l.number l (next instance LoadFree l found) shape refl refl
 
 -- no step changes how many words the cells have
-cells_after : (life : Life) (kind : Kind) (l : Local) (found : ℕ) → Guard life kind l → HasCells l → HasCells (next life kind l found)
-cells_after life kind l found guard cells =
+cells_after : (instance : Instance) (kind : Kind) (l : Local) (found : ℕ) → Guard instance kind l → HasCells l → HasCells (next instance kind l found)
+cells_after instance kind l found guard cells =
     let shape : LocalShape l.number l = record { number = refl; cells = cells.count; each = cells.each } in
-    let after = shape_after life kind l found guard shape in
+    let after = shape_after instance kind l found guard shape in
     record { count = after.cells; each = after.each }
 
 -- a seat's numbers are its caller's after a step
-pub mirrored : (life : Life) (kind : Kind) (found : ℕ) (me me' : Me ℕ (List Known)) (mirror mirror' : Mirror) (before : ℕ) → IsMirrored me mirror before →
-    me' ≡ (known_after life kind (known_of me.0) found ∷ [], []) → Guard life kind (known_of me.0).local → mirror' ≡ mirror_of (next life kind (known_of me.0).local found) →
-    (next life kind (known_of me.0).local found).front ≤ 2 ^ 40 → IsMirrored me' mirror' before
-mirrored life kind found me me' mirror mirror' before old is guard numbers most =
+pub mirrored : (instance : Instance) (kind : Kind) (found : ℕ) (me me' : Me ℕ (List Known)) (mirror mirror' : Mirror) (before : ℕ) → IsMirrored me mirror before →
+    me' ≡ (known_after instance kind (known_of me.0) found ∷ [], []) → Guard instance kind (known_of me.0).local → mirror' ≡ mirror_of (next instance kind (known_of me.0).local found) →
+    (next instance kind (known_of me.0).local found).front ≤ 2 ^ 40 → IsMirrored me' mirror' before
+mirrored instance kind found me me' mirror mirror' before old is guard numbers most =
     let l = (known_of me.0).local in
-    let l' = next life kind l found in
+    let l' = next instance kind l found in
     let same = old.is in
     let own : mirror.linked ≡ length l.own = ap (λ (m : Mirror). m.linked) same in
     let front : mirror.front ≡ l.front = ap (λ (m : Mirror). m.front) same in
     let a = old.linked in
     let b = old.few in
-    let small = small_after life kind l found guard (omega arith, omega arith) in
+    let small = small_after instance kind l found guard (omega arith, omega arith) in
     let c = small.0 in
     let d = small.1 in
     let own' : mirror'.linked ≡ length l'.own = ap (λ (m : Mirror). m.linked) numbers in
@@ -110,5 +110,5 @@ mirrored life kind found me me' mirror mirror' before old is guard numbers most 
       front = omega arith;
       few = omega arith;
       small = old.small;
-      cells = cells_after life kind l found guard old.cells;
+      cells = cells_after instance kind l found guard old.cells;
     })

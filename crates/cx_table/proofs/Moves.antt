@@ -9,11 +9,11 @@ use lib.ListN.{get_elem?}
 use Rattle.atomic_table.specs.Table.{Me, State}
 use Rattle.atomic_table.proofs.Lists.{at_set}
 use Rattle.cx_core.specs.Lawful.{CellShape}
-use Rattle.cx_core.specs.State.{Life, blank_cell, opening_local}
+use Rattle.cx_core.specs.State.{Instance, blank_cell, opening_local}
 use Rattle.cx_table.specs.declared.rule.Known.{Known}
 use Rattle.cx_table.specs.declared.mirror.Mirror.{Mirror}
 use Rattle.cx_table.specs.Mirrors.{IsMirrored, mirror_of}
-use Rattle.cx_table.specs.Rule.{Held}
+use Rattle.cx_table.specs.Rule.{RuleHolds}
 use Rattle.cx_table.specs.Seats.{HasCells, known_of, opening_known, opening_view}
 
 abbrev Views : Type 0
@@ -29,10 +29,10 @@ pub record Came (views : Views) (moved : ℕ × ℕ → ℕ × ℕ) (seat i : �
   pub now : moved (from, index) ≡ (seat, i)
 
 -- views that know nothing else, each caller at one place
-pub moved_held : (life : Life) (s : State ℕ (List Known)) (views : Views) (moved : ℕ × ℕ → ℕ × ℕ) → Held life s →
+pub moved_held : (instance : Instance) (s : State ℕ (List Known)) (views : Views) (moved : ℕ × ℕ → ℕ × ℕ) → RuleHolds instance s →
     ((seat i : ℕ) (view : List Known) (known : Known) → get_elem? views seat ≡ some view → slice_get view i ≡ Some known → Came s.views moved seat i known) →
-    Held life (record { words = s.words; homes = s.homes; views = views })
-moved_held life s views moved held came = record {
+    RuleHolds instance (record { words = s.words; homes = s.homes; views = views })
+moved_held instance s views moved held came = record {
   locals = held.locals;
   place_of = λ caller. moved (held.place_of caller);
   law = held.law;
@@ -92,11 +92,11 @@ cut_else : (id new j i : ℕ) → j ≢ id → cut id new (j, i) ≡ (j, i)
 unfolding cut_at
 cut_else id new j i ne = ap (λ b. cut_at id new b j i) (ne_eqb j id ne)
 
-pub splits : (life : Life) (s : State ℕ (List Known)) (id : ℕ) (view : List Known) → Held life s → get_elem? s.views id ≡ some view →
-    Held life (record { words = s.words; homes = s.homes; views = set s.views id (drop 1 view) ++ take 1 view ∷ [] })
-splits life s id view held me =
+pub splits : (instance : Instance) (s : State ℕ (List Known)) (id : ℕ) (view : List Known) → RuleHolds instance s → get_elem? s.views id ≡ some view →
+    RuleHolds instance (record { words = s.words; homes = s.homes; views = set s.views id (drop 1 view) ++ take 1 view ∷ [] })
+splits instance s id view held me =
     let new = length s.views in
-    moved_held life s (set s.views id (drop 1 view) ++ take 1 view ∷ []) (cut id new) held (λ j i w known at here.
+    moved_held instance s (set s.views id (drop 1 view) ++ take 1 view ∷ []) (cut id new) held (λ j i w known at here.
     elim (at_end (set s.views id (drop 1 view)) (take 1 view) w j at) [
       | inl old ↦ elim (at_set s.views id j (drop 1 view) w old) [
         | inl mine ↦ (
@@ -111,8 +111,8 @@ splits life s id view held me =
     ])
 
 -- a new seat that knows nobody
-pub enters : (life : Life) (s : State ℕ (List Known)) → Held life s → Held life (record { words = s.words; homes = s.homes; views = s.views ++ [] ∷ [] })
-enters life s held = moved_held life s (s.views ++ [] ∷ []) (λ p. p) held (λ j i w known at here.
+pub enters : (instance : Instance) (s : State ℕ (List Known)) → RuleHolds instance s → RuleHolds instance (record { words = s.words; homes = s.homes; views = s.views ++ [] ∷ [] })
+enters instance s held = moved_held instance s (s.views ++ [] ∷ []) (λ p. p) held (λ j i w known at here.
     elim (at_end s.views [] w j at) [
       | inl old ↦ record { from = j; index = i; view = w; at = old; here = here; now = refl }
       | inr last ↦ absurd (no_item i known (subst (λ (u : List Known). slice_get u i ≡ Some known) (sym last.1) here))
@@ -136,14 +136,14 @@ join_own id other m i ne = ap (λ b. joined_at id m b (eqb id id) id i) (ne_eqb 
 join_else : (id other m j i : ℕ) → j ≢ other → j ≢ id → join id other m (j, i) ≡ (j, i)
 join_else id other m j i a b = ap (λ c. joined_at id m c (eqb j id) j i) (ne_eqb j other a) ∙ ap (λ c. joined_at id m false c j i) (ne_eqb j id b)
 
-pub joins : (life : Life) (s : State ℕ (List Known)) (id : ℕ) (view : List Known) (other : ℕ) (its : List Known) → Held life s → get_elem? s.views id ≡ some view → ¬ (other ≡ id) →
+pub joins : (instance : Instance) (s : State ℕ (List Known)) (id : ℕ) (view : List Known) (other : ℕ) (its : List Known) → RuleHolds instance s → get_elem? s.views id ≡ some view → ¬ (other ≡ id) →
     get_elem? (set s.views id (its ++ view)) other ≡ some its →
-    Held life (record { words = s.words; homes = s.homes; views = set (set s.views id (its ++ view)) other [] })
-joins life s id view other its held me apart there =
+    RuleHolds instance (record { words = s.words; homes = s.homes; views = set (set s.views id (its ++ view)) other [] })
+joins instance s id view other its held me apart there =
     let both = its ++ view in
     let m = length its in
     let was : get_elem? s.views other ≡ some its = elim (at_set s.views id other both its there) [ inl same ↦ absurd (apart same.0) | inr o ↦ o.1 ] in
-    moved_held life s (set (set s.views id both) other []) (join id other m) held (λ j i w known at here.
+    moved_held instance s (set (set s.views id both) other []) (join id other m) held (λ j i w known at here.
     elim (at_set (set s.views id both) other j [] w at) [
       | inl spent ↦ absurd (no_item i known (subst (λ (u : List Known). slice_get u i ≡ Some known) (sym spent.1) here))
       | inr rest ↦ elim (at_set s.views id j both w rest.1) [

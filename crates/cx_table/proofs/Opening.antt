@@ -9,13 +9,13 @@ use lib.ListN.{get_elem?}
 use Rattle.atomic_table.specs.Table as atomic
 use Rattle.cx_core.specs.declared.local.Local.{Local}
 use Rattle.cx_core.specs.Lawful.{Lawful}
-use Rattle.cx_core.specs.State.{Life, opening_local, opening_locals, opening_words}
+use Rattle.cx_core.specs.State.{Instance, opening_local, opening_locals, opening_words}
 use Rattle.cx_core.proofs.ListLemmas.{slice_get-set_same, slice_get-set_other}
 use Rattle.core_queue.proofs.FrontLaws.{behind_kept}
 use Rattle.core_queue.proofs.Keeps.{loads_kept}
 use Rattle.core_queue.proofs.Opening.{opening_lawful}
 use Rattle.cx_table.specs.declared.rule.Known.{Known}
-use Rattle.cx_table.specs.Rule.{Held, HoldsNone, IsKnown}
+use Rattle.cx_table.specs.Rule.{RuleHolds, HoldsNone, IsKnown}
 use Rattle.cx_table.specs.Seats.{opening_known, opening_view}
 
 -- an item of a list made item by item
@@ -30,37 +30,37 @@ mapped_there f n i within =
     slice_get-get_or (map f (range_with_len 0 n)) i (f i) long ∙ ap Some (get_or-map-range_with_len f 0 n i i (f i) within (omega arith))
 
 -- a limit of steps is in no part of the lawful state
-limit_kept : (life : Life) (words : List ℕ) (locals : List Local) (caller : ℕ) (l : Local) (limit : ℕ) → Lawful life (record { words = words; locals = locals }) → slice_get locals caller ≡ Some l →
-    Lawful life (record { words = words; locals = set locals caller (record l { limit = limit }) })
-limit_kept life words locals caller l limit law at =
-    loads_kept life (record { words = words; locals = locals }) caller l (record l { limit = limit }) law at refl refl refl refl refl (law.cells.seen caller l at)
-    (behind_kept life law.history law.history words words l (record l { limit = limit }) (law.fronts.each caller l at) (omega arith) (record { dur = refl; low = refl; free = refl })
+limit_kept : (instance : Instance) (words : List ℕ) (locals : List Local) (caller : ℕ) (l : Local) (limit : ℕ) → Lawful instance (record { words = words; locals = locals }) → slice_get locals caller ≡ Some l →
+    Lawful instance (record { words = words; locals = set locals caller (record l { limit = limit }) })
+limit_kept instance words locals caller l limit law at =
+    loads_kept instance (record { words = words; locals = locals }) caller l (record l { limit = limit }) law at refl refl refl refl refl (law.cells.seen caller l at)
+    (behind_kept instance law.history law.history words words l (record l { limit = limit }) (law.fronts.each caller l at) (omega arith) (record { dur = refl; low = refl; free = refl })
     (record { front = refl; floor = refl; seen_cur = refl; seen_free = refl; seen_low = refl; raised = refl; won = refl }))
 
 -- the first n callers have their limits
-record Limited (life : Life) (limits : List ℕ) (n : ℕ) : Type 0 where
+record Limited (instance : Instance) (limits : List ℕ) (n : ℕ) : Type 0 where
   locals : List Local
-  law : Lawful life (record { words = opening_words life.callers life.base; locals = locals })
-  done : (c : ℕ) → c < n → slice_get locals c ≡ Some (opening_known life.callers life.base.place limits c).local
-  rest : (c : ℕ) → n ≤ c → c < life.callers → slice_get locals c ≡ Some (opening_local life.callers life.base.place c)
+  law : Lawful instance (record { words = opening_words instance.callers instance.base; locals = locals })
+  done : (c : ℕ) → c < n → slice_get locals c ≡ Some (opening_known instance.callers instance.base.place limits c).local
+  rest : (c : ℕ) → n ≤ c → c < instance.callers → slice_get locals c ≡ Some (opening_local instance.callers instance.base.place c)
 
-limited : (life : Life) (limits : List ℕ) (n : ℕ) → 1 ≤ life.callers → life.callers ≤ 8 → life.base.place ≤ 2 ^ 40 → n ≤ life.callers → Limited life limits n
-limited life limits zero one few place within = record {
-  locals = opening_locals life.callers life.base.place;
-  law = opening_lawful life one few place;
+limited : (instance : Instance) (limits : List ℕ) (n : ℕ) → 1 ≤ instance.callers → instance.callers ≤ 8 → instance.base.place ≤ 2 ^ 40 → n ≤ instance.callers → Limited instance limits n
+limited instance limits zero one few place within = record {
+  locals = opening_locals instance.callers instance.base.place;
+  law = opening_lawful instance one few place;
   done = λ c below. absurd (omega arith);
-  rest = λ c _ below. mapped_there (opening_local life.callers life.base.place) life.callers c below;
+  rest = λ c _ below. mapped_there (opening_local instance.callers instance.base.place) instance.callers c below;
 }
-limited life limits (suc n) one few place within =
-    let before = limited life limits n one few place (omega arith) in
-    let l = opening_local life.callers life.base.place n in
-    let l' = (opening_known life.callers life.base.place limits n).local in
+limited instance limits (suc n) one few place within =
+    let before = limited instance limits n one few place (omega arith) in
+    let l = opening_local instance.callers instance.base.place n in
+    let l' = (opening_known instance.callers instance.base.place limits n).local in
     let at = before.rest n (omega arith) (omega arith) in
     record {
       locals = set before.locals n l';
-      law = limit_kept life (opening_words life.callers life.base) before.locals n l (slice_index limits n) before.law at;
+      law = limit_kept instance (opening_words instance.callers instance.base) before.locals n l (slice_index limits n) before.law at;
       done = λ c below. elim (cases_eq c n) [
-        | inl e ↦ subst (λ k. slice_get (set before.locals n l') k ≡ Some (opening_known life.callers life.base.place limits k).local) (sym e) (slice_get-set_same before.locals n l' (slice_get_within before.locals n l at))
+        | inl e ↦ subst (λ k. slice_get (set before.locals n l') k ≡ Some (opening_known instance.callers instance.base.place limits k).local) (sym e) (slice_get-set_same before.locals n l' (slice_get_within before.locals n l at))
         | inr ne ↦ slice_get-set_other before.locals n c l' ne ∙ before.done c (omega (arith, ne))
       ];
       rest = λ c from below. (let ne : c ≢ n = λ e. omega arith in slice_get-set_other before.locals n c l' ne ∙ before.rest c (omega arith) below);
@@ -71,29 +71,29 @@ only_view v w zero at = (refl, some-injective v w at)
 only_view v w (suc seat) at = absurd (some-ne-none w (sym at))
 
 -- the rule holds at the opening, where the first seat knows all callers
-pub opening_held : (life : Life) (limits : List ℕ) → 1 ≤ life.callers → life.callers ≤ 8 → life.base.place ≤ 2 ^ 40 →
-    Held life (atomic.opening (opening_words life.callers life.base) [] (opening_view life.callers life.base.place limits))
-opening_held life limits one few place =
-    let all = limited life limits life.callers one few place (omega arith) in
-    let view = opening_view life.callers life.base.place limits in
-    let f = opening_known life.callers life.base.place limits in
+pub opening_held : (instance : Instance) (limits : List ℕ) → 1 ≤ instance.callers → instance.callers ≤ 8 → instance.base.place ≤ 2 ^ 40 →
+    RuleHolds instance (atomic.opening (opening_words instance.callers instance.base) [] (opening_view instance.callers instance.base.place limits))
+opening_held instance limits one few place =
+    let all = limited instance limits instance.callers one few place (omega arith) in
+    let view = opening_view instance.callers instance.base.place limits in
+    let f = opening_known instance.callers instance.base.place limits in
     record {
       locals = all.locals;
       place_of = λ c. (0, c);
       law = all.law;
       each = λ seat i v known view_at item. (
           let first = only_view view v seat view_at in
-          let at = mapped_at f life.callers i known (ap (λ (w : List Known). slice_get w i) first.1 ∙ item) in
-          let here : IsKnown life all.law.history all.locals (λ c. (0, c)) 0 i (f i) = record {
+          let at = mapped_at f instance.callers i known (ap (λ (w : List Known). slice_get w i) first.1 ∙ item) in
+          let here : IsKnown instance all.law.history all.locals (λ c. (0, c)) 0 i (f i) = record {
             local = all.done i at.0;
             only = refl;
             notes = λ n noted there from. absurd (none-some noted there);
           } in
-          subst (IsKnown life all.law.history all.locals (λ c. (0, c)) seat i) (sym at.1) (subst (λ n. IsKnown life all.law.history all.locals (λ c. (0, c)) n i (f i)) (sym first.0) here));
+          subst (IsKnown instance all.law.history all.locals (λ c. (0, c)) seat i) (sym at.1) (subst (λ n. IsKnown instance all.law.history all.locals (λ c. (0, c)) n i (f i)) (sym first.0) here));
       still = λ at off. refl;
       rest = λ c l at. (
           let count = all.law.shape.count in
-          let within : c < life.callers = omega (arith, slice_get_within all.locals c l at) in
+          let within : c < instance.callers = omega (arith, slice_get_within all.locals c l at) in
           let is = same_Some (f c).local l (sym (all.done c within) ∙ at) in
           subst HoldsNone is (record { exclusive = refl; shared = refl; passer = refl; downgraded = refl; won = refl }));
     }

@@ -7,7 +7,7 @@ use Rattle.cx_core.specs.Lawful.{Lawful}
 use Rattle.cx_core.specs.Layout.{vol_at, per_at}
 use Rattle.cx_core.specs.Merge.{IsHistory}
 use Rattle.cx_core.specs.Region.{slot_number}
-use Rattle.cx_core.specs.State.{Life}
+use Rattle.cx_core.specs.State.{Instance}
 use Rattle.cx_table.specs.declared.rule.Known.{Known}
 use Rattle.cx_table.specs.declared.remains.Remains.{Remains}
 use Rattle.cx_table.specs.Ending.{IsChain, locals_known}
@@ -49,7 +49,7 @@ pub record MarksDirty (locals : List Local) (replicas region : ℕ) (marks : Lis
 
 -- What a closed table leaves whose callers had these seats. There are words that with the callers' local states are a
 -- lawful state of the core, whose history is the trail's: each caller's own entries are in it, each once and in order.
-pub record Leaves {O : Type 0} (table : Running O) (life : Life) (seats : List Seated) (r : Remains) : Type 0 where
+pub record Leaves {O : Type 0} (table : Running O) (instance : Instance) (seats : List Seated) (r : Remains) : Type 0 where
   pub callers : r.callers ≡ table.callers
   pub lines : r.lines ≡ table.lines
   pub first : r.first ≡ table.base.place
@@ -60,7 +60,7 @@ pub record Leaves {O : Type 0} (table : Running O) (life : Life) (seats : List S
   pub locals : r.trail.locals ≡ locals_of seats
   -- the state that was closed
   pub words : List ℕ
-  pub state : Lawful life (record { words = words; locals = locals_of seats })
+  pub state : Lawful instance (record { words = words; locals = locals_of seats })
   pub history : state.history ≡ r.trail.history
   pub merged : IsHistory table.base.place r.trail.history (locals_of seats)
   pub chain : IsChain words (locals_of seats) r.trail.chain
@@ -68,4 +68,4 @@ pub record Leaves {O : Type 0} (table : Running O) (life : Life) (seats : List S
   pub durable : r.durable.items ≡ slice_range words (per_at table.callers (length table.base.words) 0 0) (per_at table.callers (length table.base.words) (2 * table.callers) 0)
   pub dirty : MarksDirty (locals_of seats) (2 * table.callers) (length table.base.words) r.dirty.items
   -- what a caller noted of entries is the history's
-  pub notes : All (λ (s : Seated). NotesHold life r.trail.history s.known.noted) seats
+  pub notes : All (λ (s : Seated). NotesHold instance r.trail.history s.known.noted) seats

@@ -10,41 +10,41 @@ use Rattle.cx_base.specs.Codes.{root_place_of}
 use Rattle.cx_core.specs.Lawful.{Lawful, LocalShape, OwnTickets}
 use Rattle.cx_core.specs.Layout.{link_at, offer_at}
 use Rattle.cx_core.specs.Merge.{IsLinked}
-use Rattle.cx_core.specs.State.{Life, EachLocal, opening_words}
+use Rattle.cx_core.specs.State.{Instance, EachLocal, opening_words}
 use Rattle.cx_table.specs.declared.rule.Known.{Known}
 use Rattle.cx_table.specs.declared.rule.Noted.{Noted}
 
 -- a noted word is the history's. With a ticket below the base's place, which no entry has, it says nothing.
-pub record IsOfEntry (life : Life) (history : List Entry) (noted : Noted) : Type 0 where
+pub record IsOfEntry (instance : Instance) (history : List Entry) (noted : Noted) : Type 0 where
   pub entry : Entry
-  pub linked : IsLinked life.base.place history noted.ticket entry
+  pub linked : IsLinked instance.base.place history noted.ticket entry
   pub caller : entry.caller ≡ noted.caller
   pub word : slice_index (entry.number ∷ entry.op) noted.index ≡ noted.word
 
-abbrev pub NotesHold : Life → List Entry → List Noted → Type 0
-NotesHold life history notes = (n : ℕ) (noted : Noted) → slice_get notes n ≡ Some noted → life.base.place ≤ noted.ticket → IsOfEntry life history noted
+abbrev pub NotesHold : Instance → List Entry → List Noted → Type 0
+NotesHold instance history notes = (n : ℕ) (noted : Noted) → slice_get notes n ≡ Some noted → instance.base.place ≤ noted.ticket → IsOfEntry instance history noted
 
 -- what a seat knows of a caller is so: the local state is the caller's, which no other place of any view has, and the
 -- noted words are the history's
-pub record IsKnown (life : Life) (history : List Entry) (locals : List Local) (place_of : ℕ → ℕ × ℕ) (seat i : ℕ) (known : Known) : Type 0 where
+pub record IsKnown (instance : Instance) (history : List Entry) (locals : List Local) (place_of : ℕ → ℕ × ℕ) (seat i : ℕ) (known : Known) : Type 0 where
   pub local : slice_get locals known.local.number ≡ Some known.local
   pub only : place_of known.local.number ≡ (seat, i)
-  pub notes : NotesHold life history known.noted
+  pub notes : NotesHold instance history known.noted
 
 -- what the lawful state says of a caller's local state by itself
-pub record IsLawfulLocal (life : Life) (l : Local) : Type 0 where
+pub record IsLawfulLocal (instance : Instance) (l : Local) : Type 0 where
   pub shape : LocalShape l.number l
-  pub tickets : OwnTickets life l.number l
-  pub from : life.base.place ≤ l.front
+  pub tickets : OwnTickets instance l.number l
+  pub from : instance.base.place ≤ l.front
   pub to : l.front ≤ 2 ^ 40
   pub floor : l.floor ≤ l.front
-  pub cur : root_place_of life.callers l.seen_cur ≤ l.front
-  pub floor_cur : l.floor ≤ root_place_of life.callers l.seen_cur
+  pub cur : root_place_of instance.callers l.seen_cur ≤ l.front
+  pub floor_cur : l.floor ≤ root_place_of instance.callers l.seen_cur
 
 -- the words that no step is on yet stay as they were opened: all but those of links and cells
-abbrev pub StandStill : Life → List ℕ → Type 0
-StandStill life words =
-    (at : ℕ) → (at < link_at life.callers 0) ⊎ (offer_at life.callers 0 ≤ at) → slice_index words at ≡ slice_index (opening_words life.callers life.base) at
+abbrev pub StandStill : Instance → List ℕ → Type 0
+StandStill instance words =
+    (at : ℕ) → (at < link_at instance.callers 0) ⊎ (offer_at instance.callers 0 ≤ at) → slice_index words at ≡ slice_index (opening_words instance.callers instance.base) at
 
 -- a caller has no right on a replica, since no step takes one yet
 pub record HoldsNone (l : Local) : Type 0 where
@@ -54,11 +54,11 @@ pub record HoldsNone (l : Local) : Type 0 where
   pub downgraded : l.downgraded ≡ None
   pub won : l.won ≡ None
 
-pub record Held (life : Life) (s : atomic.State ℕ (List Known)) : Type 0 where
+pub record RuleHolds (instance : Instance) (s : atomic.State ℕ (List Known)) : Type 0 where
   pub locals : List Local
   -- the seat, and the place in its view, that have a caller's local state
   pub place_of : ℕ → ℕ × ℕ
-  pub law : Lawful life (record { words = s.words; locals = locals })
-  pub each : (seat i : ℕ) (view : List Known) (known : Known) → get_elem? s.views seat ≡ some view → slice_get view i ≡ Some known → IsKnown life law.history locals place_of seat i known
-  pub still : StandStill life s.words
+  pub law : Lawful instance (record { words = s.words; locals = locals })
+  pub each : (seat i : ℕ) (view : List Known) (known : Known) → get_elem? s.views seat ≡ some view → slice_get view i ≡ Some known → IsKnown instance law.history locals place_of seat i known
+  pub still : StandStill instance s.words
   pub rest : EachLocal locals (λ _ l. HoldsNone l)

@@ -5,7 +5,7 @@ use Rattle.cx_core.specs.declared.entry.Base.{Base}
 use Rattle.cx_core.specs.Base.{LawfulBase}
 use Rattle.cx_core.specs.Layout.{word_count}
 use Rattle.cx_core.specs.Region.{slot_number}
-use Rattle.cx_core.specs.State.{Life}
+use Rattle.cx_core.specs.State.{Instance}
 use Rattle.cx_table.specs.Seats.{Seated}
 
 -- which table it is, how many callers it has, the lines of its object, the base that it was made with, and the object
@@ -16,9 +16,9 @@ pub record Running (O : Type 0) : Type 0 where
   pub base : Base
   pub object : O
 
--- the life of a running table's service, where the object means this
-abbrev pub life_at : {O : Type 0} → Running O → (O → List ℕ → List ℕ → List ℕ × List ℕ) → (O → List ℕ → Bool) → Life
-life_at r step reads = record { callers = r.callers; base = r.base; step = step r.object; reads = reads r.object }
+-- the instance that a running table shows, where the object means this
+abbrev pub instance_at : {O : Type 0} → Running O → (O → List ℕ → List ℕ → List ℕ × List ℕ) → (O → List ℕ → Bool) → Instance
+instance_at r step reads = record { callers = r.callers; base = r.base; step = step r.object; reads = reads r.object }
 
 -- the seat is a caller's of this table
 pub record IsSeatOf {O : Type 0} (r : Running O) (seat : Seated) : Type 0 where

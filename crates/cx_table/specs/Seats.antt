@@ -10,8 +10,8 @@ use Rattle.cx_core.specs.declared.local.Linked.{Linked}
 use Rattle.cx_core.specs.declared.local.Local.{Local}
 use Rattle.cx_core.specs.Events.{next}
 use Rattle.cx_core.specs.Lawful.{CellShape}
-use Rattle.cx_core.specs.Layout.{none}
-use Rattle.cx_core.specs.State.{Life, opening_local}
+use Rattle.cx_core.specs.Layout.{max_word}
+use Rattle.cx_core.specs.State.{Instance, opening_local}
 use Rattle.cx_table.specs.declared.rule.Known.{Known}
 use Rattle.cx_table.specs.declared.rule.Noted.{Noted}
 
@@ -40,8 +40,8 @@ noted_by (ReadCell t k i) found = record { ticket = t; caller = k / 16; index = 
 noted_by LoadFree found = []
 
 -- what a caller knows after a step of its own that found this word: the local state is the event's
-abbrev pub known_after : Life → Kind → Known → ℕ → Known
-known_after life kind k found = record { local = next life kind k.local found; noted = k.noted ++ noted_by kind found }
+abbrev pub known_after : Instance → Kind → Known → ℕ → Known
+known_after instance kind k found = record { local = next instance kind k.local found; noted = k.noted ++ noted_by kind found }
 
 -- what contracts see of a caller's seat: its table, the number of the caller's last entry in the table's base, and what it
 -- knows
@@ -51,12 +51,12 @@ pub record Seated : Type 0 where
   pub known : Known
 
 -- the seat after a step of its caller that found this word
-abbrev pub stepped : Life → Kind → Seated → ℕ → Seated
-stepped life kind seat found = record { table = seat.table; before = seat.before; known = known_after life kind seat.known found }
+abbrev pub stepped : Instance → Kind → Seated → ℕ → Seated
+stepped instance kind seat found = record { table = seat.table; before = seat.before; known = known_after instance kind seat.known found }
 
 -- no further step is allowed: the steps equal the limit, where 2^64 - 1 is none
 abbrev pub IsAtLimit : Local → Type 0
-IsAtLimit l = (l.steps ≡ l.limit) × (l.limit < none)
+IsAtLimit l = (l.steps ≡ l.limit) × (l.limit < max_word)
 
 -- the ticket of the entry that is not answered yet: entries are answered in order
 abbrev pub unanswered_ticket : Local → Option ℕ

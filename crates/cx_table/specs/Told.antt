@@ -6,29 +6,29 @@ use Rattle.cx_core.specs.declared.kinds.Kind.TheVariants.{WriteCell, Link, Look,
 use Rattle.cx_core.specs.declared.local.Local.{Local}
 use Rattle.cx_core.specs.Events.{seen_word}
 use Rattle.cx_core.specs.Layout.{cell_count}
-use Rattle.cx_core.specs.State.{Life}
+use Rattle.cx_core.specs.State.{Instance}
 
 -- a link word names a ticket of its slot from the base's place on, and a cell
-pub record NamesTicket (life : Life) (s word : ℕ) : Type 0 where
-  pub from : life.base.place ≤ link_ticket_of life.callers word
-  pub slot : link_ticket_of life.callers word % cell_count life.callers ≡ s
-  pub cell : link_cell_of life.callers word < cell_count life.callers
+pub record NamesTicket (instance : Instance) (s word : ℕ) : Type 0 where
+  pub from : instance.base.place ≤ link_ticket_of instance.callers word
+  pub slot : link_ticket_of instance.callers word % cell_count instance.callers ≡ s
+  pub cell : link_cell_of instance.callers word < cell_count instance.callers
 
 -- the word of a slot that was looked at. The tickets below the front are linked; while no cell is given again, each still
 -- stands in its slot.
-pub record LookTold (life : Life) (s : ℕ) (l : Local) (found : ℕ) : Type 0 where
-  pub names : 0 < found → NamesTicket life s found
-  pub live : (t : ℕ) → life.base.place ≤ t → t < l.front → t % cell_count life.callers ≡ s → (0 < found) × (link_ticket_of life.callers found ≡ t)
+pub record LookTold (instance : Instance) (s : ℕ) (l : Local) (found : ℕ) : Type 0 where
+  pub names : 0 < found → NamesTicket instance s found
+  pub live : (t : ℕ) → instance.base.place ≤ t → t < l.front → t % cell_count instance.callers ≡ s → (0 < found) × (link_ticket_of instance.callers found ≡ t)
 
 -- the word that a link found. Where it is not the one seen, it names a later ticket.
-pub record LinkTold (life : Life) (l : Local) (found : ℕ) : Type 0 where
-  pub names : 0 < found → NamesTicket life (l.front % cell_count life.callers) found
-  pub later : 0 < seen_word l.seen_slot → life.base.place ≤ link_ticket_of life.callers (seen_word l.seen_slot) → found ≢ seen_word l.seen_slot →
-      (0 < found) × (link_ticket_of life.callers (seen_word l.seen_slot) < link_ticket_of life.callers found)
+pub record LinkTold (instance : Instance) (l : Local) (found : ℕ) : Type 0 where
+  pub names : 0 < found → NamesTicket instance (l.front % cell_count instance.callers) found
+  pub later : 0 < seen_word l.seen_slot → instance.base.place ≤ link_ticket_of instance.callers (seen_word l.seen_slot) → found ≢ seen_word l.seen_slot →
+      (0 < found) × (link_ticket_of instance.callers (seen_word l.seen_slot) < link_ticket_of instance.callers found)
 
-abbrev pub Told : Life → Kind → Local → ℕ → Type 0
-Told life (WriteCell j i v) l found = Unit {0}
-Told life (Link j) l found = LinkTold life l found
-Told life (Look s) l found = LookTold life s l found
-Told life (ReadCell t k i) l found = Unit {0}
-Told life LoadFree l found = Unit {0}
+abbrev pub Told : Instance → Kind → Local → ℕ → Type 0
+Told instance (WriteCell j i v) l found = Unit {0}
+Told instance (Link j) l found = LinkTold instance l found
+Told instance (Look s) l found = LookTold instance s l found
+Told instance (ReadCell t k i) l found = Unit {0}
+Told instance LoadFree l found = Unit {0}

@@ -4,7 +4,7 @@ ghost use Rattle.std.specs.Prelude.{◌≡◌, ◌+◌, ◌*◌, ◌<◌, ◌≤
 ghost use Rattle.std.specs.Slots.{IsFull, slots_items, slots_len};
 ghost use Rattle.cx_table.specs.Remains.{AreSeats, Leaves, known_by};
 ghost use Rattle.cx_core.specs.Region.{region_words};
-ghost use Rattle.cx_table.specs.Running.{life_at};
+ghost use Rattle.cx_table.specs.Running.{instance_at};
 ghost use Rattle.cx_table.specs.Seats.{Seated};
 
 use crate::remains::{Remains, Trail};
@@ -77,7 +77,7 @@ impl<O: Object> Shared<O> {
     /// An `Err` is want of memory alone, and hands all back as it was.
     pub fn gather(self, alloc: Global, seats: Vec<CallerSeat>) -> Result<Remains, KeptTable<O>>
         requires { AreSeats self seats.items }
-        ensures remains { IfOk result (λ r. Leaves self (life_at self O.step O.only_reads) seats.items r) }
+        ensures remains { IfOk result (λ r. Leaves self (instance_at self O.step O.only_reads) seats.items r) }
         ensures kept { IfErr result (λ k. (k.shared ≡ self) × (k.seats ≡ seats)) }
     {
         let region = 8 * (146 + self.lines as usize);
@@ -127,7 +127,7 @@ impl<O: Object> Shared<O> {
         requires volatile { (room.volatile.items ≡ []) × (region_words self.lines * (2 * self.callers) ≤ vec_capacity room.volatile) }
         requires durable { (room.durable.items ≡ []) × (region_words self.lines * (2 * self.callers) ≤ vec_capacity room.durable) }
         requires dirty { room.dirty.items ≡ replicate (region_words self.lines * (2 * self.callers)) false }
-        ensures { (seats : List Seated) → AreSeats self seats → closing.me ≡ (known_by seats, []) → Leaves self (life_at self O.step O.only_reads) seats result }
+        ensures { (seats : List Seated) → AreSeats self seats → closing.me ≡ (known_by seats, []) → Leaves self (instance_at self O.step O.only_reads) seats result }
     {
         let Room {
             mut published,

@@ -2,7 +2,7 @@
 
 ghost use Rattle.std.specs.Prelude.{◌≡◌, ◌+◌, ◌^◌, ◌<◌, ◌≤◌, ◌↔◌, ℕ, IsErr, length, slice_index, Some, None};
 ghost use Rattle.cx_core.specs.Events.{linked, lost, next, raised_front, seen_word};
-ghost use Rattle.cx_core.specs.State.{Life};
+ghost use Rattle.cx_core.specs.State.{Instance};
 ghost use Rattle.cx_core.specs.declared.kinds.Kind.TheVariants.{WriteCell, Link, Look, ReadCell, LoadFree};
 ghost use Rattle.cx_table.specs.Mirrors.{mirror_of};
 ghost use Rattle.cx_table.specs.Seats.{IsAtLimit};
@@ -48,7 +48,7 @@ impl Mirror {
     /// A word was written into cell `j`.
     pub fn write_cell(&mut self, j: u64)
         requires { j < 16 }
-        ensures { (life : Life) (l : _) (i v found : ℕ) → self.old ≡ mirror_of l → self.new ≡ mirror_of (next life (WriteCell j i v) l found) }
+        ensures { (instance : Instance) (l : _) (i v found : ℕ) → self.old ≡ mirror_of l → self.new ≡ mirror_of (next instance (WriteCell j i v) l found) }
     {
         self.tickets[j as usize] = None;
         self.fresh = false;
@@ -86,7 +86,7 @@ impl Mirror {
         requires j { j < 16 }
         requires front { self.old.front < 2 ^ 40 }
         requires linked { self.old.linked ≤ self.old.front }
-        ensures { (life : Life) (l : _) → life.callers ≡ callers → self.old ≡ mirror_of l → length l.answered ≡ length l.own → self.new ≡ mirror_of (next life (Link j) l found) }
+        ensures { (instance : Instance) (l : _) → instance.callers ≡ callers → self.old ≡ mirror_of l → length l.answered ≡ length l.own → self.new ≡ mirror_of (next instance (Link j) l found) }
     {
         if found == self.seen_word() {
             self.win(j);
@@ -109,7 +109,7 @@ impl Mirror {
     pub fn look(&mut self, callers: u32, s: u64, found: u64)
         requires some { 1 ≤ callers }
         requires few { callers ≤ 8 }
-        ensures { (life : Life) (l : _) → life.callers ≡ callers → self.old ≡ mirror_of l → self.new ≡ mirror_of (next life (Look s) l found) }
+        ensures { (instance : Instance) (l : _) → instance.callers ≡ callers → self.old ≡ mirror_of l → self.new ≡ mirror_of (next instance (Look s) l found) }
     {
         self.seen_slot = Some(SeenSlot {
             slot: s,
@@ -121,14 +121,14 @@ impl Mirror {
 
     /// A word of a cell was read.
     pub fn read_cell(&mut self)
-        ensures { (life : Life) (l : _) (t k i found : ℕ) → self.old ≡ mirror_of l → self.new ≡ mirror_of (next life (ReadCell t k i) l found) }
+        ensures { (instance : Instance) (l : _) (t k i found : ℕ) → self.old ≡ mirror_of l → self.new ≡ mirror_of (next instance (ReadCell t k i) l found) }
     {
         self.steps = self.steps.saturating_add(1);
     }
 
     /// FREE was found.
     pub fn load_free(&mut self, found: u64)
-        ensures { (life : Life) (l : _) → self.old ≡ mirror_of l → self.new ≡ mirror_of (next life LoadFree l found) }
+        ensures { (instance : Instance) (l : _) → self.old ≡ mirror_of l → self.new ≡ mirror_of (next instance LoadFree l found) }
     {
         self.seen_free = self.seen_free.max(found);
         self.steps = self.steps.saturating_add(1);

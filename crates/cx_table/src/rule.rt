@@ -41,10 +41,10 @@ pub struct CoreRule<O> {
 }
 
 impl<O: Object> TableRule<u8, View, Key<O>> for CoreRule<O> {
-    ghost use Rattle.cx_table.specs.Rule.{Held};
+    ghost use Rattle.cx_table.specs.Rule.{RuleHolds};
     ghost use Rattle.cx_table.specs.Seats.{opening_view};
 
-    ghost holds = { λ k. Held (record { callers = k.callers; base = k.base.value; step = O.step k.object.value; reads = O.only_reads k.object.value }) };
+    ghost holds = { λ k. RuleHolds (record { callers = k.callers; base = k.base.value; step = O.step k.object.value; reads = O.only_reads k.object.value }) };
 
     ghost first = { λ k. opening_view k.callers k.base.value.place k.limits };
 }

@@ -6,7 +6,7 @@ ghost use Rattle.std.specs.Prelude.{◌≡◌, ◌↔◌, ℕ, IsErr, OnErr, OnO
 ghost use Rattle.cx_core.specs.Events.{Guard};
 ghost use Rattle.cx_core.specs.declared.kinds.Kind.TheVariants.{WriteCell, Link, Look, ReadCell, LoadFree};
 ghost use Rattle.cx_table.specs.Rule.{IsLawfulLocal};
-ghost use Rattle.cx_table.specs.Running.{IsSeatOf, life_at};
+ghost use Rattle.cx_table.specs.Running.{IsSeatOf, instance_at};
 ghost use Rattle.cx_table.specs.Seats.{IsAtLimit, stepped};
 ghost use Rattle.cx_table.specs.Told.{Told};
 
@@ -19,12 +19,12 @@ impl<O: Object> Shared<O> {
     /// Stores a word into a cell of the caller, which has to be idle.
     pub fn write_cell(&self, seat: &mut CallerSeat, j: u64, i: u64, v: u64) -> Result<(), Halt>
         requires seat { IsSeatOf self.now seat.old }
-        requires guard { Guard (life_at self.now O.step O.only_reads) (WriteCell j i v) seat.old.known.local }
+        requires guard { Guard (instance_at self.now O.step O.only_reads) (WriteCell j i v) seat.old.known.local }
         ensures halts { IsErr result ↔ IsAtLimit seat.old.known.local }
         ensures halted { OnErr result (seat.new ≡ seat.old) }
-        ensures made { OnOk result (seat.new ≡ stepped (life_at self.now O.step O.only_reads) (WriteCell j i v) seat.old 0) }
-        ensures lawful { OnOk result (IsLawfulLocal (life_at self.now O.step O.only_reads) seat.old.known.local) }
-        ensures lawful_after { OnOk result (IsLawfulLocal (life_at self.now O.step O.only_reads) seat.new.known.local) }
+        ensures made { OnOk result (seat.new ≡ stepped (instance_at self.now O.step O.only_reads) (WriteCell j i v) seat.old 0) }
+        ensures lawful { OnOk result (IsLawfulLocal (instance_at self.now O.step O.only_reads) seat.old.known.local) }
+        ensures lawful_after { OnOk result (IsLawfulLocal (instance_at self.now O.step O.only_reads) seat.new.known.local) }
         ensures seat { IsSeatOf self.now seat.new }
     {
         seat.mirror.check()?;
@@ -40,13 +40,13 @@ impl<O: Object> Shared<O> {
     /// from the word seen to the link code. It gives the word found, and won where that is the word seen.
     pub fn link(&self, seat: &mut CallerSeat, j: u64) -> Result<u64, Halt>
         requires seat { IsSeatOf self.now seat.old }
-        requires guard { Guard (life_at self.now O.step O.only_reads) (Link j) seat.old.known.local }
+        requires guard { Guard (instance_at self.now O.step O.only_reads) (Link j) seat.old.known.local }
         ensures halts { IsErr result ↔ IsAtLimit seat.old.known.local }
         ensures halted { OnErr result (seat.new ≡ seat.old) }
-        ensures made { IfOk result (λ found. seat.new ≡ stepped (life_at self.now O.step O.only_reads) (Link j) seat.old found) }
-        ensures lawful { OnOk result (IsLawfulLocal (life_at self.now O.step O.only_reads) seat.old.known.local) }
-        ensures lawful_after { OnOk result (IsLawfulLocal (life_at self.now O.step O.only_reads) seat.new.known.local) }
-        ensures told { IfOk result (λ found. Told (life_at self.now O.step O.only_reads) (Link j) seat.old.known.local found) }
+        ensures made { IfOk result (λ found. seat.new ≡ stepped (instance_at self.now O.step O.only_reads) (Link j) seat.old found) }
+        ensures lawful { OnOk result (IsLawfulLocal (instance_at self.now O.step O.only_reads) seat.old.known.local) }
+        ensures lawful_after { OnOk result (IsLawfulLocal (instance_at self.now O.step O.only_reads) seat.new.known.local) }
+        ensures told { IfOk result (λ found. Told (instance_at self.now O.step O.only_reads) (Link j) seat.old.known.local found) }
         ensures seat { IsSeatOf self.now seat.new }
     {
         seat.mirror.check()?;
@@ -64,13 +64,13 @@ impl<O: Object> Shared<O> {
     /// Loads the word of a link slot.
     pub fn look(&self, seat: &mut CallerSeat, s: u64) -> Result<u64, Halt>
         requires seat { IsSeatOf self.now seat.old }
-        requires guard { Guard (life_at self.now O.step O.only_reads) (Look s) seat.old.known.local }
+        requires guard { Guard (instance_at self.now O.step O.only_reads) (Look s) seat.old.known.local }
         ensures halts { IsErr result ↔ IsAtLimit seat.old.known.local }
         ensures halted { OnErr result (seat.new ≡ seat.old) }
-        ensures made { IfOk result (λ found. seat.new ≡ stepped (life_at self.now O.step O.only_reads) (Look s) seat.old found) }
-        ensures lawful { OnOk result (IsLawfulLocal (life_at self.now O.step O.only_reads) seat.old.known.local) }
-        ensures lawful_after { OnOk result (IsLawfulLocal (life_at self.now O.step O.only_reads) seat.new.known.local) }
-        ensures told { IfOk result (λ found. Told (life_at self.now O.step O.only_reads) (Look s) seat.old.known.local found) }
+        ensures made { IfOk result (λ found. seat.new ≡ stepped (instance_at self.now O.step O.only_reads) (Look s) seat.old found) }
+        ensures lawful { OnOk result (IsLawfulLocal (instance_at self.now O.step O.only_reads) seat.old.known.local) }
+        ensures lawful_after { OnOk result (IsLawfulLocal (instance_at self.now O.step O.only_reads) seat.new.known.local) }
+        ensures told { IfOk result (λ found. Told (instance_at self.now O.step O.only_reads) (Look s) seat.old.known.local found) }
         ensures seat { IsSeatOf self.now seat.new }
     {
         seat.mirror.check()?;
@@ -84,12 +84,12 @@ impl<O: Object> Shared<O> {
     /// Loads a word of the cell that the slot last looked at shows with a ticket, and notes it with the ticket.
     pub fn read_cell(&self, seat: &mut CallerSeat, t: u64, k: u64, i: u64) -> Result<u64, Halt>
         requires seat { IsSeatOf self.now seat.old }
-        requires guard { Guard (life_at self.now O.step O.only_reads) (ReadCell t k i) seat.old.known.local }
+        requires guard { Guard (instance_at self.now O.step O.only_reads) (ReadCell t k i) seat.old.known.local }
         ensures halts { IsErr result ↔ IsAtLimit seat.old.known.local }
         ensures halted { OnErr result (seat.new ≡ seat.old) }
-        ensures made { IfOk result (λ found. seat.new ≡ stepped (life_at self.now O.step O.only_reads) (ReadCell t k i) seat.old found) }
-        ensures lawful { OnOk result (IsLawfulLocal (life_at self.now O.step O.only_reads) seat.old.known.local) }
-        ensures lawful_after { OnOk result (IsLawfulLocal (life_at self.now O.step O.only_reads) seat.new.known.local) }
+        ensures made { IfOk result (λ found. seat.new ≡ stepped (instance_at self.now O.step O.only_reads) (ReadCell t k i) seat.old found) }
+        ensures lawful { OnOk result (IsLawfulLocal (instance_at self.now O.step O.only_reads) seat.old.known.local) }
+        ensures lawful_after { OnOk result (IsLawfulLocal (instance_at self.now O.step O.only_reads) seat.new.known.local) }
         ensures seat { IsSeatOf self.now seat.new }
     {
         seat.mirror.check()?;
@@ -105,9 +105,9 @@ impl<O: Object> Shared<O> {
         requires seat { IsSeatOf self.now seat.old }
         ensures halts { IsErr result ↔ IsAtLimit seat.old.known.local }
         ensures halted { OnErr result (seat.new ≡ seat.old) }
-        ensures made { IfOk result (λ found. seat.new ≡ stepped (life_at self.now O.step O.only_reads) LoadFree seat.old found) }
-        ensures lawful { OnOk result (IsLawfulLocal (life_at self.now O.step O.only_reads) seat.old.known.local) }
-        ensures lawful_after { OnOk result (IsLawfulLocal (life_at self.now O.step O.only_reads) seat.new.known.local) }
+        ensures made { IfOk result (λ found. seat.new ≡ stepped (instance_at self.now O.step O.only_reads) LoadFree seat.old found) }
+        ensures lawful { OnOk result (IsLawfulLocal (instance_at self.now O.step O.only_reads) seat.old.known.local) }
+        ensures lawful_after { OnOk result (IsLawfulLocal (instance_at self.now O.step O.only_reads) seat.new.known.local) }
         ensures seat { IsSeatOf self.now seat.new }
     {
         let _ = &self.table;

@@ -4,30 +4,30 @@ use Rattle.std.proofs.lemmas.List.{append_assoc, length-append}
 use Rattle.cx_core.specs.declared.kinds.Kind.TheVariants.{ReadCell}
 use Rattle.cx_core.specs.declared.local.Local.{Local}
 use Rattle.cx_core.specs.Events.{one_more}
-use Rattle.cx_core.specs.Layout.{none}
+use Rattle.cx_core.specs.Layout.{max_word}
 use borrow.Author.Count.{below_more}
-use Rattle.cx_core.specs.State.{Life}
+use Rattle.cx_core.specs.State.{Instance}
 use Rattle.cx_table.specs.declared.rule.Noted.{Noted}
 use Rattle.cx_table.specs.Seats.{IsAtLimit, Seated, stepped}
 use Rattle.mutation_queue.specs.Entries.{EndsAfter, HaltsAmong, HaltsReading, Looked, ReadsEntry, notes_of, steps_after, with_look, with_read}
 
 -- ---- steps
 
-reached : (n s : ℕ) → s + n < none → steps_after n s ≡ s + n
+reached : (n s : ℕ) → s + n < max_word → steps_after n s ≡ s + n
 reached zero s h = omega arith
 reached (suc n) s h = ap one_more (reached n s (omega arith)) ∙ omega arith
 
-ended : (n s limit : ℕ) → steps_after n s ≡ limit → limit < none → s + n ≡ limit
+ended : (n s limit : ℕ) → steps_after n s ≡ limit → limit < max_word → s + n ≡ limit
 ended zero s limit e h = omega (arith, e)
 ended (suc n) s limit e h =
     let before : steps_after n s + 1 ≡ limit = omega (arith, e) in
     omega (arith, ended n s (steps_after n s) refl (omega arith))
 
 -- a limit that is come to is one that so many further steps come to
-pub ends : (n : ℕ) (l : Local) → (steps_after n l.steps ≡ l.limit) × (l.limit < none) → EndsAfter n l
+pub ends : (n : ℕ) (l : Local) → (steps_after n l.steps ≡ l.limit) × (l.limit < max_word) → EndsAfter n l
 ends n l at = (ended n l.steps l.limit at.0 at.1, at.1)
 
-pub at_end : (n : ℕ) (l : Local) → EndsAfter n l → (steps_after n l.steps ≡ l.limit) × (l.limit < none)
+pub at_end : (n : ℕ) (l : Local) → EndsAfter n l → (steps_after n l.steps ≡ l.limit) × (l.limit < max_word)
 at_end n l e = (let h = e.1 in (reached n l.steps (omega (arith, e.0)) ∙ e.0, e.1))
 
 -- ---- notes
@@ -50,14 +50,14 @@ pub none_read : (caller ticket : ℕ) (s : Seated) → s ≡ with_read caller ti
 none_read caller ticket s = ap (with_steps s s.known.local.steps) (sym (append-nil s.known.noted))
 
 -- one word more was read
-pub read_one : (life : Life) (ticket cell : ℕ) (ws : List ℕ) (v i : ℕ) (s now after : Seated) → now ≡ with_read (cell / 16) ticket ws s → i ≡ length ws →
-    after ≡ stepped life (ReadCell ticket cell i) now v → after ≡ with_read (cell / 16) ticket (ws ++ v ∷ []) s
-read_one life ticket cell ws v i s now after is at step =
+pub read_one : (instance : Instance) (ticket cell : ℕ) (ws : List ℕ) (v i : ℕ) (s now after : Seated) → now ≡ with_read (cell / 16) ticket ws s → i ≡ length ws →
+    after ≡ stepped instance (ReadCell ticket cell i) now v → after ≡ with_read (cell / 16) ticket (ws ++ v ∷ []) s
+read_one instance ticket cell ws v i s now after is at step =
     let long : length (ws ++ v ∷ []) ≡ suc (length ws) = omega (arith, length-append ws (v ∷ [])) in
     let c = cell / 16 in
     let from : i ≡ 0 + length ws = omega (arith, at) in
     step
-    ∙ ap (λ x. stepped life (ReadCell ticket cell i) x v) is
+    ∙ ap (λ x. stepped instance (ReadCell ticket cell i) x v) is
     ∙ ap (λ k. with_steps s (one_more (steps_after (length ws) s.known.local.steps)) ((s.known.noted ++ notes_of c ticket 0 ws) ++ note c ticket k v ∷ [])) from
     ∙ ap (with_steps s (one_more (steps_after (length ws) s.known.local.steps))) (append_assoc s.known.noted (notes_of c ticket 0 ws) (note c ticket (0 + length ws) v ∷ []) ∙ ap (λ ns. s.known.noted ++ ns) (sym (notes_more c ticket 0 ws v)))
     ∙ ap (λ k. with_steps s k (s.known.noted ++ notes_of c ticket 0 (ws ++ v ∷ []))) (sym (ap (λ k. steps_after k s.known.local.steps) long))

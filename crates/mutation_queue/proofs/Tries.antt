@@ -10,7 +10,7 @@ use Rattle.cx_core.specs.declared.kinds.Kind.TheVariants.{Link, Look}
 use Rattle.cx_core.specs.declared.local.Local.{Local}
 use Rattle.cx_core.specs.Events.{Guard, IsIdle, cell_of, entry_in, linked, lost, next, next_number, raised_front, seen_word}
 use Rattle.cx_core.specs.Layout.{cell_count}
-use Rattle.cx_core.specs.State.{Life}
+use Rattle.cx_core.specs.State.{Instance}
 use Rattle.cx_table.specs.declared.rule.Noted.{Noted}
 use Rattle.cx_core.specs.Region.{slot_number}
 use Rattle.cx_table.specs.Running.{IsSeatOf, Running}
@@ -41,18 +41,18 @@ round_before : (t q : ℕ) → q ≤ t → (t - q) % q ≡ t % q
 round_before t q within = sym (add-mod_right (t - q) q) ∙ ap (λ n. n % q) (let e : t - q + q ≡ t = omega arith in e)
 
 -- a look at the front's slot
-module _ (life : Life) (l : Local) (found : ℕ) (some : 1 ≤ life.callers) (told : LookTold life (l.front % cell_count life.callers) l found) where
-  -- the ticket a round before, where it is one of this life, stands in the slot
-  before_stands : life.base.place + cell_count life.callers ≤ l.front → (0 < found) × (link_ticket_of life.callers found + cell_count life.callers ≡ l.front)
+module _ (instance : Instance) (l : Local) (found : ℕ) (some : 1 ≤ instance.callers) (told : LookTold instance (l.front % cell_count instance.callers) l found) where
+  -- the ticket a round before, where it is one of this table, stands in the slot
+  before_stands : instance.base.place + cell_count instance.callers ≤ l.front → (0 < found) × (link_ticket_of instance.callers found + cell_count instance.callers ≡ l.front)
   before_stands within =
-      let there = told.live (l.front - cell_count life.callers) (omega arith) (omega arith) (round_before l.front (cell_count life.callers) (omega arith)) in
+      let there = told.live (l.front - cell_count instance.callers) (omega arith) (omega arith) (round_before l.front (cell_count instance.callers) (omega arith)) in
       (there.0, (let e = there.1 in omega arith))
 
-  module _ (open_ : 0 < found → link_ticket_of life.callers found < l.front) where
-    -- the slot was never used in this life, or has the ticket a round before
-    pub opens : ((found ≡ 0) × (l.front < life.base.place + cell_count life.callers)) ⊎ ((0 < found) × (link_ticket_of life.callers found + cell_count life.callers ≡ l.front))
+  module _ (open_ : 0 < found → link_ticket_of instance.callers found < l.front) where
+    -- the slot was never used in this table, or has the ticket a round before
+    pub opens : ((found ≡ 0) × (l.front < instance.base.place + cell_count instance.callers)) ⊎ ((0 < found) × (link_ticket_of instance.callers found + cell_count instance.callers ≡ l.front))
     opens =
-        elim (cases_lt l.front (life.base.place + cell_count life.callers)) [
+        elim (cases_lt l.front (instance.base.place + cell_count instance.callers)) [
           | inl near ↦ elim (cases_eq found 0) [
             | inl zero ↦ inl (zero, near)
             | inr ne ↦ (
@@ -60,96 +60,96 @@ module _ (life : Life) (l : Local) (found : ℕ) (some : 1 ≤ life.callers) (to
                 let of = told.names used in
                 let from = of.from in
                 let below = open_ used in
-                absurd (same_slot (link_ticket_of life.callers found) l.front (cell_count life.callers) of.slot (omega arith) below))
+                absurd (same_slot (link_ticket_of instance.callers found) l.front (cell_count instance.callers) of.slot (omega arith) below))
           ]
           | inr far ↦ inr (before_stands far)
         ]
 
-    pub front_stays : raised_front life.callers l.front found ≡ l.front
+    pub front_stays : raised_front instance.callers l.front found ≡ l.front
     front_stays =
         elim (cases_eq found 0) [
-          | inl e ↦ raised_zero life.callers l.front found e
-          | inr ne ↦ (let used : 0 < found = omega arith in let below = open_ used in raised_some life.callers l.front found used ∙ omega arith)
+          | inl e ↦ raised_zero instance.callers l.front found e
+          | inr ne ↦ (let used : 0 < found = omega arith in let below = open_ used in raised_some instance.callers l.front found used ∙ omega arith)
         ]
 
     -- the entry may be tried then
-    pub may_link : (cell : ℕ) → cell < 16 → IsIdle l cell → slice_index (cell_of l cell).words 0 ≡ next_number life.base l → l.front < 2 ^ 40 → length l.answered ≡ length l.own →
-        Guard life (Link cell) (next life (Look (l.front % cell_count life.callers)) l found)
+    pub may_link : (cell : ℕ) → cell < 16 → IsIdle l cell → slice_index (cell_of l cell).words 0 ≡ next_number instance.base l → l.front < 2 ^ 40 → length l.answered ≡ length l.own →
+        Guard instance (Link cell) (next instance (Look (l.front % cell_count instance.callers)) l found)
     may_link cell small idle announced below answered =
         let here = front_stays in
-        let shows = λ (f : ℕ). ((l.front % cell_count life.callers ≡ f % cell_count life.callers) × ((found ≡ 0) ⊎ ((0 < found) × (link_ticket_of life.callers found + cell_count life.callers ≡ f)))) in
+        let shows = λ (f : ℕ). ((l.front % cell_count instance.callers ≡ f % cell_count instance.callers) × ((found ≡ 0) ⊎ ((0 < found) × (link_ticket_of instance.callers found + cell_count instance.callers ≡ f)))) in
         let now : shows l.front = (refl, elim opens [ inl a ↦ inl a.0 | inr b ↦ inr b ]) in
         (small, idle, announced, omega arith, subst shows (sym here) now, answered)
 
     -- a link that was lost found a ticket from the front on
-    pub past_front : (found2 : ℕ) → LinkTold life (next life (Look (l.front % cell_count life.callers)) l found) found2 → found2 ≢ found → (0 < found2) × (l.front ≤ link_ticket_of life.callers found2)
+    pub past_front : (found2 : ℕ) → LinkTold instance (next instance (Look (l.front % cell_count instance.callers)) l found) found2 → found2 ≢ found → (0 < found2) × (l.front ≤ link_ticket_of instance.callers found2)
     past_front found2 lost ne =
-        let t = link_ticket_of life.callers found2 in
+        let t = link_ticket_of instance.callers found2 in
         let some2 : 0 < found2 = elim opens [
           | inl a ↦ (let zero = a.0 in omega arith)
           | inr b ↦ (lost.later b.0 (told.names b.0).from ne).0
         ] in
         let of = lost.names some2 in
         let from = of.from in
-        let mods : t % cell_count life.callers ≡ l.front % cell_count life.callers = of.slot ∙ ap (λ f. f % cell_count life.callers) front_stays in
-        let near : l.front < t + cell_count life.callers = elim opens [
+        let mods : t % cell_count instance.callers ≡ l.front % cell_count instance.callers = of.slot ∙ ap (λ f. f % cell_count instance.callers) front_stays in
+        let near : l.front < t + cell_count instance.callers = elim opens [
           | inl a ↦ (let b = a.1 in omega arith)
           | inr b ↦ (let p = (lost.later b.0 (told.names b.0).from ne).1 in let e = b.1 in omega arith)
         ] in
-        (some2, elim (cases_lt t l.front) [ inl below ↦ absurd (same_slot t l.front (cell_count life.callers) mods near below) | inr from_on ↦ from_on ])
+        (some2, elim (cases_lt t l.front) [ inl below ↦ absurd (same_slot t l.front (cell_count instance.callers) mods near below) | inr from_on ↦ from_on ])
 
 -- the slot of the front was taken
-pub taken : (life : Life) (s : Seated) (found : ℕ) → let slot = s.known.local.front % cell_count life.callers in root_place_of life.callers s.known.local.seen_cur ≤ s.known.local.front → 0 < found → s.known.local.front ≤ link_ticket_of life.callers found →
-    LinksPast life.callers s (stepped life (Look slot) s found)
-taken life s found cur used from =
+pub taken : (instance : Instance) (s : Seated) (found : ℕ) → let slot = s.known.local.front % cell_count instance.callers in root_place_of instance.callers s.known.local.seen_cur ≤ s.known.local.front → 0 < found → s.known.local.front ≤ link_ticket_of instance.callers found →
+    LinksPast instance.callers s (stepped instance (Look slot) s found)
+taken instance s found cur used from =
     let l = s.known.local in
     record {
       none = record {
         same = ap (λ n. record { table = s.table; before = s.before; known = record { local = record l { front = 0; seen_slot = None; steps = 0 }; noted = n } }) (append-nil s.known.noted);
-        front = raised_least life.callers l.front found;
+        front = raised_least instance.callers l.front found;
       };
-      front = omega (arith, raised_some life.callers l.front found used);
+      front = omega (arith, raised_some instance.callers l.front found used);
       cur = cur;
     }
 
 -- what a link makes of the local state
-link_lost : (life : Life) (l : Local) (j found : ℕ) → found ≢ seen_word l.seen_slot → next life (Link j) l found ≡ lost life.callers l found
-link_lost life l j found ne = ap (λ b. cond b (linked l j) (lost life.callers l found)) (ne_eqb found (seen_word l.seen_slot) ne)
+link_lost : (instance : Instance) (l : Local) (j found : ℕ) → found ≢ seen_word l.seen_slot → next instance (Link j) l found ≡ lost instance.callers l found
+link_lost instance l j found ne = ap (λ b. cond b (linked l j) (lost instance.callers l found)) (ne_eqb found (seen_word l.seen_slot) ne)
 
-link_won : (life : Life) (l : Local) (j found : ℕ) → found ≡ seen_word l.seen_slot → next life (Link j) l found ≡ linked l j
-link_won life l j found e = ap (λ b. cond b (linked l j) (lost life.callers l found)) (eq-eqb found (seen_word l.seen_slot) e)
+link_won : (instance : Instance) (l : Local) (j found : ℕ) → found ≡ seen_word l.seen_slot → next instance (Link j) l found ≡ linked l j
+link_won instance l j found e = ap (λ b. cond b (linked l j) (lost instance.callers l found)) (eq-eqb found (seen_word l.seen_slot) e)
 
 -- a seat with another local state and other notes
 abbrev seat_with : Seated → Local → List Noted → Seated
 seat_with s l notes = record { table = s.table; before = s.before; known = record { local = l; noted = notes } }
 
 -- the link was lost
-pub lost_to : (life : Life) (s : Seated) (found found2 cell : ℕ) → let l = s.known.local in let slot = l.front % cell_count life.callers in let s1 = stepped life (Look slot) s found in
-    root_place_of life.callers l.seen_cur ≤ l.front → raised_front life.callers l.front found ≡ l.front → found2 ≢ found → 0 < found2 → l.front ≤ link_ticket_of life.callers found2 →
-    LinksPast life.callers s (stepped life (Link cell) s1 found2)
-lost_to life s found found2 cell cur stays ne used from =
+pub lost_to : (instance : Instance) (s : Seated) (found found2 cell : ℕ) → let l = s.known.local in let slot = l.front % cell_count instance.callers in let s1 = stepped instance (Look slot) s found in
+    root_place_of instance.callers l.seen_cur ≤ l.front → raised_front instance.callers l.front found ≡ l.front → found2 ≢ found → 0 < found2 → l.front ≤ link_ticket_of instance.callers found2 →
+    LinksPast instance.callers s (stepped instance (Link cell) s1 found2)
+lost_to instance s found found2 cell cur stays ne used from =
     let l = s.known.local in
-    let s1 = stepped life (Look (l.front % cell_count life.callers)) s found in
+    let s1 = stepped instance (Look (l.front % cell_count instance.callers)) s found in
     let l1 = s1.known.local in
-    let is : stepped life (Link cell) s1 found2 ≡ seat_with s1 (lost life.callers l1 found2) s.known.noted =
-    ap (λ (x : Local). seat_with s1 x ((s.known.noted ++ []) ++ [])) (link_lost life l1 cell found2 ne)
-    ∙ ap (λ n. seat_with s1 (lost life.callers l1 found2) n) (append-nil (s.known.noted ++ []) ∙ append-nil s.known.noted) in
-    let rises : raised_front life.callers l1.front found2 ≡ max l1.front (link_ticket_of life.callers found2 + 1) = raised_some life.callers l1.front found2 used in
-    subst (LinksPast life.callers s) (sym is) (record {
+    let is : stepped instance (Link cell) s1 found2 ≡ seat_with s1 (lost instance.callers l1 found2) s.known.noted =
+    ap (λ (x : Local). seat_with s1 x ((s.known.noted ++ []) ++ [])) (link_lost instance l1 cell found2 ne)
+    ∙ ap (λ n. seat_with s1 (lost instance.callers l1 found2) n) (append-nil (s.known.noted ++ []) ∙ append-nil s.known.noted) in
+    let rises : raised_front instance.callers l1.front found2 ≡ max l1.front (link_ticket_of instance.callers found2 + 1) = raised_some instance.callers l1.front found2 used in
+    subst (LinksPast instance.callers s) (sym is) (record {
       none = record { same = refl; front = omega (arith, rises) };
       front = omega (arith, rises);
       cur = cur;
     })
 
 -- the link was won
-pub won_at : (life : Life) (s : Seated) (found found2 cell : ℕ) → let l = s.known.local in let slot = l.front % cell_count life.callers in let s1 = stepped life (Look slot) s found in
-    raised_front life.callers l.front found ≡ l.front → found2 ≡ found → LinksAt cell l.front s (stepped life (Link cell) s1 found2)
-won_at life s found found2 cell stays e =
+pub won_at : (instance : Instance) (s : Seated) (found found2 cell : ℕ) → let l = s.known.local in let slot = l.front % cell_count instance.callers in let s1 = stepped instance (Look slot) s found in
+    raised_front instance.callers l.front found ≡ l.front → found2 ≡ found → LinksAt cell l.front s (stepped instance (Link cell) s1 found2)
+won_at instance s found found2 cell stays e =
     let l = s.known.local in
-    let s1 = stepped life (Look (l.front % cell_count life.callers)) s found in
+    let s1 = stepped instance (Look (l.front % cell_count instance.callers)) s found in
     let l1 = s1.known.local in
-    let is : stepped life (Link cell) s1 found2 ≡ seat_with s1 (linked l1 cell) s.known.noted =
-    ap (λ (x : Local). seat_with s1 x ((s.known.noted ++ []) ++ [])) (link_won life l1 cell found2 e)
+    let is : stepped instance (Link cell) s1 found2 ≡ seat_with s1 (linked l1 cell) s.known.noted =
+    ap (λ (x : Local). seat_with s1 x ((s.known.noted ++ []) ++ [])) (link_won instance l1 cell found2 e)
     ∙ ap (λ n. seat_with s1 (linked l1 cell) n) (append-nil (s.known.noted ++ []) ∙ append-nil s.known.noted) in
     subst (LinksAt cell l.front s) (sym is) (record {
       same = refl;

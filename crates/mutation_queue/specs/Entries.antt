@@ -3,7 +3,7 @@ use Rattle.std.specs.Prelude.{◌≡◌, ◌+◌, ◌<◌, ◌⊎◌, ℕ, zero,
 use Rattle.cx_core.specs.declared.local.Local.{Local}
 use Rattle.cx_core.specs.declared.local.SeenSlot.{SeenSlot}
 use Rattle.cx_core.specs.Events.{ShowsTicket, one_more}
-use Rattle.cx_core.specs.Layout.{none}
+use Rattle.cx_core.specs.Layout.{max_word}
 use Rattle.cx_table.specs.declared.rule.Noted.{Noted}
 use Rattle.cx_table.specs.Seats.{Seated}
 
@@ -38,7 +38,7 @@ with_look seen s = record {
 
 -- the limit is come to by so many further steps; 2^64 - 1 is no limit
 abbrev pub EndsAfter : ℕ → Local → Type 0
-EndsAfter n l = (l.steps + n ≡ l.limit) × (l.limit < none)
+EndsAfter n l = (l.steps + n ≡ l.limit) × (l.limit < max_word)
 
 -- one look at the ticket's slot shows the ticket in a cell
 pub record Looked (callers ticket cell : ℕ) (before after : Seated) : Type 0 where

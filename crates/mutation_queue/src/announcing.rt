@@ -2,7 +2,7 @@
 
 ghost use Rattle.std.specs.Prelude.{◌≡◌, ◌+◌, ◌<◌, ◌∷◌, ℕ, OnErr, OnOk};
 ghost use Rattle.cx_core.specs.Events.{IsIdle, next_number};
-ghost use Rattle.cx_table.specs.Running.{IsSeatOf, life_at};
+ghost use Rattle.cx_table.specs.Running.{IsSeatOf, instance_at};
 ghost use Rattle.mutation_queue.specs.Cells.{Announces, HaltsIn, IsAnnounced};
 
 use cx_base::{Halt, Object};
@@ -18,11 +18,11 @@ pub fn announce<O: Object>(
 ) -> Result<(), Halt>
     requires seat { IsSeatOf shared.now seat.old }
     requires cell { (cell < 16) × IsIdle seat.old.known.local cell }
-    ensures announced { OnOk result (Announces (life_at shared.now O.step O.only_reads) cell (next_number shared.now.base seat.old.known.local ∷ op.now) seat.old seat.new) }
+    ensures announced { OnOk result (Announces (instance_at shared.now O.step O.only_reads) cell (next_number shared.now.base seat.old.known.local ∷ op.now) seat.old seat.new) }
     ensures ready { OnOk result (IsAnnounced shared.now.base cell seat.new) }
     ensures seat { IsSeatOf shared.now seat.new }
     ensures number { seat.new.known.local.number ≡ seat.old.known.local.number }
-    ensures halted { OnErr result (HaltsIn (life_at shared.now O.step O.only_reads) cell (next_number shared.now.base seat.old.known.local ∷ op.now) seat.old seat.new) }
+    ensures halted { OnErr result (HaltsIn (instance_at shared.now O.step O.only_reads) cell (next_number shared.now.base seat.old.known.local ∷ op.now) seat.old seat.new) }
 {
     let j = u64::from(cell);
     let number = seat.next_number();

@@ -2,4 +2,4 @@ use Rattle.core_queue.proofs.Keeps.{event_kept}
 use Rattle.core_queue.proofs.kinds.event_keeps.Goals as goal
 
 pub returns : goal.returns
-returns c = λ life before after event law made. event_kept life event before after law made
+returns c = λ instance before after event law made. event_kept instance event before after law made

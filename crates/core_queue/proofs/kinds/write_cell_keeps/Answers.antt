@@ -2,4 +2,4 @@ use Rattle.core_queue.proofs.Keeps.{event_kept}
 use Rattle.core_queue.proofs.kinds.write_cell_keeps.Goals as goal
 
 pub returns : goal.returns
-returns c = λ life before after caller j i v law made. event_kept life _ before after law made
+returns c = λ instance before after caller j i v law made. event_kept instance _ before after law made

@@ -1,7 +1,7 @@
 use Rattle.std.proofs.Common.{◌<◌, ◌∙◌, length, refl, ap, arith}
 use Rattle.std.proofs.lemmas.Option.{slice_get_read}
 use Rattle.cx_core.specs.Events.{Did}
-use Rattle.cx_core.specs.State.{EachLife, Life}
+use Rattle.cx_core.specs.State.{EachInstance, Instance}
 use Rattle.cx_core.proofs.EventLemmas.{applied, IfOk-then, step-number, still_whole}
 use Rattle.cx_core.proofs.ListLemmas.{over_all}
 use Rattle.cx_core.proofs.events.apply.Goals as goal
@@ -25,10 +25,10 @@ returns-clause-ok g c =
     let long = c.step.auto.words ∙ c.deref_mut.ensures.len in
     let within : event.caller < length s.locals.items = omega (arith, s.locals.ok) in
     let at = slice_get_read s.locals.items (length s.locals.items) event.caller l refl within c.index_mut-local.ensures.value in
-    let life : Life = record { callers = s.callers; base = s.base; step = g.O.Object.step c.args._object.now; reads = g.O.Object.only_reads c.args._object.now } in
+    let instance : Instance = record { callers = s.callers; base = s.base; step = g.O.Object.step c.args._object.now; reads = g.O.Object.only_reads c.args._object.now } in
     let did = IfOk-then c.step.result
-    (λ made. EachLife s.callers s.base (λ life. Did made life event.kind l c.deref_mut.result.now c.step.new.local c.step.new.words))
-    (λ made. Did made life event.kind l c.deref_mut.result.now c.step.new.local c.step.new.words)
-    c.step.ensures.ok (λ made d. d life.step life.reads) in
+    (λ made. EachInstance s.callers s.base (λ instance. Did made instance event.kind l c.deref_mut.result.now c.step.new.local c.step.new.words))
+    (λ made. Did made instance event.kind l c.deref_mut.result.now c.step.new.local c.step.new.words)
+    c.step.ensures.ok (λ made d. d instance.step instance.reads) in
     rw (← c.state.view_is, over_all s.words.len c.step.new.words s.words.items long, ← c.deref_mut.ensures.value)
-    (applied c.step.result life event c.deref_mut.result.now c.step.new.words s.locals.items l c.step.new.local at did)
+    (applied c.step.result instance event c.deref_mut.result.now c.step.new.words s.locals.items l c.step.new.local at did)

@@ -1,22 +1,22 @@
 use Rattle.std.proofs.Common.{◌≡◌, ◌+◌, ◌<◌, ℕ, List, [], ◌∷◌, ◌++◌, length, take, slice_index, slice_set, refl, sym, ap, ◌∙◌, arith}
 use Rattle.std.proofs.lemmas.List.{take_more, length-take-le}
 use Rattle.cx_base.proofs.MemoryLemmas.{Becomes-same, Becomes-then, Becomes-weaker}
-use Rattle.cx_core.specs.Region.{put}
-use Rattle.cx_core.proofs.StepLemmas.{put_more}
+use Rattle.cx_core.specs.Region.{overwritten}
+use Rattle.cx_core.proofs.StepLemmas.{overwritten_more}
 use Rattle.cx_core.proofs.step.put_words.Goals as goal
 
 -- no word put
-none : (at : ℕ) (ws : List ℕ) → ws ≡ put at [] ws
-unfolding put
+none : (at : ℕ) (ws : List ℕ) → ws ≡ overwritten at [] ws
+unfolding overwritten
 none at ws = refl
 
 -- the next word put
-next : (words : List ℕ) (at i v : ℕ) (before mid now : List ℕ) → i < length words → v ≡ slice_index words i → mid ≡ put at (take i words) before → now ≡ slice_set mid (at + i) v → now ≡ put at (take (i + 1) words) before
+next : (words : List ℕ) (at i v : ℕ) (before mid now : List ℕ) → i < length words → v ≡ slice_index words i → mid ≡ overwritten at (take i words) before → now ≡ slice_set mid (at + i) v → now ≡ overwritten at (take (i + 1) words) before
 next words at i v before mid now below word m n =
     n
     ∙ ap (λ ws. slice_set ws (at + i) v) m
-    ∙ sym (put_more (take i words) before at i v (length-take-le i words (omega arith)))
-    ∙ ap (λ vs. put at vs before) (ap (λ x. take i words ++ x ∷ []) word ∙ sym (take_more words i 0 below))
+    ∙ sym (overwritten_more (take i words) before at i v (length-take-le i words (omega arith)))
+    ∙ ap (λ vs. overwritten at vs before) (ap (λ x. take i words ++ x ∷ []) word ∙ sym (take_more words i 0 below))
 
 pub loop-i-init : goal.loop-i-init
 loop-i-init g c = record {

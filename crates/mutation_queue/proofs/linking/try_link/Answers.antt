@@ -3,7 +3,7 @@ use Rattle.cx_base.specs.Codes.{link_ticket_of}
 use Rattle.cx_core.specs.declared.kinds.Kind.TheVariants.{Link, Look}
 use Rattle.cx_core.specs.Events.{Guard, next}
 use Rattle.cx_core.specs.Layout.{cell_count}
-use Rattle.cx_table.specs.Running.{life_at}
+use Rattle.cx_table.specs.Running.{instance_at}
 use Rattle.cx_table.specs.Seats.{Seated, stepped}
 use Rattle.cx_table.specs.Told.{LinkTold, LookTold}
 use Rattle.mutation_queue.specs.Links.{LinksPast}
@@ -12,7 +12,7 @@ use Rattle.mutation_queue.proofs.linking.try_link.Goals as goal
 
 pub link-requires-clause-guard : goal.link-requires-clause-guard
 link-requires-clause-guard g c =
-    let life = life_at c.args.shared.now g.O.Object.step g.O.Object.only_reads in
+    let instance = instance_at c.args.shared.now g.O.Object.step g.O.Object.only_reads in
     let s = c.args.seat.now in
     let l = s.known.local in
     let callers = c.args.shared.now.callers in
@@ -20,17 +20,17 @@ link-requires-clause-guard g c =
     let slot = l.front % cell_count callers in
     let some : 1 ≤ callers = omega (arith, c.callers-callers.ensures.some, c.callers-callers.ensures.value) in
     let at = ap (λ f. f % (16 * c.from.result)) c.front-front.ensures.value ∙ ap (λ n. l.front % (16 * n)) (c.from.ensures ∙ c.callers-callers.ensures.value) in
-    let told : LookTold life slot l seen = subst (λ n. LookTold life n l seen) at c.in_ok-seen.ensures.told in
-    let looked : c.look.new.seat ≡ stepped life (Look slot) s seen = c.in_ok-seen.ensures.made ∙ ap (λ n. stepped life (Look n) s seen) at in
+    let told : LookTold instance slot l seen = subst (λ n. LookTold instance n l seen) at c.in_ok-seen.ensures.told in
+    let looked : c.look.new.seat ≡ stepped instance (Look slot) s seen = c.in_ok-seen.ensures.made ∙ ap (λ n. stepped instance (Look n) s seen) at in
     let open_ = subst (λ n. 0 < seen → link_ticket_of n seen < l.front) c.callers-callers.ensures.value
     (subst (λ f. 0 < seen → link_ticket_of c.callers-callers.result seen < f) c.front-front.ensures.value c.if-is_taken.ensures) in
-    let may = may_link life l seen some told open_ c.args.cell c.requires.cell.0 c.requires.cell.1 c.requires.announced c.requires.front c.requires.answered in
-    subst (λ (x : Seated). Guard life (Link c.from-2.result) x.known.local) (sym looked)
-    (subst (λ n. Guard life (Link n) (next life (Look slot) l seen)) (sym c.from-2.ensures) may)
+    let may = may_link instance l seen some told open_ c.args.cell c.requires.cell.0 c.requires.cell.1 c.requires.announced c.requires.front c.requires.answered in
+    subst (λ (x : Seated). Guard instance (Link c.from-2.result) x.known.local) (sym looked)
+    (subst (λ n. Guard instance (Link n) (next instance (Look slot) l seen)) (sym c.from-2.ensures) may)
 
 pub returns-clause-tried : goal.returns-clause-tried
 returns-clause-tried g c =
-    let life = life_at c.args.shared.now g.O.Object.step g.O.Object.only_reads in
+    let instance = instance_at c.args.shared.now g.O.Object.step g.O.Object.only_reads in
     let s = c.args.seat.now in
     let l = s.known.local in
     let callers = c.args.shared.now.callers in
@@ -38,13 +38,13 @@ returns-clause-tried g c =
     let slot = l.front % cell_count callers in
     let some : 1 ≤ callers = omega (arith, c.callers-callers.ensures.some, c.callers-callers.ensures.value) in
     let at = ap (λ f. f % (16 * c.from.result)) c.front-front.ensures.value ∙ ap (λ n. l.front % (16 * n)) (c.from.ensures ∙ c.callers-callers.ensures.value) in
-    let told : LookTold life slot l seen = subst (λ n. LookTold life n l seen) at c.in_ok-seen.ensures.told in
-    let looked : c.look.new.seat ≡ stepped life (Look slot) s seen = c.in_ok-seen.ensures.made ∙ ap (λ n. stepped life (Look n) s seen) at in
+    let told : LookTold instance slot l seen = subst (λ n. LookTold instance n l seen) at c.in_ok-seen.ensures.told in
+    let looked : c.look.new.seat ≡ stepped instance (Look slot) s seen = c.in_ok-seen.ensures.made ∙ ap (λ n. stepped instance (Look n) s seen) at in
     let open_ = subst (λ n. 0 < seen → link_ticket_of n seen < l.front) c.callers-callers.ensures.value
     (subst (λ f. 0 < seen → link_ticket_of c.callers-callers.result seen < f) c.front-front.ensures.value c.if-is_taken.ensures) in
     let found = c.in_ok-found.found in
     let ne : found ≢ seen = c.if-found-seen.false in
-    let linked : c.link.new.seat ≡ stepped life (Link c.args.cell) (stepped life (Look slot) s seen) found =
-    c.in_ok-found.ensures.made ∙ ap (λ (x : Seated). stepped life (Link c.from-2.result) x found) looked ∙ ap (λ n. stepped life (Link n) (stepped life (Look slot) s seen) found) c.from-2.ensures in
-    let past = past_front life l seen some told open_ found (subst (λ (x : Seated). LinkTold life x.known.local found) looked c.in_ok-found.ensures.told) ne in
-    subst (LinksPast callers s) (sym linked) (lost_to life s seen found c.args.cell c.in_ok-seen.ensures.lawful.cur (front_stays life l seen some told open_) ne past.0 past.1)
+    let linked : c.link.new.seat ≡ stepped instance (Link c.args.cell) (stepped instance (Look slot) s seen) found =
+    c.in_ok-found.ensures.made ∙ ap (λ (x : Seated). stepped instance (Link c.from-2.result) x found) looked ∙ ap (λ n. stepped instance (Link n) (stepped instance (Look slot) s seen) found) c.from-2.ensures in
+    let past = past_front instance l seen some told open_ found (subst (λ (x : Seated). LinkTold instance x.known.local found) looked c.in_ok-found.ensures.told) ne in
+    subst (LinksPast callers s) (sym linked) (lost_to instance s seen found c.args.cell c.in_ok-seen.ensures.lawful.cur (front_stays instance l seen some told open_) ne past.0 past.1)

@@ -1,7 +1,7 @@
 use Rattle.std.proofs.Common.{◌≡◌, ◌<◌, ◌/◌, ℕ, List, length, take, refl, sym, ap, ◌∙◌, arith}
 use Rattle.std.proofs.lemmas.Bool.{false≢true}
 use Rattle.std.proofs.lemmas.List.{length-set, length-take, take_all}
-use Rattle.cx_table.specs.Running.{life_at}
+use Rattle.cx_table.specs.Running.{instance_at}
 use Rattle.mutation_queue.specs.Entries.{with_read}
 use Rattle.mutation_queue.proofs.Results.{on_err}
 use Rattle.mutation_queue.proofs.EntryReads.{halts_among, none_ends, none_read, read_one, take_set}
@@ -30,14 +30,14 @@ returns-in_err-into-clause-halted g c =
 
 pub loop-i-preserved : goal.loop-i-preserved
 loop-i-preserved g c =
-    let life = life_at c.args.shared.now g.O.Object.step g.O.Object.only_reads in
+    let instance = instance_at c.args.shared.now g.O.Object.step g.O.Object.only_reads in
     let below = c.loop-i-test.true in
     let i = c.loop-i.i in
     let ws = take i c.loop-i.into in
     let v = c.in_ok-into.field-0 in
     let ok = c.in_ok-into.ensures in
     let at : i ≡ length ws = so_far c.loop-i.into i c.loop-i.invariant.long (omega arith) in record {
-      seat = read_one life c.args.ticket c.args.cell ws v i c.args.seat.now c.loop-i.seat c.read_cell.new.seat c.loop-i.invariant.seat at ok.made
+      seat = read_one instance c.args.ticket c.args.cell ws v i c.args.seat.now c.loop-i.seat c.read_cell.new.seat c.loop-i.invariant.seat at ok.made
           ∙ ap (λ (xs : List ℕ). with_read (c.args.cell / 16) c.args.ticket xs c.args.seat.now) (sym (take_set c.loop-i.into i v (omega (arith, c.loop-i.invariant.long))));
       long = length-set c.loop-i.into i v ∙ c.loop-i.invariant.long;
       within = none_ends (c.args.cell / 16) c.args.ticket ws i c.args.seat.now c.loop-i.seat c.loop-i.invariant.seat at c.loop-i.invariant.within (λ limit. false≢true (ok.halts.1 limit));

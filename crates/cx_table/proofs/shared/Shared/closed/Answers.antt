@@ -4,11 +4,11 @@ use mathlib.Core.Option.{some}
 use lib.ListN.{get_elem?}
 use Rattle.cx_core.specs.Layout.{vol_at, per_at}
 use Rattle.cx_core.specs.Region.{region_words}
-use Rattle.cx_core.specs.State.{Life}
+use Rattle.cx_core.specs.State.{Instance}
 use Rattle.cx_table.specs.Ending.{history_of, locals_known}
-use Rattle.cx_table.specs.Rule.{Held}
-use Rattle.cx_table.specs.Running.{life_at}
-use Rattle.cx_table.proofs.Closing.{leaves, same_life, same_part}
+use Rattle.cx_table.specs.Rule.{RuleHolds}
+use Rattle.cx_table.specs.Running.{instance_at}
+use Rattle.cx_table.proofs.Closing.{leaves, same_instance, same_part}
 use Rattle.cx_table.proofs.shared.Shared.closed.Goals as goal
 
 twice : (n c : ℕ) → n * (2 * c) + n * (2 * c) ≡ n * (4 * c)
@@ -43,17 +43,17 @@ returns g c = λ seats are knows.
     let running = c.self.invariant.0 in
     let me = ap (λ m. m.0) knows in
     let end = c.close_with-closed.ensures.values.2 in
-    let same = same_life g.O.Object.step g.O.Object.only_reads t inside.table.shared.key.callers inside.table.shared.key.base.value inside.table.shared.key.object.value
+    let same = same_instance g.O.Object.step g.O.Object.only_reads t inside.table.shared.key.callers inside.table.shared.key.base.value inside.table.shared.key.object.value
     (c.self.invariant.1 ∙ ap (λ s. s.callers) view) (c.self.invariant.2 ∙ ap (λ s. s.base) view) (c.self.invariant.3 ∙ ap (λ s. s.object) view) in
-    let life : Life = life_at t g.O.Object.step g.O.Object.only_reads in
-    let held : Held life end.0 = subst (λ (l : Life). Held l end.0) same end.1.0 in
+    let instance : Instance = instance_at t g.O.Object.step g.O.Object.only_reads in
+    let held : RuleHolds instance end.0 = subst (λ (l : Instance). RuleHolds l end.0) same end.1.0 in
     let callers : inside.callers ≡ t.callers = ap (λ s. s.callers) view in
     let region : 8 * (146 + inside.lines) ≡ length t.base.words = sym running.base.size.long ∙ ap (λ s. length s.base.words) view in
     let lines : length t.base.words ≡ region_words t.lines = sym region ∙ ap (λ s. region_words s.lines) view in
     let from : 4 + 10563 * inside.callers ≡ vol_at t.callers (length t.base.words) 0 0 = ap (λ k. 4 + 10563 * k) callers ∙ no_row (4 + 10563 * t.callers) (length t.base.words) in
     let half : 4 + 10563 * inside.callers + 8 * (146 + inside.lines) * (2 * inside.callers) ≡ vol_at t.callers (length t.base.words) (2 * t.callers) 0 = vol_end _ _ _ _ callers region in
     let code = c.word.result in
-    leaves t life seats _ end.0 c.args.closing.id refl refl are held (end.1.1 ∙ ap some me) (record {
+    leaves t instance seats _ end.0 c.args.closing.id refl refl are held (end.1.1 ∙ ap some me) (record {
       callers = callers;
       lines = ap (λ s. s.lines) view;
       first = ap (λ s. s.base.place) view;

@@ -1,16 +1,16 @@
 use Rattle.std.proofs.Common.{sym, subst, ap}
 use Rattle.cx_core.specs.declared.kinds.Kind.TheVariants.{Look}
 use Rattle.cx_core.specs.Events.{Guard}
-use Rattle.cx_table.specs.Running.{Running, life_at}
+use Rattle.cx_table.specs.Running.{Running, instance_at}
 use Rattle.cx_table.specs.Seats.{Seated, known_of}
 use Rattle.cx_table.proofs.MirrorLaws.{mirrored}
 use Rattle.cx_table.proofs.shared.Shared.look.Goals as goal
 
 pub invariant_of-seat : goal.invariant_of-seat
 invariant_of-seat g c =
-    let life = life_at c.args.self.now g.O.Object.step g.O.Object.only_reads in
+    let instance = instance_at c.args.self.now g.O.Object.step g.O.Object.only_reads in
     let kind = Look c.args.s in
     let l = (known_of c.seat.inside.seat.me.0).local in
-    let guard = subst (λ (s : Seated). Guard life kind s.known.local) (sym c.seat.view_is) c.requires.guard in
+    let guard = subst (λ (s : Seated). Guard instance kind s.known.local) (sym c.seat.view_is) c.requires.guard in
     let callers = ap (λ (r : Running _). r.callers) (sym c.self.view_is) in
-    mirrored life kind c.load_event-found.result _ _ _ _ _ c.seat.invariant c.load_event-found.ensures.known guard (c.look.ensures life l callers c.seat.invariant.is) c.load_event-found.ensures.lawful_after.to
+    mirrored instance kind c.load_event-found.result _ _ _ _ _ c.seat.invariant c.load_event-found.ensures.known guard (c.look.ensures instance l callers c.seat.invariant.is) c.load_event-found.ensures.lawful_after.to

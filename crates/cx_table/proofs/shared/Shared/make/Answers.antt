@@ -1,8 +1,8 @@
 use Rattle.std.proofs.Common.{◌≡◌, ◌^◌, ◌≤◌, ℕ, [], List, sym, ap, subst, ◌∙◌, arith}
 use Rattle.atomic_table.specs.Table as atomic
 use Rattle.cx_core.specs.declared.entry.Base.{Base}
-use Rattle.cx_core.specs.State.{Life, opening_words}
-use Rattle.cx_table.specs.Rule.{Held}
+use Rattle.cx_core.specs.State.{Instance, opening_words}
+use Rattle.cx_table.specs.Rule.{RuleHolds}
 use Rattle.cx_table.specs.Seats.{opening_view}
 use Rattle.cx_table.proofs.Closing.{all_seated}
 use Rattle.cx_table.proofs.Opening.{opening_held}
@@ -17,9 +17,9 @@ of_words-requires g c =
     let e : base ≡ c.args.base.now = c.of-3.ensures ∙ ap (base_of c.args.base.now.place) (c.of.ensures ∙ c.in_ok-from_slice.ensures.items ∙ c.as_slice.ensures) in
     let place : base.place ≤ 2 ^ 40 = omega (arith, ap (λ b. b.place) e, c.requires.base.place_within) in
     let words : c.words.result.now ≡ opening_words c.args.callers base = c.words.ensures.value ∙ ap (λ core. core.state.words) c.in_ok-opening.ensures ∙ ap (opening_words c.args.callers) (sym e) in
-    let life : Life = record { callers = c.args.callers; base = base; step = g.O.Object.step c.of-4.result.value; reads = g.O.Object.only_reads c.of-4.result.value } in
-    subst (λ (ws : List ℕ). Held life (atomic.opening ws [] (opening_view c.args.callers base.place c.of-2.result))) (sym words)
-    (opening_held life c.of-2.result c.requires.some c.requires.few place)
+    let instance : Instance = record { callers = c.args.callers; base = base; step = g.O.Object.step c.of-4.result.value; reads = g.O.Object.only_reads c.of-4.result.value } in
+    subst (λ (ws : List ℕ). RuleHolds instance (atomic.opening ws [] (opening_view c.args.callers base.place c.of-2.result))) (sym words)
+    (opening_held instance c.of-2.result c.requires.some c.requires.few place)
 
 pub returns-clause-all : goal.returns-clause-all
 returns-clause-all g c = all_seated _ c.args.limits.now c.seated-seats.result.items c.seated-seats.ensures
