@@ -1,0 +1,8 @@
+//! A model of persistent memory: words that are stored to, written back and fenced, and what a loss of power may leave.
+#![tactic(auto)]
+
+mod medium;
+#[cfg(test)]
+mod tests;
+
+pub use medium::{Mark, Medium, Word};
