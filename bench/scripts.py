@@ -3,8 +3,10 @@
 
 Build the program first: cd crates/cx_tool && rt run -- run < ../../examples/first.script
 
-The long documents stand behind each other at few keys, so that reading them is what takes the time. A script of the same
-size in comments shows what reading its bytes costs alone.
+The counts and the gets of one key show what a command costs alone. The long documents stand behind each other at few keys,
+so that reading them is what takes the time. A script of the same size in comments shows what reading its bytes costs alone.
+The texts of one line are as long as an input may be, and no documents, or short ones; of some the value would take many times
+the memory of its text.
 """
 import os
 import sys
@@ -32,6 +34,19 @@ def every_command():
     return b"\n".join(lines) + b"\n"
 
 
+def counts():
+    return b"\n".join(HEAD + [b"0 count"] * 100_000) + b"\n"
+
+
+def gets():
+    return b"\n".join(HEAD + [b"0 put k 1"] + [b"0 get k"] * 99_999) + b"\n"
+
+
+def one_line(front, piece, end):
+    front = b"\n".join(HEAD + [b"0 put k " + front])
+    return front + piece * ((16_777_215 - len(front) - len(end)) // len(piece)) + end + b"\n"
+
+
 def long_documents():
     lines = list(HEAD)
     size = 0
@@ -51,5 +66,11 @@ if __name__ == "__main__":
     if not os.path.exists(TOOL):
         sys.exit(__doc__)
     measure("100,000 commands of all kinds over 1,000 keys", every_command())
+    measure("100,000 counts", counts())
+    measure("100,000 commands, a put and gets of its key", gets())
     measure("16 MiB of long documents", long_documents())
     measure("as many bytes of comments", comments())
+    measure("one line, an array of numbers", one_line(b"[", b"1,", b"1]"))
+    measure("one line, an array of objects", one_line(b"[", b"{\"a\":1},", b"1]"))
+    measure("one line, an array of fractions", one_line(b"[", b"1.5,", b"1]"))
+    measure("one line, a key again and again", one_line(b"{", b"\"a\":1,", b"\"a\":1}"))

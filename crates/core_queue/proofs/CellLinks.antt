@@ -1,17 +1,16 @@
 -- The part on cells, where a caller links the entry in one of its idle cells.
-use Rattle.std.proofs.Common.{◌≡◌, ◌≢◌, ◌+◌, ◌-◌, ◌*◌, ◌%◌, ◌<◌, ◌≤◌, ◌⊎◌, inl, inr, ℕ, List, [], ◌∷◌, ◌++◌, length, set, slice_index, slice_range, refl, ap, sym, subst, ◌∙◌, arith, Some}
+use Rattle.std.proofs.Common.{◌≡◌, ◌≢◌, ◌+◌, ◌*◌, ◌%◌, ◌<◌, ◌≤◌, ◌⊎◌, inl, inr, ℕ, List, [], ◌∷◌, ◌++◌, length, set, slice_index, slice_range, refl, ap, sym, subst, ◌∙◌, arith, Some}
 use Rattle.std.proofs.lemmas.Bool.{cases_eq, cases_lt}
-use Rattle.std.proofs.lemmas.List.{get_or-set_other, get_or-set_same, take_all, take-append-le}
+use Rattle.std.proofs.lemmas.List.{get_or-set_other, get_or-set_same, take_all}
 use Rattle.std.proofs.lemmas.Nat.{mod_below}
 use Rattle.std.proofs.lemmas.Option.{same_Some, slice_get_within}
 use Rattle.std.specs.List.{slice_get}
 use Rattle.cx_base.specs.Codes.{link_code_of, link_ticket_of}
-use Rattle.cx_core.specs.declared.entry.Base.{Base}
 use Rattle.cx_core.specs.declared.entry.Entry.{Entry}
 use Rattle.cx_core.specs.declared.local.Cell.{Cell}
 use Rattle.cx_core.specs.declared.local.Local.{Local}
 use Rattle.cx_core.specs.declared.local.SeenSlot.{SeenSlot}
-use Rattle.cx_core.specs.Events.{IsIdle, ShowsOpen, cell_of, entry_in, linked, seen_word}
+use Rattle.cx_core.specs.QueueEvents.{IsIdle, ShowsOpen, cell_of, entry_in, linked, seen_word}
 use Rattle.cx_core.specs.History.{full_image}
 use Rattle.cx_core.specs.Layout.{cell_count, free_at, link_at, cell_at}
 use Rattle.cx_core.specs.Lawful.{Cells, IsLive, Links, NamesCell, Shape}
@@ -19,29 +18,22 @@ use Rattle.cx_core.specs.Lawful.LinkWord.{Never, Names}
 use Rattle.cx_core.specs.Merge.{IsLinked}
 use Rattle.cx_core.specs.State.{Instance}
 use Rattle.cx_core.specs.WriteSet.{IsWriteSet, IsWriteSetOf}
+use Rattle.cx_core.proofs.HistoryLemmas.{full_stays, linked_grows}
 use Rattle.cx_core.proofs.ListLemmas.{slice_get-set_same}
 use Rattle.core_queue.specs.Frames.{IsOff}
 use Rattle.core_queue.proofs.CellLaws.{cell_within, held_still, shown_off}
 use Rattle.core_queue.proofs.CellNames.{idle_is_dead}
 use Rattle.core_queue.proofs.CellPuts.{Puts, cells_put, keeps_put}
 use Rattle.core_queue.proofs.LinkLaws.{code_ticket, shown_open}
-use Rattle.core_queue.proofs.Locals.{linked_below, linked_still, linked_then, linked_within}
+use Rattle.core_queue.proofs.Locals.{linked_below, linked_then, linked_within}
 use Rattle.core_queue.proofs.Pigeonhole.{pigeonhole}
 use Rattle.core_queue.proofs.Shapes.{cell_there}
-
--- a longer history has the same full image at each place up to the old end
-pub full_image-push : (step : List ℕ → List ℕ → List ℕ × List ℕ) (base : Base) (history : List Entry) (more : Entry) (place : ℕ) →
-    place ≤ base.place + length history → full_image step base (history ++ more ∷ []) place ≡ full_image step base history place
-unfolding full_image
-full_image-push step base history more place within =
-    let enough : place - base.place ≤ length history = omega arith in
-    rw (take-append-le (place - base.place) history (more ∷ []) enough) refl
 
 write_set_still : (instance : Instance) (history : List Entry) (more : Entry) (ticket : ℕ) (sets : List ℕ) → ticket < instance.base.place + length history →
     IsWriteSetOf instance history ticket sets → IsWriteSetOf instance (history ++ more ∷ []) ticket sets
 write_set_still instance history more ticket sets below old =
-    let one = full_image-push instance.step instance.base history more ticket (omega arith) in
-    let two = full_image-push instance.step instance.base history more (ticket + 1) (omega arith) in
+    let one = full_stays instance history (more ∷ []) ticket (omega arith) in
+    let two = full_stays instance history (more ∷ []) (ticket + 1) (omega arith) in
     subst (λ image. IsWriteSet sets image (full_image instance.step instance.base (history ++ more ∷ []) (ticket + 1))) (sym one)
     (subst (λ image. IsWriteSet sets (full_image instance.step instance.base history ticket) image) (sym two) old)
 
@@ -205,7 +197,7 @@ cells_linked instance history words locals caller l j w =
     let shown = w.cells.shown caller l w.at j old there in
     let here = shown_off instance.callers words place code (16 * caller + j) old (cell_within instance words locals caller l j old w.shape w.at there) off shown in
     cells_put instance history (history ++ entry ∷ []) words words' locals caller l (linked l j) j old _ p w.shape w.cells
-    (linked_still instance.base.place history entry)
+    (linked_grows instance.base.place history (entry ∷ []))
     (λ ticket e is_linked live. elim (linked_then instance.base.place history entry ticket e is_linked) [
       | inl before ↦ (
           let below = linked_within instance.base.place history ticket e before in

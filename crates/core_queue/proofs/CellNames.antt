@@ -5,7 +5,7 @@ use Rattle.std.proofs.lemmas.Option.{same_Some, slice_get_within, none-some}
 use Rattle.std.specs.List.{slice_get}
 use Rattle.cx_core.specs.declared.local.Cell.{Cell}
 use Rattle.cx_core.specs.declared.local.Local.{Local}
-use Rattle.cx_core.specs.Events.{IsIdleAt}
+use Rattle.cx_core.specs.QueueEvents.{IsIdleAt}
 use Rattle.cx_core.specs.Lawful.{IsOffered, NamesCell}
 use Rattle.cx_core.proofs.ListLemmas.{slice_get-set_same, slice_get-set_other}
 

@@ -10,7 +10,7 @@ use Rattle.cx_core.specs.declared.entry.Entry.{Entry}
 use Rattle.cx_core.specs.declared.local.Cell.{Cell}
 use Rattle.cx_core.specs.declared.local.Local.{Local}
 use Rattle.cx_core.specs.declared.local.SeenSlot.{SeenSlot}
-use Rattle.cx_core.specs.Events.{IsIdle, IsIdleAt, cell_of, written}
+use Rattle.cx_core.specs.QueueEvents.{IsIdle, IsIdleAt, cell_of, written}
 use Rattle.cx_core.specs.Layout.{cell_count, free_at, link_at, cell_at, offer_at, set_at}
 use Rattle.cx_core.specs.Lawful.{Cells, IsLive, IsShown, OfferStands, OffersLinked, SeenStands, Shape, ShowsCells, SlotStands}
 use Rattle.cx_core.specs.Merge.{IsLinked}

@@ -1,7 +1,7 @@
--- Each kind of step keeps the lawful state.
-use Rattle.std.proofs.Common.{◌≡◌, ◌+◌, ◌-◌, ◌*◌, ◌%◌, ◌==◌, ◌<◌, ◌≤◌, inl, inr, ℕ, Bool, cond, List, [], ◌∷◌, ◌++◌, length, set, slice_index, refl, sym, subst, ◌∙◌, arith, Some, length-append}
+-- Each kind of step keeps the parts on tickets, links, cells and fronts.
+use Rattle.std.proofs.Common.{◌≡◌, ◌+◌, ◌-◌, ◌*◌, ◌%◌, ◌==◌, ◌<◌, ◌≤◌, inl, inr, ℕ, Bool, cond, List, [], ◌∷◌, ◌++◌, length, set, slice_index, refl, sym, subst, ◌∙◌, arith, Option, Some, length-append}
 use Rattle.std.proofs.lemmas.Bool.{cases_Bool, eqb-true}
-use Rattle.std.proofs.lemmas.List.{set-get_or, length-set}
+use Rattle.std.proofs.lemmas.List.{append-nil, set-get_or, length-set}
 use Rattle.std.proofs.lemmas.Nat.{mod_below}
 use Rattle.std.proofs.lemmas.Option.{same_Some}
 use Rattle.std.specs.List.{slice_get}
@@ -9,205 +9,243 @@ use Rattle.cx_base.specs.Codes.{link_code_of}
 use Rattle.cx_core.specs.declared.entry.Entry.{Entry}
 use Rattle.cx_core.specs.declared.kinds.Event.{Event}
 use Rattle.cx_core.specs.declared.kinds.Kind.{Kind}
-use Rattle.cx_core.specs.declared.kinds.Kind.TheVariants.{WriteCell, Link, Look, ReadCell, LoadFree}
+use Rattle.cx_core.specs.declared.kinds.Kind.TheVariants.{WriteCell, Link, Look, ReadCell, LoadFree, TryExclusive, TryShared, BackOff, Downgrade, ReleaseExclusive, LoadWord, StoreWord, Persist}
+use Rattle.cx_core.specs.declared.local.HeldDowngraded.{HeldDowngraded}
+use Rattle.cx_core.specs.declared.local.HeldExclusive.{HeldExclusive}
+use Rattle.cx_core.specs.declared.local.HeldShared.{HeldShared}
 use Rattle.cx_core.specs.declared.local.Local.{Local}
+use Rattle.cx_core.specs.declared.local.SeenLock.{SeenLock}
 use Rattle.cx_core.specs.declared.local.SeenSlot.{SeenSlot}
-use Rattle.cx_core.specs.Events.{CanLink, Guard, Makes, Run, entry_in, linked, local_after, lost, raised_front, seen_word, words_after}
-use Rattle.cx_core.specs.Layout.{cell_count, free_at, link_at, cell_at}
-use Rattle.cx_core.specs.Lawful.{IsBehind, Lawful, LocalShape, SeenStands, SlotStands}
-use Rattle.cx_core.specs.Merge.{IsLinked}
-use Rattle.cx_core.specs.State.{Instance, State}
-use Rattle.core_queue.specs.Frames.{SameFront}
+use Rattle.cx_core.specs.Events.{Guard, Makes, local_after, step_word, words_after}
+use Rattle.cx_core.specs.QueueEvents.{CanLink, entry_in, linked, lost, raised_front, seen_word}
+use Rattle.cx_core.specs.Layout.{cell_count, free_at, link_at, cell_at, lock_at, replicas_at}
+use Rattle.cx_core.specs.Lawful.{IsBehind, LocalShape, SeenStands, SlotStands}
+use Rattle.cx_core.specs.Merge.{IsLinked, scene_of}
+use Rattle.cx_core.specs.Rights.{is_at, shared_on}
+use Rattle.cx_core.specs.State.{Instance, Scene, State}
+use Rattle.core_queue.specs.Frames.{OffQueue, SameFront, SameQueue, SameTickets}
+use Rattle.core_queue.specs.Queue.{QueueContinues, QueueLawful}
 use Rattle.core_queue.proofs.CellLaws.{cells_local}
 use Rattle.core_queue.proofs.CellLinks.{Wins, cells_linked}
 use Rattle.core_queue.proofs.CellPuts.{cells_written}
 use Rattle.core_queue.proofs.FrontLaws.{behind_free, behind_kept, behind_raised, fronts_framed, fronts_put, same_words}
 use Rattle.core_queue.proofs.LinkLaws.{links_framed, links_linked, raised_within, won_at_end}
 use Rattle.core_queue.proofs.Locals.{EachLocal-set}
+use Rattle.core_queue.proofs.QueueFrames.{either, queue_put}
 use Rattle.core_queue.proofs.Shapes.{shape_kept, shape_linked, shape_same, shape_written}
 use Rattle.core_queue.proofs.TicketLaws.{tickets_framed, tickets_linked}
 
--- each linked entry is of one of the callers
-pub linked_callers : (instance : Instance) (s : State) (law : Lawful instance s) (ticket : ℕ) (entry : Entry) → IsLinked instance.base.place law.history ticket entry → entry.caller < instance.callers
-linked_callers instance s law ticket entry is_linked =
-    subst (λ n. entry.caller < n) law.shape.count (law.tickets.merged.of_callers (ticket - instance.base.place) entry is_linked.at)
+-- with the history as it was
+pub same_history : {instance : Instance} {history : List Entry} {words : List ℕ} {locals : List Local} → QueueLawful instance history words locals → QueueContinues instance history words locals
+same_history {history = history} law = record { after = history; continues = record { more = []; is = sym (append-nil history) }; lawful = law }
 
--- a step that changes no word and links nothing
-pub loads_kept : (instance : Instance) (s : State) (caller : ℕ) (l l' : Local) → (law : Lawful instance s) → slice_get s.locals caller ≡ Some l →
-    l'.number ≡ l.number → l'.own ≡ l.own → l'.answered ≡ l.answered → l'.cells ≡ l.cells → l'.seen_offer ≡ l.seen_offer →
-    SlotStands instance s.words l' → IsBehind instance law.history s.words l' → Lawful instance (record { words = s.words; locals = set s.locals caller l' })
-loads_kept instance s caller l l' law at number own answered cells offer stands behind = record {
-  history = law.history;
-  shape = record {
-    some = law.shape.some;
-    few = law.shape.few;
-    long = law.shape.long;
-    count = length-set s.locals caller l' ∙ law.shape.count;
-    each = EachLocal-set s.locals caller l l' LocalShape at law.shape.each (shape_same caller l l' (law.shape.each caller l at) number cells);
-  };
-  tickets = tickets_framed instance law.history s.locals caller l l' law.tickets at own answered;
-  links = law.links;
-  cells = cells_local instance law.history s.words s.locals caller l l' law.cells at cells offer stands;
-  fronts = fronts_put instance law.history law.history s.words s.words s.locals caller l l' law.fronts at (omega arith) (record { dur = refl; low = refl; free = refl }) behind;
+module _ (instance : Instance) (history : List Entry) (words : List ℕ) (locals : List Local) (law : QueueLawful instance history words locals) where
+  -- each linked entry is of one of the callers
+  pub linked_callers : (ticket : ℕ) (entry : Entry) → IsLinked instance.base.place history ticket entry → entry.caller < instance.callers
+  linked_callers ticket entry is_linked =
+      subst (λ n. entry.caller < n) law.shape.count (law.tickets.merged.of_callers (ticket - instance.base.place) entry is_linked.at)
+
+  module _ (caller : ℕ) (l : Local) (at : slice_get locals caller ≡ Some l) where
+    -- a load, which links nothing
+    load_kept : (place : ℕ) (l' : Local) → l'.number ≡ l.number → SameTickets l l' → l'.cells ≡ l.cells → l'.seen_offer ≡ l.seen_offer →
+        SlotStands instance words l' → IsBehind instance history words l' → QueueLawful instance history (set words place (slice_index words place)) (set locals caller l')
+    load_kept place l' number tickets cells offer stands behind =
+        subst (λ ws. QueueLawful instance history ws (set locals caller l')) (sym (set-get_or words place 0)) (record {
+          shape = record {
+            some = law.shape.some;
+            few = law.shape.few;
+            long = law.shape.long;
+            count = length-set locals caller l' ∙ law.shape.count;
+            each = EachLocal-set locals caller l l' LocalShape at law.shape.each (shape_same caller l l' (law.shape.each caller l at) number cells);
+          };
+          tickets = tickets_framed instance history locals caller l l' law.tickets at tickets.own tickets.answered;
+          links = law.links;
+          cells = cells_local instance history words locals caller l l' law.cells at cells offer stands;
+          fronts = fronts_put instance history history words words locals caller l l' law.fronts at (omega arith) (record { dur = refl; low = refl; free = refl }) behind;
+        })
+
+    -- the front of a caller that found a link word
+    behind_found : (l' : Local) (slot : ℕ) → slot < cell_count instance.callers →
+        l'.front ≡ raised_front instance.callers l.front (slice_index words (link_at instance.callers slot)) → SameFront l (record l' { front = l.front }) → IsBehind instance history words l'
+    behind_found l' slot below front fields =
+        let old = law.fronts.each caller l at in
+        let word = slice_index words (link_at instance.callers slot) in
+        let rises = raised_within instance history l.front slot word linked_callers old.to (law.links.each slot below) in
+        behind_raised instance history history words words l l' old (omega arith) (record { dur = refl; low = refl; free = refl })
+        (omega (arith, front, rises.0)) (omega (arith, front, rises.1)) fields
+
+    -- a link that won: the entry is linked at the end of the history
+    link_won : (j : ℕ) → CanLink instance.callers instance.base l j →
+        slice_index words (link_at instance.callers (l.front % cell_count instance.callers)) ≡ seen_word l.seen_slot →
+        QueueContinues instance history
+        (set words (link_at instance.callers (l.front % cell_count instance.callers)) (link_code_of instance.callers l.front (16 * l.number + j))) (set locals caller (linked l j))
+    link_won j guard found =
+        let some = law.shape.some in
+        let shape = law.shape.each caller l at in
+        let old = law.fronts.each caller l at in
+        let q = cell_count instance.callers in
+        let slot = l.front % q in
+        let slot_small : slot < q = mod_below l.front q (omega arith) in
+        let place = link_at instance.callers slot in
+        let code = link_code_of instance.callers l.front (16 * l.number + j) in
+        let end = won_at_end instance history l.front (slice_index words place) l.seen_slot linked_callers some old.from old.to guard.4 found (law.links.each slot slot_small) in
+        let entry = entry_in l j in
+        let far : 4 ≤ place = omega arith in
+        let long : link_at instance.callers q ≤ length words = omega (arith, law.shape.long) in
+        let wins : Wins instance history words locals caller l j = record {
+          shape = law.shape;
+          links = law.links;
+          cells = law.cells;
+          callers = linked_callers;
+          at = at;
+          small = guard.0;
+          idle = guard.1;
+          behind = old.free;
+          end = end;
+          open_ = guard.4;
+          found = found;
+        } in
+        let longer : length history + 1 ≡ length (history ++ entry ∷ []) = sym (length-append history (entry ∷ [])) in
+        record {
+          after = history ++ entry ∷ [];
+          continues = record { more = entry ∷ []; is = refl };
+          lawful = record {
+            shape = shape_kept instance words locals place code caller l (linked l j) law.shape at (shape_linked caller l j shape guard.0);
+            tickets = tickets_linked instance history locals caller l j law.tickets at shape.number guard end;
+            links = links_linked instance history words entry l.front j law.links some long end guard.0;
+            cells = cells_linked instance history words locals caller l j wins;
+            fronts = fronts_put instance history (history ++ entry ∷ []) words (set words place code) locals caller l (linked l j) law.fronts at (omega (arith, longer)) (same_words words place code (inl far))
+                (behind_raised instance history (history ++ entry ∷ []) words (set words place code) l (linked l j) old (omega (arith, longer)) (same_words words place code (inl far))
+                (omega arith) (omega (arith, longer, end))
+                (record { front = refl; floor = refl; seen_cur = refl; seen_free = refl; seen_low = refl; raised = refl; won = refl }));
+          };
+        }
+
+    -- a link that was lost: the front rises past the ticket found
+    link_lost : let place = link_at instance.callers (l.front % cell_count instance.callers) in
+        QueueLawful instance history (set words place (slice_index words place)) (set locals caller (lost instance.callers l (slice_index words place)))
+    link_lost =
+        let some = law.shape.some in
+        let q = cell_count instance.callers in
+        let slot_small : l.front % q < q = mod_below l.front q (omega arith) in
+        let place = link_at instance.callers (l.front % q) in
+        let l' = lost instance.callers l (slice_index words place) in
+        load_kept place l' refl (record { own = refl; answered = refl }) refl refl (law.cells.seen caller l at)
+        (behind_found l' (l.front % q) slot_small refl
+        (record { front = refl; floor = refl; seen_cur = refl; seen_free = refl; seen_low = refl; raised = refl; won = refl }))
+
+-- what each kind has to meet
+module _ (instance : Instance) (history : List Entry) (scene : Scene) (locals : List Local) (caller : ℕ) (l : Local) (law : QueueLawful instance history scene.words locals) (at : slice_get locals caller ≡ Some l) where
+  abbrev After : Kind → Type 0
+  After kind = QueueContinues instance history (words_after instance kind l scene.words) (set locals caller (local_after instance scene kind l))
+
+  write_cell_kept : (j i v : ℕ) → Guard instance scene (WriteCell j i v) l → After (WriteCell j i v)
+  write_cell_kept j i v guard =
+      let words = scene.words in
+      let l' = local_after instance scene (WriteCell j i v) l in
+      let shape = law.shape.each caller l at in
+      let place = cell_at instance.callers (16 * caller + j) i in
+      let j_small = guard.0 in
+      let far : link_at instance.callers (cell_count instance.callers) ≤ place = omega arith in
+      subst (λ n. QueueContinues instance history (set words (cell_at instance.callers (16 * n + j) i) v) (set locals caller l')) (sym shape.number) (same_history (record {
+        shape = shape_kept instance words locals place v caller l l' law.shape at (shape_written caller l l' j i v shape j_small refl refl);
+        tickets = tickets_framed instance history locals caller l l' law.tickets at refl refl;
+        links = links_framed instance history words place v law.links (inr far);
+        cells = cells_written instance history words locals caller l l' j i v law.shape law.cells at j_small guard.1 guard.2 (law.fronts.each caller l at).free refl refl refl;
+        fronts = fronts_framed instance history words locals place v caller l l' law.fronts at (inl (omega arith))
+            (record { front = refl; floor = refl; seen_cur = refl; seen_free = refl; seen_low = refl; raised = refl; won = refl });
+      }))
+
+  link_kept : (j : ℕ) → Guard instance scene (Link j) l → After (Link j)
+  link_kept j guard =
+      let words = scene.words in
+      let place = link_at instance.callers (l.front % cell_count instance.callers) in
+      let found = slice_index words place in
+      let code = link_code_of instance.callers l.front (16 * l.number + j) in
+      let P : Bool → Type 0 = λ b. QueueContinues instance history (set words place (cond b code found)) (set locals caller (cond b (linked l j) (lost instance.callers l found))) in
+      elim (cases_Bool (found == seen_word l.seen_slot)) [
+        | inl e ↦ subst P (sym e) (link_won instance history words locals law caller l at j guard (eqb-true found (seen_word l.seen_slot) e))
+        | inr e ↦ subst P (sym e) (same_history (link_lost instance history words locals law caller l at))
+      ]
+
+  look_kept : (slot : ℕ) → Guard instance scene (Look slot) l → After (Look slot)
+  look_kept slot guard =
+      let l' = local_after instance scene (Look slot) l in
+      let place = link_at instance.callers slot in
+      let now : SeenSlot = record { slot = slot; word = slice_index scene.words place } in
+      same_history (load_kept instance history scene.words locals law caller l at place l' refl (record { own = refl; answered = refl }) refl refl
+      (λ seen is. subst (SeenStands instance scene.words) (same_Some now seen is) (record { slot = guard; stands = λ _ _. refl }))
+      (behind_found instance history scene.words locals law caller l at l' slot guard refl
+      (record { front = refl; floor = refl; seen_cur = refl; seen_free = refl; seen_low = refl; raised = refl; won = refl })))
+
+  read_cell_kept : (t k i : ℕ) → After (ReadCell t k i)
+  read_cell_kept t k i =
+      let l' = local_after instance scene (ReadCell t k i) l in
+      same_history (load_kept instance history scene.words locals law caller l at (cell_at instance.callers k i) l' refl (record { own = refl; answered = refl }) refl refl (law.cells.seen caller l at)
+      (behind_kept instance history history scene.words scene.words l l' (law.fronts.each caller l at) (omega arith) (record { dur = refl; low = refl; free = refl })
+      (record { front = refl; floor = refl; seen_cur = refl; seen_free = refl; seen_low = refl; raised = refl; won = refl })))
+
+  load_free_kept : After LoadFree
+  load_free_kept =
+      let l' = local_after instance scene LoadFree l in
+      same_history (load_kept instance history scene.words locals law caller l at free_at l' refl (record { own = refl; answered = refl }) refl refl (law.cells.seen caller l at)
+      (behind_free instance history scene.words l l' (law.fronts.each caller l at) refl
+      (record { front = refl; floor = refl; seen_cur = refl; seen_free = refl; seen_low = refl; raised = refl; won = refl })))
+
+  -- a step on locks or on the words of replicas
+  apart_kept : (kind : Kind) → OffQueue instance (step_word instance kind l) → SameQueue l (local_after instance scene kind l) → After kind
+  apart_kept kind off same =
+      same_history (queue_put instance history scene.words locals (step_word instance kind l) _ caller l (local_after instance scene kind l) law at off same)
+
+-- a lock word, or a word of a replica
+off_lock : (instance : Instance) (r : ℕ) → r < 2 * instance.callers → OffQueue instance (lock_at instance.callers r)
+off_lock instance r below = inr (omega arith, inl (omega arith))
+
+off_region : (instance : Instance) (at : ℕ) → replicas_at instance.callers ≤ at → OffQueue instance at
+off_region instance at behind = inr (omega arith, inr behind)
+
+-- the fields that steps on locks and replicas change are none of the queue's
+same_but : (l : Local) (fresh : Bool) (refused : List ℕ) (seen_lock : Option SeenLock) (exclusive : Option HeldExclusive) (shared : Option HeldShared) (passer : Option ℕ)
+    (downgraded : Option HeldDowngraded) (steps met : ℕ) →
+    SameQueue l (record l { fresh = fresh; refused = refused; seen_lock = seen_lock; exclusive = exclusive; shared = shared; passer = passer; downgraded = downgraded; steps = steps; met = met })
+same_but l fresh refused seen_lock exclusive shared passer downgraded steps met = record {
+  number = refl;
+  tickets = record { own = refl; answered = refl };
+  cells = record { cells = refl; seen_slot = refl; seen_offer = refl };
+  front = record { front = refl; floor = refl; seen_cur = refl; seen_free = refl; seen_low = refl; raised = refl; won = refl };
 }
 
--- the words after a load
-load_words : (instance : Instance) (words : List ℕ) (locals : List Local) (at : ℕ) → Lawful instance (record { words = words; locals = locals }) →
-    Lawful instance (record { words = set words at (slice_index words at); locals = locals })
-load_words instance words locals at law = subst (λ ws. Lawful instance (record { words = ws; locals = locals })) (sym (set-get_or words at 0)) law
+-- an allowed step of any kind
+pub queue_kept : (instance : Instance) (history : List Entry) (scene : Scene) (locals : List Local) (caller : ℕ) (l : Local) (kind : Kind) → QueueLawful instance history scene.words locals →
+    slice_get locals caller ≡ Some l → Guard instance scene kind l →
+    QueueContinues instance history (words_after instance kind l scene.words) (set locals caller (local_after instance scene kind l))
+queue_kept instance history scene locals caller l (WriteCell j i v) law at guard = write_cell_kept instance history scene locals caller l law at j i v guard
+queue_kept instance history scene locals caller l (Link j) law at guard = link_kept instance history scene locals caller l law at j guard
+queue_kept instance history scene locals caller l (Look slot) law at guard = look_kept instance history scene locals caller l law at slot guard
+queue_kept instance history scene locals caller l (ReadCell t k i) law at guard = read_cell_kept instance history scene locals caller l law at t k i
+queue_kept instance history scene locals caller l LoadFree law at guard = load_free_kept instance history scene locals caller l law at
+queue_kept instance history scene locals caller l (TryExclusive r) law at guard =
+    apart_kept instance history scene locals caller l law at (TryExclusive r) (off_lock instance r guard.0) (either (SameQueue l) _ _ _ (same_but l _ _ _ _ _ _ _ _ _) (same_but l _ _ _ _ _ _ _ _ _))
+queue_kept instance history scene locals caller l (TryShared r) law at guard =
+    apart_kept instance history scene locals caller l law at (TryShared r) (off_lock instance r guard.0) (either (SameQueue l) _ _ _ (same_but l _ _ _ _ _ _ _ _ _) (same_but l _ _ _ _ _ _ _ _ _))
+queue_kept instance history scene locals caller l (BackOff r) law at guard =
+    apart_kept instance history scene locals caller l law at (BackOff r) (off_lock instance r guard.0)
+    (either (SameQueue l) (is_at r (shared_on l)) _ _ (same_but l _ _ _ _ _ _ _ _ _) (either (SameQueue l) (is_at r l.passer) _ _ (same_but l _ _ _ _ _ _ _ _ _) (same_but l _ _ _ _ _ _ _ _ _)))
+queue_kept instance history scene locals caller l (Downgrade r) law at guard =
+    apart_kept instance history scene locals caller l law at (Downgrade r) (off_lock instance r guard.0.0) (same_but l _ _ _ _ _ _ _ _ _)
+queue_kept instance history scene locals caller l (ReleaseExclusive r) law at guard =
+    apart_kept instance history scene locals caller l law at (ReleaseExclusive r) (off_lock instance r guard.0.0) (same_but l _ _ _ _ _ _ _ _ _)
+queue_kept instance history scene locals caller l (LoadWord r i refused) law at guard =
+    apart_kept instance history scene locals caller l law at (LoadWord r i refused) (off_region instance _ (omega arith)) (same_but l _ _ _ _ _ _ _ _ _)
+queue_kept instance history scene locals caller l (StoreWord r i v) law at guard =
+    apart_kept instance history scene locals caller l law at (StoreWord r i v) (off_region instance _ (omega arith)) (same_but l _ _ _ _ _ _ _ _ _)
+queue_kept instance history scene locals caller l (Persist r i) law at guard =
+    apart_kept instance history scene locals caller l law at (Persist r i) (off_region instance _ (omega arith)) (same_but l _ _ _ _ _ _ _ _ _)
 
--- the front of a caller that found a link word
-behind_found : (instance : Instance) (s : State) (caller : ℕ) (l l' : Local) (slot : ℕ) → (law : Lawful instance s) → slice_get s.locals caller ≡ Some l → slot < cell_count instance.callers →
-    l'.front ≡ raised_front instance.callers l.front (slice_index s.words (link_at instance.callers slot)) → SameFront l (record l' { front = l.front }) →
-    IsBehind instance law.history s.words l'
-behind_found instance s caller l l' slot law at below front fields =
-    let old = law.fronts.each caller l at in
-    let word = slice_index s.words (link_at instance.callers slot) in
-    let rises = raised_within instance law.history l.front slot word (linked_callers instance s law) old.to (law.links.each slot below) in
-    behind_raised instance law.history law.history s.words s.words l l' old (omega arith) (record { dur = refl; low = refl; free = refl })
-    (omega (arith, front, rises.0)) (omega (arith, front, rises.1)) fields
-
-write_cell_kept : (instance : Instance) (s : State) (caller : ℕ) (l : Local) (j i v : ℕ) → Lawful instance s → slice_get s.locals caller ≡ Some l → Guard instance (WriteCell j i v) l →
-    Lawful instance (record { words = words_after instance (WriteCell j i v) l s.words; locals = set s.locals caller (local_after instance (WriteCell j i v) l s.words) })
-write_cell_kept instance s caller l j i v law at guard =
-    let l' = local_after instance (WriteCell j i v) l s.words in
-    let shape = law.shape.each caller l at in
-    let place = cell_at instance.callers (16 * caller + j) i in
-    let j_small = guard.0 in
-    let far : link_at instance.callers (cell_count instance.callers) ≤ place = omega arith in
-    subst (λ n. Lawful instance (record { words = set s.words (cell_at instance.callers (16 * n + j) i) v; locals = set s.locals caller l' })) (sym shape.number) (record {
-      history = law.history;
-      shape = shape_kept instance s.words s.locals place v caller l l' law.shape at (shape_written caller l l' j i v shape j_small refl refl);
-      tickets = tickets_framed instance law.history s.locals caller l l' law.tickets at refl refl;
-      links = links_framed instance law.history s.words place v law.links (inr far);
-      cells = cells_written instance law.history s.words s.locals caller l l' j i v law.shape law.cells at j_small guard.1 guard.2 (law.fronts.each caller l at).free refl refl refl;
-      fronts = fronts_framed instance law.history s.words s.locals place v caller l l' law.fronts at (inl (omega arith))
-          (record { front = refl; floor = refl; seen_cur = refl; seen_free = refl; seen_low = refl; raised = refl; won = refl });
-    })
-
--- a link that won: the entry is linked at the end of the history
-link_won : (instance : Instance) (s : State) (caller : ℕ) (l : Local) (j : ℕ) → Lawful instance s → slice_get s.locals caller ≡ Some l → CanLink instance.callers instance.base l j →
-    slice_index s.words (link_at instance.callers (l.front % cell_count instance.callers)) ≡ seen_word l.seen_slot →
-    Lawful instance (record {
-      words = set s.words (link_at instance.callers (l.front % cell_count instance.callers)) (link_code_of instance.callers l.front (16 * l.number + j));
-      locals = set s.locals caller (linked l j);
-    })
-link_won instance s caller l j law at guard found =
-    let some = law.shape.some in
-    let shape = law.shape.each caller l at in
-    let old = law.fronts.each caller l at in
-    let q = cell_count instance.callers in
-    let slot = l.front % q in
-    let slot_small : slot < q = mod_below l.front q (omega arith) in
-    let place = link_at instance.callers slot in
-    let code = link_code_of instance.callers l.front (16 * l.number + j) in
-    let callers = linked_callers instance s law in
-    let end = won_at_end instance law.history l.front (slice_index s.words place) l.seen_slot callers some old.from old.to guard.4 found (law.links.each slot slot_small) in
-    let entry = entry_in l j in
-    let far : 4 ≤ place = omega arith in
-    let long : link_at instance.callers q ≤ length s.words = omega (arith, law.shape.long) in
-    let wins : Wins instance law.history s.words s.locals caller l j = record {
-      shape = law.shape;
-      links = law.links;
-      cells = law.cells;
-      callers = callers;
-      at = at;
-      small = guard.0;
-      idle = guard.1;
-      behind = old.free;
-      end = end;
-      open_ = guard.4;
-      found = found;
-    } in
-    let longer : length law.history + 1 ≡ length (law.history ++ entry ∷ []) = sym (length-append law.history (entry ∷ [])) in
-    record {
-      history = law.history ++ entry ∷ [];
-      shape = shape_kept instance s.words s.locals place code caller l (linked l j) law.shape at (shape_linked caller l j shape guard.0);
-      tickets = tickets_linked instance law.history s.locals caller l j law.tickets at shape.number guard end;
-      links = links_linked instance law.history s.words entry l.front j law.links some long end guard.0;
-      cells = cells_linked instance law.history s.words s.locals caller l j wins;
-      fronts = fronts_put instance law.history (law.history ++ entry ∷ []) s.words (set s.words place code) s.locals caller l (linked l j) law.fronts at (omega (arith, longer)) (same_words s.words place code (inl far))
-          (behind_raised instance law.history (law.history ++ entry ∷ []) s.words (set s.words place code) l (linked l j) old (omega (arith, longer)) (same_words s.words place code (inl far))
-          (omega arith) (omega (arith, longer, end))
-          (record { front = refl; floor = refl; seen_cur = refl; seen_free = refl; seen_low = refl; raised = refl; won = refl }));
-    }
-
--- a link that was lost: the front rises past the ticket found
-link_lost : (instance : Instance) (s : State) (caller : ℕ) (l : Local) → Lawful instance s → slice_get s.locals caller ≡ Some l →
-    let word = slice_index s.words (link_at instance.callers (l.front % cell_count instance.callers)) in
-    Lawful instance (record { words = s.words; locals = set s.locals caller (lost instance.callers l word) })
-link_lost instance s caller l law at =
-    let some = law.shape.some in
-    let q = cell_count instance.callers in
-    let slot_small : l.front % q < q = mod_below l.front q (omega arith) in
-    let l' = lost instance.callers l (slice_index s.words (link_at instance.callers (l.front % q))) in
-    loads_kept instance s caller l l' law at refl refl refl refl refl (law.cells.seen caller l at)
-    (behind_found instance s caller l l' (l.front % q) law at slot_small refl
-    (record { front = refl; floor = refl; seen_cur = refl; seen_free = refl; seen_low = refl; raised = refl; won = refl }))
-
-link_kept : (instance : Instance) (s : State) (caller : ℕ) (l : Local) (j : ℕ) → Lawful instance s → slice_get s.locals caller ≡ Some l → Guard instance (Link j) l →
-    Lawful instance (record { words = words_after instance (Link j) l s.words; locals = set s.locals caller (local_after instance (Link j) l s.words) })
-link_kept instance s caller l j law at guard =
-    let place = link_at instance.callers (l.front % cell_count instance.callers) in
-    let found = slice_index s.words place in
-    let code = link_code_of instance.callers l.front (16 * l.number + j) in
-    let P : Bool → Type 0 = λ b. Lawful instance (record {
-      words = set s.words place (cond b code found);
-      locals = set s.locals caller (cond b (linked l j) (lost instance.callers l found));
-    }) in
-    elim (cases_Bool (found == seen_word l.seen_slot)) [
-      | inl e ↦ subst P (sym e) (link_won instance s caller l j law at guard (eqb-true found (seen_word l.seen_slot) e))
-      | inr e ↦ subst P (sym e) (load_words instance s.words (set s.locals caller (lost instance.callers l found)) place (link_lost instance s caller l law at))
-    ]
-
-look_kept : (instance : Instance) (s : State) (caller : ℕ) (l : Local) (slot : ℕ) → Lawful instance s → slice_get s.locals caller ≡ Some l → Guard instance (Look slot) l →
-    Lawful instance (record { words = words_after instance (Look slot) l s.words; locals = set s.locals caller (local_after instance (Look slot) l s.words) })
-look_kept instance s caller l slot law at guard =
-    let l' = local_after instance (Look slot) l s.words in
-    let place = link_at instance.callers slot in
-    let now : SeenSlot = record { slot = slot; word = slice_index s.words place } in
-    load_words instance s.words (set s.locals caller l') place (
-    loads_kept instance s caller l l' law at refl refl refl refl refl
-    (λ seen is. subst (SeenStands instance s.words) (same_Some now seen is) (record { slot = guard; stands = λ _ _. refl }))
-    (behind_found instance s caller l l' slot law at guard refl
-    (record { front = refl; floor = refl; seen_cur = refl; seen_free = refl; seen_low = refl; raised = refl; won = refl })))
-
-read_cell_kept : (instance : Instance) (s : State) (caller : ℕ) (l : Local) (t k i : ℕ) → Lawful instance s → slice_get s.locals caller ≡ Some l →
-    Lawful instance (record { words = words_after instance (ReadCell t k i) l s.words; locals = set s.locals caller (local_after instance (ReadCell t k i) l s.words) })
-read_cell_kept instance s caller l t k i law at =
-    let l' = local_after instance (ReadCell t k i) l s.words in
-    load_words instance s.words (set s.locals caller l') (cell_at instance.callers k i) (
-    loads_kept instance s caller l l' law at refl refl refl refl refl (law.cells.seen caller l at)
-    (behind_kept instance law.history law.history s.words s.words l l' (law.fronts.each caller l at) (omega arith) (record { dur = refl; low = refl; free = refl })
-    (record { front = refl; floor = refl; seen_cur = refl; seen_free = refl; seen_low = refl; raised = refl; won = refl })))
-
-load_free_kept : (instance : Instance) (s : State) (caller : ℕ) (l : Local) → Lawful instance s → slice_get s.locals caller ≡ Some l →
-    Lawful instance (record { words = words_after instance LoadFree l s.words; locals = set s.locals caller (local_after instance LoadFree l s.words) })
-load_free_kept instance s caller l law at =
-    let l' = local_after instance LoadFree l s.words in
-    load_words instance s.words (set s.locals caller l') free_at (
-    loads_kept instance s caller l l' law at refl refl refl refl refl (law.cells.seen caller l at)
-    (behind_free instance law.history s.words l l' (law.fronts.each caller l at) refl
-    (record { front = refl; floor = refl; seen_cur = refl; seen_free = refl; seen_low = refl; raised = refl; won = refl })))
-
--- an allowed step of a caller leaves a lawful state
-pub kind_kept : (instance : Instance) (s : State) (caller : ℕ) (l : Local) (kind : Kind) → Lawful instance s → slice_get s.locals caller ≡ Some l → Guard instance kind l →
-    Lawful instance (record { words = words_after instance kind l s.words; locals = set s.locals caller (local_after instance kind l s.words) })
-kind_kept instance s caller l (WriteCell j i v) law at guard = write_cell_kept instance s caller l j i v law at guard
-kind_kept instance s caller l (Link j) law at guard = link_kept instance s caller l j law at guard
-kind_kept instance s caller l (Look slot) law at guard = look_kept instance s caller l slot law at guard
-kind_kept instance s caller l (ReadCell t k i) law at guard = read_cell_kept instance s caller l t k i law at
-kind_kept instance s caller l LoadFree law at guard = load_free_kept instance s caller l law at
-
--- an event leaves a lawful state
-pub event_kept : (instance : Instance) (event : Event) (before after : State) → Lawful instance before → Makes instance event before after → Lawful instance after
-event_kept instance event before after law m =
-    subst (λ ws. Lawful instance (record { words = ws; locals = after.locals })) (sym m.words)
-    (subst (λ ls. Lawful instance (record { words = words_after instance event.kind m.local before.words; locals = ls })) (sym m.locals)
-    (kind_kept instance before event.caller m.local event.kind law m.of_caller m.guard))
-
--- a run from a lawful state ends in one
-pub run_kept : (instance : Instance) (from : State) (events : List Event) (to : State) → Lawful instance from → Run instance from events to → Lawful instance to
-run_kept instance from [] to law run = subst (Lawful instance) (sym run) law
-run_kept instance from (event ∷ events) to law run =
-    run_kept instance run.0 events to (event_kept instance event from run.0 law run.1) run.2
+-- an event
+pub queue_event_kept : (instance : Instance) (history : List Entry) (event : Event) (before after : State) → QueueLawful instance history before.words before.locals → Makes instance event before after →
+    QueueContinues instance history after.words after.locals
+queue_event_kept instance history event before after law m =
+    subst (λ ws. QueueContinues instance history ws after.locals) (sym m.words)
+    (subst (λ ls. QueueContinues instance history (words_after instance event.kind m.local before.words) ls) (sym m.locals)
+    (queue_kept instance history (scene_of instance before) before.locals event.caller m.local event.kind law m.of_caller m.guard))

@@ -9,5 +9,6 @@ pub mod LiveLaws
 pub mod Locals
 pub mod Opening
 pub mod Pigeonhole
+pub mod QueueFrames
 pub mod Shapes
 pub mod TicketLaws

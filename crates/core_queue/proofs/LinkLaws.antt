@@ -6,13 +6,14 @@ use Rattle.std.proofs.lemmas.Nat.{div-mul-add, mod_below}
 use Rattle.cx_base.specs.Codes.{link_code_of, link_ticket_of}
 use Rattle.cx_core.specs.declared.entry.Entry.{Entry}
 use Rattle.cx_core.specs.declared.local.SeenSlot.{SeenSlot}
-use Rattle.cx_core.specs.Events.{ShowsOpen, raised_front, seen_word}
+use Rattle.cx_core.specs.QueueEvents.{ShowsOpen, raised_front, seen_word}
 use Rattle.cx_core.specs.Layout.{cell_count, link_at}
 use Rattle.cx_core.specs.Lawful.{LinkWord, Links}
 use Rattle.cx_core.specs.Lawful.LinkWord.{Never, Names}
 use Rattle.cx_core.specs.Merge.{IsLinked}
 use Rattle.cx_core.specs.State.{Instance}
-use Rattle.core_queue.proofs.Locals.{linked_below, linked_last, linked_still, linked_then, linked_within}
+use Rattle.cx_core.proofs.HistoryLemmas.{linked_grows}
+use Rattle.core_queue.proofs.Locals.{linked_below, linked_last, linked_then, linked_within}
 
 -- a link code gives its ticket back, and is not 0
 pub code_ticket : (callers ticket k : ℕ) → k < 16 * callers → link_ticket_of callers (link_code_of callers ticket k) ≡ ticket
@@ -40,7 +41,7 @@ word_still instance history entry slot word apart (Never none zero) =
     ]) zero
 word_still instance history entry slot word apart (Names ticket e j greatest below is) =
     Names ticket e j (record {
-      linked = linked_still instance.base.place history entry ticket e greatest.linked;
+      linked = linked_grows instance.base.place history (entry ∷ []) ticket e greatest.linked;
       at = greatest.at;
       greatest = λ other x linked at. elim (linked_then instance.base.place history entry other x linked) [
         | inl a ↦ greatest.greatest other x a at

@@ -31,11 +31,6 @@ EachLocal-set locals caller l l' P at each here other x there =
 pub EachLocal-then : (locals : List Local) (P Q : ℕ → Local → Type 0) → EachLocal locals P → ((caller : ℕ) (l : Local) → slice_get locals caller ≡ Some l → P caller l → Q caller l) → EachLocal locals Q
 EachLocal-then locals P Q each f caller l at = f caller l at (each caller l at)
 
-pub slice_get-append_left : {X : Type 0} (xs ys : List X) (i : ℕ) (x : X) → slice_get xs i ≡ Some x → slice_get (xs ++ ys) i ≡ Some x
-slice_get-append_left [] ys i x at = absurd (none-some x at)
-slice_get-append_left (z ∷ xs) ys zero x at = at
-slice_get-append_left (z ∷ xs) ys (suc i) x at = slice_get-append_left xs ys i x at
-
 -- an item of a list with one item more is from before, or it is that one
 pub slice_get-push : {X : Type 0} (xs : List X) (y : X) (i : ℕ) (x : X) → slice_get (xs ++ y ∷ []) i ≡ Some x →
     (slice_get xs i ≡ Some x) ⊎ ((i ≡ length xs) × (y ≡ x))
@@ -60,13 +55,6 @@ linked_below place history ticket from below =
       | inl a ↦ (a.0, record { from = from; at = a.2 })
       | inr b ↦ (let past : length history ≤ ticket - place = b.0 in absurd (omega arith))
     ]
-
--- what is linked stays linked
-pub linked_still : (place : ℕ) (history : List Entry) (more : Entry) (ticket : ℕ) (entry : Entry) → IsLinked place history ticket entry → IsLinked place (history ++ more ∷ []) ticket entry
-linked_still place history more ticket entry linked = record {
-  from = linked.from;
-  at = slice_get-append_left history (more ∷ []) (ticket - place) entry linked.at;
-}
 
 -- what is linked then was linked before, or is the entry linked now at the end
 pub linked_then : (place : ℕ) (history : List Entry) (more : Entry) (ticket : ℕ) (entry : Entry) → IsLinked place (history ++ more ∷ []) ticket entry →

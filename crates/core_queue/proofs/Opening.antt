@@ -1,4 +1,4 @@
--- The opening state is lawful.
+-- The opening state meets the parts on tickets, links, cells and fronts.
 use Rattle.std.proofs.Common.{◌≡◌, ◌+◌, ◌-◌, ◌*◌, ◌^◌, ◌<◌, ◌≤◌, ℕ, List, [], ◌∷◌, ◌++◌, length, replicate, slice_index, refl, ap, sym, subst, ◌∙◌, arith, Some, length-append}
 use Rattle.std.proofs.lemmas.List.{get_or_append_left, get_or-append_right, get_or-replicate, length-replicate}
 use Rattle.std.proofs.lemmas.List.FromFn.{length-map-range_with_len}
@@ -11,11 +11,12 @@ use Rattle.cx_core.specs.declared.entry.Entry.{Entry}
 use Rattle.cx_core.specs.declared.local.Cell.{Cell}
 use Rattle.cx_core.specs.declared.local.Local.{Local}
 use Rattle.cx_core.specs.Layout.{cell_at, dur_at, free_at, link_at, low_at, max_word, offer_at, set_at}
-use Rattle.cx_core.specs.Lawful.{CellShape, IsShown, Lawful, LocalShape}
+use Rattle.cx_core.specs.Lawful.{CellShape, IsShown, LocalShape}
 use Rattle.cx_core.specs.Lawful.LinkWord.{Never}
 use Rattle.cx_core.specs.Merge.{IsLinked}
-use Rattle.cx_core.specs.State.{Instance, blank_cell, copies, opening_code, opening_local, opening_locals, opening_state, opening_words}
+use Rattle.cx_core.specs.State.{Instance, blank_cell, copies, opening_code, opening_local, opening_locals, opening_words}
 use Rattle.cx_core.proofs.StateLemmas.{length-opening, opening_at}
+use Rattle.core_queue.specs.Queue.{QueueLawful}
 
 -- the words of links, cells, offers and sets are 0
 zeros : (callers : ℕ) (base : Base) (at : ℕ) → 1 ≤ callers → 4 + 3 * callers ≤ at → at < 4 + 10563 * callers → slice_index (opening_words callers base) at ≡ 0
@@ -62,7 +63,8 @@ blank_shown callers base k some within = record {
   offer = zeros callers base (offer_at callers k) some (omega arith) (omega arith);
 }
 
-pub opening_lawful : (instance : Instance) → 1 ≤ instance.callers → instance.callers ≤ 8 → instance.base.place ≤ 2 ^ 40 → Lawful instance (opening_state instance.callers instance.base)
+pub opening_lawful : (instance : Instance) → 1 ≤ instance.callers → instance.callers ≤ 8 → instance.base.place ≤ 2 ^ 40 →
+    QueueLawful instance [] (opening_words instance.callers instance.base) (opening_locals instance.callers instance.base.place)
 opening_lawful instance some few place_small =
     let callers = instance.callers in
     let base = instance.base in
@@ -73,7 +75,6 @@ opening_lawful instance some few place_small =
     let own = λ (P : ℕ → Local → Type 0) (f : (c : ℕ) → c < callers → P c (opening_local callers place c)) (c : ℕ) (l : Local) (there : slice_get (opening_locals callers place) c ≡ Some l).
     (let o = at c l there in subst (P c) (sym o.1) (f c o.0)) in
     record {
-      history = [];
       shape = record {
         some = some;
         few = few;

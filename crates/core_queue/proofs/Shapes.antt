@@ -5,7 +5,7 @@ use Rattle.std.proofs.lemmas.Option.{slice_get-get_or}
 use Rattle.std.specs.List.{slice_get}
 use Rattle.cx_core.specs.declared.local.Cell.{Cell}
 use Rattle.cx_core.specs.declared.local.Local.{Local}
-use Rattle.cx_core.specs.Events.{cell_of, linked, written}
+use Rattle.cx_core.specs.QueueEvents.{cell_of, linked, written}
 use Rattle.cx_core.specs.Lawful.{CellShape, LocalShape, Shape}
 use Rattle.cx_core.specs.State.{Instance}
 use Rattle.core_queue.proofs.Locals.{EachLocal-set, item_after}

@@ -6,7 +6,7 @@ use Rattle.std.specs.List.{slice_get}
 use Rattle.cx_core.specs.declared.entry.Entry.{Entry}
 use Rattle.cx_core.specs.declared.local.Linked.{Linked}
 use Rattle.cx_core.specs.declared.local.Local.{Local}
-use Rattle.cx_core.specs.Events.{CanLink, entry_in, linked}
+use Rattle.cx_core.specs.QueueEvents.{CanLink, entry_in, linked}
 use Rattle.cx_core.specs.Lawful.{OwnTickets, Tickets}
 use Rattle.cx_core.specs.Merge.{own_of}
 use Rattle.cx_core.specs.Region.{slot_number}

@@ -1,37 +1,43 @@
-//! Each kind of step of the queue keeps the lawful state.
+//! The opening state has the parts of the lawful state on tickets, links, cells and fronts, and each kind of step keeps
+//! them. The history stays but for a link that wins, which adds its entry at the end.
 
-ghost use Rattle.std.specs.Prelude.{ℕ};
-ghost use Rattle.cx_core.specs.Events.{Makes};
-ghost use Rattle.cx_core.specs.Lawful.{Lawful};
-ghost use Rattle.cx_core.specs.State.{Instance, State};
+ghost use Rattle.std.specs.Prelude.{◌^◌, ◌≤◌, ℕ, []};
+ghost use Rattle.core_queue.specs.Queue.{KeepsQueue, QueueLawful};
+ghost use Rattle.cx_core.specs.State.{Instance, opening_locals, opening_words};
 ghost use Rattle.cx_core.specs.declared.kinds.Kind.TheVariants.{Link, LoadFree, Look, ReadCell, WriteCell};
+
+/// The opening state of 1 to 8 callers, where the base's place is at most 2^40.
+pub fn opening_has_the_queue()
+    ensures { (instance : Instance) → 1 ≤ instance.callers → instance.callers ≤ 8 → instance.base.place ≤ 2 ^ 40 →
+        QueueLawful instance [] (opening_words instance.callers instance.base) (opening_locals instance.callers instance.base.place) }
+{}
 
 /// A word written into an idle cell.
 pub fn write_cell_keeps()
-    ensures { (instance : Instance) (before after : State) (caller j i v : ℕ) → Lawful instance before → Makes instance (record { caller = caller; kind = WriteCell j i v }) before after → Lawful instance after }
+    ensures { (j i v : ℕ) → KeepsQueue (WriteCell j i v) }
 {}
 
-/// A link, won or lost. One that wins is at the end of the history.
+/// A link, won or lost.
 pub fn link_keeps()
-    ensures { (instance : Instance) (before after : State) (caller j : ℕ) → Lawful instance before → Makes instance (record { caller = caller; kind = Link j }) before after → Lawful instance after }
+    ensures { (j : ℕ) → KeepsQueue (Link j) }
 {}
 
 /// A look at a link slot.
 pub fn look_keeps()
-    ensures { (instance : Instance) (before after : State) (caller s : ℕ) → Lawful instance before → Makes instance (record { caller = caller; kind = Look s }) before after → Lawful instance after }
+    ensures { (s : ℕ) → KeepsQueue (Look s) }
 {}
 
 /// A load of a cell's word.
 pub fn read_cell_keeps()
-    ensures { (instance : Instance) (before after : State) (caller t k i : ℕ) → Lawful instance before → Makes instance (record { caller = caller; kind = ReadCell t k i }) before after → Lawful instance after }
+    ensures { (t k i : ℕ) → KeepsQueue (ReadCell t k i) }
 {}
 
 /// A load of FREE.
 pub fn load_free_keeps()
-    ensures { (instance : Instance) (before after : State) (caller : ℕ) → Lawful instance before → Makes instance (record { caller = caller; kind = LoadFree }) before after → Lawful instance after }
+    ensures { KeepsQueue LoadFree }
 {}
 
-/// Any event.
-pub fn event_keeps()
-    ensures { (instance : Instance) (before after : State) (event : _) → Lawful instance before → Makes instance event before after → Lawful instance after }
+/// Any kind: those on locks and on the words of replicas touch nothing that these parts name.
+pub fn events_keep_the_queue()
+    ensures { (kind : _) → KeepsQueue kind }
 {}

@@ -1,6 +1,8 @@
 //! The worked row of linking, each kind at its limits, and a script of three callers against tickets written by hand.
 
 ghost use Rattle.std.specs.Prelude.{◌≤◌};
+ghost use Rattle.cx_base.specs.Tally.{IsTally};
+ghost use Rattle.cx_core.specs.Base.{LawfulBase};
 
 use cx_base::tally::Tally;
 use cx_core::{Base, CoreState, Event, Kind, apply};
@@ -8,36 +10,48 @@ use std::alloc::{AllocError, Global};
 use std::process::Abort;
 use std::test::Fail;
 
-// A core of so many callers over the first base of Tally.
-fn opened(alloc: Global, callers: u32) -> Result<CoreState, AllocError>
+// A core over a lawful base of Tally.
+#[derive(Drop)]
+struct Played {
+    core: CoreState,
+    ghost lawful: { LawfulBase 64 IsTally core.base },
+}
+
+// One of so many callers over the first base.
+fn opened(alloc: Global, callers: u32) -> Result<Played, AllocError>
     requires some { 1 ≤ callers }
     requires few { callers ≤ 8 }
 {
     let base = Base::fresh(alloc, &Tally)?;
-    CoreState::opening(alloc, &Tally, callers, &base)
+    let core = CoreState::opening(alloc, &Tally, callers, &base)?;
+    Ok(Played { core })
 }
 
 // Whether a step of a caller is allowed, and made.
-fn steps(
-    alloc: Global,
-    state: &mut CoreState,
-    caller: u32,
-    kind: Kind,
-) -> Result<bool, AllocError> {
-    apply(alloc, &Tally, state, &Event { caller, kind })
+fn steps(alloc: Global, state: &mut Played, caller: u32, kind: Kind) -> Result<bool, AllocError> {
+    apply(alloc, &Tally, &mut state.core, &Event { caller, kind })
 }
 
-fn link_word(state: &CoreState, slot: usize) -> Option<u64> {
-    state.link().get(slot).copied()
+fn link_word(state: &Played, slot: usize) -> Option<u64> {
+    state.core.link().get(slot).copied()
 }
 
-fn front(state: &CoreState, caller: usize) -> Option<u64> {
-    Some(state.locals().get(caller)?.front)
+fn front(state: &Played, caller: usize) -> Option<u64> {
+    Some(state.core.locals().get(caller)?.front)
 }
 
 // The ticket of a caller's first entry.
-fn ticket(state: &CoreState, caller: usize) -> Option<u64> {
-    Some(state.locals().get(caller)?.own.as_slice().first()?.ticket)
+fn ticket(state: &Played, caller: usize) -> Option<u64> {
+    Some(
+        state
+            .core
+            .locals()
+            .get(caller)?
+            .own
+            .as_slice()
+            .first()?
+            .ticket,
+    )
 }
 
 // Caller, kind, whether it is allowed, and the caller's front afterwards.
@@ -46,7 +60,7 @@ type Row = (u32, Kind, bool, u64);
 // The first row that answers otherwise.
 fn first_wrong(
     alloc: Global,
-    state: &mut CoreState,
+    state: &mut Played,
     rows: &[Row],
 ) -> Result<Option<usize>, AllocError> {
     for (i, row) in rows.iter().enumerate() {
@@ -78,14 +92,14 @@ fn two_callers_link(rt: HostRuntime) -> Result<(), Fail> {
     assert_eq!(rt; link_word(&state, 0), Some(1));
     assert_eq!(rt; link_word(&state, 1), Some(49));
     assert_eq!(rt; link_word(&state, 2), Some(0));
-    assert_eq!(rt; state.free(), 0);
+    assert_eq!(rt; state.core.free(), 0);
     Ok(())
 }
 
 // The first row that is allowed and should not be, or the other way round.
 fn first_allowed_wrongly(
     alloc: Global,
-    state: &mut CoreState,
+    state: &mut Played,
     rows: &[(u32, Kind, bool)],
 ) -> Result<Option<usize>, AllocError> {
     for (i, row) in rows.iter().enumerate() {
@@ -175,7 +189,7 @@ fn arguments_at_their_limits(rt: HostRuntime) -> Result<(), Fail> {
 }
 
 // Each caller in turn writes its number and 19 words into its cell 0: 60 steps.
-fn three_announce(alloc: Global, state: &mut CoreState) -> Result<u64, AllocError> {
+fn three_announce(alloc: Global, state: &mut Played) -> Result<u64, AllocError> {
     let mut allowed = 0;
     for i in 0..20u64 {
         for caller in 0..3u32 {
@@ -196,7 +210,7 @@ fn three_announce(alloc: Global, state: &mut CoreState) -> Result<u64, AllocErro
 // A caller looks at a slot and reads words of the cell that it names: 13 steps.
 fn reads(
     alloc: Global,
-    state: &mut CoreState,
+    state: &mut Played,
     caller: u32,
     t: u64,
     k: u64,
@@ -245,9 +259,9 @@ const THREE_CALLERS: [Row; 23] = [
 const TICKETS: [(usize, u64, u64); 3] = [(0, 2, 67), (1, 1, 66), (2, 0, 67)];
 
 // The first caller with another first ticket or another number of steps.
-fn first_other(state: &CoreState) -> Option<usize> {
+fn first_other(state: &Played) -> Option<usize> {
     for (caller, want, made) in TICKETS {
-        let steps = state.locals().get(caller).map(|l| l.steps);
+        let steps = state.core.locals().get(caller).map(|l| l.steps);
         if ticket(state, caller) != Some(want) || steps != Some(made) {
             return Some(caller);
         }
@@ -273,7 +287,7 @@ fn three_callers_in_200_steps(rt: HostRuntime) -> Result<(), Fail> {
     }
     // the words of caller 1's entry
     for (i, word) in [(0, 1), (1, 101), (19, 119), (20, 0)] {
-        assert_eq!(rt; state.cell().get(145 * 16 + i).copied(), Some(word));
+        assert_eq!(rt; state.core.cell().get(145 * 16 + i).copied(), Some(word));
     }
     Ok(())
 }

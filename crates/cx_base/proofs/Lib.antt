@@ -1,2 +1,4 @@
 pub mod MemoryLemmas
 pub mod PackingLemmas
+pub mod ReadLemmas
+pub mod WordLemmas

@@ -1,9 +1,9 @@
 -- How the pairs that stand go on from one access to the next.
-use Rattle.std.proofs.Common.{◌≡◌, ◌^◌, ◌<◌, ℕ, suc, List, slice_index, slice_set, Option, None, Some, is_some, refl, subst, sym}
+use Rattle.std.proofs.Common.{◌≡◌, ◌^◌, ◌<◌, ◌≤◌, ℕ, suc, Bool, List, length, slice_index, slice_set, Option, None, Some, is_some, refl, subst, sym, ap, ◌∙◌}
 use Rattle.std.specs.List.{All}
 use Rattle.std.proofs.Math.Logic.{∥∥₁_elim}
 use Rattle.std.proofs.Math.Bridge.{le_prop}
-use Rattle.cx_base.specs.Memory.{Loaded, Stored, Becomes, Always, Known, one_less}
+use Rattle.cx_base.specs.Memory.{Words, Loaded, Stored, Becomes, Framed, Always, Known, one_less}
 
 module _ {Key : Type 0} where
   -- nothing done
@@ -40,6 +40,26 @@ module _ {Key : Type 0} where
     from = λ first now s. (let q = d.back first now s in let p = b.from first q.0 q.1 in (p.0, p.1, subst (λ z. S p.0 z) (sym q.2) (w first p.0 q.0 q.1 p.2)));
   }
 
+  -- two changes, one behind another
+  pub Becomes-both : {old mid new : Key → List ℕ → Type 0} {R S : List ℕ → List ℕ → Type 0} →
+      Becomes old mid R → Becomes mid new S → Becomes old new (λ x z. (y : List ℕ) × R x y × S y z)
+  Becomes-both b d = record {
+    from = λ first now s. (let q = d.from first now s in let p = b.from first q.0 q.1 in (p.0, p.1, (q.0, p.2, q.2)));
+  }
+
+  -- with a word loaded behind what was done
+  pub Becomes-loaded : {old mid new : Key → List ℕ → Type 0} {R : List ℕ → List ℕ → Type 0} {at v : ℕ} →
+      Becomes old mid R → Loaded at v mid new → Becomes old new (λ x y. R x y × (slice_index y at ≡ v))
+  Becomes-loaded b l = Becomes-load b l (λ first x y s r e. (r, e))
+
+  -- with the number of the words after it
+  pub Becomes-long : {old new : Key → List ℕ → Type 0} {R : List ℕ → List ℕ → Type 0} (n : ℕ) → ((first : Key) (now : List ℕ) → new first now → Words n now) → Becomes old new R → Becomes old new (λ x y. R x y × (length y ≡ n))
+  Becomes-long n words b = Becomes-weaker b (λ first x y s r. (r, (words first y s).long))
+
+  -- what held of all words before gives what holds of all words after
+  pub always_after : {old new : Key → List ℕ → Type 0} {R : List ℕ → List ℕ → Type 0} {P Q : List ℕ → Type 0} → Always old P → Becomes old new R → ((x y : List ℕ) → P x → R x y → Q y) → Always new Q
+  always_after all b w first now s = (let p = b.from first now s in w p.0 now (all first p.0 p.1) p.2)
+
   -- what holds of the words after holds of all that may be there
   pub Becomes-always : {old new : Key → List ℕ → Type 0} {R : List ℕ → List ℕ → Type 0} {P : List ℕ → Type 0} →
       Becomes old new R → ((x y : List ℕ) → R x y → P y) → Always new P
@@ -49,6 +69,24 @@ module _ {Key : Type 0} where
 pub is_some-one_less : (left : Option ℕ) → is_some (one_less left) ≡ is_some left
 is_some-one_less None = refl
 is_some-one_less (Some n) = refl
+
+module _ {Memory Fixed : Type 0} {size : Memory → ℕ} {fixed : Memory → Fixed} {writable : Memory → Bool} {left : Memory → Option ℕ} where
+  -- no call
+  pub Framed-same : (m : Memory) → Framed size fixed writable left m m
+  Framed-same m = record { size_kept = refl; fixed_kept = refl; writable_kept = refl; limited = refl }
+
+  -- one load or one store
+  pub Framed-access : {old new : Memory} → size new ≡ size old → fixed new ≡ fixed old → writable new ≡ writable old → left new ≡ one_less (left old) → Framed size fixed writable left old new
+  Framed-access s f w l = record { size_kept = s; fixed_kept = f; writable_kept = w; limited = ap is_some l ∙ is_some-one_less _ }
+
+  -- one call after another
+  pub Framed-then : {old mid new : Memory} → Framed size fixed writable left old mid → Framed size fixed writable left mid new → Framed size fixed writable left old new
+  Framed-then a b = record {
+    size_kept = b.size_kept ∙ a.size_kept;
+    fixed_kept = b.fixed_kept ∙ a.fixed_kept;
+    writable_kept = b.writable_kept ∙ a.writable_kept;
+    limited = b.limited ∙ a.limited;
+  }
 
 -- where all words are known, the words after are the known ones
 pub known_after : {R : List ℕ → List ℕ → Type 0} (ws vs : List ℕ) → All (λ x. x < 2 ^ 64) vs → Becomes (Known ws) (Known vs) R → R ws vs
@@ -61,13 +99,18 @@ pub known_always : (P : List ℕ → Type 0) (ws : List ℕ) → P ws → Always
 known_always P ws p first now s = subst P (sym s.same) p
 
 module _ {Key : Type 0} where
-  -- a bound on the words that may be there bounds the word loaded: some words stand
+  -- a bound that all the words that stand give: some words stand
+  pub always_at_most : (stands : Key → List ℕ → Type 0) → ∥ ((first : Key) × (now : List ℕ) × stands first now) ∥₁ → (a b : ℕ) → Always stands (λ _. a ≤ b) → a ≤ b
+  always_at_most stands some a b all = ∥∥₁_elim some le_prop (λ p. all p.0 p.1 p.2)
+
+  pub always_below : (stands : Key → List ℕ → Type 0) → ∥ ((first : Key) × (now : List ℕ) × stands first now) ∥₁ → (a b : ℕ) → Always stands (λ _. a < b) → a < b
+  always_below stands some a b all = always_at_most stands some (suc a) b all
+
+  -- a bound on the words that may be there bounds the word loaded
   pub loaded_below : {old new : Key → List ℕ → Type 0} (at v bound : ℕ) → ∥ ((first : Key) × (now : List ℕ) × new first now) ∥₁ →
       Loaded at v old new → Always old (λ now. slice_index now at < bound) → v < bound
   loaded_below {new = new} at v bound some l below =
-      ∥∥₁_elim some (le_prop {n = suc v} {m = bound}) (λ (p : (first : Key) × (now : List ℕ) × new first now). (
-      let q = l.back p.0 p.1 p.2 in
-      subst (λ n. n < bound) q.1 (below p.0 p.1 q.0)))
+      always_below new some v bound (λ first now s. (let q = l.back first now s in subst (λ n. n < bound) q.1 (below first now q.0)))
 
   -- what may be there after a load may have been there before
   pub Always-loaded : {old new : Key → List ℕ → Type 0} {at v : ℕ} (P : List ℕ → Type 0) → Loaded at v old new → Always old P → Always new P

@@ -1,10 +1,10 @@
 -- Bytes in words.
 use Rattle.std.proofs.Common.{◌≡◌, ℕ, zero, suc, ◌+◌, ◌*◌, ◌/◌, ◌%◌, ◌^◌, ◌<◌, ◌≤◌, List, length, get_or, drop, refl, sym, ap, add-zero, zero-add, ◌∙◌, arith}
 use Rattle.std.specs.List.{range_with_len, All}
-use Rattle.std.proofs.lemmas.List.{get_or-drop}
+use Rattle.std.proofs.lemmas.List.{get_or-drop, get_or_past}
 use Rattle.std.proofs.lemmas.List.FromFn.{fill_by_all, get_or-map-range_with_len}
 use Rattle.std.proofs.lemmas.List.Elements.{All-map}
-use Rattle.cx_base.specs.Packing.{byte_at, unpacked, word_at, packed}
+use Rattle.cx_base.specs.Packing.{byte_at, unpacked, packed_at, packed}
 
 -- a fact of each number below 8
 below_8 : (P : ℕ → Type 0) → P 0 → P 1 → P 2 → P 3 → P 4 → P 5 → P 6 → P 7 → (j : ℕ) → j < 8 → P j
@@ -19,8 +19,23 @@ below_8 P a b c d e f g h (suc (suc (suc (suc (suc (suc (suc zero))))))) l = h
 below_8 P a b c d e f g h (suc (suc (suc (suc (suc (suc (suc (suc j)))))))) l = absurd (omega arith)
 
 -- the first word of what is left behind k words' bytes is word k
-pub word_at-drop : (bytes : List ℕ) (k : ℕ) → word_at (drop (8 * k) bytes) 0 ≡ word_at bytes k
-word_at-drop bytes k = simp (get_or-drop, add-zero, zero-add)
+pub packed_at-drop : (bytes : List ℕ) (k : ℕ) → packed_at (drop (8 * k) bytes) 0 ≡ packed_at bytes k
+packed_at-drop bytes k = simp (get_or-drop, add-zero, zero-add)
+
+-- a word past the bytes' end
+pub packed_at-past : (bytes : List ℕ) (k : ℕ) → length bytes ≤ 8 * k → packed_at bytes k ≡ 0
+packed_at-past bytes k past =
+    omega (
+      arith,
+      get_or_past bytes (8 * k) 0 past,
+      get_or_past bytes (8 * k + 1) 0 (omega arith),
+      get_or_past bytes (8 * k + 2) 0 (omega arith),
+      get_or_past bytes (8 * k + 3) 0 (omega arith),
+      get_or_past bytes (8 * k + 4) 0 (omega arith),
+      get_or_past bytes (8 * k + 5) 0 (omega arith),
+      get_or_past bytes (8 * k + 6) 0 (omega arith),
+      get_or_past bytes (8 * k + 7) 0 (omega arith),
+    )
 
 -- eight bytes as one number
 bytes_sum : ℕ → ℕ → ℕ → ℕ → ℕ → ℕ → ℕ → ℕ → ℕ
@@ -62,7 +77,7 @@ module _ (a b c d e f g h : ℕ) (a_small : a < 256) (b_small : b < 256) (c_smal
   byte_7 = omega arith
 
 -- a byte of the word that holds it
-pub byte_in_word : (bytes : List ℕ) (k j : ℕ) → ((i : ℕ) → get_or bytes i 0 < 256) → j < 8 → word_at bytes k / 2 ^ (8 * j) % 256 ≡ get_or bytes (8 * k + j) 0
+pub byte_in_word : (bytes : List ℕ) (k j : ℕ) → ((i : ℕ) → get_or bytes i 0 < 256) → j < 8 → packed_at bytes k / 2 ^ (8 * j) % 256 ≡ get_or bytes (8 * k + j) 0
 unfolding bytes_sum
 byte_in_word bytes k j small l =
     let at : ℕ → ℕ = λ i. get_or bytes (8 * k + i) 0 in
@@ -91,7 +106,7 @@ packed_byte n i bytes small l =
     let within : i / 8 < n = omega arith in
     let below : i % 8 < 8 = omega arith in
     let place : 8 * (i / 8) + i % 8 ≡ i = omega arith in
-    ap (λ w. w / 2 ^ (8 * (i % 8)) % 256) (get_or-map-range_with_len (word_at bytes) 0 n (i / 8) (i / 8) 0 within (zero-add (i / 8)))
+    ap (λ w. w / 2 ^ (8 * (i % 8)) % 256) (get_or-map-range_with_len (packed_at bytes) 0 n (i / 8) (i / 8) 0 within (zero-add (i / 8)))
     ∙ byte_in_word bytes (i / 8) (i % 8) small below
     ∙ ap (λ m. get_or bytes m 0) place
 
@@ -109,8 +124,8 @@ word_byte words n k j within below =
     ∙ ap (λ m. get_or words k 0 / 2 ^ (8 * m) % 256) byte
 
 -- a word that is unpacked and packed again
-pub word_at-unpacked : (words : List ℕ) (k : ℕ) → get_or words k 0 < 2 ^ 64 → k < length words → word_at (unpacked (8 * length words) words) k ≡ get_or words k 0
-word_at-unpacked words k small within =
+pub packed_at-unpacked : (words : List ℕ) (k : ℕ) → get_or words k 0 < 2 ^ 64 → k < length words → packed_at (unpacked (8 * length words) words) k ≡ get_or words k 0
+packed_at-unpacked words k small within =
     let n = 8 * length words in
     let at : (j : ℕ) → j < 8 → get_or (unpacked (8 * length words) words) (8 * k + j) 0 ≡ get_or words k 0 / 2 ^ (8 * j) % 256 = λ j l. word_byte words (8 * length words) k j (omega arith) l in
     let first : get_or (unpacked (8 * length words) words) (8 * k) 0 ≡ get_or words k 0 / 2 ^ (8 * 0) % 256 = ap (λ m. get_or (unpacked (8 * length words) words) m 0) (sym (add-zero (8 * k))) ∙ at 0 (omega arith) in
@@ -119,13 +134,13 @@ word_at-unpacked words k small within =
 
 pub packed-unpacked : (words : List ℕ) → ((i : ℕ) → get_or words i 0 < 2 ^ 64) → packed (length words) (unpacked (8 * length words) words) ≡ words
 packed-unpacked words small =
-    sym (fill_by_all (word_at (unpacked (8 * length words) words)) words (length words) 0 refl (λ k below. sym (word_at-unpacked words k (small k) below)))
+    sym (fill_by_all (packed_at (unpacked (8 * length words) words)) words (length words) 0 refl (λ k below. sym (packed_at-unpacked words k (small k) below)))
 
-word_small : (bytes : List ℕ) (k : ℕ) → ((i : ℕ) → get_or bytes i 0 < 256) → word_at bytes k < 2 ^ 64
+word_small : (bytes : List ℕ) (k : ℕ) → ((i : ℕ) → get_or bytes i 0 < 256) → packed_at bytes k < 2 ^ 64
 word_small bytes k small =
     omega (arith, small (8 * k), small (8 * k + 1), small (8 * k + 2), small (8 * k + 3), small (8 * k + 4), small (8 * k + 5), small (8 * k + 6), small (8 * k + 7))
 
 -- packed bytes are words
 pub packed_fit : (n : ℕ) (bytes : List ℕ) → ((i : ℕ) → get_or bytes i 0 < 256) → All (λ w. w < 2 ^ 64) (packed n bytes)
 packed_fit n bytes small =
-    All-map (λ w. w < 2 ^ 64) (word_at bytes) (range_with_len 0 n) (λ k d l. word_small bytes (get_or (range_with_len 0 n) k d) small)
+    All-map (λ w. w < 2 ^ 64) (packed_at bytes) (range_with_len 0 n) (λ k d l. word_small bytes (get_or (range_with_len 0 n) k d) small)

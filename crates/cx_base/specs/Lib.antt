@@ -7,3 +7,4 @@ pub mod Store
 pub mod Tally
 pub mod TallyLaws
 pub mod VecMemory
+pub mod WordLaws

@@ -1,5 +1,5 @@
 -- What a memory tells: which words it may have held first, and which it then holds now.
-use Rattle.std.specs.Prelude.{◌≡◌, ◌-◌, ◌^◌, ◌<◌, ℕ, List, length, All, Option, Some, None, slice_index, slice_set}
+use Rattle.std.specs.Prelude.{◌≡◌, ◌+◌, ◌-◌, ◌^◌, ◌<◌, ℕ, Bool, List, [], ◌∷◌, length, All, Option, Some, None, is_some, slice_index, slice_set}
 use Rattle.std.proofs.Common.{ap}
 use Rattle.std.proofs.lemmas.List.Elements.{All-same}
 
@@ -31,6 +31,22 @@ pub record Stored {Key : Type 0} (at v : ℕ) (old new : Key → List ℕ → Ty
 -- each pair that stands now comes from one before, with the words before and after so related
 pub record Becomes {Key : Type 0} (old new : Key → List ℕ → Type 0) (R : List ℕ → List ℕ → Type 0) : Type 0 where
   pub from : (first : Key) (now : List ℕ) → new first now → (before : List ℕ) × old first before × R before now
+
+-- each pair that stands now stood before, and its words are so
+pub record Reads {Key : Type 0} (old new : Key → List ℕ → Type 0) (P : List ℕ → Type 0) : Type 0 where
+  pub from : (first : Key) (now : List ℕ) → new first now → old first now × P now
+
+-- Calls over a memory leave it the same memory: as many words, as writable, and a limit where there was one.
+pub record Framed {Memory Fixed : Type 0} (size : Memory → ℕ) (fixed : Memory → Fixed) (writable : Memory → Bool) (left : Memory → Option ℕ) (old new : Memory) : Type 0 where
+  pub size_kept : size new ≡ size old
+  pub fixed_kept : fixed new ≡ fixed old
+  pub writable_kept : writable new ≡ writable old
+  pub limited : is_some (left new) ≡ is_some (left old)
+
+-- words put over those from a place on
+unfoldable pub overwritten : ℕ → List ℕ → List ℕ → List ℕ
+overwritten at [] words = words
+overwritten at (v ∷ vs) words = overwritten (at + 1) vs (slice_set words at v)
 
 -- all the words that may be there now are so
 abbrev pub Always : {Key : Type 0} → (Key → List ℕ → Type 0) → (List ℕ → Type 0) → Type 0

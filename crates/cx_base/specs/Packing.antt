@@ -11,8 +11,8 @@ abbrev pub unpacked : ℕ → List ℕ → List ℕ
 unpacked n words = map (byte_at words) (range_with_len 0 n)
 
 -- word k of some bytes, with zeros behind their end
-abbrev pub word_at : List ℕ → ℕ → ℕ
-word_at bytes k =
+abbrev pub packed_at : List ℕ → ℕ → ℕ
+packed_at bytes k =
     slice_index bytes (8 * k)
     + 2 ^ 8 * slice_index bytes (8 * k + 1)
     + 2 ^ 16 * slice_index bytes (8 * k + 2)
@@ -24,4 +24,4 @@ word_at bytes k =
 
 -- n words that hold some bytes, and zeros behind them
 abbrev pub packed : ℕ → List ℕ → List ℕ
-packed n bytes = map (word_at bytes) (range_with_len 0 n)
+packed n bytes = map (packed_at bytes) (range_with_len 0 n)

@@ -1,25 +1,10 @@
 -- The laws of the object Tally.
-use Rattle.std.specs.Prelude.{◌≡◌, ◌+◌, ◌%◌, ◌^◌, ◌<◌, ℕ, Bool, true, false, cond, List, ◌∷◌, replicate, slice_index, slice_set, IsTrue, refl}
-use Rattle.std.proofs.Common.{ap, ◌∙◌, arith, lit<, suc}
-use Rattle.std.proofs.lemmas.List.{length-set, length-replicate, get_or-set_other}
-use Rattle.std.proofs.lemmas.List.Elements.{All-set, All-cons, All-replicate}
+use Rattle.std.specs.Prelude.{◌≡◌, ◌+◌, ◌%◌, ◌^◌, ◌<◌, ℕ, Bool, true, false, cond, List, slice_index, slice_set, IsTrue, refl}
+use Rattle.std.proofs.Common.{ap, ◌∙◌, arith, lit<}
+use Rattle.std.proofs.lemmas.List.{get_or-set_other}
 use Rattle.cx_base.specs.Memory.{Words}
+use Rattle.cx_base.specs.WordLaws.{Words-set, Words-at, Words-then_zeros}
 use Rattle.cx_base.specs.Tally.{IsTally, tally_opening, tally_reads, tally_reply, tally_sum, tally_step}
-
--- a word put among words
-pub Words-set : (n : ℕ) (ws : List ℕ) (at v : ℕ) → v < 2 ^ 64 → Words n ws → Words n (slice_set ws at v)
-Words-set n ws at v small w = record { long = length-set ws at v ∙ w.long; fit = All-set (λ x. x < 2 ^ 64) ws at v small w.fit }
-
--- one of some words
-pub Words-at : (n : ℕ) (ws : List ℕ) (at : ℕ) → Words n ws → at < n → slice_index ws at < 2 ^ 64
-Words-at n ws at w within = w.fit at 0 (omega (arith, w.long))
-
--- one word and as many zeros
-Words-then_zeros : (v n : ℕ) → v < 2 ^ 64 → Words (suc n) (v ∷ replicate n 0)
-Words-then_zeros v n small = record {
-  long = ap suc (length-replicate n 0);
-  fit = All-cons (λ x. x < 2 ^ 64) v (replicate n 0) small (All-replicate (λ x. x < 2 ^ 64) n 0 (lit< tt));
-}
 
 -- a fact of a choice
 by_case : {A : Type 0} (P : A → Type 0) (b : Bool) (x y : A) → P x → P y → P (cond b x y)
@@ -51,7 +36,7 @@ pub tally_replies : {O : Type 0} → O → (image op : List ℕ) → IsTally ima
 tally_replies o image op lawful w =
     let sum = tally_sum image op in
     by_case (λ (p : List ℕ × List ℕ). Words 144 p.1) (tally_reads op) (image, tally_reply (slice_index image 1)) (slice_set image 1 sum, tally_reply sum)
-    (reply_words _ (Words-at 512 image 1 lawful.words (lit< tt)))
+    (reply_words _ (Words-at 512 image 1 lawful.words))
     (reply_words _ (sum_small _ _))
 
 pub tally_leaves : {O : Type 0} → O → (image op : List ℕ) → IsTally image → Words 144 op → IsTrue (tally_reads op) → (tally_step image op).0 ≡ image

@@ -2,7 +2,7 @@
 
 ghost use Rattle.std.specs.Prelude.{◌≡◌, ◌+◌, ◌-◌, ◌<◌, ◌≤◌, ◌++◌, ◌∷◌, ℕ, Bool, true, List, [], Some, length, vec_len, vec_capacity, IfOk};
 ghost use Rattle.cx_base.specs.Memory.{Words};
-ghost use Rattle.cx_base.specs.Noted.{Shows, IsShown, some_shown, shown_words};
+ghost use Rattle.cx_base.specs.Noted.{NotesShow, IsToldByNotes, some_shown, shown_words};
 
 use crate::memory::{Halt, Memory};
 use std::alloc::{AllocError, Global};
@@ -15,7 +15,7 @@ pub struct Noted {
     room: usize,
     ghost fits: { vec_len notes ≤ room },
     ghost reserved: { room ≤ vec_capacity notes },
-    ghost shown: { IsShown notes.items words.items },
+    ghost shown: { IsToldByNotes notes.items words.items },
 }
 
 impl Noted {
@@ -46,7 +46,7 @@ impl Memory for Noted {
 
     ghost Key = { List ℕ };
 
-    ghost stands = { λ m. Shows (length m.words.items) m.notes.items };
+    ghost stands = { λ m. NotesShow (length m.words.items) m.notes.items };
 
     ghost some_stands = { λ m. some_shown m.notes.items m.words.items m.shown };
 

@@ -1,7 +1,7 @@
 //! Sequential objects: a deterministic step on an image of words.
 
-ghost use Rattle.std.specs.Prelude.{◌≡◌, ◌*◌, ◌↔◌, ℕ, Bool, List, length, slice_index, is_some, IsTrue, OnErr, OnOk, IfOk, Some};
-ghost use Rattle.cx_base.specs.Memory.{Words, Becomes, Always};
+ghost use Rattle.std.specs.Prelude.{◌≡◌, ◌*◌, ◌↔◌, ℕ, Bool, List, length, slice_index, IsTrue, OnErr, OnOk, IfOk, Some};
+ghost use Rattle.cx_base.specs.Memory.{Words, Becomes, Framed, Always};
 
 use crate::memory::{Halt, Memory};
 use std::alloc::{AllocError, Global};
@@ -41,10 +41,7 @@ pub trait Object: Drop {
         requires writable { IsTrue (M.writable mem.old) }
         ensures done { OnOk result (Becomes (M.stands mem.old) (M.stands mem.new) (λ _ now. now ≡ opening self.now)) }
         ensures halts { OnErr result (M.left mem.new ≡ Some 0) }
-        ensures limited { is_some (M.left mem.new) ≡ is_some (M.left mem.old) }
-        ensures fixed { M.fixed mem.new ≡ M.fixed mem.old }
-        ensures size_kept { M.size mem.new ≡ M.size mem.old }
-        ensures writable_kept { M.writable mem.new ≡ M.writable mem.old };
+        ensures framed { Framed M.size M.fixed M.writable M.left mem.old mem.new };
 
     /// Whether an operation only reads.
     fn reads(&self, op: &[u64; 144]) -> bool
@@ -57,10 +54,7 @@ pub trait Object: Drop {
         requires lawful { Always (M.stands mem.old) (lawful self.now) }
         ensures done { IfOk result (λ reply. Becomes (M.stands mem.old) (M.stands mem.new) (λ before now. step self.now before op.now ≡ (now, reply))) }
         ensures halts { OnErr result (M.left mem.new ≡ Some 0) }
-        ensures limited { is_some (M.left mem.new) ≡ is_some (M.left mem.old) }
-        ensures fixed { M.fixed mem.new ≡ M.fixed mem.old }
-        ensures size_kept { M.size mem.new ≡ M.size mem.old }
-        ensures writable_kept { M.writable mem.new ≡ M.writable mem.old };
+        ensures framed { Framed M.size M.fixed M.writable M.left mem.old mem.new };
 
     /// Gives the reply to an operation that only reads, and stores nothing. `Halt` comes only where no access is
     /// left.
@@ -71,10 +65,7 @@ pub trait Object: Drop {
         ensures done { IfOk result (λ reply. Always (M.stands mem.new) (λ now. step self.now now op.now ≡ (now, reply))) }
         ensures unchanged { Becomes (M.stands mem.old) (M.stands mem.new) ◌≡◌ }
         ensures halts { OnErr result (M.left mem.new ≡ Some 0) }
-        ensures limited { is_some (M.left mem.new) ≡ is_some (M.left mem.old) }
-        ensures fixed { M.fixed mem.new ≡ M.fixed mem.old }
-        ensures size_kept { M.size mem.new ≡ M.size mem.old }
-        ensures writable_kept { M.writable mem.new ≡ M.writable mem.old };
+        ensures framed { Framed M.size M.fixed M.writable M.left mem.old mem.new };
 
     /// Whether words are a lawful image. `Err` is want of memory.
     fn check(&self, alloc: Global, words: &[u64]) -> Result<bool, AllocError>

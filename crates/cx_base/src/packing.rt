@@ -1,17 +1,37 @@
 //! Bytes packed into words, eight to a word.
 
 ghost use Rattle.std.specs.Prelude.{◌≡◌, ◌+◌, ◌*◌, ◌/◌, ◌%◌, ◌^◌, ◌<◌, ◌≤◌, ℕ, List, All, length, slice_index, drop};
-ghost use Rattle.cx_base.specs.Packing.{byte_at, unpacked, word_at, packed};
+ghost use Rattle.cx_base.specs.Packing.{byte_at, unpacked, packed_at, packed};
 
 /// Puts byte i into word i / 8 at bits 8 * (i mod 8), and fills the rest with 0.
 pub fn pack(bytes: &[u8], into: &mut [u64])
     requires { length bytes.now ≤ 8 * length into.old }
     ensures { into.new ≡ packed (length into.old) bytes.now }
 {
+    let used = bytes.len().div_ceil(8);
+    pack_front(bytes, into, used);
+    clear_from(into, used);
+}
+
+/// Packs bytes into that many of the first words.
+fn pack_front(bytes: &[u8], into: &mut [u64], used: usize)
+    requires { used ≤ length into.old }
+    ensures { (k : ℕ) → k < used → slice_index into.new k ≡ packed_at bytes.now k }
+{
     let mut rest = bytes;
-    for word in into.iter_mut() {
-        *word = first_word(rest);
+    for k in 0..used {
+        into[k] = first_word(rest);
         rest = behind_first_word(rest);
+    }
+}
+
+/// Puts 0 into the words from a place on. Most of an operation or a reply is such words.
+fn clear_from(into: &mut [u64], from: usize)
+    ensures front { (k : ℕ) → k < from → slice_index into.new k ≡ slice_index into.old k }
+    ensures rest { (k : ℕ) → from ≤ k → slice_index into.new k ≡ 0 }
+{
+    for k in from..into.len() {
+        into[k] = 0;
     }
 }
 
@@ -35,7 +55,26 @@ fn byte_of(word: u64, place: usize) -> u8
 
 /// The first eight bytes as a word, with zeros behind their end.
 fn first_word(bytes: &[u8]) -> u64
-    ensures { result ≡ word_at bytes.now 0 }
+    ensures { result ≡ packed_at bytes.now 0 }
+{
+    if bytes.len() >= 8 {
+        whole_word(bytes)
+    } else {
+        short_word(bytes)
+    }
+}
+
+fn whole_word(bytes: &[u8]) -> u64
+    requires { 8 ≤ length bytes.now }
+    ensures { result ≡ packed_at bytes.now 0 }
+{
+    u64::from_le_bytes([
+        bytes[0], bytes[1], bytes[2], bytes[3], bytes[4], bytes[5], bytes[6], bytes[7],
+    ])
+}
+
+fn short_word(bytes: &[u8]) -> u64
+    ensures { result ≡ packed_at bytes.now 0 }
 {
     u64::from_le_bytes([
         byte_or_zero(bytes, 0),

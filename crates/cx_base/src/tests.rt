@@ -1,8 +1,10 @@
 //! The worked rows of codes and packing, and the object Tally over two memories.
 
-ghost use Rattle.std.specs.Prelude.{◌≡◌, IfOk, IsTrue, replicate};
+ghost use Rattle.std.specs.Prelude.{◌≡◌, ◌<◌, IfOk, IsTrue, replicate, slice_index};
+ghost use Rattle.cx_base.specs.Memory.{Always};
 ghost use Rattle.cx_base.specs.Tally.{IsTally, tally_opening, tally_step};
 
+use crate::accesses::{load_below, store_words};
 use crate::codes::{link_cell, link_code, link_ticket, root_code, root_place, root_replica};
 use crate::memory::{Halt, Memory, VecMemory};
 use crate::noted::Noted;
@@ -216,5 +218,38 @@ fn tally_over_a_memory_with_notes(rt: HostRuntime) -> Result<(), Fail> {
     assert_eq!(rt; format_and_run(&mut memory, &add(9))?, reply(9));
     assert_eq!(rt; memory.load(1)?, 9);
     assert_eq!(rt; memory.accesses(), 515);
+    Ok(())
+}
+
+// A word below a bound, and words put behind it, over any memory.
+fn load_and_store<M: Memory>(memory: &mut M) -> Result<u64, Halt>
+    requires size { M.size memory.old ≡ 8 }
+    requires writable { IsTrue (M.writable memory.old) }
+    requires below { Always (M.stands memory.old) (λ words. slice_index words 0 < 10) }
+{
+    let word = load_below(memory, 0, 10)?;
+    store_words(memory, 2, &[3, 4, word + 5])?;
+    memory.load(4)
+}
+
+// The same over zeros.
+fn over_zeros(words: Vec<u64>, left: Option<u64>) -> Result<u64, Halt>
+    requires { words.items ≡ replicate 8 0 }
+{
+    let mut memory = VecMemory::of(words, left);
+    load_and_store(&mut memory)
+}
+
+#[test]
+fn words_over_a_memory(rt: HostRuntime) -> Result<(), Fail> {
+    assert_eq!(rt; over_zeros(zeros(rt.alloc(), 8)?, None)?, 5);
+    for left in 0..5 {
+        assert_eq!(rt;
+            over_zeros(zeros(rt.alloc(), 8)?, Some(left)),
+            Err(Halt),
+            "with {left} accesses left"
+        );
+    }
+    assert_eq!(rt; over_zeros(zeros(rt.alloc(), 8)?, Some(5))?, 5);
     Ok(())
 }

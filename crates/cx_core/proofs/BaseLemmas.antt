@@ -2,8 +2,8 @@
 use Rattle.std.proofs.Common.{◌≡◌, ◌+◌, ◌-◌, ◌*◌, ◌^◌, ◌<◌, ◌≤◌, ℕ, List, [], ◌++◌, length, take, drop, replicate, slice_index, sym, ap, ◌∙◌, subst, arith}
 use Rattle.std.specs.List.{All}
 use Rattle.std.proofs.lemmas.List.{append-nil, length-append, length-replicate, replicate-append-replicate, get_or_append_left, get_or-replicate, drop-append-le, drop-replicate, take-append-le, take-replicate, drop_at}
-use Rattle.cx_base.specs.Memory.{Words}
-use Rattle.cx_core.specs.Region.{region_words, slot_start, slot_reply, object_part, overwritten, LawfulResults}
+use Rattle.cx_base.specs.Memory.{Words, overwritten}
+use Rattle.cx_core.specs.Region.{region_words, slot_start, slot_reply, object_part, LawfulResults}
 use Rattle.cx_core.specs.Base.{LawfulBase, no_results, fresh_region}
 use Rattle.cx_core.specs.Step.{OnPart}
 use Rattle.cx_core.proofs.StepLemmas.{overwritten_middle}

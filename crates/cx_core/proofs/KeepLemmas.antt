@@ -4,8 +4,8 @@ use Rattle.std.specs.List.{All}
 use Rattle.std.proofs.lemmas.List.{length-set, length-drop, length-take-le, get_or-set_other, get_or-set_same, get_or-drop, get_or-take, ext_get_or}
 use Rattle.std.proofs.lemmas.List.Elements.{All-set, All-head, All-tail, All-cons, All-nil}
 use Rattle.std.proofs.lemmas.Bool.{cases_order}
-use Rattle.cx_base.specs.Memory.{Words}
-use Rattle.cx_core.specs.Region.{region_words, place_of, slot_start, slot_number, slot_reply, object_part, overwritten, LawfulResults}
+use Rattle.cx_base.specs.Memory.{Words, overwritten}
+use Rattle.cx_core.specs.Region.{region_words, place_of, slot_start, slot_number, slot_reply, object_part, LawfulResults}
 use Rattle.cx_core.specs.Base.{LawfulBase}
 use Rattle.cx_core.specs.Step.{full_step_of}
 use Rattle.cx_core.specs.declared.entry.Base.{Base}
@@ -218,3 +218,15 @@ keeps lines lawful step base entry next law below few some most image_lawful ima
         ap (slot_reply c) is ∙ other_reply lines base.words done.0 done.1 entry.caller entry.number (base.place + 1) few law.size.long image_words.long reply_words.long c small other,
       );
     }
+
+-- what a full step makes of a region: its size stays, its place is the next one, and its object part is the object's next image
+pub region_kept : (lines : ℕ) (step : List ℕ → List ℕ → List ℕ × List ℕ) (entry : Entry) (region : List ℕ) → entry.caller < 8 → length region ≡ region_words lines →
+    length ((step (object_part region) entry.op).0) ≡ 8 * lines → length ((step (object_part region) entry.op).1) ≡ 144 →
+    (length (full_step_of step entry region) ≡ region_words lines) × (place_of (full_step_of step entry region) ≡ place_of region + 1) × (object_part (full_step_of step entry region) ≡ (step (object_part region) entry.op).0)
+region_kept lines step entry region few size image_long reply_long =
+    let done = step (object_part region) entry.op in
+    let is = full_step_is lines step entry region few size image_long reply_long in (
+      ap length is ∙ stepped_long lines region done.0 done.1 entry.caller entry.number (place_of region + 1) few size image_long reply_long,
+      ap place_of is ∙ at_start lines region done.0 done.1 entry.caller entry.number (place_of region + 1) few size image_long reply_long,
+      ap object_part is ∙ its_object lines region done.0 done.1 entry.caller entry.number (place_of region + 1) few size image_long reply_long,
+    )

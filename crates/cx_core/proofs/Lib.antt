@@ -1,7 +1,10 @@
 pub mod BaseLemmas
 pub mod EventLemmas
 pub mod HistoryLemmas
+pub mod ImageLemmas
 pub mod KeepLemmas
+pub mod LayoutLemmas
 pub mod ListLemmas
+pub mod MergeLemmas
 pub mod StateLemmas
 pub mod StepLemmas

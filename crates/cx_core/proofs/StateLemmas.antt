@@ -1,8 +1,8 @@
 -- The state with which a core opens: it is whole, and the lists in it grow by one copy.
-use Rattle.std.proofs.Common.{◌≡◌, ◌+◌, ◌*◌, ◌<◌, ◌≤◌, ℕ, length, Some, length-append, zero, suc, List, [], ◌∷◌, ◌++◌, replicate, refl, ap, sym, ◌∙◌, append_assoc, add-one, arith}
+use Rattle.std.proofs.Common.{◌≡◌, ◌+◌, ◌*◌, ◌<◌, ◌≤◌, ℕ, length, Some, length-append, zero, suc, List, [], ◌∷◌, ◌++◌, replicate, refl, ap, sym, subst, ◌∙◌, append_assoc, add-one, arith}
 use Rattle.std.proofs.lemmas.List.{append-nil, length-replicate}
 use Rattle.std.proofs.lemmas.List.FromFn.{length-map-range_with_len, get_or-map-range_with_len}
-use Rattle.std.proofs.lemmas.Option.{slice_get_within, get_or_from_slice_get}
+use Rattle.std.proofs.lemmas.Option.{slice_get_within, get_or_from_slice_get, none-some}
 use Rattle.std.specs.List.{slice_get}
 use Rattle.cx_core.specs.declared.entry.Base.{Base}
 use Rattle.cx_core.specs.declared.local.Local.{Local}
@@ -50,4 +50,5 @@ opening_whole callers lines base some few slots = record {
   long = length-opening callers base some;
   count = length-map-range_with_len (opening_local callers base.place) 0 callers;
   numbers = λ caller l at. ap (λ (x : Local). x.number) (opening_at callers base.place caller l at).1;
+  entries = λ caller l at i x there. absurd (none-some x (subst (λ (y : Local). slice_get y.own i ≡ Some x) (opening_at callers base.place caller l at).1 there));
 }

@@ -2,9 +2,9 @@
 use Rattle.std.proofs.Common.{◌≡◌, ◌+◌, ◌<◌, ℕ, List, [], ◌∷◌, ◌++◌, length, take, drop, slice_index, slice_set, Result, Ok, Err, refl, sym, ap, ◌∙◌, subst, arith, append_assoc}
 use Rattle.std.specs.Result.{IfOk}
 use Rattle.std.proofs.lemmas.List.{append-nil, take-append-drop, length-append, length-take-le, length-drop, drop_at, nil_from_length, set_at, length_push}
-use Rattle.cx_base.specs.Memory.{Loaded, Stored, Becomes, Always}
+use Rattle.cx_base.specs.Memory.{Loaded, Stored, Becomes, Always, overwritten}
 use Rattle.cx_core.specs.Inside.{Inside, inside_store}
-use Rattle.cx_core.specs.Region.{place_of, slot_start, object_part, overwritten}
+use Rattle.cx_core.specs.Region.{place_of, slot_start, object_part}
 use Rattle.cx_core.specs.Step.{full_step_of, OnPart}
 use Rattle.cx_core.specs.declared.entry.Entry.{Entry}
 
@@ -41,14 +41,6 @@ overwritten_middle (v ∷ vs) front (y ∷ part) behind from f e =
     ∙ ap (λ xs. xs ++ behind) (sym (append_assoc front (v ∷ []) part)) in
     let rest = overwritten_middle vs (front ++ v ∷ []) part behind (from + 1) (length_push front v ∙ ap (λ n. n + 1) f) (omega (arith, e)) in
     ap (overwritten (from + 1) vs) one ∙ rest ∙ ap (λ xs. xs ++ behind) (append_assoc front (v ∷ []) vs)
-
--- one word more at the end
-pub overwritten_more : (vs ws : List ℕ) (at i v : ℕ) → length vs ≡ i → overwritten at (vs ++ v ∷ []) ws ≡ slice_set (overwritten at vs ws) (at + i) v
-unfolding overwritten
-overwritten_more [] ws at i v e = ap (λ n. slice_set ws n v) (omega (arith, e))
-overwritten_more (x ∷ vs) ws at i v e =
-    let here : at + 1 + length vs ≡ at + i = omega (arith, e) in
-    overwritten_more vs (slice_set ws at x) (at + 1) (length vs) v refl ∙ ap (λ n. slice_set (overwritten (at + 1) vs (slice_set ws at x)) n v) here
 
 module _ {Key : Type 0} where
   -- what holds of the words from a place on holds of that part

@@ -1,90 +1,51 @@
 -- The kinds of step: when a step is allowed, the word that it is on, what the word becomes, and the caller's local state
 -- afterwards.
-use Rattle.std.specs.Prelude.{◌≡◌, ◌+◌, ◌*◌, ◌%◌, ◌^◌, ◌<◌, ◌⊎◌, ◌==◌, ℕ, min, max, Bool, true, false, if◌then◌else◌, List, [], ◌∷◌, ◌++◌, length, slice_get, slice_range, slice_index, slice_index_or, slice_set, Option, Some, None}
-use Rattle.cx_base.specs.Codes.{link_code_of, link_ticket_of, link_cell_of}
-use Rattle.cx_core.specs.declared.entry.Base.{Base}
-use Rattle.cx_core.specs.declared.entry.Entry.{Entry}
+use Rattle.std.specs.Prelude.{◌≡◌, ◌+◌, ◌-◌, ◌*◌, ◌%◌, ◌<◌, ◌==◌, ◌↔◌, ℕ, max, nat_lt, Bool, IsTrue, true, false, if◌then◌else◌, List, [], ◌∷◌, length, slice_get, slice_index, slice_set, Some, None}
+use Rattle.std.specs.Option.{option_map}
 use Rattle.cx_core.specs.declared.kinds.Event.{Event}
 use Rattle.cx_core.specs.declared.kinds.Kind.{Kind}
-use Rattle.cx_core.specs.declared.kinds.Kind.TheVariants.{WriteCell, Link, Look, ReadCell, LoadFree}
-use Rattle.cx_core.specs.declared.local.Cell.{Cell}
+use Rattle.cx_core.specs.declared.kinds.Kind.TheVariants.{WriteCell, Link, Look, ReadCell, LoadFree, TryExclusive, TryShared, BackOff, Downgrade, ReleaseExclusive, LoadWord, StoreWord, Persist}
 use Rattle.cx_core.specs.declared.local.Local.{Local}
-use Rattle.cx_core.specs.declared.local.SeenSlot.{SeenSlot}
-use Rattle.cx_core.specs.Layout.{cell_count, link_at, cell_at, free_at, max_word}
-use Rattle.cx_core.specs.Region.{slot_number}
-use Rattle.cx_core.specs.State.{Instance, State}
-
--- a caller's cell, of which there are 16
-abbrev pub cell_of : Local → ℕ → Cell
-cell_of l j = slice_index_or l.cells j (record { words = []; ticket = None; set = []; offer = 0 })
-
--- a cell may be written: it was never linked since it was last written, or its ticket is below FREE
-abbrev pub IsIdleAt : ℕ → Option ℕ → Type 0
-IsIdleAt free None = Unit {0}
-IsIdleAt free (Some ticket) = ticket < free
-
-abbrev pub IsIdle : Local → ℕ → Type 0
-IsIdle l j = IsIdleAt l.seen_free (cell_of l j).ticket
-
--- the entry that stands in a caller's cell
-abbrev pub entry_in : Local → ℕ → Entry
-entry_in l j = record { caller = l.number; number = slice_index (cell_of l j).words 0; op = slice_range (cell_of l j).words 1 145 }
-
--- the number of a caller's next entry: its numbers go on from the one in the base
-abbrev pub next_number : Base → Local → ℕ
-next_number base l = slot_number l.number base.words + length l.own + 1
-
--- the slot last looked at shows that this ticket can be linked: its slot was never used, or has the ticket before in it
-abbrev pub ShowsOpen : ℕ → Option SeenSlot → ℕ → Type 0
-ShowsOpen callers None ticket = ⊥
-ShowsOpen callers (Some seen) ticket =
-    (seen.slot ≡ ticket % cell_count callers)
-    × ((seen.word ≡ 0) ⊎ ((0 < seen.word) × (link_ticket_of callers seen.word + cell_count callers ≡ ticket)))
-
--- the slot last looked at shows this ticket in this cell
-abbrev pub ShowsTicket : ℕ → Option SeenSlot → ℕ → ℕ → Type 0
-ShowsTicket callers None ticket cell = ⊥
-ShowsTicket callers (Some seen) ticket cell =
-    (seen.slot ≡ ticket % cell_count callers)
-    × (0 < seen.word)
-    × (link_ticket_of callers seen.word ≡ ticket)
-    × (link_cell_of callers seen.word ≡ cell)
-
-abbrev pub seen_word : Option SeenSlot → ℕ
-seen_word None = 0
-seen_word (Some seen) = seen.word
-
--- a caller may try to link the entry in its cell: the cell is idle and has the caller's next number, the front is below
--- 2^40 and its slot was seen open, and each own entry is answered (own entries are answered in order, so their counts say
--- it)
-abbrev pub CanLink : ℕ → Base → Local → ℕ → Type 0
-CanLink callers base l j =
-    (j < 16)
-    × IsIdle l j
-    × (slice_index (cell_of l j).words 0 ≡ next_number base l)
-    × (l.front < 2 ^ 40)
-    × ShowsOpen callers l.seen_slot l.front
-    × (length l.answered ≡ length l.own)
+use Rattle.cx_core.specs.History.{IsFull}
+use Rattle.cx_core.specs.Layout.{cell_count, cell_at, free_at, link_at, lock_at, per_at, vol_at}
+use Rattle.cx_core.specs.LockEvents.{CanBackOff, CanGiveUp, CanTryExclusive, CanTryShared, backed_off, downgraded_to, exclusive_mark, minus, passing, plus, refused_by, shared_by, taken}
+use Rattle.cx_core.specs.Merge.{scene_of}
+use Rattle.cx_core.specs.QueueEvents.{CanLink, IsIdle, ShowsTicket, exchanged, linked, lost, raised_front, seen_word, written}
+use Rattle.cx_core.specs.RegionEvents.{CanLoadAs, CanPersist, CanStore, loaded_by, persisted, stored_into}
+use Rattle.cx_core.specs.Rights.{held_words}
+use Rattle.cx_core.specs.State.{Instance, Scene, State, one_more}
 
 -- when a step is allowed
-abbrev pub Guard : Instance → Kind → Local → Type 0
-Guard instance (WriteCell j i v) l = (j < 16) × (i < 145) × IsIdle l j
-Guard instance (Link j) l = CanLink instance.callers instance.base l j
-Guard instance (Look s) l = s < cell_count instance.callers
-Guard instance (ReadCell t k i) l = (t < l.front) × (i < 145) × ShowsTicket instance.callers l.seen_slot t k
-Guard instance LoadFree l = Unit {0}
+abbrev pub Guard : Instance → Scene → Kind → Local → Type 0
+Guard instance scene (WriteCell j i v) l = (j < 16) × (i < 145) × IsIdle l j
+Guard instance scene (Link j) l = CanLink instance.callers instance.base l j
+Guard instance scene (Look s) l = s < cell_count instance.callers
+Guard instance scene (ReadCell t k i) l = (t < l.front) × (i < 145) × ShowsTicket instance.callers l.seen_slot t k
+Guard instance scene LoadFree l = Unit {0}
+Guard instance scene (TryExclusive r) l = CanTryExclusive instance.callers r l
+Guard instance scene (TryShared r) l = CanTryShared instance.callers r l
+Guard instance scene (BackOff r) l = CanBackOff instance.callers r l
+Guard instance scene (Downgrade r) l = CanGiveUp instance scene r l
+Guard instance scene (ReleaseExclusive r) l = CanGiveUp instance scene r l
+Guard instance scene (LoadWord r i refused) l = CanLoadAs refused instance.callers (length instance.base.words) scene.words r i l
+Guard instance scene (StoreWord r i v) l = CanStore instance.callers (length instance.base.words) r i l
+Guard instance scene (Persist r i) l = CanPersist instance.callers (length instance.base.words) r i l
 
 -- the word that a step is on
-abbrev pub word_at : Instance → Kind → Local → ℕ
-word_at instance (WriteCell j i v) l = cell_at instance.callers (16 * l.number + j) i
-word_at instance (Link j) l = link_at instance.callers (l.front % cell_count instance.callers)
-word_at instance (Look s) l = link_at instance.callers s
-word_at instance (ReadCell t k i) l = cell_at instance.callers k i
-word_at instance LoadFree l = free_at
-
--- a link is a compare-exchange from the word seen to the link code of the front and the cell
-abbrev pub exchanged : ℕ → Local → ℕ → ℕ → ℕ
-exchanged callers l j found = if found == seen_word l.seen_slot then link_code_of callers l.front (16 * l.number + j) else found
+abbrev pub step_word : Instance → Kind → Local → ℕ
+step_word instance (WriteCell j i v) l = cell_at instance.callers (16 * l.number + j) i
+step_word instance (Link j) l = link_at instance.callers (l.front % cell_count instance.callers)
+step_word instance (Look s) l = link_at instance.callers s
+step_word instance (ReadCell t k i) l = cell_at instance.callers k i
+step_word instance LoadFree l = free_at
+step_word instance (TryExclusive r) l = lock_at instance.callers r
+step_word instance (TryShared r) l = lock_at instance.callers r
+step_word instance (BackOff r) l = lock_at instance.callers r
+step_word instance (Downgrade r) l = lock_at instance.callers r
+step_word instance (ReleaseExclusive r) l = lock_at instance.callers r
+step_word instance (LoadWord r i refused) l = vol_at instance.callers (length instance.base.words) r i
+step_word instance (StoreWord r i v) l = vol_at instance.callers (length instance.base.words) r i
+step_word instance (Persist r i) l = per_at instance.callers (length instance.base.words) r i
 
 -- what the word becomes, given the word found
 abbrev pub new_word : Instance → Kind → Local → ℕ → ℕ
@@ -93,79 +54,77 @@ new_word instance (Link j) l found = exchanged instance.callers l j found
 new_word instance (Look s) l found = found
 new_word instance (ReadCell t k i) l found = found
 new_word instance LoadFree l found = found
-
--- a front after a link word was found: the ticket in it is linked, and so is each one before it
-abbrev pub raised_front : ℕ → ℕ → ℕ → ℕ
-raised_front callers front found = if found == 0 then front else max front (link_ticket_of callers found + 1)
-
--- a count that stays at its type's end
-abbrev pub one_more : ℕ → ℕ
-one_more n = min (n + 1) max_word
-
--- the cells after a word was written into one, whose old ticket is forgotten
-abbrev pub written : Local → ℕ → ℕ → ℕ → List Cell
-written l j i v = slice_set l.cells j (record (cell_of l j) { words = slice_set (cell_of l j).words i v; ticket = None })
-
--- the local state after a link that won: the entry in the cell is linked at the front
-abbrev pub linked : Local → ℕ → Local
-linked l j = record l {
-  front = l.front + 1;
-  own = l.own ++ record { ticket = l.front; entry = entry_in l j } ∷ [];
-  cells = slice_set l.cells j (record (cell_of l j) { ticket = Some l.front });
-  steps = one_more l.steps;
-}
-
--- the local state after a link that was lost to the ticket found
-abbrev pub lost : ℕ → Local → ℕ → Local
-lost callers l found = record l { front = raised_front callers l.front found; steps = one_more l.steps }
+new_word instance (TryExclusive r) l found = if found == 0 then exclusive_mark else found
+new_word instance (TryShared r) l found = plus found 1
+new_word instance (BackOff r) l found = minus found 1
+new_word instance (Downgrade r) l found = minus found (exclusive_mark - 1)
+new_word instance (ReleaseExclusive r) l found = minus found exclusive_mark
+new_word instance (LoadWord r i refused) l found = found
+new_word instance (StoreWord r i v) l found = v
+new_word instance (Persist r i) l found = slice_index (held_words l.exclusive) i
 
 -- the caller's local state afterwards, given the word found
-abbrev pub next : Instance → Kind → Local → ℕ → Local
-next instance (WriteCell j i v) l found = record l { cells = written l j i v; fresh = false; steps = one_more l.steps }
-next instance (Link j) l found = if found == seen_word l.seen_slot then linked l j else lost instance.callers l found
-next instance (Look s) l found = record l {
+abbrev pub next : Instance → Scene → Kind → Local → ℕ → Local
+next instance scene (WriteCell j i v) l found = record l { cells = written l j i v; fresh = false; steps = one_more l.steps }
+next instance scene (Link j) l found = if found == seen_word l.seen_slot then linked l j else lost instance.callers l found
+next instance scene (Look s) l found = record l {
   seen_slot = Some (record { slot = s; word = found });
   front = raised_front instance.callers l.front found;
   steps = one_more l.steps;
 }
-next instance (ReadCell t k i) l found = record l { steps = one_more l.steps }
-next instance LoadFree l found = record l { seen_free = max l.seen_free found; steps = one_more l.steps }
+next instance scene (ReadCell t k i) l found = record l { steps = one_more l.steps }
+next instance scene LoadFree l found = record l { seen_free = max l.seen_free found; steps = one_more l.steps }
+next instance scene (TryExclusive r) l found = if found == 0 then taken instance scene r l else refused_by instance.callers r l found
+next instance scene (TryShared r) l found = if nat_lt found exclusive_mark then shared_by r l found else passing instance.callers r l found
+next instance scene (BackOff r) l found = backed_off r l
+next instance scene (Downgrade r) l found = downgraded_to r l
+next instance scene (ReleaseExclusive r) l found = record l { exclusive = None; steps = one_more l.steps }
+next instance scene (LoadWord r i refused) l found = loaded_by r i refused l found
+next instance scene (StoreWord r i v) l found = record l { exclusive = option_map (stored_into i v) l.exclusive; steps = one_more l.steps }
+next instance scene (Persist r i) l found = record l { exclusive = option_map (persisted i) l.exclusive; steps = one_more l.steps }
 
--- the words after a step of a caller with this local state, and the word that it found
+-- the word that a step of a caller with this local state finds, and the words after it
 abbrev pub found_by : Instance → Kind → Local → List ℕ → ℕ
-found_by instance kind l words = slice_index words (word_at instance kind l)
+found_by instance kind l words = slice_index words (step_word instance kind l)
 
 abbrev pub words_after : Instance → Kind → Local → List ℕ → List ℕ
-words_after instance kind l words = slice_set words (word_at instance kind l) (new_word instance kind l (found_by instance kind l words))
+words_after instance kind l words = slice_set words (step_word instance kind l) (new_word instance kind l (found_by instance kind l words))
 
-abbrev pub local_after : Instance → Kind → Local → List ℕ → Local
-local_after instance kind l words = next instance kind l (found_by instance kind l words)
+abbrev pub local_after : Instance → Scene → Kind → Local → Local
+local_after instance scene kind l = next instance scene kind l (found_by instance kind l scene.words)
 
 -- whether a caller's step was allowed and made, or not allowed and nothing changed
-abbrev pub Did : Bool → Instance → Kind → Local → List ℕ → Local → List ℕ → Type 0
-Did true instance kind l words l' words' = Guard instance kind l × (l' ≡ local_after instance kind l words) × (words' ≡ words_after instance kind l words)
-Did false instance kind l words l' words' = (¬ Guard instance kind l) × (l' ≡ l) × (words' ≡ words)
+abbrev pub Did : Bool → Instance → Scene → Kind → Local → Local → List ℕ → Type 0
+Did true instance scene kind l l' words' =
+    Guard instance scene kind l × (l' ≡ local_after instance scene kind l) × (words' ≡ words_after instance kind l scene.words)
+Did false instance scene kind l l' words' = (¬ Guard instance scene kind l) × (l' ≡ l) × (words' ≡ scene.words)
 
--- an event is allowed where its caller is one and its guard holds
-pub record Allowed (instance : Instance) (event : Event) (locals : List Local) : Type 0 where
+-- an event is allowed in a state where its caller is one and its guard holds
+pub record Allowed (instance : Instance) (event : Event) (s : State) : Type 0 where
   pub local : Local
-  pub of_caller : slice_get locals event.caller ≡ Some local
-  pub guard : Guard instance event.kind local
+  pub of_caller : slice_get s.locals event.caller ≡ Some local
+  pub guard : Guard instance (scene_of instance s) event.kind local
 
 -- an allowed event makes one step on one word, and changes the local state of its caller alone
 pub record Makes (instance : Instance) (event : Event) (before after : State) : Type 0 where
   pub local : Local
   pub of_caller : slice_get before.locals event.caller ≡ Some local
-  pub guard : Guard instance event.kind local
+  pub guard : Guard instance (scene_of instance before) event.kind local
   pub words : after.words ≡ words_after instance event.kind local before.words
-  pub locals : after.locals ≡ slice_set before.locals event.caller (local_after instance event.kind local before.words)
+  pub locals : after.locals ≡ slice_set before.locals event.caller (local_after instance (scene_of instance before) event.kind local)
 
 -- whether an event was allowed and made, or not allowed and nothing changed
 abbrev pub Applied : Bool → Instance → Event → State → State → Type 0
 Applied true instance event before after = Makes instance event before after
-Applied false instance event before after = (¬ Allowed instance event before.locals) × (after ≡ before)
+Applied false instance event before after = (¬ Allowed instance event before) × (after ≡ before)
 
 -- a run: a list of allowed events, one after another
 abbrev pub Run : Instance → State → List Event → State → Type 0
 Run instance from [] to = to ≡ from
 Run instance from (event ∷ events) to = (then_ : State) × Makes instance event from then_ × Run instance then_ events to
+
+-- for a kind that gives an exclusive right up, whether the words held are the full image after their place
+abbrev pub TellsFull : Bool → Instance → Scene → Kind → Local → Type 0
+TellsFull full instance scene (Downgrade r) l = IsTrue full ↔ IsFull instance scene.history (held_words l.exclusive)
+TellsFull full instance scene (ReleaseExclusive r) l = IsTrue full ↔ IsFull instance scene.history (held_words l.exclusive)
+TellsFull full instance scene _ l = Unit {0}

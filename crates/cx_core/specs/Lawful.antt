@@ -9,6 +9,8 @@ use Rattle.cx_core.specs.declared.local.Local.{Local}
 use Rattle.cx_core.specs.declared.local.SeenOffer.{SeenOffer}
 use Rattle.cx_core.specs.declared.local.SeenSlot.{SeenSlot}
 use Rattle.cx_core.specs.declared.local.WonCode.{WonCode}
+use Rattle.cx_core.specs.LawfulLocks.{Locks}
+use Rattle.cx_core.specs.LawfulRegions.{Regions}
 use Rattle.cx_core.specs.Merge.{IsHistory, IsLinked}
 use Rattle.cx_core.specs.WriteSet.{IsWriteSetOf}
 use Rattle.cx_core.specs.Layout.{cell_count, dur_at, low_at, free_at, link_at, cell_at, offer_at, set_at, word_count}
@@ -151,3 +153,5 @@ pub record Lawful (instance : Instance) (s : State) : Type 0 where
   pub links : Links instance history s.words
   pub cells : Cells instance history s.words s.locals
   pub fronts : Fronts instance history s.words s.locals
+  pub locks : Locks instance.callers s.words s.locals
+  pub regions : Regions instance history s.words s.locals

@@ -1,5 +1,5 @@
 -- Where the shared words stand in the table: for N callers there are 2N replicas, 16N cells and as many link slots.
-use Rattle.std.specs.Prelude.{ℕ, ◌+◌, ◌-◌, ◌*◌, ◌^◌}
+use Rattle.std.specs.Prelude.{ℕ, ◌+◌, ◌-◌, ◌*◌, ◌^◌, List, drop, take}
 
 -- the number of cells, and of link slots
 abbrev pub cell_count : ℕ → ℕ
@@ -37,9 +37,17 @@ offer_at callers cell = 4 + 2339 * callers + cell
 abbrev pub set_at : ℕ → ℕ → ℕ → ℕ
 set_at callers cell i = 4 + 2355 * callers + 513 * cell + i
 
+-- where the words of replicas begin
+abbrev pub replicas_at : ℕ → ℕ
+replicas_at callers = 4 + 10563 * callers
+
 -- word i of a replica as a load gives it, where a region has so many words
 abbrev pub vol_at : ℕ → ℕ → ℕ → ℕ → ℕ
 vol_at callers region replica i = 4 + 10563 * callers + region * replica + i
+
+-- the words of a replica as loads give them
+abbrev pub replica_words : ℕ → ℕ → List ℕ → ℕ → List ℕ
+replica_words callers region words replica = take region (drop (vol_at callers region replica 0) words)
 
 -- word i of a replica as the medium holds it
 abbrev pub per_at : ℕ → ℕ → ℕ → ℕ → ℕ

@@ -1,9 +1,10 @@
 -- The history of a state is the merge of all own lists by ticket. There is no other copy of it.
-use Rattle.std.specs.Prelude.{◌≡◌, ◌+◌, ◌-◌, ◌<◌, ◌≤◌, ◌==◌, ℕ, if◌then◌else◌, List, [], ◌∷◌, length, slice_get, Some}
+use Rattle.std.specs.Prelude.{◌≡◌, ◌+◌, ◌-◌, ◌<◌, ◌≤◌, ◌==◌, ℕ, zero, suc, if◌then◌else◌, List, [], ◌∷◌, ◌++◌, length, slice_get, Option, Some, None}
+use Rattle.std.specs.Option.{option_to_list}
 use Rattle.cx_core.specs.declared.entry.Entry.{Entry}
 use Rattle.cx_core.specs.declared.local.Linked.{Linked}
 use Rattle.cx_core.specs.declared.local.Local.{Local}
-use Rattle.cx_core.specs.State.{EachLocal}
+use Rattle.cx_core.specs.State.{EachLocal, Instance, Scene, State}
 
 -- the entries of one caller with their tickets, from a ticket on
 abbrev pub own_of : ℕ → ℕ → List Entry → List Linked
@@ -22,3 +23,26 @@ pub record IsHistory (place : ℕ) (history : List Entry) (locals : List Local) 
 pub record IsLinked (place : ℕ) (history : List Entry) (ticket : ℕ) (entry : Entry) : Type 0 where
   pub from : place ≤ ticket
   pub at : slice_get history (ticket - place) ≡ Some entry
+
+-- the entry with a ticket among linked ones
+abbrev pub entry_at : ℕ → List Linked → Option Entry
+entry_at ticket [] = None
+entry_at ticket (x ∷ xs) = if x.ticket == ticket then Some x.entry else entry_at ticket xs
+
+-- the own lists of all callers
+abbrev pub all_own : List Local → List Linked
+all_own [] = []
+all_own (l ∷ ls) = l.own ++ all_own ls
+
+-- so many entries among linked ones, in the order of their tickets from one on
+abbrev pub in_order : ℕ → ℕ → List Linked → List Entry
+in_order zero ticket linked = []
+in_order (suc n) ticket linked = option_to_list (entry_at ticket linked) ++ in_order n (ticket + 1) linked
+
+-- the history is the merge of the own lists by ticket, from the base's place on
+unfoldable pub history_of : ℕ → List Local → List Entry
+history_of place locals = in_order (length (all_own locals)) place (all_own locals)
+
+-- what a caller's step meets in a state
+abbrev pub scene_of : Instance → State → Scene
+scene_of instance s = record { history = history_of instance.base.place s.locals; words = s.words }

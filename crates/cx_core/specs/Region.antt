@@ -1,6 +1,6 @@
 -- A region is the words of a replica: word 0 is the place, words 1 to 7 are 0, then come eight result slots, one for
 -- each caller that there may be, and from word 1168 on the object part.
-use Rattle.std.specs.Prelude.{◌≡◌, ◌+◌, ◌*◌, ◌<◌, ◌≤◌, ℕ, List, [], ◌∷◌, drop, take, replicate, slice_index, slice_set}
+use Rattle.std.specs.Prelude.{◌≡◌, ◌+◌, ◌*◌, ◌<◌, ◌≤◌, ℕ, List, drop, take, replicate, slice_index}
 
 -- the words of a region whose object part has so many lines
 abbrev pub region_words : ℕ → ℕ
@@ -25,11 +25,6 @@ slot_reply caller region = take 144 (drop (slot_start caller + 1) region)
 -- the image of the object
 unfoldable pub object_part : List ℕ → List ℕ
 object_part region = drop 1168 region
-
--- words put over those from a place on
-unfoldable pub overwritten : ℕ → List ℕ → List ℕ → List ℕ
-overwritten at [] region = region
-overwritten at (v ∷ vs) region = overwritten (at + 1) vs (slice_set region at v)
 
 -- words 1 to 7 are 0, and a slot without a number has no reply
 pub record LawfulResults (region : List ℕ) : Type 0 where

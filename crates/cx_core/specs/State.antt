@@ -1,9 +1,11 @@
 -- What stays as it is while an instance of the construction runs, and the state that its callers' steps change.
-use Rattle.std.specs.Prelude.{◌≡◌, ◌-◌, ◌*◌, ◌≤◌, length, ℕ, zero, suc, Bool, false, List, [], ◌∷◌, ◌++◌, map, replicate, slice_get, Some, None}
+use Rattle.std.specs.Prelude.{◌≡◌, ◌+◌, ◌-◌, ◌*◌, ◌^◌, ◌<◌, ◌≤◌, min, length, ℕ, zero, suc, Bool, false, List, [], ◌∷◌, ◌++◌, map, replicate, slice_get, Some, None}
 use Rattle.std.specs.List.{range_with_len}
 use Rattle.cx_base.specs.Codes.{root_code_of}
 use Rattle.cx_core.specs.declared.entry.Base.{Base}
+use Rattle.cx_core.specs.declared.entry.Entry.{Entry}
 use Rattle.cx_core.specs.declared.local.Cell.{Cell}
+use Rattle.cx_core.specs.declared.local.Linked.{Linked}
 use Rattle.cx_core.specs.declared.local.Local.{Local}
 use Rattle.cx_core.specs.declared.local.Protection.TheVariants.{Unprotected}
 use Rattle.cx_core.specs.Layout.{max_word, word_count}
@@ -28,6 +30,17 @@ pub record State : Type 0 where
   pub words : List ℕ
   pub locals : List Local
 
+-- what a step meets beside the local state of its caller: the history so far, and the shared words
+pub record Scene : Type 0 where
+  pub history : List Entry
+  pub words : List ℕ
+
+-- it holds of each such instance and of each scene with these words, whatever the history
+abbrev pub EachScene : ℕ → Base → List ℕ → (Instance → Scene → Type 0) → Type 0
+EachScene callers base words P =
+    (step : List ℕ → List ℕ → List ℕ × List ℕ) (reads : List ℕ → Bool) (history : List Entry) →
+    P (record { callers = callers; base = base; step = step; reads = reads }) (record { history = history; words = words })
+
 -- what a core holds
 pub record Core : Type 0 where
   pub callers : ℕ
@@ -39,18 +52,28 @@ pub record Core : Type 0 where
 abbrev pub instance_of : Core → (List ℕ → List ℕ → List ℕ × List ℕ) → (List ℕ → Bool) → Instance
 instance_of core step reads = record { callers = core.callers; base = core.base; step = step; reads = reads }
 
--- what a core holds is as large as its table: 1 to 8 callers, each with its local state, and all words
+-- so it is of each caller and its local state
+abbrev pub EachLocal : List Local → (ℕ → Local → Type 0) → Type 0
+EachLocal locals P = (caller : ℕ) (local : Local) → slice_get locals caller ≡ Some local → P caller local
+
+-- each own entry is of a caller that there may be, and has a ticket below 2^40
+abbrev pub HasEntries : List Local → Type 0
+HasEntries locals = EachLocal locals (λ _ l. (i : ℕ) (x : Linked) → slice_get l.own i ≡ Some x → (x.entry.caller < 8) × (x.ticket < 2 ^ 40))
+
+-- what a core holds is as large as its table: 1 to 8 callers, each with its local state, all words, and
+-- entries as they are linked
 pub record IsWhole (core : Core) : Type 0 where
   pub some : 1 ≤ core.callers
   pub few : core.callers ≤ 8
   pub slots : 1168 ≤ length core.base.words
   pub long : length core.state.words ≡ word_count core.callers (length core.base.words)
   pub count : length core.state.locals ≡ core.callers
-  pub numbers : (caller : ℕ) (l : Local) → slice_get core.state.locals caller ≡ Some l → l.number ≡ caller
+  pub numbers : EachLocal core.state.locals (λ caller l. l.number ≡ caller)
+  pub entries : HasEntries core.state.locals
 
--- so it is of each caller and its local state
-abbrev pub EachLocal : List Local → (ℕ → Local → Type 0) → Type 0
-EachLocal locals P = (caller : ℕ) (local : Local) → slice_get locals caller ≡ Some local → P caller local
+-- a count that stays at its type's end
+abbrev pub one_more : ℕ → ℕ
+one_more n = min (n + 1) max_word
 
 -- a cell never written
 abbrev pub blank_cell : Cell

@@ -1,7 +1,8 @@
 -- The full step of an entry.
 use Rattle.std.specs.Prelude.{◌≡◌, ◌+◌, ℕ, List, [], ◌∷◌, drop}
 use Rattle.cx_core.specs.declared.entry.Entry.{Entry}
-use Rattle.cx_core.specs.Region.{place_of, slot_start, object_part, overwritten}
+use Rattle.cx_base.specs.Memory.{overwritten}
+use Rattle.cx_core.specs.Region.{place_of, slot_start, object_part}
 
 -- The object's step is done on the object part, the entry's number and the reply are put into the slot of its caller,
 -- and 1 is added to the place.

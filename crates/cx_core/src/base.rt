@@ -5,6 +5,7 @@ ghost use Rattle.cx_core.specs.Base.{LawfulBase, fresh_region};
 ghost use Rattle.cx_core.specs.Region.{region_words};
 
 use crate::entry::Base;
+use crate::region::{HEAD_LINES, LINE_WORDS};
 use crate::step::format_part;
 use cx_base::{Items, Object, VecMemory};
 use std::alloc::{AllocError, Global};
@@ -35,6 +36,6 @@ fn region_len(lines: u64) -> Option<usize>
     ensures some { IfSome result (λ count. count ≡ region_words lines) }
     ensures none { IfNone result (2 ^ 64 ≤ region_words lines) }
 {
-    let lines = lines.checked_add(146)?;
-    Some(lines.checked_mul(8)? as usize)
+    let lines = lines.checked_add(HEAD_LINES)?;
+    Some(lines.checked_mul(LINE_WORDS)? as usize)
 }

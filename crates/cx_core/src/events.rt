@@ -1,30 +1,37 @@
 //! One step of the core, executable: the guard of each kind, its step on one word, and the change of its caller's
 //! local state.
 
-ghost use Rattle.std.specs.Prelude.{◌≡◌, ◌+◌, ◌*◌, ◌%◌, ◌^◌, ◌<◌, ◌≤◌, ◌↔◌, ◌⊎◌, ◌∷◌, ◌++◌, [], ℕ, min, max, length, drop, true, IsTrue, IfOk, OnErr, OnOk, slice_index, slice_set, if◌then◌else◌, ◌==◌};
-ghost use Rattle.cx_core.specs.declared.kinds.Kind.TheVariants.{WriteCell, Link, Look, ReadCell, LoadFree};
-ghost use Rattle.cx_core.specs.Events.{Applied, Did, CanLink, IsIdle, next_number, exchanged, lost, ShowsOpen, ShowsTicket, cell_of, entry_in, linked, raised_front, one_more, seen_word};
-ghost use Rattle.cx_core.specs.Layout.{cell_count, link_at, cell_at};
-ghost use Rattle.cx_core.specs.Region.{slot_number};
-ghost use Rattle.cx_core.specs.State.{EachInstance, instance_of};
+ghost use Rattle.std.specs.Prelude.{◌≡◌, ◌^◌, ◌<◌, ◌≤◌, ◌↔◌, length, slice_get, IsTrue, IfOk, OnErr, Some};
+ghost use Rattle.cx_core.specs.Base.{LawfulBase};
+ghost use Rattle.cx_core.specs.Events.{Applied, Did, TellsFull};
+ghost use Rattle.cx_core.specs.History.{IsFull};
+ghost use Rattle.cx_core.specs.Layout.{word_count};
+ghost use Rattle.cx_core.specs.Merge.{scene_of};
+ghost use Rattle.cx_core.specs.Rights.{held_words};
+ghost use Rattle.cx_core.specs.State.{EachScene, instance_of};
 
-use crate::entry::{Base, Entry};
+use crate::entry::Base;
+use crate::images::is_full;
 use crate::kinds::{Event, Kind};
-use crate::local::{Linked, Local, SeenSlot};
+use crate::local::Local;
+use crate::region::OBJECT_START;
 use crate::state::CoreState;
-use cx_base::{Object, link_cell, link_code, link_ticket};
+use crate::{lock_events, queue_events, region_events};
+use cx_base::Object;
 use std::alloc::{AllocError, Global};
 
 /// Makes an event of the core: one step of its caller. Ok(false) comes exactly where the event's guard fails, and the
-/// state is as it was. `Err` is want of memory, and leaves the state as it was. The time does not grow with the history,
-/// but for the list that a link appends to. No kind built so far looks at the object.
+/// state is as it was. `Err` is want of memory, and leaves the state as it was. The time grows with the history only where
+/// an exclusive right is given up, since the object's steps are then made from the base on, and with the lists that a
+/// step appends to.
 pub fn apply<O: Object>(
-    _alloc: Global,
-    _object: &O,
+    alloc: Global,
+    object: &O,
     state: &mut CoreState,
     event: &Event,
 ) -> Result<bool, AllocError>
-    ensures ok { let instance = instance_of state.old (O.step _object.now) (O.only_reads _object.now) in IfOk result (λ made. Applied made instance event.now state.old.state state.new.state) }
+    requires base { LawfulBase (O.line_count object.now) (O.lawful object.now) state.old.base }
+    ensures ok { let instance = instance_of state.old (O.step object.now) (O.only_reads object.now) in IfOk result (λ made. Applied made instance event.now state.old.state state.new.state) }
     ensures err { OnErr result (state.new.state ≡ state.old.state) }
     ensures fixed { state.new ≡ record state.old { state = state.new.state } }
 {
@@ -32,290 +39,109 @@ pub fn apply<O: Object>(
     if caller >= state.locals.len() {
         return Ok(false);
     }
+    let full = tells_full(alloc, object, state, caller, &event.kind)?;
     let local = &mut state.locals[caller];
     step(
+        alloc,
         state.callers,
         &state.base,
         &mut state.words,
         local,
         &event.kind,
+        full,
     )
 }
 
-/// A step of a caller with this local state. `Ok(false)` comes exactly where the guard fails. Then, and where `Err`
-/// says that memory is wanting, nothing changed.
+/// A step of a caller with this local state. `full` is, for a kind that gives an exclusive right up, whether the words
+/// held are the full image after their place. `Ok(false)` comes exactly where the guard fails. Then, and where `Err` says
+/// that memory is wanting, nothing changed.
 fn step(
+    alloc: Global,
     callers: u32,
     base: &Base,
     words: &mut [u64],
     local: &mut Local,
     kind: &Kind,
+    full: bool,
 ) -> Result<bool, AllocError>
     requires some { 1 ≤ callers }
     requires few { callers ≤ 8 }
-    requires long { 4 + 10563 * callers ≤ length words.old }
+    requires long { length words.old ≡ word_count callers (length base.now.words) }
     requires caller { local.old.number < callers }
-    requires slots { 1168 ≤ length base.now.words }
-    ensures ok { IfOk result (λ made. EachInstance callers base.now (λ instance. Did made instance kind.now local.old words.old local.new words.new)) }
+    requires slots { OBJECT_START ≤ length base.now.words }
+    ensures ok { IfOk result (λ made. EachScene callers base.now words.old (λ instance scene. TellsFull full instance scene kind.now local.old → Did made instance scene kind.now local.old local.new words.new)) }
     ensures err { OnErr result ((local.new ≡ local.old) × (words.new ≡ words.old)) }
 {
     match *kind {
-        Kind::WriteCell { j, i, v } => Ok(write_cell(callers, words, local, j, i, v)),
-        Kind::Link { j } => link(callers, base, words, local, j),
-        Kind::Look { s } => Ok(look(callers, words, local, s)),
-        Kind::ReadCell { t, k, i } => Ok(read_cell(callers, words, local, t, k, i)),
-        Kind::LoadFree => Ok(load_free(words, local)),
-    }
-}
-
-/// Whether a caller's cell may be written: it was never linked, or its ticket is below the greatest FREE found.
-fn is_idle(local: &Local, j: u64) -> bool
-    requires { j < 16 }
-    ensures { IsTrue result ↔ IsIdle local.now j }
-{
-    match local.cells[j as usize].ticket {
-        None => true,
-        Some(ticket) => ticket < local.seen_free,
-    }
-}
-
-/// Whether the slot last looked at shows that a ticket can be linked.
-fn shows_open(callers: u32, seen: Option<SeenSlot>, ticket: u64) -> bool
-    requires some { 1 ≤ callers }
-    requires few { callers ≤ 8 }
-    ensures { IsTrue result ↔ ShowsOpen callers seen ticket }
-{
-    let cells = 16 * u64::from(callers);
-    match seen {
-        None => false,
-        Some(seen) => {
-            seen.slot == ticket % cells
-                && (seen.word == 0
-                    || (ticket >= cells && link_ticket(callers, seen.word) == ticket - cells))
+        Kind::WriteCell { j, i, v } => {
+            Ok(queue_events::write_cell(callers, words, local, j, i, v))
+        }
+        Kind::Link { j } => queue_events::link(callers, base, words, local, j),
+        Kind::Look { s } => Ok(queue_events::look(callers, words, local, s)),
+        Kind::ReadCell { t, k, i } => Ok(queue_events::read_cell(callers, words, local, t, k, i)),
+        Kind::LoadFree => Ok(queue_events::load_free(words, local)),
+        Kind::TryExclusive { r } => {
+            lock_events::try_exclusive(alloc, callers, base, words, local, r)
+        }
+        Kind::TryShared { r } => Ok(lock_events::try_shared(alloc, callers, words, local, r)),
+        Kind::BackOff { r } => Ok(lock_events::back_off(callers, words, local, r)),
+        Kind::Downgrade { r } => Ok(lock_events::downgrade(callers, words, local, r, full)),
+        Kind::ReleaseExclusive { r } => {
+            Ok(lock_events::release_exclusive(callers, words, local, r, full))
+        }
+        Kind::LoadWord { r, i, refused } => {
+            region_events::load_word(callers, base, words, local, r, i, refused)
+        }
+        Kind::StoreWord { r, i, v } => {
+            region_events::store_word(alloc, callers, base, words, local, r, i, v)
+        }
+        Kind::Persist { r, i } => {
+            Ok(region_events::persist(alloc, callers, base, words, local, r, i))
         }
     }
 }
 
-/// Whether the slot last looked at shows a ticket in a cell.
-fn shows_ticket(callers: u32, seen: Option<SeenSlot>, ticket: u64, cell: u64) -> bool
-    requires some { 1 ≤ callers }
-    requires few { callers ≤ 8 }
-    ensures { IsTrue result ↔ ShowsTicket callers seen ticket cell }
-{
-    match seen {
-        None => false,
-        Some(seen) => {
-            seen.slot == ticket % (16 * u64::from(callers))
-                && seen.word != 0
-                && link_ticket(callers, seen.word) == ticket
-                && u64::from(link_cell(callers, seen.word)) == cell
-        }
-    }
-}
-
-/// Whether the entry in a caller's cell has the caller's next number.
-fn has_next_number(base: &Base, local: &Local, j: u64) -> bool
-    requires j { j < 16 }
-    requires caller { local.now.number < 8 }
-    requires slots { 1168 ≤ length base.now.words }
-    ensures { IsTrue result ↔ (slice_index (cell_of local.now j).words 0 ≡ next_number base.now local.now) }
-{
-    let number = local.cells[j as usize].words[0];
-    let last = base.words.as_slice()[8 + 145 * local.number as usize];
-    number > last && number - last - 1 == local.own.as_slice().len() as u64
-}
-
-/// The front after a link word was found: the ticket in it is linked, and so is each one before it.
-fn front_after(callers: u32, front: u64, found: u64) -> u64
-    requires some { 1 ≤ callers }
-    requires few { callers ≤ 8 }
-    ensures { result ≡ raised_front callers front found }
-{
-    if found == 0 {
-        front
-    } else {
-        front.max(link_ticket(callers, found) + 1)
-    }
-}
-
-/// The word of the slot last looked at, 0 where there is none.
-fn word_seen(seen: Option<SeenSlot>) -> u64
-    ensures { result ≡ seen_word seen }
-{
-    match seen {
-        None => 0,
-        Some(seen) => seen.word,
-    }
-}
-
-/// The entry in a caller's cell.
-fn entry_of(local: &Local, j: u64) -> Entry
-    requires { j < 16 }
-    ensures { result ≡ entry_in local.now j }
-{
-    let cell = &local.cells[j as usize];
-    let mut op = [0; 144];
-    op.copy_from_slice(&cell.words[1..]);
-    Entry {
-        caller: local.number,
-        number: cell.words[0],
-        op,
-    }
-}
-
-/// Stores a word into a caller's cell, where it may be written.
-fn write_cell(callers: u32, words: &mut [u64], local: &mut Local, j: u64, i: u64, v: u64) -> bool
-    requires some { 1 ≤ callers }
-    requires few { callers ≤ 8 }
-    requires long { 4 + 10563 * callers ≤ length words.old }
-    requires caller { local.old.number < callers }
-    ensures { (base : _) → EachInstance callers base (λ instance. Did result instance (WriteCell j i v) local.old words.old local.new words.new) }
-{
-    if j >= 16 || i >= 145 || !is_idle(local, j) {
-        return false;
-    }
-    let k = 16 * u64::from(local.number) + j;
-    words[(4 + 19 * u64::from(callers) + 145 * k + i) as usize] = v;
-    let cell = &mut local.cells[j as usize];
-    cell.words[i as usize] = v;
-    cell.ticket = None;
-    local.fresh = false;
-    local.steps = local.steps.saturating_add(1);
-    true
-}
-
-/// Tries to link the entry in a caller's cell at the caller's front. `Err` is want of memory, and nothing changed.
-fn link(
-    callers: u32,
-    base: &Base,
-    words: &mut [u64],
-    local: &mut Local,
-    j: u64,
+/// For a kind that gives an exclusive right up, whether the words that its caller holds are the full image after their
+/// place. `Err` is want of memory.
+fn tells_full<O: Object>(
+    alloc: Global,
+    object: &O,
+    state: &CoreState,
+    caller: usize,
+    kind: &Kind,
 ) -> Result<bool, AllocError>
-    requires some { 1 ≤ callers }
-    requires few { callers ≤ 8 }
-    requires long { 4 + 10563 * callers ≤ length words.old }
-    requires caller { local.old.number < callers }
-    requires slots { 1168 ≤ length base.now.words }
-    ensures ok { IfOk result (λ b. EachInstance callers base.now (λ instance. Did b instance (Link j) local.old words.old local.new words.new)) }
-    ensures err { OnErr result ((local.new ≡ local.old) × (words.new ≡ words.old)) }
+    requires base { LawfulBase (O.line_count object.now) (O.lawful object.now) state.now.base }
+    requires caller { caller < length state.now.state.locals }
+    ensures { let instance = instance_of state.now (O.step object.now) (O.only_reads object.now) in IfOk result (λ full. (l : Local) → slice_get state.now.state.locals caller ≡ Some l → TellsFull full instance (scene_of instance state.now.state) kind.now l) }
 {
-    if !can_link(callers, base, local, j) {
-        return Ok(false);
+    match *kind {
+        Kind::Downgrade { r: _ } => holds_full(alloc, object, state, caller),
+        Kind::ReleaseExclusive { r: _ } => holds_full(alloc, object, state, caller),
+        _ => Ok(false),
     }
-    exchange(callers, words, local, j)?;
-    Ok(true)
 }
 
-/// The compare-exchange of a link, and what its caller learns. `Err` is want of memory, and nothing changed.
-fn exchange(callers: u32, words: &mut [u64], local: &mut Local, j: u64) -> Result<(), AllocError>
-    requires some { 1 ≤ callers }
-    requires few { callers ≤ 8 }
-    requires long { 4 + 10563 * callers ≤ length words.old }
-    requires caller { local.old.number < callers }
-    requires j { j < 16 }
-    requires front { local.old.front < 2 ^ 40 }
-    ensures word { let at = link_at callers (local.old.front % cell_count callers) in OnOk result (words.new ≡ slice_set words.old at (exchanged callers local.old j (slice_index words.old at))) }
-    ensures local { let found = slice_index words.old (link_at callers (local.old.front % cell_count callers)) in OnOk result (local.new ≡ (if found == seen_word local.old.seen_slot then linked local.old j else lost callers local.old found)) }
-    ensures err { OnErr result ((local.new ≡ local.old) × (words.new ≡ words.old)) }
+/// Whether the words that a caller holds exclusively are the full image after their place. `Err` is want of memory.
+fn holds_full<O: Object>(
+    alloc: Global,
+    object: &O,
+    state: &CoreState,
+    caller: usize,
+) -> Result<bool, AllocError>
+    requires base { LawfulBase (O.line_count object.now) (O.lawful object.now) state.now.base }
+    requires caller { caller < length state.now.state.locals }
+    ensures { let instance = instance_of state.now (O.step object.now) (O.only_reads object.now) in IfOk result (λ full. (l : Local) → slice_get state.now.state.locals caller ≡ Some l → IsTrue full ↔ IsFull instance (scene_of instance state.now.state).history (held_words l.exclusive)) }
 {
-    let slot = local.front % (16 * u64::from(callers));
-    let at = (4 + 3 * u64::from(callers) + slot) as usize;
-    let found = words[at];
-    if found == word_seen(local.seen_slot) {
-        let code = link_code(callers, local.front, 16 * local.number + j as u32);
-        win(local, j)?;
-        words[at] = code;
-    } else {
-        lose(callers, local, found);
+    let words = held_words(&state.locals[caller]);
+    is_full(alloc, object, &state.base, &state.locals, words)
+}
+
+/// The words of the replica held exclusively, none where there is none.
+fn held_words(local: &Local) -> &[u64]
+    ensures { result.now ≡ held_words local.now.exclusive }
+{
+    match &local.exclusive {
+        None => &[],
+        Some(held) => held.words.as_slice(),
     }
-    Ok(())
-}
-
-/// What a caller learns by a link that won. `Err` is want of memory, and nothing changed.
-fn win(local: &mut Local, j: u64) -> Result<(), AllocError>
-    requires j { j < 16 }
-    requires front { local.old.front < 2 ^ 40 }
-    ensures ok { OnOk result (local.new ≡ linked local.old j) }
-    ensures err { OnErr result (local.new ≡ local.old) }
-{
-    let linked = Linked {
-        ticket: local.front,
-        entry: entry_of(local, j),
-    };
-    local.own.push(linked)?;
-    local.cells[j as usize].ticket = Some(local.front);
-    local.front += 1;
-    local.steps = local.steps.saturating_add(1);
-    Ok(())
-}
-
-/// What a caller learns by a link that was lost to the ticket found.
-fn lose(callers: u32, local: &mut Local, found: u64)
-    requires some { 1 ≤ callers }
-    requires few { callers ≤ 8 }
-    ensures { local.new ≡ lost callers local.old found }
-{
-    local.front = front_after(callers, local.front, found);
-    local.steps = local.steps.saturating_add(1);
-}
-
-/// Whether a caller may try to link the entry in its cell.
-fn can_link(callers: u32, base: &Base, local: &Local, j: u64) -> bool
-    requires some { 1 ≤ callers }
-    requires few { callers ≤ 8 }
-    requires caller { local.now.number < callers }
-    requires slots { 1168 ≤ length base.now.words }
-    ensures { IsTrue result ↔ CanLink callers base.now local.now j }
-{
-    j < 16
-        && is_idle(local, j)
-        && has_next_number(base, local, j)
-        && local.front < 1 << 40
-        && shows_open(callers, local.seen_slot, local.front)
-        && local.answered.as_slice().len() == local.own.as_slice().len()
-}
-
-/// Loads the word of a link slot.
-fn look(callers: u32, words: &[u64], local: &mut Local, s: u64) -> bool
-    requires some { 1 ≤ callers }
-    requires few { callers ≤ 8 }
-    requires long { 4 + 10563 * callers ≤ length words.now }
-    ensures { (base : _) → EachInstance callers base (λ instance. Did result instance (Look s) local.old words.now local.new words.now) }
-{
-    if s >= 16 * u64::from(callers) {
-        return false;
-    }
-    let found = words[(4 + 3 * u64::from(callers) + s) as usize];
-    local.seen_slot = Some(SeenSlot {
-        slot: s,
-        word: found,
-    });
-    local.front = front_after(callers, local.front, found);
-    local.steps = local.steps.saturating_add(1);
-    true
-}
-
-/// Loads a word of the cell that the slot last looked at shows with a ticket. The word found is no part of the local
-/// state.
-fn read_cell(callers: u32, words: &[u64], local: &mut Local, t: u64, k: u64, i: u64) -> bool
-    requires some { 1 ≤ callers }
-    requires few { callers ≤ 8 }
-    ensures { (base : _) → EachInstance callers base (λ instance. Did result instance (ReadCell t k i) local.old words.now local.new words.now) }
-{
-    if t >= local.front || i >= 145 || !shows_ticket(callers, local.seen_slot, t, k) {
-        return false;
-    }
-    local.steps = local.steps.saturating_add(1);
-    true
-}
-
-/// Loads FREE, which is always allowed.
-fn load_free(words: &[u64], local: &mut Local) -> bool
-    requires { 4 ≤ length words.now }
-    ensures { (callers : ℕ) (base : _) → EachInstance callers base (λ instance. Did result instance LoadFree local.old words.now local.new words.now) }
-{
-    local.seen_free = local.seen_free.max(words[3]);
-    local.steps = local.steps.saturating_add(1);
-    true
 }

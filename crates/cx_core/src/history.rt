@@ -1,10 +1,11 @@
 //! The laws of the full step and of the full image after a place.
 
-ghost use Rattle.std.specs.Prelude.{◌≡◌, ◌+◌, ◌-◌, ◌^◌, ◌<◌, ◌≤◌, ◌⊎◌, ℕ, IfSome, slice_get};
+ghost use Rattle.std.specs.Prelude.{◌≡◌, ◌+◌, ◌-◌, ◌^◌, ◌<◌, ◌≤◌, ◌⊎◌, ◌++◌, ℕ, List, IfSome, drop, length, slice_get, take};
 ghost use Rattle.cx_base.specs.Memory.{Words};
 ghost use Rattle.cx_core.specs.Base.{LawfulBase};
-ghost use Rattle.cx_core.specs.History.{full_image};
-ghost use Rattle.cx_core.specs.Region.{object_part, slot_number, slot_reply};
+ghost use Rattle.cx_core.specs.History.{AreLawful, full_image, image_from};
+ghost use Rattle.cx_core.specs.Region.{object_part, place_of, slot_number, slot_reply};
+ghost use Rattle.cx_core.specs.State.{Instance};
 ghost use Rattle.cx_core.specs.Step.{full_step_of};
 
 use crate::entry::{Base, Entry};
@@ -38,4 +39,23 @@ pub fn full_step_keeps<O: Object>(object: &O, base: &Base, entry: &Entry, next: 
     ensures number { slot_number entry.now.caller next.now.words ≡ entry.now.number }
     ensures reply { slot_reply entry.now.caller next.now.words ≡ (O.step object.now (object_part base.now.words) entry.now.op).1 }
     ensures others { (caller : ℕ) → caller < 8 → (caller < entry.now.caller) ⊎ (entry.now.caller < caller) → (slot_number caller next.now.words ≡ slot_number caller base.now.words) × (slot_reply caller next.now.words ≡ slot_reply caller base.now.words) }
+{}
+
+/// The law that a longer history has the same full images up to the old end.
+pub fn full_images_stay()
+    ensures { (instance : Instance) (history more : List Entry) (place : ℕ) → place ≤ instance.base.place + length history → full_image instance.step instance.base (history ++ more) place ≡ full_image instance.step instance.base history place }
+{}
+
+/// The law that the full image after each place up to the history's end has the words of a lawful base, where the base is
+/// lawful and so is each entry.
+pub fn full_images_are_lawful<O: Object>(object: &O, base: &Base)
+    requires { LawfulBase (O.line_count object.now) (O.lawful object.now) base.now }
+    ensures { (history : List Entry) (place : ℕ) → AreLawful base.now.place history → base.now.place + length history ≤ 2 ^ 40 → base.now.place ≤ place → place ≤ base.now.place + length history → LawfulBase (O.line_count object.now) (O.lawful object.now) (record { place = place; words = full_image (O.step object.now) base.now history place }) }
+{}
+
+/// The law that a full image with the full steps of the next entries done is the full image after them, and has their
+/// place.
+pub fn full_regions_go_on<O: Object>(object: &O, base: &Base)
+    requires { LawfulBase (O.line_count object.now) (O.lawful object.now) base.now }
+    ensures { (history : List Entry) (region : List ℕ) (n : ℕ) → AreLawful base.now.place history → base.now.place + length history ≤ 2 ^ 40 → base.now.place ≤ place_of region → region ≡ full_image (O.step object.now) base.now history (place_of region) → place_of region + n ≤ base.now.place + length history → let after = image_from (O.step object.now) region (take n (drop (place_of region - base.now.place) history)) in (after ≡ full_image (O.step object.now) base.now history (place_of region + n)) × (place_of after ≡ place_of region + n) }
 {}

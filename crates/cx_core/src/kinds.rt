@@ -13,6 +13,22 @@ pub enum Kind {
     ReadCell { t: u64, k: u64, i: u64 },
     /// Loads FREE, the ticket below which cells may be written again.
     LoadFree,
+    /// Tries to take replica `r` exclusively.
+    TryExclusive { r: u64 },
+    /// Tries to take replica `r` shared. Where it is held exclusively, a passer's mark stays on its lock word.
+    TryShared { r: u64 },
+    /// Takes back the caller's shared right, passer's mark or downgraded right on replica `r`.
+    BackOff { r: u64 },
+    /// Turns the caller's exclusive right on replica `r` into a shared one.
+    Downgrade { r: u64 },
+    /// Gives up the caller's exclusive right on replica `r`.
+    ReleaseExclusive { r: u64 },
+    /// Loads word `i` of replica `r`. With `refused` it is marked that the word shows an outdated replica.
+    LoadWord { r: u64, i: u64, refused: bool },
+    /// Stores `v` as word `i` of replica `r`.
+    StoreWord { r: u64, i: u64, v: u64 },
+    /// Writes word `i` of replica `r` back to the medium.
+    Persist { r: u64, i: u64 },
 }
 
 /// A step of a caller.

@@ -3,15 +3,6 @@
 use crate::entry::Entry;
 use cx_base::Items;
 
-/// The cells of a caller.
-pub const CELLS: usize = 16;
-/// The words of a cell: the entry's number and its operation.
-pub const CELL_WORDS: usize = 145;
-/// The words of a write set: the number of its pairs, and 256 pairs.
-pub const SET_WORDS: usize = 513;
-/// The protection word of a caller without one, and the limit that is none.
-pub const NONE: u64 = u64::MAX;
-
 /// What a caller wrote into one of its cells.
 #[derive(Clone, Copy, Debug, Drop)]
 pub struct Cell {

@@ -6,7 +6,11 @@ ghost use Rattle.cx_core.specs.Layout.{cell_count, cur_at, dur_at, low_at, free_
 ghost use Rattle.cx_core.specs.State.{blank_cell, copies, opening_code, opening_local, opening_locals, opening_words, opening_state};
 
 use crate::entry::Base;
-use crate::local::{Cell, Local, NONE, Protection};
+use crate::layout::{
+    CUR_AT, DUR_AT, FREE_AT, LOW_AT, MAX_WORD, QUEUE_WORDS, cell_at, cell_count, link_at, lock_at,
+    need_at, offer_at, replica_count, replicas_at, set_at,
+};
+use crate::local::{Cell, Local, Protection};
 use cx_base::{Items, Object, root_code};
 use std::alloc::{AllocError, Global};
 use std::marker::Model;
@@ -104,75 +108,75 @@ impl CoreState {
     pub fn cur(&self) -> u64
         ensures { result ≡ slice_index self.now.state.words cur_at }
     {
-        self.words[0]
+        self.words[CUR_AT]
     }
 
     /// DUR, the durable root code.
     pub fn dur(&self) -> u64
         ensures { result ≡ slice_index self.now.state.words dur_at }
     {
-        self.words[1]
+        self.words[DUR_AT]
     }
 
     /// LOW, below which no protection is confirmed any more.
     pub fn low(&self) -> u64
         ensures { result ≡ slice_index self.now.state.words low_at }
     {
-        self.words[2]
+        self.words[LOW_AT]
     }
 
     /// FREE, the ticket below which cells may be written again.
     pub fn free(&self) -> u64
         ensures { result ≡ slice_index self.now.state.words free_at }
     {
-        self.words[3]
+        self.words[FREE_AT]
     }
 
     /// NEED, the protection word of each caller.
     pub fn need(&self) -> &[u64]
         ensures { result.now ≡ slice_range self.now.state.words (need_at 0) (need_at self.now.callers) }
     {
-        &self.words[4..4 + self.callers as usize]
+        &self.words[need_at(0)..need_at(self.callers)]
     }
 
     /// LOCK, the lock word of each replica.
     pub fn lock(&self) -> &[u64]
         ensures { let n = self.now.callers in result.now ≡ slice_range self.now.state.words (lock_at n 0) (lock_at n (2 * n)) }
     {
-        let n = self.callers as usize;
-        &self.words[4 + n..4 + n + 2 * n]
+        let n = self.callers;
+        &self.words[lock_at(n, 0)..lock_at(n, replica_count(n))]
     }
 
     /// LINK, the link slots.
     pub fn link(&self) -> &[u64]
         ensures { let n = self.now.callers in result.now ≡ slice_range self.now.state.words (link_at n 0) (link_at n (cell_count n)) }
     {
-        let n = self.callers as usize;
-        &self.words[4 + 3 * n..4 + 3 * n + 16 * n]
+        let n = self.callers;
+        &self.words[link_at(n, 0)..link_at(n, cell_count(n))]
     }
 
     /// CELL, 145 words of each cell.
     pub fn cell(&self) -> &[u64]
         ensures { let n = self.now.callers in result.now ≡ slice_range self.now.state.words (cell_at n 0 0) (cell_at n (cell_count n) 0) }
     {
-        let n = self.callers as usize;
-        &self.words[4 + 19 * n..4 + 19 * n + 145 * (16 * n)]
+        let n = self.callers;
+        &self.words[cell_at(n, 0, 0)..cell_at(n, cell_count(n), 0)]
     }
 
     /// OFFER, the offer word of each cell.
     pub fn offer(&self) -> &[u64]
         ensures { let n = self.now.callers in result.now ≡ slice_range self.now.state.words (offer_at n 0) (offer_at n (cell_count n)) }
     {
-        let n = self.callers as usize;
-        &self.words[4 + 2339 * n..4 + 2339 * n + 16 * n]
+        let n = self.callers;
+        &self.words[offer_at(n, 0)..offer_at(n, cell_count(n))]
     }
 
     /// SET, 513 words of each cell's write set.
     pub fn set(&self) -> &[u64]
         ensures { let n = self.now.callers in result.now ≡ slice_range self.now.state.words (set_at n 0 0) (set_at n (cell_count n) 0) }
     {
-        let n = self.callers as usize;
-        &self.words[4 + 2355 * n..4 + 2355 * n + 513 * (16 * n)]
+        let n = self.callers;
+        &self.words[set_at(n, 0, 0)..set_at(n, cell_count(n), 0)]
     }
 
     /// VOL, the words of each replica as a load gives them.
@@ -181,7 +185,8 @@ impl CoreState {
     {
         let n = self.callers as usize;
         let region = self.base.words.as_slice().len();
-        &self.words[4 + 10563 * n..4 + 10563 * n + region * (2 * n)]
+        let from = replicas_at(self.callers);
+        &self.words[from..from + region * (2 * n)]
     }
 
     /// PER, the words of each replica as the medium holds them.
@@ -190,7 +195,7 @@ impl CoreState {
     {
         let n = self.callers as usize;
         let region = self.base.words.as_slice().len();
-        let from = 4 + 10563 * n + region * (2 * n);
+        let from = replicas_at(self.callers) + region * (2 * n);
         &self.words[from..from + region * (2 * n)]
     }
 }
@@ -209,10 +214,10 @@ fn opening_table(alloc: Global, callers: u32, base: &Base) -> Result<Vec<u64>, A
     words.push(code)?;
     words.push(base.place)?;
     words.push(base.place)?;
-    push_many(&mut words, n, NONE)?;
+    push_many(&mut words, n, MAX_WORD)?;
     words.push(1)?;
     push_many(&mut words, 2 * n - 1, 0)?;
-    push_many(&mut words, 10560 * n, 0)?;
+    push_many(&mut words, QUEUE_WORDS * n, 0)?;
     push_copies(&mut words, 4 * n, base.words.as_slice())?;
     Ok(words)
 }
@@ -299,7 +304,7 @@ impl Local {
             protection: Protection::Unprotected,
             scan: None,
             steps: 0,
-            limit: NONE,
+            limit: MAX_WORD,
             met: 0,
             scans: 0,
         }

@@ -1,16 +1,14 @@
 //! The full step of an entry, over any object and any writable memory of a region.
 
-ghost use Rattle.std.specs.Prelude.{◌≡◌, ◌+◌, ◌*◌, ◌^◌, ◌<◌, ◌≤◌, ℕ, List, length, drop, slice_set, take, is_some, IsTrue, OnOk, OnErr, IfOk, Some};
-ghost use Rattle.cx_base.specs.Memory.{Becomes, Always};
-ghost use Rattle.cx_core.specs.Region.{region_words, place_of, object_part, overwritten};
+ghost use Rattle.std.specs.Prelude.{◌≡◌, ◌+◌, ◌*◌, ◌^◌, ◌<◌, ◌≤◌, ℕ, List, length, slice_set, IsTrue, OnOk, OnErr, IfOk, Some};
+ghost use Rattle.cx_base.specs.Memory.{Becomes, Framed, Always, overwritten};
+ghost use Rattle.cx_core.specs.Region.{region_words, place_of, object_part};
 ghost use Rattle.cx_core.specs.Step.{full_step_of, OnPart};
 
 use crate::entry::Entry;
 use crate::part::Part;
-use cx_base::{Halt, Memory, Object};
-
-/// The words in front of the object part: the place, 7 zeros, and 8 result slots of 145 words.
-pub const OBJECT_START: u64 = 1168;
+use crate::region::{LINE_WORDS, OBJECT_START, PLACE_AT, PLACE_END, slot_start};
+use cx_base::{Halt, Memory, Object, load_below};
 
 /// Does the full step of an entry on a region: the object's step on the object part, the number and the reply into
 /// the slot of the entry's caller, and 1 added to the place. Of the slot it stores only the words that differ.
@@ -24,17 +22,14 @@ pub fn full_step<O: Object, M: Memory>(object: &O, mem: &mut M, entry: &Entry) -
     requires caller { entry.now.caller < 8 }
     ensures done { OnOk result (Becomes (M.stands mem.old) (M.stands mem.new) (λ before now. now ≡ full_step_of (O.step object.now) entry.now before)) }
     ensures halts { OnErr result (M.left mem.new ≡ Some 0) }
-    ensures limited { is_some (M.left mem.new) ≡ is_some (M.left mem.old) }
-    ensures fixed { M.fixed mem.new ≡ M.fixed mem.old }
-    ensures size_kept { M.size mem.new ≡ M.size mem.old }
-    ensures writable_kept { M.writable mem.new ≡ M.writable mem.old }
+    ensures framed { Framed M.size M.fixed M.writable M.left mem.old mem.new }
 {
-    let place = mem.load(0)?;
+    let place = load_below(mem, PLACE_AT, PLACE_END)?;
     let reply = run_part(object, mem, &entry.op)?;
-    let slot = 8 + 145 * u64::from(entry.caller);
+    let slot = slot_start(entry.caller);
     put_word(mem, slot, entry.number)?;
     put_words(mem, slot + 1, &reply)?;
-    mem.store(0, place + 1)?;
+    mem.store(PLACE_AT, place + 1)?;
     Ok(())
 }
 
@@ -47,15 +42,12 @@ fn run_part<O: Object, M: Memory>(
     requires size { M.size mem.old ≡ region_words (O.line_count object.now) }
     requires small { region_words (O.line_count object.now) < 2 ^ 64 }
     requires writable { IsTrue (M.writable mem.old) }
-    requires lawful { Always (M.stands mem.old) (λ region. O.lawful object.now (drop 1168 region)) }
-    ensures done { IfOk result (λ reply. Becomes (M.stands mem.old) (M.stands mem.new) (OnPart 1168 (λ before now. O.step object.now before op.now ≡ (now, reply)))) }
+    requires lawful { Always (M.stands mem.old) (λ region. O.lawful object.now (object_part region)) }
+    ensures done { IfOk result (λ reply. Becomes (M.stands mem.old) (M.stands mem.new) (OnPart OBJECT_START (λ before now. O.step object.now before op.now ≡ (now, reply)))) }
     ensures halts { OnErr result (M.left mem.new ≡ Some 0) }
-    ensures limited { is_some (M.left mem.new) ≡ is_some (M.left mem.old) }
-    ensures fixed { M.fixed mem.new ≡ M.fixed mem.old }
-    ensures size_kept { M.size mem.new ≡ M.size mem.old }
-    ensures writable_kept { M.writable mem.new ≡ M.writable mem.old }
+    ensures framed { Framed M.size M.fixed M.writable M.left mem.old mem.new }
 {
-    let len = 8 * object.lines();
+    let len = LINE_WORDS * object.lines();
     let mut part = Part {
         inner: mem,
         from: OBJECT_START,
@@ -69,14 +61,11 @@ pub fn format_part<O: Object, M: Memory>(object: &O, mem: &mut M) -> Result<(), 
     requires size { M.size mem.old ≡ region_words (O.line_count object.now) }
     requires small { region_words (O.line_count object.now) < 2 ^ 64 }
     requires writable { IsTrue (M.writable mem.old) }
-    ensures done { OnOk result (Becomes (M.stands mem.old) (M.stands mem.new) (OnPart 1168 (λ _ now. now ≡ O.opening object.now))) }
+    ensures done { OnOk result (Becomes (M.stands mem.old) (M.stands mem.new) (OnPart OBJECT_START (λ _ now. now ≡ O.opening object.now))) }
     ensures halts { OnErr result (M.left mem.new ≡ Some 0) }
-    ensures limited { is_some (M.left mem.new) ≡ is_some (M.left mem.old) }
-    ensures fixed { M.fixed mem.new ≡ M.fixed mem.old }
-    ensures size_kept { M.size mem.new ≡ M.size mem.old }
-    ensures writable_kept { M.writable mem.new ≡ M.writable mem.old }
+    ensures framed { Framed M.size M.fixed M.writable M.left mem.old mem.new }
 {
-    let len = 8 * object.lines();
+    let len = LINE_WORDS * object.lines();
     let mut part = Part {
         inner: mem,
         from: OBJECT_START,
@@ -92,10 +81,7 @@ fn put_words<M: Memory>(mem: &mut M, at: u64, words: &[u64]) -> Result<(), Halt>
     requires writable { IsTrue (M.writable mem.old) }
     ensures done { OnOk result (Becomes (M.stands mem.old) (M.stands mem.new) (λ before now. now ≡ overwritten at words.now before)) }
     ensures halts { OnErr result (M.left mem.new ≡ Some 0) }
-    ensures limited { is_some (M.left mem.new) ≡ is_some (M.left mem.old) }
-    ensures fixed { M.fixed mem.new ≡ M.fixed mem.old }
-    ensures size_kept { M.size mem.new ≡ M.size mem.old }
-    ensures writable_kept { M.writable mem.new ≡ M.writable mem.old }
+    ensures framed { Framed M.size M.fixed M.writable M.left mem.old mem.new }
 {
     for i in 0..words.len() {
         put_word(mem, at + i as u64, words[i])?;
@@ -109,10 +95,7 @@ fn put_word<M: Memory>(mem: &mut M, at: u64, v: u64) -> Result<(), Halt>
     requires writable { IsTrue (M.writable mem.old) }
     ensures done { OnOk result (Becomes (M.stands mem.old) (M.stands mem.new) (λ before now. now ≡ slice_set before at v)) }
     ensures halts { OnErr result (M.left mem.new ≡ Some 0) }
-    ensures limited { is_some (M.left mem.new) ≡ is_some (M.left mem.old) }
-    ensures fixed { M.fixed mem.new ≡ M.fixed mem.old }
-    ensures size_kept { M.size mem.new ≡ M.size mem.old }
-    ensures writable_kept { M.writable mem.new ≡ M.writable mem.old }
+    ensures framed { Framed M.size M.fixed M.writable M.left mem.old mem.new }
 {
     if mem.load(at)? != v {
         mem.store(at, v)?;

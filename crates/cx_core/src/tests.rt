@@ -8,7 +8,10 @@ ghost use Rattle.cx_core.specs.History.{full_image};
 ghost use Rattle.cx_core.specs.Step.{full_step_of};
 
 use crate::entry::{Base, Entry};
-use crate::history::{full_image_begins, full_image_goes_on, full_step_keeps};
+use crate::history::{
+    full_image_begins, full_image_goes_on, full_images_are_lawful, full_images_stay,
+    full_regions_go_on, full_step_keeps,
+};
 use crate::step::full_step;
 use cx_base::tally::Tally;
 use cx_base::{Halt, Object, VecMemory};
@@ -168,4 +171,7 @@ fn laws(base: &Base, history: &[Entry], entry: &Entry, next: &Base)
     full_image_begins(&Tally, base, history);
     full_image_goes_on(&Tally, base, history, base.place);
     full_step_keeps(&Tally, base, entry, next);
+    full_images_stay();
+    full_images_are_lawful(&Tally, base);
+    full_regions_go_on(&Tally, base);
 }

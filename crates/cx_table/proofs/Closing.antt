@@ -13,18 +13,20 @@ use Rattle.cx_core.specs.declared.entry.Base.{Base}
 use Rattle.cx_core.specs.declared.entry.Entry.{Entry}
 use Rattle.cx_core.specs.declared.local.Local.{Local}
 use Rattle.cx_core.specs.Lawful.{Lawful}
-use Rattle.cx_core.specs.Merge.{IsHistory}
+use Rattle.cx_core.specs.Merge.{IsHistory, history_of}
 use Rattle.cx_core.specs.State.{Instance, opening_words}
-use Rattle.cx_table.specs.declared.rule.Known.{Known}
+use Rattle.cx_rule.specs.declared.rule.Known.{Known}
 use Rattle.cx_core.specs.Layout.{vol_at, per_at}
 use Rattle.cx_table.specs.declared.remains.Remains.{Remains}
-use Rattle.cx_table.specs.Ending.{IsChain, history_of}
+use Rattle.cx_rule.specs.Ending.{IsCodeChain}
 use Rattle.cx_table.specs.Remains.{AreSeats, Leaves, MarksDirty, known_by, locals_of, opening_seat}
-use Rattle.cx_table.specs.Rule.{RuleHolds, HoldsNone, NotesHold, StandStill}
-use Rattle.cx_table.specs.Running.{IsSeatOf, Running, instance_at}
-use Rattle.cx_table.specs.Seats.{Seated}
-use Rattle.cx_table.proofs.Merged.{history_is}
-use Rattle.cx_table.proofs.Moves.{same_items}
+use Rattle.cx_rule.specs.Rule.{RuleHolds, IsKnown, NotesHold, StandStill}
+use Rattle.cx_table.specs.Mirrors.{HoldsNone}
+use Rattle.cx_rule.specs.Running.{IsSeatOf, Running}
+use Rattle.cx_rule.specs.Seats.{Seated}
+use Rattle.cx_core.proofs.MergeLemmas.{history_is}
+use Rattle.cx_rule.proofs.ShownLaws.{none_held, shown_whole}
+use Rattle.cx_rule.proofs.Moves.{same_items}
 
 map-id : {A : Type 0} (xs : List A) → map (λ (x : A). x) xs ≡ xs
 map-id [] = refl
@@ -65,14 +67,25 @@ numbered callers seats numbers i k at =
 seats_count : {O : Type 0} (t : Running O) (seats : List Seated) → AreSeats t seats → length seats ≡ t.callers
 seats_count t seats are = sym (length-map seats (λ (s : Seated). s.known.local.number)) ∙ ap length are.numbers ∙ length-range_with_len 0 t.callers
 
+-- an item of a list of which something holds
+holds_at : (known : List Known) (i : ℕ) (k : Known) → All (λ (x : Known). HoldsNone x.local) known → slice_get known i ≡ Some k → HoldsNone k.local
+holds_at known i k all at = subst (λ (x : Known). HoldsNone x.local) (get_or_from_slice_get known i k k at) (all i k (slice_get_within known i k at))
+
+-- a caller without an exclusive right shows its whole local state
+shown_here : {instance : Instance} {history : List Entry} {place_of : ℕ → ℕ × ℕ} {seat i : ℕ} (locals : List Local) (k : Known) → HoldsNone k.local → IsKnown instance history locals place_of seat i k →
+    slice_get locals k.local.number ≡ Some k.local
+shown_here locals k none is =
+    let whole = shown_whole is.local (none_held is.local (ap (λ (l : Local). l.exclusive) (sym is.shows) ∙ none.exclusive)) in
+    is.of_caller ∙ ap Some (sym (is.shows ∙ whole))
+
 -- what the rule knows of the local states is what the seats know
-pub locals_are : {O : Type 0} (t : Running O) (instance : Instance) (seats : List Seated) (s : State ℕ (List Known)) (id : ℕ) → instance.callers ≡ t.callers → AreSeats t seats → (held : RuleHolds instance s) →
-    get_elem? s.views id ≡ some (known_by seats) → held.locals ≡ locals_of seats
-locals_are t instance seats s id callers are held me =
+pub locals_are : {O : Type 0} (t : Running O) (instance : Instance) (seats : List Seated) (s : State ℕ (List Known)) (id : ℕ) → instance.callers ≡ t.callers → AreSeats t seats → All (λ (k : Known). HoldsNone k.local) (known_by seats) →
+    (held : RuleHolds instance s) → get_elem? s.views id ≡ some (known_by seats) → held.locals ≡ locals_of seats
+locals_are t instance seats s id callers are none held me =
     let count : length (locals_of seats) ≡ t.callers = length-map (known_by seats) (λ (k : Known). k.local) ∙ length-map seats (λ (x : Seated). x.known) ∙ seats_count t seats are in
     same_items held.locals (locals_of seats) (held.law.shape.count ∙ callers ∙ sym count) (λ i l at. (
     let k = map_at (λ (k : Known). k.local) (known_by seats) i l at in
-    let is = (held.each id i (known_by seats) k.0 me k.1).local in
+    let is = shown_here held.locals k.0 (holds_at (known_by seats) i k.0 none k.1) (held.each id i (known_by seats) k.0 me k.1) in
     let n = numbered t.callers seats are.numbers i k.0 k.1 in
     subst (λ (x : Local). slice_get held.locals i ≡ Some x) k.2 (subst (λ (m : ℕ). slice_get held.locals m ≡ Some k.0.local) n is)))
 
@@ -89,6 +102,10 @@ not_marked : (n i : ℕ) → slice_get (replicate n false) i ≡ Some true → �
 not_marked zero i at = none-some true at
 not_marked (suc n) zero at = cc
 not_marked (suc n) (suc i) at = not_marked n i at
+
+-- the local states of callers without rights
+all_none : (known : List Known) → All (λ (k : Known). HoldsNone k.local) known → (c : ℕ) (l : Local) → slice_get (map (λ (k : Known). k.local) known) c ≡ Some l → HoldsNone l
+all_none known none c l at = (let k = map_at (λ (x : Known). x.local) known c l at in subst HoldsNone k.2 (holds_at known c k.0 none k.1))
 
 -- no word is dirty where no caller holds a replica
 pub none_dirty : (locals : List Local) (replicas region : ℕ) (marks : List Bool) → ((c : ℕ) (l : Local) → slice_get locals c ≡ Some l → HoldsNone l) → marks ≡ replicate (region * replicas) false →
@@ -108,13 +125,13 @@ read_is (y ∷ ys) zero x at = some-injective y x at
 read_is (y ∷ ys) (suc i) x at = read_is ys i x at
 
 -- no code was published since the table was opened
-pub one_code : (instance : Instance) (words : List ℕ) (locals : List Local) (code : ℕ) (codes : List ℕ) → StandStill instance words → get_elem? words 0 ≡ some code → codes ≡ code ∷ [] → IsChain words locals codes
+pub one_code : (instance : Instance) (words : List ℕ) (locals : List Local) (code : ℕ) (codes : List ℕ) → StandStill instance words → get_elem? words 0 ≡ some code → codes ≡ code ∷ [] → IsCodeChain words locals codes
 unfolding opening_words
 one_code instance words locals code codes still at is =
     let dur : slice_index words 1 ≡ slice_index (opening_words instance.callers instance.base) 1 = still 1 (inl (omega arith)) in
     let cur : slice_index words 0 ≡ slice_index (opening_words instance.callers instance.base) 0 = still 0 (inl (omega arith)) in
     let here = read_is words 0 code at in
-    subst (IsChain words locals) (sym is) (dur ∙ sym cur ∙ here, sym here)
+    subst (IsCodeChain words locals) (sym is) (dur ∙ sym cur ∙ here, sym here)
 
 -- a part of the words that were handed out, at the same places
 pub same_part : (words ws : List ℕ) (a b c d : ℕ) → words ≡ ws → a ≡ c → b ≡ d → slice_range ws a b ≡ slice_range words c d
@@ -139,9 +156,9 @@ pub record Handed {O : Type 0} (t : Running O) (seats : List Seated) (words : Li
   pub dirty : r.dirty.items ≡ replicate (length t.base.words * (2 * t.callers)) false
 
 pub leaves : {O : Type 0} (t : Running O) (instance : Instance) (seats : List Seated) (r : Remains) (s : State ℕ (List Known)) (id : ℕ) → instance.callers ≡ t.callers → instance.base ≡ t.base →
-    AreSeats t seats → RuleHolds instance s → get_elem? s.views id ≡ some (known_by seats) → Handed t seats s.words r → Leaves t instance seats r
-leaves t instance seats r s id callers base are held me h =
-    let locals = locals_are t instance seats s id callers are held me in
+    AreSeats t seats → All (λ (k : Known). HoldsNone k.local) (known_by seats) → RuleHolds instance s → get_elem? s.views id ≡ some (known_by seats) → Handed t seats s.words r → Leaves t instance seats r
+leaves t instance seats r s id callers base are none held me h =
+    let locals = locals_are t instance seats s id callers are none held me in
     let state : Lawful instance (record { words = s.words; locals = locals_of seats }) = subst (λ (ls : List Local). Lawful instance (record { words = s.words; locals = ls })) locals held.law in
     let place : instance.base.place ≡ t.base.place = ap (λ (b : Base). b.place) base in
     let history : r.trail.history ≡ history_of instance.base.place (locals_of seats) = h.history ∙ ap (λ p. history_of p (locals_of seats)) (sym place) in
@@ -162,16 +179,6 @@ leaves t instance seats r s id callers base are held me h =
       chain = one_code instance s.words (locals_of seats) h.code r.trail.chain held.still h.cur h.chain;
       volatile = h.volatile;
       durable = h.durable;
-      dirty = none_dirty (locals_of seats) (2 * t.callers) (length t.base.words) r.dirty.items (λ c l at. held.rest c l (subst (λ (ls : List Local). slice_get ls c ≡ Some l) (sym locals) at)) h.dirty;
+      dirty = none_dirty (locals_of seats) (2 * t.callers) (length t.base.words) r.dirty.items (all_none (known_by seats) none) h.dirty;
       notes = notes_are instance seats s id r.trail.history held me was;
     }
-
-abbrev pub Same : Instance → Instance → Type 0
-Same a b = a ≡ b
-
--- the instance of a table, which its key and its fields tell
-pub same_instance : {O : Type 0} (step : O → List ℕ → List ℕ → List ℕ × List ℕ) (reads : O → List ℕ → Bool) (t : Running O) (callers : ℕ) (base : Base) (object : O) →
-    callers ≡ t.callers → base ≡ t.base → object ≡ t.object → Same (record { callers = callers; base = base; step = step object; reads = reads object }) (instance_at t step reads)
-same_instance {O = O} step reads t callers base object c b o =
-    let L : ℕ → Base → O → Instance = λ n x y. record { callers = n; base = x; step = step y; reads = reads y } in
-    ap (λ n. L n base object) c ∙ ap (λ x. L t.callers x object) b ∙ ap (λ y. L t.callers t.base y) o

@@ -1,11 +1,14 @@
 -- The numbers of a local state that code reads.
-use Rattle.std.specs.Prelude.{◌≡◌, ◌^◌, ◌≤◌, ℕ, List, [], ◌∷◌, length, map}
+use Rattle.std.specs.Prelude.{◌≡◌, ◌^◌, ◌≤◌, ℕ, List, [], ◌∷◌, length, map, None}
 use Rattle.atomic_table.specs.Table.{Me}
+use Rattle.cx_core.specs.declared.kinds.Kind.{Kind}
 use Rattle.cx_core.specs.declared.local.Cell.{Cell}
 use Rattle.cx_core.specs.declared.local.Local.{Local}
+use Rattle.cx_core.specs.Events.{Guard}
+use Rattle.cx_core.specs.State.{Instance}
 use Rattle.cx_table.specs.declared.mirror.Mirror.{Mirror}
-use Rattle.cx_table.specs.declared.rule.Known.{Known}
-use Rattle.cx_table.specs.Seats.{HasCells, known_of, unanswered_ticket}
+use Rattle.cx_rule.specs.declared.rule.Known.{Known}
+use Rattle.cx_rule.specs.Seats.{HasCells, IsWithinLimit, known_of, shown_next, unanswered_ticket, unseen}
 
 abbrev pub mirror_of : Local → Mirror
 mirror_of l = record {
@@ -27,7 +30,21 @@ mirror_of l = record {
   scans = l.scans;
 }
 
--- a seat knows one caller, and its numbers are that caller's. They are small enough to be counted on.
+-- the numbers follow an allowed event of this kind that found this word, in each instance with so many callers
+abbrev pub Follows : ℕ → Kind → ℕ → Mirror → Mirror → Type 0
+Follows callers kind found before after =
+    (instance : Instance) (l : Local) → instance.callers ≡ callers → Guard instance unseen kind l → before ≡ mirror_of l → after ≡ mirror_of (shown_next instance kind l found)
+
+-- a caller has no right on a replica, since no step call takes one yet
+pub record HoldsNone (l : Local) : Type 0 where
+  pub exclusive : l.exclusive ≡ None
+  pub shared : l.shared ≡ None
+  pub passer : l.passer ≡ None
+  pub downgraded : l.downgraded ≡ None
+  pub won : l.won ≡ None
+
+-- a seat knows one caller, and its numbers are that caller's. They are small enough to be counted on, and no more steps were
+-- made than the limit allows.
 pub record IsMirrored (me : Me ℕ (List Known)) (mirror : Mirror) (before : ℕ) : Type 0 where
   pub one : me ≡ (known_of me.0 ∷ [], [])
   pub is : mirror ≡ mirror_of (known_of me.0).local
@@ -36,3 +53,5 @@ pub record IsMirrored (me : Me ℕ (List Known)) (mirror : Mirror) (before : ℕ
   pub few : mirror.linked ≤ 2 ^ 40
   pub small : before ≤ 2 ^ 40
   pub cells : HasCells (known_of me.0).local
+  pub within : IsWithinLimit (known_of me.0).local
+  pub holds : HoldsNone (known_of me.0).local

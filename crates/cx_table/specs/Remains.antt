@@ -8,12 +8,12 @@ use Rattle.cx_core.specs.Layout.{vol_at, per_at}
 use Rattle.cx_core.specs.Merge.{IsHistory}
 use Rattle.cx_core.specs.Region.{slot_number}
 use Rattle.cx_core.specs.State.{Instance}
-use Rattle.cx_table.specs.declared.rule.Known.{Known}
+use Rattle.cx_rule.specs.declared.rule.Known.{Known}
 use Rattle.cx_table.specs.declared.remains.Remains.{Remains}
-use Rattle.cx_table.specs.Ending.{IsChain, locals_known}
-use Rattle.cx_table.specs.Rule.{NotesHold}
-use Rattle.cx_table.specs.Running.{IsSeatOf, Running}
-use Rattle.cx_table.specs.Seats.{Seated, opening_known}
+use Rattle.cx_rule.specs.Ending.{IsCodeChain, locals_known}
+use Rattle.cx_rule.specs.Rule.{NotesHold}
+use Rattle.cx_rule.specs.Running.{IsSeatOf, Running}
+use Rattle.cx_rule.specs.Seats.{Seated, opening_known}
 
 -- what the seats know of their callers
 abbrev pub known_by : List Seated → List Known
@@ -63,7 +63,7 @@ pub record Leaves {O : Type 0} (table : Running O) (instance : Instance) (seats 
   pub state : Lawful instance (record { words = words; locals = locals_of seats })
   pub history : state.history ≡ r.trail.history
   pub merged : IsHistory table.base.place r.trail.history (locals_of seats)
-  pub chain : IsChain words (locals_of seats) r.trail.chain
+  pub chain : IsCodeChain words (locals_of seats) r.trail.chain
   pub volatile : r.volatile.items ≡ slice_range words (vol_at table.callers (length table.base.words) 0 0) (vol_at table.callers (length table.base.words) (2 * table.callers) 0)
   pub durable : r.durable.items ≡ slice_range words (per_at table.callers (length table.base.words) 0 0) (per_at table.callers (length table.base.words) (2 * table.callers) 0)
   pub dirty : MarksDirty (locals_of seats) (2 * table.callers) (length table.base.words) r.dirty.items

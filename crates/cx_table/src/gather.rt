@@ -1,18 +1,21 @@
 //! Closing a table: its callers' seats are joined, and its words are handed out.
 
-ghost use Rattle.std.specs.Prelude.{◌≡◌, ◌+◌, ◌*◌, ◌<◌, ◌≤◌, ◌∷◌, ℕ, List, [], false, IfErr, IfOk, length, map, replicate, slice_range, vec_capacity};
+ghost use Rattle.std.specs.Prelude.{◌≡◌, ◌+◌, ◌*◌, ◌<◌, ◌≤◌, ◌∷◌, ℕ, List, [], false, All, IfErr, IfOk, length, map, replicate, slice_range, vec_capacity};
 ghost use Rattle.std.specs.Slots.{IsFull, slots_items, slots_len};
 ghost use Rattle.cx_table.specs.Remains.{AreSeats, Leaves, known_by};
 ghost use Rattle.cx_core.specs.Region.{region_words};
-ghost use Rattle.cx_table.specs.Running.{instance_at};
-ghost use Rattle.cx_table.specs.Seats.{Seated};
+ghost use Rattle.cx_table.specs.Mirrors.{HoldsNone};
+ghost use Rattle.cx_rule.specs.Running.{instance_at};
+ghost use Rattle.cx_rule.specs.Seats.{Seated};
 
 use crate::remains::{Remains, Trail};
-use crate::rule::View;
 use crate::seat::CallerSeat;
 use crate::shared::Shared;
 use atomic_table::{Closed, Join, Play, Seat};
 use cx_base::Object;
+use cx_core::layout::replicas_at;
+use cx_core::{HEAD_LINES, LINE_WORDS};
+use cx_rule::View;
 use std::alloc::{AllocError, Global};
 use std::snapshot::Snapshot;
 
@@ -80,7 +83,7 @@ impl<O: Object> Shared<O> {
         ensures remains { IfOk result (λ r. Leaves self (instance_at self O.step O.only_reads) seats.items r) }
         ensures kept { IfErr result (λ k. (k.shared ≡ self) × (k.seats ≡ seats)) }
     {
-        let region = 8 * (146 + self.lines as usize);
+        let region = LINE_WORDS as usize * (HEAD_LINES as usize + self.lines as usize);
         let replicas = 2 * self.callers as usize;
         let Ok(room) = Room::take(alloc, region * replicas) else {
             return Err(KeptTable {
@@ -97,6 +100,7 @@ impl<O: Object> Shared<O> {
         requires { AreSeats self.now seats.items }
         ensures table { result.table_id ≡ self.now.table }
         ensures me { result.me ≡ (known_by seats.items, []) }
+        ensures holds { All (λ k. HoldsNone k.local) result.me.0 }
     {
         let (_, mut closing) = self.table.shared.load_new_seat::<Enters>(0);
         while let Some(seat) = seats.pop() {
@@ -111,6 +115,7 @@ impl<O: Object> Shared<O> {
         requires seat { seat.table ≡ self.now.table }
         ensures table { closing.new.table_id ≡ closing.old.table_id }
         ensures me { closing.new.me ≡ (seat.known ∷ closing.old.me.0, []) }
+        ensures holds { HoldsNone seat.known.local }
     {
         let CallerSeat {
             seat,
@@ -123,6 +128,7 @@ impl<O: Object> Shared<O> {
     /// Ends the table with the seat that knows all callers, and copies its words out.
     fn closed(self, closing: Seat<u8, View>, room: Room) -> Remains
         requires table { closing.table_id ≡ self.table }
+        requires holds { All (λ k. HoldsNone k.local) closing.me.0 }
         requires published { (room.published.items ≡ []) × (1 ≤ vec_capacity room.published) }
         requires volatile { (room.volatile.items ≡ []) × (region_words self.lines * (2 * self.callers) ≤ vec_capacity room.volatile) }
         requires durable { (room.durable.items ≡ []) × (region_words self.lines * (2 * self.callers) ≤ vec_capacity room.durable) }
@@ -142,8 +148,9 @@ impl<O: Object> Shared<O> {
             base,
             object: _,
         } = self;
-        let count = 8 * (146 + lines as usize) * (2 * callers as usize);
-        let from = 4 + 10563 * callers as usize;
+        let region = LINE_WORDS as usize * (HEAD_LINES as usize + lines as usize);
+        let count = region * (2 * callers as usize);
+        let from = replicas_at(callers);
         let end = Snapshot::of(&closing);
         let closed = table.close_with(closing);
         published.push_reserved(closed.word(0));

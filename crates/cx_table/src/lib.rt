@@ -7,15 +7,14 @@ mod gather;
 mod make;
 mod mirror;
 mod remains;
-mod rule;
 mod seat;
 mod shared;
 mod steps;
 mod threads;
 
+pub use cx_rule::{CoreRule, Key, Known, Noted, View};
 pub use gather::KeptTable;
 pub use remains::{Remains, Trail};
-pub use rule::{CoreRule, Key, Known, Noted, View};
 pub use seat::CallerSeat;
 pub use shared::Shared;
 pub use threads::cross_threads;

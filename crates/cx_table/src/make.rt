@@ -6,15 +6,15 @@ ghost use Rattle.cx_core.specs.Base.{LawfulBase};
 ghost use Rattle.cx_core.specs.State.{opening_local};
 ghost use Rattle.cx_table.specs.Mirrors.{mirror_of};
 ghost use Rattle.cx_table.specs.Remains.{AreSeats, opening_seat};
-ghost use Rattle.cx_table.specs.Seats.{opening_view};
+ghost use Rattle.cx_rule.specs.Seats.{opening_view};
 
 use crate::mirror::Mirror;
-use crate::rule::{Key, View};
 use crate::seat::CallerSeat;
 use crate::shared::Shared;
 use atomic_table::{Seat, Split, Table};
 use cx_base::{Items, Object, root_code};
-use cx_core::{Base, CoreState};
+use cx_core::{Base, CoreState, slot_start};
+use cx_rule::{Key, View};
 use std::alloc::{AllocError, Global};
 use std::snapshot::Snapshot;
 
@@ -110,7 +110,7 @@ impl<O: Object> Shared<O> {
             number,
             limits[number as usize],
         );
-        let before = self.base.words.as_slice()[8 + 145 * number as usize];
+        let before = self.base.words.as_slice()[slot_start(number) as usize];
         let seat = self.table.shared.split_seat::<CutFirst>(first);
         CallerSeat {
             seat,

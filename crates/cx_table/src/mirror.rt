@@ -1,11 +1,10 @@
 //! The numbers of a local state that code reads, and how each kind of step changes them.
 
-ghost use Rattle.std.specs.Prelude.{◌≡◌, ◌+◌, ◌^◌, ◌<◌, ◌≤◌, ◌↔◌, ℕ, IsErr, length, slice_index, Some, None};
-ghost use Rattle.cx_core.specs.Events.{linked, lost, next, raised_front, seen_word};
-ghost use Rattle.cx_core.specs.State.{Instance};
+ghost use Rattle.std.specs.Prelude.{◌≡◌, ◌+◌, ◌^◌, ◌<◌, ◌≤◌, ℕ, MatchResult, length, slice_index, Some, None};
+ghost use Rattle.cx_core.specs.QueueEvents.{linked, lost, raised_front, seen_word};
 ghost use Rattle.cx_core.specs.declared.kinds.Kind.TheVariants.{WriteCell, Link, Look, ReadCell, LoadFree};
-ghost use Rattle.cx_table.specs.Mirrors.{mirror_of};
-ghost use Rattle.cx_table.specs.Seats.{IsAtLimit};
+ghost use Rattle.cx_table.specs.Mirrors.{Follows, mirror_of};
+ghost use Rattle.cx_rule.specs.Seats.{IsAtLimit};
 
 use cx_base::{Halt, link_ticket};
 use cx_core::SeenSlot;
@@ -37,7 +36,7 @@ pub struct Mirror {
 impl Mirror {
     /// Refuses a step where the steps equal the limit.
     pub fn check(&self) -> Result<(), Halt>
-        ensures { (l : _) → self.now ≡ mirror_of l → (IsErr result ↔ IsAtLimit l) }
+        ensures { (l : _) → self.now ≡ mirror_of l → MatchResult result (λ _. ¬ IsAtLimit l) (λ _. IsAtLimit l) }
     {
         if self.steps == self.limit && self.limit != u64::MAX {
             return Err(Halt);
@@ -48,7 +47,7 @@ impl Mirror {
     /// A word was written into cell `j`.
     pub fn write_cell(&mut self, j: u64)
         requires { j < 16 }
-        ensures { (instance : Instance) (l : _) (i v found : ℕ) → self.old ≡ mirror_of l → self.new ≡ mirror_of (next instance (WriteCell j i v) l found) }
+        ensures { (callers i v found : ℕ) → Follows callers (WriteCell j i v) found self.old self.new }
     {
         self.tickets[j as usize] = None;
         self.fresh = false;
@@ -86,7 +85,7 @@ impl Mirror {
         requires j { j < 16 }
         requires front { self.old.front < 2 ^ 40 }
         requires linked { self.old.linked ≤ self.old.front }
-        ensures { (instance : Instance) (l : _) → instance.callers ≡ callers → self.old ≡ mirror_of l → length l.answered ≡ length l.own → self.new ≡ mirror_of (next instance (Link j) l found) }
+        ensures { Follows callers (Link j) found self.old self.new }
     {
         if found == self.seen_word() {
             self.win(j);
@@ -109,7 +108,7 @@ impl Mirror {
     pub fn look(&mut self, callers: u32, s: u64, found: u64)
         requires some { 1 ≤ callers }
         requires few { callers ≤ 8 }
-        ensures { (instance : Instance) (l : _) → instance.callers ≡ callers → self.old ≡ mirror_of l → self.new ≡ mirror_of (next instance (Look s) l found) }
+        ensures { Follows callers (Look s) found self.old self.new }
     {
         self.seen_slot = Some(SeenSlot {
             slot: s,
@@ -121,14 +120,14 @@ impl Mirror {
 
     /// A word of a cell was read.
     pub fn read_cell(&mut self)
-        ensures { (instance : Instance) (l : _) (t k i found : ℕ) → self.old ≡ mirror_of l → self.new ≡ mirror_of (next instance (ReadCell t k i) l found) }
+        ensures { (callers t k i found : ℕ) → Follows callers (ReadCell t k i) found self.old self.new }
     {
         self.steps = self.steps.saturating_add(1);
     }
 
     /// FREE was found.
     pub fn load_free(&mut self, found: u64)
-        ensures { (instance : Instance) (l : _) → self.old ≡ mirror_of l → self.new ≡ mirror_of (next instance LoadFree l found) }
+        ensures { (callers : ℕ) → Follows callers LoadFree found self.old self.new }
     {
         self.seen_free = self.seen_free.max(found);
         self.steps = self.steps.saturating_add(1);

@@ -1,8 +1,8 @@
 //! What a closed table leaves.
 
-use crate::rule::View;
 use atomic_table::Seat;
 use cx_core::Base;
+use cx_rule::View;
 use std::marker::Model;
 use std::snapshot::Snapshot;
 
@@ -16,7 +16,8 @@ pub struct Trail {
 }
 
 impl Model for Trail {
-    ghost use Rattle.cx_table.specs.Ending.{Ending, history_of, locals_known};
+    ghost use Rattle.cx_core.specs.Merge.{history_of};
+    ghost use Rattle.cx_rule.specs.Ending.{Ending, locals_known};
 
     ghost Value = { Ending };
 

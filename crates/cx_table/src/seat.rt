@@ -1,13 +1,13 @@
 //! A caller's seat: its right to step, and the numbers of its local state that code reads.
 
 ghost use Rattle.std.specs.Prelude.{◌≡◌, ◌+◌, ◌^◌, ◌<◌, ◌≤◌, length};
-ghost use Rattle.cx_core.specs.Events.{cell_of};
-ghost use Rattle.cx_table.specs.Seats.{HasCells, unanswered_ticket};
+ghost use Rattle.cx_core.specs.QueueEvents.{cell_of};
+ghost use Rattle.cx_rule.specs.Seats.{HasCells, IsWithinLimit, unanswered_ticket};
 
 use crate::mirror::Mirror;
-use crate::rule::View;
 use atomic_table::Seat;
 use cx_core::SeenSlot;
+use cx_rule::View;
 use std::marker::Model;
 
 /// The seat of one caller. It has no bytes of the table, and what it knows changes only at its own steps. Contracts see
@@ -21,7 +21,7 @@ pub struct CallerSeat {
 }
 
 impl Model for CallerSeat {
-    ghost use Rattle.cx_table.specs.Seats.{Seated, known_of};
+    ghost use Rattle.cx_rule.specs.Seats.{Seated, known_of};
 
     ghost Value = { Seated };
 
@@ -41,9 +41,10 @@ impl CallerSeat {
         self.mirror.number
     }
 
-    /// The steps made. This stays at 2^64 - 1 once there.
+    /// The steps made, of which there are no more than the limit allows. This stays at 2^64 - 1 once there.
     pub fn steps(&self) -> u64
-        ensures { result ≡ self.now.known.local.steps }
+        ensures value { result ≡ self.now.known.local.steps }
+        ensures within { IsWithinLimit self.now.known.local }
     {
         self.mirror.steps
     }

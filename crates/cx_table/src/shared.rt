@@ -2,10 +2,10 @@
 
 ghost use Rattle.std.specs.Prelude.{◌≡◌, ◌≤◌};
 
-use crate::rule::{CoreRule, Key, View};
 use atomic_table::Table;
 use cx_base::Object;
 use cx_core::Base;
+use cx_rule::{CoreRule, Key, View};
 use std::alloc::Global;
 use std::marker::Model;
 
@@ -22,7 +22,7 @@ pub struct Shared<O: Object> {
 
 impl<O: Object> Model for Shared<O> {
     ghost use Rattle.std.specs.Prelude.{◌≡◌};
-    ghost use Rattle.cx_table.specs.Running.{Running, IsRunning};
+    ghost use Rattle.cx_rule.specs.Running.{Running, IsRunning};
 
     ghost Value = { Running O };
 

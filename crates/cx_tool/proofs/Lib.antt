@@ -1,7 +1,7 @@
-pub mod Commands
-pub mod Held
-pub mod OneLife
-pub mod Runs
-pub mod OneMore
-pub mod Transfer
 pub mod Answering
+pub mod Commands
+pub mod OneLife
+pub mod OneMore
+pub mod Runs
+pub mod StoreMemory
+pub mod Transfer

@@ -10,10 +10,10 @@ use Rattle.cx_base.specs.Store.{Store}
 use Rattle.doc_model.specs.declared.operations.Op.{Op}
 use Rattle.doc_model.specs.declared.operations.Op.TheVariants.{Put, Del, Add, Get, Next, Count}
 use Rattle.doc_model.specs.Meaning.{store_after, only_reads}
-use Rattle.doc_text.specs.declared.grammar.Command.{Command}
-use Rattle.doc_text.specs.declared.grammar.Life.{Life}
+use Rattle.doc_text.specs.declared.script_parts.Command.{Command}
+use Rattle.doc_text.specs.declared.script_parts.Life.{Life}
 use Rattle.doc_text.specs.declared.lives.JournalLine.{JournalLine}
-use Rattle.doc_text.specs.Lives.{own_ops, op_of, Names, ops_of, store_after_all, store_at, Answer, count_to}
+use Rattle.doc_text.specs.Lives.{own_ops, named_op, Names, ops_of, store_after_all, store_at, Answer, count_to}
 use Rattle.cx_tool.proofs.Commands.{some_of, get-append, get-last, there-push_cases, there-below, filter_map-agree}
 
 -- the life with these commands
@@ -38,14 +38,14 @@ length-own (c ∷ cs) h =
     grind (arith, common_steps, e, rest)
 
 -- a command that is there stays what it is
-op-kept : (life : Life) (cs ds : List Command) (client n : ℕ) (op : Op) → op_of (with_commands life cs) client n ≡ Some op → op_of (with_commands life (cs ++ ds)) client n ≡ Some op
+op-kept : (life : Life) (cs ds : List Command) (client n : ℕ) (op : Op) → named_op (with_commands life cs) client n ≡ Some op → named_op (with_commands life (cs ++ ds)) client n ≡ Some op
 op-kept life cs ds client zero op h = h
 op-kept life cs ds client (suc n) op h =
     ap (λ (ops : List Op). slice_get ops n) (own-append client cs ds) ∙ get-append (own_ops client cs) (own_ops client ds) n op h
 
-pub op-same : (life : Life) (cs ds : List Command) (client n : ℕ) → IsSome (op_of (with_commands life cs) client n) → op_of (with_commands life (cs ++ ds)) client n ≡ op_of (with_commands life cs) client n
+pub op-same : (life : Life) (cs ds : List Command) (client n : ℕ) → IsSome (named_op (with_commands life cs) client n) → named_op (with_commands life (cs ++ ds)) client n ≡ named_op (with_commands life cs) client n
 op-same life cs ds client n h =
-    let found : (op : Op) × (op_of (with_commands life cs) client n ≡ Some op) = some_of (op_of (with_commands life cs) client n) h in
+    let found : (op : Op) × (named_op (with_commands life cs) client n ≡ Some op) = some_of (named_op (with_commands life cs) client n) h in
     op-kept life cs ds client n found.0 found.1 ∙ sym found.1
 
 -- the new command's operation is the client's last
@@ -54,7 +54,7 @@ own-push cs c e =
     own-append 0 cs (c ∷ [])
     ∙ ap (λ (b : Bool). own_ops 0 cs ++ map (λ (c : Command). c.op) (cond b (c ∷ []) [])) (eq-eqb c.client 0 e)
 
-pub op-last : (life : Life) (cs : List Command) (c : Command) → AreOwn cs → c.client ≡ 0 → op_of (with_commands life (cs ++ c ∷ [])) 0 (length cs + 1) ≡ Some c.op
+pub op-last : (life : Life) (cs : List Command) (c : Command) → AreOwn cs → c.client ≡ 0 → named_op (with_commands life (cs ++ c ∷ [])) 0 (length cs + 1) ≡ Some c.op
 op-last life cs c own e =
     rw add-one (
     ap (λ (ops : List Op). slice_get ops (length cs)) (own-push cs c e)
@@ -107,9 +107,9 @@ AreNamed life journal = All (λ line. Names life line.client line.command) journ
 -- the operations of entries stay what they are
 ops-same : (life : Life) (cs ds : List Command) (journal : List JournalLine) → AreNamed (with_commands life cs) journal → ops_of (with_commands life (cs ++ ds)) journal ≡ ops_of (with_commands life cs) journal
 ops-same life cs ds journal named =
-    filter_map-agree (λ line. op_of (with_commands life (cs ++ ds)) line.client line.command) (λ line. op_of (with_commands life cs) line.client line.command) journal
+    filter_map-agree (λ line. named_op (with_commands life (cs ++ ds)) line.client line.command) (λ line. named_op (with_commands life cs) line.client line.command) journal
     (All-weaker (λ line. Names (with_commands life cs) line.client line.command)
-    (λ line. op_of (with_commands life (cs ++ ds)) line.client line.command ≡ op_of (with_commands life cs) line.client line.command)
+    (λ line. named_op (with_commands life (cs ++ ds)) line.client line.command ≡ named_op (with_commands life cs) line.client line.command)
     (λ line names. op-same life cs ds line.client line.command names.there) journal named)
 
 -- the store at a place stays what it is
@@ -127,11 +127,11 @@ store_after_all-append lines store [] ys = refl
 store_after_all-append lines store (x ∷ xs) ys = store_after_all-append lines (store_after lines store x) xs ys
 
 -- after one more entry the store is the one after its operation
-pub store-push : (lines : ℕ) (life : Life) (journal : List JournalLine) (line : JournalLine) (op : Op) → op_of life line.client line.command ≡ Some op
+pub store-push : (lines : ℕ) (life : Life) (journal : List JournalLine) (line : JournalLine) (op : Op) → named_op life line.client line.command ≡ Some op
     → store_at lines [] life (journal ++ line ∷ []) (length (journal ++ line ∷ [])) ≡ store_after lines (store_at lines [] life journal (length journal)) op
 store-push lines life journal line op e =
     ap (λ (all : List JournalLine). store_after_all lines [] (ops_of life all)) (take_all (length (journal ++ line ∷ [])) (journal ++ line ∷ []) (omega arith))
-    ∙ (ap (store_after_all lines []) (filter_map-append (λ l. op_of life l.client l.command) journal (line ∷ []))
+    ∙ (ap (store_after_all lines []) (filter_map-append (λ l. named_op life l.client l.command) journal (line ∷ []))
     ∙ (ap (λ (o : Option Op). store_after_all lines [] (ops_of life journal ++ cons_option o [])) e
     ∙ (store_after_all-append lines [] (ops_of life journal) (op ∷ [])
     ∙ ap (λ (all : List JournalLine). store_after lines (store_after_all lines [] (ops_of life all)) op) (sym (take_all (length journal) journal (omega arith))))))

@@ -7,11 +7,11 @@ use Rattle.cx_base.specs.Store.{Store}
 use Rattle.doc_model.specs.declared.operations.Op.{Op}
 use Rattle.doc_model.specs.declared.operations.Reply.{Reply}
 use Rattle.doc_model.specs.Meaning.{reply_to, store_after, only_reads}
-use Rattle.doc_text.specs.declared.grammar.Command.{Command}
-use Rattle.doc_text.specs.declared.grammar.Life.{Life}
+use Rattle.doc_text.specs.declared.script_parts.Command.{Command}
+use Rattle.doc_text.specs.declared.script_parts.Life.{Life}
 use Rattle.doc_text.specs.declared.lives.JournalLine.{JournalLine}
 use Rattle.doc_text.specs.declared.lives.ReadLine.{ReadLine}
-use Rattle.doc_text.specs.Lives.{op_of, Names, store_at, Answer, read_answer, answers_of, IsReadBefore, HasReply, IsLegalRead, IsLegalLife}
+use Rattle.doc_text.specs.Lives.{named_op, Names, store_at, Answer, read_answer, answers_of, IsReadBefore, HasReply, IsLegalRead, IsLegalLife}
 use Rattle.cx_tool.specs.declared.lives.Running.{Running}
 use Rattle.cx_tool.specs.OneClient.{after_read, after_entry, answered}
 use Rattle.doc_text.specs.Limits.{IsOneClient}
@@ -30,8 +30,8 @@ runs-entry lines life cs c r runs e =
     let line : JournalLine = record { ticket = length r.journal; client = c.client; command = length cs + 1; reply = Some reply } in
     let answer : Answer = record { client = c.client; command = length cs + 1; at = length r.journal; next = length r.journal + 1 } in
     let named : All (λ (l : JournalLine). Names (with_commands life cs) l.client l.command) r.journal = runs.legal.interleaved.named in
-    let op : op_of life' c.client (length cs + 1) ≡ Some c.op =
-    subst (λ (k : ℕ). op_of life' k (length cs + 1) ≡ Some c.op) (sym e) (op-last life cs c runs.own e) in
+    let op : named_op life' c.client (length cs + 1) ≡ Some c.op =
+    subst (λ (k : ℕ). named_op life' k (length cs + 1) ≡ Some c.op) (sym e) (op-last life cs c runs.own e) in
     let name : Names life' c.client (length cs + 1) = subst (λ (k : ℕ). Names life' k (length cs + 1)) (sym e) (name-last life cs c runs.alone runs.own e) in
     let before : store_at lines [] life' r.journal (length r.journal) ≡ r.store.store = store-same lines life cs (c ∷ []) r.journal (length r.journal) named ∙ sym runs.store in
     let longer : length (r.journal ++ line ∷ []) ≡ length r.journal + 1 = length-append r.journal (line ∷ []) in
@@ -63,7 +63,7 @@ runs-entry lines life cs c r runs e =
           | inr new ↦
               let store : store_at lines [] life' (r.journal ++ line ∷ []) i ≡ r.store.store =
               ap (store_at lines [] life' (r.journal ++ line ∷ [])) new.0 ∙ (store-front lines life' r.journal (line ∷ []) (length r.journal) (omega arith) ∙ before) in
-              subst (λ (x : JournalLine). IfSome x.reply (HasReply lines (store_at lines [] life' (r.journal ++ line ∷ []) i) (op_of life' x.client x.command))) (sym new.1)
+              subst (λ (x : JournalLine). IfSome x.reply (HasReply lines (store_at lines [] life' (r.journal ++ line ∷ []) i) (named_op life' x.client x.command))) (sym new.1)
               (subst (λ (o : Option Op). HasReply lines (store_at lines [] life' (r.journal ++ line ∷ []) i) o reply) (sym op)
               (ap (λ (n : ℕ). reply_to n r.store.store c.op) runs.of_lines ∙ ap (λ (s : Store). reply_to lines s c.op) (sym store)))
         ];
@@ -89,8 +89,8 @@ runs-read lines life cs c r runs e reads =
     let reply : Reply = reply_to r.store.lines r.store.store c.op in
     let line : ReadLine = record { client = c.client; command = length cs + 1; place = length r.journal; reply = reply } in
     let named : All (λ (l : JournalLine). Names (with_commands life cs) l.client l.command) r.journal = runs.legal.interleaved.named in
-    let op : op_of life' c.client (length cs + 1) ≡ Some c.op =
-    subst (λ (k : ℕ). op_of life' k (length cs + 1) ≡ Some c.op) (sym e) (op-last life cs c runs.own e) in
+    let op : named_op life' c.client (length cs + 1) ≡ Some c.op =
+    subst (λ (k : ℕ). named_op life' k (length cs + 1) ≡ Some c.op) (sym e) (op-last life cs c runs.own e) in
     let name : Names life' c.client (length cs + 1) = subst (λ (k : ℕ). Names life' k (length cs + 1)) (sym e) (name-last life cs c runs.alone runs.own e) in
     let before : store_at lines [] life' r.journal (length r.journal) ≡ r.store.store = store-same lines life cs (c ∷ []) r.journal (length r.journal) named ∙ sym runs.store in
     let more : length (cs ++ c ∷ []) ≡ length cs + 1 = length-append cs (c ∷ []) in
@@ -112,7 +112,7 @@ runs-read lines life cs c r runs e reads =
         once = once-more life cs c (answers_of r.journal r.reads) (answers_of r.journal (r.reads ++ line ∷ [])) (read_answer line) runs.alone runs.own e runs.legal.once
             (All-weaker (IsPast (length cs) (length r.journal)) (λ (a : Answer). a.command ≤ length cs) (λ a h. h.command) (answers_of r.journal r.reads) told) e refl
             (λ client n. read-count r.journal r.reads line client n);
-        replies = λ i l at. subst (λ (j : List JournalLine). IfSome l.reply (HasReply lines (store_at lines [] life' j i) (op_of life' l.client l.command))) (append-nil r.journal)
+        replies = λ i l at. subst (λ (j : List JournalLine). IfSome l.reply (HasReply lines (store_at lines [] life' j i) (named_op life' l.client l.command))) (append-nil r.journal)
             (replies-kept lines life cs (c ∷ []) r.journal [] i l named at (at_index (λ (l : JournalLine). Names (with_commands life cs) l.client l.command) r.journal i l named at) (runs.legal.replies i l at));
         legal_reads = All-push (IsLegalRead lines 0 [] life' r.journal) r.reads line
             (All-weaker (IsLegalRead lines 0 [] (with_commands life cs) r.journal) (IsLegalRead lines 0 [] life' r.journal)

@@ -12,11 +12,11 @@ use Rattle.cx_base.specs.Store.{Store}
 use Rattle.doc_model.specs.declared.operations.Op.{Op}
 use Rattle.doc_model.specs.declared.operations.Reply.{Reply}
 use Rattle.doc_model.specs.Meaning.{only_reads}
-use Rattle.doc_text.specs.declared.grammar.Command.{Command}
-use Rattle.doc_text.specs.declared.grammar.Life.{Life}
+use Rattle.doc_text.specs.declared.script_parts.Command.{Command}
+use Rattle.doc_text.specs.declared.script_parts.Life.{Life}
 use Rattle.doc_text.specs.declared.lives.JournalLine.{JournalLine}
 use Rattle.doc_text.specs.declared.lives.ReadLine.{ReadLine}
-use Rattle.doc_text.specs.Lives.{op_of, Names, store_at, numbers_of, Answer, journal_answer, read_answer, answers_of, count_to, HasReply, IsLegalRead, IsLegal}
+use Rattle.doc_text.specs.Lives.{named_op, Names, store_at, numbers_of, Answer, journal_answer, read_answer, answers_of, count_to, HasReply, IsLegalRead, IsLegal}
 use Rattle.cx_tool.specs.declared.lives.Running.{Running}
 use Rattle.cx_tool.proofs.Commands.{All-filter_map, IsStrictlyIncreasing-push}
 use Rattle.std.specs.Option.{option_map}
@@ -162,7 +162,7 @@ pub read-kept : (lines : ℕ) (life : Life) (cs ds : List Command) (journal more
     → All (λ l. Names (with_commands life cs) l.client l.command) journal
     → IsLegalRead lines 0 [] (with_commands life cs) journal line → IsLegalRead lines 0 [] (with_commands life (cs ++ ds)) (journal ++ more) line
 read-kept lines life cs ds journal more line named h =
-    let op : op_of (with_commands life (cs ++ ds)) line.client line.command ≡ op_of (with_commands life cs) line.client line.command = op-same life cs ds line.client line.command h.named.there in
+    let op : named_op (with_commands life (cs ++ ds)) line.client line.command ≡ named_op (with_commands life cs) line.client line.command = op-same life cs ds line.client line.command h.named.there in
     let store : store_at lines [] (with_commands life (cs ++ ds)) (journal ++ more) (line.place - 0) ≡ store_at lines [] (with_commands life cs) journal (line.place - 0) =
     store-front lines (with_commands life (cs ++ ds)) journal more (line.place - 0) (omega (arith, h.to)) ∙ store-same lines life cs ds journal (line.place - 0) named in
     record {
@@ -171,22 +171,22 @@ read-kept lines life cs ds journal more line named h =
       from = h.from;
       to = omega (arith, h.to, length-append journal more);
       reply = subst (λ (o : Option Op). HasReply lines (store_at lines [] (with_commands life (cs ++ ds)) (journal ++ more) (line.place - 0)) o line.reply) (sym op)
-          (subst (λ (s : Store). HasReply lines s (op_of (with_commands life cs) line.client line.command) line.reply) (sym store) h.reply);
+          (subst (λ (s : Store). HasReply lines s (named_op (with_commands life cs) line.client line.command) line.reply) (sym store) h.reply);
     }
 
 -- the replies of old entries stay right
 pub replies-kept : (lines : ℕ) (life : Life) (cs ds : List Command) (journal more : List JournalLine) (i : ℕ) (line : JournalLine)
     → All (λ l. Names (with_commands life cs) l.client l.command) journal
     → slice_get journal i ≡ Some line → Names (with_commands life cs) line.client line.command
-    → IfSome line.reply (HasReply lines (store_at lines [] (with_commands life cs) journal i) (op_of (with_commands life cs) line.client line.command))
-    → IfSome line.reply (HasReply lines (store_at lines [] (with_commands life (cs ++ ds)) (journal ++ more) i) (op_of (with_commands life (cs ++ ds)) line.client line.command))
+    → IfSome line.reply (HasReply lines (store_at lines [] (with_commands life cs) journal i) (named_op (with_commands life cs) line.client line.command))
+    → IfSome line.reply (HasReply lines (store_at lines [] (with_commands life (cs ++ ds)) (journal ++ more) i) (named_op (with_commands life (cs ++ ds)) line.client line.command))
 replies-kept lines life cs ds journal more i line named at name h =
     let within : i < length journal = slice_get_within journal i line at in
-    let op : op_of (with_commands life (cs ++ ds)) line.client line.command ≡ op_of (with_commands life cs) line.client line.command = op-same life cs ds line.client line.command name.there in
+    let op : named_op (with_commands life (cs ++ ds)) line.client line.command ≡ named_op (with_commands life cs) line.client line.command = op-same life cs ds line.client line.command name.there in
     let store : store_at lines [] (with_commands life (cs ++ ds)) (journal ++ more) i ≡ store_at lines [] (with_commands life cs) journal i =
     store-front lines (with_commands life (cs ++ ds)) journal more i (omega arith) ∙ store-same lines life cs ds journal i named in
     subst (λ (o : Option Op). IfSome line.reply (HasReply lines (store_at lines [] (with_commands life (cs ++ ds)) (journal ++ more) i) o)) (sym op)
-    (subst (λ (s : Store). IfSome line.reply (HasReply lines s (op_of (with_commands life cs) line.client line.command))) (sym store) h)
+    (subst (λ (s : Store). IfSome line.reply (HasReply lines s (named_op (with_commands life cs) line.client line.command))) (sym store) h)
 
 -- what stands at an index has what holds of all
 pub at_index : {X : Type 0} (P : X → Type 0) (xs : List X) (i : ℕ) (x : X) → All P xs → slice_get xs i ≡ Some x → P x

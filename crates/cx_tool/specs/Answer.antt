@@ -2,12 +2,12 @@
 use Rattle.std.specs.Prelude.{◌≡◌, ◌⊎◌, ◌<◌, ◌≤◌, ℕ, List, [], ◌∷◌, ◌++◌, length, codes, Option, IfSome}
 use Rattle.std.specs.Fmt.{decimal}
 use Rattle.cx_base.specs.Outside.{Rose}
-use Rattle.doc_text.specs.declared.grammar.Script.{Script}
+use Rattle.doc_text.specs.declared.script_parts.Script.{Script}
 use Rattle.doc_text.specs.declared.lives.LifeRecord.{LifeRecord}
 use Rattle.doc_text.specs.Grammar.{IsScript, IsFirstFault}
 use Rattle.doc_text.specs.Refusal.{IsReasonAt}
 use Rattle.doc_text.specs.Reasons.{reason_text}
-use Rattle.doc_text.specs.declared.grammar.Reason.{Reason}
+use Rattle.doc_text.specs.declared.script_parts.Reason.{Reason}
 use Rattle.doc_text.specs.Lives.{AreLegalLives}
 use Rattle.doc_text.specs.Report.{report_of}
 use Rattle.cx_tool.specs.Output.{Appends, AppendsFront}

@@ -1,7 +1,7 @@
 pub mod Answer
-pub mod Held
 pub mod Input
 pub mod OneClient
 pub mod Output
 pub mod Status
 pub mod StoreInLines
+pub mod StoreMemory

@@ -1,7 +1,7 @@
 -- A life of one client, one command after another.
 use Rattle.std.specs.Prelude.{ℕ, [], ◌∷◌, ◌++◌, length, Some, if◌then◌else◌}
 use Rattle.doc_model.specs.Meaning.{reply_to, store_after, only_reads}
-use Rattle.doc_text.specs.declared.grammar.Command.{Command}
+use Rattle.doc_text.specs.declared.script_parts.Command.{Command}
 use Rattle.cx_tool.specs.declared.lives.Running.{Running}
 
 -- with one more read beside the history

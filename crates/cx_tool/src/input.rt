@@ -4,6 +4,7 @@ ghost use Rattle.std.specs.Prelude.{◌≡◌, ◌+◌, ◌<◌, ◌≤◌, IfOk
 ghost use Rattle.cx_base.specs.Outside.{Rose};
 ghost use Rattle.cx_tool.specs.Input.{Shows, Moved, TookAtMost};
 
+use crate::counted_source::CountedSource;
 use cx_base::{Failed, Source, Steps};
 use std::alloc::{AllocError, Global};
 use std::sync::ledger::{Blank, Ledger};
@@ -34,18 +35,20 @@ fn zeros(alloc: Global, len: usize) -> Result<Vec<u8>, AllocError>
 
 // Reads one piece, at most as long as the buffer, and puts it behind the bytes read so far. The outer `Err` is want of
 // memory: then the piece is lost.
-fn read_piece<S: Source>(
-    source: &mut S,
+fn read_piece<S: Source, L: Ledger>(
+    source: &mut CountedSource<'_, S, L>,
     bytes: &mut Vec<u8>,
     buffer: &mut [u8],
 ) -> Result<Result<usize, Failed>, AllocError>
     requires { 0 < length buffer.old }
-    ensures moved { IfOk result (λ read. IfOk read (λ n. Moved n (S.left source.old) bytes.old.items bytes.new.items (S.left source.new))) }
+    ensures same_reference { source.new.source.ghost_name ≡ source.old.source.ghost_name }
+    ensures counted { source.new.reads ≡ source.old.reads + 1 }
+    ensures moved { IfOk result (λ read. IfOk read (λ n. Moved n (S.left source.old.source.now) bytes.old.items bytes.new.items (S.left source.new.source.now))) }
     ensures added { IfOk result (λ read. IfOk read (λ n. (n ≤ length buffer.old) × (vec_len bytes.new ≡ vec_len bytes.old + n))) }
-    ensures failed { IfOk result (λ read. OnErr read (Rose (S.faults source.old) (S.faults source.new))) }
-    ensures untouched { IfOk result (λ read. OnErr read (S.left source.new ≡ S.left source.old)) }
-    ensures lost { OnErr result (TookAtMost (length buffer.old) (S.left source.old) (S.left source.new)) }
-    ensures count { S.faults source.old ≤ S.faults source.new }
+    ensures failed { IfOk result (λ read. OnErr read (Rose (S.faults source.old.source.now) (S.faults source.new.source.now))) }
+    ensures untouched { IfOk result (λ read. OnErr read (S.left source.new.source.now ≡ S.left source.old.source.now)) }
+    ensures lost { OnErr result (TookAtMost (length buffer.old) (S.left source.old.source.now) (S.left source.new.source.now)) }
+    ensures count { S.faults source.old.source.now ≤ S.faults source.new.source.now }
 {
     let n = match source.read(buffer) {
         Ok(n) => n,
@@ -56,22 +59,21 @@ fn read_piece<S: Source>(
     Ok(Ok(n))
 }
 
-/// Reads a source to its end, or to one byte behind the limit. A step is one read. `Err` is want of memory.
+/// Reads a source to its end, or to one byte behind the limit. `Err` is want of memory.
 pub(crate) fn read_input<S: Source, L: Ledger>(
     alloc: Global,
-    source: &mut S,
-    reads: &mut Steps<L>,
+    source: &mut CountedSource<'_, S, L>,
 ) -> Result<Input, AllocError>
-    ensures input { IfOk result (Shows (S.left source.old) (S.faults source.old) (S.faults source.new)) }
-    ensures taken { TookAtMost 16777217 (S.left source.old) (S.left source.new) }
-    ensures count { S.faults source.old ≤ S.faults source.new }
-    ensures reads { reads.new ≤ reads.old + 16777217 }
+    ensures same_reference { source.new.source.ghost_name ≡ source.old.source.ghost_name }
+    ensures reads { source.new.reads ≤ source.old.reads + 16777217 }
+    ensures input { IfOk result (Shows (S.left source.old.source.now) (S.faults source.old.source.now) (S.faults source.new.source.now)) }
+    ensures taken { TookAtMost 16777217 (S.left source.old.source.now) (S.left source.new.source.now) }
+    ensures count { S.faults source.old.source.now ≤ S.faults source.new.source.now }
 {
     let mut bytes = Vec::new(alloc);
     let mut buffer = zeros(alloc, PIECE)?;
     while bytes.len() <= LIMIT {
         let most = PIECE.min(LIMIT + 1 - bytes.len());
-        reads.tick();
         match read_piece(source, &mut bytes, &mut buffer[..most])? {
             Ok(0) => return Ok(Input::Whole(bytes)),
             Ok(_) => {}
@@ -81,7 +83,7 @@ pub(crate) fn read_input<S: Source, L: Ledger>(
     Ok(Input::TooLong)
 }
 
-/// The same for a caller that counts no reads, on a new ledger.
+/// The same from a source whose reads nobody counts further, on a new ledger.
 pub(crate) fn read_uncounted<S: Source, L: Ledger>(
     alloc: Global,
     source: &mut S,
@@ -94,6 +96,8 @@ pub(crate) fn read_uncounted<S: Source, L: Ledger>(
     ensures taken { TookAtMost 16777217 (S.left source.old) (S.left source.new) }
     ensures count { S.faults source.old ≤ S.faults source.new }
 {
-    let mut reads = Steps::<L>::open(blank);
-    read_input(alloc, source, &mut reads)
+    let mut counted = CountedSource::new(source, Steps::<L>::open(blank));
+    let input = read_input(alloc, &mut counted);
+    let _ = counted.finish();
+    input
 }

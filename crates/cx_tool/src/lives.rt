@@ -20,8 +20,13 @@ pub(crate) struct Running {
 }
 
 impl Running {
-    // Answers a client's next command. An entry takes the next ticket, and a read the place behind all entries.
-    fn answer(&mut self, alloc: Global, number: u64, command: &Command) -> Result<(), AllocError>
+    // Runs a client's next command. An entry takes the next ticket, and a read the place behind all entries.
+    fn run_command(
+        &mut self,
+        alloc: Global,
+        number: u64,
+        command: &Command,
+    ) -> Result<(), AllocError>
         requires { IsOp command.now.op }
         ensures { OnOk result (self.new ≡ answered number command.now self.old) }
     {
@@ -65,7 +70,7 @@ pub(crate) fn run_life<G: Gate>(
     for (i, command) in life.commands.as_slice().iter().enumerate() {
         let number = i as u64 + 1;
         gate.pass(command.client, number, false);
-        running.answer(alloc, number, command)?;
+        running.run_command(alloc, number, command)?;
         gate.pass(command.client, number, true);
     }
     let kept = running.journal.len() as u64;

@@ -4,14 +4,14 @@ ghost use Rattle.std.specs.Prelude.{◌≡◌, ◌≤◌, ◌^◌, [], IfOk, OnO
 ghost use Rattle.std.specs.Int.{w64};
 ghost use Rattle.doc_model.specs.Meaning.{IsOp, reply_to, store_after};
 ghost use Rattle.cx_base.specs.VecMemory.{words_of};
-ghost use Rattle.cx_tool.specs.Held.{IsHeld, IsAnswered};
+ghost use Rattle.cx_tool.specs.StoreMemory.{IsStoreMemory, IsAnswered};
 ghost use Rattle.doc_model.specs.Words as spec;
 ghost use Rattle.doc_store.specs.ExactStep.{reads_in};
 ghost use Rattle.doc_store.specs.StepOnWords.{IsStep};
 
 use cx_base::{Object, VecMemory};
 use doc_model::{Op, OpFault, Reply, op_words, reply_of};
-use doc_store::DocStore;
+use doc_store::{DocStore, readings_are_those_operations};
 use std::alloc::{AllocError, Global};
 use std::marker::Model;
 
@@ -25,14 +25,14 @@ pub(crate) struct MemoryStore {
 impl Model for MemoryStore {
     ghost use Rattle.cx_base.specs.VecMemory.{words_of};
     ghost use Rattle.cx_tool.specs.StoreInLines.{StoreInLines};
-    ghost use Rattle.word_index.specs.Exact.{store_in};
-    ghost use Rattle.cx_tool.specs.Held.{IsHeld};
+    ghost use Rattle.index_checks.specs.Reading.{store_in};
+    ghost use Rattle.cx_tool.specs.StoreMemory.{IsStoreMemory};
 
     ghost Value = { StoreInLines };
 
     ghost view = { λ s. record { lines = s.store.lines; store = store_in (words_of s.mem) } };
 
-    ghost invariant = { λ s. IsHeld s.store.lines s.mem };
+    ghost invariant = { λ s. IsStoreMemory s.store.lines s.mem };
 }
 
 impl MemoryStore {
@@ -85,20 +85,22 @@ impl MemoryStore {
         ensures next { self.new ≡ record self.old { store = store_after self.old.lines self.old.store op.now } }
     {
         amount_has_64_bits(op);
-        answer(&self.store, &mut self.mem, op)
+        run_operation(&self.store, &mut self.mem, op)
     }
 }
 
-// Does one operation over the words of a memory.
-fn answer(store: &DocStore, mem: &mut VecMemory, op: &Op) -> [u64; 144]
-    requires held { IsHeld store.now.lines mem.old }
+// Does one operation over the words of a memory. Whether it only reads is asked of the operation, and not of its words
+// again.
+fn run_operation(store: &DocStore, mem: &mut VecMemory, op: &Op) -> [u64; 144]
+    requires held { IsStoreMemory store.now.lines mem.old }
     requires op { IsOp op.now }
     requires amount { spec.HasIntegerAmount op.now }
-    ensures held { IsHeld store.now.lines mem.new }
+    ensures held { IsStoreMemory store.now.lines mem.new }
     ensures done { IsAnswered store.now.lines op.now result (words_of mem.old) (words_of mem.new) }
 {
     let words = op_words(op);
-    if store.reads(&words) {
+    readings_are_those_operations();
+    if op.only_reads() {
         query(store, mem, &words)
     } else {
         run(store, mem, &words)
@@ -107,9 +109,9 @@ fn answer(store: &DocStore, mem: &mut VecMemory, op: &Op) -> [u64; 144]
 
 // The query of the words of an operation that only reads.
 fn query(store: &DocStore, mem: &mut VecMemory, op: &[u64; 144]) -> [u64; 144]
-    requires held { IsHeld store.now.lines mem.old }
+    requires held { IsStoreMemory store.now.lines mem.old }
     requires reads { IsTrue (reads_in op.now) }
-    ensures held { IsHeld store.now.lines mem.new }
+    ensures held { IsStoreMemory store.now.lines mem.new }
     ensures done { IsStep store.now.lines op.now result (words_of mem.old) (words_of mem.new) }
 {
     match store.query(mem, op) {
@@ -120,8 +122,8 @@ fn query(store: &DocStore, mem: &mut VecMemory, op: &[u64; 144]) -> [u64; 144]
 
 // The step of the words of an operation.
 fn run(store: &DocStore, mem: &mut VecMemory, op: &[u64; 144]) -> [u64; 144]
-    requires held { IsHeld store.now.lines mem.old }
-    ensures held { IsHeld store.now.lines mem.new }
+    requires held { IsStoreMemory store.now.lines mem.old }
+    ensures held { IsStoreMemory store.now.lines mem.new }
     ensures done { IsStep store.now.lines op.now result (words_of mem.old) (words_of mem.new) }
 {
     match store.run(mem, op) {

@@ -2,10 +2,10 @@
 
 ghost use Rattle.std.specs.Prelude.{◌≡◌, ◌≤◌, IfOk, Some, vec_len, drop};
 
-use crate::running::cx_run;
+use crate::top_call::cx_run;
 use cx_base::{Failed, Gate, OpenGate, Sink, Source, SureSink, SureSource};
 use std::alloc::{AllocError, Global};
-use std::sync::atomic::{AtomicU64, Ordering};
+use std::sync::atomic::{AtomicBool, AtomicU32, AtomicU64, AtomicUsize, Ordering};
 use std::test::Fail;
 
 const HEAD: &str = "lines 64\nlife 1 power 0\n";
@@ -344,34 +344,72 @@ fn a_fault_at_each_call_is_told(rt: HostRuntime) -> Result<(), Fail> {
     Ok(())
 }
 
-/// A gate that counts the calls before commands and behind them.
+/// A call of a gate.
 #[derive(Drop)]
-struct CountingGate {
-    before: AtomicU64,
-    after: AtomicU64,
+struct Passed {
+    client: AtomicU32,
+    command: AtomicU64,
+    after: AtomicBool,
 }
 
-impl Gate for CountingGate {
-    fn pass(&self, _client: u32, _command: u64, after: bool) {
-        let count = if after { &self.after } else { &self.before };
-        count.fetch_add(1, Ordering::SeqCst);
+/// A gate that records its calls in order, as far as there is room.
+#[derive(Drop)]
+struct RecordingGate {
+    calls: AtomicUsize,
+    passed: Vec<Passed>,
+}
+
+impl Gate for RecordingGate {
+    fn pass(&self, client: u32, command: u64, after: bool) {
+        let call = self.calls.fetch_add(1, Ordering::SeqCst);
+        if let Some(passed) = self.passed.get(call) {
+            passed.client.store(client, Ordering::SeqCst);
+            passed.command.store(command, Ordering::SeqCst);
+            passed.after.store(after, Ordering::SeqCst);
+        }
     }
 }
 
+/// A gate with room for so many calls.
+fn recording(alloc: Global, room: usize) -> Result<RecordingGate, AllocError> {
+    let mut passed = Vec::new(alloc);
+    for _ in 0..room {
+        passed.push(Passed {
+            client: AtomicU32::new(u32::MAX),
+            command: AtomicU64::new(u64::MAX),
+            after: AtomicBool::new(false),
+        })?;
+    }
+    let calls = AtomicUsize::new(0);
+    Ok(RecordingGate { calls, passed })
+}
+
 #[test]
-fn each_command_passes_the_gate_twice(rt: HostRuntime) -> Result<(), Fail> {
+fn each_command_passes_the_gate_before_and_after_it(rt: HostRuntime) -> Result<(), Fail> {
     let alloc = rt.alloc();
     let words = words_of(alloc, &["run"])?;
-    let gate = CountingGate {
-        before: AtomicU64::new(0),
-        after: AtomicU64::new(0),
-    };
+    let gate = recording(alloc, 8)?;
     let mut source = SureSource::new(Vec::from_slice(alloc, SCRIPT.as_bytes())?);
     let mut sink = SureSink::new(Vec::with_capacity(alloc, ROOM)?);
     let ended = cx_run(&rt, alloc, &words, &mut source, &mut sink, &gate);
     assert_eq!(rt; ended.status.code(), 0);
-    assert_eq!(rt; gate.before.load(Ordering::SeqCst), 3);
-    assert_eq!(rt; gate.after.load(Ordering::SeqCst), 3);
+    let want = [
+        (0, 1, false),
+        (0, 1, true),
+        (0, 2, false),
+        (0, 2, true),
+        (0, 3, false),
+        (0, 3, true),
+    ];
+    assert_eq!(rt; gate.calls.load(Ordering::SeqCst), want.len());
+    for (passed, call) in gate.passed.iter().zip(want) {
+        let got = (
+            passed.client.load(Ordering::SeqCst),
+            passed.command.load(Ordering::SeqCst),
+            passed.after.load(Ordering::SeqCst),
+        );
+        assert_eq!(rt; got, call);
+    }
     Ok(())
 }
 

@@ -13,7 +13,7 @@ use Rattle.std.proofs.lemmas.List.Folds.{find-append}
 use Rattle.std.proofs.lemmas.List.Sorted.{IsNonDecreasingBy-from_default}
 use Rattle.cx_base.specs.Store.{Store, KeysRise, key_cmp}
 use Rattle.doc_model.specs.Meaning.{document_at, pairs_below, pairs_above, with_pair, has_room, store_after_put}
-use Rattle.doc_model.specs.Place.{IsAt, IsGapFor}
+use Rattle.doc_model.specs.Place.{IsAtPlace, IsGapFor}
 use Rattle.doc_model.proofs.Order.{IsBelow, IsAbove, same_key, ties_itself, above_from_greater, greater_from_above, below_both, keys_apart, filter_all, filter_none}
 
 -- the tests of the definitions, of a pair whose key is below, above or the same
@@ -113,7 +113,7 @@ module _ (store : Store) (rising : KeysRise store) (key : List ℕ) where
       rw (get_or-drop (at + 1) store k d) (subst (λ q. key_cmp q (get_or store (at + 1 + k) d).0 ≡ Less) (same d) (keys_apart store rising at (at + 1 + k) d late inside))
 
   -- so a pair that has the key is at the key's place
-  pub is_at : (at : ℕ) → at < length store → HoldsAt (λ p. key_cmp p.0 key ≡ Equal) store at → IsAt store key at
+  pub is_at : (at : ℕ) → at < length store → HoldsAt (λ p. key_cmp p.0 key ≡ Equal) store at → IsAtPlace store key at
   is_at at within ties =
       let same : HoldsAt (λ p. p.0 ≡ key) store at = λ d. same_key (get_or store at d).0 key (ties d) in
       let below = before_it at within same in
@@ -168,12 +168,12 @@ module _ (store : Store) (rising : KeysRise store) (key : List ℕ) where
       ])
 
   -- what a binary search by the keys finds
-  pub searched : (r : Result ℕ ℕ) → IsSearchInRange r (length store) → IsBinarySearchResult (λ p. key_cmp p.0 key) store r → IfOk r (IsAt store key) × IfErr r (IsGapFor store key)
+  pub searched : (r : Result ℕ ℕ) → IsSearchInRange r (length store) → IsBinarySearchResult (λ p. key_cmp p.0 key) store r → IfOk r (IsAtPlace store key) × IfErr r (IsGapFor store key)
   searched (Ok at) within ties = (is_at at within ties, tt)
   searched (Err at) within parted = (tt, is_gap at within (parted comparisons_rise))
 
 -- the pairs with a put at a key's place
-pub put_at : (lines : ℕ) (store : Store) (key document : List ℕ) (at : ℕ) → IsAt store key at → has_room lines (take at store ++ (key, document) ∷ drop (at + 1) store) ≡ true → set store at (key, document) ≡ store_after_put lines store key document
+pub put_at : (lines : ℕ) (store : Store) (key document : List ℕ) (at : ℕ) → IsAtPlace store key at → has_room lines (take at store ++ (key, document) ∷ drop (at + 1) store) ≡ true → set store at (key, document) ≡ store_after_put lines store key document
 put_at lines store key document at is_at room =
     let whole : take at store ++ (key, document) ∷ drop (at + 1) store ≡ with_pair key document store = rw (is_at.below, is_at.above) refl in
     let fits = subst (λ s. has_room lines s ≡ true) whole room in

@@ -8,8 +8,8 @@ use Rattle.std.proofs.lemmas.Bool.{false≢true, and_parts, and_from, or_cases, 
 use Rattle.std.proofs.lemmas.Bool.Decides.{nat_tests}
 use Rattle.cx_base.specs.Store.{IsKey}
 use Rattle.doc_model.specs.Meaning.{IsOp, only_reads}
-use Rattle.doc_model.specs.Words.{words_in, words_of, op_words, HasIntegerAmount, AreOfAnOp, AreOfNoOp}
-use Rattle.doc_model.specs.WordParts.{IsText, is_key, is_document, has_key_only, has_no_text, has_op, op_with}
+use Rattle.doc_model.specs.Words.{words_in, words_with, op_words, HasIntegerAmount, IsOpOf, AreOfAnOp, AreOfNoOp}
+use Rattle.doc_model.specs.WordParts.{IsShortText, is_key, is_document, has_key_only, has_no_text, has_op, op_with}
 use Rattle.doc_model.specs.declared.operations.Op.{Op}
 use Rattle.doc_model.specs.declared.operations.Op.TheVariants.{Put, Del, Add, Get, Next, Count}
 use Rattle.doc_model.proofs.PartPlaces.{parts_same, carried, length-words, words_fit}
@@ -26,15 +26,9 @@ next_op (b ∷ key) either = elim either [
   | inr none ↦ cc
 ]
 
--- an operation that is within the limits and has these words
-pub record HasOp (words : List ℕ) (op : Op) : Type 0 where
-  pub limits : IsOp op
-  pub amount : HasIntegerAmount op
-  pub has : op_words op ≡ words
-
-module _ (key document : List ℕ) (number : ℕ) (small : number < 2 ^ 64) (document_is : IsText 1024 document) where
+module _ (key document : List ℕ) (number : ℕ) (small : number < 2 ^ 64) (document_is : IsShortText 1024 document) where
   abbrev Read : ℕ → Type 0
-  Read kind = has_op kind key document number ≡ true → HasOp (words_of kind key document number) (op_with kind key document number)
+  Read kind = has_op kind key document number ≡ true → IsOpOf (words_with kind key document number) (op_with kind key document number)
 
   read_put : Read 1
   read_put passes =
@@ -43,25 +37,25 @@ module _ (key document : List ℕ) (number : ℕ) (small : number < 2 ^ 64) (doc
       record {
         limits = (key_from_test key texts.0, document_from_test document document_is texts.1);
         amount = tt;
-        has = ap (words_of 1 key document) (sym (eqb-true number 0 parts.1));
+        has = ap (words_with 1 key document) (sym (eqb-true number 0 parts.1));
       }
 
   read_del : Read 2
   read_del passes =
       let parts = and_parts (has_key_only key document) (number == 0) passes in
       let texts = only_key key document parts.0 in
-      record { limits = texts.0; amount = tt; has = ap₂ (words_of 2 key) (sym texts.1) (sym (eqb-true number 0 parts.1)) }
+      record { limits = texts.0; amount = tt; has = ap₂ (words_with 2 key) (sym texts.1) (sym (eqb-true number 0 parts.1)) }
 
   read_add : Read 3
   read_add passes =
       let texts = only_key key document passes in
-      record { limits = texts.0; amount = read_sfits w64 number; has = ap₂ (words_of 3 key) (sym texts.1) (of_z-to_z w64 number small) }
+      record { limits = texts.0; amount = read_sfits w64 number; has = ap₂ (words_with 3 key) (sym texts.1) (of_z-to_z w64 number small) }
 
   read_get : Read 4
   read_get passes =
       let parts = and_parts (has_key_only key document) (number == 0) passes in
       let texts = only_key key document parts.0 in
-      record { limits = texts.0; amount = tt; has = ap₂ (words_of 4 key) (sym texts.1) (sym (eqb-true number 0 parts.1)) }
+      record { limits = texts.0; amount = tt; has = ap₂ (words_with 4 key) (sym texts.1) (sym (eqb-true number 0 parts.1)) }
 
   next_texts : (has_key_only key document || has_no_text key document) ≡ true → (IsKey key ⊎ (key ≡ [])) × (document ≡ [])
   next_texts passes = elim (or_cases (has_key_only key document) (has_no_text key document) passes) [
@@ -73,7 +67,7 @@ module _ (key document : List ℕ) (number : ℕ) (small : number < 2 ^ 64) (doc
   read_next passes =
       let parts = and_parts (has_key_only key document || has_no_text key document) (number == 0) passes in
       let texts = next_texts parts.0 in
-      record { limits = next_op key texts.0; amount = tt; has = ap₂ (words_of 5 key) (sym texts.1) (sym (eqb-true number 0 parts.1)) }
+      record { limits = next_op key texts.0; amount = tt; has = ap₂ (words_with 5 key) (sym texts.1) (sym (eqb-true number 0 parts.1)) }
 
   read_count : Read 6
   read_count passes =
@@ -123,7 +117,7 @@ op_number (Get key) = 0
 op_number (Next above) = 0
 op_number Count = 0
 
-pub op_words_are : (op : Op) → op_words op ≡ words_of (op_kind op) (op_key op) (op_document op) (op_number op)
+pub op_words_are : (op : Op) → op_words op ≡ words_with (op_kind op) (op_key op) (op_document op) (op_number op)
 op_words_are (Put key document) = refl
 op_words_are (Del key) = refl
 op_words_are (Add key amount) = refl
@@ -131,7 +125,7 @@ op_words_are (Get key) = refl
 op_words_are (Next above) = refl
 op_words_are Count = refl
 
-pub op_key_text : (op : Op) → IsOp op → IsText 64 (op_key op)
+pub op_key_text : (op : Op) → IsOp op → IsShortText 64 (op_key op)
 op_key_text (Put key document) is = key_text key is.0
 op_key_text (Del key) is = key_text key is
 op_key_text (Add key amount) is = key_text key is
@@ -140,7 +134,7 @@ op_key_text (Next []) is = no_text 64
 op_key_text (Next (b ∷ above)) is = key_text (b ∷ above) is
 op_key_text Count is = no_text 64
 
-pub op_document_text : (op : Op) → IsOp op → IsText 1024 (op_document op)
+pub op_document_text : (op : Op) → IsOp op → IsShortText 1024 (op_document op)
 op_document_text (Put key document) is = document_text document is.1
 op_document_text (Del key) is = no_text 1024
 op_document_text (Add key amount) is = no_text 1024
@@ -174,8 +168,8 @@ op_again (Next above) fits = refl
 op_again Count fits = refl
 
 -- an operation is read from words that it has
-pub op_known : (kind : ℕ) (key document : List ℕ) (number : ℕ) → IsText 64 key → IsText 1024 document →
-    (op : Op) → IsOp op → HasIntegerAmount op → op_words op ≡ words_of kind key document number →
+pub op_known : (kind : ℕ) (key document : List ℕ) (number : ℕ) → IsShortText 64 key → IsShortText 1024 document →
+    (op : Op) → IsOp op → HasIntegerAmount op → op_words op ≡ words_with kind key document number →
     (has_op kind key document number ≡ true) × (op_with kind key document number ≡ op)
 op_known kind key document number key_is document_is op is amount has =
     let same =
@@ -192,12 +186,12 @@ ops_same one other one_is one_amount other_is other_amount same =
     ∙ op_again other other_amount
 
 -- the same of words that have these parts
-module _ (words : List ℕ) (kind : ℕ) (key document : List ℕ) (number : ℕ) (are : words ≡ words_of kind key document number)
-    (small : number < 2 ^ 64) (key_is : IsText 64 key) (document_is : IsText 1024 document) where
-  pub op_found : (op : Op) → has_op kind key document number ≡ true → op ≡ op_with kind key document number → HasOp words op
+module _ (words : List ℕ) (kind : ℕ) (key document : List ℕ) (number : ℕ) (are : words ≡ words_with kind key document number)
+    (small : number < 2 ^ 64) (key_is : IsShortText 64 key) (document_is : IsShortText 1024 document) where
+  pub op_found : (op : Op) → has_op kind key document number ≡ true → op ≡ op_with kind key document number → IsOpOf words op
   op_found op passes is =
       let read = op_read key document number small document_is kind passes in
-      subst (HasOp words) (sym is) (record { limits = read.limits; amount = read.amount; has = read.has ∙ sym are })
+      subst (IsOpOf words) (sym is) (record { limits = read.limits; amount = read.amount; has = read.has ∙ sym are })
 
   pub op_only : (op : Op) → IsOp op → HasIntegerAmount op → op_words op ≡ words → op_with kind key document number ≡ op
   op_only op is amount has = (op_known kind key document number key_is document_is op is amount (has ∙ are)).1
@@ -207,8 +201,7 @@ module _ (words : List ℕ) (kind : ℕ) (key document : List ℕ) (number : ℕ
 
   pub op_decided : (answer : Bool) → answer ≡ has_op kind key document number → MatchBool answer (AreOfAnOp words) (AreOfNoOp words)
   op_decided true is =
-      let read = op_found (op_with kind key document number) (sym is) refl in
-      record { op = op_with kind key document number; limits = read.limits; amount = read.amount; has = read.has }
+      record { op = op_with kind key document number; is = op_found (op_with kind key document number) (sym is) refl }
   op_decided false is = op_none (sym is)
 
 number_small : (op : Op) → HasIntegerAmount op → op_number op < 2 ^ 64

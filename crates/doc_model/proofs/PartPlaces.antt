@@ -7,10 +7,10 @@ use Rattle.std.proofs.lemmas.Slice.{take-put_mid}
 use borrow.Rule.Slice.PartMut.{put_mid}
 use Rattle.std.proofs.lemmas.List.Elements.{All-map, All-append, All-from_recursion}
 use Rattle.std.specs.List.{range_with_len}
-use Rattle.cx_base.specs.Packing.{packed, unpacked, word_at, byte_at}
+use Rattle.cx_base.specs.Packing.{packed, unpacked, packed_at, byte_at}
 use Rattle.cx_base.proofs.PackingLemmas.{unpacked-packed, packed_fit}
-use Rattle.doc_model.specs.Words.{head_words, words_in, words_of}
-use Rattle.doc_model.specs.WordParts.{IsText}
+use Rattle.doc_model.specs.Words.{head_words, words_in, words_with}
+use Rattle.doc_model.specs.WordParts.{IsShortText}
 
 -- eight words, a part of so many words behind them, and a part to the end
 pub written : (into head key document : List ℕ) (n : ℕ) → length head ≡ 8 → 8 + n ≤ length into → length key ≡ n →
@@ -30,7 +30,7 @@ written into head key document n head_long room key_long =
     ∙ append_assoc head key document
 
 pub length-packed : (n : ℕ) (text : List ℕ) → length (packed n text) ≡ n
-length-packed n text = length-map-range_with_len (word_at text) 0 n
+length-packed n text = length-map-range_with_len (packed_at text) 0 n
 
 -- what is packed into so many words
 pub packed_as : (part text : List ℕ) (n m : ℕ) → part ≡ packed n text → length part ≡ m → part ≡ packed m text
@@ -73,14 +73,14 @@ bytes_small text small i = elim (cases_lt i (length text)) [
 ]
 
 -- a text is read again from the words that hold it
-pub text_again : (most n : ℕ) (text : List ℕ) → IsText most text → most ≤ 8 * n → unpacked (min (length text) most) (packed n text) ≡ text
+pub text_again : (most n : ℕ) (text : List ℕ) → IsShortText most text → most ≤ 8 * n → unpacked (min (length text) most) (packed n text) ≡ text
 text_again most n text is room =
     let short = is.short in
     ap (λ k. unpacked k (packed n text)) (omega arith) ∙ unpacked-packed n text (bytes_small text is.bytes) (omega arith)
 
 -- parts are read again from their words
 pub parts_again : (m n most_key most_document kind : ℕ) (key document : List ℕ) (number : ℕ) (words : List ℕ) →
-    IsText most_key key → most_key ≤ 8 * m → IsText most_document document → most_document ≤ 8 * n → words ≡ words_in m n kind key document number →
+    IsShortText most_key key → most_key ≤ 8 * m → IsShortText most_document document → most_document ≤ 8 * n → words ≡ words_in m n kind key document number →
     (get_or words 0 0 ≡ kind) × (unpacked (min (get_or words 1 0) most_key) (take m (drop 8 words)) ≡ key) × (unpacked (min (get_or words 2 0) most_document) (take n (drop (8 + m) words)) ≡ document) × (get_or words 3 0 ≡ number)
 parts_again m n most_key most_document kind key document number words key_is key_room document_is document_room is =
     let at : ℕ → ℕ = λ i. get_or words i 0 in (
@@ -103,11 +103,11 @@ pub record SameParts (kind : ℕ) (key document : List ℕ) (number : ℕ) (kind
 
 -- parts that have the same words are the same
 pub parts_same : (kind : ℕ) (key document : List ℕ) (number : ℕ) (kind' : ℕ) (key' document' : List ℕ) (number' : ℕ) →
-    IsText 64 key → IsText 1024 document → IsText 64 key' → IsText 1024 document' →
-    words_of kind key document number ≡ words_of kind' key' document' number' →
+    IsShortText 64 key → IsShortText 1024 document → IsShortText 64 key' → IsShortText 1024 document' →
+    words_with kind key document number ≡ words_with kind' key' document' number' →
     SameParts kind key document number kind' key' document' number'
 parts_same kind key document number kind' key' document' number' key_is document_is key'_is document'_is same =
-    let words = words_of kind' key' document' number' in
+    let words = words_with kind' key' document' number' in
     let one = parts_again 8 128 64 1024 kind key document number words key_is (omega arith) document_is (omega arith) (sym same) in
     let other = parts_again 8 128 64 1024 kind' key' document' number' words key'_is (omega arith) document'_is (omega arith) refl in
     record {
@@ -127,7 +127,7 @@ carried P kind key document number kind' key' document' number' same holds =
     (subst (λ n. P kind key document n) same.numbers holds)))
 
 -- what is read from words is a text
-pub unpacked_text : (n most : ℕ) (words : List ℕ) → IsText most (unpacked (min n most) words)
+pub unpacked_text : (n most : ℕ) (words : List ℕ) → IsShortText most (unpacked (min n most) words)
 unpacked_text n most words =
     let long = length-map-range_with_len (byte_at words) 0 (min n most) in
     record {
@@ -146,23 +146,23 @@ module _ (m n kind : ℕ) (key document : List ℕ) (number : ℕ) where
       let document_long = length-packed n document in
       omega arith
 
-  pub key_word_in : (k : ℕ) → k < m → get_or (words_in m n kind key document number) (8 + k) 0 ≡ word_at key k
+  pub key_word_in : (k : ℕ) → k < m → get_or (words_in m n kind key document number) (8 + k) 0 ≡ packed_at key k
   key_word_in k within =
       let words = words_in m n kind key document number in
       sym (get_or-drop 8 words k 0)
       ∙ sym (get_or-take m (drop 8 words) k 0 within)
       ∙ ap (λ part. get_or part k 0) (key_in m n kind key document number)
-      ∙ get_or-map-range_with_len (word_at key) 0 m k k 0 within (zero-add k)
+      ∙ get_or-map-range_with_len (packed_at key) 0 m k k 0 within (zero-add k)
 
-  pub document_word_in : (k : ℕ) → k < n → get_or (words_in m n kind key document number) (8 + m + k) 0 ≡ word_at document k
+  pub document_word_in : (k : ℕ) → k < n → get_or (words_in m n kind key document number) (8 + m + k) 0 ≡ packed_at document k
   document_word_in k within =
       let words = words_in m n kind key document number in
       sym (get_or-drop (8 + m) words k 0)
       ∙ sym (get_or-take n (drop (8 + m) words) k 0 within)
       ∙ ap (λ part. get_or part k 0) (document_in m n kind key document number)
-      ∙ get_or-map-range_with_len (word_at document) 0 n k k 0 within (zero-add k)
+      ∙ get_or-map-range_with_len (packed_at document) 0 n k k 0 within (zero-add k)
 
-  pub words_fit : kind < 2 ^ 64 → IsText (8 * m) key → IsText (8 * n) document → 8 * m < 2 ^ 64 → 8 * n < 2 ^ 64 → number < 2 ^ 64 →
+  pub words_fit : kind < 2 ^ 64 → IsShortText (8 * m) key → IsShortText (8 * n) document → 8 * m < 2 ^ 64 → 8 * n < 2 ^ 64 → number < 2 ^ 64 →
       All (λ w. w < 2 ^ 64) (words_in m n kind key document number)
   unfolding words_in
   words_fit kind_small key_is document_is key_room document_room number_small =

@@ -6,8 +6,8 @@ use Rattle.std.proofs.lemmas.Int.{to_z-of_z, of_z-to_z, ints}
 use Rattle.std.proofs.lemmas.List.{nil_from_length}
 use Rattle.std.proofs.lemmas.Bool.{false≢true, and_parts, and_from, eqb-true, both_ways}
 use Rattle.std.proofs.lemmas.Bool.Decides.{nat_tests}
-use Rattle.doc_model.specs.Words.{words_of, reply_words, IsReply, HasWordNumber, AreOfNoReply}
-use Rattle.doc_model.specs.WordParts.{IsText, is_key, is_document, has_key_only, has_no_text, has_reply, reply_with}
+use Rattle.doc_model.specs.Words.{words_with, reply_words, IsReply, HasWordNumber, AreOfNoReply}
+use Rattle.doc_model.specs.WordParts.{IsShortText, is_key, is_document, has_key_only, has_no_text, has_reply, reply_with}
 use Rattle.doc_model.specs.declared.operations.Reply.{Reply}
 use Rattle.doc_model.specs.declared.operations.Reply.TheVariants.{New, Replaced, Deleted, Absent, Doc, Sum, NotNumber, Overflow, NoRoom, Key, Number}
 use Rattle.doc_model.proofs.PartPlaces.{parts_same, carried, length-words, words_fit}
@@ -18,16 +18,16 @@ reply_kind_small : (kind : ℕ) (a b c e f : Bool) →
 reply_kind_small kind a b c e f passes = grind (arith, nat_tests)
 
 -- a reply that is within the limits and has these words
-pub record HasReply (words : List ℕ) (reply : Reply) : Type 0 where
+pub record IsReplyOf (words : List ℕ) (reply : Reply) : Type 0 where
   pub limits : IsReply reply
   pub number : HasWordNumber reply
   pub has : reply_words reply ≡ words
 
-module _ (key document : List ℕ) (number : ℕ) (small : number < 2 ^ 64) (document_is : IsText 1024 document) where
+module _ (key document : List ℕ) (number : ℕ) (small : number < 2 ^ 64) (document_is : IsShortText 1024 document) where
   abbrev Read : ℕ → Type 0
-  Read kind = has_reply kind key document number ≡ true → HasReply (words_of kind key document number) (reply_with kind key document number)
+  Read kind = has_reply kind key document number ≡ true → IsReplyOf (words_with kind key document number) (reply_with kind key document number)
 
-  plain_words : (kind : ℕ) → (has_no_text key document && number == 0) ≡ true → words_of kind [] [] 0 ≡ words_of kind key document number
+  plain_words : (kind : ℕ) → (has_no_text key document && number == 0) ≡ true → words_with kind [] [] 0 ≡ words_with kind key document number
   plain_words kind passes =
       let parts = and_parts (has_no_text key document) (number == 0) passes in
       let texts = neither key document parts.0 in
@@ -50,22 +50,22 @@ module _ (key document : List ℕ) (number : ℕ) (small : number < 2 ^ 64) (doc
       let key_is = texts.0 in
       let document_is = texts.1 in
       let back = of_z-to_z w64 number small in
-      record { limits = tt; number = read_sfits w64 number; has = ap (words_of 6 [] []) back ∙ ap₂ (λ k d. words_of 6 k d number) (sym key_is) (sym document_is) }
+      record { limits = tt; number = read_sfits w64 number; has = ap (words_with 6 [] []) back ∙ ap₂ (λ k d. words_with 6 k d number) (sym key_is) (sym document_is) }
 
   read_key : Read 10
   read_key passes =
       let parts = and_parts (has_key_only key document) (number == 0) passes in
       let texts = only_key key document parts.0 in
-      record { limits = texts.0; number = tt; has = ap₂ (words_of 10 key) (sym texts.1) (sym (eqb-true number 0 parts.1)) }
+      record { limits = texts.0; number = tt; has = ap₂ (words_with 10 key) (sym texts.1) (sym (eqb-true number 0 parts.1)) }
 
   read_number : Read 11
   read_number passes =
       let texts = neither key document passes in
-      record { limits = tt; number = small; has = ap₂ (λ k d. words_of 11 k d number) (sym texts.0) (sym texts.1) }
+      record { limits = tt; number = small; has = ap₂ (λ k d. words_with 11 k d number) (sym texts.0) (sym texts.1) }
 
   pub reply_read : (kind : ℕ) → Read kind
   reply_read kind passes =
-      let plain : (kind : ℕ) → (has_no_text key document && number == 0) ≡ true → words_of kind [] [] 0 ≡ words_of kind key document number = plain_words in
+      let plain : (kind : ℕ) → (has_no_text key document && number == 0) ≡ true → words_with kind [] [] 0 ≡ words_with kind key document number = plain_words in
       below Read 12 (
         (
           (
@@ -133,7 +133,7 @@ reply_number (Sum sum) = cast_unsigned w64 sum
 reply_number (Number number) = number
 reply_number _ = 0
 
-pub reply_words_are : (reply : Reply) → reply_words reply ≡ words_of (reply_kind reply) (reply_key reply) (reply_document reply) (reply_number reply)
+pub reply_words_are : (reply : Reply) → reply_words reply ≡ words_with (reply_kind reply) (reply_key reply) (reply_document reply) (reply_number reply)
 reply_words_are New = refl
 reply_words_are Replaced = refl
 reply_words_are Deleted = refl
@@ -146,11 +146,11 @@ reply_words_are NoRoom = refl
 reply_words_are (Key key) = refl
 reply_words_are (Number number) = refl
 
-pub reply_key_text : (reply : Reply) → IsReply reply → IsText 64 (reply_key reply)
+pub reply_key_text : (reply : Reply) → IsReply reply → IsShortText 64 (reply_key reply)
 reply_key_text (Key key) is = key_text key is
 reply_key_text _ is = no_text 64
 
-pub reply_document_text : (reply : Reply) → IsReply reply → IsText 1024 (reply_document reply)
+pub reply_document_text : (reply : Reply) → IsReply reply → IsShortText 1024 (reply_document reply)
 reply_document_text (Doc document) is = document_text document is
 reply_document_text _ is = no_text 1024
 
@@ -183,8 +183,8 @@ reply_again (Key key) fits = refl
 reply_again (Number number) fits = refl
 
 -- a reply is read from words that it has
-pub reply_known : (kind : ℕ) (key document : List ℕ) (number : ℕ) → IsText 64 key → IsText 1024 document →
-    (reply : Reply) → IsReply reply → HasWordNumber reply → reply_words reply ≡ words_of kind key document number →
+pub reply_known : (kind : ℕ) (key document : List ℕ) (number : ℕ) → IsShortText 64 key → IsShortText 1024 document →
+    (reply : Reply) → IsReply reply → HasWordNumber reply → reply_words reply ≡ words_with kind key document number →
     (has_reply kind key document number ≡ true) × (reply_with kind key document number ≡ reply)
 reply_known kind key document number key_is document_is reply is fits has =
     let same =
@@ -201,12 +201,12 @@ replies_same one other one_is one_fits other_is other_fits same =
     ∙ reply_again other other_fits
 
 -- the same of words that have these parts
-module _ (words : List ℕ) (kind : ℕ) (key document : List ℕ) (number : ℕ) (are : words ≡ words_of kind key document number)
-    (small : number < 2 ^ 64) (key_is : IsText 64 key) (document_is : IsText 1024 document) where
-  pub reply_found : (reply : Reply) → has_reply kind key document number ≡ true → reply ≡ reply_with kind key document number → HasReply words reply
+module _ (words : List ℕ) (kind : ℕ) (key document : List ℕ) (number : ℕ) (are : words ≡ words_with kind key document number)
+    (small : number < 2 ^ 64) (key_is : IsShortText 64 key) (document_is : IsShortText 1024 document) where
+  pub reply_found : (reply : Reply) → has_reply kind key document number ≡ true → reply ≡ reply_with kind key document number → IsReplyOf words reply
   reply_found reply passes is =
       let read = reply_read key document number small document_is kind passes in
-      subst (HasReply words) (sym is) (record { limits = read.limits; number = read.number; has = read.has ∙ sym are })
+      subst (IsReplyOf words) (sym is) (record { limits = read.limits; number = read.number; has = read.has ∙ sym are })
 
   pub reply_only : (reply : Reply) → IsReply reply → HasWordNumber reply → reply_words reply ≡ words → reply_with kind key document number ≡ reply
   reply_only reply is fits has = (reply_known kind key document number key_is document_is reply is fits (has ∙ are)).1

@@ -6,7 +6,7 @@ use Rattle.std.proofs.lemmas.List.{nil_from_length}
 use Rattle.std.proofs.lemmas.Bool.{and_parts, and_from, leb-true, le-leb, eqb-true, cases_lt}
 use Rattle.std.proofs.lemmas.Bool.Decides.{Decides-by_and}
 use Rattle.cx_base.specs.Store.{IsKey, IsDocument}
-use Rattle.doc_model.specs.WordParts.{IsText, is_key, is_document, has_key_only, has_no_text}
+use Rattle.doc_model.specs.WordParts.{IsShortText, is_key, is_document, has_key_only, has_no_text}
 use Rattle.std.proofs.Common.{Result, Ok, Err, IsErrAnd, IsErrOf}
 use Rattle.doc_model.specs.declared.words.OpFault.{OpFault}
 use Rattle.doc_model.specs.declared.words.OpFault.TheVariants.{BadOp, Memory}
@@ -41,7 +41,7 @@ key_passes key is =
     (and_from (nat_le 1 (length key)) (nat_le (length key) 64) (le-leb 1 (length key) is.some) (le-leb (length key) 64 is.short))
     ((visible_decides key).1 is.visible)
 
-pub document_from_test : (document : List ℕ) → IsText 1024 document → is_document document ≡ true → IsDocument document
+pub document_from_test : (document : List ℕ) → IsShortText 1024 document → is_document document ≡ true → IsDocument document
 document_from_test document is passes =
     let lengths_and_bytes = and_parts (nat_le 1 (length document) && nat_le (length document) 1024) (list_all (nat_le 32) document) passes in
     let lengths = and_parts (nat_le 1 (length document)) (nat_le (length document) 1024) lengths_and_bytes.0 in
@@ -57,13 +57,13 @@ document_passes document is =
     (and_from (nat_le 1 (length document)) (nat_le (length document) 1024) (le-leb 1 (length document) is.some) (le-leb (length document) 1024 is.short))
     ((plain_decides document).1 (λ k d below. (is.plain k d below).0))
 
-pub no_text : (most : ℕ) → IsText most []
+pub no_text : (most : ℕ) → IsShortText most []
 no_text most = record { short = omega arith; bytes = λ k d below. absurd (omega arith) }
 
-pub key_text : (key : List ℕ) → IsKey key → IsText 64 key
+pub key_text : (key : List ℕ) → IsKey key → IsShortText 64 key
 key_text key is = record { short = is.short; bytes = λ k d below. (let seen = is.visible k d below in omega arith) }
 
-pub document_text : (document : List ℕ) → IsDocument document → IsText 1024 document
+pub document_text : (document : List ℕ) → IsDocument document → IsShortText 1024 document
 document_text document is = record { short = is.short; bytes = λ k d below. (is.plain k d below).1 }
 
 pub only_key : (key document : List ℕ) → has_key_only key document ≡ true → IsKey key × (document ≡ [])

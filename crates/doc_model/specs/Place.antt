@@ -4,7 +4,7 @@ use Rattle.cx_base.specs.Store.{Store}
 use Rattle.doc_model.specs.Meaning.{document_at, pairs_below, pairs_above}
 
 -- the pair at this place has the key: the pairs before it are below, and those behind it above
-pub record IsAt (store : Store) (key : List ℕ) (at : ℕ) : Type 0 where
+pub record IsAtPlace (store : Store) (key : List ℕ) (at : ℕ) : Type 0 where
   pub within : at < length store
   pub below : pairs_below key store ≡ take at store
   pub above : pairs_above key store ≡ drop (at + 1) store

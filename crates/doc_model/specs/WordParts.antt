@@ -8,7 +8,7 @@ use Rattle.doc_model.specs.declared.operations.Reply.{Reply}
 use Rattle.doc_model.specs.declared.operations.Reply.TheVariants.{New, Replaced, Deleted, Absent, Doc, Sum, NotNumber, Overflow, NoRoom, Key, Number}
 
 -- so many bytes at most
-pub record IsText (most : ℕ) (text : List ℕ) : Type 0 where
+pub record IsShortText (most : ℕ) (text : List ℕ) : Type 0 where
   pub short : length text ≤ most
   pub bytes : All (λ b. b < 256) text
 

@@ -19,31 +19,31 @@ words_in key_words document_words kind key document number =
     head_words kind key document number ++ (packed key_words key ++ packed document_words document)
 
 -- the 144 words of a kind, a key, a document and a number
-abbrev pub words_of : ℕ → List ℕ → List ℕ → ℕ → List ℕ
-words_of kind key document number = words_in 8 128 kind key document number
+abbrev pub words_with : ℕ → List ℕ → List ℕ → ℕ → List ℕ
+words_with kind key document number = words_in 8 128 kind key document number
 
 -- the words of an operation
 abbrev pub op_words : Op → List ℕ
-op_words (Put key document) = words_of 1 key document 0
-op_words (Del key) = words_of 2 key [] 0
-op_words (Add key amount) = words_of 3 key [] (cast_unsigned w64 amount)
-op_words (Get key) = words_of 4 key [] 0
-op_words (Next above) = words_of 5 above [] 0
-op_words Count = words_of 6 [] [] 0
+op_words (Put key document) = words_with 1 key document 0
+op_words (Del key) = words_with 2 key [] 0
+op_words (Add key amount) = words_with 3 key [] (cast_unsigned w64 amount)
+op_words (Get key) = words_with 4 key [] 0
+op_words (Next above) = words_with 5 above [] 0
+op_words Count = words_with 6 [] [] 0
 
 -- the words of a reply
 abbrev pub reply_words : Reply → List ℕ
-reply_words New = words_of 1 [] [] 0
-reply_words Replaced = words_of 2 [] [] 0
-reply_words Deleted = words_of 3 [] [] 0
-reply_words Absent = words_of 4 [] [] 0
-reply_words (Doc document) = words_of 5 [] document 0
-reply_words (Sum sum) = words_of 6 [] [] (cast_unsigned w64 sum)
-reply_words NotNumber = words_of 7 [] [] 0
-reply_words Overflow = words_of 8 [] [] 0
-reply_words NoRoom = words_of 9 [] [] 0
-reply_words (Key key) = words_of 10 key [] 0
-reply_words (Number number) = words_of 11 [] [] number
+reply_words New = words_with 1 [] [] 0
+reply_words Replaced = words_with 2 [] [] 0
+reply_words Deleted = words_with 3 [] [] 0
+reply_words Absent = words_with 4 [] [] 0
+reply_words (Doc document) = words_with 5 [] document 0
+reply_words (Sum sum) = words_with 6 [] [] (cast_unsigned w64 sum)
+reply_words NotNumber = words_with 7 [] [] 0
+reply_words Overflow = words_with 8 [] [] 0
+reply_words NoRoom = words_with 9 [] [] 0
+reply_words (Key key) = words_with 10 key [] 0
+reply_words (Number number) = words_with 11 [] [] number
 
 -- a reply whose key or document is within the limits
 abbrev pub IsReply : Reply → Type 0
@@ -82,12 +82,16 @@ HasWordNumber NoRoom = Unit {0}
 HasWordNumber (Key key) = Unit {0}
 HasWordNumber (Number number) = number < 2 ^ 64
 
--- an operation within the limits has these words
-pub record AreOfAnOp (words : List ℕ) : Type 0 where
-  pub op : Op
+-- an operation within the limits, which has these words
+pub record IsOpOf (words : List ℕ) (op : Op) : Type 0 where
   pub limits : IsOp op
   pub amount : HasIntegerAmount op
   pub has : op_words op ≡ words
+
+-- some operation is one of these words
+pub record AreOfAnOp (words : List ℕ) : Type 0 where
+  pub op : Op
+  pub is : IsOpOf words op
 
 -- no operation within the limits has these words
 abbrev pub AreOfNoOp : List ℕ → Type 0

@@ -24,4 +24,8 @@ pub use word_laws::{
     kinds_tell_readings, op_words_are_one_to_one, parts_stand_in_words, reply_words_are_one_to_one,
     words_are_words,
 };
-pub use words::{OpFault, is_op, op_of, op_words, reply_of, reply_words};
+pub use word_parts::{DOCUMENT_AT, DOCUMENT_LENGTH_AT, KEY_AT, KEY_LENGTH_AT, KIND_AT, NUMBER_AT};
+pub use words::{
+    OpFault, is_key, is_op, op_of, op_words, packed_document_reply, packed_key_reply, reply_of,
+    reply_words,
+};

@@ -4,14 +4,14 @@ ghost use Rattle.std.specs.Prelude.{◌≡◌, ◌-◌, ◌^◌, ◌∷◌, ◌+
 ghost use Rattle.std.specs.Option.{option_copied};
 ghost use Rattle.cx_base.specs.Store as store;
 ghost use Rattle.doc_model.specs.Meaning as meaning;
-ghost use Rattle.doc_model.specs.Place.{IsAt, IsGapFor};
+ghost use Rattle.doc_model.specs.Place.{IsAtPlace, IsGapFor};
 
 use crate::operations::Pair;
 
 /// The place of a key, or the place where it would go.
 pub(crate) fn place_of(pairs: &[Pair], key: &[u8]) -> Result<usize, usize>
     requires { store.KeysRise pairs.now }
-    ensures found { IfOk result (IsAt pairs.now key.now) }
+    ensures found { IfOk result (IsAtPlace pairs.now key.now) }
     ensures missing { IfErr result (IsGapFor pairs.now key.now) }
 {
     pairs.binary_search_by(|pair| pair.key.as_slice().cmp(&key))

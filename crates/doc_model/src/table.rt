@@ -4,7 +4,7 @@ ghost use Rattle.std.specs.Prelude.{◌≡◌, [], IfOk, OnOk, OnErr, length, is
 ghost use Rattle.std.specs.Option.{option_map_or};
 ghost use Rattle.cx_base.specs.Store.{KeysRise};
 ghost use Rattle.doc_model.specs.Meaning as meaning;
-ghost use Rattle.doc_model.specs.Place.{IsAt, IsGapFor};
+ghost use Rattle.doc_model.specs.Place.{IsAtPlace, IsGapFor};
 
 use crate::numbers::integer_of;
 use crate::operations::{Op, Pair, Reply};
@@ -21,7 +21,7 @@ fn replace_at(
     key: &[u8],
     doc: &[u8],
 ) -> Result<Reply, AllocError>
-    requires { IsAt pairs.old.items key.now at }
+    requires { IsAtPlace pairs.old.items key.now at }
     ensures reply { IfOk result (λ reply. reply ≡ meaning.put_reply lines pairs.old.items key.now doc.now) }
     ensures next { OnOk result (pairs.new.items ≡ meaning.store_after_put lines pairs.old.items key.now doc.now) }
     ensures err { OnErr result (pairs.new.items ≡ pairs.old.items) }

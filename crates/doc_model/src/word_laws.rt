@@ -1,9 +1,9 @@
 //! What holds of the words of operations and replies.
 
 ghost use Rattle.std.specs.Prelude.{◌≡◌, ◌+◌, ◌^◌, ◌<◌, ℕ, List, All, ◌&&◌, nat_le, length, slice_index};
-ghost use Rattle.cx_base.specs.Packing.{word_at};
+ghost use Rattle.cx_base.specs.Packing.{packed_at};
 ghost use Rattle.doc_model.specs.Meaning.{IsOp, only_reads};
-ghost use Rattle.doc_model.specs.Words.{words_of, op_words, reply_words, IsReply, HasIntegerAmount, HasWordNumber};
+ghost use Rattle.doc_model.specs.Words.{words_with, op_words, reply_words, IsReply, HasIntegerAmount, HasWordNumber};
 ghost use Rattle.doc_model.specs.declared.operations.Op.{Op};
 ghost use Rattle.doc_model.specs.declared.operations.Reply.{Reply};
 
@@ -31,10 +31,10 @@ pub fn kinds_tell_readings()
 
 /// Where the parts stand in their words.
 pub fn parts_stand_in_words()
-    ensures kind { (kind number : ℕ) (key document : List ℕ) → slice_index (words_of kind key document number) 0 ≡ kind }
-    ensures key_length { (kind number : ℕ) (key document : List ℕ) → slice_index (words_of kind key document number) 1 ≡ length key }
-    ensures document_length { (kind number : ℕ) (key document : List ℕ) → slice_index (words_of kind key document number) 2 ≡ length document }
-    ensures number { (kind number : ℕ) (key document : List ℕ) → slice_index (words_of kind key document number) 3 ≡ number }
-    ensures key { (kind number : ℕ) (key document : List ℕ) (k : ℕ) → k < 8 → slice_index (words_of kind key document number) (8 + k) ≡ word_at key k }
-    ensures document { (kind number : ℕ) (key document : List ℕ) (k : ℕ) → k < 128 → slice_index (words_of kind key document number) (16 + k) ≡ word_at document k }
+    ensures kind { (kind number : ℕ) (key document : List ℕ) → slice_index (words_with kind key document number) 0 ≡ kind }
+    ensures key_length { (kind number : ℕ) (key document : List ℕ) → slice_index (words_with kind key document number) 1 ≡ length key }
+    ensures document_length { (kind number : ℕ) (key document : List ℕ) → slice_index (words_with kind key document number) 2 ≡ length document }
+    ensures number { (kind number : ℕ) (key document : List ℕ) → slice_index (words_with kind key document number) 3 ≡ number }
+    ensures key { (kind number : ℕ) (key document : List ℕ) (k : ℕ) → k < 8 → slice_index (words_with kind key document number) (8 + k) ≡ packed_at key k }
+    ensures document { (kind number : ℕ) (key document : List ℕ) (k : ℕ) → k < 128 → slice_index (words_with kind key document number) (16 + k) ≡ packed_at document k }
 {}

@@ -1,6 +1,10 @@
 //! Worked rows: words of operations and replies, and words that are none.
 
-use crate::{Op, OpFault, Reply, is_op, op_of, op_words, reply_of, reply_words};
+use crate::{
+    Op, OpFault, Reply, is_key, is_op, op_of, op_words, packed_document_reply, packed_key_reply,
+    reply_of, reply_words,
+};
+use cx_base::pack;
 use std::alloc::{AllocError, Global};
 use std::test::Fail;
 
@@ -289,4 +293,31 @@ fn replies_go_there_and_back(rt: HostRuntime) -> Result<(), Fail> {
         assert_eq!(rt; reply_told(rt.alloc(), &words)?.as_str(), want);
     }
     Ok(())
+}
+
+#[test]
+fn packed_replies(rt: HostRuntime) {
+    let mut key = [0; 8];
+    pack(b"key", &mut key);
+    let words = packed_key_reply(3, &key);
+    assert_eq!(rt; (words[0], words[1], words[2], words[3]), (10, 3, 0, 0));
+    assert_eq!(rt; (words[8], words[9], words[16]), (0x0079_656b, 0, 0));
+    let mut document = [0; 128];
+    pack(b"document!", &mut document);
+    let words = packed_document_reply(9, &document);
+    assert_eq!(rt; (words[0], words[1], words[2], words[3]), (5, 0, 9, 0));
+    assert_eq!(rt;
+        (words[8], words[16], words[17], words[18]),
+        (0, 0x746e_656d_7563_6f64, 0x21, 0)
+    );
+}
+
+#[test]
+fn bytes_of_keys(rt: HostRuntime) {
+    assert!(rt; is_key(b"!"));
+    assert!(rt; is_key(&[b'~'; 64]));
+    assert!(rt; !is_key(b""));
+    assert!(rt; !is_key(&[b'~'; 65]));
+    assert!(rt; !is_key(b"a b"));
+    assert!(rt; !is_key(&[0x7F]));
 }

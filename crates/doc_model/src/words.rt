@@ -2,17 +2,20 @@
 //! document, word 3 a number, signed ones in two's complement. Words 4 to 7 are 0, 8 to 15 hold the key, and 16 to
 //! 143 the document, eight bytes a word. What a kind does not use is 0.
 
-ghost use Rattle.std.specs.Prelude.{◌≡◌, ◌↔◌, IfOk, IsErrOf, MatchBool, MatchResult, ◌&&◌, nat_le};
+ghost use Rattle.std.specs.Prelude.{◌≡◌, ◌↔◌, ℕ, List, length, IfOk, IsErrOf, IsTrue, MatchBool, MatchResult, ◌&&◌, nat_le};
 ghost use Rattle.std.specs.List.{list_all};
+ghost use Rattle.cx_base.specs.Packing as packing;
+ghost use Rattle.cx_base.specs.Store.{IsKey};
 ghost use Rattle.doc_model.specs.Meaning.{IsOp};
 ghost use Rattle.doc_model.specs.Words as spec;
 ghost use Rattle.doc_model.specs.WordParts as kinds;
 ghost use Rattle.doc_model.specs.declared.operations.Op.{Op};
 ghost use Rattle.doc_model.specs.declared.operations.Reply.{Reply};
+ghost use Rattle.doc_model.specs.declared.operations.Reply.TheVariants.{Doc, Key};
 ghost use Rattle.doc_model.specs.declared.words.OpFault.TheVariants.{BadOp, Memory};
 
 use crate::operations::{Op, Reply};
-use crate::word_parts::{Parts, words_of};
+use crate::word_parts::{Parts, words_of_packed, words_with};
 use cx_base::Bytes;
 use std::alloc::{AllocError, Global};
 use std::error::Error;
@@ -52,12 +55,12 @@ pub fn op_words(op: &Op) -> [u64; 144]
     ensures { result ≡ spec.op_words op.now }
 {
     match op {
-        Op::Put { key, doc } => words_of(1, key.as_slice(), doc.as_slice(), 0),
-        Op::Del { key } => words_of(2, key.as_slice(), &[], 0),
-        Op::Add { key, amount } => words_of(3, key.as_slice(), &[], amount.cast_unsigned()),
-        Op::Get { key } => words_of(4, key.as_slice(), &[], 0),
-        Op::Next { above } => words_of(5, above.as_slice(), &[], 0),
-        Op::Count => words_of(6, &[], &[], 0),
+        Op::Put { key, doc } => words_with(1, key.as_slice(), doc.as_slice(), 0),
+        Op::Del { key } => words_with(2, key.as_slice(), &[], 0),
+        Op::Add { key, amount } => words_with(3, key.as_slice(), &[], amount.cast_unsigned()),
+        Op::Get { key } => words_with(4, key.as_slice(), &[], 0),
+        Op::Next { above } => words_with(5, above.as_slice(), &[], 0),
+        Op::Count => words_with(6, &[], &[], 0),
     }
 }
 
@@ -67,18 +70,32 @@ pub fn reply_words(reply: &Reply) -> [u64; 144]
     ensures { result ≡ spec.reply_words reply.now }
 {
     match reply {
-        Reply::New => words_of(1, &[], &[], 0),
-        Reply::Replaced => words_of(2, &[], &[], 0),
-        Reply::Deleted => words_of(3, &[], &[], 0),
-        Reply::Absent => words_of(4, &[], &[], 0),
-        Reply::Doc(doc) => words_of(5, &[], doc.as_slice(), 0),
-        Reply::Sum(sum) => words_of(6, &[], &[], sum.cast_unsigned()),
-        Reply::NotNumber => words_of(7, &[], &[], 0),
-        Reply::Overflow => words_of(8, &[], &[], 0),
-        Reply::NoRoom => words_of(9, &[], &[], 0),
-        Reply::Key(key) => words_of(10, key.as_slice(), &[], 0),
-        Reply::Number(number) => words_of(11, &[], &[], *number),
+        Reply::New => words_with(1, &[], &[], 0),
+        Reply::Replaced => words_with(2, &[], &[], 0),
+        Reply::Deleted => words_with(3, &[], &[], 0),
+        Reply::Absent => words_with(4, &[], &[], 0),
+        Reply::Doc(doc) => words_with(5, &[], doc.as_slice(), 0),
+        Reply::Sum(sum) => words_with(6, &[], &[], sum.cast_unsigned()),
+        Reply::NotNumber => words_with(7, &[], &[], 0),
+        Reply::Overflow => words_with(8, &[], &[], 0),
+        Reply::NoRoom => words_with(9, &[], &[], 0),
+        Reply::Key(key) => words_with(10, key.as_slice(), &[], 0),
+        Reply::Number(number) => words_with(11, &[], &[], *number),
     }
+}
+
+/// The words of the reply that is a document, of so many bytes that are packed already.
+pub fn packed_document_reply(len: u64, packed: &[u64; 128]) -> [u64; 144]
+    ensures { (document : List ℕ) → len ≡ length document → packed.now ≡ packing.packed 128 document → result ≡ spec.reply_words (Doc document) }
+{
+    words_of_packed(5, 0, &[0; 8], len, packed)
+}
+
+/// The words of the reply that is a key, of so many bytes that are packed already.
+pub fn packed_key_reply(len: u64, packed: &[u64; 8]) -> [u64; 144]
+    ensures { (key : List ℕ) → len ≡ length key → packed.now ≡ packing.packed 8 key → result ≡ spec.reply_words (Key key) }
+{
+    words_of_packed(10, len, packed, 0, &[0; 128])
 }
 
 /// Whether an operation within the limits has these words. It takes no memory.
@@ -137,8 +154,15 @@ fn are_plain(bytes: &[u8]) -> bool
     bytes.iter().all(|byte| *byte >= 0x20)
 }
 
-/// Whether the bytes are a key.
-fn is_key(key: &[u8]) -> bool
+/// Whether the bytes are a key: 1 to 64 of them, each from 0x21 to 0x7E.
+pub fn is_key(key: &[u8]) -> bool
+    ensures test { result ≡ kinds.is_key key.now }
+    ensures rule { IsTrue result ↔ IsKey key.now }
+{
+    passes_as_key(key)
+}
+
+fn passes_as_key(key: &[u8]) -> bool
     ensures { result ≡ kinds.is_key key.now }
 {
     !key.is_empty() && key.len() <= 64 && are_visible(key)

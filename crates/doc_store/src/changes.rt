@@ -2,56 +2,59 @@
 
 ghost use Rattle.std.specs.Prelude.{◌≡◌, ◌≤◌, ◌*◌, ◌+ℤ◌, ℕ, ℤ, List, Bool, true, false, IsTrue, IfOk, IfSome, OnErr, Some, length, slice_index, nat_le, ◌&&◌, is_some, if◌then◌else◌};
 ghost use Rattle.std.specs.Fmt.{signed_decimal};
-ghost use Rattle.cx_base.specs.Memory.{Always, Becomes};
+ghost use Rattle.cx_base.specs.Memory.{Always, Becomes, Framed, Reads};
 ghost use Rattle.cx_base.specs.Packing.{unpacked};
 ghost use Rattle.cx_base.specs.Store.{Store, IsKey, IsDocument};
 ghost use Rattle.doc_model.specs.Meaning as meaning;
 ghost use Rattle.doc_model.specs.Number.{is_i64};
-ghost use Rattle.doc_model.specs.Words.{AreOfAnOp, reply_words};
+ghost use Rattle.doc_model.specs.Words as spec;
+ghost use Rattle.doc_model.specs.Words.{IsOpOf, AreOfAnOp};
 ghost use Rattle.doc_model.specs.declared.operations.Op.{Op};
 ghost use Rattle.doc_model.specs.declared.operations.Reply.TheVariants.{Absent, Deleted};
-ghost use Rattle.doc_store.specs.ExactStep.{Exactly, with_sum, with_addition, image_after};
-ghost use Rattle.doc_store.specs.StepOnWords.{IsOpOf, put_told, sum_told, put_sum_reply};
-ghost use Rattle.word_index.specs.Access.{Reads};
+ghost use Rattle.doc_store.specs.ExactStep.{Exactly, with_sum, with_addition, image_after_op};
+ghost use Rattle.doc_store.specs.StepOnWords.{reply_to_put, reply_to_sum, put_sum_reply};
 ghost use Rattle.word_index.specs.Answers.{IsPacked};
-ghost use Rattle.word_index.specs.Exact.{store_in, with_document, with_key_removed};
-ghost use Rattle.word_index.specs.Layout.{IsPartLength, IsIndex, StandsFor};
+ghost use Rattle.index_checks.specs.Reading.{store_in};
+ghost use Rattle.word_index.specs.Exact.{with_document, with_key_removed};
+ghost use Rattle.avl_words.specs.Lines.{IsPartLength};
+ghost use Rattle.index_checks.specs.Layout.{IsIndex, StandsFor};
 
 use crate::numbers::{doc_of_number, number_in, sum_of};
-use crate::word_parts::{doc_in, key_in, short_reply};
+use crate::word_parts::{doc_in, key_in};
 use cx_base::{Halt, Memory, Steps};
+use doc_model::{KIND_AT, NUMBER_AT, Reply, reply_words};
 use std::sync::ledger::Ledger;
 use word_index::{Doc, Inserted, Key, doc_at, find, insert, remove};
 
 /// The words of the reply to a put.
 fn put_reply(inserted: Inserted) -> [u64; 144]
-    ensures { result ≡ reply_words (put_told inserted) }
+    ensures { result ≡ spec.reply_words (reply_to_put inserted) }
 {
     match inserted {
-        Inserted::New => short_reply(1, 0),
-        Inserted::Replaced => short_reply(2, 0),
-        Inserted::NoRoom => short_reply(9, 0),
+        Inserted::New => reply_words(&Reply::New),
+        Inserted::Replaced => reply_words(&Reply::Replaced),
+        Inserted::NoRoom => reply_words(&Reply::NoRoom),
     }
 }
 
 /// The words of the reply to a removal.
 fn removal_reply(there: bool) -> [u64; 144]
-    ensures { result ≡ reply_words (if there then Deleted else Absent) }
+    ensures { result ≡ spec.reply_words (if there then Deleted else Absent) }
 {
     if there {
-        short_reply(3, 0)
+        reply_words(&Reply::Deleted)
     } else {
-        short_reply(4, 0)
+        reply_words(&Reply::Absent)
     }
 }
 
 /// The words of the reply to an addition that makes a sum.
 fn sum_reply(inserted: Inserted, sum: i64) -> [u64; 144]
-    ensures { result ≡ reply_words (sum_told sum inserted) }
+    ensures { result ≡ spec.reply_words (reply_to_sum sum inserted) }
 {
     match inserted {
-        Inserted::New | Inserted::Replaced => short_reply(6, sum.cast_unsigned()),
-        Inserted::NoRoom => short_reply(9, 0),
+        Inserted::New | Inserted::Replaced => reply_words(&Reply::Sum(sum)),
+        Inserted::NoRoom => reply_words(&Reply::NoRoom),
     }
 }
 
@@ -74,10 +77,7 @@ fn put<M: Memory, L: Ledger>(
     ensures done { IfOk result (λ reply. Becomes (M.stands mem.old) (M.stands mem.new)
         (Exactly (λ ws. meaning.put_reply lines (store_in ws) (unpacked key.now.len key.now.words) (unpacked doc.now.len doc.now.words)) (with_document (unpacked key.now.len key.now.words) (unpacked doc.now.len doc.now.words)) reply)) }
     ensures halts { OnErr result (M.left mem.new ≡ Some 0) }
-    ensures limited { is_some (M.left mem.new) ≡ is_some (M.left mem.old) }
-    ensures size { M.size mem.new ≡ M.size mem.old }
-    ensures fixed { M.fixed mem.new ≡ M.fixed mem.old }
-    ensures writable { M.writable mem.new ≡ M.writable mem.old }
+    ensures framed { Framed M.size M.fixed M.writable M.left mem.old mem.new }
 {
     let inserted = insert(mem, lines, key, doc, visits)?;
     Ok(put_reply(inserted))
@@ -96,10 +96,7 @@ fn delete<M: Memory, L: Ledger>(
     ensures done { IfOk result (λ reply. Becomes (M.stands mem.old) (M.stands mem.new)
         (Exactly (λ ws. if is_some (meaning.document_at (unpacked key.now.len key.now.words) (store_in ws)) then Deleted else Absent) (with_key_removed (unpacked key.now.len key.now.words)) reply)) }
     ensures halts { OnErr result (M.left mem.new ≡ Some 0) }
-    ensures limited { is_some (M.left mem.new) ≡ is_some (M.left mem.old) }
-    ensures size { M.size mem.new ≡ M.size mem.old }
-    ensures fixed { M.fixed mem.new ≡ M.fixed mem.old }
-    ensures writable { M.writable mem.new ≡ M.writable mem.old }
+    ensures framed { Framed M.size M.fixed M.writable M.left mem.old mem.new }
 {
     let there = remove(mem, key, visits)?;
     Ok(removal_reply(there))
@@ -118,10 +115,7 @@ fn number_at<M: Memory, L: Ledger>(
         (λ ws. (version : ℕ) (store : Store) → StandsFor ws version store → number ≡ meaning.number_at (unpacked key.now.len key.now.words) store)) }
     ensures fits { IfOk result (λ number. IfSome number (λ z. is_i64 z ≡ true)) }
     ensures halts { OnErr result (M.left mem.new ≡ Some 0) }
-    ensures limited { is_some (M.left mem.new) ≡ is_some (M.left mem.old) }
-    ensures size { M.size mem.new ≡ M.size mem.old }
-    ensures fixed { M.fixed mem.new ≡ M.fixed mem.old }
-    ensures writable { M.writable mem.new ≡ M.writable mem.old }
+    ensures framed { Framed M.size M.fixed M.writable M.left mem.old mem.new }
 {
     let found = find(mem, key, visits)?;
     match found {
@@ -151,10 +145,7 @@ fn put_sum<M: Memory, L: Ledger>(
     ensures done { IfOk result (λ reply. Becomes (M.stands mem.old) (M.stands mem.new)
         (Exactly (λ ws. put_sum_reply lines (store_in ws) (unpacked key.now.len key.now.words) sum) (with_document (unpacked key.now.len key.now.words) (signed_decimal sum)) reply)) }
     ensures halts { OnErr result (M.left mem.new ≡ Some 0) }
-    ensures limited { is_some (M.left mem.new) ≡ is_some (M.left mem.old) }
-    ensures size { M.size mem.new ≡ M.size mem.old }
-    ensures fixed { M.fixed mem.new ≡ M.fixed mem.old }
-    ensures writable { M.writable mem.new ≡ M.writable mem.old }
+    ensures framed { Framed M.size M.fixed M.writable M.left mem.old mem.new }
 {
     let doc = doc_of_number(sum);
     let inserted = insert(mem, lines, key, &doc, visits)?;
@@ -179,14 +170,11 @@ fn add_to<M: Memory, L: Ledger>(
     ensures done { IfOk result (λ reply. Becomes (M.stands mem.old) (M.stands mem.new)
         (Exactly (λ ws. meaning.sum_reply lines (store_in ws) (unpacked key.now.len key.now.words) (before +ℤ amount)) (with_sum (unpacked key.now.len key.now.words) (before +ℤ amount)) reply)) }
     ensures halts { OnErr result (M.left mem.new ≡ Some 0) }
-    ensures limited { is_some (M.left mem.new) ≡ is_some (M.left mem.old) }
-    ensures size { M.size mem.new ≡ M.size mem.old }
-    ensures fixed { M.fixed mem.new ≡ M.fixed mem.old }
-    ensures writable { M.writable mem.new ≡ M.writable mem.old }
+    ensures framed { Framed M.size M.fixed M.writable M.left mem.old mem.new }
 {
     let made = sum_of(before, amount);
     match made {
-        None => Ok(short_reply(8, 0)),
+        None => Ok(reply_words(&Reply::Overflow)),
         Some(sum) => put_sum(mem, lines, key, sum, visits),
     }
 }
@@ -208,14 +196,11 @@ fn add<M: Memory, L: Ledger>(
     ensures done { IfOk result (λ reply. Becomes (M.stands mem.old) (M.stands mem.new)
         (Exactly (λ ws. meaning.add_reply lines (store_in ws) (unpacked key.now.len key.now.words) amount (meaning.number_at (unpacked key.now.len key.now.words) (store_in ws))) (λ ws. with_addition (unpacked key.now.len key.now.words) amount (meaning.number_at (unpacked key.now.len key.now.words) (store_in ws)) ws) reply)) }
     ensures halts { OnErr result (M.left mem.new ≡ Some 0) }
-    ensures limited { is_some (M.left mem.new) ≡ is_some (M.left mem.old) }
-    ensures size { M.size mem.new ≡ M.size mem.old }
-    ensures fixed { M.fixed mem.new ≡ M.fixed mem.old }
-    ensures writable { M.writable mem.new ≡ M.writable mem.old }
+    ensures framed { Framed M.size M.fixed M.writable M.left mem.old mem.new }
 {
     let number = number_at(mem, key, visits)?;
     match number {
-        None => Ok(short_reply(7, 0)),
+        None => Ok(reply_words(&Reply::NotNumber)),
         Some(before) => add_to(mem, lines, key, before, amount, visits),
     }
 }
@@ -235,17 +220,14 @@ pub(crate) fn change<M: Memory, L: Ledger>(
     requires op { AreOfAnOp op.now }
     requires changes { (nat_le 4 (slice_index op.now 0) && nat_le (slice_index op.now 0) 6) ≡ false }
     ensures done { IfOk result (λ reply. Becomes (M.stands mem.old) (M.stands mem.new)
-        (λ before now. (o : Op) → IsOpOf op.now o → Exactly (λ ws. meaning.reply_to lines (store_in ws) o) (image_after o) reply before now)) }
+        (λ before now. (o : Op) → IsOpOf op.now o → Exactly (λ ws. meaning.reply_to lines (store_in ws) o) (image_after_op o) reply before now)) }
     ensures halts { OnErr result (M.left mem.new ≡ Some 0) }
-    ensures limited { is_some (M.left mem.new) ≡ is_some (M.left mem.old) }
-    ensures size { M.size mem.new ≡ M.size mem.old }
-    ensures fixed { M.fixed mem.new ≡ M.fixed mem.old }
-    ensures writable { M.writable mem.new ≡ M.writable mem.old }
+    ensures framed { Framed M.size M.fixed M.writable M.left mem.old mem.new }
 {
     let key = key_in(op);
-    match op[0] {
+    match op[KIND_AT] {
         1 => put(mem, lines, &key, &doc_in(op), visits),
         2 => delete(mem, &key, visits),
-        _ => add(mem, lines, &key, op[3].cast_signed(), visits),
+        _ => add(mem, lines, &key, op[NUMBER_AT].cast_signed(), visits),
     }
 }

@@ -5,6 +5,8 @@ mod changes;
 #[cfg(test)]
 mod mixed_tests;
 mod numbers;
+#[cfg(test)]
+mod order_tests;
 mod readings;
 mod step_laws;
 mod store;

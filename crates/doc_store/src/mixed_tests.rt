@@ -41,10 +41,10 @@ fn digit(n: u64) -> u8 {
     DIGITS[(n % 10) as usize]
 }
 
-/// The words of a command on one of 200 keys: a number, or up to 150 letters, is what is put.
+/// The words of a command on one of 500 keys: a number, or up to 150 letters, is what is put.
 fn command(numbers: &mut Numbers) -> [u64; 144] {
     let kind = KINDS[numbers.next(10) as usize];
-    let n = numbers.next(200);
+    let n = numbers.next(500);
     let key = [b'k', digit(n / 100), digit(n / 10), digit(n)];
     let number = [digit(numbers.next(9) + 1), digit(numbers.next(10))];
     let long = numbers.next(150) as usize;
@@ -151,13 +151,13 @@ fn listed(alloc: Global, store: &DocStore, words: &[u64]) -> Result<Option<Vec<P
 }
 
 #[test]
-fn ten_thousand_commands_as_in_the_list(rt: HostRuntime) -> Result<(), Fail> {
+fn twenty_thousand_commands_as_in_the_list(rt: HostRuntime) -> Result<(), Fail> {
     let alloc = rt.alloc();
-    let store = DocStore::of(512);
-    let words = vec![in alloc; u64::MAX; 4096]?;
+    let store = DocStore::of(2048);
+    let words = vec![in alloc; u64::MAX; 16_384]?;
     let mut mem = VecMemory::of(words, None);
-    let pairs = mixed(&rt, alloc, &store, &mut mem, 10_000)?;
-    assert!(rt; pairs.len() > 100);
+    let pairs = mixed(&rt, alloc, &store, &mut mem, 20_000)?;
+    assert!(rt; pairs.len() > 250);
     let words = mem.into_words();
     let found = listed(alloc, &store, &words)?;
     let Some(found) = found else {
@@ -169,7 +169,7 @@ fn ten_thousand_commands_as_in_the_list(rt: HostRuntime) -> Result<(), Fail> {
 }
 
 /// How many accesses a command takes in a lawful image: with fewer, it is refused.
-fn accesses(
+pub(crate) fn accesses(
     alloc: Global,
     store: &DocStore,
     image: &[u64],

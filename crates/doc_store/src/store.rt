@@ -1,17 +1,18 @@
 //! The document store over the words of a memory.
 
-ghost use Rattle.std.specs.Prelude.{◌≡◌, ◌*◌, ◌^◌, ◌<◌, ◌≤◌, ◌↔◌, ℕ, [], IsTrue, IfOk, OnErr, Some, slice_index, nat_le, ◌&&◌, replicate, is_some};
-ghost use Rattle.cx_base.specs.Memory.{Always, Becomes};
+ghost use Rattle.std.specs.Prelude.{◌≡◌, ◌*◌, ◌^◌, ◌<◌, ◌≤◌, ◌↔◌, ℕ, [], IsTrue, IfOk, OnErr, Some, slice_index, nat_le, ◌&&◌, replicate};
+ghost use Rattle.cx_base.specs.Memory.{Always, Becomes, Framed};
 ghost use Rattle.doc_model.specs.Words.{AreOfAnOp};
 ghost use Rattle.doc_store.specs.ExactStep.{IsImage, opening_image, store_step, reads_in};
 ghost use Rattle.doc_store.specs.StoreLaws as laws;
-ghost use Rattle.word_index.specs.Exact.{store_in};
-ghost use Rattle.word_index.specs.Layout.{IsPartLength, IsIndex, StandsFor};
+ghost use Rattle.index_checks.specs.Reading.{store_in};
+ghost use Rattle.avl_words.specs.Lines.{IsPartLength};
+ghost use Rattle.index_checks.specs.Layout.{IsIndex, StandsFor};
 
 use crate::changes::change;
 use crate::readings::{answer, answer_uncounted};
 use cx_base::{Halt, Memory, Object, Steps};
-use doc_model::{Pair, is_op};
+use doc_model::{KIND_AT, Pair, is_op};
 use std::alloc::{AllocError, Global};
 use std::marker::Brand;
 use std::sync::ledger::{Blank, Ledger};
@@ -77,7 +78,7 @@ impl Object for DocStore {
         if !is_op(op) {
             return false;
         }
-        is_reading(op[0])
+        is_reading(op[KIND_AT])
     }
 
     fn run<M: Memory>(&self, mem: &mut M, op: &[u64; 144]) -> Result<[u64; 144], Halt> {
@@ -117,10 +118,7 @@ fn clear<M: Memory>(mem: &mut M, lines: u64) -> Result<(), Halt>
     ensures done { IfOk result
         (λ _. Becomes (M.stands mem.old) (M.stands mem.new) (λ _ now. now ≡ replicate (8 * lines) 0)) }
     ensures halts { OnErr result (M.left mem.new ≡ Some 0) }
-    ensures limited { is_some (M.left mem.new) ≡ is_some (M.left mem.old) }
-    ensures size { M.size mem.new ≡ M.size mem.old }
-    ensures fixed { M.fixed mem.new ≡ M.fixed mem.old }
-    ensures writable { M.writable mem.new ≡ M.writable mem.old }
+    ensures framed { Framed M.size M.fixed M.writable M.left mem.old mem.new }
 {
     for at in 0..8 * lines {
         mem.store(at, 0)?;
@@ -145,13 +143,10 @@ fn step_uncounted<M: Memory, L: Ledger>(
     requires op { AreOfAnOp op.now }
     ensures done { IfOk result (λ reply. Becomes (M.stands mem.old) (M.stands mem.new) (λ before now. store_step lines before op.now ≡ (now, reply))) }
     ensures halts { OnErr result (M.left mem.new ≡ Some 0) }
-    ensures limited { is_some (M.left mem.new) ≡ is_some (M.left mem.old) }
-    ensures size { M.size mem.new ≡ M.size mem.old }
-    ensures fixed { M.fixed mem.new ≡ M.fixed mem.old }
-    ensures writable { M.writable mem.new ≡ M.writable mem.old }
+    ensures framed { Framed M.size M.fixed M.writable M.left mem.old mem.new }
 {
     let mut visits = Steps::<L>::open(blank);
-    if is_reading(op[0]) {
+    if is_reading(op[KIND_AT]) {
         answer(mem, op, &mut visits)
     } else {
         change(mem, lines, op, &mut visits)

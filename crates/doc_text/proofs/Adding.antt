@@ -5,21 +5,21 @@ use Rattle.std.specs.Result.{result_ok}
 use Rattle.std.proofs.lemmas.Bool.{cases_Bool}
 use Rattle.std.proofs.lemmas.List.{append-nil, take-append-drop}
 use Rattle.doc_text.specs.Grammar.{is_passed_over, is_built, with_said, Adds, AddsAll, no_script, text_lines, AreLinesOf, IsScript, IsFirstFault}
-use Rattle.doc_text.specs.Reading.{line_of, with_read, judged, with_line, with_lines}
+use Rattle.doc_text.specs.Reading.{line_of, with_parsed, judged, with_line, with_lines}
 use Rattle.doc_text.specs.Refusal.{IsReason, IsReasonAt, IsFault, IsOkOr}
-use Rattle.doc_text.specs.declared.grammar.Reason.{Reason}
-use Rattle.doc_text.specs.declared.grammar.Reason.TheVariants as reasons
-use Rattle.doc_text.specs.declared.grammar.Script.{Script}
-use Rattle.doc_text.specs.declared.grammar.ScriptLine.{ScriptLine}
-use Rattle.doc_text.specs.declared.grammar.TextFault.{TextFault}
-use Rattle.doc_text.specs.declared.grammar.TextFault.TheVariants.{Refused, Memory}
-use Rattle.doc_text.proofs.Said.{step_some, accepted}
-use Rattle.doc_text.proofs.Again.{read_again, not_passed}
-use Rattle.doc_text.proofs.Why.{why}
+use Rattle.doc_text.specs.declared.script_parts.Reason.{Reason}
+use Rattle.doc_text.specs.declared.script_parts.Reason.TheVariants as reasons
+use Rattle.doc_text.specs.declared.script_parts.Script.{Script}
+use Rattle.doc_text.specs.declared.script_parts.ScriptLine.{ScriptLine}
+use Rattle.doc_text.specs.declared.script_parts.TextFault.{TextFault}
+use Rattle.doc_text.specs.declared.script_parts.TextFault.TheVariants.{Refused, Memory}
+use Rattle.doc_text.proofs.LineSoundness.{step_some, accepted}
+use Rattle.doc_text.proofs.LineCompleteness.{read_again, not_passed}
+use Rattle.doc_text.proofs.RefusalReasons.{why}
 
 -- ---- one line more
 
-read_some : (before : Script) (r : Result ScriptLine Reason) (after : Script) → result_ok (with_read before r) ≡ Some after
+read_some : (before : Script) (r : Result ScriptLine Reason) (after : Script) → result_ok (with_parsed before r) ≡ Some after
     → (says : ScriptLine) × (r ≡ Ok says) × (is_built before says ≡ true) × (after ≡ with_said before says)
 read_some before (Err reason) after e = absurd cc
 read_some before (Ok says) after e =
@@ -40,7 +40,7 @@ Adds-from before line after e =
           let same : before ≡ after = cc in
           inl (passed, sym same)
       | inr said ↦
-          let read : result_ok (with_read before (line_of before line)) ≡ Some after = rw said at e in
+          let read : result_ok (with_parsed before (line_of before line)) ≡ Some after = rw said at e in
           let says = read_some before (line_of before line) after read in
           inr (says.0, accepted before line says.0 says.1, says.2, says.3)
     ]
@@ -53,7 +53,7 @@ with_line-from before line after (inr (says, is, built, same)) =
 
 -- why a line is refused
 refused_read : (before : Script) (line : List ℕ) (r : Result ScriptLine Reason) (reason : Reason) → line_of before line ≡ r
-    → with_read before r ≡ Err reason → IsReason before line reason
+    → with_parsed before r ≡ Err reason → IsReason before line reason
 refused_read before line (Err found) reason read e =
     let same : found ≡ reason = cc in
     inr (
@@ -75,7 +75,7 @@ refused_for before line reason e =
     elim (cases_Bool (is_passed_over line)) [
       | inl passed ↦ let h : Ok before ≡ Err reason = rw passed at e in absurd cc
       | inr said ↦
-          let read : with_read before (line_of before line) ≡ Err reason = rw said at e in
+          let read : with_parsed before (line_of before line) ≡ Err reason = rw said at e in
           refused_read before line (line_of before line) reason refl read
     ]
 

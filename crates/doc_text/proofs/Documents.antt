@@ -196,7 +196,7 @@ decimal_some n =
     either (λ text. 1 ≤ length text) (eqb (n / 10) 0) (digit_glyph false (n % 10) ∷ []) (digits_onto 63 10 false (n / 10) (digit_glyph false (n % 10) ∷ []))
     (λ _. omega arith) (λ _. longer 63 (n / 10) (digit_glyph false (n % 10) ∷ []) (omega arith))
 
-number_some : (n : Num) → is_float n ≡ false → 1 ≤ length (number_text n)
+pub number_some : (n : Num) → is_float n ≡ false → 1 ≤ length (number_text n)
 number_some (unsigned n) h = decimal_some n
 number_some (negative (pos n)) h = decimal_some n
 number_some (negative (negsuc n)) h = omega arith

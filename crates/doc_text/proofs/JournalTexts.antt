@@ -9,7 +9,7 @@ use Rattle.doc_model.specs.Meaning.{reply_to, store_after}
 use Rattle.doc_model.specs.declared.operations.Op.{Op}
 use Rattle.doc_model.specs.declared.operations.Reply.{Reply}
 use Rattle.doc_text.specs.Grammar.{Life}
-use Rattle.doc_text.specs.Lives.{op_of, Names, store_at, HasReply}
+use Rattle.doc_text.specs.Lives.{named_op, Names, store_at, HasReply}
 use Rattle.doc_text.specs.Report.{journal_text, exchange_text, reply_text}
 use Rattle.doc_text.specs.declared.lives.JournalLine.{JournalLine}
 use Rattle.doc_text.proofs.Decimals.{BeginsOutside, same_numbers, number_outside}
@@ -21,7 +21,7 @@ HasLineNumbers line = (line.ticket < 2 ^ 64) × (line.client < 2 ^ 64) × (line.
 -- a line whose command the life has, and whose reply is that of the store before it
 pub record IsTold (lines : ℕ) (store : Store) (life : Life) (line : JournalLine) : Type 0 where
   pub op : Op
-  pub is : op_of life line.client line.command ≡ Some op
+  pub is : named_op life line.client line.command ≡ Some op
   pub reply : line.reply ≡ Some (reply_to lines store op)
   pub numbers : HasLineNumbers line
 
@@ -36,7 +36,7 @@ value_of None some = cc
 value_of (Some x) some = (x, refl)
 
 store_at-cons : (lines : ℕ) (store : Store) (life : Life) (line : JournalLine) (journal : List JournalLine) (i : ℕ) (op : Op)
-    → op_of life line.client line.command ≡ Some op
+    → named_op life line.client line.command ≡ Some op
     → store_at lines store life (line ∷ journal) (suc i) ≡ store_at lines (store_after lines store op) life journal i
 store_at-cons lines store life line journal i op is = rw is
 
@@ -44,13 +44,13 @@ store_at-cons lines store life line journal i op is = rw is
 pub AreTold-from_places : (lines : ℕ) (store : Store) (life : Life) (journal : List JournalLine)
     → All (λ line. Names life line.client line.command) journal → All (λ line. IsSome line.reply) journal → All HasLineNumbers journal
     → ((i : ℕ) (line : JournalLine) → slice_get journal i ≡ Some line →
-    IfSome line.reply (HasReply lines (store_at lines store life journal i) (op_of life line.client line.command)))
+    IfSome line.reply (HasReply lines (store_at lines store life journal i) (named_op life line.client line.command)))
     → AreTold lines store life journal
 AreTold-from_places lines store life [] named answered numbers replies = tt
 AreTold-from_places lines store life (line ∷ journal) named answered numbers replies =
-    let op = value_of (op_of life line.client line.command) (All-head (λ line. Names life line.client line.command) line journal named).there in
+    let op = value_of (named_op life line.client line.command) (All-head (λ line. Names life line.client line.command) line journal named).there in
     let reply = value_of line.reply (All-head (λ line. IsSome line.reply) line journal answered) in
-    let has : IfSome line.reply (HasReply lines store (op_of life line.client line.command)) = replies 0 line refl in
+    let has : IfSome line.reply (HasReply lines store (named_op life line.client line.command)) = replies 0 line refl in
     let same = rw (reply.1, op.1) at has in (
       record { op = op.0; is = op.1; reply = reply.1 ∙ ap Some same; numbers = All-head HasLineNumbers line journal numbers },
       AreTold-from_places lines (store_after lines store op.0) life journal
@@ -62,7 +62,7 @@ AreTold-from_places lines store life (line ∷ journal) named answered numbers r
 
 -- the parts of a line, with what follows it
 abbrev answer_text : Life → JournalLine → List ℕ
-answer_text life line = exchange_text (op_of life line.client line.command) (option_map_or reply_text line.reply (codes "unanswered"))
+answer_text life line = exchange_text (named_op life line.client line.command) (option_map_or reply_text line.reply (codes "unanswered"))
 
 journal_text-append : (life : Life) (line : JournalLine) (x : List ℕ)
     → journal_text life line ++ x
@@ -74,8 +74,8 @@ same_op : (lines : ℕ) (store : Store) (life : Life) (a b : JournalLine) (told 
     → a.client ≡ b.client → a.command ≡ b.command → told.op ≡ other.op
 same_op lines store life a b told other client command =
     let first = told.is in let second = other.is in
-    let same : op_of life a.client a.command ≡ op_of life b.client b.command =
-    ap (λ n. op_of life n a.command) client ∙ ap (op_of life b.client) command in
+    let same : named_op life a.client a.command ≡ named_op life b.client b.command =
+    ap (λ n. named_op life n a.command) client ∙ ap (named_op life b.client) command in
     cc
 
 abbrev made_line : ℕ → ℕ → ℕ → Option Reply → JournalLine

@@ -8,9 +8,9 @@ use Rattle.std.proofs.lemmas.List.{map-append, append-nil, take_more}
 use Rattle.std.proofs.lemmas.List.Elements.{filter-append}
 use Rattle.std.proofs.lemmas.Option.{slice_get_within, slice_get_past, slice_get_read, slice_get-map}
 use Rattle.doc_model.specs.declared.operations.Op.{Op}
-use Rattle.doc_text.specs.declared.grammar.Command.{Command}
+use Rattle.doc_text.specs.declared.script_parts.Command.{Command}
 use Rattle.doc_text.specs.Grammar.{Life}
-use Rattle.doc_text.specs.Lives.{own_ops, op_of}
+use Rattle.doc_text.specs.Lives.{own_ops, named_op}
 use Rattle.doc_text.specs.Index.{AreOwnOps}
 
 own_ops-push : (client : ℕ) (commands : List Command) (command : Command)
@@ -102,7 +102,7 @@ got xs i (Some x) value within = sym (slice_get_read xs (length xs) i x.now refl
 -- what stands at a place in a client's list
 pub op_of_at : (life : Life) (client before command : ℕ) (lists : List (Vec (Bor Op))) (own : Vec (Bor Op))
     → AreOwnOps life.commands lists → client < length lists → own ≡ get_or lists client own → 1 ≤ command → before ≡ command - 1
-    → option_map (λ (op : Bor Op). op.now) (slice_get own.items before) ≡ op_of life client command
+    → option_map (λ (op : Bor Op). op.now) (slice_get own.items before) ≡ named_op life client command
 op_of_at life client before zero lists own are within is some e = absurd (omega arith)
 op_of_at life client before (suc n) lists own are within is some e =
     let same : before ≡ n = omega arith in

@@ -8,7 +8,7 @@ use Rattle.doc_model.specs.Meaning.{reply_to}
 use Rattle.doc_model.specs.declared.operations.Op.{Op}
 use Rattle.doc_model.specs.declared.operations.Reply.{Reply}
 use Rattle.doc_text.specs.Grammar.{Life}
-use Rattle.doc_text.specs.Lives.{op_of, store_at, IsLegalRead}
+use Rattle.doc_text.specs.Lives.{named_op, store_at, IsLegalRead}
 use Rattle.doc_text.specs.Report.{read_text, exchange_text, reply_text}
 use Rattle.doc_text.specs.declared.lives.JournalLine.{JournalLine}
 use Rattle.doc_text.specs.declared.lives.ReadLine.{ReadLine}
@@ -26,7 +26,7 @@ BeginsPower (b ∷ text) = b ≡ 112
 
 -- the parts of a line, with what follows it
 abbrev answer_text : Life → ReadLine → List ℕ
-answer_text life line = exchange_text (op_of life line.client line.command) (reply_text line.reply)
+answer_text life line = exchange_text (named_op life line.client line.command) (reply_text line.reply)
 
 read_text-append : (life : Life) (line : ReadLine) (x : List ℕ)
     → read_text life line ++ x
@@ -47,7 +47,7 @@ same_line a b client command place reply =
 -- the reply of a read is that of the store at its place
 has_reply : (lines place : ℕ) (store : Store) (life : Life) (journal : List JournalLine) (line : ReadLine)
     → IsLegalRead lines place store life journal line
-    → (op : Op) → op_of life line.client line.command ≡ Some op
+    → (op : Op) → named_op life line.client line.command ≡ Some op
     → line.reply ≡ reply_to lines (store_at lines store life journal (line.place - place)) op
 has_reply lines place store life journal line legal op is = rw is at legal.reply
 
@@ -55,9 +55,9 @@ same_reply : (lines place : ℕ) (store : Store) (life : Life) (journal : List J
     → IsLegalRead lines place store life journal a → IsLegalRead lines place store life journal b
     → a.client ≡ b.client → a.command ≡ b.command → a.place ≡ b.place → a.reply ≡ b.reply
 same_reply lines place store life journal a b legal other client command at =
-    let op = value_of (op_of life a.client a.command) legal.named.there in
-    let same : op_of life a.client a.command ≡ op_of life b.client b.command =
-    ap (λ n. op_of life n a.command) client ∙ ap (op_of life b.client) command in
+    let op = value_of (named_op life a.client a.command) legal.named.there in
+    let same : named_op life a.client a.command ≡ named_op life b.client b.command =
+    ap (λ n. named_op life n a.command) client ∙ ap (named_op life b.client) command in
     has_reply lines place store life journal a legal op.0 op.1
     ∙ ap (λ n. reply_to lines (store_at lines store life journal (n - place)) op.0) at
     ∙ sym (has_reply lines place store life journal b other op.0 (sym same ∙ op.1))

@@ -4,13 +4,13 @@ use Rattle.std.specs.Prelude.{All}
 use Rattle.std.proofs.lemmas.Bool.{and_parts, eqb-true, true≢false}
 use Rattle.std.proofs.lemmas.List.{length-append, nil_from_length}
 use Rattle.std.proofs.lemmas.List.Elements.{All-nil, All-cons, All-head, All-push}
-use Rattle.doc_text.specs.declared.grammar.Command.{Command}
-use Rattle.doc_text.specs.declared.grammar.Life.{Life}
-use Rattle.doc_text.specs.declared.grammar.Script.{Script}
-use Rattle.doc_text.specs.declared.grammar.ScriptLine.{ScriptLine}
-use Rattle.doc_text.specs.declared.grammar.ScriptLine.TheVariants.{Header, Start, Stop, Request}
+use Rattle.doc_text.specs.declared.script_parts.Command.{Command}
+use Rattle.doc_text.specs.declared.script_parts.Life.{Life}
+use Rattle.doc_text.specs.declared.script_parts.Script.{Script}
+use Rattle.doc_text.specs.declared.script_parts.ScriptLine.{ScriptLine}
+use Rattle.doc_text.specs.declared.script_parts.ScriptLine.TheVariants as forms
 use Rattle.doc_text.specs.Grammar.{Says, MayStand, is_built, command_count, last_life, with_last, with_command, with_said, Adds, AddsAll, no_script, text_lines, IsScript}
-use Rattle.doc_text.specs.Limits.{HaveOps, KeepsLimits}
+use Rattle.doc_text.specs.Limits.{AskWithinLimits, KeepsLimits}
 
 -- a life of one client
 record IsAlone (life : Life) : Type 0 where
@@ -30,8 +30,8 @@ headed : (script : Script) → IsWithin script → 0 < script.lines → (64 ≤ 
 headed script within some = elim within.lines [ inl none ↦ absurd (omega (arith, none.0, some)) | inr known ↦ known ]
 
 -- with a life begun
-start-within : (script : Script) (clients choice : ℕ) → IsWithin script → 0 < script.lines → choice < 2 ^ 64 → is_built script (Start clients choice) ≡ true
-    → IsWithin (with_said script (Start clients choice))
+start-within : (script : Script) (clients choice : ℕ) → IsWithin script → 0 < script.lines → choice < 2 ^ 64 → is_built script (forms.Life clients choice) ≡ true
+    → IsWithin (with_said script (forms.Life clients choice))
 start-within script clients choice within some fits built =
     let tests = and_parts (eqb clients 1) (eqb (length script.lives) 0) built in
     let begun : Life = record { clients = clients; choice = choice; cuts = []; commands = [] } in
@@ -73,11 +73,11 @@ command-within script command (life ∷ []) last same within some is below few =
 -- with one more line
 said-within : (script : Script) (line : List ℕ) (says : ScriptLine) → IsWithin script → Says says line → MayStand script says → is_built script says ≡ true
     → IsWithin (with_said script says)
-said-within script line (Header lines) within (spelled, least, most) stands built =
+said-within script line (forms.Lines lines) within (spelled, least, most) stands built =
     record { lines = inr (least, most); lives = within.lives; clients = within.clients; commands = within.commands }
-said-within script line (Start clients choice) within (spelled, least, most, fits) (some, few) built = start-within script clients choice within some fits built
-said-within script line (Stop cut) within says stands built = absurd (true≢false (sym built))
-said-within script line (Request command) within says (some, (life, last, below), few) built =
+said-within script line (forms.Life clients choice) within (spelled, least, most, fits) (some, few) built = start-within script clients choice within some fits built
+said-within script line (forms.Cut cut) within says stands built = absurd (true≢false (sym built))
+said-within script line (forms.Command command) within says (some, (life, last, below), few) built =
     command-within script command script.lives life refl within some last below few
 
 line-within : (script : Script) (line : List ℕ) (after : Script) → IsWithin script → Adds script line after → IsWithin after
@@ -89,7 +89,7 @@ lines-within : (lines : List (List ℕ)) (script after : Script) → IsWithin sc
 lines-within [] script after within adds = subst IsWithin (sym adds) within
 lines-within (line ∷ lines) script after within (between, one, more) = lines-within lines between after (line-within script line between within one) more
 
-pub limits-script : (text : List ℕ) (script : Script) → IsScript text script → HaveOps script → KeepsLimits script
+pub limits-script : (text : List ℕ) (script : Script) → IsScript text script → AskWithinLimits script → KeepsLimits script
 limits-script text script is ops =
     let within : IsWithin script = lines-within (text_lines text) no_script script (record {
       lines = inl (refl, refl);

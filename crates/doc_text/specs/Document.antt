@@ -3,8 +3,8 @@ use Rattle.std.specs.Prelude.{◌≡◌, ◌≤◌, ℕ, false, nat_le, List, le
 use Rattle.serde_json.specs.Data.{Data}
 use Rattle.serde_json.specs.Read.{read as read_json}
 use Rattle.serde_json.specs.Written.{has_float, compact_text}
-use Rattle.doc_text.specs.declared.grammar.Reason.{Reason}
-use Rattle.doc_text.specs.declared.grammar.Reason.TheVariants.{Json, Fraction, Long}
+use Rattle.doc_text.specs.declared.script_parts.Reason.{Reason}
+use Rattle.doc_text.specs.declared.script_parts.Reason.TheVariants.{Json, Fraction, Long}
 
 -- The text is JSON that is kept as this document: it is read as a value in which each number is an integer of 64 bits,
 -- and the document is the compact text of the value, 1,024 bytes at most.

@@ -8,12 +8,12 @@ use Rattle.doc_model.specs.Number.{is_i64}
 use Rattle.doc_model.specs.declared.operations.Op.{Op}
 use Rattle.doc_model.specs.declared.operations.Op.TheVariants.{Put, Del, Add, Get, Next, Count}
 use Rattle.doc_text.specs.Document.{IsJsonOf}
-use Rattle.doc_text.specs.declared.grammar.Command.{Command}
-use Rattle.doc_text.specs.declared.grammar.Cut.{Cut}
-pub use Rattle.doc_text.specs.declared.grammar.Life.{Life}
-pub use Rattle.doc_text.specs.declared.grammar.Script.{Script}
-use Rattle.doc_text.specs.declared.grammar.ScriptLine.{ScriptLine}
-use Rattle.doc_text.specs.declared.grammar.ScriptLine.TheVariants.{Header, Start, Stop, Request}
+use Rattle.doc_text.specs.declared.script_parts.Command.{Command}
+use Rattle.doc_text.specs.declared.script_parts.Cut.{Cut}
+pub use Rattle.doc_text.specs.declared.script_parts.Life.{Life}
+pub use Rattle.doc_text.specs.declared.script_parts.Script.{Script}
+use Rattle.doc_text.specs.declared.script_parts.ScriptLine.{ScriptLine}
+use Rattle.doc_text.specs.declared.script_parts.ScriptLine.TheVariants as forms
 
 -- a byte at the front of the first line
 abbrev pub onto : ℕ → List (List ℕ) → List (List ℕ)
@@ -60,11 +60,11 @@ Asks Count text = text ≡ command_text Count
 
 -- A line says this: `lines L`, `life N power C`, `cut K S`, or `K COMMAND`.
 abbrev pub Says : ScriptLine → List ℕ → Type 0
-Says (Header lines) line = (line ≡ codes "lines " ++ decimal lines) × (64 ≤ lines) × (lines ≤ 16384)
-Says (Start clients choice) line =
+Says (forms.Lines lines) line = (line ≡ codes "lines " ++ decimal lines) × (64 ≤ lines) × (lines ≤ 16384)
+Says (forms.Life clients choice) line =
     (line ≡ codes "life " ++ decimal clients ++ codes " power " ++ decimal choice) × (1 ≤ clients) × (clients ≤ 8) × (choice < 2 ^ 64)
-Says (Stop cut) line = (line ≡ codes "cut " ++ decimal cut.client ++ codes " " ++ decimal cut.steps) × (cut.client < 2 ^ 64) × (cut.steps < 2 ^ 64)
-Says (Request command) line =
+Says (forms.Cut cut) line = (line ≡ codes "cut " ++ decimal cut.client ++ codes " " ++ decimal cut.steps) × (cut.client < 2 ^ 64) × (cut.steps < 2 ^ 64)
+Says (forms.Command command) line =
     (text : List ℕ) × (line ≡ decimal command.client ++ codes " " ++ text) × (command.client < 2 ^ 64) × Asks command.op text
 
 -- the commands of all lives
@@ -84,12 +84,12 @@ has_cut client cuts = list_any (λ cut. cut.client == client) cuts
 -- Where a line may stand: the header first and once; then up to 1,000 lives; in a life the commands of its clients, up
 -- to 100,000 in all lives, and a cut line for each of its clients.
 abbrev pub MayStand : Script → ScriptLine → Type 0
-MayStand script (Header lines) = script.lines ≡ 0
-MayStand script (Start clients choice) = (0 < script.lines) × (length script.lives < 1000)
-MayStand script (Stop cut) =
+MayStand script (forms.Lines lines) = script.lines ≡ 0
+MayStand script (forms.Life clients choice) = (0 < script.lines) × (length script.lives < 1000)
+MayStand script (forms.Cut cut) =
     (0 < script.lines)
     × ((life : Life) × (last_life script.lives ≡ Some life) × (cut.client < life.clients) × (has_cut cut.client life.cuts ≡ false))
-MayStand script (Request command) =
+MayStand script (forms.Command command) =
     (0 < script.lines)
     × ((life : Life) × (last_life script.lives ≡ Some life) × (command.client < life.clients))
     × (command_count script.lives < 100000)
@@ -102,10 +102,10 @@ pub record IsAccepted (before : Script) (line : List ℕ) (says : ScriptLine) : 
 
 -- The forms that are read today: one life, of one client, and no cut line.
 abbrev pub is_built : Script → ScriptLine → Bool
-is_built script (Header lines) = true
-is_built script (Start clients choice) = (clients == 1) && (length script.lives == 0)
-is_built script (Stop cut) = false
-is_built script (Request command) = true
+is_built script (forms.Lines lines) = true
+is_built script (forms.Life clients choice) = (clients == 1) && (length script.lives == 0)
+is_built script (forms.Cut cut) = false
+is_built script (forms.Command command) = true
 
 -- the lives with a change to the last
 abbrev pub with_last : (Life → Life) → List Life → List Life
@@ -121,11 +121,11 @@ with_command command life = record life { commands = life.commands ++ command �
 
 -- the script with what one more line says
 abbrev pub with_said : Script → ScriptLine → Script
-with_said script (Header lines) = record script { lines = lines }
-with_said script (Start clients choice) =
+with_said script (forms.Lines lines) = record script { lines = lines }
+with_said script (forms.Life clients choice) =
     record script { lives = script.lives ++ record { clients = clients; choice = choice; cuts = []; commands = [] } ∷ [] }
-with_said script (Stop cut) = record script { lives = with_last (with_cut cut) script.lives }
-with_said script (Request command) = record script { lives = with_last (with_command command) script.lives }
+with_said script (forms.Cut cut) = record script { lives = with_last (with_cut cut) script.lives }
+with_said script (forms.Command command) = record script { lives = with_last (with_command command) script.lives }
 
 -- the script after one more line
 abbrev pub Adds : Script → List ℕ → Script → Type 0

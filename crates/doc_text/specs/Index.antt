@@ -4,8 +4,8 @@ use Rattle.std.specs.Global.{Vec}
 use Rattle.std.specs.Borrow.{Bor}
 use Rattle.doc_model.specs.declared.operations.Op.{Op}
 use Rattle.doc_text.specs.Lives.{own_ops}
-use Rattle.doc_text.specs.declared.grammar.Command.{Command}
-use Rattle.doc_text.specs.declared.grammar.Life.{Life}
+use Rattle.doc_text.specs.declared.script_parts.Command.{Command}
+use Rattle.doc_text.specs.declared.script_parts.Life.{Life}
 
 -- the lists are those of the operations of clients 0, 1 and so on among commands
 abbrev pub AreOwnOps : List Command → List (Vec (Bor Op)) → Type 0
@@ -13,6 +13,6 @@ AreOwnOps commands lists =
     (client : ℕ) (own : Vec (Bor Op)) → slice_get lists client ≡ Some own → map (λ op. op.now) own.items ≡ own_ops client commands
 
 -- there is such a list for each client of a life
-pub record IsIndex (life : Life) (lists : List (Vec (Bor Op))) : Type 0 where
+pub record IsLifeIndex (life : Life) (lists : List (Vec (Bor Op))) : Type 0 where
   pub clients : length lists ≡ life.clients
   pub ops : AreOwnOps life.commands lists

@@ -3,6 +3,7 @@ pub mod Grammar
 pub mod Index
 pub mod Limits
 pub mod Lives
+pub mod Measure
 pub mod Reading
 pub mod Reasons
 pub mod Refusal

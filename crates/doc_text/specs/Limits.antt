@@ -2,21 +2,21 @@
 use Rattle.std.specs.Prelude.{◌≡◌, ◌<◌, ◌≤◌, ◌^◌, length, All}
 use Rattle.doc_model.specs.Meaning.{IsOp}
 use Rattle.doc_text.specs.Grammar.{command_count}
-use Rattle.doc_text.specs.declared.grammar.Life.{Life}
-use Rattle.doc_text.specs.declared.grammar.Script.{Script}
-use Rattle.doc_text.specs.declared.grammar.ScriptLine.{ScriptLine}
-use Rattle.doc_text.specs.declared.grammar.ScriptLine.TheVariants.{Header, Start, Stop, Request}
+use Rattle.doc_text.specs.declared.script_parts.Life.{Life}
+use Rattle.doc_text.specs.declared.script_parts.Script.{Script}
+use Rattle.doc_text.specs.declared.script_parts.ScriptLine.{ScriptLine}
+use Rattle.doc_text.specs.declared.script_parts.ScriptLine.TheVariants as forms
 
 -- the operation asked for has a key and a document within the limits
-abbrev pub HasOp : ScriptLine → Type 0
-HasOp (Header lines) = Unit {0}
-HasOp (Start clients choice) = Unit {0}
-HasOp (Stop cut) = Unit {0}
-HasOp (Request command) = IsOp command.op
+abbrev pub AsksWithinLimits : ScriptLine → Type 0
+AsksWithinLimits (forms.Lines lines) = Unit {0}
+AsksWithinLimits (forms.Life clients choice) = Unit {0}
+AsksWithinLimits (forms.Cut cut) = Unit {0}
+AsksWithinLimits (forms.Command command) = IsOp command.op
 
 -- the same of all operations
-abbrev pub HaveOps : Script → Type 0
-HaveOps script = All (λ life. All (λ c. IsOp c.op) life.commands) script.lives
+abbrev pub AskWithinLimits : Script → Type 0
+AskWithinLimits script = All (λ life. All (λ c. IsOp c.op) life.commands) script.lives
 
 -- the life has one client, and each command is this client's, with a key and a document within the limits
 pub record IsOneClient (life : Life) : Type 0 where

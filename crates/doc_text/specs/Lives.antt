@@ -7,9 +7,9 @@ use Rattle.cx_base.specs.Store.{Store}
 use Rattle.doc_model.specs.Meaning.{reply_to, store_after, only_reads}
 use Rattle.doc_model.specs.declared.operations.Op.{Op}
 use Rattle.doc_model.specs.declared.operations.Reply.{Reply}
-use Rattle.doc_text.specs.declared.grammar.Command.{Command}
-use Rattle.doc_text.specs.declared.grammar.Life.{Life}
-use Rattle.doc_text.specs.declared.grammar.Script.{Script}
+use Rattle.doc_text.specs.declared.script_parts.Command.{Command}
+use Rattle.doc_text.specs.declared.script_parts.Life.{Life}
+use Rattle.doc_text.specs.declared.script_parts.Script.{Script}
 use Rattle.doc_text.specs.declared.lives.JournalLine.{JournalLine}
 use Rattle.doc_text.specs.declared.lives.ReadLine.{ReadLine}
 pub use Rattle.doc_text.specs.declared.lives.LifeRecord.{LifeRecord}
@@ -19,18 +19,18 @@ abbrev pub own_ops : ℕ → List Command → List Op
 own_ops client commands = map (λ c. c.op) (filter (λ c. c.client == client) commands)
 
 -- the operation of a client's command, counted from 1
-abbrev pub op_of : Life → ℕ → ℕ → Option Op
-op_of life client zero = None
-op_of life client (suc before) = slice_get (own_ops client life.commands) before
+abbrev pub named_op : Life → ℕ → ℕ → Option Op
+named_op life client zero = None
+named_op life client (suc before) = slice_get (own_ops client life.commands) before
 
 -- the life has this command of this client
 pub record Names (life : Life) (client command : ℕ) : Type 0 where
   pub takes_part : client < life.clients
-  pub there : IsSome (op_of life client command)
+  pub there : IsSome (named_op life client command)
 
 -- the operations of entries, in order
 abbrev pub ops_of : Life → List JournalLine → List Op
-ops_of life journal = filter_map (λ line. op_of life line.client line.command) journal
+ops_of life journal = filter_map (λ line. named_op life line.client line.command) journal
 
 -- the store after operations
 abbrev pub store_after_all : ℕ → Store → List Op → Store
@@ -86,10 +86,10 @@ HasReply lines store op reply = IfSome op (λ o. reply ≡ reply_to lines store 
 -- store after the entries below its place
 pub record IsLegalRead (lines place : ℕ) (store : Store) (life : Life) (journal : List JournalLine) (line : ReadLine) : Type 0 where
   pub named : Names life line.client line.command
-  pub reads : IfSome (op_of life line.client line.command) (λ op. only_reads op ≡ true)
+  pub reads : IfSome (named_op life line.client line.command) (λ op. only_reads op ≡ true)
   pub from : place ≤ line.place
   pub to : line.place ≤ place + length journal
-  pub reply : HasReply lines (store_at lines store life journal (line.place - place)) (op_of life line.client line.command) line.reply
+  pub reply : HasReply lines (store_at lines store life journal (line.place - place)) (named_op life line.client line.command) line.reply
 
 -- The history of a life that began at a place with a store, and the reads beside it.
 pub record IsLegal (lines place : ℕ) (store : Store) (life : Life) (journal : List JournalLine) (reads : List ReadLine) : Type 0 where
@@ -102,7 +102,7 @@ pub record IsLegal (lines place : ℕ) (store : Store) (life : Life) (journal : 
   pub once : (client command : ℕ) → Names life client command → count_to client command (answers_of journal reads) ≡ 1
   -- each reply is the one-thread store's at its place
   pub replies : (i : ℕ) (line : JournalLine) → slice_get journal i ≡ Some line →
-      IfSome line.reply (HasReply lines (store_at lines store life journal i) (op_of life line.client line.command))
+      IfSome line.reply (HasReply lines (store_at lines store life journal i) (named_op life line.client line.command))
   pub legal_reads : All (IsLegalRead lines place store life journal) reads
   -- no answer to a client lies below what the client was told before
   pub in_turn : (a b : Answer) → Contains (answers_of journal reads) a → Contains (answers_of journal reads) b →

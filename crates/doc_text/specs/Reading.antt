@@ -1,21 +1,21 @@
 -- How a script is read: what a line says or why it is refused, and what lines say one after the other.
 use Rattle.std.specs.Prelude.{ℕ, Bool, ◌&&◌, ◌==◌, nat_le, nat_lt, List, [], ◌∷◌, length, codes, Option, None, Some, is_some, option_and_then, Result, Ok, Err, if◌then◌else◌, ℤ}
-use Rattle.std.specs.Char.{is_ascii_graphic}
-use Rattle.std.specs.List.{list_all, position_or_len}
+use Rattle.std.specs.List.{position_or_len}
 use Rattle.std.specs.Option.{option_map, ok_or}
 use Rattle.std.specs.Result.{result_ok}
 use Rattle.std.specs.Str.{is_utf8}
 use Rattle.doc_model.specs.Number.{number_of, integer_of}
+use Rattle.doc_model.specs.WordParts.{is_key}
 use Rattle.doc_model.specs.declared.operations.Op.{Op}
 use Rattle.doc_model.specs.declared.operations.Op.TheVariants.{Put, Del, Add, Get, Next, Count}
 use Rattle.doc_text.specs.Document.{document_of}
 use Rattle.doc_text.specs.Grammar.{Life, Script, is_passed_over, command_count, last_life, has_cut, is_built, with_said}
 use Rattle.doc_text.specs.Words.{first_word, rest_of, is_word}
-use Rattle.doc_text.specs.declared.grammar.Cut.{Cut}
-use Rattle.doc_text.specs.declared.grammar.Reason.{Reason}
-use Rattle.doc_text.specs.declared.grammar.Reason.TheVariants as reasons
-use Rattle.doc_text.specs.declared.grammar.ScriptLine.{ScriptLine}
-use Rattle.doc_text.specs.declared.grammar.ScriptLine.TheVariants.{Header, Start, Stop, Request}
+use Rattle.doc_text.specs.declared.script_parts.Cut.{Cut}
+use Rattle.doc_text.specs.declared.script_parts.Reason.{Reason}
+use Rattle.doc_text.specs.declared.script_parts.Reason.TheVariants as reasons
+use Rattle.doc_text.specs.declared.script_parts.ScriptLine.{ScriptLine}
+use Rattle.doc_text.specs.declared.script_parts.ScriptLine.TheVariants as forms
 use Rattle.doc_text.specs.declared.line.Verb.{Verb}
 use Rattle.doc_text.specs.declared.line.Verb.TheVariants as verbs
 
@@ -34,10 +34,6 @@ is_byte byte b = b == byte
 -- whether there is a byte that passes
 abbrev pub has : (ℕ → Bool) → List ℕ → Bool
 has p bytes = nat_lt (position_or_len p bytes) (length bytes)
-
--- whether the bytes are a key
-unfoldable pub is_key : List ℕ → Bool
-is_key key = nat_lt 0 (length key) && nat_le (length key) 64 && list_all is_ascii_graphic key
 
 -- ---- commands
 
@@ -78,25 +74,25 @@ add_with key (Some text) =
     else (if is_key key then add_amount key (integer_of text) else Err reasons.Key)
 
 -- what a command asks for, by its verb and what stands behind it
-abbrev pub op_with : Option Verb → Option (List ℕ) → Result Op Reason
-op_with None words = Err reasons.Command
-op_with (Some verbs.Put) None = Err reasons.Command
-op_with (Some verbs.Put) (Some text) = put_with (first_word text) (rest_of text)
-op_with (Some verbs.Del) None = Err reasons.Command
-op_with (Some verbs.Del) (Some text) = then_ok Del (only_key text)
-op_with (Some verbs.Add) None = Err reasons.Command
-op_with (Some verbs.Add) (Some text) = add_with (first_word text) (rest_of text)
-op_with (Some verbs.Get) None = Err reasons.Command
-op_with (Some verbs.Get) (Some text) = then_ok Get (only_key text)
-op_with (Some verbs.Next) None = Ok (Next [])
-op_with (Some verbs.Next) (Some text) = then_ok Next (only_key text)
-op_with (Some verbs.Count) None = Ok Count
-op_with (Some verbs.Count) (Some text) = Err reasons.Command
+abbrev pub op_by_verb : Option Verb → Option (List ℕ) → Result Op Reason
+op_by_verb None words = Err reasons.Command
+op_by_verb (Some verbs.Put) None = Err reasons.Command
+op_by_verb (Some verbs.Put) (Some text) = put_with (first_word text) (rest_of text)
+op_by_verb (Some verbs.Del) None = Err reasons.Command
+op_by_verb (Some verbs.Del) (Some text) = then_ok Del (only_key text)
+op_by_verb (Some verbs.Add) None = Err reasons.Command
+op_by_verb (Some verbs.Add) (Some text) = add_with (first_word text) (rest_of text)
+op_by_verb (Some verbs.Get) None = Err reasons.Command
+op_by_verb (Some verbs.Get) (Some text) = then_ok Get (only_key text)
+op_by_verb (Some verbs.Next) None = Ok (Next [])
+op_by_verb (Some verbs.Next) (Some text) = then_ok Next (only_key text)
+op_by_verb (Some verbs.Count) None = Ok Count
+op_by_verb (Some verbs.Count) (Some text) = Err reasons.Command
 
 -- what is asked for by the words behind the client
-abbrev pub op_of : Option (List ℕ) → Result Op Reason
-op_of None = Err reasons.Command
-op_of (Some text) = op_with (verb_of (first_word text)) (rest_of text)
+abbrev pub asked_op : Option (List ℕ) → Result Op Reason
+asked_op None = Err reasons.Command
+asked_op (Some text) = op_by_verb (verb_of (first_word text)) (rest_of text)
 
 -- ---- the other lines
 
@@ -116,14 +112,14 @@ unfoldable pub choice_of : List ℕ → Option ℕ
 choice_of text = if is_word (codes "power") (first_word text) then option_and_then number_of (rest_of text) else None
 
 -- the life that begins, from the number of clients on
-unfoldable pub start_of : List ℕ → Option ScriptLine
-start_of text =
-    option_and_then (λ clients. option_map (λ choice. Start clients choice) (option_and_then choice_of (rest_of text)))
+unfoldable pub life_behind : List ℕ → Option ScriptLine
+life_behind text =
+    option_and_then (λ clients. option_map (λ choice. forms.Life clients choice) (option_and_then choice_of (rest_of text)))
     (option_and_then (within 1 8) (number_of (first_word text)))
 
 -- the life that begins with a line
 unfoldable pub life_of : List ℕ → Option ScriptLine
-life_of line = if is_word (codes "life") (first_word line) then option_and_then start_of (rest_of line) else None
+life_of line = if is_word (codes "life") (first_word line) then option_and_then life_behind (rest_of line) else None
 
 -- the client that a word names, of so many
 unfoldable pub client_of : ℕ → List ℕ → Option ℕ
@@ -139,16 +135,16 @@ cut_of life text =
 -- ---- lines
 
 -- what a client's line says, where so many commands stand before it
-abbrev pub request_of : ℕ → Option ℕ → Option (List ℕ) → Result ScriptLine Reason
-request_of count None text = Err reasons.Client
-request_of count (Some client) text =
-    if nat_lt count 100000 then then_ok (λ op. Request (record { client = client; op = op })) (op_of text) else Err reasons.Commands
+abbrev pub command_of : ℕ → Option ℕ → Option (List ℕ) → Result ScriptLine Reason
+command_of count None text = Err reasons.Client
+command_of count (Some client) text =
+    if nat_lt count 100000 then then_ok (λ op. forms.Command (record { client = client; op = op })) (asked_op text) else Err reasons.Commands
 
 -- what a line says that stands in a life and begins none, by its first word and the rest
 abbrev pub said_by : ℕ → Life → List ℕ → Option (List ℕ) → Result ScriptLine Reason
 said_by count life word rest =
-    if is_word (codes "cut") word then ok_or (option_map Stop (option_and_then (cut_of life) rest)) reasons.Cut
-    else request_of count (client_of life.clients word) rest
+    if is_word (codes "cut") word then ok_or (option_map forms.Cut (option_and_then (cut_of life) rest)) reasons.Cut
+    else command_of count (client_of life.clients word) rest
 
 abbrev pub said_in : ℕ → Option Life → List ℕ → Result ScriptLine Reason
 said_in count None line = Err reasons.Life
@@ -169,17 +165,17 @@ said_below lives line =
 unfoldable pub line_of : Script → List ℕ → Result ScriptLine Reason
 line_of before line =
     if is_utf8 line
-    then (if before.lines == 0 then ok_or (option_map Header (header_of line)) reasons.Header else said_below before.lives line)
+    then (if before.lines == 0 then ok_or (option_map forms.Lines (header_of line)) reasons.Header else said_below before.lives line)
     else Err reasons.Utf8
 
 -- the script with what was said, where its form is read
-abbrev pub with_read : Script → Result ScriptLine Reason → Result Script Reason
-with_read before (Ok says) = if is_built before says then Ok (with_said before says) else Err reasons.Form
-with_read before (Err reason) = Err reason
+abbrev pub with_parsed : Script → Result ScriptLine Reason → Result Script Reason
+with_parsed before (Ok says) = if is_built before says then Ok (with_said before says) else Err reasons.Form
+with_parsed before (Err reason) = Err reason
 
 -- the script after one more line, or why the line is refused
 unfoldable pub judged : Script → List ℕ → Result Script Reason
-judged before line = if is_passed_over line then Ok before else with_read before (line_of before line)
+judged before line = if is_passed_over line then Ok before else with_parsed before (line_of before line)
 
 -- the script after one more line
 abbrev pub with_line : Script → List ℕ → Option Script

@@ -1,7 +1,7 @@
 -- The reasons of refusal as words.
 use Rattle.std.specs.Prelude.{ℕ, List, codes}
-use Rattle.doc_text.specs.declared.grammar.Reason.{Reason}
-use Rattle.doc_text.specs.declared.grammar.Reason.TheVariants as reasons
+use Rattle.doc_text.specs.declared.script_parts.Reason.{Reason}
+use Rattle.doc_text.specs.declared.script_parts.Reason.TheVariants as reasons
 
 abbrev pub reason_text : Reason → List ℕ
 reason_text reasons.Utf8 = codes "utf8"

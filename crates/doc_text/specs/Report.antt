@@ -6,9 +6,9 @@ use Rattle.doc_model.specs.declared.operations.Op.{Op}
 use Rattle.doc_model.specs.declared.operations.Reply.{Reply}
 use Rattle.doc_model.specs.declared.operations.Reply.TheVariants.{New, Replaced, Deleted, Absent, Doc, Sum, NotNumber, Overflow, NoRoom, Key, Number}
 use Rattle.doc_text.specs.Grammar.{command_text}
-use Rattle.doc_text.specs.Lives.{op_of}
-use Rattle.doc_text.specs.declared.grammar.Life.{Life}
-use Rattle.doc_text.specs.declared.grammar.Script.{Script}
+use Rattle.doc_text.specs.Lives.{named_op}
+use Rattle.doc_text.specs.declared.script_parts.Life.{Life}
+use Rattle.doc_text.specs.declared.script_parts.Script.{Script}
 use Rattle.doc_text.specs.declared.lives.JournalLine.{JournalLine}
 use Rattle.doc_text.specs.declared.lives.ReadLine.{ReadLine}
 use Rattle.doc_text.specs.declared.lives.LifeRecord.{LifeRecord}
@@ -43,13 +43,13 @@ life_text number told =
 abbrev pub journal_text : Life → JournalLine → List ℕ
 journal_text life line =
     decimal line.ticket ++ codes " " ++ name_text line.client line.command ++ codes " "
-    ++ exchange_text (op_of life line.client line.command) (option_map_or reply_text line.reply (codes "unanswered"))
+    ++ exchange_text (named_op life line.client line.command) (option_map_or reply_text line.reply (codes "unanswered"))
 
 -- `read K.J at P COMMAND = REPLY`
 abbrev pub read_text : Life → ReadLine → List ℕ
 read_text life line =
     codes "read " ++ name_text line.client line.command ++ codes " at " ++ decimal line.place ++ codes " "
-    ++ exchange_text (op_of life line.client line.command) (reply_text line.reply)
+    ++ exchange_text (named_op life line.client line.command) (reply_text line.reply)
 
 -- `power C kept E of F documents D`
 abbrev pub power_text : LifeRecord → List ℕ

@@ -1,18 +1,16 @@
 //! Documents: JSON, kept as its compact text.
 
-ghost use Rattle.std.specs.Prelude.{◌≡◌, IfOk, IsUtf8};
+ghost use Rattle.std.specs.Prelude.{◌≡◌, Err, IfOk, IfSome, IsUtf8};
 ghost use Rattle.serde_json.specs.Written.{has_float, items_have_float, members_have_float};
 ghost use Rattle.serde_json.specs.View.{view, items_view, members_view};
 ghost use Rattle.cx_base.specs.Store.{IsDocument};
 ghost use Rattle.doc_text.specs.Document.{document_of};
 
-use crate::grammar::Reason;
+use crate::measure::{MAX_DOCUMENT, refusal_unbuilt};
+use crate::script_parts::Reason;
 use cx_base::Bytes;
 use serde_json::{Map, Value};
 use std::alloc::{AllocError, Global};
-
-/// The most bytes of a document.
-const MAX_DOCUMENT: usize = 1024;
 
 /// The document that a JSON text is kept as, or why it is none. `Err` is want of memory.
 pub(crate) fn read_document(alloc: Global, json: &[u8]) -> Result<Result<Bytes, Reason>, AllocError>
@@ -20,6 +18,9 @@ pub(crate) fn read_document(alloc: Global, json: &[u8]) -> Result<Result<Bytes, 
     ensures value { IfOk result (λ read. read ≡ document_of json.now) }
     ensures limits { IfOk result (λ read. IfOk read IsDocument) }
 {
+    if let Some(reason) = long_refusal(alloc, json)? {
+        return Ok(Err(reason));
+    }
     let value = match Value::from_slice(alloc, json) {
         Ok(value) => value,
         Err(error) => {
@@ -38,6 +39,20 @@ pub(crate) fn read_document(alloc: Global, json: &[u8]) -> Result<Result<Bytes, 
         return Ok(Err(Reason::Long));
     }
     Ok(Ok(Bytes::of_vec(text.into_bytes())))
+}
+
+/// Why a text that is longer than a document is none, where that is known without its value being built: such a text may
+/// be all of an input, and a value takes many times the memory of its text. `Err` is want of memory.
+fn long_refusal(alloc: Global, json: &[u8]) -> Result<Option<Reason>, AllocError>
+    ensures { IfOk result (λ found. IfSome found (λ reason. document_of json.now ≡ Err reason)) }
+{
+    if json.len() <= MAX_DOCUMENT {
+        return Ok(None);
+    }
+    match simdutf8::basic::from_utf8(json) {
+        Ok(text) => refusal_unbuilt(alloc, text),
+        Err(_) => Ok(None),
+    }
 }
 
 /// Whether some number of the value is no 64-bit integer.
@@ -76,3 +91,6 @@ fn members_have_float(members: &Map<String, Value>) -> bool
     }
     false
 }
+
+#[cfg(test)]
+mod tests;

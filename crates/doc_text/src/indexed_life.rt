@@ -2,9 +2,9 @@
 
 ghost use Rattle.std.specs.Prelude.{◌≡◌, ◌<◌, IfOk, length, All, []};
 ghost use Rattle.std.specs.Option.{option_copied};
-ghost use Rattle.doc_text.specs.Lives.{op_of};
+ghost use Rattle.doc_text.specs.Lives.{named_op};
 
-use crate::grammar::Life;
+use crate::script_parts::Life;
 use doc_model::Op;
 use std::alloc::{AllocError, Global};
 use std::marker::Model;
@@ -19,14 +19,14 @@ pub struct IndexedLife<'a> {
 
 impl<'a> Model for IndexedLife<'a> {
     ghost use Rattle.std.specs.Prelude.{◌≡◌, length};
-    ghost use Rattle.doc_text.specs.declared.grammar.Life.{Life};
-    ghost use Rattle.doc_text.specs.Index.{IsIndex};
+    ghost use Rattle.doc_text.specs.declared.script_parts.Life.{Life};
+    ghost use Rattle.doc_text.specs.Index.{IsLifeIndex};
 
     ghost Value = { Life };
 
     ghost view = { λ s. s.life.now };
 
-    ghost invariant = { λ s. IsIndex s.life.now s.by_client.items };
+    ghost invariant = { λ s. IsLifeIndex s.life.now s.by_client.items };
 }
 
 impl<'a> IndexedLife<'a> {
@@ -46,7 +46,7 @@ impl<'a> IndexedLife<'a> {
     /// The operation of a client's command, counted from 1, if there is one.
     pub fn op(&self, client: u32, command: u64) -> Option<&Op>
         requires { client < self.now.clients }
-        ensures { option_copied result ≡ op_of self.now client command }
+        ensures { option_copied result ≡ named_op self.now client command }
     {
         let before = command.checked_sub(1)?;
         self.by_client[client as usize]

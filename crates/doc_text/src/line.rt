@@ -1,21 +1,19 @@
 //! What one line of a script says, or why it is refused.
 
-ghost use Rattle.std.specs.Prelude.{◌≡◌, IfOk, IfSome, IsTrue, IsUtf8};
-ghost use Rattle.std.specs.Char.{is_ascii_graphic};
-ghost use Rattle.std.specs.List.{list_all};
+ghost use Rattle.std.specs.Prelude.{◌≡◌, IfOk, IfSome, IsUtf8};
 ghost use Rattle.std.specs.Option.{option_copied};
 ghost use Rattle.cx_base.specs.Store.{IsKey};
 ghost use Rattle.doc_model.specs.Meaning.{IsOp};
 ghost use Rattle.doc_text.specs.Grammar.{has_cut};
-ghost use Rattle.doc_text.specs.Limits.{HasOp};
+ghost use Rattle.doc_text.specs.Limits.{AsksWithinLimits};
 ghost use Rattle.doc_text.specs.Words.{first_word, rest_of};
-ghost use Rattle.doc_text.specs.Reading.{is_key, verb_of, then_ok, only_key, put_with, add_with, op_with, op_of, within, header_of, choice_of, start_of, life_of, client_of, cut_of};
+ghost use Rattle.doc_text.specs.Reading.{verb_of, then_ok, only_key, put_with, add_with, op_by_verb, asked_op, within, header_of, choice_of, life_behind, life_of, client_of, cut_of};
 
 use crate::document::read_document;
-use crate::grammar::{Cut, Life, Reason, ScriptLine};
+use crate::script_parts::{Cut, Life, Reason, ScriptLine};
 use crate::words::{is_one_word, is_word, split_word};
 use cx_base::Bytes;
-use doc_model::{Op, integer_of, number_of};
+use doc_model::{Op, integer_of, is_key, number_of};
 use std::alloc::{AllocError, Global};
 
 /// The fewest and the most lines that a store may have.
@@ -25,9 +23,6 @@ const MAX_LINES: u64 = 16_384;
 
 /// The most clients of a life.
 const MAX_CLIENTS: u64 = 8;
-
-/// The most bytes of a key.
-const MAX_KEY: usize = 64;
 
 /// What a command does.
 #[derive(Clone, Copy, Debug, PartialEq, Eq)]
@@ -43,7 +38,7 @@ pub(crate) enum Verb {
 /// The operation that the words behind a client ask for, or why they ask for none. `Err` is want of memory.
 pub(crate) fn read_op(alloc: Global, text: Option<&[u8]>) -> Result<Result<Op, Reason>, AllocError>
     requires { IfSome text (λ t. IsUtf8 t.now) }
-    ensures value { IfOk result (λ read. read ≡ op_of (option_copied text.entry)) }
+    ensures value { IfOk result (λ read. read ≡ asked_op (option_copied text.entry)) }
     ensures limits { IfOk result (λ read. IfOk read IsOp) }
 {
     let Some(text) = text else {
@@ -60,7 +55,7 @@ fn read_words(
     words: Option<&[u8]>,
 ) -> Result<Result<Op, Reason>, AllocError>
     requires { IfSome words (λ t. IsUtf8 t.now) }
-    ensures value { IfOk result (λ read. read ≡ op_with verb (option_copied words.entry)) }
+    ensures value { IfOk result (λ read. read ≡ op_by_verb verb (option_copied words.entry)) }
     ensures limits { IfOk result (λ read. IfOk read IsOp) }
 {
     match (verb, words) {
@@ -184,21 +179,6 @@ fn read_verb(word: &[u8]) -> Option<Verb>
     }
 }
 
-/// Whether the bytes are a key: 1 to 64 visible ASCII characters.
-#[tactic(auto, unfolding(crate::specs::Reading::is_key))]
-fn is_key(key: &[u8]) -> bool
-    ensures value { result ≡ is_key key.now }
-    ensures limits { IsTrue result → IsKey key.now }
-{
-    !key.is_empty() && key.len() <= MAX_KEY && are_visible(key)
-}
-
-fn are_visible(bytes: &[u8]) -> bool
-    ensures { result ≡ list_all is_ascii_graphic bytes.now }
-{
-    bytes.iter().all(|b| b.is_ascii_graphic())
-}
-
 /// The number of lines that a header gives.
 #[tactic(auto, unfolding(crate::specs::Reading::header_of))]
 pub(crate) fn read_header(line: &[u8]) -> Option<u64>
@@ -226,25 +206,25 @@ fn within(least: u64, most: u64, number: u64) -> Option<u64>
 #[tactic(auto, unfolding(crate::specs::Reading::life_of))]
 pub(crate) fn read_life(line: &[u8]) -> Option<ScriptLine>
     ensures value { result ≡ life_of line.now }
-    ensures limits { IfSome result HasOp }
+    ensures limits { IfSome result AsksWithinLimits }
 {
     let (word, text) = split_word(line);
     if !is_word(b"life", word) {
         return None;
     }
-    read_start(text?)
+    read_life_behind(text?)
 }
 
 /// The same, from the number of clients on.
-#[tactic(auto, unfolding(crate::specs::Reading::start_of))]
-fn read_start(text: &[u8]) -> Option<ScriptLine>
-    ensures value { result ≡ start_of text.now }
-    ensures limits { IfSome result HasOp }
+#[tactic(auto, unfolding(crate::specs::Reading::life_behind))]
+fn read_life_behind(text: &[u8]) -> Option<ScriptLine>
+    ensures value { result ≡ life_behind text.now }
+    ensures limits { IfSome result AsksWithinLimits }
 {
     let (clients, text) = split_word(text);
     let clients = within(1, MAX_CLIENTS, number_of(clients)?)?;
     let choice = read_choice(text?)?;
-    Some(ScriptLine::Start {
+    Some(ScriptLine::Life {
         clients: clients as u32,
         choice,
     })

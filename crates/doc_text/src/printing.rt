@@ -7,9 +7,9 @@ ghost use Rattle.doc_text.specs.Grammar.{command_text};
 ghost use Rattle.doc_text.specs.Lives.{NameCommands, NamesCommands, Names};
 ghost use Rattle.doc_text.specs.Report.{report_of, record_text, life_text, journal_text, read_text, power_text, name_text, exchange_text, reply_text};
 
-use crate::grammar::Script;
 use crate::indexed_life::IndexedLife;
 use crate::lives::{JournalLine, LifeRecord, ReadLine};
+use crate::script_parts::Script;
 use doc_model::{Op, Reply};
 use itoa::Buffer;
 use std::alloc::{AllocError, Global};

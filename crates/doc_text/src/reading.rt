@@ -4,12 +4,12 @@ ghost use Rattle.std.specs.Prelude.{◌≡◌, ◌<◌, ◌∷◌, None, Some, O
 ghost use Rattle.std.specs.Option.{option_copied};
 ghost use Rattle.std.specs.Str.{is_utf8};
 ghost use Rattle.doc_text.specs.Grammar.{Script, IsScript, text_lines, is_built, with_said, no_script};
-ghost use Rattle.doc_text.specs.Limits.{HasOp, HaveOps, KeepsLimits};
+ghost use Rattle.doc_text.specs.Limits.{AsksWithinLimits, AskWithinLimits, KeepsLimits};
 ghost use Rattle.doc_text.specs.Reading.{without_return, said_by, cut_of, line_of, judged, with_lines, outcome};
 ghost use Rattle.doc_text.specs.Refusal.{IsFault, IsOkOr};
 
-use crate::grammar::{Command, Cut, Life, Reason, Script, ScriptLine, TextFault};
 use crate::line::{read_client, read_cut, read_header, read_life, read_op};
+use crate::script_parts::{Command, Cut, Life, Reason, Script, ScriptLine, TextFault};
 use crate::words::{cut_at, is_word, split_word};
 use cx_base::Items;
 use std::alloc::{AllocError, Global};
@@ -35,7 +35,7 @@ pub fn read_script(alloc: Global, bytes: &[u8]) -> Result<Script, TextFault>
 /// Adds line after line to the script of no lines.
 fn read_lines(alloc: Global, bytes: &[u8]) -> Result<Draft, TextFault>
     ensures script { IfOk result (λ draft. with_lines no_script (text_lines bytes.now) ≡ Some draft) }
-    ensures limits { IfOk result HaveOps }
+    ensures limits { IfOk result AskWithinLimits }
     ensures refused { IfErr result (IsFault bytes.now) }
 {
     let mut draft = Draft {
@@ -98,7 +98,7 @@ impl Draft {
     #[tactic(auto, unfolding(crate::specs::Reading::judged))]
     fn add_line(&mut self, alloc: Global, line: &[u8]) -> Result<Option<Reason>, AllocError>
         ensures value { IfOk result (λ refused. judged self.old line.now ≡ outcome refused self.new) }
-        ensures limits { OnOk result (HaveOps self.old → HaveOps self.new) }
+        ensures limits { OnOk result (AskWithinLimits self.old → AskWithinLimits self.new) }
     {
         if matches!(line, [] | [b'#', ..]) {
             return Ok(None);
@@ -122,14 +122,14 @@ impl Draft {
         line: &[u8],
     ) -> Result<Result<ScriptLine, Reason>, AllocError>
         ensures value { IfOk result (λ read. read ≡ line_of self.now line.now) }
-        ensures limits { IfOk result (λ read. IfOk read HasOp) }
+        ensures limits { IfOk result (λ read. IfOk read AsksWithinLimits) }
     {
         if !is_text(line) {
             return Ok(Err(Reason::Utf8));
         }
         if self.lines == 0 {
             return Ok(match read_header(line) {
-                Some(lines) => Ok(ScriptLine::Header(lines)),
+                Some(lines) => Ok(ScriptLine::Lines(lines)),
                 None => Err(Reason::Header),
             });
         }
@@ -151,9 +151,9 @@ impl Draft {
         ensures { result ≡ is_built self.now says.now }
     {
         match says {
-            ScriptLine::Header(_) | ScriptLine::Request(_) => true,
-            ScriptLine::Start { clients, .. } => *clients == 1 && self.life.is_none(),
-            ScriptLine::Stop(_) => false,
+            ScriptLine::Lines(_) | ScriptLine::Command(_) => true,
+            ScriptLine::Life { clients, .. } => *clients == 1 && self.life.is_none(),
+            ScriptLine::Cut(_) => false,
         }
     }
 
@@ -161,11 +161,11 @@ impl Draft {
     fn add(&mut self, alloc: Global, says: ScriptLine) -> Result<(), AllocError>
         requires { is_built self.old says ≡ true }
         ensures value { OnOk result (self.new ≡ with_said self.old says) }
-        ensures limits { OnOk result (HasOp says → HaveOps self.old → HaveOps self.new) }
+        ensures limits { OnOk result (AsksWithinLimits says → AskWithinLimits self.old → AskWithinLimits self.new) }
     {
         match says {
-            ScriptLine::Header(lines) => self.lines = lines,
-            ScriptLine::Start { clients, choice } => {
+            ScriptLine::Lines(lines) => self.lines = lines,
+            ScriptLine::Life { clients, choice } => {
                 self.life = Some(Life {
                     clients,
                     choice,
@@ -173,8 +173,8 @@ impl Draft {
                     commands: Items::new(alloc),
                 });
             }
-            ScriptLine::Stop(_) => {}
-            ScriptLine::Request(command) => {
+            ScriptLine::Cut(_) => {}
+            ScriptLine::Command(command) => {
                 if let Some(life) = self.life.as_mut() {
                     life.commands.push(command)?;
                 }
@@ -205,12 +205,12 @@ fn read_in(
     rest: Option<&[u8]>,
 ) -> Result<Result<ScriptLine, Reason>, AllocError>
     requires { IfSome rest (λ text. IsUtf8 text.now) }
-    ensures limits { IfOk result (λ read. IfOk read HasOp) }
+    ensures limits { IfOk result (λ read. IfOk read AsksWithinLimits) }
     ensures value { IfOk result (λ read. read ≡ said_by (length life.now.commands) life.now word.now (option_copied rest.entry)) }
 {
     if is_word(b"cut", word) {
-        return Ok(match read_stop(life, rest) {
-            Some(cut) => Ok(ScriptLine::Stop(cut)),
+        return Ok(match read_cut_behind(life, rest) {
+            Some(cut) => Ok(ScriptLine::Cut(cut)),
             None => Err(Reason::Cut),
         });
     }
@@ -221,13 +221,13 @@ fn read_in(
         return Ok(Err(Reason::Commands));
     }
     Ok(match read_op(alloc, rest)? {
-        Ok(op) => Ok(ScriptLine::Request(Command { client, op })),
+        Ok(op) => Ok(ScriptLine::Command(Command { client, op })),
         Err(reason) => Err(reason),
     })
 }
 
 /// The cut that stands behind the word `cut`.
-fn read_stop(life: &Life, rest: Option<&[u8]>) -> Option<Cut>
+fn read_cut_behind(life: &Life, rest: Option<&[u8]>) -> Option<Cut>
     ensures { result ≡ option_and_then (cut_of life.now) (option_copied rest.entry) }
 {
     match rest {

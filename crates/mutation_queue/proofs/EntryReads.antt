@@ -3,11 +3,10 @@ use Rattle.std.proofs.Common.{◌≡◌, ◌+◌, ◌/◌, ◌<◌, ℕ, zero, s
 use Rattle.std.proofs.lemmas.List.{append_assoc, length-append}
 use Rattle.cx_core.specs.declared.kinds.Kind.TheVariants.{ReadCell}
 use Rattle.cx_core.specs.declared.local.Local.{Local}
-use Rattle.cx_core.specs.Events.{one_more}
+use Rattle.cx_core.specs.State.{Instance, one_more}
 use Rattle.cx_core.specs.Layout.{max_word}
 use borrow.Author.Count.{below_more}
-use Rattle.cx_core.specs.State.{Instance}
-use Rattle.cx_table.specs.declared.rule.Noted.{Noted}
+use Rattle.cx_rule.specs.declared.rule.Noted.{Noted}
 use Rattle.cx_table.specs.Seats.{IsAtLimit, Seated, stepped}
 use Rattle.mutation_queue.specs.Entries.{EndsAfter, HaltsAmong, HaltsReading, Looked, ReadsEntry, notes_of, steps_after, with_look, with_read}
 
@@ -90,15 +89,15 @@ none_ends caller ticket ws i s now is at before here =
 -- ---- the entry
 
 -- a limit that is come to later by one step than from the seat after the look
-later : (s looked : Seated) (n : ℕ) → looked ≡ with_look looked.known.local.seen_slot s → EndsAfter (suc n) s.known.local → EndsAfter n looked.known.local
-later s looked n is e =
+ends_after_look : (s looked : Seated) (n : ℕ) → looked ≡ with_look looked.known.local.seen_slot s → EndsAfter (suc n) s.known.local → EndsAfter n looked.known.local
+ends_after_look s looked n is e =
     let steps : looked.known.local.steps ≡ one_more s.known.local.steps = ap (λ (x : Seated). x.known.local.steps) is in
     let limit : looked.known.local.limit ≡ s.known.local.limit = ap (λ (x : Seated). x.known.local.limit) is in
     let few = e.1 in
     let sum = e.0 in (omega (arith, steps, limit), omega (arith, limit))
 
-sooner : (s looked : Seated) (n : ℕ) → looked ≡ with_look looked.known.local.seen_slot s → EndsAfter n looked.known.local → EndsAfter (suc n) s.known.local
-sooner s looked n is e =
+ends_before_look : (s looked : Seated) (n : ℕ) → looked ≡ with_look looked.known.local.seen_slot s → EndsAfter n looked.known.local → EndsAfter (suc n) s.known.local
+ends_before_look s looked n is e =
     let steps : looked.known.local.steps ≡ one_more s.known.local.steps = ap (λ (x : Seated). x.known.local.steps) is in
     let limit : looked.known.local.limit ≡ s.known.local.limit = ap (λ (x : Seated). x.known.local.limit) is in
     let few = e.1 in
@@ -106,19 +105,19 @@ sooner s looked n is e =
 
 within_all : (s looked : Seated) → looked ≡ with_look looked.known.local.seen_slot s → (IsAtLimit s.known.local → ⊥) → ((n : ℕ) → n < 145 → EndsAfter n looked.known.local → ⊥) → (n : ℕ) → n < 146 → EndsAfter n s.known.local → ⊥
 within_all s looked is first rest zero below e = first (at_end zero s.known.local e)
-within_all s looked is first rest (suc n) below e = rest n (omega arith) (later s looked n is e)
+within_all s looked is first rest (suc n) below e = rest n (omega arith) (ends_after_look s looked n is e)
 
 -- what was read stands behind the look
-behind : (caller ticket : ℕ) (words : List ℕ) (s looked after : Seated) → looked ≡ with_look looked.known.local.seen_slot s → after ≡ with_read caller ticket words looked →
+read_after_look : (caller ticket : ℕ) (words : List ℕ) (s looked after : Seated) → looked ≡ with_look looked.known.local.seen_slot s → after ≡ with_read caller ticket words looked →
     after ≡ with_read caller ticket words (with_look after.known.local.seen_slot s)
-behind caller ticket words s looked after look is =
+read_after_look caller ticket words s looked after look is =
     let seen : after.known.local.seen_slot ≡ looked.known.local.seen_slot = ap (λ (x : Seated). x.known.local.seen_slot) is in
     is ∙ ap (with_read caller ticket words) (look ∙ ap (λ x. with_look x s) (sym seen))
 
 pub reads_entry : (callers caller ticket cell : ℕ) (words : List ℕ) (s looked after : Seated) → Looked callers ticket cell s looked → after ≡ with_read caller ticket words looked → length words ≡ 145 →
     (IsAtLimit s.known.local → ⊥) → ((n : ℕ) → n < 145 → EndsAfter n looked.known.local → ⊥) → ReadsEntry caller ticket words s after
 reads_entry callers caller ticket cell words s looked after l is long first rest = record {
-  seat = behind caller ticket words s looked after l.seat is;
+  seat = read_after_look caller ticket words s looked after l.seat is;
   long = long;
   within = within_all s looked l.seat first rest;
 }
@@ -128,6 +127,6 @@ halts_reading callers caller ticket cell s looked after l h =
     let fewer = h.fewer in record {
       made = suc (length h.words);
       fewer = omega arith;
-      limit = sooner s looked (length h.words) l.seat h.limit;
-      seat = inr (caller, h.words, behind caller ticket h.words s looked after l.seat h.seat);
+      limit = ends_before_look s looked (length h.words) l.seat h.limit;
+      seat = inr (caller, h.words, read_after_look caller ticket h.words s looked after l.seat h.seat);
     }

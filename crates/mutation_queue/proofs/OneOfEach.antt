@@ -3,7 +3,7 @@ use Rattle.std.proofs.Common.{◌≡◌, ◌≢◌, ◌+◌, ◌<◌, ◌⊎◌,
 use Rattle.cx_core.specs.declared.entry.Entry.{Entry}
 use Rattle.cx_core.specs.declared.local.Linked.{Linked}
 use Rattle.cx_core.specs.Merge.{own_of}
-use Rattle.cx_table.proofs.Merged.{own_mine, own_other}
+use Rattle.cx_core.proofs.MergeLemmas.{own_mine, own_other}
 use Rattle.mutation_queue.specs.Tests.{InOrder, OneOfEach}
 
 -- each entry is one of these two callers'

@@ -8,13 +8,14 @@ use Rattle.cx_base.specs.Codes.{link_ticket_of, root_place_of}
 use Rattle.cx_core.specs.declared.entry.Base.{Base}
 use Rattle.cx_core.specs.declared.kinds.Kind.TheVariants.{Link, Look}
 use Rattle.cx_core.specs.declared.local.Local.{Local}
-use Rattle.cx_core.specs.Events.{Guard, IsIdle, cell_of, entry_in, linked, lost, next, next_number, raised_front, seen_word}
+use Rattle.cx_core.specs.Events.{Guard}
+use Rattle.cx_core.specs.QueueEvents.{IsIdle, cell_of, entry_in, linked, lost, next_number, raised_front, seen_word}
 use Rattle.cx_core.specs.Layout.{cell_count}
 use Rattle.cx_core.specs.State.{Instance}
-use Rattle.cx_table.specs.declared.rule.Noted.{Noted}
+use Rattle.cx_rule.specs.declared.rule.Noted.{Noted}
 use Rattle.cx_core.specs.Region.{slot_number}
 use Rattle.cx_table.specs.Running.{IsSeatOf, Running}
-use Rattle.cx_table.specs.Seats.{Seated, stepped}
+use Rattle.cx_table.specs.Seats.{Seated, shown_next, stepped, unseen}
 use Rattle.cx_table.specs.Told.{LinkTold, LookTold}
 use Rattle.mutation_queue.specs.Links.{LinksAt, LinksNone, LinksPast, but_linked}
 
@@ -74,7 +75,7 @@ module _ (instance : Instance) (l : Local) (found : ℕ) (some : 1 ≤ instance.
 
     -- the entry may be tried then
     pub may_link : (cell : ℕ) → cell < 16 → IsIdle l cell → slice_index (cell_of l cell).words 0 ≡ next_number instance.base l → l.front < 2 ^ 40 → length l.answered ≡ length l.own →
-        Guard instance (Link cell) (next instance (Look (l.front % cell_count instance.callers)) l found)
+        Guard instance unseen (Link cell) (shown_next instance (Look (l.front % cell_count instance.callers)) l found)
     may_link cell small idle announced below answered =
         let here = front_stays in
         let shows = λ (f : ℕ). ((l.front % cell_count instance.callers ≡ f % cell_count instance.callers) × ((found ≡ 0) ⊎ ((0 < found) × (link_ticket_of instance.callers found + cell_count instance.callers ≡ f)))) in
@@ -82,7 +83,7 @@ module _ (instance : Instance) (l : Local) (found : ℕ) (some : 1 ≤ instance.
         (small, idle, announced, omega arith, subst shows (sym here) now, answered)
 
     -- a link that was lost found a ticket from the front on
-    pub past_front : (found2 : ℕ) → LinkTold instance (next instance (Look (l.front % cell_count instance.callers)) l found) found2 → found2 ≢ found → (0 < found2) × (l.front ≤ link_ticket_of instance.callers found2)
+    pub past_front : (found2 : ℕ) → LinkTold instance (shown_next instance (Look (l.front % cell_count instance.callers)) l found) found2 → found2 ≢ found → (0 < found2) × (l.front ≤ link_ticket_of instance.callers found2)
     past_front found2 lost ne =
         let t = link_ticket_of instance.callers found2 in
         let some2 : 0 < found2 = elim opens [
@@ -113,10 +114,10 @@ taken instance s found cur used from =
     }
 
 -- what a link makes of the local state
-link_lost : (instance : Instance) (l : Local) (j found : ℕ) → found ≢ seen_word l.seen_slot → next instance (Link j) l found ≡ lost instance.callers l found
+link_lost : (instance : Instance) (l : Local) (j found : ℕ) → found ≢ seen_word l.seen_slot → shown_next instance (Link j) l found ≡ lost instance.callers l found
 link_lost instance l j found ne = ap (λ b. cond b (linked l j) (lost instance.callers l found)) (ne_eqb found (seen_word l.seen_slot) ne)
 
-link_won : (instance : Instance) (l : Local) (j found : ℕ) → found ≡ seen_word l.seen_slot → next instance (Link j) l found ≡ linked l j
+link_won : (instance : Instance) (l : Local) (j found : ℕ) → found ≡ seen_word l.seen_slot → shown_next instance (Link j) l found ≡ linked l j
 link_won instance l j found e = ap (λ b. cond b (linked l j) (lost instance.callers l found)) (eq-eqb found (seen_word l.seen_slot) e)
 
 -- a seat with another local state and other notes

@@ -2,7 +2,7 @@
 use Rattle.std.proofs.Common.{◌≡◌, ◌+◌, ℕ, List, [], ◌∷◌, ◌++◌, length, slice_index, slice_range, take_all, sym, ap, ◌∙◌, arith}
 use Rattle.cx_core.specs.declared.local.Cell.{Cell}
 use Rattle.cx_core.specs.declared.local.Linked.{Linked}
-use Rattle.cx_core.specs.Events.{cell_of, entry_in, next_number}
+use Rattle.cx_core.specs.QueueEvents.{cell_of, entry_in, next_number}
 use Rattle.cx_core.specs.Region.{slot_number}
 use Rattle.cx_core.specs.State.{Instance}
 use Rattle.cx_table.specs.Running.{IsSeatOf, Running}

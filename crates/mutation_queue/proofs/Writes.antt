@@ -5,12 +5,12 @@ use Rattle.std.proofs.lemmas.Option.{slice_get-get_or}
 use Rattle.cx_core.specs.declared.kinds.Kind.TheVariants.{WriteCell}
 use Rattle.cx_core.specs.declared.local.Cell.{Cell}
 use Rattle.cx_core.specs.declared.local.Local.{Local}
-use Rattle.cx_core.specs.Events.{IsIdle, IsIdleAt, cell_of, next_number, one_more, written}
+use Rattle.cx_core.specs.QueueEvents.{IsIdle, IsIdleAt, cell_of, next_number, written}
+use Rattle.cx_core.specs.State.{Instance, one_more}
 use borrow.Author.Count.{below_more}
 use Rattle.cx_table.specs.Running.{IsSeatOf, Running}
 use Rattle.cx_core.specs.Layout.{max_word}
-use Rattle.cx_core.specs.State.{Instance}
-use Rattle.cx_table.specs.declared.rule.Noted.{Noted}
+use Rattle.cx_rule.specs.declared.rule.Noted.{Noted}
 use Rattle.cx_table.specs.Seats.{HasCells, IsAtLimit, Seated, stepped}
 use Rattle.mutation_queue.specs.Cells.{Announces, HaltsIn, IsAnnounced, written_to}
 

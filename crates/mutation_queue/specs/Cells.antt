@@ -3,7 +3,7 @@ use Rattle.std.specs.Prelude.{◌≡◌, ◌≢◌, ◌+◌, ◌<◌, ◌≤◌,
 use Rattle.cx_core.specs.declared.entry.Base.{Base}
 use Rattle.cx_core.specs.declared.kinds.Kind.TheVariants.{WriteCell}
 use Rattle.cx_core.specs.declared.local.Local.{Local}
-use Rattle.cx_core.specs.Events.{IsIdle, cell_of, next_number}
+use Rattle.cx_core.specs.QueueEvents.{IsIdle, cell_of, next_number}
 use Rattle.cx_core.specs.Layout.{max_word}
 use Rattle.cx_core.specs.State.{Instance}
 use Rattle.cx_table.specs.Seats.{IsAtLimit, Seated, stepped}

@@ -2,9 +2,10 @@
 use Rattle.std.specs.Prelude.{◌≡◌, ◌+◌, ◌<◌, ◌⊎◌, ℕ, zero, suc, List, [], ◌∷◌, ◌++◌, length, Option}
 use Rattle.cx_core.specs.declared.local.Local.{Local}
 use Rattle.cx_core.specs.declared.local.SeenSlot.{SeenSlot}
-use Rattle.cx_core.specs.Events.{ShowsTicket, one_more}
+use Rattle.cx_core.specs.QueueEvents.{ShowsTicket}
+use Rattle.cx_core.specs.State.{one_more}
 use Rattle.cx_core.specs.Layout.{max_word}
-use Rattle.cx_table.specs.declared.rule.Noted.{Noted}
+use Rattle.cx_rule.specs.declared.rule.Noted.{Noted}
 use Rattle.cx_table.specs.Seats.{Seated}
 
 -- the notes of words of the entry with a ticket, from an index on

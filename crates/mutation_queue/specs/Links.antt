@@ -1,7 +1,7 @@
 -- What tries to link an entry come to.
 use Rattle.std.specs.Prelude.{◌≡◌, ◌+◌, ◌^◌, ◌<◌, ◌≤◌, ℕ, [], ◌∷◌, ◌++◌, slice_set, Option, Some, None}
 use Rattle.cx_base.specs.Codes.{root_place_of}
-use Rattle.cx_core.specs.Events.{cell_of, entry_in}
+use Rattle.cx_core.specs.QueueEvents.{cell_of, entry_in}
 use Rattle.cx_table.specs.Seats.{Seated}
 use Rattle.mutation_queue.specs.declared.linking.LinkTried.{LinkTried}
 use Rattle.mutation_queue.specs.declared.linking.LinkTried.TheVariants.{Again, Linked, Worn}

@@ -1,7 +1,7 @@
 //! An entry is written into a cell before it is linked.
 
 ghost use Rattle.std.specs.Prelude.{◌≡◌, ◌+◌, ◌<◌, ◌∷◌, ℕ, OnErr, OnOk};
-ghost use Rattle.cx_core.specs.Events.{IsIdle, next_number};
+ghost use Rattle.cx_core.specs.QueueEvents.{IsIdle, next_number};
 ghost use Rattle.cx_table.specs.Running.{IsSeatOf, instance_at};
 ghost use Rattle.mutation_queue.specs.Cells.{Announces, HaltsIn, IsAnnounced};
 

@@ -1,13 +1,14 @@
 //! An announced entry is linked at the end of the queue.
 
-ghost use Rattle.std.specs.Prelude.{◌≡◌, ◌^◌, ◌<◌, ◌≤◌, ◌⊎◌, IfOk, IsErr, MatchBool, OnErr, length, slice_index};
+ghost use Rattle.std.specs.Prelude.{◌≡◌, ◌+◌, ◌*◌, ◌^◌, ◌<◌, ◌≤◌, ◌⊎◌, IfOk, IsErr, MatchBool, OnErr, length, slice_index};
 ghost use Rattle.cx_base.specs.Codes.{link_ticket_of};
-ghost use Rattle.cx_core.specs.Events.{IsIdle, cell_of, next_number};
+ghost use Rattle.cx_core.specs.QueueEvents.{IsIdle, cell_of, next_number};
 ghost use Rattle.cx_table.specs.Running.{IsSeatOf};
 ghost use Rattle.cx_table.specs.Seats.{IsAtLimit};
 ghost use Rattle.mutation_queue.specs.Links.{LinksNone, Tried, TriedOnce};
 
 use cx_base::{Halt, Object, link_ticket};
+use cx_core::layout::cell_count;
 use cx_table::{CallerSeat, Shared};
 
 /// The end of tickets: each is below it.
@@ -27,7 +28,7 @@ pub enum LinkTried {
 /// Tries at most `tries` times to link the entry that was announced in a cell of the caller. A try is one look at the
 /// front's slot and, where the slot is open, one compare-exchange. `Worn` comes exactly where the entry was not linked and
 /// the front is then 2^40; else `Again` exactly where each of the tries found another's link. `Halt` comes exactly where a
-/// further step is to be made and the seat's steps equal its limit; then nothing is linked.
+/// further step is to be made and the seat's steps equal its limit; then nothing is linked. No try takes more than two steps.
 pub fn link<O: Object>(
     shared: &Shared<O>,
     seat: &mut CallerSeat,
@@ -42,6 +43,7 @@ pub fn link<O: Object>(
     ensures tried { IfOk result (λ tried. Tried shared.now.callers cell tries seat.old seat.new tried) }
     ensures halted { OnErr result (LinksNone seat.old seat.new × IsAtLimit seat.new.known.local) }
     ensures halts { IsAtLimit seat.old.known.local → IsErr result ⊎ (seat.old.known.local.front ≡ 2 ^ 40) }
+    ensures steps { seat.new.known.local.steps ≤ seat.old.known.local.steps + 2 * tries }
     ensures seat { IsSeatOf shared.now seat.new }
     ensures number { seat.new.known.local.number ≡ seat.old.known.local.number }
 {
@@ -73,10 +75,11 @@ fn try_link<O: Object>(
     ensures tried { IfOk result (λ tried. TriedOnce shared.now.callers cell seat.old seat.new tried) }
     ensures halted { OnErr result (LinksNone seat.old seat.new × IsAtLimit seat.new.known.local) }
     ensures halts { IsAtLimit seat.old.known.local → IsErr result }
+    ensures steps { seat.new.known.local.steps ≤ seat.old.known.local.steps + 2 }
 {
     let callers = shared.callers();
     let front = seat.front();
-    let slot = front % (16 * u64::from(callers));
+    let slot = front % cell_count(callers);
     let seen = shared.look(seat, slot)?;
     if is_taken(callers, front, seen) {
         return Ok(None);

@@ -1,12 +1,13 @@
 //! An entry is read from the cell that it was announced in.
 
 ghost use Rattle.std.specs.Prelude.{◌≡◌, ◌<◌, ◌≤◌, ◌/◌, ℕ, IfOk, IsErr, OnErr, OnOk, length};
-ghost use Rattle.cx_core.specs.Events.{ShowsTicket};
+ghost use Rattle.cx_core.specs.QueueEvents.{ShowsTicket};
 ghost use Rattle.cx_table.specs.Running.{IsSeatOf};
 ghost use Rattle.cx_table.specs.Seats.{IsAtLimit};
 ghost use Rattle.mutation_queue.specs.Entries.{EndsAfter, HaltsAmong, HaltsReading, Looked, ReadsEntry, with_read};
 
 use cx_base::{Halt, Object, link_cell};
+use cx_core::layout::cell_count;
 use cx_table::{CallerSeat, Shared};
 
 /// Reads the entry with a ticket, which is linked: its number and its operation, in 146 steps. It gives the entry's
@@ -43,7 +44,7 @@ fn find_cell<O: Object>(shared: &Shared<O>, seat: &mut CallerSeat, ticket: u64) 
     ensures seat { IsSeatOf shared.now seat.new }
 {
     let callers = shared.callers();
-    let slot = ticket % (16 * u64::from(callers));
+    let slot = ticket % cell_count(callers);
     let word = shared.look(seat, slot)?;
     Ok(u64::from(link_cell(callers, word)))
 }

@@ -1,6 +1,6 @@
 //! An entry is read by the other caller.
 
-ghost use Rattle.std.specs.Prelude.{◌≡◌, ◌≤◌, OnErr, OnOk};
+ghost use Rattle.std.specs.Prelude.{◌≡◌, ◌*◌, ◌<◌, ◌≤◌, OnErr, OnOk};
 ghost use Rattle.cx_table.specs.Running.{IsSeatOf};
 
 use crate::tests::{NO_LIMIT, made, update};
@@ -29,6 +29,15 @@ fn read(
     }
 }
 
+// Looks at a slot of a table of two callers.
+fn look(shared: &Shared<Tally>, seat: &mut CallerSeat, slot: u64) -> Result<u64, Halt>
+    requires seat { IsSeatOf shared.now seat.old }
+    requires slot { slot < 16 * shared.now.callers }
+    ensures seat { IsSeatOf shared.now seat.new }
+{
+    shared.look(seat, slot)
+}
+
 // The words of an entry with this number, whose operation is one word again and again.
 fn entry_of(number: u64, word: u64) -> [u64; 145] {
     let mut words = [word; 145];
@@ -50,8 +59,11 @@ fn each_reads_both_entries(rt: HostRuntime) -> Result<(), Fail> {
     assert!(rt; into == entry_of(1, 5));
     assert!(rt; read(&shared, &mut second, 1, &mut into) == Some(Ok(1)));
     assert!(rt; into == entry_of(1, 7));
-    // the first caller does not know yet that the second ticket is linked
+    // the first caller does not know that the second ticket is linked until it looks at its slot
     assert!(rt; read(&shared, &mut first, 1, &mut into).is_none());
+    assert!(rt; look(&shared, &mut first, 1).is_ok());
+    assert!(rt; read(&shared, &mut first, 1, &mut into) == Some(Ok(1)));
+    assert!(rt; into == entry_of(1, 7));
     assert!(rt; read(&shared, &mut first, 0, &mut into) == Some(Ok(0)));
     assert!(rt; into == entry_of(1, 5));
     Ok(())

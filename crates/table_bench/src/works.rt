@@ -1,11 +1,12 @@
 //! The calls that are timed.
 
 ghost use Rattle.std.specs.Prelude.{◌≡◌, ◌<◌, ◌≤◌, IfOk, IfSome, length};
-ghost use Rattle.cx_core.specs.Events.{IsIdle};
+ghost use Rattle.cx_core.specs.QueueEvents.{IsIdle};
 ghost use Rattle.cx_table.specs.Running.{IsSeatOf};
 
 use cx_base::Object;
 use cx_core::Base;
+use cx_core::layout::cell_count;
 use cx_table::{CallerSeat, Shared};
 use doc_store::DocStore;
 use mutation_queue::{announce, link};
@@ -67,7 +68,7 @@ pub fn announces<R: Runtime + Threads + Sync>(
 fn look_at_slots(shared: &Shared<DocStore>, mut seat: CallerSeat, count: u64)
     requires { IsSeatOf shared.now seat }
 {
-    let slots = 16 * u64::from(shared.callers());
+    let slots = cell_count(shared.callers());
     for i in 0..count {
         if shared.look(&mut seat, i % slots).is_err() {
             return;

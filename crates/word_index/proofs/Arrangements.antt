@@ -4,7 +4,11 @@ use Rattle.std.proofs.lemmas.Bool.Decides.{nat_tests}
 use Rattle.std.proofs.lemmas.List.{get_or-take, take-append-drop, take_more, take_more_set, drop-set-lt}
 use Rattle.std.proofs.lemmas.List.Elements.{All-nil}
 use Rattle.word_index.specs.Exact.{with_empty_header}
-use Rattle.word_index.specs.Layout.{IsPartLength, StandsFor}
+use Rattle.avl_tree.specs.Tree.{Empty}
+use Rattle.avl_words.specs.Lines.{IsPartLength}
+use Rattle.index_checks.specs.Layout.{IsIndex, StandsFor}
+use Rattle.index_checks.specs.Reading.{store_in}
+use Rattle.index_checks.proofs.LawfulWords.{store_is}
 
 -- the header of no pairs
 header_word : (ws front : List ℕ) (i : ℕ) → take 8 ws ≡ front → i < 8 → get_or ws i 0 ≡ get_or front i 0
@@ -18,12 +22,13 @@ stands_empty ws version sized header =
     let front : List ℕ = version ∷ 0 ∷ 0 ∷ 1 ∷ replicate 4 0 in
     let end : get_or ws 3 0 ≡ 1 = header_word ws front 3 header (omega arith) in
     record {
+      tree = Empty;
       places = [];
       given = [];
       arranged = record {
         sized = sized;
         version_word = header_word ws front 0 header (omega arith);
-        nodes = header_word ws front 1 header (omega arith);
+        nodes = record { root_is = header_word ws front 1 header (omega arith); shape = tt; balanced = tt; in_order = refl; pairs = tt };
         given_back = header_word ws front 2 header (omega arith);
         end_from = omega arith;
         end_to = (let some = sized.some in omega arith);
@@ -32,8 +37,8 @@ stands_empty ws version sized header =
         pair_count = header_word ws front 5 header (omega arith);
         no_sixth = header_word ws front 6 header (omega arith);
         no_seventh = header_word ws front 7 header (omega arith);
-        lawful = record { rising = tt; keys = All-nil _; documents = All-nil _ };
       };
+      lawful = record { rising = tt; keys = All-nil _; documents = All-nil _ };
     }
 
 -- so many words of the header are stored, and those behind the header are as they were
@@ -62,3 +67,7 @@ empty_stands version at x y e sized so = stands_empty y version sized (whole_hea
 pub empty_done : (version at : ℕ) (x y : List ℕ) → at ≡ 8 → EmptySoFar version at x y → y ≡ with_empty_header version x
 unfolding with_empty_header
 empty_done version at x y e so = sym (take-append-drop 8 y) ∙ ap (λ s. s ++ drop 8 y) (whole_header version at x y e so) ∙ ap (λ s. (version ∷ 0 ∷ 0 ∷ 1 ∷ replicate 4 0) ++ s) so.behind
+
+-- an index stands for the store that is read off its words
+pub stands_read : (ws : List ℕ) (i : IsIndex ws) → StandsFor ws i.version (store_in ws)
+stands_read ws i = subst (StandsFor ws i.version) (sym (store_is ws i.version i.store i.stands)) i.stands

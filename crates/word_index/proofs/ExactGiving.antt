@@ -1,17 +1,15 @@
 -- What is taken out leaves the exact words of its meaning.
-use Rattle.std.proofs.Common.{◌≡◌, ◌^◌, ◌+◌, ◌-◌, ◌*◌, ◌/◌, ◌<◌, ◌≤◌, ℕ, zero, suc, List, length, get_or, set, refl, sym, ap, subst, ◌∙◌, inl, inr, lit<, arith}
-use Rattle.std.specs.Int.{div_ceil}
+use Rattle.std.proofs.Common.{◌≡◌, ◌^◌, ◌+◌, ◌*◌, ◌/◌, ◌<◌, ◌≤◌, ℕ, zero, suc, List, length, get_or, set, refl, sym, ap, subst, ◌∙◌, inl, inr, lit<, arith}
 use Rattle.std.proofs.lemmas.Bool.{cases_lt}
 use Rattle.std.proofs.lemmas.List.{get_or_past, length-set}
 use Rattle.std.proofs.lemmas.List.Elements.{All-set}
 use Rattle.cx_base.specs.Memory.{Words}
-use Rattle.word_index.specs.Changes.{with_word, with_given, LooseChain, ChainGiven, LooseText, TextGiven, HasLoosePair, PairGiven, HasGap, Unlinked, TakenOut}
-use Rattle.word_index.specs.Exact.{with_chain_given, with_text_given, with_pair_given, with_unlinked, with_taken_out}
-use Rattle.word_index.specs.Layout.{word_of}
+use Rattle.index_checks.proofs.Texts.{blocks_are}
+use Rattle.avl_words.specs.Lines.{with_word, word_of}
 use Rattle.word_index.proofs.Giving.{ChainSoFar, so_far_none, so_far_more, so_far_all, next_can_be_given}
-use Rattle.word_index.proofs.Linking.{unlinked, taken_out}
-use Rattle.word_index.proofs.Pairs.{text_given, pair_given, has_document_text, has_key_text, node_can_be_given}
-use Rattle.std.proofs.Common.{◌++◌}
+use Rattle.word_index.proofs.PairsGiven.{text_given, pair_given, has_document_text, has_key_text, node_can_be_given}
+use Rattle.word_index.specs.Changes.{with_given, LooseChain, ChainGiven, LooseText, TextGiven, HasLoosePair, PairGiven}
+use Rattle.word_index.specs.Exact.{with_chain_given, with_text_given, with_pair_given}
 
 -- words among words
 pub word_fits : (n : ℕ) (ws : List ℕ) → Words n ws → (i : ℕ) → get_or ws i 0 < 2 ^ 64
@@ -53,9 +51,6 @@ module _ (first count : ℕ) (x : List ℕ) where
   pub chain_given_words : (k : ℕ) → LooseChain x first count → first < 2 ^ 64 → Words k x → Words k (with_chain_given count first x)
   chain_given_words k h small w = chain_words_go k count 0 first x (omega arith) h (so_far_none first count x x refl) small w
 
-pub blocks_are : (len : ℕ) → (len + 55) / 56 ≡ div_ceil len 56
-blocks_are len = omega arith
-
 pub text_is_given : (node at : ℕ) (x : List ℕ) → TextGiven node at x (with_text_given node at x)
 unfolding with_text_given
 text_is_given node at x =
@@ -67,6 +62,7 @@ loose_chain : (x : List ℕ) (node at : ℕ) → LooseText x node at → LooseCh
 loose_chain x node at t = record {
   version = t.version;
   store = t.store;
+  tree = t.tree;
   places = t.places;
   lines = t.lines;
   others = t.others;
@@ -96,37 +92,3 @@ pair_given_words k node x h small w =
     let t = text_is_given node 5 x in
     let can = node_can_be_given x y z node h t (text_is_given node 3 y) in
     given_words k z node small can.few (text_given_words k node 3 y (has_key_text x y node h t) (text_given_words k node 5 x (has_document_text x node h) w))
-
-pub unlinked_is : (before node : ℕ) (x : List ℕ) → Unlinked before node (word_of x node 1) x (with_unlinked before node x)
-unfolding with_unlinked
-unlinked_is before node x = unlinked x (with_word 0 5 (word_of x 0 5 - 1) (with_word before 1 (word_of x node 1) x)) before node (word_of x node 1) (word_of x 0 5) refl refl refl
-
-one_less_fits : (v : ℕ) → v < 2 ^ 64 → v - 1 < 2 ^ 64
-one_less_fits v l = omega arith
-
-pub unlinked_words : (k before node : ℕ) (x : List ℕ) → Words k x → Words k (with_unlinked before node x)
-unfolding with_unlinked
-unlinked_words k before node x w =
-    set_words k (with_word before 1 (word_of x node 1) x) 0 5 (word_of x 0 5 - 1) (one_less_fits (word_of x 0 5) (word_fits k x w 5)) (set_words k x before 1 (word_of x node 1) (word_fits k x w (8 * node + 1)) w)
-
-pub taken_out_is : (before node : ℕ) (x : List ℕ) → TakenOut before node (word_of x node 1) x (with_taken_out before node x)
-unfolding with_taken_out
-taken_out_is before node x =
-    let y = with_unlinked before node x in
-    taken_out x y (with_pair_given node y) before node (word_of x node 1) (unlinked_is before node x) (pair_is_given node y)
-
-pub loose_pair : (before node : ℕ) (x : List ℕ) → HasGap x before node → HasLoosePair (with_unlinked before node x) node
-loose_pair before node x h = record {
-  version = h.version;
-  store = h.lower ++ h.after;
-  places = h.front ++ h.rest;
-  place = h.place;
-  pair = h.pair;
-  there = (unlinked_is before node x h.version h.lower h.after h.pair h.front h.rest h.place h.gap).0;
-}
-
-pub taken_out_words : (k before node : ℕ) (x : List ℕ) → HasGap x before node → node < 2 ^ 64 → Words k x → Words k (with_taken_out before node x)
-unfolding with_taken_out
-taken_out_words k before node x h small w =
-    let y = with_unlinked before node x in
-    pair_given_words k node y (loose_pair before node x h) small (unlinked_words k before node x w)

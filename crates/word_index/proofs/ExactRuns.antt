@@ -1,5 +1,5 @@
 -- How the calls come to the exact words, step by step.
-use Rattle.std.proofs.Common.{◌≡◌, ◌+◌, ◌-◌, ◌*◌, ◌/◌, ◌<◌, ◌≤◌, ◌==◌, ℕ, zero, suc, Bool, true, false, cond, List, [], ◌∷◌, ◌++◌, length, get_or, set, take, map, zero-add, sym, ap, ap₂, ◌∙◌, arith}
+use Rattle.std.proofs.Common.{◌≡◌, ◌+◌, ◌-◌, ◌*◌, ◌/◌, ◌<◌, ◌≤◌, ◌==◌, ℕ, zero, suc, true, false, cond, List, [], ◌∷◌, ◌++◌, length, get_or, set, take, map, zero-add, sym, ap, ap₂, ◌∙◌, arith}
 use Rattle.std.specs.Int.{div_ceil}
 use Rattle.std.specs.List.{range_with_len}
 use Rattle.std.proofs.lemmas.Bool.Decides.{nat_tests}
@@ -8,20 +8,14 @@ use Rattle.std.proofs.lemmas.Grind.{same_number_lists}
 use Rattle.std.proofs.lemmas.List.FromFn.{length-map-range_with_len, get_or-map-range_with_len}
 use Rattle.cx_base.specs.Packing.{packed, unpacked}
 use Rattle.cx_base.specs.Store.{blocks}
-use Rattle.doc_model.specs.Meaning.{with_pair, has_room}
-use Rattle.word_index.specs.Answers.{IsPacked}
-use Rattle.word_index.specs.Changes.{with_word, with_given}
-use Rattle.word_index.specs.Exact.{store_in, node_below, is_key_in, with_chain_given, with_text_given, with_pair_given, with_unlinked, with_taken_out, with_key_removed, line_to_take, with_line_taken, with_row, block_words, with_text, with_new_pair, with_linked, with_put_in, with_cleared, with_placed, with_document, inserted_in}
-use Rattle.word_index.specs.Fresh.{IsBlock}
-use Rattle.word_index.specs.Insertion.{Inserts}
-use Rattle.word_index.specs.declared.insertion.Inserted.{Inserted}
-use Rattle.word_index.specs.declared.insertion.Inserted.TheVariants.{New, Replaced, NoRoom}
-use Rattle.word_index.specs.Layout.{word_of, line_count, IsIndex}
-use Rattle.word_index.specs.Walk.{AtSpot}
-use Rattle.word_index.proofs.ExactGiving.{blocks_are}
-use Rattle.word_index.proofs.ExactStores.{stands_read, place_is}
+use Rattle.avl_words.specs.Lines.{with_word, word_of}
+use Rattle.index_checks.proofs.Texts.{blocks_are}
 use Rattle.word_index.proofs.ExactTaking.{row_more}
 use Rattle.word_index.proofs.Putting.{length_unpacked}
+use Rattle.word_index.specs.Answers.{IsPacked}
+use Rattle.word_index.specs.Changes.{with_given}
+use Rattle.word_index.specs.Exact.{with_chain_given, with_text_given, with_pair_given, line_to_take, with_line_taken, with_row, block_words, with_text, with_new_pair}
+use Rattle.word_index.specs.Fresh.{IsBlock}
 
 -- a chain given back
 pub chain_begins : (count first : ℕ) (x y : List ℕ) → x ≡ y → with_chain_given (count - 0) first y ≡ with_chain_given count first x
@@ -46,34 +40,6 @@ text_runs node at first len count x y z e first_is len_is counted is =
 pub pair_runs : (node : ℕ) (x y z w : List ℕ) → y ≡ with_text_given node 5 x → z ≡ with_text_given node 3 y → w ≡ with_given node z → w ≡ with_pair_given node x
 unfolding with_pair_given
 pair_runs node x y z w d k is = is ∙ ap (with_given node) (k ∙ ap (with_text_given node 3) d)
-
-pub unlink_runs : (before node next n : ℕ) (x y : List ℕ) → word_of x node 1 ≡ next → word_of x 0 5 ≡ n → y ≡ with_word before 1 next x → (next ≡ word_of x node 1) × (with_word 0 5 (n - 1) y ≡ with_unlinked before node x)
-unfolding with_unlinked
-unlink_runs before node next n x y next_is number is = (
-  sym next_is,
-  ap (with_word 0 5 (n - 1)) is ∙ ap (λ m. with_word 0 5 (m - 1) (with_word before 1 next x)) (sym number) ∙ ap (λ m. with_word 0 5 (word_of x 0 5 - 1) (with_word before 1 m x)) (sym next_is),
-)
-
-pub out_runs : (before node next : ℕ) (x y z : List ℕ) → (next ≡ word_of x node 1) × (y ≡ with_unlinked before node x) → z ≡ with_pair_given node y → (next ≡ word_of x node 1) × (z ≡ with_taken_out before node x)
-unfolding with_taken_out
-out_runs before node next x y z u is = (u.0, is ∙ ap (with_pair_given node) u.1)
-
-pub removal_runs : (key : List ℕ) (before node : ℕ) (x y z : List ℕ) → IsIndex y → y ≡ x → AtSpot key before node true y → z ≡ with_taken_out before node y → (true ≡ is_key_in key x) × (z ≡ with_key_removed key x)
-unfolding with_key_removed
-removal_runs key before node x y z i e spot is =
-    let p = place_is y key before node true spot i in
-    let here : true ≡ is_key_in key x = p.same_is ∙ ap (is_key_in key) e in (
-      here,
-      is ∙ ap₂ (λ b n. with_taken_out b n y) p.before_is p.node_is ∙ ap (λ w. with_taken_out (node_below key w) (word_of w (node_below key w) 1) w) e
-          ∙ ap (λ b. cond b (with_taken_out (node_below key x) (word_of x (node_below key x) 1) x) x) here,
-    )
-
-pub no_removal_runs : (key : List ℕ) (before node : ℕ) (x y : List ℕ) → IsIndex y → y ≡ x → AtSpot key before node false y → (false ≡ is_key_in key x) × (y ≡ with_key_removed key x)
-unfolding with_key_removed
-no_removal_runs key before node x y i e spot =
-    let p = place_is y key before node false spot i in
-    let here : false ≡ is_key_in key x = p.same_is ∙ ap (is_key_in key) e in
-    (here, e ∙ ap (λ b. cond b (with_taken_out (node_below key x) (word_of x (node_below key x) 1) x) x) here)
 
 -- a line taken
 pub new_line_runs : (x y z : List ℕ) (head line : ℕ) → y ≡ x → word_of y 0 2 ≡ head → head ≡ 0 → (word_of y 0 3 ≡ line) × (z ≡ with_word 0 3 (line + 1) y) → (line ≡ line_to_take x) × (z ≡ with_line_taken x)
@@ -140,11 +106,11 @@ pub text_ends : (text : List ℕ) (count j next : ℕ) (y : List ℕ) (target : 
 text_ends text count j next y target e r = (let none : count - j ≡ 0 = omega arith in sym r ∙ ap (λ n. with_text text n next y) none)
 
 -- a pair written
-pub new_pair_runs : (next node key_first doc_first key_len doc_len count other : ℕ) (key_words doc_words x y z w v : List ℕ) → IsPacked 8 key_len key_words → IsPacked 128 doc_len doc_words → count ≡ div_ceil key_len 56 → other ≡ div_ceil doc_len 56 →
+pub new_pair_runs : (node key_first doc_first key_len doc_len count other : ℕ) (key_words doc_words x y z w v : List ℕ) → IsPacked 8 key_len key_words → IsPacked 128 doc_len doc_words → count ≡ div_ceil key_len 56 → other ≡ div_ceil doc_len 56 →
     (node ≡ line_to_take x) × (y ≡ with_line_taken x) → with_text key_words count 0 y ≡ (key_first, z) → with_text doc_words other 0 z ≡ (doc_first, w) →
-    v ≡ with_row (8 * node) (0 ∷ next ∷ 0 ∷ key_first ∷ key_len ∷ doc_first ∷ doc_len ∷ 0 ∷ []) w → with_new_pair next (unpacked key_len key_words, unpacked doc_len doc_words) x ≡ (node, v)
+    v ≡ with_row (8 * node) (0 ∷ 0 ∷ 1 ∷ key_first ∷ key_len ∷ doc_first ∷ doc_len ∷ 0 ∷ []) w → with_new_pair (unpacked key_len key_words, unpacked doc_len doc_words) x ≡ (node, v)
 unfolding with_new_pair
-new_pair_runs next node key_first doc_first key_len doc_len count other key_words doc_words x y z w v key_packed doc_packed counted other_counted t k d f =
+new_pair_runs node key_first doc_first key_len doc_len count other key_words doc_words x y z w v key_packed doc_packed counted other_counted t k d f =
     let key = unpacked key_len key_words in
     let doc = unpacked doc_len doc_words in
     let key_long : length key ≡ key_len = length_unpacked key_len key_words in
@@ -156,49 +122,8 @@ new_pair_runs next node key_first doc_first key_len doc_len count other key_word
     let after : (with_text (packed 8 key) (blocks key) 0 (with_line_taken x)).1 ≡ z = ap (λ p. p.1) key_text in
     let doc_text : with_text (packed 128 doc) (blocks doc) 0 (with_text (packed 8 key) (blocks key) 0 (with_line_taken x)).1 ≡ (doc_first, w) =
     ap (with_text (packed 128 doc) (blocks doc) 0) after ∙ ap₂ (λ s n. with_text s n 0 z) (sym doc_packed.unused) doc_blocks ∙ d in
-    let row : ℕ × List ℕ → ℕ × List ℕ → ℕ → ℕ → ℕ → ℕ × List ℕ = λ a b m i j. (m, with_row (8 * m) (0 ∷ next ∷ 0 ∷ a.0 ∷ i ∷ b.0 ∷ j ∷ 0 ∷ []) b.1) in
+    let row : ℕ × List ℕ → ℕ × List ℕ → ℕ → ℕ → ℕ → ℕ × List ℕ = λ a b m i j. (m, with_row (8 * m) (0 ∷ 0 ∷ 1 ∷ a.0 ∷ i ∷ b.0 ∷ j ∷ 0 ∷ []) b.1) in
     ap₂ (λ a b. row a b (line_to_take x) (length key) (length doc)) key_text doc_text
     ∙ ap (λ m. row (key_first, z) (doc_first, w) m (length key) (length doc)) (sym t.0)
     ∙ ap₂ (λ i j. row (key_first, z) (doc_first, w) node i j) key_long doc_long
     ∙ ap (λ u. (node, u)) (sym f)
-
-pub link_runs : (before node n : ℕ) (x y : List ℕ) → word_of x 0 5 ≡ n → y ≡ with_word before 1 node x → with_word 0 5 (n + 1) y ≡ with_linked before node x
-unfolding with_linked
-link_runs before node n x y number is = ap (with_word 0 5 (n + 1)) is ∙ ap (λ m. with_word 0 5 (m + 1) (with_word before 1 node x)) (sym number)
-
-pub put_in_runs : (before next node : ℕ) (pair : List ℕ × List ℕ) (x y z : List ℕ) → with_new_pair next pair x ≡ (node, y) → z ≡ with_linked before node y → z ≡ with_put_in before next pair x
-unfolding with_put_in
-put_in_runs before next node pair x y z w is = is ∙ ap (λ (p : ℕ × List ℕ). with_linked before p.0 p.1) (sym w)
-
--- a place cleared
-pub cleared_runs : (before node next : ℕ) (same : Bool) (x z : List ℕ) → same ≡ true → (next ≡ word_of x node 1) × (z ≡ with_taken_out before node x) → with_cleared before node same x ≡ (next, z)
-unfolding with_cleared
-cleared_runs before node next same x z is t = ap (λ b. cond {A = ℕ × List ℕ} b (word_of x node 1, with_taken_out before node x) (node, x)) is ∙ ap₂ (λ n w. (n, w)) (sym t.0) (sym t.1)
-
-pub not_cleared_runs : (before node : ℕ) (same : Bool) (x z : List ℕ) → same ≡ false → x ≡ z → with_cleared before node same x ≡ (node, z)
-unfolding with_cleared
-not_cleared_runs before node same x z is e = ap (λ b. cond {A = ℕ × List ℕ} b (word_of x node 1, with_taken_out before node x) (node, x)) is ∙ ap (λ w. (node, w)) e
-
--- an insertion
-pub no_room_runs : (key document x y : List ℕ) → IsIndex x → Inserts key document NoRoom x y → (NoRoom ≡ inserted_in key document x) × (y ≡ with_document key document x)
-unfolding inserted_in with_document
-no_room_runs key document x y i r =
-    let d = r i.version (store_in x) (stands_read x i) in (
-      ap (λ b. cond b (cond (is_key_in key x) Replaced New) NoRoom) (sym d.0),
-      d.1 ∙ ap (λ b. cond b (with_placed (node_below key x) (word_of x (node_below key x) 1) (is_key_in key x) (key, document) x) x) (sym d.0),
-    )
-
-pub room_runs : (key document : List ℕ) (before node next : ℕ) (same : Bool) (answer : Inserted) (x y z w : List ℕ) → IsIndex y → y ≡ x → AtSpot key before node same y → has_room (line_count y) (with_pair key document (store_in y)) ≡ true →
-    with_cleared before node same y ≡ (next, z) → w ≡ with_put_in before next (key, document) z → answer ≡ cond same Replaced New → (answer ≡ inserted_in key document x) × (w ≡ with_document key document x)
-unfolding inserted_in with_document with_placed
-room_runs key document before node next same answer x y z w i e spot room c p told =
-    let here = place_is y key before node same spot i in
-    let placed : w ≡ with_placed before node same (key, document) y = p ∙ ap (λ (q : ℕ × List ℕ). with_put_in before q.0 (key, document) q.1) (sym c) in
-    let at : with_placed before node same (key, document) y ≡ with_placed (node_below key y) (word_of y (node_below key y) 1) (is_key_in key y) (key, document) y =
-    ap (λ b. with_placed b node same (key, document) y) here.before_is ∙ ap (λ n. with_placed (node_below key y) n same (key, document) y) here.node_is
-    ∙ ap (λ s. with_placed (node_below key y) (word_of y (node_below key y) 1) s (key, document) y) here.same_is in
-    let room_x = ap (λ v. has_room (line_count v) (with_pair key document (store_in v))) (sym e) ∙ room in (
-      told ∙ ap (λ s. cond s Replaced New) (here.same_is ∙ ap (is_key_in key) e) ∙ ap (λ b. cond b (cond (is_key_in key x) Replaced New) NoRoom) (sym room_x),
-      placed ∙ at ∙ ap (λ v. with_placed (node_below key v) (word_of v (node_below key v) 1) (is_key_in key v) (key, document) v) e
-          ∙ ap (λ b. cond b (with_placed (node_below key x) (word_of x (node_below key x) 1) (is_key_in key x) (key, document) x) x) (sym room_x),
-    )

@@ -5,20 +5,19 @@ use Rattle.std.proofs.lemmas.Bool.{eqb-true, eqb-false}
 use Rattle.std.proofs.lemmas.List.Elements.{All-head, All-tail, All-cons, All-nil, All-map}
 use Rattle.std.proofs.lemmas.List.FromFn.{length-map-range_with_len, get_or-map-range_with_len}
 use Rattle.cx_base.specs.Memory.{Words}
-use Rattle.cx_base.specs.Packing.{packed, unpacked, word_at}
+use Rattle.cx_base.specs.Packing.{packed, unpacked, packed_at}
 use Rattle.cx_base.specs.Store.{blocks, pair_lines}
 use Rattle.cx_base.proofs.PackingLemmas.{unpacked-packed, packed_fit}
-use Rattle.word_index.specs.Answers.{IsPacked}
-use Rattle.word_index.specs.Blocks.{IsWithin}
-use Rattle.word_index.specs.Changes.{with_word}
-use Rattle.word_index.specs.Exact.{line_to_take, with_line_taken, with_row, block_words, with_text, with_new_pair, with_linked, with_put_in}
-use Rattle.word_index.specs.Fresh.{CanTake, LineTaken, LineFilled, IsBlock, TextWritten}
-use Rattle.word_index.specs.Insertion.{PairWritten, CanPut, CanLink, Linked, PutIn}
-use Rattle.word_index.specs.Layout.{word_of}
-use Rattle.word_index.proofs.ExactGiving.{word_fits, set_at_words, set_words, blocks_are}
-use Rattle.word_index.proofs.Putting.{linked, link_few, room_less, room_after_line, room_after_text, node_still, pair_written, put_room, put_can_link, put_in_done}
+use Rattle.avl_words.specs.Lines.{IsWithin, with_word, word_of}
+use Rattle.index_checks.proofs.Texts.{blocks_are}
+use Rattle.word_index.proofs.ExactGiving.{word_fits, set_at_words, set_words}
+use Rattle.word_index.proofs.Putting.{room_less, room_after_line, room_after_text, node_still, pair_written}
 use Rattle.word_index.proofs.Taking.{end_small, new_line, given_line}
 use Rattle.word_index.proofs.Writing.{LineSoFar, line_begins, line_more, line_done, WrittenSoFar, written_none, can_take_next, taken_within, written_more, written_all}
+use Rattle.word_index.specs.Answers.{IsPacked}
+use Rattle.word_index.specs.Exact.{line_to_take, with_line_taken, with_row, block_words, with_text, with_new_pair}
+use Rattle.word_index.specs.Fresh.{CanTake, LineTaken, LineFilled, IsBlock, TextWritten}
+use Rattle.word_index.specs.Insertion.{PairWritten}
 
 -- a line
 module _ (x : List ℕ) where
@@ -131,24 +130,25 @@ pub record IsPlain (pair : List ℕ × List ℕ) : Type 0 where
 pub packs_itself : (n : ℕ) (bytes : List ℕ) → length bytes ≤ 8 * n → ((i : ℕ) → get_or bytes i 0 < 256) → IsPacked n (length bytes) (packed n bytes)
 packs_itself n bytes short small = record { short = short; unused = ap (packed n) (sym (unpacked-packed n bytes small short)) }
 
-packed_small : (n : ℕ) (bytes : List ℕ) → ((i : ℕ) → get_or bytes i 0 < 256) → (i : ℕ) → get_or (packed n bytes) i 0 < 2 ^ 64
-packed_small n bytes small i = word_fits n (packed n bytes) (record { long = length-map-range_with_len (word_at bytes) 0 n; fit = packed_fit n bytes small }) i
+pub packed_small : (n : ℕ) (bytes : List ℕ) → ((i : ℕ) → get_or bytes i 0 < 256) → (i : ℕ) → get_or (packed n bytes) i 0 < 2 ^ 64
+packed_small n bytes small i = word_fits n (packed n bytes) (record { long = length-map-range_with_len (packed_at bytes) 0 n; fit = packed_fit n bytes small }) i
 
 -- the words of a node
-node_fits : (b d e f g : ℕ) → b < 2 ^ 64 → d < 2 ^ 64 → e < 2 ^ 64 → f < 2 ^ 64 → g < 2 ^ 64 → All (λ v. v < 2 ^ 64) (0 ∷ b ∷ 0 ∷ d ∷ e ∷ f ∷ g ∷ 0 ∷ [])
-node_fits b d e f g p q r s t =
+node_fits : (d e f g : ℕ) → d < 2 ^ 64 → e < 2 ^ 64 → f < 2 ^ 64 → g < 2 ^ 64 → All (λ v. v < 2 ^ 64) (0 ∷ 0 ∷ 1 ∷ d ∷ e ∷ f ∷ g ∷ 0 ∷ [])
+node_fits d e f g q r s t =
     let zero_fits : 0 < 2 ^ 64 = lit< tt in
+    let one_fits : 1 < 2 ^ 64 = lit< tt in
     let fits : ℕ → Type 0 = λ v. v < 2 ^ 64 in
     let l7 = All-cons fits 0 [] zero_fits (All-nil fits) in
     let l6 = All-cons fits g (0 ∷ []) t l7 in
     let l5 = All-cons fits f (g ∷ 0 ∷ []) s l6 in
     let l4 = All-cons fits e (f ∷ g ∷ 0 ∷ []) r l5 in
     let l3 = All-cons fits d (e ∷ f ∷ g ∷ 0 ∷ []) q l4 in
-    let l2 = All-cons fits 0 (d ∷ e ∷ f ∷ g ∷ 0 ∷ []) zero_fits l3 in
-    let l1 = All-cons fits b (0 ∷ d ∷ e ∷ f ∷ g ∷ 0 ∷ []) p l2 in
-    All-cons fits 0 (b ∷ 0 ∷ d ∷ e ∷ f ∷ g ∷ 0 ∷ []) zero_fits l1
+    let l2 = All-cons fits 1 (d ∷ e ∷ f ∷ g ∷ 0 ∷ []) one_fits l3 in
+    let l1 = All-cons fits 0 (1 ∷ d ∷ e ∷ f ∷ g ∷ 0 ∷ []) zero_fits l2 in
+    All-cons fits 0 (0 ∷ 1 ∷ d ∷ e ∷ f ∷ g ∷ 0 ∷ []) zero_fits l1
 
-module _ (next : ℕ) (pair : List ℕ × List ℕ) (x : List ℕ) (is : IsPlain pair) (can : CanTake x (pair_lines pair)) where
+module _ (pair : List ℕ × List ℕ) (x : List ℕ) (is : IsPlain pair) (can : CanTake x (pair_lines pair)) where
   room_for_all : CanTake x (1 + (blocks pair.0 + blocks pair.1))
   room_for_all = room_less x (pair_lines pair) (1 + (blocks pair.0 + blocks pair.1)) (omega arith) can
 
@@ -170,27 +170,27 @@ module _ (next : ℕ) (pair : List ℕ × List ℕ) (x : List ℕ) (is : IsPlain
       let k = with_text (packed 8 pair.0) (blocks pair.0) 0 y in
       room_after_text y k.1 (packed 8 pair.0) (blocks pair.0) k.0 (blocks pair.1) room_for_key key_is
 
-  pub new_pair_is : PairWritten next pair (with_new_pair next pair x).0 x (with_new_pair next pair x).1
+  pub new_pair_is : PairWritten pair (with_new_pair pair x).0 x (with_new_pair pair x).1
   unfolding with_new_pair
   new_pair_is =
       let node = line_to_take x in
       let y = with_line_taken x in
       let k = with_text (packed 8 pair.0) (blocks pair.0) 0 y in
       let d = with_text (packed 128 pair.1) (blocks pair.1) 0 k.1 in
-      let content : List ℕ = 0 ∷ next ∷ 0 ∷ k.0 ∷ length pair.0 ∷ d.0 ∷ length pair.1 ∷ 0 ∷ [] in
+      let content : List ℕ = 0 ∷ 0 ∷ 1 ∷ k.0 ∷ length pair.0 ∷ d.0 ∷ length pair.1 ∷ 0 ∷ [] in
       let d_is = text_is_written (packed 128 pair.1) (blocks pair.1) k.1 document_can in
       let still = node_still x y k.1 d.1 node (blocks pair.0) (blocks pair.1) k.0 d.0 (packed 8 pair.0) (packed 128 pair.1) room_for_all (line_is_taken x) key_is d_is in
       let f = row_is_filled node content d.1 refl still in
       let key_same = unpacked-packed 8 pair.0 is.key_bytes is.key_short in
       let document_same = unpacked-packed 128 pair.1 is.document_bytes is.document_short in
-      let made = pair_written x y k.1 d.1 (with_row (8 * node) content d.1) next node (blocks pair.0) (blocks pair.1) k.0 d.0 (length pair.0) (length pair.1) (packed 8 pair.0) (packed 128 pair.1)
+      let made = pair_written x y k.1 d.1 (with_row (8 * node) content d.1) node (blocks pair.0) (blocks pair.1) k.0 d.0 (length pair.0) (length pair.1) (packed 8 pair.0) (packed 128 pair.1)
       (packs_itself 8 pair.0 is.key_short is.key_bytes) (packs_itself 128 pair.1 is.document_short is.document_bytes) (blocks_are (length pair.0)) (blocks_are (length pair.1)) (line_is_taken x) key_is d_is f in
-      subst (λ b. PairWritten next (pair.0, b) node x (with_row (8 * node) content d.1)) document_same
-      (subst (λ a. PairWritten next (a, unpacked (length pair.1) (packed 128 pair.1)) node x (with_row (8 * node) content d.1)) key_same made)
+      subst (λ b. PairWritten (pair.0, b) node x (with_row (8 * node) content d.1)) document_same
+      (subst (λ a. PairWritten (a, unpacked (length pair.1) (packed 128 pair.1)) node x (with_row (8 * node) content d.1)) key_same made)
 
-  pub new_pair_words : (k : ℕ) → next < 2 ^ 64 → Words k x → ((with_new_pair next pair x).0 < 2 ^ 64) × Words k (with_new_pair next pair x).1
+  pub new_pair_words : (k : ℕ) → Words k x → ((with_new_pair pair x).0 < 2 ^ 64) × Words k (with_new_pair pair x).1
   unfolding with_new_pair
-  new_pair_words n l w =
+  new_pair_words n w =
       let y = with_line_taken x in
       let k = with_text (packed 8 pair.0) (blocks pair.0) 0 y in
       let t = line_taken_words x n (pair_lines pair) can w in
@@ -200,33 +200,7 @@ module _ (next : ℕ) (pair : List ℕ × List ℕ) (x : List ℕ) (is : IsPlain
       let key_short = is.key_short in
       let document_short = is.document_short in (
         t.0,
-        row_words n (8 * line_to_take x) (0 ∷ next ∷ 0 ∷ k.0 ∷ length pair.0 ∷ d.0 ∷ length pair.1 ∷ 0 ∷ []) d.1
-            (node_fits next k.0 (length pair.0) d.0 (length pair.1) l kw.0 (omega arith) dw.0 (omega arith))
+        row_words n (8 * line_to_take x) (0 ∷ 0 ∷ 1 ∷ k.0 ∷ length pair.0 ∷ d.0 ∷ length pair.1 ∷ 0 ∷ []) d.1
+            (node_fits k.0 (length pair.0) d.0 (length pair.1) kw.0 (omega arith) dw.0 (omega arith))
             dw.1,
       )
-
--- a node linked, and a pair put in
-pub linked_is : (before node : ℕ) (x : List ℕ) → Linked before node x (with_linked before node x)
-unfolding with_linked
-linked_is before node x = linked x (with_word 0 5 (word_of x 0 5 + 1) (with_word before 1 node x)) before node (word_of x 0 5) refl refl
-
-pub linked_words : (k before node : ℕ) (x : List ℕ) → CanLink x before node → node < 2 ^ 64 → Words k x → Words k (with_linked before node x)
-unfolding with_linked
-linked_words k before node x can small w =
-    let few = link_few x before node (word_of x 0 5) can refl in
-    set_words k (with_word before 1 node x) 0 5 (word_of x 0 5 + 1) (omega arith) (set_words k x before 1 node small w)
-
-module _ (before next : ℕ) (pair : List ℕ × List ℕ) (x : List ℕ) (is : IsPlain pair) (can : CanPut x before next pair) where
-  pub put_in_is : PutIn before next pair x (with_put_in before next pair x)
-  unfolding with_put_in
-  put_in_is =
-      let w = with_new_pair next pair x in
-      put_in_done x w.1 (with_linked before w.0 w.1) before next w.0 pair (new_pair_is next pair x is (put_room x before next pair can)) (linked_is before w.0 w.1)
-
-  pub put_in_words : (k : ℕ) → next < 2 ^ 64 → Words k x → Words k (with_put_in before next pair x)
-  unfolding with_put_in
-  put_in_words k small words =
-      let w = with_new_pair next pair x in
-      let room = put_room x before next pair can in
-      let new = new_pair_words next pair x is room k small words in
-      linked_words k before w.0 w.1 (put_can_link x w.1 before next w.0 pair can (new_pair_is next pair x is room)) new.0 new.1

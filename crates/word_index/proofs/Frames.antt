@@ -1,14 +1,19 @@
 -- Lines that a change leaves: what stands in them goes on standing.
-use Rattle.std.proofs.Common.{◌≡◌, ◌≢◌, ◌+◌, ◌*◌, ◌/◌, ◌%◌, ◌<◌, ◌≤◌, ℕ, cond, eqb, List, [], ◌∷◌, ◌++◌, length, get_or, count_by, sym, subst, ◌∙◌, arith}
+use Rattle.std.proofs.Common.{◌≡◌, ◌≢◌, ◌+◌, ◌*◌, ◌/◌, ◌%◌, ◌<◌, ◌≤◌, ℕ, cond, eqb, List, [], ◌∷◌, ◌++◌, length, get_or, count_by, inl, inr, refl, sym, ap, subst, ◌∙◌, arith}
 use Rattle.std.specs.List.{flat_map, All}
 use Rattle.std.proofs.lemmas.Bool.Decides.{nat_tests}
 use Rattle.std.proofs.lemmas.List.{get_or-set_other}
-use Rattle.std.proofs.lemmas.List.Elements.{All-head, All-tail}
+use Rattle.std.proofs.lemmas.Bool.{cases_eq}
+use Rattle.std.proofs.lemmas.List.Elements.{All-nil, All-cons, All-append, All-head, All-tail}
 use Rattle.std.proofs.lemmas.List.Sums.{get_or-le-sum_by, sum_by-append, sum_by-cons}
 use Rattle.cx_base.specs.Store.{Store}
-use Rattle.word_index.specs.Changes.{SameLine, with_word}
-use Rattle.word_index.specs.Layout.{word_of, IsChain, Holds, Place, lines_at, IsAt, Nodes}
-use Rattle.word_index.proofs.Lines.{all_left, all_right}
+use Rattle.avl_words.specs.Lines.{with_word, word_of}
+use Rattle.avl_tree.specs.Tree.{Tree, Empty, Node, items}
+use Rattle.avl_words.specs.Words.{times as tree_times}
+use Rattle.avl_words.proofs.Frames.{stands_same}
+use Rattle.index_checks.specs.Layout.{IsChain, Holds, Place, lines_at, nodes_of, IsAt, Placed, Nodes}
+use Rattle.index_checks.proofs.Lines.{all_left, all_right}
+use Rattle.word_index.specs.Changes.{SameLine}
 
 -- how often a line stands in a list
 abbrev pub times : ℕ → List ℕ → ℕ
@@ -53,14 +58,12 @@ holds_same ws now first lines bytes same h = record {
   packed = λ i l. same (i / 7) 0 (word_line i (length lines) l) (1 + i % 7) (omega arith) ∙ h.packed i l;
 }
 
--- the words of a node but its next node
+-- the words of a node that say nothing of the tree
 abbrev pub SameNode : List ℕ → List ℕ → ℕ → Type 0
-SameNode before now node = (i : ℕ) → i < 8 → i ≢ 1 → word_of now node i ≡ word_of before node i
+SameNode before now node = (i : ℕ) → i < 8 → 3 ≤ i → word_of now node i ≡ word_of before node i
 
 pub at_same : (ws now : List ℕ) (place : Place) (pair : List ℕ × List ℕ) → SameNode ws now place.node → All (SameLine ws now) (place.key_lines ++ place.document_lines) → IsAt ws place pair → IsAt now place pair
 at_same ws now place pair node blocks is = record {
-  no_left = node 0 (omega arith) (omega arith) ∙ is.no_left;
-  no_height = node 2 (omega arith) (omega arith) ∙ is.no_height;
   key = subst (λ x. Holds now x place.key_lines pair.0) (sym (node 3 (omega arith) (omega arith)))
       (holds_same ws now (word_of ws place.node 3) place.key_lines pair.0 (all_left (SameLine ws now) place.key_lines place.document_lines blocks) is.key);
   key_length = node 4 (omega arith) (omega arith) ∙ is.key_length;
@@ -70,23 +73,67 @@ at_same ws now place pair node blocks is = record {
   no_more = node 7 (omega arith) (omega arith) ∙ is.no_more;
 }
 
-pub nodes_same : (ws now : List ℕ) (from to : ℕ) (places : List Place) (store : Store) → All (SameLine ws now) (flat_map lines_at places) → Nodes ws from places store to → Nodes now from places store to
-nodes_same ws now from to [] [] same n = n
-nodes_same ws now from to [] (pair ∷ store) same n = absurd n
-nodes_same ws now from to (place ∷ places) [] same n = absurd n
-nodes_same ws now from to (place ∷ places) (pair ∷ store) same n =
-    let here = all_left (SameLine ws now) (lines_at place) (flat_map lines_at places) same in
-    let node = All-head (SameLine ws now) place.node (place.key_lines ++ place.document_lines) here in
-    let blocks = All-tail (SameLine ws now) place.node (place.key_lines ++ place.document_lines) here in
-    let rest = nodes_same ws now (word_of ws place.node 1) to places store (all_right (SameLine ws now) (lines_at place) (flat_map lines_at places) same) n.2 in (
-      n.0,
-      at_same ws now place pair (λ i l ne. node i l) blocks n.1,
-      subst (λ x. Nodes now x places store to) (sym (node 1 (omega arith))) rest,
+-- the blocks of places
+abbrev pub blocks_of : List Place → List ℕ
+blocks_of places = flat_map (λ p. p.key_lines ++ p.document_lines) places
+
+pub nodes_and_blocks : (x : ℕ) (places : List Place) → times x (flat_map lines_at places) ≡ times x (nodes_of places) + times x (blocks_of places)
+nodes_and_blocks x [] = refl
+nodes_and_blocks x (p ∷ places) =
+    omega (
+      arith,
+      nodes_and_blocks x places,
+      times_append x (lines_at p) (flat_map lines_at places),
+      times_cons x p.node (p.key_lines ++ p.document_lines),
+      times_cons x p.node (nodes_of places),
+      times_append x (p.key_lines ++ p.document_lines) (blocks_of places),
     )
 
--- nodes in two parts
-pub nodes_append : (ws : List ℕ) (from mid to : ℕ) (front rest : List Place) (lower others : Store) → Nodes ws from front lower mid → Nodes ws mid rest others to → Nodes ws from (front ++ rest) (lower ++ others) to
-nodes_append ws from mid to [] rest [] others n m = subst (λ x. Nodes ws x rest others to) (sym n) m
-nodes_append ws from mid to [] rest (p ∷ lower) others n m = absurd n
-nodes_append ws from mid to (p ∷ front) rest [] others n m = absurd n
-nodes_append ws from mid to (p ∷ front) rest (q ∷ lower) others n m = (n.0, n.1, nodes_append ws (word_of ws p.node 1) mid to front rest lower others n.2 m)
+-- pairs of which the nodes' own words and the blocks are as they were
+pub placed_same : (ws now : List ℕ) (places : List Place) (store : Store) → All (SameNode ws now) (nodes_of places) → All (SameLine ws now) (blocks_of places) → Placed ws places store → Placed now places store
+placed_same ws now [] [] nodes blocks n = n
+placed_same ws now [] (pair ∷ store) nodes blocks n = absurd n
+placed_same ws now (place ∷ places) [] nodes blocks n = absurd n
+placed_same ws now (place ∷ places) (pair ∷ store) nodes blocks n = (
+  at_same ws now place pair (All-head (SameNode ws now) place.node (nodes_of places) nodes) (all_left (SameLine ws now) (place.key_lines ++ place.document_lines) (blocks_of places) blocks) n.0,
+  placed_same ws now places store (All-tail (SameNode ws now) place.node (nodes_of places) nodes) (all_right (SameLine ws now) (place.key_lines ++ place.document_lines) (blocks_of places) blocks) n.1,
+)
+
+-- what holds of all lines of places holds of their nodes and of their blocks
+pub all_nodes : (P : ℕ → Type 0) (places : List Place) → All P (flat_map lines_at places) → All P (nodes_of places)
+all_nodes P [] all = All-nil P
+all_nodes P (p ∷ places) all =
+    All-cons P p.node (nodes_of places) (All-head P p.node (p.key_lines ++ p.document_lines) (all_left P (lines_at p) (flat_map lines_at places) all)) (all_nodes P places (all_right P (lines_at p) (flat_map lines_at places) all))
+
+pub all_blocks : (P : ℕ → Type 0) (places : List Place) → All P (flat_map lines_at places) → All P (blocks_of places)
+all_blocks P [] all = All-nil P
+all_blocks P (p ∷ places) all =
+    All-append P (p.key_lines ++ p.document_lines) (blocks_of places) (All-tail P p.node (p.key_lines ++ p.document_lines) (all_left P (lines_at p) (flat_map lines_at places) all))
+    (all_blocks P places (all_right P (lines_at p) (flat_map lines_at places) all))
+
+-- what holds of all lines of a list holds of a line that stands there
+pub found : (P : ℕ → Type 0) (x : ℕ) (lines : List ℕ) → All P lines → times x lines ≢ 0 → P x
+found P x [] all n = absurd (n refl)
+found P x (l ∷ lines) all n =
+    elim (cases_eq l x) as (λ _. P x) [
+      | inl e ↦ subst P e (All-head P l lines all)
+      | inr ne ↦ found P x lines (All-tail P l lines all) (λ z. n (let c = times_cons x l lines in let o : ◌≡◌ {A = ℕ} (cond (eqb l x) 1 0) 0 = grind (arith, nat_tests) in omega (arith, c, o, z)))
+    ]
+
+-- the lines of a tree, counted in order
+pub tree_lines : (x : ℕ) (t : Tree ℕ) → tree_times x t ≡ times x (items t)
+tree_lines x Empty = refl
+tree_lines x (Node l y r) = omega (arith, tree_lines x l, tree_lines x r, times_append x (items l) (y ∷ items r), times_cons x y (items r))
+
+pub place_lines_counted : (x : ℕ) (ws : List ℕ) (from : ℕ) (tree : Tree ℕ) (places : List Place) (store : Store) → Nodes ws from tree places store → tree_times x tree ≡ times x (nodes_of places)
+place_lines_counted x ws from tree places store n = tree_lines x tree ∙ ap (times x) n.in_order
+
+pub nodes_same : (ws now : List ℕ) (from : ℕ) (tree : Tree ℕ) (places : List Place) (store : Store) → length now ≡ length ws → All (SameLine ws now) (flat_map lines_at places) → Nodes ws from tree places store → Nodes now from tree places store
+nodes_same ws now from tree places store long same n = record {
+  root_is = n.root_is;
+  shape = stands_same ws now tree long
+      (λ line some. found (SameLine ws now) line (nodes_of places) (all_nodes (SameLine ws now) places same) (λ z. some (place_lines_counted line ws from tree places store n ∙ z))) n.shape;
+  balanced = n.balanced;
+  in_order = n.in_order;
+  pairs = placed_same ws now places store (λ k d l i b far. all_nodes (SameLine ws now) places same k d l i b) (all_blocks (SameLine ws now) places same) n.pairs;
+}

@@ -1,200 +1,282 @@
--- What an insertion does to the store.
-use Rattle.std.proofs.Common.{◌≡◌, ◌^◌, ◌+◌, ◌-◌, ◌*◌, ◌/◌, ◌<◌, ◌≤◌, ℕ, Bool, true, false, leb, List, [], ◌∷◌, ◌++◌, length, Some, is_some, refl, sym, ap, subst, ◌∙◌, arith}
+-- What putting a document at a key does to the store.
+use Rattle.std.proofs.Common.{◌≡◌, ◌≢◌, ◌^◌, ◌+◌, ◌-◌, ◌*◌, ◌/◌, ◌<◌, ◌≤◌, ℕ, Bool, true, false, cond, leb, List, [], ◌∷◌, ◌++◌, length, is_some, inl, inr, refl, sym, ap, subst, ◌∙◌, arith}
+use Rattle.std.proofs.lemmas.Bool.{cases_eq}
 use Rattle.std.proofs.lemmas.Bool.Decides.{nat_tests}
 use Rattle.cx_base.specs.Store.{Store, IsKey, IsDocument, pair_lines, lines_of}
-use Rattle.doc_model.specs.Meaning.{document_at, pairs_below, pairs_above, with_pair, without_key, has_room}
+use Rattle.doc_model.specs.Meaning.{document_at, pairs_below, pairs_above, with_pair, has_room}
 use Rattle.doc_model.proofs.Stores.{IsStore-with_pair}
-use Rattle.word_index.specs.Answers.{IsNodeOf, IsFound}
-use Rattle.word_index.specs.Changes.{IsGap, HasGap, TakenOut, IsRemoved}
-use Rattle.word_index.specs.Insertion.{HasSpot, LinesAt, Cleared, CanPut, PutIn, Inserts}
-use Rattle.word_index.specs.Access.{Reads}
-use Rattle.cx_base.specs.Memory.{Words}
-use Rattle.word_index.specs.declared.insertion.Inserted.{Inserted}
+use Rattle.avl_tree.specs.Ways.{spot, with_new}
+use Rattle.avl_words.specs.Lines.{line_count}
+use Rattle.avl_words.specs.Words.{root}
+use Rattle.avl_words.specs.Exact.{with_tree}
+use Rattle.avl_words.proofs.ExactWords.{tree_in_is}
+use Rattle.index_checks.specs.Layout.{Arranged, StandsFor, IsIndex}
+use Rattle.index_checks.specs.Reading.{store_in}
+use Rattle.index_checks.proofs.LawfulWords.{store_is}
+use Rattle.index_checks.proofs.Totals.{all_lines}
+use Rattle.word_index.specs.Exact.{order_in, with_new_pair, with_one_more, with_added, node_at, with_rewritten, is_key_in, with_document, inserted_in}
+use Rattle.word_index.specs.Fresh.{CanTake}
+use Rattle.word_index.specs.Insertion.{Inserts, CanAdd, Adds, LinesAt}
 use Rattle.word_index.specs.declared.insertion.Inserted.TheVariants.{New, Replaced, NoRoom}
-use Rattle.word_index.specs.Layout.{word_of, line_count, Arranged, StandsFor, IsIndex}
+use Rattle.word_index.specs.Rewriting.{CanRewrite}
 use Rattle.word_index.specs.Walk.{HasNode, AtSpot}
+use Rattle.word_index.proofs.Adding.{add_room, added_stands, plain_of}
+use Rattle.word_index.proofs.DocumentChanges.{rewritten_is}
+use Rattle.word_index.proofs.ExactTaking.{new_pair_is}
 use Rattle.word_index.proofs.Putting.{lines_of_append, lines_of_cons, lines_of_places}
-use Rattle.word_index.proofs.Spots.{above_split, above_behind, below_split, below_behind, document_there, spot_place, spot_found, spot_gap, spot_missing, place_gap}
-use Rattle.word_index.proofs.Totals.{all_lines}
+use Rattle.word_index.proofs.Splits.{above_split, below_split, above_behind, below_behind, document_there, document_missing}
+use Rattle.word_index.proofs.KeyPlaces.{tree_of, walk_end, IsMissing, HasPlace, none_at, place_is_at, place_node, spot_node}
 
-same_document : (a b : List ℕ) → Some a ≡ Some b → a ≡ b
-same_document a b e = cc
+-- the store with the document, where the walk ended at nothing, and where it ended at the key's node
+module _ (x key document : List ℕ) (version : ℕ) (store : Store) (s : StandsFor x version store) where
+  module _ (m : IsMissing x key s.places store (walk_end (order_in key x) s.tree).0) where
+    missing_with : with_pair key document store ≡ m.split.lower ++ (key, document) ∷ m.split.others
+    missing_with =
+        ap (λ u. u ++ (key, document) ∷ pairs_above key store) (ap (pairs_below key) m.split.store_is ∙ below_split key m.split.lower m.split.others m.below m.above)
+        ∙ ap (λ u. m.split.lower ++ (key, document) ∷ u) (ap (pairs_above key) m.split.store_is ∙ above_split key m.split.lower m.split.others m.below m.above)
 
--- the lines of the pair at a spot
-pub lines_at_key : (ws : List ℕ) (before node n : ℕ) → ((pair : List ℕ × List ℕ) → IsNodeOf ws node pair → n ≡ pair_lines pair) → LinesAt before node true n ws
-lines_at_key ws before node n is key spot version store s =
-    let h = spot_place ws key before node spot version store s in
-    let f = spot_found ws key before node spot version store s in
-    let found : f.0 ≡ h.document = same_document f.0 h.document (sym f.1 ∙ ap (document_at key) h.store_is ∙ document_there key h.document h.lower h.after h.below) in
-    let count : n ≡ pair_lines (key, h.document) = is (key, f.0) f.2 ∙ ap (λ d. pair_lines (key, d)) found in
-    let below = ap (pairs_below key) h.store_is ∙ below_behind key h.document h.lower h.after h.below h.above in
-    let above = ap (pairs_above key) h.store_is ∙ above_behind key h.document h.lower h.after h.below h.above in
-    omega (arith, count, ap lines_of below, ap lines_of above, ap lines_of h.store_is, lines_of_append h.lower ((key, h.document) ∷ h.after), lines_of_cons (key, h.document) h.after)
+    pub missing_lines : lines_of (with_pair key document store) ≡ lines_of store + pair_lines (key, document)
+    missing_lines =
+        omega (
+          arith,
+          ap lines_of missing_with,
+          ap lines_of m.split.store_is,
+          lines_of_append m.split.lower ((key, document) ∷ m.split.others),
+          lines_of_cons (key, document) m.split.others,
+          lines_of_append m.split.lower m.split.others,
+        )
 
-pub lines_at_none : (ws : List ℕ) (before node : ℕ) → LinesAt before node false 0 ws
-lines_at_none ws before node key spot version store s =
-    let t = spot version store s in
-    let below = ap (pairs_below key) t.store_is ∙ below_split key t.lower t.others t.passed.below t.ends in
-    let above = ap (pairs_above key) t.store_is ∙ above_split key t.lower t.others t.passed.below t.ends in
-    omega (arith, ap lines_of below, ap lines_of above, ap lines_of t.store_is, lines_of_append t.lower t.others)
+    pub missing_key : is_some (document_at key store) ≡ false
+    missing_key = ap is_some (ap (document_at key) m.split.store_is ∙ document_missing key m.split.lower m.split.others m.below m.above)
 
-pub spot_node : (ws : List ℕ) (before node : ℕ) → HasSpot ws before node true → HasNode ws node
-spot_node ws before node h =
-    let f = spot_found ws h.key before node h.spot h.index.version h.index.store h.index.stands in
-    record { pair = (h.key, f.0); is = f.2 }
+  module _ (node : ℕ) (h : HasPlace x key s.places store (walk_end (order_in key x) s.tree).0 (walk_end (order_in key x) s.tree).1 node) where
+    here_is : store ≡ h.at.lower ++ (key, h.document) ∷ h.at.after
+    here_is = h.at.store_is ∙ ap (λ p. h.at.lower ++ p ∷ h.at.after) h.pair_is
 
-pub spot_has_gap : (ws : List ℕ) (before node : ℕ) → HasSpot ws before node true → HasGap ws before node
-spot_has_gap ws before node h = spot_gap ws h.key before node h.spot h.index
+    pub here_with : with_pair key document store ≡ h.at.lower ++ (key, document) ∷ h.at.after
+    here_with =
+        ap (λ u. u ++ (key, document) ∷ pairs_above key store) (ap (pairs_below key) here_is ∙ below_behind key h.document h.at.lower h.at.after h.below h.above)
+        ∙ ap (λ u. h.at.lower ++ (key, document) ∷ u) (ap (pairs_above key) here_is ∙ above_behind key h.document h.at.lower h.at.after h.below h.above)
 
--- a cleared spot
-pub cleared_key : (x z : List ℕ) (before node next : ℕ) → TakenOut before node next x z → Cleared before node true next x z
-cleared_key x z before node next t key spot version store s =
-    let h = spot_place x key before node spot version store s in
-    let out = t version h.lower h.after (key, h.document) h.front h.rest h.place (place_gap x key version store s before node h) in
-    let below = ap (pairs_below key) h.store_is ∙ below_behind key h.document h.lower h.after h.below h.above in
-    let above = ap (pairs_above key) h.store_is ∙ above_behind key h.document h.lower h.after h.below h.above in
-    record {
-      front = h.front;
-      rest = h.rest;
-      gap = subst (λ l. IsGap z version l (pairs_above key store) h.front h.rest before next) (sym below) (subst (λ o. IsGap z version h.lower o h.front h.rest before next) (sym above) out);
-    }
+    pub here_lines : lines_of (with_pair key document store) ≡ lines_of h.at.lower + pair_lines (key, document) + lines_of h.at.after
+    here_lines = omega (arith, ap lines_of here_with, lines_of_append h.at.lower ((key, document) ∷ h.at.after), lines_of_cons (key, document) h.at.after)
 
-pub cleared_none : (x : List ℕ) (before node : ℕ) → Cleared before node false node x x
-cleared_none x before node key spot version store s =
-    let t = spot version store s in
-    let below = ap (pairs_below key) t.store_is ∙ below_split key t.lower t.others t.passed.below t.ends in
-    let above = ap (pairs_above key) t.store_is ∙ above_split key t.lower t.others t.passed.below t.ends in
-    let gap : IsGap x version t.lower t.others t.front t.rest before node = record {
+    pub here_before : lines_of store ≡ lines_of h.at.lower + pair_lines (key, h.document) + lines_of h.at.after
+    here_before = omega (arith, ap lines_of here_is, lines_of_append h.at.lower ((key, h.document) ∷ h.at.after), lines_of_cons (key, h.document) h.at.after)
+
+    pub here_key : is_some (document_at key store) ≡ true
+    here_key = ap is_some (ap (document_at key) here_is ∙ document_there key h.document h.at.lower h.at.after h.below)
+
+    pub here_can : lines_of (with_pair key document store) + 1 ≤ line_count x → CanRewrite x node document
+    here_can room = record {
+      version = version;
+      tree = s.tree;
+      lower = h.at.lower;
+      after = h.at.after;
+      pair = h.at.pair;
+      front = h.at.front;
+      rest = h.at.rest;
+      place = h.at.place;
       given = s.given;
-      arranged = subst (λ ps. Arranged x version (t.lower ++ t.others) ps s.given []) t.places_are (subst (λ st. Arranged x version st s.places s.given []) t.store_is s.arranged);
-      up_to = t.passed.up_to;
-      onward = t.passed.onward;
-      last = t.passed.last;
-    } in
-    record {
-      front = t.front;
-      rest = t.rest;
-      gap = subst (λ l. IsGap x version l (pairs_above key store) t.front t.rest before node) (sym below) (subst (λ o. IsGap x version t.lower o t.front t.rest before node) (sym above) gap);
+      here = h.at.node_is;
+      arranged = subst (λ ps. Arranged x version (h.at.lower ++ h.at.pair ∷ h.at.after) s.tree ps s.given []) h.at.places_are (subst (λ st. Arranged x version st s.tree s.places s.given []) h.at.store_is s.arranged);
+      placed_front = h.at.placed_front;
+      room = (let lines = here_lines in subst (λ k. lines_of h.at.lower + pair_lines (k, document) + lines_of h.at.after + 1 ≤ line_count x) (sym (ap (λ (p : List ℕ × List ℕ). p.0) h.pair_is)) (omega (arith, lines, room)));
     }
+
+    pub rewritten_stands : IsKey key → IsDocument document → lines_of (with_pair key document store) + 1 ≤ line_count x → StandsFor (with_rewritten document node x) version (with_pair key document store)
+    unfolding here_can
+    rewritten_stands is_key is_document room =
+        let w = rewritten_is x node document (here_can room) is_document.short in
+        let same : h.at.lower ++ (h.at.pair.0, document) ∷ h.at.after ≡ with_pair key document store = ap (λ (p : List ℕ × List ℕ). h.at.lower ++ (p.0, document) ∷ h.at.after) h.pair_is ∙ sym here_with in
+        record {
+          tree = w.tree;
+          places = w.places;
+          given = w.given;
+          arranged = subst (λ st. Arranged (with_rewritten document node x) version st w.tree w.places w.given []) same w.arranged;
+          lawful = IsStore-with_pair key document store is_key is_document s.lawful;
+        }
+
+  pub added_is : 0 ≡ root (walk_end (order_in key x) s.tree).1 → IsKey key → IsDocument document → lines_of store + pair_lines (key, document) + 1 ≤ line_count x → StandsFor (with_added (key, document) x) version (with_pair key document store)
+  unfolding with_added
+  added_is none is_key is_document room =
+      let pair : List ℕ × List ℕ = (key, document) in
+      let here = add_room x version store s pair room in
+      let can : CanTake x (pair_lines pair) = record { version = version; store = store; tree = s.tree; places = s.places; given = s.given; loose = []; arranged = s.arranged; room = here } in
+      let new = with_new_pair pair x in
+      let p = new_pair_is pair x (plain_of pair is_key is_document) can version store s.tree s.places s.given s.arranged here in
+      subst (λ u. StandsFor (with_one_more (with_tree (with_new (order_in key x) new.0 u) new.1)) version (with_pair key document store)) (sym (tree_in_is x s.tree (tree_of x version store s)))
+      (added_stands x pair version store s none new.1 new.0 p is_key is_document)
+
+  pub node_at_is : root (walk_end (order_in key x) s.tree).1 ≡ node_at key x
+  unfolding node_at
+  node_at_is = ap (λ u. root (walk_end (order_in key x) u).1) (sym (tree_in_is x s.tree (tree_of x version store s)))
+
+  -- either way
+  pub there_with : IsKey key → IsDocument document → lines_of (with_pair key document store) + 1 ≤ line_count x → (b : Bool) → is_some (document_at key store) ≡ b →
+      StandsFor (cond b (with_rewritten document (node_at key x) x) (with_added (key, document) x)) version (with_pair key document store)
+  there_with is_key is_document room b e =
+      let node = root (walk_end (order_in key x) s.tree).1 in
+      elim (cases_eq node 0) [
+        | inl z ↦
+            let m = none_at x key version store s (sym z) in
+            let lines = missing_lines m in
+            let f : false ≡ b = sym (missing_key m) ∙ e in
+            subst (λ b. StandsFor (cond b (with_rewritten document (node_at key x) x) (with_added (key, document) x)) version (with_pair key document store)) f (added_is (sym z) is_key is_document (omega (arith, lines, room)))
+        | inr n ↦
+            let h = place_is_at x key version store s node refl n in
+            let t : true ≡ b = sym (here_key node h) ∙ e in
+            subst (λ b. StandsFor (cond b (with_rewritten document (node_at key x) x) (with_added (key, document) x)) version (with_pair key document store)) t
+            (subst (λ n. StandsFor (with_rewritten document n x) version (with_pair key document store)) node_at_is (rewritten_stands node h is_key is_document room))
+      ]
+
+pub room_parts : (total count : ℕ) → leb total (count - 1) ≡ true → 1 ≤ count → total + 1 ≤ count
+room_parts total count e some = grind (arith, nat_tests)
+
+-- a document put at a key
+module _ (key document x : List ℕ) (is_key : IsKey key) (is_document : IsDocument document) where
+  put_by : (b : Bool) → is_key_in key x ≡ b → has_room (line_count x) (with_pair key document (store_in x)) ≡ true → Inserts key document (cond b Replaced New) x (cond b (with_rewritten document (node_at key x) x) (with_added (key, document) x))
+  unfolding is_key_in
+  put_by true e room = λ version store s. (
+      let same = store_is x version store s in
+      let room_here = subst (λ st. has_room (line_count x) (with_pair key document st) ≡ true) same room in
+      let there = subst (λ st. is_some (document_at key st) ≡ true) same e in
+      (room_here, there, there_with x key document version store s is_key is_document (room_parts (lines_of (with_pair key document store)) (line_count x) room_here s.arranged.sized.some) true there))
+  put_by false e room = λ version store s. (
+      let same = store_is x version store s in
+      let room_here = subst (λ st. has_room (line_count x) (with_pair key document st) ≡ true) same room in
+      let there = subst (λ st. is_some (document_at key st) ≡ false) same e in
+      (room_here, there, there_with x key document version store s is_key is_document (room_parts (lines_of (with_pair key document store)) (line_count x) room_here s.arranged.sized.some) false there))
+
+  inserted_by : (b : Bool) → has_room (line_count x) (with_pair key document (store_in x)) ≡ b →
+      Inserts key document (cond b (cond (is_key_in key x) Replaced New) NoRoom) x (cond b (cond (is_key_in key x) (with_rewritten document (node_at key x) x) (with_added (key, document) x)) x)
+  inserted_by true e = put_by (is_key_in key x) refl e
+  inserted_by false e = λ version store s. (subst (λ st. has_room (line_count x) (with_pair key document st) ≡ false) (store_is x version store s) e, refl)
+
+  pub inserted_is : Inserts key document (inserted_in key document x) x (with_document key document x)
+  unfolding inserted_in with_document
+  inserted_is = inserted_by (has_room (line_count x) (with_pair key document (store_in x))) refl
 
 -- what is known before the change
-pub record IsKnown (key : List ℕ) (before node : ℕ) (same : Bool) (used old n : ℕ) (ws : List ℕ) : Type 0 where
-  pub spot : AtSpot key before node same ws
+pub record IsKnown (key nodes sides : List ℕ) (depth node above used old n : ℕ) (ws : List ℕ) : Type 0 where
+  pub spot : AtSpot false key nodes sides depth node above ws
   pub in_use : (version : ℕ) (store : Store) → StandsFor ws version store → used ≡ lines_of store
-  pub here : LinesAt before node same old ws
+  pub here : LinesAt node old ws
   pub long : length ws ≡ n
 
-pub old_below : (key : List ℕ) (before node : ℕ) (same : Bool) (used old n : ℕ) (ws : List ℕ) → IsKnown key before node same used old n ws → IsIndex ws → old ≤ used
-old_below key before node same used old n ws k i =
-    omega (arith, k.in_use i.version i.store i.stands, k.here key k.spot i.version i.store i.stands)
-
-pub used_few : (key : List ℕ) (before node : ℕ) (same : Bool) (used old n : ℕ) (ws : List ℕ) → IsKnown key before node same used old n ws → IsIndex ws → used ≤ 2 ^ 32
-used_few key before node same used old n ws k i =
-    let s = i.stands in
-    let a = s.arranged in
-    omega (arith, k.in_use i.version i.store s, all_lines ws i.version i.store s.places s.given [] a, lines_of_places ws (word_of ws 0 1) 0 s.places i.store a.nodes, a.end_to, a.sized.few)
+pub can_have_node : (ws key nodes sides : List ℕ) (depth node above : ℕ) → AtSpot false key nodes sides depth node above ws → IsIndex ws → node ≢ 0 → HasNode ws node
+can_have_node ws key nodes sides depth node above spot i n = spot_node ws key nodes sides depth node above spot n i
 
 -- the lines with the new pair
-pub lines_with : (key document : List ℕ) (before node : ℕ) (same : Bool) (used old n more : ℕ) (ws : List ℕ) → IsKnown key before node same used old n ws → more ≡ pair_lines (key, document) →
-    (version : ℕ) (store : Store) → StandsFor ws version store → used - old + more ≡ lines_of (with_pair key document store)
-lines_with key document before node same used old n more ws k e version store s =
-    omega (arith, e, k.in_use version store s, k.here key k.spot version store s, lines_of_append (pairs_below key store) ((key, document) ∷ pairs_above key store), lines_of_cons (key, document) (pairs_above key store))
+pub record IsCounted (used old more total : ℕ) : Type 0 where
+  pub below : old ≤ used
+  pub sum : used - old + more ≡ total
 
-no_room : (needed lines n count : ℕ) → count ≡ n / 8 → n ≡ 8 * lines → lines - 1 < needed → leb needed (count - 1) ≡ false
-no_room needed lines n count c e l = (let count_is : count ≡ lines = omega arith in grind (arith, nat_tests))
+module _ (x key document nodes sides : List ℕ) (depth node above used old n : ℕ) (k : IsKnown key nodes sides depth node above used old n x) where
+  pub counted : (version : ℕ) (store : Store) → StandsFor x version store → IsCounted used old (pair_lines (key, document)) (lines_of (with_pair key document store))
+  counted version store s =
+      let e = (k.spot version store s).at.node_is in
+      let u = k.in_use version store s in
+      elim (cases_eq node 0) [
+        | inl z ↦
+            let lines = missing_lines x key document version store s (none_at x key version store s (sym z ∙ e)) in
+            let none = k.here.none z in
+            record { below = omega (arith, none); sum = omega (arith, none, u, lines) }
+        | inr ne ↦
+            let h = place_is_at x key version store s node e ne in
+            let lines = here_lines x key document version store s node h in
+            let before = here_before x key document version store s node h in
+            let some = k.here.some ne (key, h.document) (place_node x key version store s (walk_end (order_in key x) s.tree).0 (walk_end (order_in key x) s.tree).1 node h) in
+            record { below = omega (arith, some, u, before); sum = omega (arith, some, u, lines, before) }
+      ]
 
-room : (needed lines n count : ℕ) → count ≡ n / 8 → n ≡ 8 * lines → needed ≤ lines - 1 → leb needed (count - 1) ≡ true
-room needed lines n count c e l = (let count_is : count ≡ lines = omega arith in grind (arith, nat_tests))
+  pub used_few : IsIndex x → used ≤ 2 ^ 32
+  used_few i =
+      let s = i.stands in
+      let a = s.arranged in
+      omega (arith, k.in_use i.version i.store s, all_lines x i.version i.store s.tree s.places s.given [] a, lines_of_places x s.places i.store a.nodes.pairs, a.end_to, a.sized.few)
 
-pub has_no_room : (needed lines n : ℕ) (ws : List ℕ) (store : Store) → needed ≡ lines_of store → length ws ≡ n → n ≡ 8 * lines → lines - 1 < needed → has_room (line_count ws) store ≡ false
-has_no_room needed lines n ws store e long size l =
-    subst (λ x. leb x (line_count ws - 1) ≡ false) e (no_room needed lines n (line_count ws) (ap (λ m. m / 8) long) size l)
+  module _ (lines more : ℕ) (i : IsIndex x) (e : more ≡ pair_lines (key, document)) (size : n ≡ 8 * lines) where
+    count_lines : line_count x ≡ lines
+    count_lines = ap (λ m. m / 8) k.long ∙ (let h : n / 8 ≡ lines = omega arith in h)
 
-pub has_some_room : (needed lines n : ℕ) (ws : List ℕ) (store : Store) → needed ≡ lines_of store → length ws ≡ n → n ≡ 8 * lines → needed ≤ lines - 1 → has_room (line_count ws) store ≡ true
-has_some_room needed lines n ws store e long size l =
-    subst (λ x. leb x (line_count ws - 1) ≡ true) e (room needed lines n (line_count ws) (ap (λ m. m / 8) long) size l)
+    total : used - old + more ≡ lines_of (with_pair key document i.store)
+    total = ap (λ m. used - old + m) e ∙ (counted i.version i.store i.stands).sum
 
--- the pair can be put where the spot is cleared
-room_there : (needed lines n b p a : ℕ) → needed ≡ b + (p + a) → n ≡ 8 * lines → needed ≤ lines - 1 → 1 ≤ lines → b + p + a + 1 ≤ n / 8
-room_there needed lines n b p a e size l some = omega arith
+    pub no_room : lines - 1 < used - old + more → has_room (line_count x) (with_pair key document (store_in x)) ≡ false
+    no_room l =
+        subst (λ st. has_room (line_count x) (with_pair key document st) ≡ false) (sym (store_is x i.version i.store i.stands))
+        (too_many (used - old + more) (lines_of (with_pair key document i.store)) (line_count x) total (subst (λ c. c - 1 < used - old + more) (sym count_lines) l))
+      where
+        too_many : (a b c : ℕ) → a ≡ b → c - 1 < a → leb b (c - 1) ≡ false
+        too_many a b c e l = grind (arith, nat_tests)
 
-pub put_there : (needed lines n : ℕ) (z key document : List ℕ) (store : Store) → needed ≡ lines_of (with_pair key document store) → length z ≡ n → n ≡ 8 * lines → needed ≤ lines - 1 → 1 ≤ lines →
-    lines_of (pairs_below key store) + pair_lines (key, document) + lines_of (pairs_above key store) + 1 ≤ line_count z
-put_there needed lines n z key document store e long size l some =
-    subst (λ m. lines_of (pairs_below key store) + pair_lines (key, document) + lines_of (pairs_above key store) + 1 ≤ m / 8) (sym long)
-    (room_there needed lines n (lines_of (pairs_below key store)) (pair_lines (key, document)) (lines_of (pairs_above key store))
-    (e ∙ lines_of_append (pairs_below key store) ((key, document) ∷ pairs_above key store) ∙ ap (λ m. lines_of (pairs_below key store) + m) (lines_of_cons (key, document) (pairs_above key store))) size l some)
+    pub room : used - old + more ≤ lines - 1 → lines_of (with_pair key document i.store) + 1 ≤ line_count x
+    room l = (let t = total in let c = count_lines in let some = i.stands.arranged.sized.some in omega (arith, t, c, some, l))
 
-pub can_put : (needed lines n next : ℕ) (x z key document : List ℕ) (before node : ℕ) (same : Bool) (used old more : ℕ) → IsIndex x → IsKnown key before node same used old n x → Cleared before node same next x z →
-    more ≡ pair_lines (key, document) → needed ≡ used - old + more → length z ≡ n → n ≡ 8 * lines → needed ≤ lines - 1 → 1 ≤ lines → IsKey key → IsDocument document → CanPut z before next (key, document)
-can_put needed lines n next x z key document before node same used old more i k c e f long size l some is_key is_document =
-    let v = c key k.spot i.version i.store i.stands in
-    record {
-      version = i.version;
-      lower = pairs_below key i.store;
-      others = pairs_above key i.store;
-      front = v.front;
-      rest = v.rest;
-      gap = v.gap;
-      room = put_there needed lines n z key document i.store (f ∙ lines_with key document before node same used old n more x k e i.version i.store i.stands) long size l some;
-      lawful = IsStore-with_pair key document i.store is_key is_document i.stands.arranged.lawful;
-    }
+    pub has_some_room : used - old + more ≤ lines - 1 → has_room (line_count x) (with_pair key document (store_in x)) ≡ true
+    has_some_room l =
+        subst (λ st. has_room (line_count x) (with_pair key document st) ≡ true) (sym (store_is x i.version i.store i.stands)) (enough (lines_of (with_pair key document i.store)) (line_count x) (room l))
+      where
+        enough : (b c : ℕ) → b + 1 ≤ c → leb b (c - 1) ≡ true
+        enough b c l = grind (arith, nat_tests)
 
-pub put_stands : (needed lines n next : ℕ) (x z w key document : List ℕ) (before node : ℕ) (same : Bool) (used old more : ℕ) → IsKnown key before node same used old n x → Cleared before node same next x z → PutIn before next (key, document) z w →
-    more ≡ pair_lines (key, document) → needed ≡ used - old + more → length z ≡ n → n ≡ 8 * lines → needed ≤ lines - 1 → 1 ≤ lines → IsKey key → IsDocument document →
-    (version : ℕ) (store : Store) → StandsFor x version store → StandsFor w version (with_pair key document store)
-put_stands needed lines n next x z w key document before node same used old more k c p e f long size l some is_key is_document version store s =
-    let v = c key k.spot version store s in
-    p version (pairs_below key store) (pairs_above key store) v.front v.rest v.gap
-    (put_there needed lines n z key document store (f ∙ lines_with key document before node same used old n more x k e version store s) long size l some)
-    (IsStore-with_pair key document store is_key is_document s.arranged.lawful)
+    pub can_add : used - old + more ≤ lines - 1 → node ≡ 0 → IsKey key → IsDocument document → CanAdd x nodes sides depth (key, document)
+    can_add l z is_key is_document =
+        let s = i.stands in
+        let m = none_at x key i.version i.store s (sym z ∙ (k.spot i.version i.store s).at.node_is) in
+        let r = room l in
+        let lines = missing_lines x key document i.version i.store s m in
+        record {
+          above = above;
+          spot = subst (λ d. AtSpot false key nodes sides depth d above x) z k.spot;
+          index = i;
+          room = omega (arith, r, lines);
+          is_key = is_key;
+          is_document = is_document;
+        }
 
--- what three readings tell
-pub known_from : {Key : Type 0} {a b d e : Key → List ℕ → Type 0} (key : List ℕ) (before node : ℕ) (same : Bool) (used old n : ℕ) → Reads a b (AtSpot key before node same) →
-    Reads b d (λ ws. (version : ℕ) (store : Store) → StandsFor ws version store → used ≡ lines_of store) → Reads d e (LinesAt before node same old) → ((first : Key) (now : List ℕ) → e first now → Words n now) →
-    Reads a e (IsKnown key before node same used old n)
-known_from key before node same used old n r u l words = record {
-  from = λ first now s. (
-      let p = l.from first now s in let q = u.from first now p.0 in let t = r.from first now q.0 in
-      (t.0, record { spot = t.1; in_use = q.1; here = p.1; long = (words first now s).long }));
-}
+    pub can_rewrite : used - old + more ≤ lines - 1 → node ≢ 0 → CanRewrite x node document
+    can_rewrite l ne =
+        let s = i.stands in
+        here_can x key document i.version i.store s node (place_is_at x key i.version i.store s node (k.spot i.version i.store s).at.node_is ne) (room l)
 
-pub not_inserted : (x y key document : List ℕ) (before node : ℕ) (same : Bool) (used old n more lines : ℕ) → y ≡ x → IsKnown key before node same used old n y → more ≡ pair_lines (key, document) → n ≡ 8 * lines →
-    lines - 1 < used - old + more → Inserts key document NoRoom x y
-not_inserted x y key document before node same used old n more lines e k counted size l =
-    subst (λ w. Inserts key document NoRoom w y) e (λ version store s. (
-      has_no_room (used - old + more) lines n y (with_pair key document store) (lines_with key document before node same used old n more y k counted version store s) k.long size l,
-      refl,
-    ))
+    -- and the exact words
+    pub exact_none : lines - 1 < used - old + more → (NoRoom ≡ inserted_in key document x) × (x ≡ with_document key document x)
+    unfolding inserted_in with_document
+    exact_none l =
+        let f = no_room l in (
+          ap (λ b. cond b (cond (is_key_in key x) Replaced New) NoRoom) (sym f),
+          ap (λ b. cond b (cond (is_key_in key x) (with_rewritten document (node_at key x) x) (with_added (key, document) x)) x) (sym f),
+        )
 
-pub inserted_over : (x y z w key document : List ℕ) (before node : ℕ) (same : Bool) (used old n more lines next : ℕ) → y ≡ x → IsKnown key before node same used old n y → Cleared before node same next y z → PutIn before next (key, document) z w →
-    length z ≡ n → more ≡ pair_lines (key, document) → n ≡ 8 * lines → used - old + more ≤ lines - 1 → 1 ≤ lines → IsKey key → IsDocument document → same ≡ true → Inserts key document Replaced x w
-inserted_over x y z w key document before node same used old n more lines next e k c p long counted size l some is_key is_document is =
-    let spot = subst (λ b. AtSpot key before node b y) is k.spot in
-    subst (λ v. Inserts key document Replaced v w) e (λ version store s. (
-      has_some_room (used - old + more) lines n y (with_pair key document store) (lines_with key document before node same used old n more y k counted version store s) k.long size l,
-      ap is_some (spot_found y key before node spot version store s).1,
-      put_stands (used - old + more) lines n next y z w key document before node same used old more k c p counted refl long size l some is_key is_document version store s,
-    ))
+    key_is : (b : Bool) → is_some (document_at key i.store) ≡ b → is_key_in key x ≡ b
+    unfolding is_key_in
+    key_is b e = ap (λ st. is_some (document_at key st)) (store_is x i.version i.store i.stands) ∙ e
 
-pub inserted_new : (x y z w key document : List ℕ) (before node : ℕ) (same : Bool) (used old n more lines next : ℕ) → y ≡ x → IsKnown key before node same used old n y → Cleared before node same next y z → PutIn before next (key, document) z w →
-    length z ≡ n → more ≡ pair_lines (key, document) → n ≡ 8 * lines → used - old + more ≤ lines - 1 → 1 ≤ lines → IsKey key → IsDocument document → same ≡ false → Inserts key document New x w
-inserted_new x y z w key document before node same used old n more lines next e k c p long counted size l some is_key is_document is =
-    let spot = subst (λ b. AtSpot key before node b y) is k.spot in
-    subst (λ v. Inserts key document New v w) e (λ version store s. (
-      has_some_room (used - old + more) lines n y (with_pair key document store) (lines_with key document before node same used old n more y k counted version store s) k.long size l,
-      ap is_some (spot_missing y key before node spot version store s),
-      put_stands (used - old + more) lines n next y z w key document before node same used old more k c p counted refl long size l some is_key is_document version store s,
-    ))
+    pub exact_new : (w : List ℕ) → used - old + more ≤ lines - 1 → node ≡ 0 → IsKey key → IsDocument document → Adds nodes sides depth (key, document) x w → (New ≡ inserted_in key document x) × (w ≡ with_document key document x)
+    unfolding inserted_in with_document can_add
+    exact_new w l z is_key is_document adds =
+        let s = i.stands in
+        let c = can_add l z is_key is_document in
+        let f = has_some_room l in
+        let m = none_at x key i.version i.store s (sym z ∙ (k.spot i.version i.store s).at.node_is) in
+        let t = key_is false (missing_key x key document i.version i.store s m) in (
+          ap (λ b. cond b Replaced New) (sym t) ∙ ap (λ b. cond b (cond (is_key_in key x) Replaced New) NoRoom) (sym f),
+          adds above c.spot i c.room is_key is_document ∙ ap (λ b. cond b (with_rewritten document (node_at key x) x) (with_added (key, document) x)) (sym t)
+              ∙ ap (λ b. cond b (cond (is_key_in key x) (with_rewritten document (node_at key x) x) (with_added (key, document) x)) x) (sym f),
+        )
 
--- words that stand for a store go on doing so
-pub index_after_insert : (inserted : Inserted) (x y key document : List ℕ) → IsIndex x → Inserts key document inserted x y → IsIndex y
-index_after_insert NoRoom x y key document i r = subst IsIndex (sym (r i.version i.store i.stands).1) i
-index_after_insert New x y key document i r = record { version = i.version; store = with_pair key document i.store; stands = (r i.version i.store i.stands).2 }
-index_after_insert Replaced x y key document i r = record { version = i.version; store = with_pair key document i.store; stands = (r i.version i.store i.stands).2 }
-
-pub index_after_remove : (found : Bool) (x y key : List ℕ) → IsIndex x → IsRemoved key found x y → IsIndex y
-index_after_remove found x y key i r = record { version = i.version; store = without_key key i.store; stands = (r i.version i.store i.stands).after }
-
-pub found_node : (ws key : List ℕ) (node : ℕ) → IsIndex ws → ((version : ℕ) (store : Store) → StandsFor ws version store → IsFound ws key (Some node) store) → HasNode ws node
-found_node ws key node i r = (let f = r i.version i.store i.stands in record { pair = (key, f.0); is = f.2 })
+    pub exact_over : (w : List ℕ) → used - old + more ≤ lines - 1 → node ≢ 0 → w ≡ with_rewritten document node x → (Replaced ≡ inserted_in key document x) × (w ≡ with_document key document x)
+    unfolding inserted_in with_document
+    exact_over w l ne g =
+        let s = i.stands in
+        let f = has_some_room l in
+        let e = (k.spot i.version i.store s).at.node_is in
+        let h = place_is_at x key i.version i.store s node e ne in
+        let t = key_is true (here_key x key document i.version i.store s node h) in (
+          ap (λ b. cond b Replaced New) (sym t) ∙ ap (λ b. cond b (cond (is_key_in key x) Replaced New) NoRoom) (sym f),
+          g ∙ ap (λ n. with_rewritten document n x) (e ∙ node_at_is x key document i.version i.store s)
+              ∙ ap (λ b. cond b (with_rewritten document (node_at key x) x) (with_added (key, document) x)) (sym t)
+              ∙ ap (λ b. cond b (cond (is_key_in key x) (with_rewritten document (node_at key x) x) (with_added (key, document) x)) x) (sym f),
+        )

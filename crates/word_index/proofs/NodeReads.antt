@@ -1,17 +1,17 @@
 -- What a node names.
-use Rattle.std.proofs.Common.{◌≡◌, ◌*◌, ◌<◌, ◌≤◌, ℕ, List, ◌++◌, length, get_or, sym, ap, subst, ◌∙◌, arith, inl, inr}
-use Rattle.std.specs.List.{All}
-use Rattle.std.proofs.lemmas.Bool.{cases_lt}
-use Rattle.std.proofs.lemmas.List.{get_or_past}
+use Rattle.std.proofs.Common.{◌≡◌, ◌*◌, ◌<◌, ◌≤◌, ℕ, List, ◌++◌, length, get_or, sym, ap, subst, ◌∙◌}
 use Rattle.std.proofs.lemmas.List.Elements.{All-head, All-tail}
 use Rattle.cx_base.proofs.PackingLemmas.{unpacked-packed}
 use Rattle.cx_base.specs.Packing.{unpacked}
-use Rattle.cx_base.specs.Store.{IsKey, IsDocument}
+use Rattle.index_checks.proofs.Texts.{key_small, text_is}
+use Rattle.index_checks.specs.Reading.{text_at}
+use Rattle.cx_base.specs.Store.{IsKey}
+use Rattle.avl_words.specs.Lines.{IsWithin, word_of}
+use Rattle.index_checks.proofs.Lines.{all_left, all_right}
+use Rattle.index_checks.specs.Blocks.{IsText, HasText}
+use Rattle.index_checks.specs.Layout.{Holds}
 use Rattle.word_index.specs.Answers.{IsNodeOf, IsPackOf}
-use Rattle.word_index.specs.Blocks.{IsWithin, IsText, HasText}
-use Rattle.word_index.specs.Layout.{word_of, Holds}
 use Rattle.word_index.specs.Walk.{HasNode}
-use Rattle.word_index.proofs.Lines.{all_left, all_right}
 
 pub key_text : (ws : List ℕ) (node : ℕ) (pair : List ℕ × List ℕ) (is : IsNodeOf ws node pair) → IsText ws node 3 is.place.key_lines pair.0
 key_text ws node pair is =
@@ -41,20 +41,6 @@ has_key ws node h = record { lines = h.is.place.key_lines; bytes = h.pair.0; tex
 pub has_document : (ws : List ℕ) (node : ℕ) → HasNode ws node → HasText ws node 5 128
 has_document ws node h = record { lines = h.is.place.document_lines; bytes = h.pair.1; text = document_text ws node h.pair h.is; short = h.is.is_document.short }
 
--- bytes are small, also behind the end
-pub small_everywhere : (P : ℕ → Type 0) (bytes : List ℕ) → ((b : ℕ) → P b → b < 256) → All P bytes → (i : ℕ) → get_or bytes i 0 < 256
-small_everywhere P bytes small all i =
-    elim (cases_lt i (length bytes)) [
-      | inl l ↦ small (get_or bytes i 0) (all i 0 l)
-      | inr l ↦ subst (λ b. b < 256) (sym (get_or_past bytes i 0 l)) (omega arith)
-    ]
-
-pub key_small : (key : List ℕ) → IsKey key → (i : ℕ) → get_or key i 0 < 256
-key_small key is = small_everywhere (λ b. (33 ≤ b) × (b ≤ 126)) key (λ b h. omega (arith, h.1)) is.visible
-
-pub document_small : (document : List ℕ) → IsDocument document → (i : ℕ) → get_or document i 0 < 256
-document_small document is = small_everywhere (λ b. (32 ≤ b) × (b < 256)) document (λ b h. h.1) is.plain
-
 -- packed bytes, unpacked
 pub unpacks : (n len : ℕ) (words bytes : List ℕ) → IsPackOf n len words bytes → ((i : ℕ) → get_or bytes i 0 < 256) → length bytes ≤ 8 * n → unpacked len words ≡ bytes
 unpacks n len words bytes is small short =
@@ -65,3 +51,7 @@ unpacked_key len words key is limits = unpacks 8 len words key is (key_small key
 
 pub node_within : (ws : List ℕ) (node : ℕ) → HasNode ws node → IsWithin ws node
 node_within ws node h = (key_text ws node h.pair h.is).node_within
+
+pub node_key : (ws : List ℕ) (node : ℕ) (pair : List ℕ × List ℕ) → IsNodeOf ws node pair → text_at node 3 ws ≡ pair.0
+node_key ws node pair is =
+    ap (λ n. text_at n 3 ws) is.here ∙ text_is ws is.place.node 3 is.place.key_lines pair.0 is.holds.key is.holds.key_length (key_small pair.0 is.is_key)

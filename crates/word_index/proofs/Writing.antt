@@ -5,15 +5,16 @@ use Rattle.std.proofs.lemmas.Bool.{cases_lt}
 use Rattle.std.proofs.lemmas.List.{get_or-set_same, get_or-set_other, length-set}
 use Rattle.std.proofs.lemmas.List.Elements.{All-head}
 use Rattle.cx_base.specs.Store.{Store}
-use Rattle.word_index.specs.Blocks.{IsWithin}
-use Rattle.word_index.specs.Changes.{SameLine, with_word}
-use Rattle.word_index.specs.Fresh.{HasRoom, CanTake, LineTaken, LineFilled, IsBlock, IsWritten, TextWritten}
-use Rattle.word_index.specs.Layout.{word_of, IsChain, Place, lines_at, Nodes, Arranged, IsPartLength}
+use Rattle.avl_words.specs.Lines.{IsWithin, with_word, word_of, IsPartLength}
+use Rattle.index_checks.proofs.Lines.{all_left, all_right}
+use Rattle.index_checks.specs.Layout.{IsChain, Place, lines_at, Nodes, Arranged}
 use Rattle.word_index.proofs.Frames.{stored_elsewhere, same_then, chain_same, nodes_same}
 use Rattle.word_index.proofs.Giving.{stands_alone, all_same_then}
-use Rattle.word_index.proofs.Lines.{all_left, all_right}
-use Rattle.word_index.proofs.Pairs.{loose_within}
+use Rattle.word_index.proofs.PairsGiven.{loose_within}
 use Rattle.word_index.proofs.Taking.{from_one}
+use Rattle.word_index.specs.Changes.{SameLine}
+use Rattle.word_index.specs.Fresh.{HasRoom, CanTake, LineTaken, LineFilled, IsBlock, IsWritten, TextWritten}
+use Rattle.avl_tree.specs.Tree.{Tree}
 
 -- a line of which the first words are filled
 pub record LineSoFar (line : ℕ) (content : List ℕ) (n : ℕ) (before now : List ℕ) : Type 0 where
@@ -46,19 +47,19 @@ pub line_done : (line : ℕ) (content : List ℕ) (i : ℕ) (x y : List ℕ) →
 line_done line content i x y past r = record { here = λ k l. r.here k (omega arith); others = r.others; long = r.long }
 
 -- a loose line that is filled
-pub fill_arranged : (x y : List ℕ) (version : ℕ) (store : Store) (places : List Place) (given loose content : List ℕ) (line : ℕ) → Arranged x version store places given (line ∷ loose) → LineFilled line content x y →
-    Arranged y version store places given (line ∷ loose) × All (SameLine x y) loose
-fill_arranged x y version store places given loose content line a f =
+pub fill_arranged : (x y : List ℕ) (version : ℕ) (store : Store) (tree : Tree ℕ) (places : List Place) (given loose content : List ℕ) (line : ℕ) → Arranged x version store tree places given (line ∷ loose) → LineFilled line content x y →
+    Arranged y version store tree places given (line ∷ loose) × All (SameLine x y) loose
+fill_arranged x y version store tree places given loose content line a f =
     let used = flat_map lines_at places in
     let alone = stands_alone line (word_of x 0 3) used given loose (a.once line) in
-    let some = All-head (λ l. 1 ≤ l) line loose (from_one x version store places given (line ∷ loose) a).2 in
+    let some = All-head (λ l. 1 ≤ l) line loose (from_one x version store tree places given (line ∷ loose) a).2 in
     let zero_apart : 0 ≢ line = omega arith in
     let header : (i : ℕ) → i < 8 → word_of y 0 i ≡ word_of x 0 i = f.others 0 zero_apart in
     let same : (lines : List ℕ) → All (λ l. l ≢ line) lines → All (SameLine x y) lines = λ lines apart k d l. f.others (get_or lines k d) (apart k d l) in (
       record {
         sized = subst IsPartLength (sym f.long) a.sized;
         version_word = header 0 (omega arith) ∙ a.version_word;
-        nodes = subst (λ r. Nodes y r places store 0) (sym (header 1 (omega arith))) (nodes_same x y (word_of x 0 1) 0 places store (same used alone.not_used) a.nodes);
+        nodes = subst (λ r. Nodes y r tree places store) (sym (header 1 (omega arith))) (nodes_same x y (word_of x 0 1) tree places store f.long (same used alone.not_used) a.nodes);
         given_back = subst (λ r. IsChain y r given) (sym (header 2 (omega arith))) (chain_same x y given (word_of x 0 2) (same given alone.not_given) a.given_back);
         end_from = subst (λ e. 1 ≤ e) (sym (header 3 (omega arith))) a.end_from;
         end_to = subst (λ n. word_of y 0 3 ≤ n / 8) (sym f.long) (subst (λ e. e ≤ length x / 8) (sym (header 3 (omega arith))) a.end_to);
@@ -67,7 +68,6 @@ fill_arranged x y version store places given loose content line a f =
         pair_count = header 5 (omega arith) ∙ a.pair_count;
         no_sixth = header 6 (omega arith) ∙ a.no_sixth;
         no_seventh = header 7 (omega arith) ∙ a.no_seventh;
-        lawful = a.lawful;
       },
       same loose alone.not_loose,
     )
@@ -75,12 +75,12 @@ fill_arranged x y version store places given loose content line a f =
 -- words of which the last blocks are written
 abbrev pub WrittenSoFar : List ℕ → ℕ → ℕ → ℕ → List ℕ → List ℕ → Type 0
 WrittenSoFar words count j next before now =
-    (version : ℕ) (store : Store) (places : List Place) (given loose : List ℕ) → Arranged before version store places given loose → HasRoom before places loose count →
-    IsWritten before now version store places next j (7 * (count - j)) words loose
+    (version : ℕ) (store : Store) (tree : Tree ℕ) (places : List Place) (given loose : List ℕ) → Arranged before version store tree places given loose → HasRoom before places loose count →
+    IsWritten before now version store tree places next j (7 * (count - j)) words loose
 
 pub written_none : (words : List ℕ) (count : ℕ) (x y : List ℕ) → x ≡ y → WrittenSoFar words count 0 0 x y
-written_none words count x y e version store places given loose a room =
-    subst (λ w. IsWritten x w version store places 0 0 (7 * (count - 0)) words loose) e (record {
+written_none words count x y e version store tree places given loose a room =
+    subst (λ w. IsWritten x w version store tree places 0 0 (7 * (count - 0)) words loose) e (record {
       lines = [];
       taken = record { given = given; arranged = a; same = λ k d l i b. refl; long = refl };
       chain = refl;
@@ -91,10 +91,11 @@ written_none words count x y e version store places given loose a room =
 -- what the next block needs
 pub can_take_next : (words : List ℕ) (count j next : ℕ) (x y : List ℕ) → j < count → CanTake x count → WrittenSoFar words count j next x y → CanTake y 1
 can_take_next words count j next x y l c r =
-    let p = r c.version c.store c.places c.given c.loose c.arranged c.room in
+    let p = r c.version c.store c.tree c.places c.given c.loose c.arranged c.room in
     record {
       version = c.version;
       store = c.store;
+      tree = c.tree;
       places = c.places;
       given = p.taken.given;
       loose = p.lines ++ c.loose;
@@ -105,8 +106,8 @@ can_take_next words count j next x y l c r =
 pub taken_within : (words : List ℕ) (count j next line : ℕ) (x y z : List ℕ) → j < count → CanTake x count → WrittenSoFar words count j next x y → LineTaken line y z → IsWithin z line
 taken_within words count j next line x y z l c r t =
     let n = can_take_next words count j next x y l c r in
-    let q = t n.version n.store n.places n.given n.loose n.arranged n.room in
-    All-head (IsWithin z) line n.loose (loose_within z n.version n.store n.places q.given (line ∷ n.loose) q.arranged)
+    let q = t n.version n.store n.tree n.places n.given n.loose n.arranged n.room in
+    All-head (IsWithin z) line n.loose (loose_within z n.version n.store n.tree n.places q.given (line ∷ n.loose) q.arranged)
 
 -- the content of a chain with one block more in front
 place_in_front : (line : ℕ) (lines : List ℕ) (i : ℕ) → 7 ≤ i → get_or (line ∷ lines) (i / 7) 0 ≡ get_or lines ((i - 7) / 7) 0
@@ -116,12 +117,12 @@ place_in_front line lines i l =
 
 pub written_more : (words : List ℕ) (count j next line : ℕ) (content x y z w : List ℕ) → j < count → WrittenSoFar words count j next x y → LineTaken line y z → IsBlock next words (7 * (count - 1 - j)) content → LineFilled line content z w →
     WrittenSoFar words count (j + 1) line x w
-written_more words count j next line content x y z w l r t b f version store places given loose a room =
-    let p = r version store places given loose a room in
+written_more words count j next line content x y z w l r t b f version store tree places given loose a room =
+    let p = r version store tree places given loose a room in
     let long_y = ap (λ n. n / 8) p.taken.long in
     let room_y : HasRoom y places (p.lines ++ loose) 1 = omega (arith, room, long_y, p.counted, length-append p.lines loose) in
-    let q = t version store places p.taken.given (p.lines ++ loose) p.taken.arranged room_y in
-    let v = fill_arranged z w version store places q.given (p.lines ++ loose) content line q.arranged f in
+    let q = t version store tree places p.taken.given (p.lines ++ loose) p.taken.arranged room_y in
+    let v = fill_arranged z w version store tree places q.given (p.lines ++ loose) content line q.arranged f in
     let all_same = all_same_then y z w (p.lines ++ loose) q.same v.1 in
     let lines_same = all_left (SameLine y w) p.lines loose all_same in
     let first : word_of w line 0 ≡ next = f.here 0 (omega arith) ∙ b.first in
@@ -153,7 +154,7 @@ written_more words count j next line content x y z w l r t b f version store pla
     }
 
 pub written_all : (words : List ℕ) (count j next : ℕ) (x y : List ℕ) → j ≡ count → WrittenSoFar words count j next x y → TextWritten words count next x y
-written_all words count j next x y e r version store places given loose a room =
-    let p = r version store places given loose a room in
+written_all words count j next x y e r version store tree places given loose a room =
+    let p = r version store tree places given loose a room in
     let none : 7 * (count - j) ≡ 0 = omega arith in
-    subst (λ n. IsWritten x y version store places next n 0 words loose) e (subst (λ n. IsWritten x y version store places next j n words loose) none p)
+    subst (λ n. IsWritten x y version store tree places next n 0 words loose) e (subst (λ n. IsWritten x y version store tree places next j n words loose) none p)

@@ -4,7 +4,8 @@ use Rattle.cx_base.specs.Store.{Store, IsKey, IsDocument}
 use Rattle.cx_base.specs.Packing.{packed, unpacked}
 use Rattle.doc_model.specs.Meaning.{document_at}
 use Rattle.word_index.specs.declared.texts.Key.{Key}
-use Rattle.word_index.specs.Layout.{Place, IsAt, lines_at, IsPartLength}
+use Rattle.avl_words.specs.Lines.{IsPartLength}
+use Rattle.index_checks.specs.Layout.{Place, IsAt, lines_at}
 
 -- at most 8n bytes in n words, unused bytes 0
 pub record IsPacked (n len : ℕ) (words : List ℕ) : Type 0 where

@@ -1,44 +1,23 @@
 -- The words that each change leaves, as a function of the words before it.
 use Rattle.std.specs.Prelude.{◌+◌, ◌-◌, ◌*◌, ◌/◌, ◌==◌, ℕ, zero, suc, Bool, List, [], ◌∷◌, ◌++◌, length, map, drop, replicate, slice_index, slice_set, is_some, if◌then◌else◌}
 use Rattle.std.specs.List.{range_with_len}
-use Rattle.cx_base.specs.Store.{Store, blocks}
-use Rattle.cx_base.specs.Packing.{packed, unpacked}
-use Rattle.doc_model.specs.Meaning.{document_at, pairs_below, with_pair, has_room}
-use Rattle.word_index.specs.Changes.{with_word, with_given}
+use Rattle.std.specs.declared.cmp.Ordering.{Ordering}
+use Rattle.cx_base.specs.Store.{blocks, key_cmp}
+use Rattle.cx_base.specs.Packing.{packed}
+use Rattle.doc_model.specs.Meaning.{document_at, with_pair, has_room}
+use Rattle.avl_tree.specs.Ways.{spot, with_new}
+use Rattle.avl_tree.specs.Removal.{without}
+use Rattle.avl_words.specs.Exact.{tree_in, with_tree}
+use Rattle.avl_words.specs.Words.{root}
+use Rattle.index_checks.specs.Reading.{text_at, store_in}
+use Rattle.avl_words.specs.Lines.{with_word, word_of, line_count}
+use Rattle.word_index.specs.Changes.{with_given}
 use Rattle.word_index.specs.declared.insertion.Inserted.{Inserted}
 use Rattle.word_index.specs.declared.insertion.Inserted.TheVariants.{New, Replaced, NoRoom}
-use Rattle.word_index.specs.Layout.{word_of, line_count}
 
 -- the header of the empty index, and the words behind it as they were
 unfoldable pub with_empty_header : ℕ → List ℕ → List ℕ
 with_empty_header version words = (version ∷ 0 ∷ 0 ∷ 1 ∷ replicate 4 0) ++ drop 8 words
-
--- the packed words of a chain of blocks: seven of each block
-abbrev pub chain_words : ℕ → ℕ → List ℕ → List ℕ
-chain_words zero line words = []
-chain_words (suc n) line words = map (λ i. word_of words line (1 + i)) (range_with_len 0 7) ++ chain_words n (word_of words line 0) words
-
--- the bytes that a node names by its words at and at + 1
-unfoldable pub text_at : ℕ → ℕ → List ℕ → List ℕ
-text_at node at words = unpacked (word_of words node (at + 1)) (chain_words ((word_of words node (at + 1) + 55) / 56) (word_of words node at) words)
-
--- the pairs of so many nodes, from one on
-abbrev pub pairs_from : ℕ → ℕ → List ℕ → Store
-pairs_from zero node words = []
-pairs_from (suc n) node words = (text_at node 3 words, text_at node 5 words) ∷ pairs_from n (word_of words node 1) words
-
--- the store that words stand for
-unfoldable pub store_in : List ℕ → Store
-store_in words = pairs_from (word_of words 0 5) (word_of words 0 1) words
-
--- the line to which so many words 1 lead, from a line on
-abbrev pub walked : ℕ → ℕ → List ℕ → ℕ
-walked zero line words = line
-walked (suc n) line words = walked n (word_of words line 1) words
-
--- the last node with a key below a key, 0 for none
-unfoldable pub node_below : List ℕ → List ℕ → ℕ
-node_below key words = walked (length (pairs_below key (store_in words))) 0 words
 
 -- a chain of so many lines is given back
 abbrev pub with_chain_given : ℕ → ℕ → List ℕ → List ℕ
@@ -52,14 +31,6 @@ with_text_given node at words = with_chain_given ((word_of words node (at + 1) +
 -- a node is given back, after the blocks of its document and of its key
 unfoldable pub with_pair_given : ℕ → List ℕ → List ℕ
 with_pair_given node words = with_given node (with_text_given node 3 (with_text_given node 5 words))
-
--- the node behind a gap is taken out of the nodes
-unfoldable pub with_unlinked : ℕ → ℕ → List ℕ → List ℕ
-with_unlinked before node words = with_word 0 5 (word_of words 0 5 - 1) (with_word before 1 (word_of words node 1) words)
-
--- the pair behind a gap is taken out, and its lines are given back
-unfoldable pub with_taken_out : ℕ → ℕ → List ℕ → List ℕ
-with_taken_out before node words = with_pair_given node (with_unlinked before node words)
 
 -- the line that is taken next: the first given-back one, or else the first never given
 unfoldable pub line_to_take : List ℕ → ℕ
@@ -86,29 +57,66 @@ abbrev pub with_text : List ℕ → ℕ → ℕ → List ℕ → ℕ × List ℕ
 with_text text zero next words = (next, words)
 with_text text (suc n) next words = with_text text n (line_to_take words) (with_row (8 * line_to_take words) (block_words next text (7 * n)) (with_line_taken words))
 
--- a pair is written into new lines, its node first; with the node
-unfoldable pub with_new_pair : ℕ → List ℕ × List ℕ → List ℕ → ℕ × List ℕ
-with_new_pair next pair words =
+-- a pair is written into new lines, its node first, as a leaf; with the node
+unfoldable pub with_new_pair : List ℕ × List ℕ → List ℕ → ℕ × List ℕ
+with_new_pair pair words =
     let node = line_to_take words in
     let key = with_text (packed 8 pair.0) (blocks pair.0) 0 (with_line_taken words) in
     let document = with_text (packed 128 pair.1) (blocks pair.1) 0 key.1 in
-    (node, with_row (8 * node) (0 ∷ next ∷ 0 ∷ key.0 ∷ length pair.0 ∷ document.0 ∷ length pair.1 ∷ 0 ∷ []) document.1)
+    (node, with_row (8 * node) (0 ∷ 0 ∷ 1 ∷ key.0 ∷ length pair.0 ∷ document.0 ∷ length pair.1 ∷ 0 ∷ []) document.1)
 
--- a node is linked into a gap
-unfoldable pub with_linked : ℕ → ℕ → List ℕ → List ℕ
-with_linked before node words = with_word 0 5 (word_of words 0 5 + 1) (with_word before 1 node words)
+-- how the key of a node compares with a key
+abbrev pub order_in : List ℕ → List ℕ → ℕ → Ordering
+order_in key words node = key_cmp (text_at node 3 words) key
 
--- a pair is put into a gap
-unfoldable pub with_put_in : ℕ → ℕ → List ℕ × List ℕ → List ℕ → List ℕ
-with_put_in before next pair words = with_linked before (with_new_pair next pair words).0 (with_new_pair next pair words).1
+-- the header counts one pair more, or one less
+unfoldable pub with_one_more : List ℕ → List ℕ
+with_one_more words = with_word 0 5 (word_of words 0 5 + 1) words
 
--- the pair at a place is taken out, where it is there, and the node behind
-unfoldable pub with_cleared : ℕ → ℕ → Bool → List ℕ → ℕ × List ℕ
-with_cleared before node same words = if same then (word_of words node 1, with_taken_out before node words) else (node, words)
+unfoldable pub with_one_less : List ℕ → List ℕ
+with_one_less words = with_word 0 5 (word_of words 0 5 - 1) words
 
--- a pair replaces the one at a place, or goes there
-unfoldable pub with_placed : ℕ → ℕ → Bool → List ℕ × List ℕ → List ℕ → List ℕ
-with_placed before node same pair words = with_put_in before (with_cleared before node same words).0 pair (with_cleared before node same words).1
+-- a new pair: its node goes where the walk to its key ends
+unfoldable pub with_added : List ℕ × List ℕ → List ℕ → List ℕ
+with_added pair words =
+    let new = with_new_pair pair words in
+    with_one_more (with_tree (with_new (order_in pair.0 words) new.0 (tree_in words)) new.1)
+
+-- the node at which the walk to a key ends
+unfoldable pub node_at : List ℕ → List ℕ → ℕ
+node_at key words = root (spot (order_in key words) [] (tree_in words)).1
+
+-- the node of a key is taken out of the tree
+unfoldable pub with_cut : List ℕ → List ℕ → List ℕ
+with_cut key words = with_one_less (with_tree (without (order_in key words) (tree_in words)) words)
+
+-- the blocks of a chain get the words of a text, from one on; each goes on naming the next
+abbrev pub with_chain_filled : List ℕ → ℕ → ℕ → ℕ → List ℕ → List ℕ
+with_chain_filled text zero from line words = words
+with_chain_filled text (suc n) from line words = with_chain_filled text n (from + 7) (word_of words line 0) (with_row (8 * line) (block_words (word_of words line 0) text from) words)
+
+-- the blocks that a node's document takes
+unfoldable pub document_blocks : ℕ → List ℕ → ℕ
+document_blocks node words = (word_of words node 6 + 55) / 56
+
+-- A document takes another's place at a node, in the same blocks.
+unfoldable pub with_refilled : List ℕ → ℕ → List ℕ → List ℕ
+with_refilled document node words = with_word node 6 (length document) (with_chain_filled (packed 128 document) (blocks document) 0 (word_of words node 5) words)
+
+-- a node without its document's blocks, which are given back
+unfoldable pub with_emptied : ℕ → List ℕ → List ℕ
+with_emptied node words = with_chain_given (document_blocks node words) (word_of words node 5) (with_word node 6 0 (with_word node 5 0 words))
+
+-- A document takes another's place at a node, in new blocks, after the old ones are given back.
+unfoldable pub with_renewed : List ℕ → ℕ → List ℕ → List ℕ
+with_renewed document node words =
+    let text = with_text (packed 128 document) (blocks document) 0 (with_emptied node words) in
+    with_word node 6 (length document) (with_word node 5 text.0 text.1)
+
+-- A document takes another's place: in the same blocks where it needs as many, and else in new ones.
+unfoldable pub with_rewritten : List ℕ → ℕ → List ℕ → List ℕ
+with_rewritten document node words =
+    if document_blocks node words == blocks document then with_refilled document node words else with_renewed document node words
 
 -- whether a key is there
 unfoldable pub is_key_in : List ℕ → List ℕ → Bool
@@ -118,7 +126,7 @@ is_key_in key words = is_some (document_at key (store_in words))
 unfoldable pub with_document : List ℕ → List ℕ → List ℕ → List ℕ
 with_document key document words =
     if has_room (line_count words) (with_pair key document (store_in words))
-    then with_placed (node_below key words) (word_of words (node_below key words) 1) (is_key_in key words) (key, document) words
+    then (if is_key_in key words then with_rewritten document (node_at key words) words else with_added (key, document) words)
     else words
 
 -- what this answers
@@ -128,9 +136,7 @@ inserted_in key document words =
     then (if is_key_in key words then Replaced else New)
     else NoRoom
 
--- a key is taken out, where it is there
+-- a key is taken out, where it is there, and its lines are given back
 unfoldable pub with_key_removed : List ℕ → List ℕ → List ℕ
 with_key_removed key words =
-    if is_key_in key words
-    then with_taken_out (node_below key words) (word_of words (node_below key words) 1) words
-    else words
+    if is_key_in key words then with_pair_given (node_at key words) (with_cut key words) else words

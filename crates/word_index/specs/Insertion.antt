@@ -1,50 +1,17 @@
 -- A pair is put in.
-use Rattle.std.specs.Prelude.{◌≡◌, ◌+◌, ◌≤◌, ℕ, Bool, true, false, List, ◌++◌, ◌∷◌, [], is_some}
-use Rattle.cx_base.specs.Store.{Store, IsStore, lines_of, pair_lines}
-use Rattle.doc_model.specs.Meaning.{document_at, pairs_below, pairs_above, with_pair, has_room}
-use Rattle.word_index.specs.Changes.{IsGap}
-use Rattle.word_index.specs.Layout.{word_of, line_count, Place, lines_at, IsAt, Nodes, Arranged, StandsFor, IsIndex}
+use Rattle.std.specs.Prelude.{◌≡◌, ◌≢◌, ◌+◌, ◌≤◌, ℕ, true, false, List, [], length, is_some}
+use Rattle.cx_base.specs.Store.{Store, IsKey, IsDocument, pair_lines, lines_of}
+use Rattle.doc_model.specs.Meaning.{document_at, with_pair, has_room}
+use Rattle.avl_tree.specs.Tree.{Tree}
+use Rattle.avl_words.specs.Lines.{line_count}
+use Rattle.avl_words.specs.Words.{IsNode}
+use Rattle.index_checks.specs.Layout.{Place, lines_at, IsAt, Arranged, StandsFor, IsIndex}
+use Rattle.word_index.specs.Answers.{IsNodeOf}
+use Rattle.word_index.specs.Exact.{with_added}
+use Rattle.word_index.specs.Walk.{AtSpot}
 use Rattle.word_index.specs.Fresh.{HasRoom}
-use Rattle.word_index.specs.Walk.{last_node, AtSpot}
 use Rattle.word_index.specs.declared.insertion.Inserted.{Inserted}
 use Rattle.word_index.specs.declared.insertion.Inserted.TheVariants.{New, Replaced, NoRoom}
-
--- a gap at the place of a key, which no pair has any more
-pub record IsCleared (words key : List ℕ) (version : ℕ) (store : Store) (before next : ℕ) : Type 0 where
-  pub front : List Place
-  pub rest : List Place
-  pub gap : IsGap words version (pairs_below key store) (pairs_above key store) front rest before next
-
-abbrev pub Cleared : ℕ → ℕ → Bool → ℕ → List ℕ → List ℕ → Type 0
-Cleared before node same next old now =
-    (key : List ℕ) → AtSpot key before node same old → (version : ℕ) (store : Store) → StandsFor old version store → IsCleared now key version store before next
-
--- the place of some key, in words that stand for some store
-pub record HasSpot (words : List ℕ) (before node : ℕ) (same : Bool) : Type 0 where
-  pub key : List ℕ
-  pub spot : AtSpot key before node same words
-  pub index : IsIndex words
-
--- the lines of the pair with the key, 0 where it is not there
-abbrev pub LinesAt : ℕ → ℕ → Bool → ℕ → List ℕ → Type 0
-LinesAt before node same n words =
-    (key : List ℕ) → AtSpot key before node same words → (version : ℕ) (store : Store) → StandsFor words version store → n + lines_of (pairs_below key store) + lines_of (pairs_above key store) ≡ lines_of store
-
--- a gap, with room for a pair, which goes there
-pub record CanPut (words : List ℕ) (before next : ℕ) (pair : List ℕ × List ℕ) : Type 0 where
-  pub version : ℕ
-  pub lower : Store
-  pub others : Store
-  pub front : List Place
-  pub rest : List Place
-  pub gap : IsGap words version lower others front rest before next
-  pub room : lines_of lower + pair_lines pair + lines_of others + 1 ≤ line_count words
-  pub lawful : IsStore (lower ++ pair ∷ others)
-
-abbrev pub PutIn : ℕ → ℕ → List ℕ × List ℕ → List ℕ → List ℕ → Type 0
-PutIn before next pair old now =
-    (version : ℕ) (lower others : Store) (front rest : List Place) → IsGap old version lower others front rest before next → lines_of lower + pair_lines pair + lines_of others + 1 ≤ line_count old →
-    IsStore (lower ++ pair ∷ others) → StandsFor now version (lower ++ pair ∷ others)
 
 -- The store has the document at the key afterwards; or it has no room for it, and nothing has changed.
 abbrev pub IsInserted : List ℕ → List ℕ → ℕ → Store → List ℕ → List ℕ → Inserted → Type 0
@@ -57,42 +24,35 @@ IsInserted before now version store key document Replaced =
 abbrev pub Inserts : List ℕ → List ℕ → Inserted → List ℕ → List ℕ → Type 0
 Inserts key document inserted before now = (version : ℕ) (store : Store) → StandsFor before version store → IsInserted before now version store key document inserted
 
--- a pair stands at a new place, beside the nodes
-pub record IsPairWritten (before now : List ℕ) (version : ℕ) (store : Store) (places : List Place) (next : ℕ) (pair : List ℕ × List ℕ) (node : ℕ) : Type 0 where
+-- the lines of the pair of a node, 0 where there is no node
+pub record LinesAt (node n : ℕ) (words : List ℕ) : Type 0 where
+  pub none : node ≡ 0 → n ≡ 0
+  pub some : node ≢ 0 → (pair : List ℕ × List ℕ) → IsNodeOf words node pair → n ≡ pair_lines pair
+
+-- a pair stands at a new place, whose node is a leaf, beside the tree
+pub record IsPairWritten (before now : List ℕ) (version : ℕ) (store : Store) (tree : Tree ℕ) (places : List Place) (pair : List ℕ × List ℕ) (node : ℕ) : Type 0 where
   pub given : List ℕ
   pub place : Place
   pub here : node ≡ place.node
-  pub arranged : Arranged now version store places given (lines_at place)
+  pub arranged : Arranged now version store tree places given (lines_at place)
   pub is : IsAt now place pair
-  pub next_is : word_of now place.node 1 ≡ next
+  pub leaf : IsNode now node 0 0 1
+  pub long : length now ≡ length before
 
-abbrev pub PairWritten : ℕ → List ℕ × List ℕ → ℕ → List ℕ → List ℕ → Type 0
-PairWritten next pair node old now =
-    (version : ℕ) (store : Store) (places : List Place) (given : List ℕ) → Arranged old version store places given [] → HasRoom old places [] (pair_lines pair) → IsPairWritten old now version store places next pair node
+abbrev pub PairWritten : List ℕ × List ℕ → ℕ → List ℕ → List ℕ → Type 0
+PairWritten pair node old now =
+    (version : ℕ) (store : Store) (tree : Tree ℕ) (places : List Place) (given : List ℕ) → Arranged old version store tree places given [] → HasRoom old places [] (pair_lines pair) → IsPairWritten old now version store tree places pair node
 
--- a gap, and a pair that stands beside the nodes and is to go there
-pub record IsBeside (words : List ℕ) (version : ℕ) (lower others : Store) (front rest : List Place) (before node : ℕ) (pair : List ℕ × List ℕ) : Type 0 where
-  pub given : List ℕ
-  pub place : Place
-  pub next : ℕ
-  pub here : node ≡ place.node
-  pub arranged : Arranged words version (lower ++ others) (front ++ rest) given (lines_at place)
-  pub is : IsAt words place pair
-  pub next_is : word_of words place.node 1 ≡ next
-  pub up_to : Nodes words (word_of words 0 1) front lower next
-  pub onward : Nodes words next rest others 0
-  pub last : before ≡ last_node 0 front
-  pub lawful : IsStore (lower ++ pair ∷ others)
+-- there is room for a pair whose key is not there, at the place where the walk to its key ended at nothing
+pub record CanAdd (words nodes sides : List ℕ) (depth : ℕ) (pair : List ℕ × List ℕ) : Type 0 where
+  pub above : ℕ
+  pub spot : AtSpot false pair.0 nodes sides depth 0 above words
+  pub index : IsIndex words
+  pub room : lines_of index.store + pair_lines pair + 1 ≤ line_count words
+  pub is_key : IsKey pair.0
+  pub is_document : IsDocument pair.1
 
-pub record CanLink (words : List ℕ) (before node : ℕ) : Type 0 where
-  pub version : ℕ
-  pub lower : Store
-  pub others : Store
-  pub front : List Place
-  pub rest : List Place
-  pub pair : List ℕ × List ℕ
-  pub beside : IsBeside words version lower others front rest before node pair
-
-abbrev pub Linked : ℕ → ℕ → List ℕ → List ℕ → Type 0
-Linked before node old now =
-    (version : ℕ) (lower others : Store) (front rest : List Place) (pair : List ℕ × List ℕ) → IsBeside old version lower others front rest before node pair → StandsFor now version (lower ++ pair ∷ others)
+abbrev pub Adds : List ℕ → List ℕ → ℕ → List ℕ × List ℕ → List ℕ → List ℕ → Type 0
+Adds nodes sides depth pair before now =
+    (above : ℕ) → AtSpot false pair.0 nodes sides depth 0 above before → (i : IsIndex before) → lines_of i.store + pair_lines pair + 1 ≤ line_count before → IsKey pair.0 → IsDocument pair.1 →
+    now ≡ with_added pair before

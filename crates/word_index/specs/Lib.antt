@@ -1,11 +1,8 @@
-pub mod Access
 pub mod Fresh
 pub mod Insertion
-pub mod Lawful
-pub mod Layout
 pub mod Walk
 pub mod Answers
-pub mod Blocks
 pub mod Changes
 pub mod Exact
-pub mod Listing
+pub mod Removal
+pub mod Rewriting

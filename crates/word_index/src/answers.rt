@@ -1,16 +1,16 @@
 //! What is asked of an index by a key.
 
-ghost use Rattle.std.specs.Prelude.{◌≡◌, ◌≤◌, ℕ, IfOk, OnErr, Some, is_some};
+ghost use Rattle.std.specs.Prelude.{◌≡◌, ◌-◌, ◌≤◌, ℕ, true, false, IfOk, OnErr, Some, is_some};
 ghost use Rattle.cx_base.specs.Memory.{Always, Becomes};
 ghost use Rattle.cx_base.specs.Packing.{unpacked};
 ghost use Rattle.cx_base.specs.Store.{Store};
 ghost use Rattle.doc_model.specs.Meaning.{pairs_above};
-ghost use Rattle.word_index.specs.Access.{Reads};
+ghost use Rattle.avl_words.specs.Access.{Reads};
+ghost use Rattle.avl_words.specs.Lines.{IsPartLength};
+ghost use Rattle.index_checks.specs.Layout.{IsIndex, StandsFor};
 ghost use Rattle.word_index.specs.Answers.{IsFound, IsLeast};
-ghost use Rattle.word_index.specs.Layout.{IsPartLength, IsIndex, StandsFor};
-ghost use Rattle.word_index.specs.Walk.{IsFirstNode};
+ghost use Rattle.word_index.specs.Walk.{FewVisits};
 
-use crate::blocks::word;
 use crate::nodes::key_at;
 use crate::texts::Key;
 use crate::walk::seek;
@@ -28,6 +28,7 @@ pub fn find<M: Memory, L: Ledger>(
     requires key { key.now.len ≤ 64 }
     ensures done { IfOk result (λ found. Reads (M.stands mem.old) (M.stands mem.new)
         (λ ws. (version : ℕ) (store : Store) → StandsFor ws version store → IsFound ws (unpacked key.now.len key.now.words) found store)) }
+    ensures visits { Always (M.stands mem.new) (FewVisits (visits.new - visits.old)) }
     ensures kept { Becomes (M.stands mem.old) (M.stands mem.new) ◌≡◌ }
     ensures halts { OnErr result (M.left mem.new ≡ Some 0) }
     ensures limited { is_some (M.left mem.new) ≡ is_some (M.left mem.old) }
@@ -35,37 +36,11 @@ pub fn find<M: Memory, L: Ledger>(
     ensures fixed { M.fixed mem.new ≡ M.fixed mem.old }
     ensures writable { M.writable mem.new ≡ M.writable mem.old }
 {
-    let spot = seek(mem, key, visits)?;
-    if spot.same {
-        Ok(Some(spot.node))
-    } else {
+    let spot = seek(mem, key, false, visits)?;
+    if spot.node == 0 {
         Ok(None)
-    }
-}
-
-/// The first node with a key above a key, 0 for none.
-fn node_above<M: Memory, L: Ledger>(
-    mem: &mut M,
-    key: &Key,
-    visits: &mut Steps<L>,
-) -> Result<u64, Halt>
-    requires sized { IsPartLength (M.size mem.old) }
-    requires lawful { Always (M.stands mem.old) IsIndex }
-    requires key { key.now.len ≤ 64 }
-    ensures done { IfOk result (λ node. Reads (M.stands mem.old) (M.stands mem.new)
-        (λ ws. (version : ℕ) (store : Store) → StandsFor ws version store → IsFirstNode ws node (pairs_above (unpacked key.now.len key.now.words) store))) }
-    ensures kept { Becomes (M.stands mem.old) (M.stands mem.new) ◌≡◌ }
-    ensures halts { OnErr result (M.left mem.new ≡ Some 0) }
-    ensures limited { is_some (M.left mem.new) ≡ is_some (M.left mem.old) }
-    ensures size { M.size mem.new ≡ M.size mem.old }
-    ensures fixed { M.fixed mem.new ≡ M.fixed mem.old }
-    ensures writable { M.writable mem.new ≡ M.writable mem.old }
-{
-    let spot = seek(mem, key, visits)?;
-    if spot.same {
-        word(mem, spot.node, 1)
     } else {
-        Ok(spot.node)
+        Ok(Some(spot.node))
     }
 }
 
@@ -80,6 +55,7 @@ pub fn least_above<M: Memory, L: Ledger>(
     requires key { key.now.len ≤ 64 }
     ensures done { IfOk result (λ found. Reads (M.stands mem.old) (M.stands mem.new)
         (λ ws. (version : ℕ) (store : Store) → StandsFor ws version store → IsLeast found (pairs_above (unpacked key.now.len key.now.words) store))) }
+    ensures visits { Always (M.stands mem.new) (FewVisits (visits.new - visits.old)) }
     ensures kept { Becomes (M.stands mem.old) (M.stands mem.new) ◌≡◌ }
     ensures halts { OnErr result (M.left mem.new ≡ Some 0) }
     ensures limited { is_some (M.left mem.new) ≡ is_some (M.left mem.old) }
@@ -87,10 +63,10 @@ pub fn least_above<M: Memory, L: Ledger>(
     ensures fixed { M.fixed mem.new ≡ M.fixed mem.old }
     ensures writable { M.writable mem.new ≡ M.writable mem.old }
 {
-    let node = node_above(mem, key, visits)?;
-    if node == 0 {
+    let spot = seek(mem, key, true, visits)?;
+    if spot.above == 0 {
         return Ok(None);
     }
-    let key = key_at(mem, node)?;
+    let key = key_at(mem, spot.above)?;
     Ok(Some(key))
 }

@@ -1,31 +1,16 @@
-//! Words of lines, and the bytes that a chain of blocks holds.
+//! The bytes that a chain of blocks holds.
 
 ghost use Rattle.std.specs.Prelude.{◌≡◌, ◌+◌, ◌*◌, ◌/◌, ◌%◌, ◌<◌, ◌≤◌, ◌≢◌, ℕ, List, IsTrue, IfOk, OnErr, Some, length, replicate, is_some};
 ghost use Rattle.cx_base.specs.Memory.{Always, Loaded, Stored, Becomes};
 ghost use Rattle.cx_base.specs.Packing.{packed};
-ghost use Rattle.word_index.specs.Access.{Reads};
+ghost use Rattle.avl_words.specs.Access.{Reads};
+ghost use Rattle.avl_words.specs.Lines.{IsWithin, IsPartLength, word_of};
+ghost use Rattle.index_checks.specs.Blocks.{HasWords, IsText, HasText};
+ghost use Rattle.index_checks.specs.Layout.{Holds};
 ghost use Rattle.word_index.specs.Answers.{IsPackOf};
-ghost use Rattle.word_index.specs.Blocks.{IsWithin, HasWords, IsText, HasText};
-ghost use Rattle.word_index.specs.Layout.{IsPartLength, Holds, word_of};
 
+use avl_words::word;
 use cx_base::{Halt, Memory};
-
-/// Loads word `place` of a line.
-pub fn word<M: Memory>(mem: &mut M, line: u64, place: u64) -> Result<u64, Halt>
-    requires sized { IsPartLength (M.size mem.old) }
-    requires line { Always (M.stands mem.old) (λ ws. IsWithin ws line) }
-    requires place { place < 8 }
-    ensures done { IfOk result
-        (λ v. Loaded (8 * line + place) v (M.stands mem.old) (M.stands mem.new)) }
-    ensures kept { Becomes (M.stands mem.old) (M.stands mem.new) ◌≡◌ }
-    ensures halts { OnErr result (M.left mem.new ≡ Some 0) }
-    ensures limited { is_some (M.left mem.new) ≡ is_some (M.left mem.old) }
-    ensures size { M.size mem.new ≡ M.size mem.old }
-    ensures fixed { M.fixed mem.new ≡ M.fixed mem.old }
-    ensures writable { M.writable mem.new ≡ M.writable mem.old }
-{
-    mem.load(8 * line + place)
-}
 
 /// The block line in which the word after the i-th one stands, where the i-th stands in `line`.
 fn line_after<M: Memory>(mem: &mut M, line: u64, i: usize) -> Result<u64, Halt>
@@ -94,21 +79,4 @@ pub fn read_text<M: Memory>(mem: &mut M, node: u64, at: u64, into: &mut [u64]) -
     let len = word(mem, node, at + 1)?;
     read_words(mem, first, len.div_ceil(8) as usize, into)?;
     Ok(len)
-}
-
-/// Stores word `place` of a line.
-pub fn put<M: Memory>(mem: &mut M, line: u64, place: u64, v: u64) -> Result<(), Halt>
-    requires sized { IsPartLength (M.size mem.old) }
-    requires writable { IsTrue (M.writable mem.old) }
-    requires line { Always (M.stands mem.old) (λ ws. IsWithin ws line) }
-    requires place { place < 8 }
-    ensures done { IfOk result
-        (λ _. Stored (8 * line + place) v (M.stands mem.old) (M.stands mem.new)) }
-    ensures halts { OnErr result (M.left mem.new ≡ Some 0) }
-    ensures limited { is_some (M.left mem.new) ≡ is_some (M.left mem.old) }
-    ensures size { M.size mem.new ≡ M.size mem.old }
-    ensures fixed { M.fixed mem.new ≡ M.fixed mem.old }
-    ensures writable { M.writable mem.new ≡ M.writable mem.old }
-{
-    mem.store(8 * line + place, v)
 }

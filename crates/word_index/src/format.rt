@@ -2,8 +2,9 @@
 
 ghost use Rattle.std.specs.Prelude.{◌≡◌, ◌<◌, ◌∷◌, [], IsTrue, IfOk, OnErr, Some, slice_index, replicate, is_some};
 ghost use Rattle.cx_base.specs.Memory.{Becomes};
+ghost use Rattle.avl_words.specs.Lines.{IsPartLength};
+ghost use Rattle.index_checks.specs.Layout.{StandsFor};
 ghost use Rattle.word_index.specs.Exact.{with_empty_header};
-ghost use Rattle.word_index.specs.Layout.{IsPartLength, StandsFor};
 
 use cx_base::{Halt, Memory};
 

@@ -2,11 +2,11 @@
 
 ghost use Rattle.std.specs.Prelude.{◌≡◌, ℕ, IsTrue, IfOk, OnErr, Some, is_some};
 ghost use Rattle.cx_base.specs.Memory.{Always, Becomes};
+ghost use Rattle.avl_words.specs.Lines.{IsPartLength};
 ghost use Rattle.word_index.specs.Changes.{with_given, CanGive, LooseChain, ChainGiven};
 ghost use Rattle.word_index.specs.Exact.{with_chain_given};
-ghost use Rattle.word_index.specs.Layout.{IsPartLength};
 
-use crate::blocks::{put, word};
+use avl_words::{put, word};
 use cx_base::{Halt, Memory};
 
 /// Puts a loose line in front of the given-back lines.

@@ -1,23 +1,24 @@
 //! A pair is put in.
 
-ghost use Rattle.std.specs.Prelude.{◌≡◌, ◌+◌, ◌*◌, ◌≤◌, ℕ, Bool, true, List, IsTrue, IfOk, OnErr, Some, length, is_some};
+ghost use Rattle.std.specs.Prelude.{◌≡◌, ◌≢◌, ◌+◌, ◌-◌, ◌*◌, ◌≤◌, ℕ, List, IsTrue, IfOk, OnErr, Some, length, is_some};
 ghost use Rattle.cx_base.specs.Memory.{Always, Becomes};
 ghost use Rattle.cx_base.specs.Packing.{unpacked};
 ghost use Rattle.cx_base.specs.Store.{Store, IsKey, IsDocument, lines_of, pair_lines};
 ghost use Rattle.doc_model.specs.Meaning.{with_pair};
-ghost use Rattle.word_index.specs.Access.{Reads};
+ghost use Rattle.avl_words.specs.Access.{Reads};
+ghost use Rattle.avl_words.specs.Lines.{IsPartLength};
+ghost use Rattle.index_checks.specs.Layout.{IsIndex, StandsFor};
 ghost use Rattle.word_index.specs.Answers.{IsPacked, IsNodeOf};
+ghost use Rattle.word_index.specs.Exact.{with_new_pair, inserted_in, with_document};
 ghost use Rattle.word_index.specs.Fresh.{CanTake};
-ghost use Rattle.word_index.specs.Insertion.{PairWritten, CanLink, Linked, HasSpot, LinesAt, Cleared, CanPut, PutIn, Inserts};
-ghost use Rattle.word_index.specs.Exact.{with_new_pair, with_linked, with_put_in, with_cleared, inserted_in, with_document};
-ghost use Rattle.word_index.specs.Layout.{IsPartLength, IsIndex, StandsFor};
-ghost use Rattle.word_index.specs.Walk.{HasNode, AtSpot};
+ghost use Rattle.word_index.specs.Insertion.{PairWritten, CanAdd, Adds, Inserts, LinesAt};
+ghost use Rattle.word_index.specs.Walk.{HasNode, FewVisits};
 
-use crate::blocks::{put, word};
-use crate::removal::take_out;
+use crate::rewriting::rewrite;
 use crate::taken::{put_line, take_line, write_text};
 use crate::texts::{Doc, Key};
-use crate::walk::{Spot, seek};
+use crate::walk::seek;
+use avl_words::{Way, put, put_node, word};
 use cx_base::{Halt, Memory, Steps};
 use std::sync::ledger::Ledger;
 
@@ -56,6 +57,24 @@ fn lines_of_node<M: Memory>(mem: &mut M, node: u64) -> Result<u64, Halt>
     Ok(1 + key.div_ceil(56) + document.div_ceil(56))
 }
 
+/// The lines that the pair of a node takes, 0 where there is no node.
+fn lines_at<M: Memory>(mem: &mut M, node: u64) -> Result<u64, Halt>
+    requires sized { IsPartLength (M.size mem.old) }
+    requires node { Always (M.stands mem.old) (λ ws. node ≢ 0 → HasNode ws node) }
+    ensures done { IfOk result (λ n. Reads (M.stands mem.old) (M.stands mem.new) (LinesAt node n)) }
+    ensures halts { OnErr result (M.left mem.new ≡ Some 0) }
+    ensures limited { is_some (M.left mem.new) ≡ is_some (M.left mem.old) }
+    ensures size { M.size mem.new ≡ M.size mem.old }
+    ensures fixed { M.fixed mem.new ≡ M.fixed mem.old }
+    ensures writable { M.writable mem.new ≡ M.writable mem.old }
+{
+    if node == 0 {
+        Ok(0)
+    } else {
+        lines_of_node(mem, node)
+    }
+}
+
 /// The lines that the store takes.
 fn lines_in_use<M: Memory>(mem: &mut M) -> Result<u64, Halt>
     requires sized { IsPartLength (M.size mem.old) }
@@ -73,8 +92,8 @@ fn lines_in_use<M: Memory>(mem: &mut M) -> Result<u64, Halt>
     Ok(end - 1 - given)
 }
 
-/// Writes a node and the blocks of a pair into new lines, and gives the node.
-fn write_pair<M: Memory>(mem: &mut M, next: u64, key: &Key, doc: &Doc) -> Result<u64, Halt>
+/// Writes a node, as a leaf, and the blocks of a pair into new lines, and gives the node.
+fn write_pair<M: Memory>(mem: &mut M, key: &Key, doc: &Doc) -> Result<u64, Halt>
     requires sized { IsPartLength (M.size mem.old) }
     requires writable { IsTrue (M.writable mem.old) }
     requires key { IsPacked 8 key.now.len key.now.words }
@@ -82,9 +101,9 @@ fn write_pair<M: Memory>(mem: &mut M, next: u64, key: &Key, doc: &Doc) -> Result
     requires room { Always (M.stands mem.old)
         (λ ws. CanTake ws (pair_lines (unpacked key.now.len key.now.words, unpacked doc.now.len doc.now.words))) }
     ensures done { IfOk result (λ node. Becomes (M.stands mem.old) (M.stands mem.new)
-        (PairWritten next (unpacked key.now.len key.now.words, unpacked doc.now.len doc.now.words) node)) }
+        (PairWritten (unpacked key.now.len key.now.words, unpacked doc.now.len doc.now.words) node)) }
     ensures exact { IfOk result (λ node. Becomes (M.stands mem.old) (M.stands mem.new)
-        (λ old now. with_new_pair next (unpacked key.now.len key.now.words, unpacked doc.now.len doc.now.words) old ≡ (node, now))) }
+        (λ old now. with_new_pair (unpacked key.now.len key.now.words, unpacked doc.now.len doc.now.words) old ≡ (node, now))) }
     ensures halts { OnErr result (M.left mem.new ≡ Some 0) }
     ensures limited { is_some (M.left mem.new) ≡ is_some (M.left mem.old) }
     ensures size { M.size mem.new ≡ M.size mem.old }
@@ -97,95 +116,32 @@ fn write_pair<M: Memory>(mem: &mut M, next: u64, key: &Key, doc: &Doc) -> Result
     put_line(
         mem,
         node,
-        &[0, next, 0, key_first, key.len, doc_first, doc.len, 0],
+        &[0, 0, 1, key_first, key.len, doc_first, doc.len, 0],
     )?;
     Ok(node)
 }
 
-/// Links a node into a gap among the nodes.
-fn link<M: Memory>(mem: &mut M, before: u64, node: u64) -> Result<(), Halt>
-    requires sized { IsPartLength (M.size mem.old) }
-    requires writable { IsTrue (M.writable mem.old) }
-    requires gap { Always (M.stands mem.old) (λ ws. CanLink ws before node) }
-    ensures done { IfOk result
-        (λ _. Becomes (M.stands mem.old) (M.stands mem.new) (Linked before node)) }
-    ensures exact { IfOk result (λ _. Becomes (M.stands mem.old) (M.stands mem.new)
-        (λ old now. now ≡ with_linked before node old)) }
-    ensures halts { OnErr result (M.left mem.new ≡ Some 0) }
-    ensures limited { is_some (M.left mem.new) ≡ is_some (M.left mem.old) }
-    ensures size { M.size mem.new ≡ M.size mem.old }
-    ensures fixed { M.fixed mem.new ≡ M.fixed mem.old }
-    ensures writable { M.writable mem.new ≡ M.writable mem.old }
-{
-    let pairs = word(mem, 0, 5)?;
-    put(mem, before, 1, node)?;
-    put(mem, 0, 5, pairs + 1)?;
-    Ok(())
-}
-
-/// Puts a pair into a gap among the nodes, for which there is room.
-fn put_in<M: Memory>(mem: &mut M, before: u64, next: u64, key: &Key, doc: &Doc) -> Result<(), Halt>
+/// Puts a new pair where the walk to its key ended at nothing.
+fn add<M: Memory>(mem: &mut M, way: &Way, key: &Key, doc: &Doc) -> Result<(), Halt>
     requires sized { IsPartLength (M.size mem.old) }
     requires writable { IsTrue (M.writable mem.old) }
     requires key { IsPacked 8 key.now.len key.now.words }
     requires doc { IsPacked 128 doc.now.len doc.now.words }
-    requires gap { Always (M.stands mem.old)
-        (λ ws. CanPut ws before next (unpacked key.now.len key.now.words, unpacked doc.now.len doc.now.words)) }
-    ensures done { IfOk result (λ _. Becomes (M.stands mem.old) (M.stands mem.new)
-        (PutIn before next (unpacked key.now.len key.now.words, unpacked doc.now.len doc.now.words))) }
+    requires can { Always (M.stands mem.old)
+        (λ ws. CanAdd ws way.now.nodes way.now.sides way.now.depth (unpacked key.now.len key.now.words, unpacked doc.now.len doc.now.words)) }
     ensures exact { IfOk result (λ _. Becomes (M.stands mem.old) (M.stands mem.new)
-        (λ old now. now ≡ with_put_in before next (unpacked key.now.len key.now.words, unpacked doc.now.len doc.now.words) old)) }
+        (Adds way.now.nodes way.now.sides way.now.depth (unpacked key.now.len key.now.words, unpacked doc.now.len doc.now.words))) }
     ensures halts { OnErr result (M.left mem.new ≡ Some 0) }
     ensures limited { is_some (M.left mem.new) ≡ is_some (M.left mem.old) }
     ensures size { M.size mem.new ≡ M.size mem.old }
     ensures fixed { M.fixed mem.new ≡ M.fixed mem.old }
     ensures writable { M.writable mem.new ≡ M.writable mem.old }
 {
-    let node = write_pair(mem, next, key, doc)?;
-    link(mem, before, node)
-}
-
-/// The lines that the pair at a spot takes, 0 where it is not there.
-fn lines_at_spot<M: Memory>(mem: &mut M, spot: &Spot) -> Result<u64, Halt>
-    requires sized { IsPartLength (M.size mem.old) }
-    requires spot { Always (M.stands mem.old)
-        (λ ws. HasSpot ws spot.now.before spot.now.node spot.now.same) }
-    ensures done { IfOk result (λ n. Reads (M.stands mem.old) (M.stands mem.new)
-        (LinesAt spot.now.before spot.now.node spot.now.same n)) }
-    ensures halts { OnErr result (M.left mem.new ≡ Some 0) }
-    ensures limited { is_some (M.left mem.new) ≡ is_some (M.left mem.old) }
-    ensures size { M.size mem.new ≡ M.size mem.old }
-    ensures fixed { M.fixed mem.new ≡ M.fixed mem.old }
-    ensures writable { M.writable mem.new ≡ M.writable mem.old }
-{
-    if spot.same {
-        lines_of_node(mem, spot.node)
-    } else {
-        Ok(0)
-    }
-}
-
-/// Takes the pair at a spot out, where it is there, and gives the node behind.
-fn clear<M: Memory>(mem: &mut M, spot: &Spot) -> Result<u64, Halt>
-    requires sized { IsPartLength (M.size mem.old) }
-    requires writable { IsTrue (M.writable mem.old) }
-    requires spot { Always (M.stands mem.old)
-        (λ ws. HasSpot ws spot.now.before spot.now.node spot.now.same) }
-    ensures done { IfOk result (λ next. Becomes (M.stands mem.old) (M.stands mem.new)
-        (Cleared spot.now.before spot.now.node spot.now.same next)) }
-    ensures exact { IfOk result (λ next. Becomes (M.stands mem.old) (M.stands mem.new)
-        (λ old now. with_cleared spot.now.before spot.now.node spot.now.same old ≡ (next, now))) }
-    ensures halts { OnErr result (M.left mem.new ≡ Some 0) }
-    ensures limited { is_some (M.left mem.new) ≡ is_some (M.left mem.old) }
-    ensures size { M.size mem.new ≡ M.size mem.old }
-    ensures fixed { M.fixed mem.new ≡ M.fixed mem.old }
-    ensures writable { M.writable mem.new ≡ M.writable mem.old }
-{
-    if spot.same {
-        take_out(mem, spot.before, spot.node)
-    } else {
-        Ok(spot.node)
-    }
+    let node = write_pair(mem, key, doc)?;
+    put_node(mem, way, node)?;
+    let pairs = word(mem, 0, 5)?;
+    put(mem, 0, 5, pairs + 1)?;
+    Ok(())
 }
 
 /// Puts a document at a key, in words of so many lines. `NoRoom` comes exactly where the store would then need more
@@ -209,24 +165,24 @@ pub fn insert<M: Memory, L: Ledger>(
         (Inserts (unpacked key.now.len key.now.words) (unpacked doc.now.len doc.now.words) inserted)) }
     ensures exact { IfOk result (λ inserted. Becomes (M.stands mem.old) (M.stands mem.new)
         (λ old now. (inserted ≡ inserted_in (unpacked key.now.len key.now.words) (unpacked doc.now.len doc.now.words) old) × (now ≡ with_document (unpacked key.now.len key.now.words) (unpacked doc.now.len doc.now.words) old))) }
+    ensures visits { IfOk result (λ _. Becomes (M.stands mem.old) (M.stands mem.new) (λ old now. FewVisits (visits.new - visits.old) old)) }
     ensures halts { OnErr result (M.left mem.new ≡ Some 0) }
     ensures limited { is_some (M.left mem.new) ≡ is_some (M.left mem.old) }
     ensures size { M.size mem.new ≡ M.size mem.old }
     ensures fixed { M.fixed mem.new ≡ M.fixed mem.old }
     ensures writable { M.writable mem.new ≡ M.writable mem.old }
 {
-    let spot = seek(mem, key, visits)?;
+    let spot = seek(mem, key, false, visits)?;
     let used = lines_in_use(mem)?;
-    let old = lines_at_spot(mem, &spot)?;
+    let old = lines_at(mem, spot.node)?;
     let needed = used - old + lines_of_pair(key, doc);
     if lines - 1 < needed {
         return Ok(Inserted::NoRoom);
     }
-    let next = clear(mem, &spot)?;
-    put_in(mem, spot.before, next, key, doc)?;
-    if spot.same {
-        Ok(Inserted::Replaced)
-    } else {
-        Ok(Inserted::New)
+    if spot.node == 0 {
+        add(mem, &spot.way, key, doc)?;
+        return Ok(Inserted::New);
     }
+    rewrite(mem, spot.node, doc)?;
+    Ok(Inserted::Replaced)
 }

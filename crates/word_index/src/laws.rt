@@ -1,16 +1,24 @@
-//! Laws of words that stand for stores.
+//! Laws of the exact words that changes leave. The words after a call of the index are a function of the words before
+//! it (`with_document`, `with_key_removed`), so a memory that runs calls in turn holds the same words wherever it runs.
 
-ghost use Rattle.std.specs.Prelude.{◌≡◌, ℕ, List};
-ghost use Rattle.cx_base.specs.Store.{Store};
-ghost use Rattle.word_index.specs.Layout.{StandsFor};
-ghost use Rattle.word_index.specs.Lawful.{IsLawful, HasOneStore};
+ghost use Rattle.std.specs.Prelude.{ℕ, List};
+ghost use Rattle.cx_base.specs.Memory.{Words};
+ghost use Rattle.cx_base.specs.Store.{IsKey, IsDocument};
+ghost use Rattle.index_checks.specs.Layout.{IsIndex};
+ghost use Rattle.word_index.specs.Changes.{IsRemoved};
+ghost use Rattle.word_index.specs.Exact.{with_document, inserted_in, is_key_in, with_key_removed};
+ghost use Rattle.word_index.specs.Insertion.{Inserts};
 
-/// Words stand for at most one store.
-pub fn words_stand_for_one_store()
-    ensures { (words : List ℕ) (version other : ℕ) (store more : Store) → StandsFor words version store → StandsFor words other more → store ≡ more }
+/// The words that a document put at a key leaves: they stand for the store with it, where there is room, and are as
+/// many words of 64 bits as before.
+pub fn documents_are_put()
+    ensures stands { (key document words : List ℕ) (n : ℕ) → IsIndex words → Words n words → IsKey key → IsDocument document → Inserts key document (inserted_in key document words) words (with_document key document words) }
+    ensures words { (key document words : List ℕ) (n : ℕ) → IsIndex words → Words n words → IsKey key → IsDocument document → Words n (with_document key document words) }
 {}
 
-/// Lawful words stand for exactly one store, with exactly one version.
-pub fn lawful_words_have_one_store()
-    ensures { (words : List ℕ) (version : ℕ) → IsLawful words version → HasOneStore words version }
+/// The words that a key taken out leaves: they stand for the store without it, and are as many words of 64 bits as
+/// before.
+pub fn keys_are_removed()
+    ensures stands { (key words : List ℕ) → IsIndex words → IsRemoved key (is_key_in key words) words (with_key_removed key words) }
+    ensures words { (key words : List ℕ) (n : ℕ) → IsIndex words → Words n words → Words n (with_key_removed key words) }
 {}

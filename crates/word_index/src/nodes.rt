@@ -4,13 +4,15 @@ ghost use Rattle.std.specs.Prelude.{◌≡◌, ◌≤◌, ℕ, List, IfOk, OnErr
 ghost use Rattle.cx_base.specs.Memory.{Always, Becomes};
 ghost use Rattle.cx_base.specs.Packing.{unpacked};
 ghost use Rattle.cx_base.specs.Store.{Store, key_cmp};
-ghost use Rattle.word_index.specs.Access.{Reads};
+ghost use Rattle.avl_words.specs.Access.{Reads};
+ghost use Rattle.avl_words.specs.Lines.{IsPartLength};
+ghost use Rattle.index_checks.specs.Layout.{IsIndex, StandsFor};
 ghost use Rattle.word_index.specs.Answers.{IsPackOf, IsNodeOf};
-ghost use Rattle.word_index.specs.Layout.{IsPartLength, IsIndex, StandsFor};
 ghost use Rattle.word_index.specs.Walk.{HasNode};
 
-use crate::blocks::{read_text, word};
+use crate::blocks::read_text;
 use crate::texts::{Doc, Key, key_order};
+use avl_words::word;
 use cx_base::{Halt, Memory};
 use std::cmp::Ordering;
 

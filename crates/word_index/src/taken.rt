@@ -2,13 +2,11 @@
 
 ghost use Rattle.std.specs.Prelude.{◌≡◌, ◌+◌, ◌*◌, ◌-◌, ◌<◌, ◌≤◌, ◌≢◌, ◌^◌, ℕ, IsTrue, IfOk, OnErr, Some, length, is_some};
 ghost use Rattle.cx_base.specs.Memory.{Always, Becomes};
-ghost use Rattle.word_index.specs.Blocks.{IsWithin};
-ghost use Rattle.word_index.specs.Changes.{with_word};
-ghost use Rattle.word_index.specs.Fresh.{CanTake, LineTaken, LineFilled, IsBlock, TextWritten};
+ghost use Rattle.avl_words.specs.Lines.{IsWithin, with_word, IsPartLength, word_of};
 ghost use Rattle.word_index.specs.Exact.{line_to_take, with_line_taken, with_row, with_text};
-ghost use Rattle.word_index.specs.Layout.{IsPartLength, word_of};
+ghost use Rattle.word_index.specs.Fresh.{CanTake, LineTaken, LineFilled, IsBlock, TextWritten};
 
-use crate::blocks::{put, word};
+use avl_words::{put, word};
 use cx_base::{Halt, Memory};
 
 /// Takes the first line never given.
@@ -94,7 +92,7 @@ pub fn put_line<M: Memory>(mem: &mut M, line: u64, content: &[u64; 8]) -> Result
 }
 
 /// The words of a block: the next line, and seven words from a place on, 0 behind the end.
-fn block(next: u64, words: &[u64], from: usize) -> [u64; 8]
+pub fn block(next: u64, words: &[u64], from: usize) -> [u64; 8]
     requires { from < 2 ^ 40 }
     ensures { IsBlock next words.now from result }
 {

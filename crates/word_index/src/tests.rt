@@ -5,7 +5,7 @@ ghost use Rattle.cx_base.specs.Memory.{Always};
 ghost use Rattle.cx_base.specs.Packing.{unpacked, packed};
 ghost use Rattle.cx_base.specs.Store.{IsKey, IsDocument};
 ghost use Rattle.word_index.specs.Answers.{IsPacked};
-ghost use Rattle.word_index.specs.Layout.{IsPartLength, IsIndex};
+ghost use Rattle.index_checks.specs.Layout.{IsIndex};
 
 use crate::answers::{find, least_above};
 use crate::format::format_index;
@@ -156,6 +156,14 @@ fn two_keys<M: Memory, L: Ledger>(
     assert_eq!(rt; look(memory, b"a", visits)?, (2, Some(98)));
     assert_eq!(rt; look(memory, b"b", visits)?, (2, None));
     assert_eq!(rt; read(memory, b"b", visits)?, Some(51));
+    assert_eq!(rt; put(memory, b"a", &[52; 1024], visits)?, Inserted::Replaced);
+    assert_eq!(rt; put(memory, b"c", &[53; 1024], visits)?, Inserted::New);
+    assert_eq!(rt; put(memory, b"b", &[54; 1024], visits)?, Inserted::Replaced);
+    assert_eq!(rt; put(memory, b"d", b"6", visits)?, Inserted::NoRoom);
+    assert_eq!(rt; put(memory, b"c", b"5", visits)?, Inserted::Replaced);
+    assert_eq!(rt; read(memory, b"a", visits)?, Some(0x34343434_34343434));
+    assert_eq!(rt; read(memory, b"c", visits)?, Some(53));
+    assert!(rt; take(memory, b"c", visits)?);
     assert!(rt; take(memory, b"a", visits)?);
     assert_eq!(rt; read(memory, b"a", visits)?, None);
     assert_eq!(rt; look(memory, b"a", visits)?, (1, Some(98)));

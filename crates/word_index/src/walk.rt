@@ -1,38 +1,74 @@
-//! A walk along the nodes to the place of a key.
+//! A walk down the tree to the place of a key.
 
-ghost use Rattle.std.specs.Prelude.{◌≡◌, ◌≤◌, ℕ, List, IfOk, OnErr, Some, length, is_some};
+ghost use Rattle.std.specs.Prelude.{◌≡◌, ◌≢◌, ◌+◌, ◌-◌, ◌≤◌, ℕ, Bool, List, IfOk, OnErr, Some, length, is_some};
+ghost use Rattle.std.specs.declared.cmp.Ordering.TheVariants.{Less, Greater};
 ghost use Rattle.cx_base.specs.Memory.{Always, Becomes};
 ghost use Rattle.cx_base.specs.Packing.{unpacked};
-ghost use Rattle.word_index.specs.Access.{Reads};
-ghost use Rattle.word_index.specs.Layout.{IsPartLength, IsIndex};
-ghost use Rattle.word_index.specs.Walk.{AtSpot};
+ghost use Rattle.cx_base.specs.Store.{key_cmp};
+ghost use Rattle.avl_words.specs.Access.{Reads};
+ghost use Rattle.avl_words.specs.Lines.{IsPartLength};
+ghost use Rattle.index_checks.specs.Layout.{IsIndex};
+ghost use Rattle.word_index.specs.Answers.{IsNodeOf};
+ghost use Rattle.word_index.specs.Walk.{AtSpot, FewVisits, HasNode, toward};
 
-use crate::blocks::word;
-use crate::nodes::{count, order_at};
+use crate::nodes::order_at;
 use crate::texts::Key;
+use avl_words::{Way, word};
 use cx_base::{Halt, Memory, Steps};
 use std::cmp::Ordering;
 use std::sync::ledger::Ledger;
 
-/// The first node whose key is not below a key (0 for none), whether it has that key, and the node before it.
-#[derive(Clone, Copy, Debug, PartialEq, Eq)]
+/// Where a walk ended: the way down, the node there (0 for none), and the last node at which the walk went left.
+#[derive(Clone, Copy, Debug)]
 pub struct Spot {
-    pub before: u64,
+    pub way: Way,
     pub node: u64,
-    pub same: bool,
+    pub above: u64,
 }
 
-/// Walks to the place of a key. A visit is one node whose key is compared.
-pub fn seek<M: Memory, L: Ledger>(
+/// How the walk takes a node; past a key it takes the node of the key for one below it.
+fn toward(past: bool, order: Ordering) -> Ordering
+    ensures { result ≡ toward past order }
+{
+    if past && order.is_eq() {
+        Ordering::Less
+    } else {
+        order
+    }
+}
+
+/// The side of a node on which the walk goes on: 0 is the left.
+fn side_of(order: Ordering) -> u64
+    ensures less { order ≡ Less → result ≡ 1 }
+    ensures more { order ≡ Greater → result ≡ 0 }
+{
+    match order {
+        Ordering::Less => 1,
+        Ordering::Equal | Ordering::Greater => 0,
+    }
+}
+
+/// The last node at which the walk went left, after one more step.
+fn above_after(side: u64, node: u64, above: u64) -> u64
+    ensures left { side ≡ 0 → result ≡ node }
+    ensures right { side ≡ 1 → result ≡ above }
+{
+    if side == 0 { node } else { above }
+}
+
+/// Compares the key of a node with another key, which is one visit. A walk sees the keys of nodes in no other way.
+fn visit<M: Memory, L: Ledger>(
     mem: &mut M,
+    node: u64,
     key: &Key,
     visits: &mut Steps<L>,
-) -> Result<Spot, Halt>
+) -> Result<Ordering, Halt>
     requires sized { IsPartLength (M.size mem.old) }
-    requires lawful { Always (M.stands mem.old) IsIndex }
+    requires node { Always (M.stands mem.old) (λ ws. HasNode ws node) }
     requires key { key.now.len ≤ 64 }
-    ensures done { IfOk result (λ spot. Reads (M.stands mem.old) (M.stands mem.new)
-        (AtSpot (unpacked key.now.len key.now.words) spot.before spot.node spot.same)) }
+    ensures counted { visits.new ≡ visits.old + 1 }
+    ensures done { IfOk result (λ order. Reads (M.stands mem.old) (M.stands mem.new)
+        (λ ws. (pair : List ℕ × List ℕ) → IsNodeOf ws node pair → order ≡ key_cmp pair.0 (unpacked key.now.len key.now.words))) }
     ensures kept { Becomes (M.stands mem.old) (M.stands mem.new) ◌≡◌ }
     ensures halts { OnErr result (M.left mem.new ≡ Some 0) }
     ensures limited { is_some (M.left mem.new) ≡ is_some (M.left mem.old) }
@@ -40,34 +76,63 @@ pub fn seek<M: Memory, L: Ledger>(
     ensures fixed { M.fixed mem.new ≡ M.fixed mem.old }
     ensures writable { M.writable mem.new ≡ M.writable mem.old }
 {
-    let pairs = count(mem)?;
-    let mut before = 0;
+    visits.tick();
+    order_at(mem, node, key)
+}
+
+/// Walks to the place of a key, or past it. A visit is one node whose key is compared.
+pub fn seek<M: Memory, L: Ledger>(
+    mem: &mut M,
+    key: &Key,
+    past: bool,
+    visits: &mut Steps<L>,
+) -> Result<Spot, Halt>
+    requires sized { IsPartLength (M.size mem.old) }
+    requires lawful { Always (M.stands mem.old) IsIndex }
+    requires key { key.now.len ≤ 64 }
+    ensures done { IfOk result (λ spot. Reads (M.stands mem.old) (M.stands mem.new)
+        (AtSpot past (unpacked key.now.len key.now.words) spot.way.nodes spot.way.sides spot.way.depth spot.node spot.above)) }
+    ensures arrays { IfOk result (λ spot. (length spot.way.nodes ≡ 64) × (length spot.way.sides ≡ 64)) }
+    ensures visits { Always (M.stands mem.new) (FewVisits (visits.new - visits.old)) }
+    ensures kept { Becomes (M.stands mem.old) (M.stands mem.new) ◌≡◌ }
+    ensures halts { OnErr result (M.left mem.new ≡ Some 0) }
+    ensures limited { is_some (M.left mem.new) ≡ is_some (M.left mem.old) }
+    ensures size { M.size mem.new ≡ M.size mem.old }
+    ensures fixed { M.fixed mem.new ≡ M.fixed mem.old }
+    ensures writable { M.writable mem.new ≡ M.writable mem.old }
+{
+    let mut nodes = [0; 64];
+    let mut sides = [0; 64];
+    let mut above = 0;
     let mut node = word(mem, 0, 1)?;
-    for _ in 0..pairs {
-        visits.tick();
-        match order_at(mem, node, key)? {
-            Ordering::Less => {}
-            Ordering::Equal => {
-                return Ok(Spot {
-                    before,
-                    node,
-                    same: true,
-                });
-            }
-            Ordering::Greater => {
-                return Ok(Spot {
-                    before,
-                    node,
-                    same: false,
-                });
-            }
+    for depth in 0..64 {
+        if node == 0 {
+            let way = Way {
+                nodes,
+                sides,
+                depth,
+            };
+            return Ok(Spot { way, node, above });
         }
-        before = node;
-        node = word(mem, node, 1)?;
+        let order = toward(past, visit(mem, node, key, visits)?);
+        if order.is_eq() {
+            let way = Way {
+                nodes,
+                sides,
+                depth,
+            };
+            return Ok(Spot { way, node, above });
+        }
+        let side = side_of(order);
+        nodes[depth] = node;
+        sides[depth] = side;
+        above = above_after(side, node, above);
+        node = word(mem, node, side)?;
     }
-    Ok(Spot {
-        before,
-        node,
-        same: false,
-    })
+    let way = Way {
+        nodes,
+        sides,
+        depth: 64,
+    };
+    Ok(Spot { way, node, above })
 }

@@ -4,9 +4,9 @@ ghost use Rattle.std.specs.Prelude.{◌≡◌, IsTrue, IfOk, All};
 ghost use Rattle.doc_text.specs.Lives.{NameCommands, NamesCommands, Names};
 
 use super::report;
-use crate::grammar::{Command, Life, Script};
 use crate::indexed_life::IndexedLife;
 use crate::lives::{JournalLine, LifeRecord, ReadLine};
+use crate::script_parts::{Command, Life, Script};
 use cx_base::{Bytes, Items};
 use doc_model::{Op, Reply};
 use std::alloc::{AllocError, Global};
@@ -334,7 +334,7 @@ fn script_of(alloc: Global, worked: &[Worked]) -> Result<Script, AllocError> {
 fn commands_of(alloc: Global, asked: &[(u32, Asked)]) -> Result<Items<Command>, AllocError> {
     let mut commands = Items::new(alloc);
     for (client, asked) in asked {
-        let op = op_of(alloc, *asked)?;
+        let op = made_op(alloc, *asked)?;
         commands.push(Command {
             client: *client,
             op,
@@ -393,7 +393,7 @@ fn reads_of(alloc: Global, told: &[(u64, u64, Told)]) -> Result<Items<ReadLine>,
     Ok(reads)
 }
 
-fn op_of(alloc: Global, asked: Asked) -> Result<Op, AllocError> {
+fn made_op(alloc: Global, asked: Asked) -> Result<Op, AllocError> {
     Ok(match asked {
         Asked::Put(key, document) => {
             let key = bytes(alloc, key)?;

@@ -1,5 +1,9 @@
+use Rattle.cx_core.specs.Lawful.{Fronts}
 use Rattle.core_queue.proofs.FrontLaws as law
+use Rattle.core_queue.proofs.QueueFrames.{stepped}
 use Rattle.core_queue.proofs.frames.fronts_framed.Goals as goal
 
 pub returns : goal.returns
-returns c = λ instance history s at v caller l l' fronts there off same. law.fronts_framed instance history s.words s.locals at v caller l l' fronts there off same
+returns c = λ instance history before after step fronts.
+    stepped _ _ (Fronts instance history) before after step
+    (λ at v caller l l' there off same. law.fronts_framed instance history before.words before.locals at v caller l l' fronts there off same)

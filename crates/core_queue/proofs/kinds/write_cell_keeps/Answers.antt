@@ -1,5 +1,5 @@
-use Rattle.core_queue.proofs.Keeps.{event_kept}
+use Rattle.core_queue.proofs.Keeps.{queue_event_kept}
 use Rattle.core_queue.proofs.kinds.write_cell_keeps.Goals as goal
 
 pub returns : goal.returns
-returns c = λ instance before after caller j i v law made. event_kept instance _ before after law made
+returns c = λ j i v instance history before after caller law made. queue_event_kept instance history _ before after law made

@@ -1,7 +1,7 @@
 use Rattle.std.proofs.Common.{refl, sym, ◌∙◌}
 use Rattle.doc_model.specs.WordParts.{op_with}
-use Rattle.doc_model.specs.Words.{AreOfNoOp}
-use Rattle.doc_model.proofs.OpKinds.{HasOp, op_found, op_only, op_none}
+use Rattle.doc_model.specs.Words.{IsOpOf, AreOfNoOp}
+use Rattle.doc_model.proofs.OpKinds.{op_found, op_only, op_none}
 use Rattle.doc_model.proofs.WordTexts.{memory_is_not_bad}
 use Rattle.doc_model.proofs.words.op_of.Goals as goal
 
@@ -26,7 +26,7 @@ returns-in_err-op_with-clause-bad c =
     let read = op_found c.args.words.now p.kind p.key p.document p.number told.some told.small told.texts.0 told.texts.1 op (sym c.has_op.ensures ∙ c.if-not-has_op.false) refl in
     (λ bad. absurd (memory_is_not_bad c.from_residual.result c.from_residual.ensures.1 bad), λ no. absurd (no op read.limits read.amount read.has))
 
-found : (c : goal.In_ok-op_with) → HasOp c.args.words.now c.in_ok-op_with.field-0
+found : (c : goal.In_ok-op_with) → IsOpOf c.args.words.now c.in_ok-op_with.field-0
 found c =
     let p = c.in-Some.parts in
     let told = c.in-Some.ensures in

@@ -1,7 +1,7 @@
 use Rattle.std.proofs.Common.{refl, sym, ◌∙◌}
 use Rattle.doc_model.specs.WordParts.{reply_with}
 use Rattle.doc_model.specs.Words.{AreOfNoReply}
-use Rattle.doc_model.proofs.ReplyKinds.{HasReply, reply_found, reply_only, reply_none}
+use Rattle.doc_model.proofs.ReplyKinds.{IsReplyOf, reply_found, reply_only, reply_none}
 use Rattle.doc_model.proofs.WordTexts.{memory_is_not_bad}
 use Rattle.doc_model.proofs.words.reply_of.Goals as goal
 
@@ -26,7 +26,7 @@ returns-in_err-reply_with-clause-bad c =
     let read = reply_found c.args.words.now p.kind p.key p.document p.number told.some told.small told.texts.0 told.texts.1 reply (sym c.has_reply.ensures ∙ c.if-not-has_reply.false) refl in
     (λ bad. absurd (memory_is_not_bad c.from_residual.result c.from_residual.ensures.1 bad), λ no. absurd (no reply read.limits read.number read.has))
 
-found : (c : goal.In_ok-reply_with) → HasReply c.args.words.now c.in_ok-reply_with.field-0
+found : (c : goal.In_ok-reply_with) → IsReplyOf c.args.words.now c.in_ok-reply_with.field-0
 found c =
     let p = c.in-Some.parts in
     let told = c.in-Some.ensures in

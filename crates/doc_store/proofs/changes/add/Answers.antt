@@ -5,9 +5,10 @@ use Rattle.cx_base.specs.Packing.{unpacked}
 use Rattle.cx_base.proofs.MemoryLemmas.{Becomes-weaker, Becomes-then}
 use Rattle.doc_model.specs.Meaning.{sum_reply}
 use Rattle.doc_store.specs.ExactStep.{Exactly, with_sum}
-use Rattle.word_index.specs.Exact.{store_in}
-use Rattle.word_index.proofs.ExactStores.{stands_read}
-use Rattle.word_index.proofs.Memories.{IfOk-weaker, Becomes-from-read, Reads-with, always_read}
+use Rattle.index_checks.specs.Reading.{store_in}
+use Rattle.word_index.proofs.Arrangements.{stands_read}
+use Rattle.cx_base.proofs.ReadLemmas.{Becomes-from-read, Reads-with, always_read}
+use Rattle.std.proofs.lemmas.Result.{IfOk-weaker}
 use Rattle.doc_store.specs.StoreLaws.{fits_from}
 use Rattle.doc_store.proofs.Changing.{passed, passed_sum, some_fits}
 use Rattle.doc_store.proofs.ExactSteps.{add_none_runs, add_some_runs}
@@ -20,7 +21,7 @@ pub returns-in-None-clause-done : goal.returns-in-None-clause-done
 returns-in-None-clause-done g c =
     let key = unpacked c.args.key.now.len c.args.key.now.words in
     Becomes-weaker (Becomes-from-read (Reads-with c.requires.lawful c.in_ok-number.ensures.done)) (λ first x y s r.
-    add_none_runs c.args.lines key c.args.amount c.in_ok-number.number x y c.short_reply.result r.0 (r.1.1 r.1.0.version (store_in y) (stands_read y r.1.0)) c.in-None.is c.short_reply.ensures)
+    add_none_runs c.args.lines key c.args.amount c.in_ok-number.number x y c.reply_words.result r.0 (r.1.1 r.1.0.version (store_in y) (stands_read y r.1.0)) c.in-None.is c.reply_words.ensures)
 
 pub returns-in-Some-clause-done : goal.returns-in-Some-clause-done
 returns-in-Some-clause-done g c =
@@ -29,7 +30,7 @@ returns-in-Some-clause-done g c =
     let total = passed before +ℤ passed c.args.amount in
     let fits = fits_from before (some_fits c.in_ok-number.number before c.in-Some.is c.in_ok-number.ensures.fits) in
     let same = passed_sum before c.args.amount fits c.ranges.amount in
-    IfOk-weaker c.add_to.result (λ reply. Becomes (g.M.Memory.stands c.number_at.new.mem) (g.M.Memory.stands c.add_to.new.mem) (Exactly (λ ws. sum_reply c.args.lines (store_in ws) key total) (with_sum key total) reply)) _ c.add_to.ensures.done
+    IfOk-weaker c.add_to.result (λ reply. Becomes (g.M.Memory.stands c.number_at.new.mem) (g.M.Memory.stands c.add_to.new.mem) (Exactly (λ ws. sum_reply c.args.lines (store_in ws) key total) (with_sum key total) reply)) _
     (λ reply b. Becomes-then (Becomes-from-read (Reads-with c.requires.lawful c.in_ok-number.ensures.done)) b (λ x y z r d.
     add_some_runs c.args.lines key c.args.amount c.in_ok-number.number x y reply r.0 (r.1.1 r.1.0.version (store_in y) (stands_read y r.1.0)) z before c.in-Some.is
-    (subst (λ t. Exactly (λ ws. sum_reply c.args.lines (store_in ws) key t) (with_sum key t) reply y z) same d)))
+    (subst (λ t. Exactly (λ ws. sum_reply c.args.lines (store_in ws) key t) (with_sum key t) reply y z) same d))) c.add_to.ensures.done

@@ -8,8 +8,9 @@ use Rattle.doc_model.specs.Number.{is_i64}
 use Rattle.doc_store.specs.ExactStep.{Exactly}
 use Rattle.doc_store.specs.StepOnWords.{put_sum_reply}
 use Rattle.doc_store.proofs.ExactSteps.{over_runs, sum_runs}
-use Rattle.word_index.specs.Exact.{store_in, with_document}
-use Rattle.word_index.proofs.Memories.{IfOk-weaker}
+use Rattle.index_checks.specs.Reading.{store_in}
+use Rattle.word_index.specs.Exact.{with_document}
+use Rattle.std.proofs.lemmas.Result.{IfOk-weaker}
 use Rattle.doc_store.specs.StoreLaws.{fits_from}
 use Rattle.doc_store.proofs.Changing.{passed, passed_is, passed_sum}
 use Rattle.doc_store.proofs.changes.add_to.Goals as goal
@@ -23,7 +24,7 @@ pub returns-in-None-clause-done : goal.returns-in-None-clause-done
 returns-in-None-clause-done g c =
     let key = unpacked c.args.key.now.len c.args.key.now.words in
     let same = passed_sum c.args.before c.args.amount c.ranges.before c.ranges.amount in
-    Becomes-weaker (Becomes-same _) (λ first x y s e. over_runs c.args.lines x y c.short_reply.result key (c.args.before +ℤ c.args.amount) (ap (λ z. is_i64 z) (sym same) ∙ c.in-None.ensures) e c.short_reply.ensures)
+    Becomes-weaker (Becomes-same _) (λ first x y s e. over_runs c.args.lines x y c.reply_words.result key (c.args.before +ℤ c.args.amount) (ap (λ z. is_i64 z) (sym same) ∙ c.in-None.ensures) e c.reply_words.ensures)
 
 pub returns-in-Some-clause-done : goal.returns-in-Some-clause-done
 returns-in-Some-clause-done g c =
@@ -32,5 +33,5 @@ returns-in-Some-clause-done g c =
     let fits = c.in-Some.ensures.1 in
     let passes = passed_is c.in-Some.sum (fits_from c.in-Some.sum fits) in
     let same = passes ∙ c.in-Some.ensures.0 ∙ passed_sum c.args.before c.args.amount c.ranges.before c.ranges.amount in
-    IfOk-weaker c.put_sum.result (λ reply. Becomes (g.M.Memory.stands c.args.mem.now) (g.M.Memory.stands c.put_sum.new.mem) (Exactly (λ ws. put_sum_reply c.args.lines (store_in ws) key sum) (with_document key (signed_decimal sum)) reply)) _ c.put_sum.ensures.done
-    (λ reply b. Becomes-weaker b (λ first x y s d. sum_runs c.args.lines x y reply key sum (c.args.before +ℤ c.args.amount) same (ap (λ z. is_i64 z) passes ∙ fits) d))
+    IfOk-weaker c.put_sum.result (λ reply. Becomes (g.M.Memory.stands c.args.mem.now) (g.M.Memory.stands c.put_sum.new.mem) (Exactly (λ ws. put_sum_reply c.args.lines (store_in ws) key sum) (with_document key (signed_decimal sum)) reply)) _
+    (λ reply b. Becomes-weaker b (λ first x y s d. sum_runs c.args.lines x y reply key sum (c.args.before +ℤ c.args.amount) same (ap (λ z. is_i64 z) passes ∙ fits) d)) c.put_sum.ensures.done

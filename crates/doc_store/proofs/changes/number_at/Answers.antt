@@ -1,5 +1,5 @@
 use Rattle.cx_base.specs.Packing.{unpacked}
-use Rattle.word_index.proofs.Memories.{Reads-weaker, Reads-then, always_read}
+use Rattle.cx_base.proofs.ReadLemmas.{Reads-weaker, Reads-then, always_read}
 use Rattle.doc_store.proofs.Answering.{has_node}
 use Rattle.doc_store.proofs.Changing.{number_none, number_some}
 use Rattle.doc_store.proofs.changes.number_at.Goals as goal

@@ -2,7 +2,7 @@ use Rattle.std.proofs.Common.{◌≡◌, subst}
 use Rattle.std.specs.Fmt.{signed_decimal}
 use Rattle.cx_base.specs.Packing.{unpacked}
 use Rattle.doc_model.specs.Words.{reply_words}
-use Rattle.doc_store.specs.StepOnWords.{sum_told}
+use Rattle.doc_store.specs.StepOnWords.{reply_to_sum}
 use Rattle.word_index.specs.Answers.{IsPackOf}
 use Rattle.doc_store.specs.StoreLaws.{lines_are}
 use Rattle.doc_store.proofs.Changing.{sum_text, sum_packed, sum_is_document, passed_is}
@@ -28,7 +28,7 @@ returns-clause-done g c =
     let m = c.args.mem.now in
     let same = passed_is c.args.sum c.ranges.sum in
     let packs = subst (λ z. IsPackOf 128 doc.len doc.words (signed_decimal z)) same c.doc_of_number-doc.ensures in
-    let told = subst (λ z. c.sum_reply.result ≡ reply_words (sum_told z c.in_ok-inserted.inserted)) same c.sum_reply.ensures in
+    let told = subst (λ z. c.sum_reply.result ≡ reply_words (reply_to_sum z c.in_ok-inserted.inserted)) same c.sum_reply.ensures in
     record {
       from = λ first now s. (
           let p = c.in_ok-inserted.ensures.exact.from first now s in (

@@ -4,7 +4,8 @@ use Rattle.cx_base.specs.Packing.{byte_at, unpacked}
 use Rattle.cx_base.specs.Store.{IsDocument}
 use Rattle.doc_model.specs.Number.{integer_of}
 use Rattle.word_index.specs.Answers.{IsPackOf}
-use Rattle.word_index.proofs.NodeReads.{unpacks, document_small}
+use Rattle.word_index.proofs.NodeReads.{unpacks}
+use Rattle.index_checks.proofs.Texts.{document_small}
 use Rattle.doc_store.proofs.Changing.{integer_fits}
 use Rattle.doc_store.proofs.numbers.number_in.Goals as goal
 

@@ -1,5 +1,5 @@
 use Rattle.cx_base.specs.Packing.{unpacked}
-use Rattle.word_index.proofs.Memories.{Reads-weaker, Reads-then, always_read}
+use Rattle.cx_base.proofs.ReadLemmas.{Reads-weaker, Reads-then, always_read}
 use Rattle.doc_store.proofs.Answering.{has_node, get_none, get_some}
 use Rattle.doc_store.proofs.readings.get.Goals as goal
 
@@ -11,7 +11,7 @@ doc_at-requires-clause-node g c =
 pub returns-in-None-clause-done : goal.returns-in-None-clause-done
 returns-in-None-clause-done g c =
     let key = unpacked c.args.key.now.len c.args.key.now.words in
-    Reads-weaker c.in_ok-found.ensures.done (λ ws f. get_none ws key c.short_reply.result c.in_ok-found.found c.in-None.is c.short_reply.ensures f)
+    Reads-weaker c.in_ok-found.ensures.done (λ ws f. get_none ws key c.reply_words.result c.in_ok-found.found c.in-None.is c.reply_words.ensures f)
 
 pub returns-in_ok-doc-in-Some-clause-done : goal.returns-in_ok-doc-in-Some-clause-done
 returns-in_ok-doc-in-Some-clause-done g c =

@@ -1,7 +1,6 @@
-use Rattle.std.proofs.Common.{◌≡◌, ◌+◌, ◌<◌, ◌∷◌, ℕ, List, length, slice_index, sym, refl, ap, subst, ◌∙◌, arith, add-one}
-use Rattle.std.proofs.lemmas.Bool.{false≢true}
+use Rattle.std.proofs.Common.{◌≡◌, ◌+◌, ◌<◌, ◌∷◌, ℕ, List, length, slice_index, sym, ap, subst, ◌∙◌, arith, add-one}
 use Rattle.cx_core.specs.declared.kinds.Kind.TheVariants.{WriteCell}
-use Rattle.cx_core.specs.Events.{IsIdle, next_number}
+use Rattle.cx_core.specs.QueueEvents.{IsIdle, next_number}
 use Rattle.cx_table.specs.Running.{IsSeatOf, Running, instance_at}
 use Rattle.cx_core.specs.State.{Instance}
 use Rattle.cx_table.specs.Seats.{HasCells, Seated, stepped}
@@ -18,7 +17,7 @@ returns-in_err-write_cell-clause-halted g c =
     let instance = instance_at c.args.shared.now g.O.Object.step g.O.Object.only_reads in
     let s = c.args.seat.now in
     let words = next_number c.args.shared.now.base s.known.local ∷ c.args.op.now in
-    on_err c.from_residual.result _ (halts instance c.args.cell words 0 s s c.write_cell.new.seat (omega arith) (nothing instance c.args.cell words s) c.in_err-write_cell.ensures.halted (c.in_err-write_cell.ensures.halts.0 refl))
+    on_err c.from_residual.result _ (halts instance c.args.cell words 0 s s c.write_cell.new.seat (omega arith) (nothing instance c.args.cell words s) c.in_err-write_cell.ensures.halted.same c.in_err-write_cell.ensures.halted.limit)
 
 pub loop-i-init : goal.loop-i-init
 loop-i-init g c =
@@ -27,9 +26,9 @@ loop-i-init g c =
     let number = c.next_number-number.result in
     let words = next_number c.args.shared.now.base s.known.local ∷ c.args.op.now in
     let value : number ≡ slice_index words 0 = c.next_number-number.ensures.value ∙ ap (λ b. b + length s.known.local.own + 1) c.requires.seat.before in
-    let ok = c.in_ok-write_cell.ensures in record {
+    let ok = c.in_ok-write_cell.ensures.made in record {
       seat = then_one instance c.args.cell words 0 number s s c.write_cell.new.seat (nothing instance c.args.cell words s) (ok.made ∙ ap (λ k. stepped instance (WriteCell k 0 number) s 0) c.from-j.ensures) value;
-      steps = not_yet instance c.args.cell words 0 s s (nothing instance c.args.cell words s) (λ k below. absurd (omega arith)) (λ at. false≢true (ok.halts.1 at));
+      steps = not_yet instance c.args.cell words 0 s s (nothing instance c.args.cell words s) (λ k below. absurd (omega arith)) ok.allowed;
     }
 
 pub write_cell-requires-in-loop-i-clause-seat : goal.write_cell-requires-in-loop-i-clause-seat
@@ -58,7 +57,7 @@ returns-in_err-write_cell-2-clause-halted g c =
     let s = c.args.seat.now in
     let words = next_number c.args.shared.now.base s.known.local ∷ c.args.op.now in
     let i = c.loop-i-test.true in
-    on_err c.from_residual-in_err-write_cell-2.result _ (halts instance c.args.cell words (c.loop-i.i + 1) s c.loop-i.seat c.write_cell-in-loop-i.new.seat (omega arith) c.loop-i.invariant.seat c.in_err-write_cell-2.ensures.halted (c.in_err-write_cell-2.ensures.halts.0 refl))
+    on_err c.from_residual-in_err-write_cell-2.result _ (halts instance c.args.cell words (c.loop-i.i + 1) s c.loop-i.seat c.write_cell-in-loop-i.new.seat (omega arith) c.loop-i.invariant.seat c.in_err-write_cell-2.ensures.halted.same c.in_err-write_cell-2.ensures.halted.limit)
 
 pub loop-i-preserved : goal.loop-i-preserved
 loop-i-preserved g c =
@@ -68,9 +67,9 @@ loop-i-preserved g c =
     let words = number ∷ c.args.op.now in
     let i = c.loop-i.i in
     let v = slice_index c.args.op.now i in
-    let ok = c.in_ok-write_cell-2.ensures in record {
+    let ok = c.in_ok-write_cell-2.ensures.made in record {
       seat = then_one instance c.args.cell words (i + 1) v s c.loop-i.seat c.write_cell-in-loop-i.new.seat c.loop-i.invariant.seat (ok.made ∙ ap (λ k. stepped instance (WriteCell k (i + 1) v) c.loop-i.seat 0) c.from-j.ensures) (next_word number i c.args.op.now);
-      steps = not_yet instance c.args.cell words (i + 1) s c.loop-i.seat c.loop-i.invariant.seat c.loop-i.invariant.steps (λ at. false≢true (ok.halts.1 at));
+      steps = not_yet instance c.args.cell words (i + 1) s c.loop-i.seat c.loop-i.invariant.seat c.loop-i.invariant.steps ok.allowed;
     }
 
 pub returns-clause-announced : goal.returns-clause-announced
@@ -96,10 +95,10 @@ returns-clause-number g c =
     (announced_ready c.args.shared.now (instance_at c.args.shared.now g.O.Object.step g.O.Object.only_reads) c.args.cell c.args.op.now c.args.seat.now c.loop-i.seat (returns-clause-announced g c) c.requires.seat).2
 
 pub returns-in_err-write_cell-clause-seat : goal.returns-in_err-write_cell-clause-seat
-returns-in_err-write_cell-clause-seat g c = subst (IsSeatOf c.args.shared.now) (sym c.in_err-write_cell.ensures.halted) c.requires.seat
+returns-in_err-write_cell-clause-seat g c = c.in_err-write_cell.ensures.halted.seat
 
 pub returns-in_err-write_cell-clause-number : goal.returns-in_err-write_cell-clause-number
-returns-in_err-write_cell-clause-number g c = ap (λ (x : Seated). x.known.local.number) c.in_err-write_cell.ensures.halted
+returns-in_err-write_cell-clause-number g c = ap (λ (x : Seated). x.known.local.number) c.in_err-write_cell.ensures.halted.same
 
 halted_at : {O : Type 0} (r : Running O) (instance : Instance) (j : ℕ) (ws : List ℕ) (s now t : Seated) (n : ℕ) → HasCells s.known.local → j < 16 → length ws ≡ 145 → n < 144 → now ≡ written_to instance j ws (n + 1) s → t ≡ now → IsSeatOf r s →
     IsSeatOf r t × (t.known.local.number ≡ s.known.local.number)
@@ -110,11 +109,11 @@ returns-in_err-write_cell-2-clause-seat g c =
     let s = c.args.seat.now in
     let words = next_number c.args.shared.now.base s.known.local ∷ c.args.op.now in
     (halted_at c.args.shared.now (instance_at c.args.shared.now g.O.Object.step g.O.Object.only_reads) c.args.cell words s c.loop-i.seat c.write_cell-in-loop-i.new.seat c.loop-i.i
-    c.next_number-number.ensures.cells c.requires.cell.0 (omega (arith, c.told-op)) c.loop-i-test.true c.loop-i.invariant.seat c.in_err-write_cell-2.ensures.halted c.requires.seat).0
+    c.next_number-number.ensures.cells c.requires.cell.0 (omega (arith, c.told-op)) c.loop-i-test.true c.loop-i.invariant.seat c.in_err-write_cell-2.ensures.halted.same c.requires.seat).0
 
 pub returns-in_err-write_cell-2-clause-number : goal.returns-in_err-write_cell-2-clause-number
 returns-in_err-write_cell-2-clause-number g c =
     let s = c.args.seat.now in
     let words = next_number c.args.shared.now.base s.known.local ∷ c.args.op.now in
     (halted_at c.args.shared.now (instance_at c.args.shared.now g.O.Object.step g.O.Object.only_reads) c.args.cell words s c.loop-i.seat c.write_cell-in-loop-i.new.seat c.loop-i.i
-    c.next_number-number.ensures.cells c.requires.cell.0 (omega (arith, c.told-op)) c.loop-i-test.true c.loop-i.invariant.seat c.in_err-write_cell-2.ensures.halted c.requires.seat).1
+    c.next_number-number.ensures.cells c.requires.cell.0 (omega (arith, c.told-op)) c.loop-i-test.true c.loop-i.invariant.seat c.in_err-write_cell-2.ensures.halted.same c.requires.seat).1

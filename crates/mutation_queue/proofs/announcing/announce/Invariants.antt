@@ -1,5 +1,5 @@
 use Rattle.std.proofs.Common.{◌≡◌, ◌+◌, ◌<◌, ◌∷◌, ℕ}
-use Rattle.cx_core.specs.Events.{next_number}
+use Rattle.cx_core.specs.QueueEvents.{next_number}
 use Rattle.cx_table.specs.Running.{instance_at}
 use Rattle.cx_table.specs.Seats.{IsAtLimit}
 use Rattle.mutation_queue.specs.Cells.{written_to}

@@ -13,6 +13,7 @@ loop-tried-init g c = record {
   front = omega arith;
   at_first = λ _. refl;
   cur = λ some. absurd (omega arith);
+  steps = omega arith;
   moved = inl (refl, refl);
 }
 
@@ -80,6 +81,7 @@ loop-tried-preserved g c =
       front = omega (arith, inv.front, past.front);
       at_first = λ zero. absurd (omega arith);
       cur = cur_kept callers c.loop-tried._tried s t inv.at_first inv.cur past.cur;
+      steps = omega (arith, inv.steps, c.in_ok-ticket.ensures.steps);
       moved = inr (not_at c.loop-tried._tried s t inv.moved c.in_ok-ticket.ensures.halts);
     }
 

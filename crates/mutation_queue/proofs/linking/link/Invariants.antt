@@ -1,4 +1,4 @@
-use Rattle.std.proofs.Common.{◌≡◌, ◌+◌, ◌<◌, ◌≤◌, ◌⊎◌}
+use Rattle.std.proofs.Common.{◌≡◌, ◌+◌, ◌*◌, ◌<◌, ◌≤◌, ◌⊎◌}
 use Rattle.cx_base.specs.Codes.{root_place_of}
 use Rattle.cx_table.specs.Seats.{IsAtLimit}
 use Rattle.mutation_queue.specs.Links.{LinksNone}
@@ -11,5 +11,6 @@ invariant-loop-tried g l = record {
   front : l.fn.seat.known.local.front + l._tried ≤ l.seat.known.local.front;
   at_first : l._tried ≡ 0 → l.seat ≡ l.fn.seat;
   cur : 0 < l._tried → root_place_of l.shared.callers l.fn.seat.known.local.seen_cur ≤ l.fn.seat.known.local.front;
+  steps : l.seat.known.local.steps ≤ l.fn.seat.known.local.steps + 2 * l._tried;
   moved : ((l._tried ≡ 0) × (l.seat ≡ l.fn.seat)) ⊎ (¬ IsAtLimit l.fn.seat.known.local);
 }

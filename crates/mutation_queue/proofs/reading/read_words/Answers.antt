@@ -1,5 +1,4 @@
-use Rattle.std.proofs.Common.{◌≡◌, ◌<◌, ◌/◌, ℕ, List, length, take, refl, sym, ap, ◌∙◌, arith}
-use Rattle.std.proofs.lemmas.Bool.{false≢true}
+use Rattle.std.proofs.Common.{◌≡◌, ◌<◌, ◌/◌, ℕ, List, length, take, sym, ap, ◌∙◌, arith}
 use Rattle.std.proofs.lemmas.List.{length-set, length-take, take_all}
 use Rattle.cx_table.specs.Running.{instance_at}
 use Rattle.mutation_queue.specs.Entries.{with_read}
@@ -26,7 +25,7 @@ returns-in_err-into-clause-halted g c =
     let ws = take i c.loop-i.into in
     let at : i ≡ length ws = so_far c.loop-i.into i c.loop-i.invariant.long (omega arith) in
     on_err c.from_residual.result _ (halts_among (c.args.cell / 16) c.args.ticket ws c.args.seat.now c.loop-i.seat c.read_cell.new.seat (omega (arith, at)) c.loop-i.invariant.seat
-    c.in_err-into.ensures.halted (c.in_err-into.ensures.halts.0 refl))
+    c.in_err-into.ensures.halted.same c.in_err-into.ensures.halted.limit)
 
 pub loop-i-preserved : goal.loop-i-preserved
 loop-i-preserved g c =
@@ -35,12 +34,12 @@ loop-i-preserved g c =
     let i = c.loop-i.i in
     let ws = take i c.loop-i.into in
     let v = c.in_ok-into.field-0 in
-    let ok = c.in_ok-into.ensures in
+    let ok = c.in_ok-into.ensures.made in
     let at : i ≡ length ws = so_far c.loop-i.into i c.loop-i.invariant.long (omega arith) in record {
       seat = read_one instance c.args.ticket c.args.cell ws v i c.args.seat.now c.loop-i.seat c.read_cell.new.seat c.loop-i.invariant.seat at ok.made
           ∙ ap (λ (xs : List ℕ). with_read (c.args.cell / 16) c.args.ticket xs c.args.seat.now) (sym (take_set c.loop-i.into i v (omega (arith, c.loop-i.invariant.long))));
       long = length-set c.loop-i.into i v ∙ c.loop-i.invariant.long;
-      within = none_ends (c.args.cell / 16) c.args.ticket ws i c.args.seat.now c.loop-i.seat c.loop-i.invariant.seat at c.loop-i.invariant.within (λ limit. false≢true (ok.halts.1 limit));
+      within = none_ends (c.args.cell / 16) c.args.ticket ws i c.args.seat.now c.loop-i.seat c.loop-i.invariant.seat at c.loop-i.invariant.within ok.allowed;
       of = ok.seat;
     }
 

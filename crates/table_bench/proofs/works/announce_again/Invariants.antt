@@ -1,4 +1,4 @@
-use Rattle.cx_core.specs.Events.{IsIdle}
+use Rattle.cx_core.specs.QueueEvents.{IsIdle}
 use Rattle.cx_table.specs.Running.{IsSeatOf}
 use Rattle.table_bench.proofs.works.announce_again.Given as goal
 

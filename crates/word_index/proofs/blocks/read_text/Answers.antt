@@ -1,7 +1,7 @@
 use Rattle.std.proofs.Common.{◌≡◌, ◌+◌, ◌≤◌, ℕ, List, length, arith, ◌/◌}
-use Rattle.word_index.specs.Blocks.{HasText}
-use Rattle.word_index.specs.Layout.{word_of}
-use Rattle.word_index.proofs.Memories.{Reads-none, Reads-loaded, always_at_most}
+use Rattle.avl_words.proofs.Memories.{Reads-none, Reads-loaded, always_at_most}
+use Rattle.avl_words.specs.Lines.{word_of}
+use Rattle.index_checks.specs.Blocks.{HasText}
 use Rattle.word_index.proofs.blocks.read_text.Goals as goal
 
 len_short : (ws : List ℕ) (node at n len : ℕ) → HasText ws node at n → word_of ws node (at + 1) ≡ len → (len + 7) / 8 ≤ n

@@ -1,8 +1,8 @@
 use Rattle.std.proofs.Common.{◌≡◌, ◌≢◌, ◌<◌, length, arith, rules, subst, ◌∙◌}
 use Rattle.std.proofs.lemmas.List.{length-set, get_or-set_other}
 use Rattle.cx_base.specs.Packing.{packed}
-use Rattle.word_index.proofs.Memories.{kept_then, Reads-loaded, Reads-then, Reads-weaker}
-use Rattle.word_index.proofs.BlockReads.{read_more, read_all}
+use Rattle.avl_words.proofs.Memories.{kept_then, Reads-loaded, Reads-then, Reads-weaker}
+use Rattle.index_checks.proofs.BlockReads.{read_more, read_all}
 use Rattle.word_index.proofs.blocks.read_words.Goals as goal
 
 pub loop-i-preserved : goal.loop-i-preserved

@@ -1,8 +1,8 @@
 use Rattle.std.proofs.Common.{◌≡◌, is_some, ◌≤◌, ℕ, get_or, length}
 use Rattle.cx_base.specs.Memory.{Becomes}
-use Rattle.word_index.specs.Access.{Reads}
-use Rattle.word_index.specs.Layout.{IsPartLength}
-use Rattle.word_index.proofs.BlockReads.{ReadSoFar}
+use Rattle.avl_words.specs.Access.{Reads}
+use Rattle.avl_words.specs.Lines.{IsPartLength}
+use Rattle.index_checks.proofs.BlockReads.{ReadSoFar}
 use Rattle.word_index.proofs.blocks.read_words.Given as goal
 
 abbrev pub invariant-loop-i : goal.invariant-loop-i

@@ -1,6 +1,6 @@
 use Rattle.std.proofs.Common.{is_some, rules, ap, sym, arith, subst, ◌∙◌}
 use Rattle.cx_base.proofs.MemoryLemmas.{Becomes-same, Becomes-store, Becomes-weaker, is_some-one_less}
-use Rattle.word_index.specs.Layout.{IsPartLength}
+use Rattle.avl_words.specs.Lines.{IsPartLength}
 use Rattle.word_index.proofs.Arrangements.{empty_begins, empty_more, empty_stands, empty_done}
 use Rattle.word_index.proofs.format.format_index.Goals as goal
 

@@ -1,6 +1,6 @@
 use Rattle.std.proofs.Common.{◌≡◌, is_some, IsTrue}
 use Rattle.cx_base.specs.Memory.{Becomes}
-use Rattle.word_index.specs.Layout.{IsPartLength}
+use Rattle.avl_words.specs.Lines.{IsPartLength}
 use Rattle.word_index.proofs.Arrangements.{EmptySoFar}
 use Rattle.word_index.proofs.format.format_index.Given as goal
 

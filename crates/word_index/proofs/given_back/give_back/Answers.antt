@@ -1,8 +1,8 @@
 use Rattle.std.proofs.Common.{◌≡◌, ◌^◌, ◌+◌, ◌≤◌, ℕ, List, slice_index, sym, ap, ◌∙◌, arith}
 use Rattle.cx_base.proofs.MemoryLemmas.{Becomes-same, Becomes-store}
-use Rattle.word_index.specs.Changes.{with_given, with_word, CanGive}
-use Rattle.word_index.specs.Layout.{word_of}
-use Rattle.word_index.proofs.Memories.{Reads-none, Reads-loaded, Becomes-loaded, always_at_most}
+use Rattle.avl_words.proofs.Memories.{Reads-none, Reads-loaded, Becomes-loaded, always_at_most}
+use Rattle.avl_words.specs.Lines.{with_word, word_of}
+use Rattle.word_index.specs.Changes.{with_given, CanGive}
 use Rattle.word_index.proofs.given_back.give_back.Goals as goal
 
 small : (ws : List ℕ) (line number : ℕ) → CanGive ws line → word_of ws 0 4 ≡ number → number ≤ 2 ^ 32

@@ -1,9 +1,9 @@
 use Rattle.std.proofs.Common.{rules, arith, ◌∙◌}
 use Rattle.cx_base.proofs.MemoryLemmas.{Becomes-same, Becomes-then, Becomes-weaker}
-use Rattle.word_index.specs.Exact.{with_chain_given}
+use Rattle.avl_words.proofs.Memories.{Becomes-loaded, always_after}
 use Rattle.word_index.proofs.ExactRuns.{chain_begins, chain_goes_on, chain_ends}
-use Rattle.word_index.proofs.Memories.{Becomes-loaded, always_after}
 use Rattle.word_index.proofs.Giving.{so_far_none, next_can_be_given, so_far_more, so_far_all}
+use Rattle.word_index.specs.Exact.{with_chain_given}
 use Rattle.word_index.proofs.given_back.give_chain.Goals as goal
 
 pub loop-init : goal.loop-init

@@ -1,8 +1,8 @@
 use Rattle.std.proofs.Common.{◌≡◌, ◌-◌, is_some, IsTrue}
 use Rattle.cx_base.specs.Memory.{Becomes}
-use Rattle.word_index.specs.Exact.{with_chain_given}
-use Rattle.word_index.specs.Layout.{IsPartLength}
+use Rattle.avl_words.specs.Lines.{IsPartLength}
 use Rattle.word_index.proofs.Giving.{ChainSoFar}
+use Rattle.word_index.specs.Exact.{with_chain_given}
 use Rattle.word_index.proofs.given_back.give_chain.Given as goal
 
 abbrev pub invariant-loop : goal.invariant-loop

@@ -1,15 +1,16 @@
 use Rattle.std.proofs.Common.{◌≡◌, ◌+◌, ◌-◌, ◌≤◌, ℕ, List, [], arith}
 use Rattle.cx_base.specs.Store.{Store, lines_of}
-use Rattle.word_index.specs.Layout.{word_of, StandsFor, IsIndex}
-use Rattle.word_index.proofs.Memories.{Reads-none, Reads-loaded, Reads-weaker, always_at_most}
+use Rattle.avl_words.proofs.Memories.{Reads-none, Reads-loaded, Reads-weaker, always_at_most}
+use Rattle.avl_words.specs.Lines.{word_of}
+use Rattle.index_checks.proofs.Totals.{all_lines}
+use Rattle.index_checks.specs.Layout.{StandsFor, IsIndex}
 use Rattle.word_index.proofs.Putting.{lines_of_places}
-use Rattle.word_index.proofs.Totals.{all_lines}
 use Rattle.word_index.proofs.insertion.lines_in_use.Goals as goal
 
 used : (ws : List ℕ) (version : ℕ) (store : Store) → StandsFor ws version store → lines_of store + word_of ws 0 4 + 1 ≡ word_of ws 0 3
 used ws version store s =
     let a = s.arranged in
-    omega (arith, all_lines ws version store s.places s.given [] a, lines_of_places ws (word_of ws 0 1) 0 s.places store a.nodes, a.given_count)
+    omega (arith, all_lines ws version store s.tree s.places s.given [] a, lines_of_places ws s.places store a.nodes.pairs, a.given_count)
 
 some : (ws : List ℕ) (end : ℕ) → IsIndex ws → word_of ws 0 3 ≡ end → 1 ≤ end
 some ws end i e = omega (arith, used ws i.version i.store i.stands)

@@ -3,10 +3,10 @@ use Rattle.std.specs.Int.{div_ceil}
 use Rattle.cx_base.specs.Packing.{unpacked}
 use Rattle.cx_base.specs.Store.{pair_lines}
 use Rattle.cx_base.proofs.MemoryLemmas.{Becomes-then}
-use Rattle.word_index.specs.Fresh.{CanTake}
+use Rattle.avl_words.proofs.Memories.{always_after, Becomes-both}
 use Rattle.word_index.proofs.ExactRuns.{new_pair_runs}
-use Rattle.word_index.proofs.Memories.{always_after, Becomes-both}
 use Rattle.word_index.proofs.Putting.{length_unpacked, room_less, room_after_line, room_after_text, node_still, pair_written}
+use Rattle.word_index.specs.Fresh.{CanTake}
 use Rattle.word_index.proofs.insertion.write_pair.Goals as goal
 
 -- the room is that of the node, of the key's blocks and of the document's
@@ -54,7 +54,7 @@ returns-clause-done g c =
     let count = c.div_ceil.result in
     let other = c.div_ceil-2.result in
     Becomes-then (Becomes-both (Becomes-both c.in_ok-node.ensures.done c.in_ok-key_first.ensures.done) c.in_ok-doc_first.ensures.done) c.in_ok-put_line.ensures.done (λ x w v t f.
-    pair_written x t.1.0 t.0 w v c.args.next c.in_ok-node.node count other c.in_ok-key_first.key_first c.in_ok-doc_first.doc_first key.len doc.len key.words doc.words
+    pair_written x t.1.0 t.0 w v c.in_ok-node.node count other c.in_ok-key_first.key_first c.in_ok-doc_first.doc_first key.len doc.len key.words doc.words
     c.requires.key c.requires.doc c.div_ceil.ensures c.div_ceil-2.ensures t.1.1 t.1.2 t.2 f)
 
 pub returns-clause-exact : goal.returns-clause-exact
@@ -64,5 +64,5 @@ returns-clause-exact g c =
     let count = c.div_ceil.result in
     let other = c.div_ceil-2.result in
     Becomes-then (Becomes-both (Becomes-both c.in_ok-node.ensures.exact c.in_ok-key_first.ensures.exact) c.in_ok-doc_first.ensures.exact) c.in_ok-put_line.ensures.exact (λ x w v t f.
-    new_pair_runs c.args.next c.in_ok-node.node c.in_ok-key_first.key_first c.in_ok-doc_first.doc_first key.len doc.len count other key.words doc.words x t.1.0 t.0 w v
+    new_pair_runs c.in_ok-node.node c.in_ok-key_first.key_first c.in_ok-doc_first.doc_first key.len doc.len count other key.words doc.words x t.1.0 t.0 w v
     c.requires.key c.requires.doc c.div_ceil.ensures c.div_ceil-2.ensures t.1.1 t.1.2 t.2 f)

@@ -1,10 +1,10 @@
 use Rattle.std.proofs.Common.{◌≤◌, ℕ, List, ap, ◌∙◌, subst, sym}
 use Rattle.cx_base.specs.Packing.{unpacked}
 use Rattle.cx_base.specs.Store.{key_cmp}
+use Rattle.avl_words.proofs.Memories.{Reads-weaker, always_read, always_at_most}
+use Rattle.word_index.proofs.NodeReads.{unpacked_key}
 use Rattle.word_index.specs.Answers.{IsPackOf, IsNodeOf}
 use Rattle.word_index.specs.Walk.{HasNode}
-use Rattle.word_index.proofs.Memories.{Reads-weaker, always_read, always_at_most}
-use Rattle.word_index.proofs.NodeReads.{unpacked_key}
 use Rattle.word_index.proofs.nodes.order_at.Goals as goal
 
 short : (ws : List ℕ) (node len : ℕ) (words : List ℕ) → HasNode ws node → ((pair : List ℕ × List ℕ) → IsNodeOf ws node pair → IsPackOf 8 len words pair.0) → len ≤ 64

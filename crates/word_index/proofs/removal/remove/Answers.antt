@@ -1,49 +1,52 @@
-use Rattle.std.proofs.Common.{◌≡◌, Bool, true, false, not, refl, sym, subst}
 use Rattle.cx_base.specs.Packing.{unpacked}
 use Rattle.cx_base.proofs.MemoryLemmas.{Becomes-then, Becomes-weaker}
-use Rattle.word_index.specs.Walk.{AtSpot}
-use Rattle.word_index.proofs.ExactRuns.{removal_runs, no_removal_runs}
-use Rattle.word_index.proofs.Memories.{always_read, Reads-with, Becomes-from-read}
-use Rattle.word_index.proofs.Spots.{spot_gap, removed, not_removed}
+use Rattle.avl_words.proofs.Memories.{always_read, always_after, Reads-with, Becomes-from-read, Becomes-both}
+use Rattle.word_index.proofs.Cutting.{can_cut, visits_read, cut_pair, removed, not_removed, removal_runs, no_removal_runs}
 use Rattle.word_index.proofs.removal.remove.Goals as goal
 
-same_false : (b : Bool) → not b ≡ true → b ≡ false
-same_false true h = sym h
-same_false false h = refl
-
-same_true : (b : Bool) → not b ≡ false → b ≡ true
-same_true true h = refl
-same_true false h = sym h
-
-pub returns-then-not-spot-clause-done : goal.returns-then-not-spot-clause-done
-returns-then-not-spot-clause-done g c =
+pub returns-then-spot-eq0-clause-done : goal.returns-then-spot-eq0-clause-done
+returns-then-spot-eq0-clause-done g c =
     let spot = c.in_ok-spot.spot in
     let key = unpacked c.args.key.now.len c.args.key.now.words in
-    Becomes-weaker (Becomes-from-read c.in_ok-spot.ensures.done) (λ first x y s r. not_removed x y key spot.before spot.node r.0 (subst (λ b. AtSpot key spot.before spot.node b y) (same_false spot.same c.if-not-spot.true) r.1))
+    Becomes-weaker (Becomes-from-read c.in_ok-spot.ensures.done) (λ first x y s r. not_removed x y key spot.way.nodes spot.way.sides spot.way.depth spot.node spot.above r.0 r.1 c.if-spot-eq0.true)
 
-pub take_out-requires-clause-gap : goal.take_out-requires-clause-gap
-take_out-requires-clause-gap g c =
+pub returns-then-spot-eq0-clause-exact : goal.returns-then-spot-eq0-clause-exact
+returns-then-spot-eq0-clause-exact g c =
     let spot = c.in_ok-spot.spot in
     let key = unpacked c.args.key.now.len c.args.key.now.words in
-    always_read c.requires.lawful c.in_ok-spot.ensures.done (λ ws i s. spot_gap ws key spot.before spot.node (subst (λ b. AtSpot key spot.before spot.node b ws) (same_true spot.same c.if-not-spot.false) s) i)
+    Becomes-weaker (Becomes-from-read (Reads-with c.requires.lawful c.in_ok-spot.ensures.done)) (λ first x y s r. no_removal_runs x y key spot.way.nodes spot.way.sides spot.way.depth spot.node spot.above r.1.0 r.0 r.1.1 c.if-spot-eq0.true)
+
+pub returns-then-spot-eq0-clause-visits : goal.returns-then-spot-eq0-clause-visits
+returns-then-spot-eq0-clause-visits g c =
+    visits_read c.in_ok-spot.ensures.kept c.in_ok-spot.ensures.visits
+
+pub cut-requires-clause-can : goal.cut-requires-clause-can
+cut-requires-clause-can g c =
+    let spot = c.in_ok-spot.spot in
+    let key = unpacked c.args.key.now.len c.args.key.now.words in
+    always_read c.requires.lawful c.in_ok-spot.ensures.done (λ ws i s. record { key = key; above = spot.above; spot = s; index = i; some = c.if-spot-eq0.false })
+
+pub give_pair-requires-clause-pair : goal.give_pair-requires-clause-pair
+give_pair-requires-clause-pair g c =
+    let spot = c.in_ok-spot.spot in
+    let key = unpacked c.args.key.now.len c.args.key.now.words in
+    always_after (always_read c.requires.lawful c.in_ok-spot.ensures.done (λ ws i s. can_cut ws key spot.way.nodes spot.way.sides spot.way.depth spot.node spot.above s i c.if-spot-eq0.false)) c.in_ok-cut.ensures.exact
+    (λ x w h t. cut_pair x w spot.way.nodes spot.way.sides spot.way.depth spot.node h t)
 
 pub returns-clause-done : goal.returns-clause-done
 returns-clause-done g c =
     let spot = c.in_ok-spot.spot in
     let key = unpacked c.args.key.now.len c.args.key.now.words in
-    Becomes-then (Becomes-from-read c.in_ok-spot.ensures.done) c.in_ok-take_out.ensures.done
-    (λ x y z r t. removed x y z key spot.before spot.node c.in_ok-take_out.field-0 r.0 (subst (λ b. AtSpot key spot.before spot.node b y) (same_true spot.same c.if-not-spot.false) r.1) t)
-
-pub returns-then-not-spot-clause-exact : goal.returns-then-not-spot-clause-exact
-returns-then-not-spot-clause-exact g c =
-    let spot = c.in_ok-spot.spot in
-    let key = unpacked c.args.key.now.len c.args.key.now.words in
-    Becomes-weaker (Becomes-from-read (Reads-with c.requires.lawful c.in_ok-spot.ensures.done)) (λ first x y s r.
-    no_removal_runs key spot.before spot.node x y r.1.0 r.0 (subst (λ b. AtSpot key spot.before spot.node b y) (same_false spot.same c.if-not-spot.true) r.1.1))
+    Becomes-then (Becomes-both (Becomes-from-read c.in_ok-spot.ensures.done) c.in_ok-cut.ensures.exact) c.in_ok-give_pair.ensures.exact
+    (λ x w v t is. removed x t.0 w v key spot.way.nodes spot.way.sides spot.way.depth spot.node spot.above t.1.0 t.1.1 c.if-spot-eq0.false t.2 is)
 
 pub returns-clause-exact : goal.returns-clause-exact
 returns-clause-exact g c =
     let spot = c.in_ok-spot.spot in
     let key = unpacked c.args.key.now.len c.args.key.now.words in
-    Becomes-then (Becomes-from-read (Reads-with c.requires.lawful c.in_ok-spot.ensures.done)) c.in_ok-take_out.ensures.exact
-    (λ x y z r t. removal_runs key spot.before spot.node x y z r.1.0 r.0 (subst (λ b. AtSpot key spot.before spot.node b y) (same_true spot.same c.if-not-spot.false) r.1.1) t.1)
+    Becomes-then (Becomes-both (Becomes-from-read (Reads-with c.requires.lawful c.in_ok-spot.ensures.done)) c.in_ok-cut.ensures.exact) c.in_ok-give_pair.ensures.exact
+    (λ x w v t is. removal_runs x t.0 w v key spot.way.nodes spot.way.sides spot.way.depth spot.node spot.above t.1.1.0 t.1.0 t.1.1.1 c.if-spot-eq0.false t.2 is)
+
+pub returns-clause-visits : goal.returns-clause-visits
+returns-clause-visits g c =
+    Becomes-then (Becomes-both (visits_read c.in_ok-spot.ensures.kept c.in_ok-spot.ensures.visits) c.in_ok-cut.ensures.exact) c.in_ok-give_pair.ensures.exact (λ x w v t is. t.1)

@@ -1,7 +1,7 @@
 use Rattle.std.proofs.Common.{sym, ◌∙◌, rules, arith}
 use Rattle.cx_base.proofs.MemoryLemmas.{Becomes-same, Becomes-store, Becomes-weaker, Becomes-always}
+use Rattle.avl_words.proofs.Memories.{Reads-none, Becomes-from-read}
 use Rattle.word_index.proofs.ExactRuns.{row_goes_on, row_ends}
-use Rattle.word_index.proofs.Memories.{Reads-none, Becomes-from-read}
 use Rattle.word_index.proofs.Writing.{line_begins, line_more, line_done}
 use Rattle.word_index.proofs.taken.put_line.Goals as goal
 

@@ -1,8 +1,8 @@
 use Rattle.std.proofs.Common.{◌≡◌, ◌*◌, take, is_some, IsTrue}
 use Rattle.cx_base.specs.Memory.{Becomes}
-use Rattle.word_index.specs.Exact.{with_row}
-use Rattle.word_index.specs.Layout.{IsPartLength}
+use Rattle.avl_words.specs.Lines.{IsPartLength}
 use Rattle.word_index.proofs.Writing.{LineSoFar}
+use Rattle.word_index.specs.Exact.{with_row}
 use Rattle.word_index.proofs.taken.put_line.Given as goal
 
 abbrev pub invariant-loop-i : goal.invariant-loop-i

@@ -1,6 +1,6 @@
 use Rattle.std.proofs.Common.{◌≡◌, ◌≤◌, ℕ, List, arith}
-use Rattle.word_index.specs.Layout.{word_of}
-use Rattle.word_index.proofs.Memories.{Reads-none, Reads-loaded, always_at_most}
+use Rattle.avl_words.proofs.Memories.{Reads-none, Reads-loaded, always_at_most}
+use Rattle.avl_words.specs.Lines.{word_of}
 use Rattle.word_index.proofs.taken.take_given.Goals as goal
 
 some : (ws : List ℕ) (number : ℕ) → 1 ≤ word_of ws 0 4 → word_of ws 0 4 ≡ number → 1 ≤ number

@@ -1,9 +1,8 @@
 use Rattle.std.proofs.Common.{◌≡◌, ◌+◌}
 use Rattle.cx_base.specs.Memory.{Becomes}
 use Rattle.cx_base.proofs.MemoryLemmas.{Becomes-then}
-use Rattle.word_index.specs.Changes.{with_word}
-use Rattle.word_index.specs.Layout.{word_of}
-use Rattle.word_index.proofs.Memories.{Reads-none, Reads-loaded, Becomes-from-read, IfOk-weaker}
+use Rattle.avl_words.proofs.Memories.{Reads-none, Reads-loaded, Becomes-from-read, IfOk-weaker}
+use Rattle.avl_words.specs.Lines.{with_word, word_of}
 use Rattle.word_index.proofs.ExactRuns.{new_line_runs, given_line_runs}
 use Rattle.word_index.proofs.Taking.{new_line, given_line, head_there}
 use Rattle.word_index.proofs.taken.take_line.Goals as goal

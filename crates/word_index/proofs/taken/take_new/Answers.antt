@@ -1,6 +1,6 @@
 use Rattle.std.proofs.Common.{◌≡◌, ◌^◌, ◌≤◌, ℕ, List, arith}
-use Rattle.word_index.specs.Layout.{word_of}
-use Rattle.word_index.proofs.Memories.{Reads-none, Reads-loaded, always_at_most}
+use Rattle.avl_words.proofs.Memories.{Reads-none, Reads-loaded, always_at_most}
+use Rattle.avl_words.specs.Lines.{word_of}
 use Rattle.word_index.proofs.taken.take_new.Goals as goal
 
 small : (ws : List ℕ) (line : ℕ) → word_of ws 0 3 ≤ 2 ^ 32 → word_of ws 0 3 ≡ line → line ≤ 2 ^ 32

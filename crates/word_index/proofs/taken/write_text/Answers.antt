@@ -1,9 +1,9 @@
 use Rattle.std.proofs.Common.{◌∙◌, rules, arith}
 use Rattle.cx_base.proofs.MemoryLemmas.{Becomes-same, Becomes-then, Becomes-weaker}
-use Rattle.word_index.specs.Exact.{with_text}
+use Rattle.avl_words.proofs.Memories.{always_after, Becomes-both}
 use Rattle.word_index.proofs.ExactRuns.{text_begins, text_goes_on, text_ends}
-use Rattle.word_index.proofs.Memories.{always_after, Becomes-both}
 use Rattle.word_index.proofs.Writing.{written_none, can_take_next, taken_within, written_more, written_all}
+use Rattle.word_index.specs.Exact.{with_text}
 use Rattle.word_index.proofs.taken.write_text.Goals as goal
 
 pub loop-j-init : goal.loop-j-init

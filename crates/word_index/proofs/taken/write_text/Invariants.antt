@@ -1,8 +1,8 @@
 use Rattle.std.proofs.Common.{◌≡◌, ◌-◌, is_some, IsTrue}
 use Rattle.cx_base.specs.Memory.{Becomes}
-use Rattle.word_index.specs.Exact.{with_text}
-use Rattle.word_index.specs.Layout.{IsPartLength}
+use Rattle.avl_words.specs.Lines.{IsPartLength}
 use Rattle.word_index.proofs.Writing.{WrittenSoFar}
+use Rattle.word_index.specs.Exact.{with_text}
 use Rattle.word_index.proofs.taken.write_text.Given as goal
 
 abbrev pub invariant-loop-j : goal.invariant-loop-j

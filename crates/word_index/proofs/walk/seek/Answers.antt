@@ -1,53 +1,91 @@
-use Rattle.std.proofs.Common.{rules, arith, ◌∙◌}
+use Rattle.std.proofs.Common.{rules, arith, refl, sym, subst, ◌≡◌, ◌+◌, ◌∙◌}
+use Rattle.std.proofs.Math.ListN.{length-set}
 use Rattle.cx_base.specs.Packing.{unpacked}
-use Rattle.word_index.proofs.Memories.{kept_then, Reads-then, Reads-weaker, Reads-load, Reads-loaded, always_read}
+use Rattle.avl_words.proofs.Memories.{kept_then, Reads-none, Reads-then, Reads-weaker, Reads-load, Reads-loaded, always_read, always_said, always_kept}
+use Rattle.word_index.specs.Walk.{AtSpot}
 use Rattle.word_index.proofs.NodeReads.{node_within}
-use Rattle.word_index.proofs.Walks.{way_begins, way_has_node, way_goes_on, ends_at_key, ends_before, ends_behind}
+use Rattle.word_index.proofs.KeyPlaces.{passing_begins, passing_few, passing_few_node, passing_has_node, passing_ends, passing_ends_same, passing_deep, passing_on, few_counted, is_same, is_other}
 use Rattle.word_index.proofs.walk.seek.Goals as goal
 
-pub loop-init : goal.loop-init
-loop-init g c =
-    let a = c.in_ok-pairs.ensures in
+pub loop-depth-init : goal.loop-depth-init
+loop-depth-init g c =
     let b = c.in_ok-node.ensures in
     record {
-      done = Reads-load a.done b.done (λ ws p e. way_begins ws (unpacked c.args.key.now.len c.args.key.now.words) c.in_ok-pairs.pairs c.in_ok-node.node p e);
-      kept = kept_then a.kept b.kept;
+      done = Reads-load (Reads-none _ c.requires.lawful) b.done (λ ws p e. passing_begins ws c.args.past (unpacked c.args.key.now.len c.args.key.now.words) _ _ 0 c.in_ok-node.node 0 e refl refl);
+      counted = omega arith;
+      nodes_long = search rules;
+      sides_long = search rules;
+      kept = b.kept;
       sized = search rules;
-      size = b.size ∙ a.size;
-      fixed = b.fixed ∙ a.fixed;
-      writable = b.writable ∙ a.writable;
-      limited = b.limited ∙ a.limited;
+      size = b.size;
+      fixed = b.fixed;
+      writable = b.writable;
+      limited = b.limited;
     }
 
-pub order_at-requires-clause-node : goal.order_at-requires-clause-node
-order_at-requires-clause-node g c =
-    let l = c.loop in
-    always_read c.requires.lawful l.invariant.done (λ ws i w. way_has_node ws (unpacked c.args.key.now.len c.args.key.now.words) c.in_ok-pairs.pairs l.counter l.before l.node w c.loop-test.true i)
+pub returns-then-node-eq0-clause-done : goal.returns-then-node-eq0-clause-done
+returns-then-node-eq0-clause-done g c =
+    let l = c.loop-depth in
+    Reads-weaker l.invariant.done (λ ws w. passing_ends ws c.args.past (unpacked c.args.key.now.len c.args.key.now.words) l.nodes l.sides l.depth l.node l.above w c.if-node-eq0.true)
 
-pub returns-in-Equal-clause-done : goal.returns-in-Equal-clause-done
-returns-in-Equal-clause-done g c =
-    let l = c.loop in
-    Reads-then l.invariant.done c.in_ok-order_at.ensures.done (λ ws w o. ends_at_key ws (unpacked c.args.key.now.len c.args.key.now.words) c.in_ok-pairs.pairs l.counter l.before l.node c.in_ok-order_at.field-0 w c.loop-test.true o c.in-Equal.is)
+pub returns-then-node-eq0-clause-visits : goal.returns-then-node-eq0-clause-visits
+returns-then-node-eq0-clause-visits g c =
+    let l = c.loop-depth in
+    always_said (Reads-weaker l.invariant.done (λ ws w. few_counted ws c.args.visits.now l.visits l.depth (passing_few ws c.args.past (unpacked c.args.key.now.len c.args.key.now.words) l.nodes l.sides l.depth l.node l.above w) l.invariant.counted))
 
-pub returns-in-Greater-clause-done : goal.returns-in-Greater-clause-done
-returns-in-Greater-clause-done g c =
-    let l = c.loop in
-    Reads-then l.invariant.done c.in_ok-order_at.ensures.done (λ ws w o. ends_before ws (unpacked c.args.key.now.len c.args.key.now.words) c.in_ok-pairs.pairs l.counter l.before l.node c.in_ok-order_at.field-0 w c.loop-test.true o c.in-Greater.is)
+pub visit-requires-clause-node : goal.visit-requires-clause-node
+visit-requires-clause-node g c =
+    let l = c.loop-depth in
+    always_read c.requires.lawful l.invariant.done (λ ws i w. passing_has_node ws c.args.past (unpacked c.args.key.now.len c.args.key.now.words) l.nodes l.sides l.depth l.node l.above w c.if-node-eq0.false i)
 
-pub word-requires-in-loop-clause-line : goal.word-requires-in-loop-clause-line
-word-requires-in-loop-clause-line g c =
-    let l = c.loop in
-    always_read c.requires.lawful (Reads-then l.invariant.done c.in_ok-order_at.ensures.done (λ ws w o. w))
-    (λ ws i w. node_within ws l.node (way_has_node ws (unpacked c.args.key.now.len c.args.key.now.words) c.in_ok-pairs.pairs l.counter l.before l.node w c.loop-test.true i))
+pub returns-in_err-visit-clause-visits : goal.returns-in_err-visit-clause-visits
+returns-in_err-visit-clause-visits g c =
+    let l = c.loop-depth in
+    always_kept (always_said (Reads-weaker l.invariant.done (λ ws w. few_counted ws c.args.visits.now c.visit.new.visits (l.depth + 1) (passing_few_node ws c.args.past (unpacked c.args.key.now.len c.args.key.now.words) l.nodes l.sides l.depth l.node l.above w c.if-node-eq0.false) (omega (arith, l.invariant.counted, c.in_err-visit.ensures.counted)))))
+    c.in_err-visit.ensures.kept
 
-pub loop-preserved : goal.loop-preserved
-loop-preserved g c =
-    let l = c.loop in
+pub returns-then-is_eq-clause-done : goal.returns-then-is_eq-clause-done
+returns-then-is_eq-clause-done g c =
+    let l = c.loop-depth in
+    let o = c.in_ok-visit.field-0 in
+    let same = sym c.toward-order.ensures ∙ is_same c.toward-order.result (sym c.is_eq.ensures ∙ c.if-is_eq.true) in
+    Reads-then l.invariant.done c.in_ok-visit.ensures.done (λ ws w is. passing_ends_same ws c.args.past (unpacked c.args.key.now.len c.args.key.now.words) l.nodes l.sides l.depth l.node l.above o w c.if-node-eq0.false is same)
+
+pub returns-then-is_eq-clause-visits : goal.returns-then-is_eq-clause-visits
+returns-then-is_eq-clause-visits g c =
+    let l = c.loop-depth in
+    always_kept (always_said (Reads-weaker l.invariant.done (λ ws w. few_counted ws c.args.visits.now c.visit.new.visits (l.depth + 1) (passing_few_node ws c.args.past (unpacked c.args.key.now.len c.args.key.now.words) l.nodes l.sides l.depth l.node l.above w c.if-node-eq0.false) (omega (arith, l.invariant.counted, c.in_ok-visit.ensures.counted)))))
+    c.in_ok-visit.ensures.kept
+
+pub word-requires-in-loop-depth-clause-line : goal.word-requires-in-loop-depth-clause-line
+word-requires-in-loop-depth-clause-line g c =
+    let l = c.loop-depth in
+    always_read c.requires.lawful (Reads-then l.invariant.done c.in_ok-visit.ensures.done (λ ws w o. w))
+    (λ ws i w. node_within ws l.node (passing_has_node ws c.args.past (unpacked c.args.key.now.len c.args.key.now.words) l.nodes l.sides l.depth l.node l.above w c.if-node-eq0.false i))
+
+pub returns-in_err-node-2-clause-visits : goal.returns-in_err-node-2-clause-visits
+returns-in_err-node-2-clause-visits g c =
+    let l = c.loop-depth in
+    always_kept (always_said (Reads-weaker l.invariant.done (λ ws w. few_counted ws c.args.visits.now c.visit.new.visits (l.depth + 1) (passing_few_node ws c.args.past (unpacked c.args.key.now.len c.args.key.now.words) l.nodes l.sides l.depth l.node l.above w c.if-node-eq0.false) (omega (arith, l.invariant.counted, c.in_ok-visit.ensures.counted)))))
+    (kept_then c.in_ok-visit.ensures.kept c.in_err-node-2.ensures.kept)
+
+pub loop-depth-preserved : goal.loop-depth-preserved
+loop-depth-preserved g c =
+    let l = c.loop-depth in
     let i = l.invariant in
-    let o = c.in_ok-order_at.ensures in
+    let o = c.in_ok-visit.ensures in
     let w = c.in_ok-node-2.ensures in
+    let t = c.toward-order.ensures in
+    let s = c.side_of-side.ensures in
+    let a = c.above_after-above.ensures in
+    let other = is_other c.toward-order.result (sym c.is_eq.ensures ∙ c.if-is_eq.false) in
     record {
-      done = Reads-then i.done (Reads-loaded o.done w.done) (λ ws p q. way_goes_on ws (unpacked c.args.key.now.len c.args.key.now.words) c.in_ok-pairs.pairs l.counter l.before l.node c.in_ok-node-2.node c.in_ok-order_at.field-0 p c.loop-test.true q.0 c.in-Less.is q.1);
+      done = Reads-then i.done (Reads-loaded o.done w.done) (λ ws p q.
+          passing_on ws c.args.past (unpacked c.args.key.now.len c.args.key.now.words) l.nodes l.sides l.depth l.node l.above c.in_ok-node-2.node c.side_of-side.result c.above_after-above.result c.in_ok-visit.field-0
+          p (omega (arith, c.loop-depth-test.true)) i.nodes_long i.sides_long c.if-node-eq0.false q.0 (λ e. other (t ∙ e)) (λ e. s.less (t ∙ e)) (λ e. s.more (t ∙ e)) a.left a.right q.1);
+      counted = omega (arith, i.counted, c.in_ok-visit.ensures.counted);
+      nodes_long = length-set l.nodes l.depth l.node ∙ i.nodes_long;
+      sides_long = length-set l.sides l.depth c.side_of-side.result ∙ i.sides_long;
       kept = kept_then (kept_then i.kept o.kept) w.kept;
       sized = search rules;
       size = w.size ∙ o.size ∙ i.size;
@@ -58,5 +96,12 @@ loop-preserved g c =
 
 pub returns-clause-done : goal.returns-clause-done
 returns-clause-done g c =
-    let l = c.loop in
-    Reads-weaker l.invariant.done (λ ws p. ends_behind ws (unpacked c.args.key.now.len c.args.key.now.words) c.in_ok-pairs.pairs l.counter l.before l.node p (omega arith))
+    let l = c.loop-depth in
+    let deep : l.depth ≡ 64 = omega (arith, c.loop-depth-test.false, l.auto.depth-end) in
+    Reads-weaker l.invariant.done (λ ws w. subst (λ d. AtSpot c.args.past (unpacked c.args.key.now.len c.args.key.now.words) l.nodes l.sides d l.node l.above ws) deep
+    (passing_deep ws c.args.past (unpacked c.args.key.now.len c.args.key.now.words) l.nodes l.sides l.depth l.node l.above w (omega (arith, deep))))
+
+pub returns-clause-visits : goal.returns-clause-visits
+returns-clause-visits g c =
+    let l = c.loop-depth in
+    always_said (Reads-weaker l.invariant.done (λ ws w. few_counted ws c.args.visits.now l.visits l.depth (passing_few ws c.args.past (unpacked c.args.key.now.len c.args.key.now.words) l.nodes l.sides l.depth l.node l.above w) l.invariant.counted))

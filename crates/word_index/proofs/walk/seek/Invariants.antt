@@ -1,14 +1,17 @@
-use Rattle.std.proofs.Common.{◌≡◌, is_some}
+use Rattle.std.proofs.Common.{◌≡◌, ◌+◌, length, is_some}
 use Rattle.cx_base.specs.Packing.{unpacked}
 use Rattle.cx_base.specs.Memory.{Becomes}
-use Rattle.word_index.specs.Access.{Reads}
-use Rattle.word_index.specs.Layout.{IsPartLength}
+use Rattle.avl_words.specs.Access.{Reads}
+use Rattle.avl_words.specs.Lines.{IsPartLength}
 use Rattle.word_index.specs.Walk.{OnWay}
 use Rattle.word_index.proofs.walk.seek.Given as goal
 
-abbrev pub invariant-loop : goal.invariant-loop
-invariant-loop g l = record {
-  done : Reads (g.M.Memory.stands l.fn.mem) (g.M.Memory.stands l.mem) (OnWay (unpacked l.key.len l.key.words) l.pairs l.counter l.before l.node);
+abbrev pub invariant-loop-depth : goal.invariant-loop-depth
+invariant-loop-depth g l = record {
+  done : Reads (g.M.Memory.stands l.fn.mem) (g.M.Memory.stands l.mem) (OnWay l.past (unpacked l.key.len l.key.words) l.nodes l.sides l.depth l.node l.above);
+  counted : l.visits ≡ l.fn.visits + l.depth;
+  nodes_long : length l.nodes ≡ 64;
+  sides_long : length l.sides ≡ 64;
   kept : Becomes (g.M.Memory.stands l.fn.mem) (g.M.Memory.stands l.mem) ◌≡◌;
   sized : IsPartLength (g.M.Memory.size l.mem);
   size : g.M.Memory.size l.mem ≡ g.M.Memory.size l.fn.mem;

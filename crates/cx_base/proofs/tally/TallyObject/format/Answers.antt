@@ -1,7 +1,7 @@
-use Rattle.std.proofs.Common.{◌≡◌, ◌<◌, ◌≤◌, ◌+◌, ℕ, List, length, slice_index, slice_set, take, is_some, rules, arith, sym, ap, ◌∙◌}
+use Rattle.std.proofs.Common.{◌≡◌, ◌<◌, ◌≤◌, ◌+◌, ℕ, List, length, slice_index, slice_set, take, rules, arith, sym, ap, ◌∙◌}
 use Rattle.std.proofs.lemmas.List.{take_more, take_more_set, take_all, length-replicate}
 use Rattle.cx_base.specs.Tally.{tally_opening}
-use Rattle.cx_base.proofs.MemoryLemmas.{Becomes-store, Becomes-weaker, is_some-one_less}
+use Rattle.cx_base.proofs.MemoryLemmas.{Becomes-store, Becomes-weaker, Framed-access, Framed-then}
 use Rattle.cx_base.proofs.tally.TallyObject.format.Goals as goal
 
 opening_length : length tally_opening ≡ 512
@@ -29,10 +29,7 @@ loop-at-preserved g c =
       done = Becomes-store i.done e.stands (λ first x y s front. one_more c.loop-at.at c.opening_word.result y c.loop-at-test.true ((g.met.M.Memory.words c.loop-at.mem first y s).long ∙ i.size) c.opening_word.ensures front);
       size = e.size ∙ i.size;
       writable = search rules;
-      limited = ap is_some e.left ∙ is_some-one_less _ ∙ i.limited;
-      fixed = e.fixed ∙ i.fixed;
-      size_kept = e.size ∙ i.size_kept;
-      writable_kept = e.writable ∙ i.writable_kept;
+      framed = Framed-then i.framed (Framed-access e.size e.fixed e.writable e.left);
     }
 
 pub returns-clause-done : goal.returns-clause-done

@@ -1,14 +1,18 @@
-use Rattle.std.proofs.Common.{◌≡◌, ◌+◌, ◌*◌, ◌∷◌, ◌++◌, ℕ, List, [], length, replicate, false, add-zero, sym, refl, ap, subst, ◌∙◌, arith}
+use Rattle.std.proofs.Common.{◌≡◌, ◌+◌, ◌*◌, ◌∷◌, ◌++◌, ℕ, List, [], length, replicate, false, All, add-zero, sym, refl, ap, subst, ◌∙◌, arith}
 use Rattle.std.specs.Slots.{slots_len}
 use mathlib.Core.Option.{some}
 use lib.ListN.{get_elem?}
 use Rattle.cx_core.specs.Layout.{vol_at, per_at}
 use Rattle.cx_core.specs.Region.{region_words}
 use Rattle.cx_core.specs.State.{Instance}
-use Rattle.cx_table.specs.Ending.{history_of, locals_known}
-use Rattle.cx_table.specs.Rule.{RuleHolds}
-use Rattle.cx_table.specs.Running.{instance_at}
-use Rattle.cx_table.proofs.Closing.{leaves, same_instance, same_part}
+use Rattle.cx_core.specs.Merge.{history_of}
+use Rattle.cx_rule.specs.Ending.{locals_known}
+use Rattle.cx_rule.specs.Rule.{RuleHolds}
+use Rattle.cx_table.specs.Mirrors.{HoldsNone}
+use Rattle.cx_rule.specs.declared.rule.Known.{Known}
+use Rattle.cx_rule.specs.Running.{instance_at}
+use Rattle.cx_table.proofs.Closing.{leaves, same_part}
+use Rattle.cx_rule.proofs.Keeps.{key_instance}
 use Rattle.cx_table.proofs.shared.Shared.closed.Goals as goal
 
 twice : (n c : ℕ) → n * (2 * c) + n * (2 * c) ≡ n * (4 * c)
@@ -43,17 +47,19 @@ returns g c = λ seats are knows.
     let running = c.self.invariant.0 in
     let me = ap (λ m. m.0) knows in
     let end = c.close_with-closed.ensures.values.2 in
-    let same = same_instance g.O.Object.step g.O.Object.only_reads t inside.table.shared.key.callers inside.table.shared.key.base.value inside.table.shared.key.object.value
-    (c.self.invariant.1 ∙ ap (λ s. s.callers) view) (c.self.invariant.2 ∙ ap (λ s. s.base) view) (c.self.invariant.3 ∙ ap (λ s. s.object) view) in
+    let key = c.self.invariant in
+    let same = key_instance g.O.Object.step g.O.Object.only_reads _ _ _ _ _ view key.1 key.2 key.3 in
     let instance : Instance = instance_at t g.O.Object.step g.O.Object.only_reads in
-    let held : RuleHolds instance end.0 = subst (λ (l : Instance). RuleHolds l end.0) same end.1.0 in
+    let held : RuleHolds instance end.0 = subst (λ (l : Instance). RuleHolds l end.0) (sym same) end.1.0 in
     let callers : inside.callers ≡ t.callers = ap (λ s. s.callers) view in
     let region : 8 * (146 + inside.lines) ≡ length t.base.words = sym running.base.size.long ∙ ap (λ s. length s.base.words) view in
     let lines : length t.base.words ≡ region_words t.lines = sym region ∙ ap (λ s. region_words s.lines) view in
-    let from : 4 + 10563 * inside.callers ≡ vol_at t.callers (length t.base.words) 0 0 = ap (λ k. 4 + 10563 * k) callers ∙ no_row (4 + 10563 * t.callers) (length t.base.words) in
-    let half : 4 + 10563 * inside.callers + 8 * (146 + inside.lines) * (2 * inside.callers) ≡ vol_at t.callers (length t.base.words) (2 * t.callers) 0 = vol_end _ _ _ _ callers region in
+    let at = c.replicas_at-from.ensures in
+    let count = 8 * (146 + inside.lines) * (2 * inside.callers) in
+    let from : c.replicas_at-from.result ≡ vol_at t.callers (length t.base.words) 0 0 = at ∙ ap (λ k. 4 + 10563 * k) callers ∙ no_row (4 + 10563 * t.callers) (length t.base.words) in
+    let half : c.replicas_at-from.result + count ≡ vol_at t.callers (length t.base.words) (2 * t.callers) 0 = ap (λ n. n + count) at ∙ vol_end _ _ _ _ callers region in
     let code = c.word.result in
-    leaves t instance seats _ end.0 c.args.closing.id refl refl are held (end.1.1 ∙ ap some me) (record {
+    leaves t instance seats _ end.0 c.args.closing.id refl refl are (subst (λ (ks : List Known). All (λ (k : Known). HoldsNone k.local) ks) me c.requires.holds) held (end.1.1 ∙ ap some me) (record {
       callers = callers;
       lines = ap (λ s. s.lines) view;
       first = ap (λ s. s.base.place) view;
@@ -66,6 +72,6 @@ returns g c = λ seats are knows.
       locals = ap (λ s. locals_known s.me.0) c.of-end.ensures ∙ ap locals_known me;
       history = ap (λ b. history_of b.place (locals_known c.of-end.result.value.me.0)) (c.of.ensures ∙ ap (λ s. s.base) view) ∙ ap (history_of t.base.place) (ap (λ s. locals_known s.me.0) c.of-end.ensures ∙ ap locals_known me);
       volatile = c.copy_words.ensures ∙ same_part end.0.words c.close_with-closed.result.words.items _ _ _ _ end.2 from half;
-      durable = c.copy_words-2.ensures ∙ same_part end.0.words c.close_with-closed.result.words.items _ _ _ _ end.2 (per_start _ _ _ _ callers region) (per_end _ _ _ _ callers region);
+      durable = c.copy_words-2.ensures ∙ same_part end.0.words c.close_with-closed.result.words.items _ _ _ _ end.2 (ap (λ n. n + count) at ∙ per_start _ _ _ _ callers region) (ap (λ n. n + count + count) at ∙ per_end _ _ _ _ callers region);
       dirty = c.requires.dirty ∙ ap (λ n. replicate (n * (2 * t.callers)) false) (sym lines);
     })

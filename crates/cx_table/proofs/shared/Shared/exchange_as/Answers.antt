@@ -1,11 +1,10 @@
-use Rattle.std.proofs.Common.{rules, sym}
-use Rattle.cx_table.proofs.Keeps.{allows_found, told_instance}
+use Rattle.std.proofs.Common.{◌==◌, ap, cond, rules, sym}
+use Rattle.cx_rule.proofs.Keeps.{allows_told, key_instance}
 use Rattle.cx_table.proofs.shared.Shared.exchange_as.Goals as goal
 
 pub compare_exchange-requires : goal.compare_exchange-requires
 compare_exchange-requires g c =
-    let told = c.self.invariant in
-    let j = g.J.Named in
-    let r = c.requires in
-    let same = told_instance g.O.Object.step g.O.Object.only_reads j.instance _ _ _ _ _ r.event.0 c.self.view_is told.1 told.2 told.3 in
-    (search rules, search rules, allows_found _ j.instance j.kind j.known _ _ _ _ _ same r.event.2 r.guard r.place (λ x. sym (r.exchanges x)))
+    let key = c.self.invariant in
+    let view = c.self.view_is in
+    let same = key_instance g.O.Object.step g.O.Object.only_reads _ _ _ _ _ view key.1 key.2 key.3 in
+    (search rules, search rules, allows_told _ _ _ _ _ _ _ (λ x. cond (x == c.args.old) c.args.new x) g.J.Named.tells same (sym (ap (λ r. r.table.slots) view)) c.requires.allows)

@@ -1,11 +1,12 @@
-use Rattle.std.proofs.Common.{◌≡◌, ◌+◌, ◌<◌, ℕ, [], List, slice_index, ◌*◌, drop, sym, ap, ◌∙◌, arith}
+use Rattle.std.proofs.Common.{◌≡◌, ◌+◌, ◌<◌, ℕ, [], List, slice_index, drop, sym, ap, ◌∙◌, arith}
 use Rattle.atomic_table.specs.Seated.{TableId}
 use Rattle.cx_core.specs.Region.{slot_number}
 use Rattle.cx_core.specs.State.{opening_local}
-use Rattle.cx_table.specs.declared.rule.Known.{Known}
+use Rattle.cx_rule.specs.declared.rule.Known.{Known}
 use Rattle.cx_table.specs.Mirrors.{mirror_of}
-use Rattle.cx_table.specs.Seats.{Seated, opening_known, opening_view}
-use Rattle.cx_table.proofs.Moves.{cut_rests, one_caller, opening_mirrored, splits}
+use Rattle.cx_rule.specs.Seats.{Seated, opening_known, opening_view}
+use Rattle.cx_rule.proofs.Moves.{cut_rests, one_caller, splits}
+use Rattle.cx_table.proofs.OpeningSeats.{opening_mirrored}
 use Rattle.cx_table.proofs.shared.Shared.next_seat.Goals as goal
 
 -- two seats that contracts see the same of
@@ -35,8 +36,9 @@ invariant_of-result g c =
     let r = cut_rests callers place limits n c.args.first.now.me.0 c.requires.caller (ap (λ m. m.0) c.requires.me) in
     let running = c.self.invariant.0 in
     let eight : n < 8 = omega (arith, running.few, c.requires.caller, ap (λ s. s.callers) view) in
-    let before : slice_index c.as_slice.result.now (8 + 145 * n) ≡ slot_number n c.self.inside.base.words = ap (λ ws. slice_index ws (8 + 145 * n)) c.as_slice.ensures in
-    opening_mirrored c.split_seat-seat.result.me c.opening_mirror-mirror.result (slice_index c.as_slice.result.now (8 + 145 * n)) callers place n limits
+    let at = c.slot_start.result in
+    let before : slice_index c.as_slice.result.now at ≡ slot_number n c.self.inside.base.words = ap (λ ws. slice_index ws at) c.as_slice.ensures ∙ ap (slice_index c.self.inside.base.words) c.slot_start.ensures in
+    opening_mirrored c.split_seat-seat.result.me c.opening_mirror-mirror.result (slice_index c.as_slice.result.now at) callers place n limits
     (c.split_seat-seat.ensures.4 ∙ ap (λ (v : List Known). (v, [])) r.1)
     (c.opening_mirror-mirror.ensures ∙ ap (λ s. mirror_of (record (opening_local s.callers s.base.place n) { limit = slice_index limits n })) view)
     (omega (arith, ap (λ s. s.base.place) view, running.base.place_within))
@@ -59,5 +61,6 @@ returns-clause-seat g c =
     let r = cut_rests callers place limits n c.args.first.now.me.0 c.requires.caller (ap (λ m. m.0) c.requires.me) in
     let one = one_caller c.split_seat-seat.result.me (opening_known callers place limits n) (c.split_seat-seat.ensures.4 ∙ ap (λ (v : List Known). (v, [])) r.1) in
     let table = c.split_seat-seat.ensures.3 ∙ c.requires.table in
-    let before = ap (λ ws. slice_index ws (8 + 145 * n)) (c.as_slice.ensures ∙ ap (λ s. s.base.words) c.self.view_is) in
+    let at = c.slot_start.result in
+    let before = ap (λ ws. slice_index ws at) (c.as_slice.ensures ∙ ap (λ s. s.base.words) c.self.view_is) ∙ ap (slice_index c.args.self.now.base.words) c.slot_start.ensures in
     seated_at (c.split_seat-seat.result.table_id) c.args.self.now.table _ _ _ _ table before one.1

@@ -1,7 +1,7 @@
 use Rattle.std.proofs.Common.{◌≡◌, true, get_or, take, drop, subst, sym, arith}
 use Rattle.std.proofs.lemmas.Bool.Decides.{Decides-eqb}
 use Rattle.std.proofs.lemmas.Slice.Eq.{slice_eq-Decides}
-use Rattle.doc_model.specs.WordParts.{IsText}
+use Rattle.doc_model.specs.WordParts.{IsShortText}
 use Rattle.doc_model.proofs.PartPlaces.{parts_again, unpacked_text}
 use Rattle.doc_model.proofs.word_parts.Parts.of.Goals as goal
 
@@ -24,6 +24,6 @@ returns-else-eq-clause-none c =
 pub returns-then-eq-clause-texts : goal.returns-then-eq-clause-texts
 returns-then-eq-clause-texts c =
     let words = c.args.words.now in (
-      subst (IsText 64) (sym c.read.ensures) (unpacked_text (get_or words 1 0) 64 (take 8 (drop 8 words))),
-      subst (IsText 1024) (sym c.read-2.ensures) (unpacked_text (get_or words 2 0) 1024 (take 128 (drop 16 words))),
+      subst (IsShortText 64) (sym c.read.ensures) (unpacked_text (get_or words 1 0) 64 (take 8 (drop 8 words))),
+      subst (IsShortText 1024) (sym c.read-2.ensures) (unpacked_text (get_or words 2 0) 1024 (take 128 (drop 16 words))),
     )

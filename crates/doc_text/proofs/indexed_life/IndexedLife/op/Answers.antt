@@ -3,7 +3,7 @@ use Rattle.std.specs.Option.{option_map}
 use Rattle.std.specs.Borrow.{Bor}
 use Rattle.doc_model.specs.declared.operations.Op.{Op}
 use Rattle.doc_text.specs.Grammar.{Life}
-use Rattle.doc_text.specs.Lives.{op_of}
+use Rattle.doc_text.specs.Lives.{named_op}
 use Rattle.doc_text.proofs.OwnOps.{got, op_of_at}
 use Rattle.doc_text.proofs.indexed_life.IndexedLife.op.Goals as goal
 
@@ -15,4 +15,4 @@ returns c =
     c.self.invariant.ops within c.index.ensures c.in_ok-before.ensures.0 c.in_ok-before.ensures.1 in
     let answer = got c.deref.result.now c.in_ok-before.before c.get.result c.get.ensures.lookup.1 c.get.ensures.lookup.3 in
     ap (option_map (λ (op : Bor Op). op.now)) (c.copied.ensures ∙ answer ∙ ap (λ ops. slice_get ops c.in_ok-before.before) c.deref.ensures.value)
-    ∙ found ∙ ap (λ (life : Life). op_of life c.args.client c.args.command) c.self.view_is
+    ∙ found ∙ ap (λ (life : Life). named_op life c.args.client c.args.command) c.self.view_is

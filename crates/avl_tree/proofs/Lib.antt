@@ -1,0 +1,5 @@
+pub mod Trees
+pub mod Depth
+pub mod Stopping
+pub mod Removing
+pub mod Spots

@@ -1,0 +1,11 @@
+pub mod Memories
+pub mod Frames
+pub mod Rotations
+pub mod Joining
+pub mod Hanging
+pub mod ExactWords
+pub mod Walks
+pub mod Putting
+pub mod Taking
+pub mod Leaving
+pub mod ExactTrees

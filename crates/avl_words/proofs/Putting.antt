@@ -1,0 +1,149 @@
+-- A new node at the place where a walk ends makes the tree with the new line.
+use Rattle.std.proofs.Common.{◌≡◌, ◌≢◌, ◌^◌, ◌+◌, ◌-◌, ◌*◌, ◌<◌, ◌≤◌, inl, inr, ℕ, zero, suc, cond, eqb, List, [], ◌∷◌, ◌++◌, length, refl, sym, ap, subst, ◌∙◌, get_or-set_same, get_or-set_other, length-append, arith, lit≤}
+use Rattle.std.specs.declared.cmp.Ordering.{Ordering}
+use Rattle.std.proofs.Math.ListN.{length-set}
+use Rattle.std.proofs.lemmas.Bool.{cases_eq}
+use Rattle.avl_tree.specs.Tree.{Tree, Empty, Node, height, items, size, IsLevel, Balanced, node_on}
+use Rattle.avl_tree.specs.Ways.{Turn, under, whole, before, behind, spot, with_new}
+use Rattle.avl_tree.proofs.Trees.{height_on, balanced_at, mended_balanced}
+use Rattle.avl_tree.proofs.Depth.{depth_bound, height_at}
+use Rattle.avl_tree.proofs.Spots.{spot_whole, spot_items, new_items, new_balanced, size_is}
+use Rattle.avl_words.specs.Lines.{word_of, IsWithin, with_word}
+use Rattle.avl_words.specs.Words.{root, times, IsNode, Stands, IsTree, IsSpot}
+use Rattle.avl_words.specs.Links.{IsMade}
+use Rattle.avl_words.specs.Changes.{CanPut, Puts}
+use Rattle.avl_words.specs.Mending.{Spine, IsLow, IsHung, CanMend, Mends}
+use Rattle.avl_words.specs.Exact.{with_tree}
+use Rattle.avl_words.proofs.Walks.{stands_at, spot_depth}
+use Rattle.avl_words.proofs.Frames.{times_most, times_other, stands_same, but_more}
+use Rattle.avl_words.proofs.ExactWords.{only_words}
+use Rattle.avl_words.proofs.Hanging.{whole_times, mended_times}
+
+-- the nodes of the way to a place of a tree that stands
+turn_stands : (ws : List ℕ) (side : ℕ) (t : Tree ℕ) (x : ℕ) (s : Tree ℕ) → Stands ws (node_on side t x s) →
+    (1 ≤ x) × IsWithin ws x × (word_of ws x (1 - side) ≡ root s) × Stands ws s
+turn_stands ws zero t x s h = (h.0.some, h.0.within, h.0.right_is, h.2)
+turn_stands ws (suc k) t x s h = (h.0.some, h.0.within, (let e : 1 - suc k ≡ 0 = omega arith in ap (λ i. word_of ws x i) e ∙ h.0.left_is), h.1)
+
+pub spine_of : (ws : List ℕ) (way : List (Turn ℕ)) (t : Tree ℕ) → Stands ws (whole way t) → Spine ws way
+spine_of ws [] t s = tt
+spine_of ws (turn ∷ way) t s =
+    let h = turn_stands ws turn.side t turn.item turn.sibling (stands_at ws way (node_on turn.side t turn.item turn.sibling) s) in
+    (h.0, h.1, h.2, h.3, spine_of ws way (node_on turn.side t turn.item turn.sibling) s)
+
+-- heights stay low on the way up
+pub low_way : (way : List (Turn ℕ)) (old now : Tree ℕ) → Balanced (whole way old) → Balanced now → IsLevel (height old) (height now) → height (whole way old) ≤ 2 ^ 31 → IsLow way now
+low_way [] old now b p level low = tt
+low_way (turn ∷ way) old now b p level low =
+    let h = height_on turn.side old turn.item turn.sibling in
+    let k = height_on turn.side now turn.item turn.sibling in
+    let m = height_at way (node_on turn.side old turn.item turn.sibling) in
+    let one = mended_balanced (turn ∷ []) old now (balanced_at way (node_on turn.side old turn.item turn.sibling) b) p level in
+    (omega arith, low_way way (node_on turn.side old turn.item turn.sibling) (under turn.side now turn.item turn.sibling) b one.0 one.1 low)
+
+pub once_more : (n k : ℕ) (t : Tree ℕ) → times n t ≡ 0 → times k t ≤ 1 → times k t + cond (eqb n k) 1 0 ≤ 1
+once_more n k t none once =
+    elim (cases_eq n k) as (λ _. times k t + cond (eqb n k) 1 0 ≤ 1) [
+      | inl e ↦ (let z : times k t ≡ 0 = subst (λ j. times j t ≡ 0) e none in let o = times_most n k in omega (arith, z, o))
+      | inr ne ↦ (let o = times_other n k ne in omega (arith, once, o))
+    ]
+
+pub line_some : (ws : List ℕ) (t : Tree ℕ) → Stands ws t → times 0 t ≡ 0
+line_some ws Empty s = refl
+line_some ws (Node l x r) s = (let a = line_some ws l s.1 in let b = line_some ws r s.2 in let some = s.0.some in let c = times_other x 0 (λ e. absurd (omega arith)) in omega (arith, c))
+
+-- a tree that was made stands for the words once the header names its root
+pub made_tree : (ws now : List ℕ) (old new : Tree ℕ) (top : ℕ) → 8 ≤ length ws → IsMade ws now old new top → Balanced new → ((line : ℕ) → times line new ≤ 1) → size new < 2 ^ 32 → IsTree (with_word 0 1 top now) new
+made_tree ws now old new top header m b once few =
+    let long = m.but.long in
+    record {
+      root_is = get_or-set_same now (8 * 0 + 1) top 0 (omega arith) ∙ sym m.root_is;
+      stands = stands_same now (with_word 0 1 top now) new (length-set now (8 * 0 + 1) top)
+          (λ line ne j l. get_or-set_other now (8 * 0 + 1) (8 * line + j) top 0 (let z : line ≢ 0 = λ e. ne (subst (λ k. times k new ≡ 0) (sym e) (line_some now new m.stands)) in omega arith)) m.stands;
+      balanced = b;
+      once = once;
+      few = few;
+    }
+
+-- its words are the only ones
+pub made_words : (ws now : List ℕ) (old new : Tree ℕ) (top : ℕ) → ((line : ℕ) → times line old ≤ times line new) → IsMade ws now old new top → with_word 0 1 top now ≡ with_tree new ws
+unfolding with_tree
+made_words ws now old new top le m =
+    ap (λ k. with_word 0 1 k now) (sym m.root_is) ∙ ap (with_word 0 1 (root new)) (only_words ws now new (but_more ws now old new le m.but) m.stands)
+
+module _ (ws nodes sides : List ℕ) (order : ℕ → Ordering) (depth node : ℕ) (t : Tree ℕ) (i : IsTree ws t) (o : IsSpot nodes sides order depth 0 t) (n : IsNode ws node 0 0 1) (apart : times node t ≡ 0) where
+  empty_root : (h : Tree ℕ) → Stands ws h → 0 ≡ root h → h ≡ Empty
+  empty_root Empty s e = refl
+  empty_root (Node l x r) s e = absurd (let some = s.0.some in omega arith)
+
+  gap_whole : whole (spot order [] t).0 Empty ≡ t
+  gap_whole =
+      let s = stands_at ws (spot order [] t).0 (spot order [] t).1 (subst (Stands ws) (sym (spot_whole order [] t)) i.stands) in
+      ap (whole (spot order [] t).0) (sym (empty_root (spot order [] t).1 s o.node_is)) ∙ spot_whole order [] t
+
+  pub gap_empty : (spot order [] t).1 ≡ Empty
+  gap_empty = empty_root (spot order [] t).1 (stands_at ws (spot order [] t).0 (spot order [] t).1 (subst (Stands ws) (sym (spot_whole order [] t)) i.stands)) o.node_is
+
+  -- the new node is to hang there
+  pub hung_leaf : IsHung ws nodes sides depth (spot order [] t).0 (Node Empty node Empty) node
+  hung_leaf =
+      let way = (spot order [] t).0 in
+      let high = depth_bound t i.balanced i.few in
+      let same = ap height gap_whole in
+      record {
+        noted = o.noted;
+        long = o.long;
+        spine = spine_of ws way Empty (subst (Stands ws) (sym gap_whole) i.stands);
+        stands = (n, tt, tt);
+        root_is = refl;
+        once = λ k. (let m = once_more node k t apart (i.once k) in let w = whole_times k way Empty in let e = ap (times k) gap_whole in omega (arith, m, w, e));
+        low = low_way way Empty (Node Empty node Empty) (subst Balanced (sym gap_whole) i.balanced) (record { left = lit≤ tt; right = lit≤ tt }, tt, tt) (record { left = lit≤ tt; right = lit≤ tt }) (omega arith);
+      }
+
+  new_times : (k : ℕ) → times k (with_new order node t) ≡ times k t + cond (eqb node k) 1 0
+  new_times k =
+      let m = mended_times k (spot order [] t).0 (Node Empty node Empty) in
+      let w = whole_times k (spot order [] t).0 Empty in
+      let e = ap (times k) gap_whole in
+      omega (arith, m, w, e)
+
+  pub new_size : size (with_new order node t) ≡ size t + 1
+  new_size =
+      let way = (spot order [] t).0 in
+      let p = size_is (with_new order node t) ∙ ap length (new_items order node t) in
+      let q = size_is t ∙ ap length (spot_items order t ∙ ap (λ h. before way ++ (items h ++ behind way)) gap_empty) in
+      let r = length-append (before way) (node ∷ behind way) in
+      let s = length-append (before way) (behind way) in
+      omega (arith, p, q, r, s)
+
+  pub new_tree : (now : List ℕ) (top : ℕ) → 8 ≤ length ws → size t + 1 < 2 ^ 32 → IsMade ws now (whole (spot order [] t).0 (Node Empty node Empty)) (with_new order node t) top → IsTree (with_word 0 1 top now) (with_new order node t)
+  new_tree now top header room m =
+      made_tree ws now (whole (spot order [] t).0 (Node Empty node Empty)) (with_new order node t) top header m (new_balanced order node t gap_empty i.balanced)
+      (λ k. (let e = new_times k in let h = once_more node k t apart (i.once k) in omega (arith, e, h)))
+      (let e = new_size in omega arith)
+
+  pub new_words : (now : List ℕ) (top : ℕ) → IsMade ws now (whole (spot order [] t).0 (Node Empty node Empty)) (with_new order node t) top → with_word 0 1 top now ≡ with_tree (with_new order node t) ws
+  new_words now top m =
+      made_words ws now (whole (spot order [] t).0 (Node Empty node Empty)) (with_new order node t) top
+      (λ k. (let e = mended_times k (spot order [] t).0 (Node Empty node Empty) in let w = whole_times k (spot order [] t).0 (Node Empty node Empty) in omega (arith, e, w))) m
+
+-- as the code runs
+pub can_mend_leaf : (ws nodes sides : List ℕ) (depth node : ℕ) → CanPut ws nodes sides depth node → CanMend ws nodes sides depth node
+can_mend_leaf ws nodes sides depth node c =
+    let b = c.beside in
+    record { way = (spot c.order [] c.tree).0; tree = Node Empty node Empty; hung = hung_leaf ws nodes sides c.order depth node c.tree b.tree b.spot b.leaf b.apart }
+
+pub put_depth : (ws nodes sides : List ℕ) (depth node : ℕ) → CanPut ws nodes sides depth node → depth ≤ 64
+put_depth ws nodes sides depth node c = spot_depth ws c.order c.tree c.beside.tree nodes sides depth 0 c.beside.spot
+
+pub put_header : (ws now nodes sides : List ℕ) (depth node top : ℕ) → CanPut ws nodes sides depth node → Mends nodes sides depth node top ws now → IsWithin now 0
+put_header ws now nodes sides depth node top c m =
+    let h = can_mend_leaf ws nodes sides depth node c in
+    let header = c.beside.header in
+    let long = (m h.way h.tree h.hung).but.long in
+    omega arith
+
+pub puts : (ws now last nodes sides : List ℕ) (depth node top : ℕ) → Mends nodes sides depth node top ws now → last ≡ with_word 0 1 top now → Puts nodes sides depth node ws last
+puts ws now last nodes sides depth node top m e order t b =
+    e ∙ new_words ws nodes sides order depth node t b.tree b.spot b.leaf b.apart now top
+    (m (spot order [] t).0 (Node Empty node Empty) (hung_leaf ws nodes sides order depth node t b.tree b.spot b.leaf b.apart))

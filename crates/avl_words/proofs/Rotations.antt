@@ -1,0 +1,364 @@
+-- What the writes of a rotation make of a tree.
+use Rattle.std.proofs.Common.{◌≡◌, ◌^◌, ◌+◌, ◌-◌, ◌<◌, ◌≤◌, max, ℕ, zero, suc, cond, eqb, leb, List, refl, sym, ap, subst, ◌∙◌, arith}
+use Rattle.std.proofs.lemmas.Bool.{cond-true, cond-false, le-leb, lt-leb}
+use Rattle.avl_tree.specs.Tree.{Tree, Empty, Node, height, node_on, inner_up, child_up, rotated}
+use Rattle.avl_words.specs.Lines.{word_of, IsWithin}
+use Rattle.avl_words.specs.Words.{root, times, IsNode, Stands}
+use Rattle.avl_words.specs.Links.{high_of, with_node, IsLink, CanSet, SameBut, IsOpen, IsMade, CanRotate, Rotates}
+use Rattle.avl_tree.proofs.Trees.{height_on}
+use Rattle.avl_words.proofs.Frames.{times_self, times_on, root_on, stands_set, high_is, IsThere, there_set, stands_on, but_set, but_then}
+
+-- a link to a tree that stands
+pub link_is : (ws : List ℕ) (t : Tree ℕ) (node : ℕ) → Stands ws t → root t ≡ node → height t ≤ 2 ^ 32 → IsLink ws node
+link_is ws Empty node s e low = record { there = λ n. absurd (n (sym e)); low = subst (λ n. high_of n ws ≤ 2 ^ 32) e low }
+link_is ws (Node l x r) node s e low = record {
+  there = λ n. subst (IsWithin ws) e s.0.within;
+  low = subst (λ n. high_of n ws ≤ 2 ^ 32) e (subst (λ h. h ≤ 2 ^ 32) (sym (high_is ws (Node l x r) s)) low);
+}
+
+-- the trees around a node and its higher child
+pub record IsView (ws : List ℕ) (side : ℕ) (t : Tree ℕ) (x : ℕ) (s : Tree ℕ) (a : Tree ℕ) (y : ℕ) (b : Tree ℕ) : Type 0 where
+  pub t_is : t ≡ node_on side a y b
+  pub turns : rotated side t x s ≡ child_up side a y b x s
+  pub x_there : IsThere ws x
+  pub y_there : IsThere ws y
+  pub a_stands : Stands ws a
+  pub b_stands : Stands ws b
+  pub s_stands : Stands ws s
+  pub once : (line : ℕ) → times line a + cond (eqb y line) 1 0 + times line b + cond (eqb x line) 1 0 + times line s ≤ 1
+  pub lines : (line : ℕ) → times line (Node t x s) ≡ times line a + cond (eqb y line) 1 0 + times line b + cond (eqb x line) 1 0 + times line s
+  pub bound : 1 + max (1 + max (height a) (height b)) (height s) ≤ 2 ^ 32
+
+pub record HasView (ws : List ℕ) (side node child low outer inner : ℕ) (t : Tree ℕ) (x : ℕ) (s : Tree ℕ) : Type 0 where
+  pub a : Tree ℕ
+  pub y : ℕ
+  pub b : Tree ℕ
+  pub view : IsView ws side t x s a y b
+  pub node_is : x ≡ node
+  pub child_is : y ≡ child
+  pub low_is : root s ≡ low
+  pub outer_is : root a ≡ outer
+  pub inner_is : root b ≡ inner
+
+there_node : (ws : List ℕ) (x : ℕ) (left right high : ℕ) → IsNode ws x left right high → IsThere ws x
+there_node ws x left right high n = record { some = n.some; within = n.within }
+
+pub view_of : (ws : List ℕ) (side node child low outer inner : ℕ) (t : Tree ℕ) (x : ℕ) (s : Tree ℕ) → side < 2 → IsOpen ws t x s → x ≡ node → root t ≡ child → root s ≡ low →
+    height s + 2 ≤ height t → word_of ws child side ≡ outer → word_of ws child (1 - side) ≡ inner → HasView ws side node child low outer inner t x s
+view_of ws side node child low outer inner Empty x s l o e f g h p q = absurd (omega arith)
+view_of ws zero node child low outer inner (Node u y v) x s l o e f g h p q = record {
+  a = u;
+  y = y;
+  b = v;
+  view = record {
+    t_is = refl;
+    turns = refl;
+    x_there = record { some = o.some; within = o.within };
+    y_there = there_node ws y (root u) (root v) (height (Node u y v)) o.left.0;
+    a_stands = o.left.1;
+    b_stands = o.left.2;
+    s_stands = o.right;
+    once = λ line. (let n = o.once line in omega (arith, n));
+    lines = λ line. omega arith;
+    bound = o.low;
+  };
+  node_is = e;
+  child_is = f;
+  low_is = g;
+  outer_is = sym o.left.0.left_is ∙ ap (λ n. word_of ws n 0) f ∙ p;
+  inner_is = sym o.left.0.right_is ∙ ap (λ n. word_of ws n 1) f ∙ q;
+}
+view_of ws (suc zero) node child low outer inner (Node u y v) x s l o e f g h p q = record {
+  a = v;
+  y = y;
+  b = u;
+  view = record {
+    t_is = refl;
+    turns = refl;
+    x_there = record { some = o.some; within = o.within };
+    y_there = there_node ws y (root u) (root v) (height (Node u y v)) o.left.0;
+    a_stands = o.left.2;
+    b_stands = o.left.1;
+    s_stands = o.right;
+    once = λ line. (let n = o.once line in omega (arith, n));
+    lines = λ line. omega arith;
+    bound = (let m = o.low in omega (arith, m));
+  };
+  node_is = e;
+  child_is = f;
+  low_is = g;
+  outer_is = sym o.left.0.right_is ∙ ap (λ n. word_of ws n 1) f ∙ p;
+  inner_is = sym o.left.0.left_is ∙ ap (λ n. word_of ws n 0) f ∙ q;
+}
+view_of ws (suc (suc k)) node child low outer inner (Node u y v) x s l o e f g h p q = absurd (omega arith)
+
+module _ (ws : List ℕ) (side : ℕ) (t : Tree ℕ) (x : ℕ) (s : Tree ℕ) (a : Tree ℕ) (y : ℕ) (b : Tree ℕ) (l : side < 2) (w : IsView ws side t x s a y b) where
+  -- the child goes up: the node first
+  pub single_first : CanSet ws x (root b) (root s)
+  single_first = (let m = w.bound in record { there = w.x_there.within; first = link_is ws b (root b) w.b_stands refl (omega arith); second = link_is ws s (root s) w.s_stands refl (omega arith) })
+
+  single_mid : Stands (with_node x side (root b) (root s) ws) (node_on side b x s)
+  single_mid = stands_on side b x s ws l w.x_there w.b_stands w.s_stands (omega (arith, w.once x, times_self x)) (omega (arith, w.once x, times_self x))
+
+  single_outer : Stands (with_node x side (root b) (root s) ws) a
+  single_outer = stands_set x side (root b) (root s) ws a l (omega (arith, w.once x, times_self x)) w.a_stands
+
+  pub single_second : CanSet (with_node x side (root b) (root s) ws) y (root a) x
+  single_second = (let m = w.bound in let h = height_on side b x s in record {
+    there = (there_set x side (root b) (root s) ws y l w.y_there).within;
+    first = link_is (with_node x side (root b) (root s) ws) a (root a) single_outer refl (omega arith);
+    second = link_is (with_node x side (root b) (root s) ws) (node_on side b x s) x single_mid (root_on side b x s) (omega arith);
+  })
+
+  pub single_stands : Stands (with_node y side (root a) x (with_node x side (root b) (root s) ws)) (node_on side a y (node_on side b x s))
+  single_stands =
+      subst (λ n. Stands (with_node y side (root a) n (with_node x side (root b) (root s) ws)) (node_on side a y (node_on side b x s))) (root_on side b x s)
+      (stands_on side a y (node_on side b x s) (with_node x side (root b) (root s) ws) l (there_set x side (root b) (root s) ws y l w.y_there) single_outer single_mid
+      (omega (arith, w.once y, times_self y)) (omega (arith, w.once y, times_self y, times_on y side b x s)))
+
+  pub single_but : SameBut ws (with_node y side (root a) x (with_node x side (root b) (root s) ws)) (Node t x s)
+  single_but =
+      but_then ws (with_node x side (root b) (root s) ws) (with_node y side (root a) x (with_node x side (root b) (root s) ws)) (Node t x s)
+      (but_set x side (root b) (root s) ws (Node t x s) l (omega (arith, w.lines x, times_self x)))
+      (but_set y side (root a) x (with_node x side (root b) (root s) ws) (Node t x s) l (omega (arith, w.lines y, times_self y)))
+
+  pub single_made : height b ≤ height a → IsMade ws (with_node y side (root a) x (with_node x side (root b) (root s) ws)) (Node t x s) (rotated side t x s) y
+  single_made le =
+      let e : rotated side t x s ≡ node_on side a y (node_on side b x s) = w.turns ∙ cond-true (leb (height b) (height a)) (node_on side a y (node_on side b x s)) (inner_up side a y b x s) (le-leb (height b) (height a) le) in
+      record {
+        stands = subst (Stands (with_node y side (root a) x (with_node x side (root b) (root s) ws))) (sym e) single_stands;
+        root_is = ap root e ∙ root_on side a y (node_on side b x s);
+        but = single_but;
+      }
+
+-- the trees of the inner child, which goes up
+pub record IsInner (ws : List ℕ) (side : ℕ) (b : Tree ℕ) (n : Tree ℕ) (z : ℕ) (f : Tree ℕ) : Type 0 where
+  pub b_is : b ≡ node_on side n z f
+  pub turns : (a : Tree ℕ) (y : ℕ) (x : ℕ) (s : Tree ℕ) → inner_up side a y b x s ≡ node_on side (node_on side a y n) z (node_on side f x s)
+  pub z_there : IsThere ws z
+  pub n_stands : Stands ws n
+  pub f_stands : Stands ws f
+  pub lines : (line : ℕ) → times line b ≡ times line n + cond (eqb z line) 1 0 + times line f
+  pub high : height b ≡ 1 + max (height n) (height f)
+
+pub record HasInner (ws : List ℕ) (side inner near far : ℕ) (b : Tree ℕ) : Type 0 where
+  pub n : Tree ℕ
+  pub z : ℕ
+  pub f : Tree ℕ
+  pub is : IsInner ws side b n z f
+  pub z_is : z ≡ inner
+  pub near_is : root n ≡ near
+  pub far_is : root f ≡ far
+
+pub inner_of : (ws : List ℕ) (side inner near far : ℕ) (b : Tree ℕ) → side < 2 → Stands ws b → root b ≡ inner → 1 ≤ height b → word_of ws inner side ≡ near → word_of ws inner (1 - side) ≡ far → HasInner ws side inner near far b
+inner_of ws side inner near far Empty l s e h p q = absurd (omega arith)
+inner_of ws zero inner near far (Node u z v) l s e h p q = record {
+  n = u;
+  z = z;
+  f = v;
+  is = record {
+    b_is = refl;
+    turns = λ a y x t. refl;
+    z_there = there_node ws z (root u) (root v) (height (Node u z v)) s.0;
+    n_stands = s.1;
+    f_stands = s.2;
+    lines = λ line. refl;
+    high = refl;
+  };
+  z_is = e;
+  near_is = sym s.0.left_is ∙ ap (λ n. word_of ws n 0) e ∙ p;
+  far_is = sym s.0.right_is ∙ ap (λ n. word_of ws n 1) e ∙ q;
+}
+inner_of ws (suc zero) inner near far (Node u z v) l s e h p q = record {
+  n = v;
+  z = z;
+  f = u;
+  is = record {
+    b_is = refl;
+    turns = λ a y x t. refl;
+    z_there = there_node ws z (root u) (root v) (height (Node u z v)) s.0;
+    n_stands = s.2;
+    f_stands = s.1;
+    lines = λ line. omega arith;
+    high = omega arith;
+  };
+  z_is = e;
+  near_is = sym s.0.right_is ∙ ap (λ n. word_of ws n 1) e ∙ p;
+  far_is = sym s.0.left_is ∙ ap (λ n. word_of ws n 0) e ∙ q;
+}
+inner_of ws (suc (suc k)) inner near far (Node u z v) l s e h p q = absurd (omega arith)
+
+module _ (ws : List ℕ) (side : ℕ) (t : Tree ℕ) (x : ℕ) (s : Tree ℕ) (a : Tree ℕ) (y : ℕ) (b : Tree ℕ) (n : Tree ℕ) (z : ℕ) (f : Tree ℕ) (l : side < 2)
+    (w : IsView ws side t x s a y b) (i : IsInner ws side b n z f) where
+  once_all : (line : ℕ) → times line a + cond (eqb y line) 1 0 + times line n + cond (eqb z line) 1 0 + times line f + cond (eqb x line) 1 0 + times line s ≤ 1
+  once_all line = omega (arith, w.once line, i.lines line)
+
+  -- the child first
+  pub double_first : CanSet ws y (root a) (root n)
+  double_first = (let m = w.bound in let h = i.high in record { there = w.y_there.within; first = link_is ws a (root a) w.a_stands refl (omega arith); second = link_is ws n (root n) i.n_stands refl (omega arith) })
+
+  abbrev one : List ℕ
+  one = with_node y side (root a) (root n) ws
+
+  abbrev two : List ℕ
+  two = with_node x side (root f) (root s) one
+
+  abbrev three : List ℕ
+  three = with_node z side y x two
+
+  first_made : Stands one (node_on side a y n)
+  first_made = stands_on side a y n ws l w.y_there w.a_stands i.n_stands (omega (arith, once_all y, times_self y)) (omega (arith, once_all y, times_self y))
+
+  pub double_second : CanSet one x (root f) (root s)
+  double_second = (let m = w.bound in let h = i.high in record {
+    there = (there_set y side (root a) (root n) ws x l w.x_there).within;
+    first = link_is one f (root f) (stands_set y side (root a) (root n) ws f l (omega (arith, once_all y, times_self y)) i.f_stands) refl (omega arith);
+    second = link_is one s (root s) (stands_set y side (root a) (root n) ws s l (omega (arith, once_all y, times_self y)) w.s_stands) refl (omega arith);
+  })
+
+  second_made : Stands two (node_on side f x s)
+  second_made =
+      stands_on side f x s one l (there_set y side (root a) (root n) ws x l w.x_there)
+      (stands_set y side (root a) (root n) ws f l (omega (arith, once_all y, times_self y)) i.f_stands)
+      (stands_set y side (root a) (root n) ws s l (omega (arith, once_all y, times_self y)) w.s_stands)
+      (omega (arith, once_all x, times_self x)) (omega (arith, once_all x, times_self x))
+
+  first_kept : Stands two (node_on side a y n)
+  first_kept = stands_set x side (root f) (root s) one (node_on side a y n) l (omega (arith, once_all x, times_self x, times_on x side a y n)) first_made
+
+  z_kept : IsThere two z
+  z_kept = there_set x side (root f) (root s) one z l (there_set y side (root a) (root n) ws z l i.z_there)
+
+  pub double_third : CanSet two z y x
+  double_third = (let m = w.bound in let h = i.high in let j = height_on side a y n in let k = height_on side f x s in record {
+    there = z_kept.within;
+    first = link_is two (node_on side a y n) y first_kept (root_on side a y n) (omega arith);
+    second = link_is two (node_on side f x s) x second_made (root_on side f x s) (omega arith);
+  })
+
+  third_made : Stands three (node_on side (node_on side a y n) z (node_on side f x s))
+  third_made =
+      subst (λ p. Stands (with_node z side p x two) (node_on side (node_on side a y n) z (node_on side f x s))) (root_on side a y n)
+      (subst (λ q. Stands (with_node z side (root (node_on side a y n)) q two) (node_on side (node_on side a y n) z (node_on side f x s))) (root_on side f x s)
+      (stands_on side (node_on side a y n) z (node_on side f x s) two l z_kept first_kept second_made
+      (omega (arith, once_all z, times_self z, times_on z side a y n)) (omega (arith, once_all z, times_self z, times_on z side f x s))))
+
+  double_but : SameBut ws three (Node t x s)
+  double_but =
+      but_then ws two three (Node t x s)
+      (but_then ws one two (Node t x s)
+      (but_set y side (root a) (root n) ws (Node t x s) l (omega (arith, w.lines y, times_self y)))
+      (but_set x side (root f) (root s) one (Node t x s) l (omega (arith, w.lines x, times_self x))))
+      (but_set z side y x two (Node t x s) l (omega (arith, w.lines z, i.lines z, times_self z)))
+
+  pub double_made : height a < height b → IsMade ws three (Node t x s) (rotated side t x s) z
+  double_made lt =
+      let e : rotated side t x s ≡ node_on side (node_on side a y n) z (node_on side f x s)
+      = w.turns ∙ cond-false (leb (height b) (height a)) (node_on side a y (node_on side b x s)) (inner_up side a y b x s) (lt-leb (height b) (height a) lt) ∙ i.turns a y x s in
+      record {
+        stands = subst (Stands three) (sym e) third_made;
+        root_is = ap root e ∙ root_on side (node_on side a y n) z (node_on side f x s);
+        but = double_but;
+      }
+
+-- what the loads of a rotation gave
+pub record IsSeen (ws : List ℕ) (side child outer inner outer_height inner_height : ℕ) : Type 0 where
+  pub outer_is : word_of ws child side ≡ outer
+  pub inner_is : word_of ws child (1 - side) ≡ inner
+  pub outer_high : high_of outer ws ≡ outer_height
+  pub inner_high : high_of inner ws ≡ inner_height
+
+can_same : (ws vs : List ℕ) (a b c d e f : ℕ) → ws ≡ vs → a ≡ d → b ≡ e → c ≡ f → CanSet ws a b c → CanSet vs d e f
+can_same ws vs a b c d e f p q r t h = subst (λ v. CanSet v d e f) p (subst (λ n. CanSet ws n e f) q (subst (λ n. CanSet ws a n f) r (subst (CanSet ws a b) t h)))
+
+seen_view : (ws : List ℕ) (side node child low outer inner oh ih : ℕ) (t : Tree ℕ) (x : ℕ) (s : Tree ℕ) → side < 2 → IsSeen ws side child outer inner oh ih → IsOpen ws t x s → x ≡ node → root t ≡ child → root s ≡ low →
+    height s + 2 ≤ height t → HasView ws side node child low outer inner t x s
+seen_view ws side node child low outer inner oh ih t x s l seen o e f g h = view_of ws side node child low outer inner t x s l o e f g h seen.outer_is seen.inner_is
+
+can_view : (ws : List ℕ) (side node child low outer inner oh ih : ℕ) (c : CanRotate ws node side child low) → side < 2 → IsSeen ws side child outer inner oh ih → HasView ws side node child low outer inner c.high_tree c.item c.low_tree
+can_view ws side node child low outer inner oh ih c l seen = seen_view ws side node child low outer inner oh ih c.high_tree c.item c.low_tree l seen c.open_node c.node_is c.child_is c.low_is c.higher
+
+-- the heights that were seen are those of the trees
+heights_seen : (ws : List ℕ) (side node child low outer inner oh ih : ℕ) (t : Tree ℕ) (x : ℕ) (s : Tree ℕ) → IsSeen ws side child outer inner oh ih → (v : HasView ws side node child low outer inner t x s) →
+    (height v.a ≡ oh) × (height v.b ≡ ih)
+heights_seen ws side node child low outer inner oh ih t x s seen v =
+    (sym (high_is ws v.a v.view.a_stands) ∙ ap (λ n. high_of n ws) v.outer_is ∙ seen.outer_high, sym (high_is ws v.b v.view.b_stands) ∙ ap (λ n. high_of n ws) v.inner_is ∙ seen.inner_high)
+
+-- a single rotation, as the code runs it
+pub runs_single_first : (ws : List ℕ) (side node child low outer inner oh ih : ℕ) → side < 2 → CanRotate ws node side child low → IsSeen ws side child outer inner oh ih → CanSet ws node inner low
+runs_single_first ws side node child low outer inner oh ih l c seen =
+    let v = can_view ws side node child low outer inner oh ih c l seen in
+    can_same ws ws c.item (root v.b) (root c.low_tree) node inner low refl v.node_is v.inner_is v.low_is (single_first ws side c.high_tree c.item c.low_tree v.a v.y v.b l v.view)
+
+single_words : (ws : List ℕ) (side a b c d e f g h i j : ℕ) → a ≡ f → b ≡ g → c ≡ h → d ≡ i → e ≡ j → with_node a side b c (with_node c side d e ws) ≡ with_node f side g h (with_node h side i j ws)
+single_words ws side a b c d e f g h i j p q r s t = cc
+
+pub runs_single_second : (ws : List ℕ) (side node child low outer inner oh ih : ℕ) → side < 2 → CanRotate ws node side child low → IsSeen ws side child outer inner oh ih →
+    CanSet (with_node node side inner low ws) child outer node
+runs_single_second ws side node child low outer inner oh ih l c seen =
+    let v = can_view ws side node child low outer inner oh ih c l seen in
+    let e : with_node c.item side (root v.b) (root c.low_tree) ws ≡ with_node node side inner low ws = (let p = v.node_is in let q = v.inner_is in let r = v.low_is in cc) in
+    can_same (with_node c.item side (root v.b) (root c.low_tree) ws) (with_node node side inner low ws) v.y (root v.a) c.item child outer node e v.child_is v.outer_is v.node_is
+    (single_second ws side c.high_tree c.item c.low_tree v.a v.y v.b l v.view)
+
+pub runs_single : (ws : List ℕ) (side node child low outer inner oh ih : ℕ) → side < 2 → IsSeen ws side child outer inner oh ih → ih ≤ oh →
+    Rotates node side child low child ws (with_node child side outer node (with_node node side inner low ws))
+runs_single ws side node child low outer inner oh ih l seen le x t s o e f g h =
+    let v = seen_view ws side node child low outer inner oh ih t x s l seen o e f g h in
+    let k = heights_seen ws side node child low outer inner oh ih t x s seen v in
+    subst (λ n. IsMade ws (with_node child side outer node (with_node node side inner low ws)) (Node t x s) (rotated side t x s) n) v.child_is
+    (subst (λ now. IsMade ws now (Node t x s) (rotated side t x s) v.y)
+    (single_words ws side v.y (root v.a) x (root v.b) (root s) child outer node inner low v.child_is v.outer_is v.node_is v.inner_is v.low_is)
+    (single_made ws side t x s v.a v.y v.b l v.view (let i = k.0 in let j = k.1 in omega arith)))
+
+-- a double rotation
+pub record IsSeenInner (ws : List ℕ) (side inner near far : ℕ) : Type 0 where
+  pub near_is : word_of ws inner side ≡ near
+  pub far_is : word_of ws inner (1 - side) ≡ far
+
+inner_view : (ws : List ℕ) (side node child low outer inner near far oh ih : ℕ) (t : Tree ℕ) (x : ℕ) (s : Tree ℕ) → side < 2 → IsSeen ws side child outer inner oh ih → IsSeenInner ws side inner near far → oh < ih →
+    (v : HasView ws side node child low outer inner t x s) → HasInner ws side inner near far v.b
+inner_view ws side node child low outer inner near far oh ih t x s l seen more lt v =
+    let k = heights_seen ws side node child low outer inner oh ih t x s seen v in
+    inner_of ws side inner near far v.b l v.view.b_stands v.inner_is (let j = k.1 in omega arith) more.near_is more.far_is
+
+pub runs_double_first : (ws : List ℕ) (side node child low outer inner near far oh ih : ℕ) → side < 2 → CanRotate ws node side child low → IsSeen ws side child outer inner oh ih → IsSeenInner ws side inner near far → oh < ih →
+    CanSet ws child outer near
+runs_double_first ws side node child low outer inner near far oh ih l c seen more lt =
+    let v = can_view ws side node child low outer inner oh ih c l seen in
+    let i = inner_view ws side node child low outer inner near far oh ih c.high_tree c.item c.low_tree l seen more lt v in
+    can_same ws ws v.y (root v.a) (root i.n) child outer near refl v.child_is v.outer_is i.near_is (double_first ws side c.high_tree c.item c.low_tree v.a v.y v.b i.n i.z i.f l v.view i.is)
+
+pub runs_double_second : (ws : List ℕ) (side node child low outer inner near far oh ih : ℕ) → side < 2 → CanRotate ws node side child low → IsSeen ws side child outer inner oh ih → IsSeenInner ws side inner near far → oh < ih →
+    CanSet (with_node child side outer near ws) node far low
+runs_double_second ws side node child low outer inner near far oh ih l c seen more lt =
+    let v = can_view ws side node child low outer inner oh ih c l seen in
+    let i = inner_view ws side node child low outer inner near far oh ih c.high_tree c.item c.low_tree l seen more lt v in
+    let e : with_node v.y side (root v.a) (root i.n) ws ≡ with_node child side outer near ws = (let p = v.child_is in let q = v.outer_is in let r = i.near_is in cc) in
+    can_same (with_node v.y side (root v.a) (root i.n) ws) (with_node child side outer near ws) c.item (root i.f) (root c.low_tree) node far low e v.node_is i.far_is v.low_is
+    (double_second ws side c.high_tree c.item c.low_tree v.a v.y v.b i.n i.z i.f l v.view i.is)
+
+double_two : (ws : List ℕ) (side a b c d e f g h i j k l : ℕ) → a ≡ g → b ≡ h → c ≡ i → d ≡ j → e ≡ k → f ≡ l → with_node a side b c (with_node d side e f ws) ≡ with_node g side h i (with_node j side k l ws)
+double_two ws side a b c d e f g h i j k l p q r s t u = cc
+
+pub runs_double_third : (ws : List ℕ) (side node child low outer inner near far oh ih : ℕ) → side < 2 → CanRotate ws node side child low → IsSeen ws side child outer inner oh ih → IsSeenInner ws side inner near far → oh < ih →
+    CanSet (with_node node side far low (with_node child side outer near ws)) inner child node
+runs_double_third ws side node child low outer inner near far oh ih l c seen more lt =
+    let v = can_view ws side node child low outer inner oh ih c l seen in
+    let i = inner_view ws side node child low outer inner near far oh ih c.high_tree c.item c.low_tree l seen more lt v in
+    can_same (with_node c.item side (root i.f) (root c.low_tree) (with_node v.y side (root v.a) (root i.n) ws)) (with_node node side far low (with_node child side outer near ws)) i.z v.y c.item inner child node
+    (double_two ws side c.item (root i.f) (root c.low_tree) v.y (root v.a) (root i.n) node far low child outer near v.node_is i.far_is v.low_is v.child_is v.outer_is i.near_is) i.z_is v.child_is v.node_is
+    (double_third ws side c.high_tree c.item c.low_tree v.a v.y v.b i.n i.z i.f l v.view i.is)
+
+pub runs_double : (ws : List ℕ) (side node child low outer inner near far oh ih : ℕ) → side < 2 → IsSeen ws side child outer inner oh ih → IsSeenInner ws side inner near far → oh < ih →
+    Rotates node side child low inner ws (with_node inner side child node (with_node node side far low (with_node child side outer near ws)))
+runs_double ws side node child low outer inner near far oh ih l seen more lt x t s o e f g h =
+    let v = seen_view ws side node child low outer inner oh ih t x s l seen o e f g h in
+    let k = heights_seen ws side node child low outer inner oh ih t x s seen v in
+    let i = inner_view ws side node child low outer inner near far oh ih t x s l seen more lt v in
+    let two = double_two ws side x (root i.f) (root s) v.y (root v.a) (root i.n) node far low child outer near v.node_is i.far_is v.low_is v.child_is v.outer_is i.near_is in
+    let all : with_node i.z side v.y x (with_node x side (root i.f) (root s) (with_node v.y side (root v.a) (root i.n) ws))
+    ≡ with_node inner side child node (with_node node side far low (with_node child side outer near ws)) = (let p = i.z_is in let q = v.child_is in let r = v.node_is in cc) in
+    subst (λ n. IsMade ws (with_node inner side child node (with_node node side far low (with_node child side outer near ws))) (Node t x s) (rotated side t x s) n) i.z_is
+    (subst (λ now. IsMade ws now (Node t x s) (rotated side t x s) i.z) all
+    (double_made ws side t x s v.a v.y v.b i.n i.z i.f l v.view i.is (let u = k.0 in let j = k.1 in omega arith)))

@@ -1,0 +1,37 @@
+use Rattle.cx_base.proofs.MemoryLemmas.{Becomes-then}
+use Rattle.avl_words.specs.Changes.{HasTwo}
+use Rattle.avl_words.proofs.Leaving.{node_there, can_mend_out, takes_from}
+use Rattle.avl_words.proofs.Memories.{Reads-none, Reads-load, Reads-loaded, Reads-weaker, always_said, always_after, Becomes-from-read, Becomes-both}
+use Rattle.avl_words.proofs.changes.take_node.Goals as goal
+
+pub word-requires-clause-line : goal.word-requires-clause-line
+word-requires-clause-line g c =
+    let w = c.args.way.now in
+    λ first now s. node_there now w.nodes w.sides w.depth c.args.node (c.requires.can first now s)
+
+pub word-requires-2-clause-line : goal.word-requires-2-clause-line
+word-requires-2-clause-line g c =
+    let w = c.args.way.now in
+    always_said (Reads-load (Reads-none _ c.requires.can) c.in_ok-left.ensures.done (λ ws p e. node_there ws w.nodes w.sides w.depth c.args.node p))
+
+pub hung_up-requires-clause-can : goal.hung_up-requires-clause-can
+hung_up-requires-clause-can g c =
+    let w = c.args.way.now in
+    always_said (Reads-weaker (Reads-loaded (Reads-loaded (Reads-none _ c.requires.can) c.in_ok-left.ensures.done) c.in_ok-right.ensures.done) (λ ws p. (let h : HasTwo ws w.nodes w.sides w.depth c.args.node c.in_ok-left.left c.in_ok-right.right = record { can = p.0.0; left_is = p.0.1; right_is = p.1 } in h)))
+
+pub mend-requires-clause-can : goal.mend-requires-clause-can
+mend-requires-clause-can g c =
+    let w = c.args.way.now in
+    let v = c.hung_up.new.way in
+    let two = Reads-weaker {Q = λ ws. HasTwo ws w.nodes w.sides w.depth c.args.node c.in_ok-left.left c.in_ok-right.right} (Reads-loaded (Reads-loaded (Reads-none _ c.requires.can) c.in_ok-left.ensures.done) c.in_ok-right.ensures.done)
+    (λ ws p. record { can = p.0.0; left_is = p.0.1; right_is = p.1 }) in
+    always_after (always_said two) c.in_ok-child.ensures.done (λ x y h u. can_mend_out x y w.nodes w.sides v.nodes v.sides w.depth c.args.node c.in_ok-left.left c.in_ok-right.right v.depth c.in_ok-child.child h u)
+
+pub returns-clause-done : goal.returns-clause-done
+returns-clause-done g c =
+    let w = c.args.way.now in
+    let v = c.hung_up.new.way in
+    let two = Reads-weaker {Q = λ ws. HasTwo ws w.nodes w.sides w.depth c.args.node c.in_ok-left.left c.in_ok-right.right} (Reads-loaded (Reads-loaded (Reads-none _ c.requires.can) c.in_ok-left.ensures.done) c.in_ok-right.ensures.done)
+    (λ ws p. record { can = p.0.0; left_is = p.0.1; right_is = p.1 }) in
+    Becomes-then (Becomes-both (Becomes-both (Becomes-from-read two) c.in_ok-child.ensures.done) c.in_ok-top.ensures.done) c.in_ok-put_new.ensures.done
+    (λ x z u t e. takes_from x t.1.0 t.0 z u w.nodes w.sides v.nodes v.sides w.depth c.args.node c.in_ok-left.left c.in_ok-right.right v.depth c.in_ok-child.child c.in_ok-top.top t.1.1.0 t.1.1.1 t.1.2 t.2 e)

@@ -1,0 +1,102 @@
+-- A node is put where a walk ended, or the node there is taken out.
+use Rattle.std.specs.Prelude.{◌≡◌, ◌≢◌, ◌+◌, ◌≤◌, ℕ, List, [], ◌++◌, length}
+use Rattle.std.specs.declared.cmp.Ordering.{Ordering}
+use Rattle.avl_tree.specs.Tree.{Tree, Empty, Node, height}
+use Rattle.avl_tree.specs.Ways.{Turn, whole, spot, with_new}
+use Rattle.avl_tree.specs.Removal.{least, gone_way, gone_rest, without}
+use Rattle.avl_words.specs.Lines.{word_of}
+use Rattle.avl_words.specs.Words.{times, IsNode, Stands, IsTree, IsNoted, IsSpot}
+use Rattle.avl_words.specs.Links.{SameBut}
+use Rattle.avl_words.specs.Mending.{IsHung}
+use Rattle.avl_words.specs.Exact.{with_tree}
+
+-- a walk ended at nothing, and a leaf beside the tree is to go there
+pub record IsBeside (words nodes sides : List ℕ) (order : ℕ → Ordering) (depth node : ℕ) (t : Tree ℕ) : Type 0 where
+  pub header : 8 ≤ length words
+  pub tree : IsTree words t
+  pub spot : IsSpot nodes sides order depth 0 t
+  pub leaf : IsNode words node 0 0 1
+  pub apart : times node t ≡ 0
+
+pub record CanPut (words nodes sides : List ℕ) (depth node : ℕ) : Type 0 where
+  pub order : ℕ → Ordering
+  pub tree : Tree ℕ
+  pub beside : IsBeside words nodes sides order depth node tree
+
+abbrev pub Puts : List ℕ → List ℕ → ℕ → ℕ → List ℕ → List ℕ → Type 0
+Puts nodes sides depth node before now =
+    (order : ℕ → Ordering) (t : Tree ℕ) → IsBeside before nodes sides order depth node t → now ≡ with_tree (with_new order node t) before
+
+-- a walk ended at a node
+pub record IsThere (words nodes sides : List ℕ) (order : ℕ → Ordering) (depth node : ℕ) (t : Tree ℕ) : Type 0 where
+  pub header : 8 ≤ length words
+  pub tree : IsTree words t
+  pub spot : IsSpot nodes sides order depth node t
+  pub some : node ≢ 0
+
+pub record CanTake (words nodes sides : List ℕ) (depth node : ℕ) : Type 0 where
+  pub order : ℕ → Ordering
+  pub tree : Tree ℕ
+  pub there : IsThere words nodes sides order depth node tree
+
+abbrev pub Takes : List ℕ → List ℕ → ℕ → ℕ → List ℕ → List ℕ → Type 0
+Takes nodes sides depth node before now =
+    (order : ℕ → Ordering) (t : Tree ℕ) → IsThere before nodes sides order depth node t → now ≡ with_tree (without order t) before
+
+-- the node of a walk's end, and its two children
+pub record HasTwo (words nodes sides : List ℕ) (depth node left right : ℕ) : Type 0 where
+  pub can : CanTake words nodes sides depth node
+  pub left_is : word_of words node 0 ≡ left
+  pub right_is : word_of words node 1 ≡ right
+
+-- a way that is noted, at whose end a tree stands
+pub record IsBelow (words nodes sides : List ℕ) (depth node : ℕ) (way : List (Turn ℕ)) (c : Tree ℕ) (z : ℕ) (d : Tree ℕ) : Type 0 where
+  pub noted : IsNoted nodes sides way
+  pub long : length way ≡ depth
+  pub stands : Stands words (Node c z d)
+  pub node_is : z ≡ node
+
+pub record CanDescend (words nodes sides : List ℕ) (depth node : ℕ) : Type 0 where
+  pub way : List (Turn ℕ)
+  pub left : Tree ℕ
+  pub item : ℕ
+  pub right : Tree ℕ
+  pub below : IsBelow words nodes sides depth node way left item right
+  pub room : depth + height (Node left item right) ≤ 64
+
+-- the way on to the least node below is noted too
+pub record IsLeast (nodes sides : List ℕ) (depth node : ℕ) (way : List (Turn ℕ)) (c : Tree ℕ) (z : ℕ) (d : Tree ℕ) : Type 0 where
+  pub noted : IsNoted nodes sides ((least [] c z d).way ++ way)
+  pub long : length ((least [] c z d).way ++ way) ≡ depth
+  pub node_is : (least [] c z d).item ≡ node
+
+abbrev pub Descends : List ℕ → List ℕ → ℕ → ℕ → List ℕ → List ℕ → ℕ → ℕ → List ℕ → Type 0
+Descends nodes sides depth node nodes_now sides_now depth_now node_now words =
+    (way : List (Turn ℕ)) (c : Tree ℕ) (z : ℕ) (d : Tree ℕ) → IsBelow words nodes sides depth node way c z d → IsLeast nodes_now sides_now depth_now node_now way c z d
+
+-- a tree is to hang at the end of a way, to stand for the one without a node
+pub record IsGone (before now nodes sides : List ℕ) (depth node : ℕ) (way : List (Turn ℕ)) (t : Tree ℕ) : Type 0 where
+  pub hung : IsHung now nodes sides depth way t node
+  pub but : SameBut before now (whole way t)
+
+abbrev pub IsOut : List ℕ → List ℕ → List ℕ → List ℕ → ℕ → ℕ → List (Turn ℕ) → Tree ℕ → Type 0
+IsOut before now nodes sides depth node way Empty = Unit {0}
+IsOut before now nodes sides depth node way (Node l x r) = IsGone before now nodes sides depth node (gone_way way l r) (gone_rest l r)
+
+abbrev pub Raises : List ℕ → List ℕ → ℕ → ℕ → ℕ → ℕ → List ℕ → List ℕ → ℕ → ℕ → List ℕ → List ℕ → Type 0
+Raises nodes sides depth node left right nodes_now sides_now depth_now rest before now =
+    (order : ℕ → Ordering) (t : Tree ℕ) → IsThere before nodes sides order depth node t → word_of before node 0 ≡ left → word_of before node 1 ≡ right →
+    IsOut before now nodes_now sides_now depth_now rest (spot order [] t).0 (spot order [] t).1
+
+-- so far down
+pub record IsDescending (words nodes sides : List ℕ) (depth node : ℕ) (way : List (Turn ℕ)) (c : Tree ℕ) (z : ℕ) (d : Tree ℕ) : Type 0 where
+  pub passed : List (Turn ℕ)
+  pub left : Tree ℕ
+  pub item : ℕ
+  pub right : Tree ℕ
+  pub same : least passed left item right ≡ least [] c z d
+  pub whole_is : whole passed (Node left item right) ≡ Node c z d
+  pub noted : IsNoted nodes sides (passed ++ way)
+  pub long : length (passed ++ way) ≡ depth
+  pub node_is : item ≡ node
+  pub stands : Stands words (Node left item right)

@@ -1,0 +1,23 @@
+-- Lines of eight words; line 0 is a header, and a word that names no line is 0.
+use Rattle.std.specs.Prelude.{◌≡◌, ◌^◌, ◌+◌, ◌*◌, ◌/◌, ◌≤◌, ℕ, List, length, slice_index, slice_set}
+
+-- word i of a line, and the number of lines
+abbrev pub word_of : List ℕ → ℕ → ℕ → ℕ
+word_of words line i = slice_index words (8 * line + i)
+
+abbrev pub line_count : List ℕ → ℕ
+line_count words = length words / 8
+
+-- a line that is there
+abbrev pub IsWithin : List ℕ → ℕ → Type 0
+IsWithin words line = 8 * line + 8 ≤ length words
+
+-- word i of a line is stored
+abbrev pub with_word : ℕ → ℕ → ℕ → List ℕ → List ℕ
+with_word line i v words = slice_set words (8 * line + i) v
+
+-- so many words are 1 to 2 ^ 32 lines
+pub record IsPartLength (n : ℕ) : Type 0 where
+  pub whole : n ≡ 8 * (n / 8)
+  pub some : 1 ≤ n / 8
+  pub few : n / 8 ≤ 2 ^ 32

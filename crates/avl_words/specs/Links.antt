@@ -1,0 +1,74 @@
+-- How the links and heights of nodes change, and what that leaves as it was.
+use Rattle.std.specs.Prelude.{◌≡◌, ◌≢◌, ◌^◌, ◌+◌, ◌-◌, ◌<◌, ◌≤◌, ◌⊎◌, max, ℕ, zero, suc, List, length}
+use Rattle.avl_tree.specs.Tree.{Tree, Node, height, rotated, joined}
+use Rattle.avl_words.specs.Lines.{word_of, IsWithin, with_word}
+use Rattle.avl_words.specs.Words.{root, times, Stands}
+
+-- the height of the tree below a link
+abbrev pub high_of : ℕ → List ℕ → ℕ
+high_of zero words = 0
+high_of (suc n) words = word_of words (suc n) 2
+
+-- a node gets these children, the first at a side, and its height
+unfoldable pub with_node : ℕ → ℕ → ℕ → ℕ → List ℕ → List ℕ
+with_node line side a b words =
+    with_word line 2 (1 + max (high_of a words) (high_of b words)) (with_word line (1 - side) b (with_word line side a words))
+
+-- a link to a node that is there, or to nothing
+pub record IsLink (words : List ℕ) (node : ℕ) : Type 0 where
+  pub there : node ≢ 0 → IsWithin words node
+  pub low : high_of node words ≤ 2 ^ 32
+
+pub record CanSet (words : List ℕ) (node a b : ℕ) : Type 0 where
+  pub there : IsWithin words node
+  pub first : IsLink words a
+  pub second : IsLink words b
+
+-- All words are as they were but for the links and heights of a tree's nodes.
+pub record SameBut (before now : List ℕ) (t : Tree ℕ) : Type 0 where
+  pub long : length now ≡ length before
+  pub same : (line i : ℕ) → i < 8 → (times line t ≡ 0) ⊎ (3 ≤ i) → word_of now line i ≡ word_of before line i
+
+-- A node that is there, its children's trees, and all lines apart. The node's own links and height may be anything.
+pub record IsOpen (words : List ℕ) (l : Tree ℕ) (x : ℕ) (r : Tree ℕ) : Type 0 where
+  pub some : 1 ≤ x
+  pub within : IsWithin words x
+  pub left : Stands words l
+  pub right : Stands words r
+  pub once : (line : ℕ) → times line (Node l x r) ≤ 1
+  pub low : height (Node l x r) ≤ 2 ^ 32
+
+-- a tree of the same lines stands now
+pub record IsMade (before now : List ℕ) (old new : Tree ℕ) (node : ℕ) : Type 0 where
+  pub stands : Stands now new
+  pub root_is : root new ≡ node
+  pub but : SameBut before now old
+
+-- the child at a side is higher than the other
+pub record CanRotate (words : List ℕ) (node side child low : ℕ) : Type 0 where
+  pub item : ℕ
+  pub high_tree : Tree ℕ
+  pub low_tree : Tree ℕ
+  pub open_node : IsOpen words high_tree item low_tree
+  pub node_is : item ≡ node
+  pub child_is : root high_tree ≡ child
+  pub low_is : root low_tree ≡ low
+  pub higher : height low_tree + 2 ≤ height high_tree
+
+abbrev pub Rotates : ℕ → ℕ → ℕ → ℕ → ℕ → List ℕ → List ℕ → Type 0
+Rotates node side child low top before now =
+    (x : ℕ) (t : Tree ℕ) (s : Tree ℕ) → IsOpen before t x s → x ≡ node → root t ≡ child → root s ≡ low → height s + 2 ≤ height t → IsMade before now (Node t x s) (rotated side t x s) top
+
+-- a node with its links, and the trees below them; its height may be anything
+pub record CanJoin (words : List ℕ) (node left right : ℕ) : Type 0 where
+  pub item : ℕ
+  pub left_tree : Tree ℕ
+  pub right_tree : Tree ℕ
+  pub open_node : IsOpen words left_tree item right_tree
+  pub node_is : item ≡ node
+  pub left_is : root left_tree ≡ left
+  pub right_is : root right_tree ≡ right
+
+abbrev pub Joins : ℕ → ℕ → ℕ → ℕ → List ℕ → List ℕ → Type 0
+Joins node left right top before now =
+    (x : ℕ) (l : Tree ℕ) (r : Tree ℕ) → IsOpen before l x r → x ≡ node → root l ≡ left → root r ≡ right → IsMade before now (Node l x r) (joined l x r) top

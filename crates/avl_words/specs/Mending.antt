@@ -1,0 +1,77 @@
+-- A tree takes another's place at the end of a way down, and each node of the way is balanced again, the last one first.
+use Rattle.std.specs.Prelude.{◌≡◌, ◌^◌, ◌+◌, ◌-◌, ◌≤◌, ◌==◌, ℕ, List, [], ◌∷◌, length, if◌then◌else◌}
+use Rattle.avl_tree.specs.Tree.{Tree, height, node_on}
+use Rattle.avl_tree.specs.Ways.{Turn, under, whole, mended}
+use Rattle.avl_words.specs.Lines.{word_of, IsWithin}
+use Rattle.avl_words.specs.Words.{root, times, Stands, IsNoted}
+use Rattle.avl_words.specs.Links.{SameBut, IsMade}
+
+-- A node at one side of which a tree is to hang, and at the other the tree that is there. Its link to the side, and its height, may be anything.
+pub record IsHanging (words : List ℕ) (side : ℕ) (t : Tree ℕ) (x : ℕ) (sibling : Tree ℕ) : Type 0 where
+  pub some : 1 ≤ x
+  pub within : IsWithin words x
+  pub link_is : word_of words x (1 - side) ≡ root sibling
+  pub hung : Stands words t
+  pub beside : Stands words sibling
+  pub once : (line : ℕ) → times line t + (if x == line then 1 else 0) + times line sibling ≤ 1
+  pub low : height (node_on side t x sibling) ≤ 2 ^ 32
+
+pub record CanHang (words : List ℕ) (node side child : ℕ) : Type 0 where
+  pub tree : Tree ℕ
+  pub item : ℕ
+  pub sibling : Tree ℕ
+  pub hanging : IsHanging words side tree item sibling
+  pub node_is : item ≡ node
+  pub child_is : root tree ≡ child
+
+abbrev pub Hangs : ℕ → ℕ → ℕ → ℕ → List ℕ → List ℕ → Type 0
+Hangs node side child top before now =
+    (t : Tree ℕ) (x : ℕ) (sibling : Tree ℕ) → IsHanging before side t x sibling → x ≡ node → root t ≡ child → IsMade before now (node_on side t x sibling) (under side t x sibling) top
+
+-- the nodes of a way, with what hangs at their other sides
+abbrev pub Spine : List ℕ → List (Turn ℕ) → Type 0
+Spine words [] = Unit {0}
+Spine words (turn ∷ way) =
+    (1 ≤ turn.item) × IsWithin words turn.item × (word_of words turn.item (1 - turn.side) ≡ root turn.sibling)
+    × Stands words turn.sibling × Spine words way
+
+abbrev pub times_way : ℕ → List (Turn ℕ) → ℕ
+times_way line [] = 0
+times_way line (turn ∷ way) = (if turn.item == line then 1 else 0) + times line turn.sibling + times_way line way
+
+-- no height on the way up is over the limit
+abbrev pub IsLow : List (Turn ℕ) → Tree ℕ → Type 0
+IsLow [] t = Unit {0}
+IsLow (turn ∷ way) t = (height (node_on turn.side t turn.item turn.sibling) ≤ 2 ^ 32) × IsLow way (under turn.side t turn.item turn.sibling)
+
+-- a way that was noted, and a tree that is to hang at its end
+pub record IsHung (words nodes sides : List ℕ) (depth : ℕ) (way : List (Turn ℕ)) (t : Tree ℕ) (node : ℕ) : Type 0 where
+  pub noted : IsNoted nodes sides way
+  pub long : length way ≡ depth
+  pub spine : Spine words way
+  pub stands : Stands words t
+  pub root_is : root t ≡ node
+  pub once : (line : ℕ) → times_way line way + times line t ≤ 1
+  pub low : IsLow way t
+
+pub record CanMend (words nodes sides : List ℕ) (depth node : ℕ) : Type 0 where
+  pub way : List (Turn ℕ)
+  pub tree : Tree ℕ
+  pub hung : IsHung words nodes sides depth way tree node
+
+abbrev pub Mends : List ℕ → List ℕ → ℕ → ℕ → ℕ → List ℕ → List ℕ → Type 0
+Mends nodes sides depth node top before now =
+    (way : List (Turn ℕ)) (t : Tree ℕ) → IsHung before nodes sides depth way t node → IsMade before now (whole way t) (mended way t) top
+
+-- so far up
+pub record IsMending (before now nodes sides : List ℕ) (depth : ℕ) (way : List (Turn ℕ)) (t : Tree ℕ) (top : ℕ) : Type 0 where
+  pub rest : List (Turn ℕ)
+  pub tree : Tree ℕ
+  pub hung : IsHung now nodes sides depth rest tree top
+  pub same : mended rest tree ≡ mended way t
+  pub lines : (line : ℕ) → times_way line rest + times line tree ≡ times_way line way + times line t
+  pub but : SameBut before now (whole way t)
+
+abbrev pub Mending : List ℕ → List ℕ → ℕ → ℕ → ℕ → ℕ → List ℕ → List ℕ → Type 0
+Mending nodes sides depth node rest top before now =
+    (way : List (Turn ℕ)) (t : Tree ℕ) → IsHung before nodes sides depth way t node → IsMending before now nodes sides rest way t top

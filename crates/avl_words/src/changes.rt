@@ -1,0 +1,148 @@
+//! A node is put where a walk ended, or the node there is taken out.
+
+ghost use Rattle.std.specs.Prelude.{◌≡◌, ◌≢◌, ◌≤◌, ℕ, List, IsTrue, IfOk, OnErr, Some, is_some, length};
+ghost use Rattle.std.specs.declared.cmp.Ordering.{Ordering};
+ghost use Rattle.cx_base.specs.Memory.{Always, Becomes};
+ghost use Rattle.avl_tree.specs.Removal.{gone_way, gone_rest};
+ghost use Rattle.avl_tree.specs.Tree.{Tree};
+ghost use Rattle.avl_words.specs.Access.{Reads};
+ghost use Rattle.avl_words.specs.Changes.{CanPut, Puts, CanTake, Takes, HasTwo, CanDescend, Descends, Raises};
+ghost use Rattle.avl_words.specs.Lines.{IsPartLength};
+
+use crate::blocks::{put_new, word};
+use crate::mending::{Way, mend};
+use cx_base::{Halt, Memory};
+
+/// Puts a leaf where a walk ended at nothing, and balances the tree.
+pub fn put_node<M: Memory>(mem: &mut M, way: &Way, node: u64) -> Result<(), Halt>
+    requires sized { IsPartLength (M.size mem.old) }
+    requires writable { IsTrue (M.writable mem.old) }
+    requires can { Always (M.stands mem.old) (λ ws. CanPut ws way.now.nodes way.now.sides way.now.depth node) }
+    ensures done { IfOk result (λ _. Becomes (M.stands mem.old) (M.stands mem.new) (Puts way.now.nodes way.now.sides way.now.depth node)) }
+    ensures halts { OnErr result (M.left mem.new ≡ Some 0) }
+    ensures limited { is_some (M.left mem.new) ≡ is_some (M.left mem.old) }
+    ensures size { M.size mem.new ≡ M.size mem.old }
+    ensures fixed { M.fixed mem.new ≡ M.fixed mem.old }
+    ensures writable { M.writable mem.new ≡ M.writable mem.old }
+{
+    let top = mend(mem, way, node)?;
+    put_new(mem, 0, 1, top)?;
+    Ok(())
+}
+
+/// Notes the way from a node down to the least node below it, and gives that node.
+fn descend<M: Memory>(mem: &mut M, way: &mut Way, node: u64) -> Result<u64, Halt>
+    requires sized { IsPartLength (M.size mem.old) }
+    requires arrays { (length way.old.nodes ≡ 64) × (length way.old.sides ≡ 64) }
+    requires can { Always (M.stands mem.old) (λ ws. CanDescend ws way.old.nodes way.old.sides way.old.depth node) }
+    ensures done { IfOk result (λ least. Reads (M.stands mem.old) (M.stands mem.new)
+        (Descends way.old.nodes way.old.sides way.old.depth node way.new.nodes way.new.sides way.new.depth least)) }
+    ensures arrays { (length way.new.nodes ≡ 64) × (length way.new.sides ≡ 64) }
+    ensures depth { IfOk result (λ _. way.new.depth ≤ 64) }
+    ensures kept { Becomes (M.stands mem.old) (M.stands mem.new) ◌≡◌ }
+    ensures halts { OnErr result (M.left mem.new ≡ Some 0) }
+    ensures limited { is_some (M.left mem.new) ≡ is_some (M.left mem.old) }
+    ensures size { M.size mem.new ≡ M.size mem.old }
+    ensures fixed { M.fixed mem.new ≡ M.fixed mem.old }
+    ensures writable { M.writable mem.new ≡ M.writable mem.old }
+{
+    let mut least = node;
+    for depth in way.depth..64 {
+        let left = word(mem, least, 0)?;
+        if left == 0 {
+            way.depth = depth;
+            return Ok(least);
+        }
+        way.nodes[depth] = least;
+        way.sides[depth] = 0;
+        least = left;
+    }
+    way.depth = 64;
+    Ok(least)
+}
+
+/// The least node behind a node with two children takes its place on the way, and the way goes on down to what is left
+/// of it, which is given.
+fn next_up<M: Memory>(
+    mem: &mut M,
+    way: &mut Way,
+    node: u64,
+    left: u64,
+    right: u64,
+) -> Result<u64, Halt>
+    requires sized { IsPartLength (M.size mem.old) }
+    requires writable { IsTrue (M.writable mem.old) }
+    requires arrays { (length way.old.nodes ≡ 64) × (length way.old.sides ≡ 64) }
+    requires some { (left ≢ 0) × (right ≢ 0) }
+    requires can { Always (M.stands mem.old) (λ ws. HasTwo ws way.old.nodes way.old.sides way.old.depth node left right) }
+    ensures done { IfOk result (λ rest. Becomes (M.stands mem.old) (M.stands mem.new)
+        (Raises way.old.nodes way.old.sides way.old.depth node left right way.new.nodes way.new.sides way.new.depth rest)) }
+    ensures depth { IfOk result (λ _. way.new.depth ≤ 64) }
+    ensures halts { OnErr result (M.left mem.new ≡ Some 0) }
+    ensures limited { is_some (M.left mem.new) ≡ is_some (M.left mem.old) }
+    ensures size { M.size mem.new ≡ M.size mem.old }
+    ensures fixed { M.fixed mem.new ≡ M.fixed mem.old }
+    ensures writable { M.writable mem.new ≡ M.writable mem.old }
+{
+    let at = way.depth;
+    way.nodes[at] = node;
+    way.sides[at] = 1;
+    way.depth = at + 1;
+    let least = descend(mem, way, right)?;
+    way.nodes[at] = least;
+    let rest = word(mem, least, 1)?;
+    put_new(mem, least, 0, left)?;
+    Ok(rest)
+}
+
+/// What is to hang at the end of the way in place of a node: its one child, or what is left of the least node behind it.
+fn hung_up<M: Memory>(
+    mem: &mut M,
+    way: &mut Way,
+    node: u64,
+    left: u64,
+    right: u64,
+) -> Result<u64, Halt>
+    requires sized { IsPartLength (M.size mem.old) }
+    requires writable { IsTrue (M.writable mem.old) }
+    requires arrays { (length way.old.nodes ≡ 64) × (length way.old.sides ≡ 64) }
+    requires can { Always (M.stands mem.old) (λ ws. HasTwo ws way.old.nodes way.old.sides way.old.depth node left right) }
+    ensures done { IfOk result (λ rest. Becomes (M.stands mem.old) (M.stands mem.new)
+        (Raises way.old.nodes way.old.sides way.old.depth node left right way.new.nodes way.new.sides way.new.depth rest)) }
+    ensures depth { IfOk result (λ _. way.new.depth ≤ 64) }
+    ensures halts { OnErr result (M.left mem.new ≡ Some 0) }
+    ensures limited { is_some (M.left mem.new) ≡ is_some (M.left mem.old) }
+    ensures size { M.size mem.new ≡ M.size mem.old }
+    ensures fixed { M.fixed mem.new ≡ M.fixed mem.old }
+    ensures writable { M.writable mem.new ≡ M.writable mem.old }
+{
+    if left == 0 {
+        return Ok(right);
+    }
+    if right == 0 {
+        return Ok(left);
+    }
+    next_up(mem, way, node, left, right)
+}
+
+/// Takes the node of a walk's end out, and balances the tree: its one child takes its place, or the least node behind it
+/// does, whose own place its right child takes. Words 0 to 2 of the node's own line stay as they are.
+pub fn take_node<M: Memory>(mem: &mut M, way: &mut Way, node: u64) -> Result<(), Halt>
+    requires sized { IsPartLength (M.size mem.old) }
+    requires writable { IsTrue (M.writable mem.old) }
+    requires arrays { (length way.old.nodes ≡ 64) × (length way.old.sides ≡ 64) }
+    requires can { Always (M.stands mem.old) (λ ws. CanTake ws way.old.nodes way.old.sides way.old.depth node) }
+    ensures done { IfOk result (λ _. Becomes (M.stands mem.old) (M.stands mem.new) (Takes way.old.nodes way.old.sides way.old.depth node)) }
+    ensures halts { OnErr result (M.left mem.new ≡ Some 0) }
+    ensures limited { is_some (M.left mem.new) ≡ is_some (M.left mem.old) }
+    ensures size { M.size mem.new ≡ M.size mem.old }
+    ensures fixed { M.fixed mem.new ≡ M.fixed mem.old }
+    ensures writable { M.writable mem.new ≡ M.writable mem.old }
+{
+    let left = word(mem, node, 0)?;
+    let right = word(mem, node, 1)?;
+    let child = hung_up(mem, way, node, left, right)?;
+    let top = mend(mem, way, child)?;
+    put_new(mem, 0, 1, top)?;
+    Ok(())
+}

@@ -1,0 +1,14 @@
+//! A balanced tree over the lines of a memory: links and heights, a node balanced, and the repair of a way.
+#![tactic(auto)]
+
+mod blocks;
+mod changes;
+mod links;
+mod mending;
+#[cfg(test)]
+mod tests;
+
+pub use blocks::{put, put_new, word};
+pub use changes::{put_node, take_node};
+pub use links::{height_of, join, rotate, set_node};
+pub use mending::{Way, hang, mend};

@@ -1,0 +1,21 @@
+//! Calls over a memory of a vector.
+
+use crate::links::{height_of, set_node};
+use cx_base::VecMemory;
+use std::test::Fail;
+
+#[test]
+fn a_leaf_over_a_vector(rt: HostRuntime) -> Result<(), Fail> {
+    let words = vec![in rt.alloc(); 5; 16]?;
+    let mut memory = VecMemory::of(words, None);
+    set_node(&mut memory, 1, 1, 0, 0).expect(&rt, "leaf");
+    let height = height_of(&mut memory, 1).expect(&rt, "height");
+    assert_eq!(rt; height, 1);
+    let words = memory.into_words();
+    assert_eq!(rt; words.len(), 16);
+    assert_eq!(rt; words[8], 0);
+    assert_eq!(rt; words[9], 0);
+    assert_eq!(rt; words[10], 1);
+    assert_eq!(rt; words[11], 5);
+    Ok(())
+}

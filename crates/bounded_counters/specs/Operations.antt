@@ -1,0 +1,31 @@
+-- Operations and replies as 144 words each: a kind, and what the kind uses, with zeros behind it.
+use Rattle.std.specs.Prelude.{◌==◌, ℕ, List, ◌∷◌, replicate, slice_index, if◌then◌else◌}
+use Rattle.bounded_counters.specs.declared.operations.Op.{Op}
+use Rattle.bounded_counters.specs.declared.operations.Op.TheVariants.{Add, Read, Other}
+use Rattle.bounded_counters.specs.declared.operations.Reply.{Reply}
+use Rattle.bounded_counters.specs.declared.operations.Reply.TheVariants.{Value, Full, Missing, NoOperation}
+
+-- the words of a kind and two numbers
+unfoldable pub words_with : ℕ → ℕ → ℕ → List ℕ
+words_with kind first second = kind ∷ first ∷ second ∷ replicate 141 0
+
+-- the words of an addition and of a reading
+abbrev pub add_words : ℕ → ℕ → List ℕ
+add_words counter amount = words_with 1 counter amount
+
+abbrev pub read_words : ℕ → List ℕ
+read_words counter = words_with 2 counter 0
+
+-- the operation that words stand for
+abbrev pub op_in : List ℕ → Op
+op_in words =
+    if slice_index words 0 == 1
+    then Add (slice_index words 1) (slice_index words 2)
+    else (if slice_index words 0 == 2 then Read (slice_index words 1) else Other)
+
+-- the words of a reply; those of no operation are answered by zeros
+abbrev pub reply_words : Reply → List ℕ
+reply_words (Value count) = words_with 1 count 0
+reply_words Full = words_with 2 0 0
+reply_words Missing = words_with 3 0 0
+reply_words NoOperation = words_with 0 0 0

@@ -1,0 +1,91 @@
+//! Operations on the counters and the replies to them, and both as words.
+
+ghost use Rattle.std.specs.Prelude.{◌≡◌, ℕ};
+ghost use Rattle.bounded_counters.specs.Operations as spec;
+
+/// What 144 words ask for. Counters are numbered from 0.
+#[derive(Clone, Copy, Debug, PartialEq, Eq)]
+pub enum Op {
+    /// Add an amount to a counter.
+    Add { counter: u64, amount: u64 },
+    /// Tell what a counter has.
+    Read { counter: u64 },
+    /// Nothing: the words are no operation's.
+    Other,
+}
+
+/// What an operation is answered.
+#[derive(Clone, Copy, Debug, PartialEq, Eq)]
+pub enum Reply {
+    /// What the counter has, after the operation.
+    Value(u64),
+    /// The sum is not below the bound. Nothing has changed.
+    Full,
+    /// There is no such counter.
+    Missing,
+    /// The words were no operation's.
+    NoOperation,
+}
+
+/// The words of an addition.
+pub fn add_words(counter: u64, amount: u64) -> [u64; 144]
+    ensures { result ≡ spec.add_words counter amount }
+{
+    words_with(1, counter, amount)
+}
+
+/// The words of a reading.
+pub fn read_words(counter: u64) -> [u64; 144]
+    ensures { result ≡ spec.read_words counter }
+{
+    words_with(2, counter, 0)
+}
+
+impl Op {
+    /// The operation that words stand for.
+    pub fn of(words: &[u64; 144]) -> Op
+        ensures { result ≡ spec.op_in words.now }
+    {
+        match words[0] {
+            1 => Op::Add {
+                counter: words[1],
+                amount: words[2],
+            },
+            2 => Op::Read { counter: words[1] },
+            _ => Op::Other,
+        }
+    }
+}
+
+impl Reply {
+    /// The reply as words.
+    pub fn words(self) -> [u64; 144]
+        ensures { result ≡ spec.reply_words self }
+    {
+        match self {
+            Reply::Value(count) => words_with(1, count, 0),
+            Reply::Full => words_with(2, 0, 0),
+            Reply::Missing => words_with(3, 0, 0),
+            Reply::NoOperation => words_with(0, 0, 0),
+        }
+    }
+}
+
+/// The words of an operation stand for it.
+#[tactic(auto, unfolding(crate::specs::Operations::words_with))]
+pub fn operations_are_read()
+    ensures additions { (counter amount : ℕ) → spec.op_in (spec.add_words counter amount) ≡ Op.Add counter amount }
+    ensures readings { (counter : ℕ) → spec.op_in (spec.read_words counter) ≡ Op.Read counter }
+{}
+
+/// The words of a kind and two numbers.
+#[tactic(auto, unfolding(crate::specs::Operations::words_with))]
+fn words_with(kind: u64, first: u64, second: u64) -> [u64; 144]
+    ensures { result ≡ spec.words_with kind first second }
+{
+    let mut words = [0; 144];
+    words[0] = kind;
+    words[1] = first;
+    words[2] = second;
+    words
+}

@@ -1,0 +1,32 @@
+-- The parts of the lawful state on tickets, links, cells and fronts, with the shape, and what keeps them.
+use Rattle.std.specs.Prelude.{◌≡◌, ◌++◌, ℕ, List}
+use Rattle.cx_core.specs.declared.entry.Entry.{Entry}
+use Rattle.cx_core.specs.declared.kinds.Kind.{Kind}
+use Rattle.cx_core.specs.declared.local.Local.{Local}
+use Rattle.cx_core.specs.Events.{Makes}
+use Rattle.cx_core.specs.Lawful.{Cells, Fronts, Links, Shape, Tickets}
+use Rattle.cx_core.specs.State.{Instance, State}
+
+pub record QueueLawful (instance : Instance) (history : List Entry) (words : List ℕ) (locals : List Local) : Type 0 where
+  pub shape : Shape instance words locals
+  pub tickets : Tickets instance history locals
+  pub links : Links instance history words
+  pub cells : Cells instance history words locals
+  pub fronts : Fronts instance history words locals
+
+-- a history begins with another
+pub record Continues (history history' : List Entry) : Type 0 where
+  pub more : List Entry
+  pub is : history' ≡ history ++ more
+
+-- those parts hold, with a history that begins with this one
+pub record QueueContinues (instance : Instance) (history : List Entry) (words : List ℕ) (locals : List Local) : Type 0 where
+  pub after : List Entry
+  pub continues : Continues history after
+  pub lawful : QueueLawful instance after words locals
+
+-- each step of this kind keeps those parts, whichever caller makes it
+abbrev pub KeepsQueue : Kind → Type 0
+KeepsQueue kind =
+    (instance : Instance) (history : List Entry) (before after : State) (caller : ℕ) → QueueLawful instance history before.words before.locals →
+    Makes instance (record { caller = caller; kind = kind }) before after → QueueContinues instance history after.words after.locals

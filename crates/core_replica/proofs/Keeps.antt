@@ -1,0 +1,82 @@
+-- Each allowed step of any kind leaves a lawful state.
+use Rattle.std.proofs.Common.{◌≡◌, ◌^◌, ◌≤◌, ℕ, List, [], ◌∷◌, set, sym, subst, ◌∙◌, Some}
+use Rattle.std.specs.List.{slice_get}
+use Rattle.cx_core.specs.declared.kinds.Event.{Event}
+use Rattle.cx_core.specs.declared.kinds.Kind.{Kind}
+use Rattle.cx_core.specs.declared.local.Local.{Local}
+use Rattle.cx_core.specs.Events.{Guard, Makes, Run, local_after, words_after}
+use Rattle.cx_core.specs.Lawful.{Lawful}
+use Rattle.cx_core.specs.Merge.{scene_of}
+use Rattle.cx_core.specs.Region.{place_of}
+use Rattle.cx_core.specs.State.{Instance, State, opening_state}
+use Rattle.core_queue.proofs.Keeps.{queue_kept}
+use Rattle.core_queue.proofs.Opening as queue
+use Rattle.core_queue.proofs.QueueFrames.{queue_local, queue_of}
+use Rattle.core_replica.specs.Frames.{SameLawful}
+use Rattle.core_replica.proofs.LockLaws.{locks_local}
+use Rattle.core_replica.proofs.Opening.{opening_locks, opening_regions}
+use Rattle.core_replica.proofs.RegionLaws.{regions_longer, regions_shared}
+use Rattle.core_replica.proofs.Replicas.{replicas_kept}
+
+-- a local state put that has the same fields as far as any part names them
+pub lawful_local : (instance : Instance) (s : State) (caller : ℕ) (l l' : Local) → Lawful instance s → slice_get s.locals caller ≡ Some l → SameLawful l l' →
+    Lawful instance (record { words = s.words; locals = set s.locals caller l' })
+lawful_local instance s caller l l' law at same =
+    let q = queue_local instance law.history s.words s.locals caller l l' (queue_of law) at same.queue in
+    record {
+      history = law.history;
+      shape = q.shape;
+      tickets = q.tickets;
+      links = q.links;
+      cells = q.cells;
+      fronts = q.fronts;
+      locks = locks_local instance s.words s.locals caller l l' law.locks at same.rights;
+      regions = regions_shared instance law.history s.words s.locals caller l l' law.regions at same.held.exclusive (λ h has. law.regions.loaded caller l at h (sym same.held.shared ∙ has));
+    }
+
+-- an allowed step of a caller
+pub kind_kept : (instance : Instance) (s : State) (caller : ℕ) (l : Local) (kind : Kind) → Lawful instance s → slice_get s.locals caller ≡ Some l → Guard instance (scene_of instance s) kind l →
+    Lawful instance (record { words = words_after instance kind l s.words; locals = set s.locals caller (local_after instance (scene_of instance s) kind l) })
+kind_kept instance s caller l kind law at guard =
+    let scene = scene_of instance s in
+    let r = replicas_kept instance law.history s caller l kind (queue_of law) (record { locks = law.locks; regions = law.regions }) at guard in
+    let q = queue_kept instance law.history scene s.locals caller l kind (queue_of law) at guard in
+    record {
+      history = q.after;
+      shape = q.lawful.shape;
+      tickets = q.lawful.tickets;
+      links = q.lawful.links;
+      cells = q.lawful.cells;
+      fronts = q.lawful.fronts;
+      locks = r.locks;
+      regions = regions_longer instance law.history q.after (words_after instance kind l s.words) (set s.locals caller (local_after instance scene kind l)) q.continues r.regions;
+    }
+
+-- an event
+pub event_kept : (instance : Instance) (event : Event) (before after : State) → Lawful instance before → Makes instance event before after → Lawful instance after
+event_kept instance event before after law m =
+    subst (λ ws. Lawful instance (record { words = ws; locals = after.locals })) (sym m.words)
+    (subst (λ ls. Lawful instance (record { words = words_after instance event.kind m.local before.words; locals = ls })) (sym m.locals)
+    (kind_kept instance before event.caller m.local event.kind law m.of_caller m.guard))
+
+-- a run from a lawful state ends in one
+pub run_kept : (instance : Instance) (from : State) (events : List Event) (to : State) → Lawful instance from → Run instance from events to → Lawful instance to
+run_kept instance from [] to law run = subst (Lawful instance) (sym run) law
+run_kept instance from (event ∷ events) to law run =
+    run_kept instance run.0 events to (event_kept instance event from run.0 law run.1) run.2
+
+-- the opening state
+pub opening_lawful : (instance : Instance) → 1 ≤ instance.callers → instance.callers ≤ 8 → instance.base.place ≤ 2 ^ 40 → place_of instance.base.words ≡ instance.base.place →
+    Lawful instance (opening_state instance.callers instance.base)
+opening_lawful instance some few within placed =
+    let q = queue.opening_lawful instance some few within in
+    record {
+      history = [];
+      shape = q.shape;
+      tickets = q.tickets;
+      links = q.links;
+      cells = q.cells;
+      fronts = q.fronts;
+      locks = opening_locks instance.callers instance.base some;
+      regions = opening_regions instance some placed;
+    }

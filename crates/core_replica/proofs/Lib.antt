@@ -1,0 +1,11 @@
+pub mod HeldLists
+pub mod ImageLaws
+pub mod Keeps
+pub mod LockKinds
+pub mod LockLaws
+pub mod Opening
+pub mod RegionKinds
+pub mod RegionLaws
+pub mod ReplicaWords
+pub mod Replicas
+pub mod Sums

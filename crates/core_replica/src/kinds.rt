@@ -1,0 +1,58 @@
+//! The opening state has the parts of the lawful state on locks and on regions, and each kind of step keeps them.
+
+ghost use Rattle.std.specs.Prelude.{◌≡◌, ◌≤◌, ℕ, Bool, []};
+ghost use Rattle.core_replica.specs.Replicas.{KeepsReplicas, ReplicasLawful};
+ghost use Rattle.cx_core.specs.Region.{place_of};
+ghost use Rattle.cx_core.specs.State.{Instance, opening_locals, opening_words};
+ghost use Rattle.cx_core.specs.declared.kinds.Kind.TheVariants.{BackOff, Downgrade, LoadWord, Persist, ReleaseExclusive, StoreWord, TryExclusive, TryShared};
+
+/// The opening state, where the base's words have its place.
+pub fn opening_has_the_replicas()
+    ensures { (instance : Instance) → 1 ≤ instance.callers → place_of instance.base.words ≡ instance.base.place →
+        ReplicasLawful instance [] (opening_words instance.callers instance.base) (opening_locals instance.callers instance.base.place) }
+{}
+
+/// An exclusive try, won or refused.
+pub fn try_exclusive_keeps()
+    ensures { (r : ℕ) → KeepsReplicas (TryExclusive r) }
+{}
+
+/// A shared try, which takes the replica or leaves a passer's mark.
+pub fn try_shared_keeps()
+    ensures { (r : ℕ) → KeepsReplicas (TryShared r) }
+{}
+
+/// A shared right, a passer's mark or a downgraded right taken back.
+pub fn back_off_keeps()
+    ensures { (r : ℕ) → KeepsReplicas (BackOff r) }
+{}
+
+/// An exclusive right turned into a shared one.
+pub fn downgrade_keeps()
+    ensures { (r : ℕ) → KeepsReplicas (Downgrade r) }
+{}
+
+/// An exclusive right given up.
+pub fn release_exclusive_keeps()
+    ensures { (r : ℕ) → KeepsReplicas (ReleaseExclusive r) }
+{}
+
+/// A word loaded, marked as a refusal or not.
+pub fn load_word_keeps()
+    ensures { (r i : ℕ) (refused : Bool) → KeepsReplicas (LoadWord r i refused) }
+{}
+
+/// A word stored.
+pub fn store_word_keeps()
+    ensures { (r i v : ℕ) → KeepsReplicas (StoreWord r i v) }
+{}
+
+/// A word persisted.
+pub fn persist_keeps()
+    ensures { (r i : ℕ) → KeepsReplicas (Persist r i) }
+{}
+
+/// Any kind: those of the queue touch nothing that these parts name.
+pub fn events_keep_the_replicas()
+    ensures { (kind : _) → KeepsReplicas kind }
+{}

@@ -1,0 +1,37 @@
+//! Accesses for whoever writes an object: several words at once, and a word below a bound.
+
+ghost use Rattle.std.specs.Prelude.{◌≡◌, ◌+◌, ◌^◌, ◌<◌, ◌≤◌, Some, length, slice_index, IsTrue, IfOk, OnOk, OnErr};
+ghost use Rattle.cx_base.specs.Memory.{Loaded, Becomes, Framed, Always, overwritten};
+
+use crate::memory::{Halt, Memory};
+
+/// Stores words over those from a place on. `Halt` comes only where no access is left, and then only the first of
+/// the words are there.
+pub fn store_words<M: Memory>(mem: &mut M, at: u64, words: &[u64]) -> Result<(), Halt>
+    requires within { at + length words.now ≤ M.size mem.old }
+    requires small { at + length words.now < 2 ^ 64 }
+    requires writable { IsTrue (M.writable mem.old) }
+    ensures done { OnOk result (Becomes (M.stands mem.old) (M.stands mem.new) (λ before now. now ≡ overwritten at words.now before)) }
+    ensures halts { OnErr result (M.left mem.new ≡ Some 0) }
+    ensures framed { Framed M.size M.fixed M.writable M.left mem.old mem.new }
+{
+    for i in 0..words.len() {
+        mem.store(at + i as u64, words[i])?;
+    }
+    Ok(())
+}
+
+/// Loads a word that is below a bound in all the words that may be there. `Halt` comes only where no access is left.
+pub fn load_below<M: Memory>(mem: &mut M, at: u64, bound: u64) -> Result<u64, Halt>
+    requires within { at < M.size mem.old }
+    requires below { Always (M.stands mem.old) (λ words. slice_index words at < bound) }
+    ensures done { IfOk result (λ v. Loaded at v (M.stands mem.old) (M.stands mem.new)) }
+    ensures below { IfOk result (λ v. v < bound) }
+    ensures halts { OnErr result (M.left mem.new ≡ Some 0) }
+    ensures framed { Framed M.size M.fixed M.writable M.left mem.old mem.new }
+{
+    let word = mem.load(at)?;
+    let is_below = word < bound;
+    prove!(is_below);
+    Ok(word)
+}

@@ -1,0 +1,13 @@
+-- What the executable full images stand on.
+use Rattle.std.specs.Prelude.{◌≡◌, ◌<◌, ℕ, List, Some, length, slice_get}
+use Rattle.cx_core.specs.declared.entry.Entry.{Entry}
+use Rattle.cx_core.specs.Region.{object_part, region_words}
+
+-- the entries are of callers that there may be
+abbrev pub OfCallers : List Entry → Type 0
+OfCallers entries = (i : ℕ) (entry : Entry) → slice_get entries i ≡ Some entry → entry.caller < 8
+
+-- the words of a region with a lawful object part
+pub record IsRegion (lines : ℕ) (lawful : List ℕ → Type 0) (region : List ℕ) : Type 0 where
+  pub long : length region ≡ region_words lines
+  pub object : lawful (object_part region)

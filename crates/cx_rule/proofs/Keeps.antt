@@ -1,0 +1,204 @@
+-- Each event of the core keeps the rule of the table.
+use Rattle.std.proofs.Common.{length, arith, ◌≡◌, ◌≢◌, ◌<◌, ⊎_elim, ℕ, Bool, zero, suc, List, [], ◌∷◌, set, slice_index, refl, ap, sym, subst, ◌∙◌, Some}
+use Rattle.std.proofs.lemmas.Option.{same_Some, none-some, slice_get_within}
+use Rattle.std.specs.List.{slice_get}
+use mathlib.Core.Option.{some, some-ne-none}
+use lib.ListN.{get_elem?}
+use Rattle.atomic_table.specs.Seated.{TableId}
+use Rattle.atomic_table.specs.Table as atomic
+use Rattle.atomic_table.proofs.Lists.{at_set, set_here}
+use Rattle.cx_core.specs.declared.entry.Base.{Base}
+use Rattle.cx_core.specs.declared.kinds.Kind.{Kind}
+use Rattle.cx_core.specs.declared.local.Local.{Local}
+use Rattle.cx_core.specs.Events.{Guard, found_by, local_after, new_word, next, step_word, words_after}
+use Rattle.cx_core.specs.Lawful.{Lawful, LocalShape, OwnTickets}
+use Rattle.cx_core.specs.Merge.{scene_of}
+use Rattle.cx_core.specs.Shown.{shown}
+use Rattle.cx_core.specs.State.{Instance, State}
+use Rattle.cx_core.proofs.ListLemmas.{slice_get-set_same, slice_get-set_other}
+use Rattle.cx_core.proofs.MergeLemmas.{goes_on, still_linked}
+use Rattle.cx_rule.specs.declared.rule.Known.{Known}
+use Rattle.cx_rule.specs.Learns.{LearnsAnyway}
+use Rattle.cx_rule.specs.Rule.{RuleHolds, IsKnown, IsLawfulLocal, NotesHold, StandStill}
+use Rattle.cx_rule.specs.Running.{Running, instance_at}
+use Rattle.cx_rule.specs.Seats.{IsByShown, known_after, known_of, noted_by, shown_next, unseen}
+use Rattle.core_replica.proofs.Keeps.{kind_kept}
+use Rattle.cx_rule.proofs.ShownLaws.{guard_shown, lawful_shown, next_shown, put_shown, told_shown, word_shown}
+use Rattle.cx_rule.proofs.Notes.{noted_hold, notes-append, notes_still}
+use Rattle.cx_rule.specs.Steps.{IsEventOn, IsStore, Puts, Teaches}
+use Rattle.cx_rule.specs.Told.{Told}
+use Rattle.cx_rule.proofs.Telling.{told_holds}
+use Rattle.cx_rule.proofs.Still.{still_stands}
+
+-- the only item of a view of one
+pub only_item : (x : Known) (i : ℕ) (y : Known) → slice_get (x ∷ []) i ≡ Some y → (i ≡ 0) × (x ≡ y)
+only_item x zero y at = (refl, same_Some x y at)
+only_item x (suc i) y at = absurd (none-some y at)
+
+-- an event of a caller, made by its seat, keeps the rule
+pub event_held : (instance : Instance) (kind : Kind) (s : atomic.State ℕ (List Known)) (id : ℕ) (known after : Known) (word new : ℕ) → RuleHolds instance s → get_elem? s.views id ≡ some (known ∷ []) →
+    LearnsAnyway instance s.words kind known word new after → RuleHolds instance (atomic.stepped s word new id [] (after ∷ []) atomic.keeps)
+event_held instance kind s id known after word new held at learns =
+    let mine = held.each id 0 (known ∷ []) known at refl in
+    let l = mine.local in
+    let caller = known.local.number in
+    let state : State = record { words = s.words; locals = held.locals } in
+    let law = held.law in
+    let learnt = learns held.locals law l mine.of_caller mine.shows mine.notes held.still in
+    let l' = local_after instance (scene_of instance state) kind l in
+    let locals' = set held.locals caller l' in
+    let put : words_after instance kind l s.words ≡ set s.words word new =
+    ap (λ (w : ℕ). set s.words w (new_word instance kind l (slice_index s.words w))) (sym learnt.word_is) ∙ ap (set s.words word) (sym learnt.new_is) in
+    let law' : Lawful instance (record { words = set s.words word new; locals = locals' }) =
+    subst (λ (ws : List ℕ). Lawful instance (record { words = ws; locals = locals' })) put (kind_kept instance state caller l kind law mine.of_caller learnt.guard) in
+    let within = slice_get_within held.locals caller l mine.of_caller in
+    let there : slice_get locals' caller ≡ Some l' = slice_get-set_same held.locals caller l' within in
+    let number : after.local.number ≡ caller = ap (λ (x : Local). x.number) learnt.shows ∙ (law'.shape.each caller l' there).number in
+    let small : l.number < instance.callers = subst (λ n. n < instance.callers) (ap (λ (x : Local). x.number) mine.shows) (subst (λ n. caller < n) law.shape.count within) in
+    let grows = still_linked instance instance.base.place law.history law'.history held.locals caller l l' law.tickets.merged law'.tickets.merged mine.of_caller (goes_on instance (scene_of instance state) kind l (found_by instance kind l s.words)) in
+    record {
+      locals = locals';
+      place_of = held.place_of;
+      law = law';
+      each = λ seat i view k view_at item. ⊎_elim
+          (λ (e : (seat ≡ id) × (after ∷ [] ≡ view)). (
+          let only = only_item after i k (ap (λ v. slice_get v i) e.1 ∙ item) in
+          let here : IsKnown instance law'.history locals' held.place_of id 0 after = record {
+            local = l';
+            of_caller = subst (λ n. slice_get locals' n ≡ Some l') (sym number) there;
+            shows = learnt.shows;
+            only = ap held.place_of number ∙ mine.only;
+            notes = notes_still instance law.history law'.history after.noted grows learnt.notes;
+          } in
+          subst (λ n. IsKnown instance law'.history locals' held.place_of seat n k) (sym only.0)
+          (subst (λ n. IsKnown instance law'.history locals' held.place_of n 0 k) (sym e.0)
+          (subst (IsKnown instance law'.history locals' held.place_of id 0) only.1 here))))
+          (λ (e : (seat ≢ id) × (get_elem? s.views seat ≡ some view)). (
+          let was = held.each seat i view k e.1 item in
+          let apart : k.local.number ≢ caller = λ same. e.0 (ap (λ (p : ℕ × ℕ). p.0) (sym was.only ∙ ap held.place_of same ∙ mine.only)) in
+          record {
+            local = was.local;
+            of_caller = slice_get-set_other held.locals caller k.local.number l' apart ∙ was.of_caller;
+            shows = was.shows;
+            only = was.only;
+            notes = notes_still instance law.history law'.history k.noted grows was.notes;
+          }))
+          (at_set s.views id seat (after ∷ []) view view_at);
+      still = subst (StandStill instance) put (still_stands instance (scene_of instance state) kind l s.words law.shape.some small learnt.guard held.still);
+    }
+
+-- a step whose guard and word the seat's shown local state tells teaches it so, whatever else is not shown
+learns_shown : (instance : Instance) (kind : Kind) (known : Known) (words : List ℕ) (word new : ℕ) → IsByShown kind → Guard instance unseen kind known.local → word ≡ step_word instance kind known.local →
+    new ≡ new_word instance kind known.local (slice_index words word) → LearnsAnyway instance words kind known word new (known_after instance kind known (slice_index words word))
+learns_shown instance kind known words word new by may at puts locals law l of_caller shows noted still =
+    let state : State = record { words = words; locals = locals } in
+    let scene = scene_of instance state in
+    let caller = known.local.number in
+    let guard = guard_shown instance scene kind l by (subst (Guard instance unseen kind) shows may) in
+    let here : word ≡ step_word instance kind l = at ∙ ap (step_word instance kind) shows ∙ word_shown instance kind l in
+    let found = slice_index words word in
+    let same : found_by instance kind l words ≡ found = ap (slice_index words) (sym here) in
+    record {
+      guard = guard;
+      word_is = here;
+      new_is = puts ∙ ap (λ (x : Local). new_word instance kind x found) shows ∙ put_shown instance kind l found by;
+      shows = ap (λ (x : Local). shown_next instance kind x found) shows ∙ sym (next_shown instance scene kind l found by) ∙ ap (λ (n : ℕ). shown (next instance scene kind l n)) (sym same);
+      notes = notes-append instance law.history known.noted (noted_by kind found) noted
+          (subst (λ (n : ℕ). NotesHold instance law.history (noted_by kind n)) same (noted_hold instance kind state law caller l of_caller guard still));
+    }
+
+-- what the lawful state says of a caller's local state by itself
+own_lawful : (instance : Instance) (words : List ℕ) (locals : List Local) (caller : ℕ) (l : Local) → Lawful instance (record { words = words; locals = locals }) → slice_get locals caller ≡ Some l → IsLawfulLocal instance l
+own_lawful instance words locals caller l law at =
+    let fronts = law.fronts.each caller l at in
+    let shape = law.shape.each caller l at in
+    let to = fronts.to in
+    let below = law.tickets.below in
+    let number = sym shape.number in
+    record {
+      shape = subst (λ (c : ℕ). LocalShape c l) number shape;
+      tickets = subst (λ (c : ℕ). OwnTickets instance c l) number (law.tickets.each caller l at);
+      from = fronts.from;
+      to = omega arith;
+      floor = fronts.floor;
+      cur = fronts.cur;
+      floor_cur = fronts.floor_cur;
+    }
+
+view_within : (views : List (List Known)) (id : ℕ) (v : List Known) → get_elem? views id ≡ some v → id < length views
+view_within [] id v at = absurd (some-ne-none v (sym at))
+view_within (w ∷ views) zero v at = omega arith
+view_within (w ∷ views) (suc id) v at = (let rest = view_within views id v at in omega arith)
+
+-- what the table asks of a step, from the core's law: the word is the event's, it becomes what the event puts, and the seat
+-- then knows what the event teaches
+allows : (instance : Instance) (kind : Kind) (known : Known) (slots id word : ℕ) (me : atomic.Me ℕ (List Known)) (f : ℕ → ℕ) (then : ℕ → atomic.Me ℕ (List Known) → Type 0) → IsByShown kind →
+    me ≡ (known ∷ [], []) → Guard instance unseen kind known.local → word ≡ step_word instance kind known.local → ((x : ℕ) → f x ≡ new_word instance kind known.local x) →
+    ((found : ℕ) → Teaches instance kind known found (known_after instance kind known found ∷ [], []) → then found (known_after instance kind known found ∷ [], [])) →
+    atomic.Allows (RuleHolds instance) slots id me word f then
+allows instance kind known slots id word me f then by one may at puts tells =
+    subst (λ m. atomic.Allows (RuleHolds instance) slots id m word f then) (sym one) (λ s held homes view fits.
+    (let found = slice_index s.words word in
+    let known' = known_after instance kind known found in
+    let mine = held.each id 0 (known ∷ []) known view refl in
+    let l = mine.local in
+    let learns = learns_shown instance kind known s.words word (f found) by may at (puts found) in
+    let after = event_held instance kind s id known known' word (f found) held view learns in
+    let there : get_elem? (set s.views id (known' ∷ [])) id ≡ some (known' ∷ []) = set_here s.views id (known' ∷ []) (view_within s.views id (known ∷ []) view) in
+    let mine' = after.each id 0 (known' ∷ []) known' there refl in
+    let state : State = record { words = s.words; locals = held.locals } in
+    let guard = (learns held.locals held.law l mine.of_caller mine.shows mine.notes held.still).guard in
+    let told = told_holds instance kind state held.law known.local.number l mine.of_caller guard held.still in
+    let here : step_word instance kind l ≡ word = sym (at ∙ ap (step_word instance kind) mine.shows ∙ word_shown instance kind l) in (
+      known' ∷ [],
+      atomic.keeps,
+      tt,
+      after,
+      tells found (record {
+        knows = refl;
+        lawful = subst (IsLawfulLocal instance) (sym mine.shows) (lawful_shown instance l (own_lawful instance s.words held.locals known.local.number l held.law mine.of_caller));
+        lawful_after = subst (IsLawfulLocal instance) (sym mine'.shows) (lawful_shown instance mine'.local (own_lawful instance _ after.locals known'.local.number mine'.local after.law mine'.of_caller));
+        told = subst (λ (x : Local). Told instance kind x found) (sym mine.shows) (told_shown instance kind l found (subst (λ (w : ℕ). Told instance kind l (slice_index s.words w)) here told));
+      }),
+    )))
+
+-- the same of a step that finds a word
+pub allows_found : {O : Type 0} (r : Running O) (step : O → List ℕ → List ℕ → List ℕ × List ℕ) (reads : O → List ℕ → Bool) (kind : Kind) (slots id word : ℕ) (table : TableId) (me : atomic.Me ℕ (List Known)) (f : ℕ → ℕ) →
+    IsEventOn r step reads kind word table me → Puts (instance_at r step reads) kind (known_of me.0).local f → atomic.Allows (RuleHolds (instance_at r step reads)) slots id me word f (Teaches (instance_at r step reads) kind (known_of me.0))
+allows_found r step reads kind slots id word table me f event puts =
+    let instance = instance_at r step reads in
+    let known = known_of me.0 in
+    allows instance kind known slots id word me f (Teaches instance kind known) event.by_shown event.one event.guard event.place (λ x. sym (puts x)) (λ found taught. taught)
+
+-- the same of a store, which finds no word
+pub allows_store : {O : Type 0} (r : Running O) (step : O → List ℕ → List ℕ → List ℕ × List ℕ) (reads : O → List ℕ → Bool) (kind : Kind) (slots id word : ℕ) (table : TableId) (me : atomic.Me ℕ (List Known)) (new : ℕ) →
+    IsEventOn r step reads kind word table me → IsStore (instance_at r step reads) kind (known_of me.0) new → atomic.Allows (RuleHolds (instance_at r step reads)) slots id me word (λ _. new) (λ _. Teaches (instance_at r step reads) kind (known_of me.0) 0)
+allows_store r step reads kind slots id word table me new event store =
+    let instance = instance_at r step reads in
+    let known = known_of me.0 in
+    allows instance kind known slots id word me (λ _. new) (λ _. Teaches instance kind known 0) event.by_shown event.one event.guard event.place (λ x. sym (store.puts x)) (λ found taught. record {
+      knows = ap (λ (k : Known). the_me k) (store.blind found 0);
+      lawful = taught.lawful;
+      lawful_after = subst (λ (k : Known). IsLawfulLocal instance k.local) (store.blind found 0) taught.lawful_after;
+      told = store.silent;
+    })
+  where
+    the_me : Known → atomic.Me ℕ (List Known)
+    the_me k = (k ∷ [], [])
+
+abbrev pub Same : Instance → Instance → Type 0
+Same a b = a ≡ b
+
+-- the instance that a table's key tells is the one that contracts see
+pub key_instance : {O : Type 0} (step : O → List ℕ → List ℕ → List ℕ × List ℕ) (reads : O → List ℕ → Bool) (now inside : Running O) (callers : ℕ) (base : Base) (object : O) →
+    inside ≡ now → callers ≡ inside.callers → base ≡ inside.base → object ≡ inside.object →
+    Same (instance_at now step reads) (record { callers = callers; base = base; step = step object; reads = reads object })
+key_instance step reads now inside callers base object view same_callers same_base same_object =
+    sym (ap (λ (r : Running _). instance_at r step reads) view)
+    ∙ (λ i. record { callers = sym same_callers i; base = sym same_base i; step = step (sym same_object i); reads = reads (sym same_object i) })
+
+-- what a table asks of a step, from what is said of the table that contracts see
+pub allows_told : (seen told : Instance) (slots slots' id word : ℕ) (me : atomic.Me ℕ (List Known)) (f : ℕ → ℕ) (tells : ℕ → atomic.Me ℕ (List Known) → Type 0) → Same seen told → slots ≡ slots' →
+    atomic.Allows (RuleHolds seen) slots id me word f tells → atomic.Allows (RuleHolds told) slots' id me word f tells
+allows_told seen told slots slots' id word me f tells same count asked =
+    subst (λ (n : ℕ). atomic.Allows (RuleHolds told) n id me word f tells) count (subst (λ (i : Instance). atomic.Allows (RuleHolds i) slots id me word f tells) same asked)

@@ -1,0 +1,101 @@
+-- The rule holds of the table as it is opened.
+use Rattle.std.proofs.Common.{◌≡◌, ◌≢◌, ◌^◌, ◌<◌, ◌≤◌, inl, inr, ℕ, zero, suc, List, [], ◌∷◌, length, map, set, slice_index, refl, ap, sym, subst, ◌∙◌, arith, Some}
+use Rattle.std.proofs.lemmas.List.FromFn.{length-map-range_with_len, get_or-map-range_with_len}
+use Rattle.std.proofs.lemmas.Bool.{cases_eq}
+use Rattle.std.proofs.lemmas.Option.{slice_get_within, slice_get-get_or, get_or_from_slice_get, none-some}
+use Rattle.std.specs.List.{range_with_len, slice_get}
+use mathlib.Core.Option.{some, some-injective, some-ne-none}
+use lib.ListN.{get_elem?}
+use Rattle.atomic_table.specs.Table as atomic
+use Rattle.cx_core.specs.declared.local.Local.{Local}
+use Rattle.cx_core.specs.Lawful.{Lawful}
+use Rattle.cx_core.specs.Region.{place_of}
+use Rattle.cx_core.specs.State.{Instance, opening_local, opening_locals, opening_words}
+use Rattle.cx_core.proofs.ListLemmas.{slice_get-set_same, slice_get-set_other}
+use Rattle.cx_rule.specs.declared.rule.Known.{Known}
+use Rattle.cx_rule.specs.Rule.{RuleHolds, IsKnown}
+use Rattle.cx_rule.specs.Seats.{opening_known, opening_view}
+use Rattle.core_replica.proofs.Keeps.{lawful_local, opening_lawful}
+
+-- an item of a list made item by item
+pub mapped_at : {X : Type 0} (f : ℕ → X) (n i : ℕ) (x : X) → slice_get (map f (range_with_len 0 n)) i ≡ Some x → (i < n) × (x ≡ f i)
+mapped_at f n i x at =
+    let within : i < n = omega (arith, slice_get_within (map f (range_with_len 0 n)) i x at, length-map-range_with_len f 0 n) in
+    (within, sym (get_or_from_slice_get (map f (range_with_len 0 n)) i x x at) ∙ get_or-map-range_with_len f 0 n i i x within (omega arith))
+
+pub mapped_there : {X : Type 0} (f : ℕ → X) (n i : ℕ) → i < n → slice_get (map f (range_with_len 0 n)) i ≡ Some (f i)
+mapped_there f n i within =
+    let long : i < length (map f (range_with_len 0 n)) = omega (arith, length-map-range_with_len f 0 n) in
+    slice_get-get_or (map f (range_with_len 0 n)) i (f i) long ∙ ap Some (get_or-map-range_with_len f 0 n i i (f i) within (omega arith))
+
+-- a limit of steps is in no part of the lawful state
+limit_kept : (instance : Instance) (words : List ℕ) (locals : List Local) (caller : ℕ) (l : Local) (limit : ℕ) → Lawful instance (record { words = words; locals = locals }) → slice_get locals caller ≡ Some l →
+    Lawful instance (record { words = words; locals = set locals caller (record l { limit = limit }) })
+limit_kept instance words locals caller l limit law at = lawful_local instance (record { words = words; locals = locals }) caller l (record l { limit = limit }) law at (record {
+  queue = record {
+    number = refl;
+    tickets = record { own = refl; answered = refl };
+    cells = record { cells = refl; seen_slot = refl; seen_offer = refl };
+    front = record { front = refl; floor = refl; seen_cur = refl; seen_free = refl; seen_low = refl; raised = refl; won = refl };
+  };
+  rights = record { exclusive = refl; shared = refl; passer = refl; downgraded = refl; won = refl };
+  held = record { exclusive = refl; shared = refl };
+})
+
+-- the first n callers have their limits
+record Limited (instance : Instance) (limits : List ℕ) (n : ℕ) : Type 0 where
+  locals : List Local
+  law : Lawful instance (record { words = opening_words instance.callers instance.base; locals = locals })
+  done : (c : ℕ) → c < n → slice_get locals c ≡ Some (opening_known instance.callers instance.base.place limits c).local
+  rest : (c : ℕ) → n ≤ c → c < instance.callers → slice_get locals c ≡ Some (opening_local instance.callers instance.base.place c)
+
+limited : (instance : Instance) (limits : List ℕ) (n : ℕ) → 1 ≤ instance.callers → instance.callers ≤ 8 → instance.base.place ≤ 2 ^ 40 → place_of instance.base.words ≡ instance.base.place → n ≤ instance.callers → Limited instance limits n
+limited instance limits zero one few place at_place within = record {
+  locals = opening_locals instance.callers instance.base.place;
+  law = opening_lawful instance one few place at_place;
+  done = λ c below. absurd (omega arith);
+  rest = λ c _ below. mapped_there (opening_local instance.callers instance.base.place) instance.callers c below;
+}
+limited instance limits (suc n) one few place at_place within =
+    let before = limited instance limits n one few place at_place (omega arith) in
+    let l = opening_local instance.callers instance.base.place n in
+    let l' = (opening_known instance.callers instance.base.place limits n).local in
+    let at = before.rest n (omega arith) (omega arith) in
+    record {
+      locals = set before.locals n l';
+      law = limit_kept instance (opening_words instance.callers instance.base) before.locals n l (slice_index limits n) before.law at;
+      done = λ c below. elim (cases_eq c n) [
+        | inl e ↦ subst (λ k. slice_get (set before.locals n l') k ≡ Some (opening_known instance.callers instance.base.place limits k).local) (sym e) (slice_get-set_same before.locals n l' (slice_get_within before.locals n l at))
+        | inr ne ↦ slice_get-set_other before.locals n c l' ne ∙ before.done c (omega (arith, ne))
+      ];
+      rest = λ c from below. (let ne : c ≢ n = λ e. omega arith in slice_get-set_other before.locals n c l' ne ∙ before.rest c (omega arith) below);
+    }
+
+only_view : (v w : List Known) (seat : ℕ) → get_elem? (v ∷ []) seat ≡ some w → (seat ≡ 0) × (v ≡ w)
+only_view v w zero at = (refl, some-injective v w at)
+only_view v w (suc seat) at = absurd (some-ne-none w (sym at))
+
+-- the rule holds at the opening, where the first seat knows all callers
+pub opening_held : (instance : Instance) (limits : List ℕ) → 1 ≤ instance.callers → instance.callers ≤ 8 → instance.base.place ≤ 2 ^ 40 → place_of instance.base.words ≡ instance.base.place →
+    RuleHolds instance (atomic.opening (opening_words instance.callers instance.base) [] (opening_view instance.callers instance.base.place limits))
+opening_held instance limits one few place at_place =
+    let all = limited instance limits instance.callers one few place at_place (omega arith) in
+    let view = opening_view instance.callers instance.base.place limits in
+    let f = opening_known instance.callers instance.base.place limits in
+    record {
+      locals = all.locals;
+      place_of = λ c. (0, c);
+      law = all.law;
+      each = λ seat i v known view_at item. (
+          let first = only_view view v seat view_at in
+          let at = mapped_at f instance.callers i known (ap (λ (w : List Known). slice_get w i) first.1 ∙ item) in
+          let here : IsKnown instance all.law.history all.locals (λ c. (0, c)) 0 i (f i) = record {
+            local = (f i).local;
+            of_caller = all.done i at.0;
+            shows = refl;
+            only = refl;
+            notes = λ n noted there from. absurd (none-some noted there);
+          } in
+          subst (IsKnown instance all.law.history all.locals (λ c. (0, c)) seat i) (sym at.1) (subst (λ n. IsKnown instance all.law.history all.locals (λ c. (0, c)) n i (f i)) (sym first.0) here));
+      still = λ at off. refl;
+    }

@@ -1,0 +1,7 @@
+pub mod Seats
+pub mod Running
+pub mod Told
+pub mod Rule
+pub mod Learns
+pub mod Steps
+pub mod Ending

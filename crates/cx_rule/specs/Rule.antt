@@ -1,0 +1,59 @@
+-- The rule of the table, which holds between any two steps of any callers: there is a lawful state of the core whose words
+-- are the table's and whose local states are what the seats show.
+use Rattle.std.specs.Prelude.{◌≡◌, ◌^◌, ◌<◌, ◌≤◌, ◌⊎◌, ℕ, List, ◌∷◌, Some, slice_get, slice_index}
+use mathlib.Core.Option.{some}
+use lib.ListN.{get_elem?}
+use Rattle.atomic_table.specs.Table as atomic
+use Rattle.cx_core.specs.declared.entry.Entry.{Entry}
+use Rattle.cx_core.specs.declared.local.Local.{Local}
+use Rattle.cx_base.specs.Codes.{root_place_of}
+use Rattle.cx_core.specs.Lawful.{Lawful, LocalShape, OwnTickets}
+use Rattle.cx_core.specs.Layout.{lock_at, offer_at, replicas_at}
+use Rattle.cx_core.specs.Merge.{IsLinked}
+use Rattle.cx_core.specs.Shown.{shown}
+use Rattle.cx_core.specs.State.{Instance, opening_words}
+use Rattle.cx_rule.specs.declared.rule.Known.{Known}
+use Rattle.cx_rule.specs.declared.rule.Noted.{Noted}
+
+-- a noted word is the history's. With a ticket below the base's place, which no entry has, it says nothing.
+pub record IsOfEntry (instance : Instance) (history : List Entry) (noted : Noted) : Type 0 where
+  pub entry : Entry
+  pub linked : IsLinked instance.base.place history noted.ticket entry
+  pub caller : entry.caller ≡ noted.caller
+  pub word : slice_index (entry.number ∷ entry.op) noted.index ≡ noted.word
+
+abbrev pub NotesHold : Instance → List Entry → List Noted → Type 0
+NotesHold instance history notes = (n : ℕ) (noted : Noted) → slice_get notes n ≡ Some noted → instance.base.place ≤ noted.ticket → IsOfEntry instance history noted
+
+-- what a seat knows of a caller is so: it shows the caller's local state, which no other place of any view shows, and the
+-- noted words are the history's
+pub record IsKnown (instance : Instance) (history : List Entry) (locals : List Local) (place_of : ℕ → ℕ × ℕ) (seat i : ℕ) (known : Known) : Type 0 where
+  pub local : Local
+  pub of_caller : slice_get locals known.local.number ≡ Some local
+  pub shows : known.local ≡ shown local
+  pub only : place_of known.local.number ≡ (seat, i)
+  pub notes : NotesHold instance history known.noted
+
+-- what the lawful state says of a caller's local state by itself
+pub record IsLawfulLocal (instance : Instance) (l : Local) : Type 0 where
+  pub shape : LocalShape l.number l
+  pub tickets : OwnTickets instance l.number l
+  pub from : instance.base.place ≤ l.front
+  pub to : l.front ≤ 2 ^ 40
+  pub floor : l.floor ≤ l.front
+  pub cur : root_place_of instance.callers l.seen_cur ≤ l.front
+  pub floor_cur : l.floor ≤ root_place_of instance.callers l.seen_cur
+
+-- the words that no step is on yet stay as they were opened: those in front of the locks, and those of offers and sets
+abbrev pub StandStill : Instance → List ℕ → Type 0
+StandStill instance words =
+    (at : ℕ) → (at < lock_at instance.callers 0) ⊎ ((offer_at instance.callers 0 ≤ at) × (at < replicas_at instance.callers)) →
+    slice_index words at ≡ slice_index (opening_words instance.callers instance.base) at
+
+pub record RuleHolds (instance : Instance) (s : atomic.State ℕ (List Known)) : Type 0 where
+  pub locals : List Local
+  -- the seat, and the place in its view, that have a caller's local state
+  pub place_of : ℕ → ℕ × ℕ
+  pub law : Lawful instance (record { words = s.words; locals = locals })
+  pub each : (seat i : ℕ) (view : List Known) (known : Known) → get_elem? s.views seat ≡ some view → slice_get view i ≡ Some known → IsKnown instance law.history locals place_of seat i known
+  pub still : StandStill instance s.words

@@ -1,0 +1,57 @@
+-- What a step leaves of its caller's seat.
+use Rattle.std.specs.Prelude.{◌≡◌, ◌<◌, ℕ, Bool, List, [], ◌∷◌}
+use Rattle.atomic_table.specs.Seated.{TableId}
+use Rattle.atomic_table.specs.Table.{Me}
+use Rattle.cx_core.specs.Events.{Guard, new_word, step_word}
+use Rattle.cx_core.specs.State.{Instance}
+use Rattle.cx_rule.specs.declared.rule.Known.{Known}
+use Rattle.cx_core.specs.declared.kinds.Kind.{Kind}
+use Rattle.cx_core.specs.declared.local.Local.{Local}
+use Rattle.cx_rule.specs.Rule.{IsLawfulLocal}
+use Rattle.cx_rule.specs.Running.{IsSeatOf, Running, instance_at}
+use Rattle.cx_rule.specs.Seats.{IsAtLimit, IsByShown, IsWithinLimit, Seated, known_after, known_of, shown_next, stepped, unseen}
+use Rattle.cx_rule.specs.Told.{Told}
+
+-- an event of this kind is allowed for the caller of a seat of this table, and this is the word that it is on
+pub record IsEventOn {O : Type 0} (r : Running O) (step : O → List ℕ → List ℕ → List ℕ × List ℕ) (reads : O → List ℕ → Bool) (kind : Kind) (word : ℕ) (table : TableId) (me : Me ℕ (List Known)) : Type 0 where
+  pub of_table : table ≡ r.table
+  pub one : me ≡ (known_of me.0 ∷ [], [])
+  pub by_shown : IsByShown kind
+  pub guard : Guard (instance_at r step reads) unseen kind (known_of me.0).local
+  pub place : word ≡ step_word (instance_at r step reads) kind (known_of me.0).local
+  pub within : word < r.table.words
+
+-- what the event puts, by the word found
+abbrev pub Puts : Instance → Kind → Local → (ℕ → ℕ) → Type 0
+Puts instance kind l put = (x : ℕ) → new_word instance kind l x ≡ put x
+
+-- the event is a store of this word: whatever it finds, it puts this, and its caller knows the same and is told nothing
+pub record IsStore (instance : Instance) (kind : Kind) (known : Known) (new : ℕ) : Type 0 where
+  pub puts : Puts instance kind known.local (λ _. new)
+  pub blind : (x y : ℕ) → known_after instance kind known x ≡ known_after instance kind known y
+  pub silent : Told instance kind known.local 0
+
+-- what an event of a caller that found this word teaches the caller's seat: what it then knows, what the lawful state says of
+-- the caller's local state by itself, before and after, and what the rule says of the word found
+pub record Teaches (instance : Instance) (kind : Kind) (known : Known) (found : ℕ) (after : Me ℕ (List Known)) : Type 0 where
+  pub knows : after ≡ (known_after instance kind known found ∷ [], [])
+  pub lawful : IsLawfulLocal instance known.local
+  pub lawful_after : IsLawfulLocal instance (shown_next instance kind known.local found)
+  pub told : Told instance kind known.local found
+
+-- The step was made, which the limit allowed: the seat is the one after the event of this kind that found this word. The
+-- step also tells what the event teaches.
+pub record Steps {O : Type 0} (r : Running O) (step : O → List ℕ → List ℕ → List ℕ × List ℕ) (reads : O → List ℕ → Bool) (kind : Kind) (found : ℕ) (before after : Seated) : Type 0 where
+  pub allowed : ¬ IsAtLimit before.known.local
+  pub made : after ≡ stepped (instance_at r step reads) kind before found
+  pub lawful : IsLawfulLocal (instance_at r step reads) before.known.local
+  pub lawful_after : IsLawfulLocal (instance_at r step reads) after.known.local
+  pub told : Told (instance_at r step reads) kind before.known.local found
+  pub within : IsWithinLimit after.known.local
+  pub seat : IsSeatOf r after
+
+-- No step was made, since the steps equal the limit: nothing is changed.
+pub record Halts {O : Type 0} (r : Running O) (before after : Seated) : Type 0 where
+  pub limit : IsAtLimit before.known.local
+  pub same : after ≡ before
+  pub seat : IsSeatOf r after

@@ -1,0 +1,50 @@
+//! The rule of the table: its words and the local states that its seats know are a lawful state of the core.
+
+use atomic_table::TableRule;
+use cx_base::{Items, Object};
+use cx_core::{Base, Local};
+use std::marker::PhantomData;
+use std::snapshot::Snapshot;
+
+/// A word of an entry that a caller read: the ticket and the caller of the entry, and which of its words it is.
+#[derive(Clone, Copy, Debug, PartialEq, Eq, Drop)]
+pub struct Noted {
+    pub ticket: u64,
+    pub caller: u64,
+    pub index: u64,
+    pub word: u64,
+}
+
+/// What a seat knows of one caller: its local state, and the words of entries that it read. It exists in proofs alone.
+#[derive(Drop)]
+pub struct Known {
+    pub local: Local,
+    pub noted: Items<Noted>,
+}
+
+/// What a seat of the table knows: one item for each caller whose seat it is. A caller's seat has one item, the first
+/// seat has all callers', and a seat that was joined to another has none.
+pub type View = Items<Known>;
+
+/// What is fixed when a table is made. The limit of caller `c` is item `c` of `limits`.
+#[derive(Drop)]
+pub struct Key<O> {
+    pub callers: u32,
+    pub limits: Items<u64>,
+    pub base: Snapshot<Base>,
+    pub object: Snapshot<O>,
+}
+
+/// The rule of a table of an object.
+pub struct CoreRule<O> {
+    object: PhantomData<O>,
+}
+
+impl<O: Object> TableRule<u8, View, Key<O>> for CoreRule<O> {
+    ghost use Rattle.cx_rule.specs.Rule.{RuleHolds};
+    ghost use Rattle.cx_rule.specs.Seats.{opening_view};
+
+    ghost holds = { λ k. RuleHolds (record { callers = k.callers; base = k.base.value; step = O.step k.object.value; reads = O.only_reads k.object.value }) };
+
+    ghost first = { λ k. opening_view k.callers k.base.value.place k.limits };
+}

@@ -1,0 +1,14 @@
+pub mod Arranging
+pub mod BlockReads
+pub mod ChainChecks
+pub mod Counts
+pub mod LawfulWords
+pub mod Lines
+pub mod Listings
+pub mod Marking
+pub mod NodeChecks
+pub mod OneStore
+pub mod PairChecks
+pub mod TextChecks
+pub mod Texts
+pub mod Totals

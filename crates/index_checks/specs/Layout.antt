@@ -1,0 +1,86 @@
+-- How words stand for a store: a header, a balanced tree of nodes, chains of blocks, and a chain of given-back lines.
+-- A line is 8 words; line 0 is the header, and a word that names no line is 0.
+use Rattle.std.specs.Prelude.{◌≡◌, ◌+◌, ◌*◌, ◌/◌, ◌%◌, ◌<◌, ◌≤◌, ◌==◌, ◌&&◌, nat_le, nat_lt, ℕ, List, [], ◌∷◌, ◌++◌, length, map, slice_index, count_by, if◌then◌else◌}
+use Rattle.std.specs.List.{flat_map}
+use Rattle.cx_base.specs.Store.{Store, IsStore, blocks}
+use Rattle.cx_base.specs.Packing.{packed_at}
+use Rattle.avl_tree.specs.Tree.{Tree, items, Balanced}
+use Rattle.avl_words.specs.Lines.{word_of, line_count, IsPartLength}
+use Rattle.avl_words.specs.Words.{root, Stands}
+
+-- word 0 of each line of a chain is the next line, and 0 at the end
+abbrev pub IsChain : List ℕ → ℕ → List ℕ → Type 0
+IsChain words first [] = first ≡ 0
+IsChain words first (line ∷ lines) = (first ≡ line) × IsChain words (word_of words line 0) lines
+
+-- A chain of blocks that holds bytes, 56 in each block: word i of the packed bytes is word 1 + i mod 7 of block i / 7.
+-- Behind the last byte packed words are 0.
+pub record Holds (words : List ℕ) (first : ℕ) (lines bytes : List ℕ) : Type 0 where
+  pub chain : IsChain words first lines
+  pub enough : length lines ≡ blocks bytes
+  pub packed : (i : ℕ) → i < 7 * length lines → word_of words (slice_index lines (i / 7)) (1 + i % 7) ≡ packed_at bytes i
+
+-- the lines of a pair: its node, and the blocks of its key and of its document
+pub record Place : Type 0 where
+  pub node : ℕ
+  pub key_lines : List ℕ
+  pub document_lines : List ℕ
+
+abbrev pub lines_at : Place → List ℕ
+lines_at place = place.node ∷ place.key_lines ++ place.document_lines
+
+-- a pair stands at a place; words 0 to 2 of its node are the tree's
+pub record IsAt (words : List ℕ) (place : Place) (pair : List ℕ × List ℕ) : Type 0 where
+  pub key : Holds words (word_of words place.node 3) place.key_lines pair.0
+  pub key_length : word_of words place.node 4 ≡ length pair.0
+  pub document : Holds words (word_of words place.node 5) place.document_lines pair.1
+  pub document_length : word_of words place.node 6 ≡ length pair.1
+  pub no_more : word_of words place.node 7 ≡ 0
+
+-- the pairs of a store stand at places
+abbrev pub Placed : List ℕ → List Place → Store → Type 0
+Placed words [] [] = Unit {0}
+Placed words [] (pair ∷ store) = ⊥
+Placed words (place ∷ places) [] = ⊥
+Placed words (place ∷ places) (pair ∷ store) = IsAt words place pair × Placed words places store
+
+-- the nodes of places
+abbrev pub nodes_of : List Place → List ℕ
+nodes_of places = map (λ place. place.node) places
+
+-- A balanced tree stands below a line, whose nodes in order are those of places, at which the pairs of a store stand.
+pub record Nodes (words : List ℕ) (from : ℕ) (tree : Tree ℕ) (places : List Place) (store : Store) : Type 0 where
+  pub root_is : from ≡ root tree
+  pub shape : Stands words tree
+  pub balanced : Balanced tree
+  pub in_order : items tree ≡ nodes_of places
+  pub pairs : Placed words places store
+
+-- Words in which the pairs of a store stand in a tree at places, and lines are given back. While a change is made, some lines are loose: neither in use nor given back.
+pub record Arranged (words : List ℕ) (version : ℕ) (store : Store) (tree : Tree ℕ) (places : List Place) (given loose : List ℕ) : Type 0 where
+  pub sized : IsPartLength (length words)
+  pub version_word : word_of words 0 0 ≡ version
+  pub nodes : Nodes words (word_of words 0 1) tree places store
+  pub given_back : IsChain words (word_of words 0 2) given
+  pub end_from : 1 ≤ word_of words 0 3
+  pub end_to : word_of words 0 3 ≤ line_count words
+  -- every line from 1 to below the end is exactly one of these, once, and no other line is one
+  pub once : (line : ℕ) → count_by (λ x. x == line) (flat_map lines_at places ++ given ++ loose) ≡ (if nat_le 1 line && nat_lt line (word_of words 0 3) then 1 else 0)
+  pub given_count : word_of words 0 4 ≡ length given
+  pub pair_count : word_of words 0 5 ≡ length store
+  pub no_sixth : word_of words 0 6 ≡ 0
+  pub no_seventh : word_of words 0 7 ≡ 0
+
+-- words stand for a store
+pub record StandsFor (words : List ℕ) (version : ℕ) (store : Store) : Type 0 where
+  pub tree : Tree ℕ
+  pub places : List Place
+  pub given : List ℕ
+  pub arranged : Arranged words version store tree places given []
+  pub lawful : IsStore store
+
+-- words that stand for some store
+pub record IsIndex (words : List ℕ) : Type 0 where
+  pub version : ℕ
+  pub store : Store
+  pub stands : StandsFor words version store

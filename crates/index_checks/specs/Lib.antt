@@ -1,0 +1,5 @@
+pub mod Blocks
+pub mod Lawful
+pub mod Layout
+pub mod Listing
+pub mod Reading

@@ -1,0 +1,25 @@
+-- The store that words stand for, read off them.
+use Rattle.std.specs.Prelude.{◌+◌, ◌/◌, ℕ, zero, suc, List, [], ◌++◌, map}
+use Rattle.std.specs.List.{range_with_len}
+use Rattle.cx_base.specs.Store.{Store}
+use Rattle.cx_base.specs.Packing.{unpacked}
+use Rattle.avl_tree.specs.Tree.{items}
+use Rattle.avl_words.specs.Exact.{tree_in}
+use Rattle.avl_words.specs.Lines.{word_of}
+
+-- the packed words of a chain of blocks: seven of each block
+abbrev pub chain_words : ℕ → ℕ → List ℕ → List ℕ
+chain_words zero line words = []
+chain_words (suc n) line words = map (λ i. word_of words line (1 + i)) (range_with_len 0 7) ++ chain_words n (word_of words line 0) words
+
+-- the bytes that a node names by its words at and at + 1
+unfoldable pub text_at : ℕ → ℕ → List ℕ → List ℕ
+text_at node at words = unpacked (word_of words node (at + 1)) (chain_words ((word_of words node (at + 1) + 55) / 56) (word_of words node at) words)
+
+-- the pair of a node
+abbrev pub pair_at : List ℕ → ℕ → List ℕ × List ℕ
+pair_at words node = (text_at node 3 words, text_at node 5 words)
+
+-- the store that words stand for
+unfoldable pub store_in : List ℕ → Store
+store_in words = map (pair_at words) (items (tree_in words))

@@ -1,0 +1,22 @@
+//! Laws of words that stand for stores.
+
+ghost use Rattle.std.specs.Prelude.{◌≡◌, ℕ, List};
+ghost use Rattle.cx_base.specs.Store.{Store};
+ghost use Rattle.index_checks.specs.Layout.{StandsFor};
+ghost use Rattle.index_checks.specs.Lawful.{IsLawful, HasOneStore};
+ghost use Rattle.index_checks.specs.Reading.{store_in};
+
+/// Words stand for at most one store.
+pub fn words_stand_for_one_store()
+    ensures { (words : List ℕ) (version other : ℕ) (store more : Store) → StandsFor words version store → StandsFor words other more → store ≡ more }
+{}
+
+/// Lawful words stand for exactly one store, with exactly one version.
+pub fn lawful_words_have_one_store()
+    ensures { (words : List ℕ) (version : ℕ) → IsLawful words version → HasOneStore words version }
+{}
+
+/// The store that words stand for is read off them.
+pub fn words_tell_their_store()
+    ensures { (words : List ℕ) (version : ℕ) (store : Store) → StandsFor words version store → store_in words ≡ store }
+{}

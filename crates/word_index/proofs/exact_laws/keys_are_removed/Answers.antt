@@ -1,8 +1,0 @@
-use Rattle.word_index.proofs.ExactChanges.{removed_is, removed_words}
-use Rattle.word_index.proofs.exact_laws.keys_are_removed.Goals as goal
-
-pub returns-clause-stands : goal.returns-clause-stands
-returns-clause-stands c = λ key words i. removed_is key words i
-
-pub returns-clause-words : goal.returns-clause-words
-returns-clause-words c = λ key words n i w. removed_words key words i n w

@@ -1,0 +1,18 @@
+use Rattle.std.proofs.Common.{◌≡◌, ◌-◌, ◌*◌, is_some, IsTrue}
+use Rattle.cx_base.specs.Memory.{Always, Becomes}
+use Rattle.avl_words.specs.Lines.{IsPartLength}
+use Rattle.word_index.specs.Exact.{with_chain_filled}
+use Rattle.word_index.specs.Rewriting.{HasLines}
+use Rattle.word_index.proofs.filling.fill_chain.Given as goal
+
+abbrev pub invariant-loop-j : goal.invariant-loop-j
+invariant-loop-j g l = record {
+  there : Always (g.M.Memory.stands l.mem) (λ ws. HasLines ws l.line (l.count - l.j));
+  exact : Becomes (g.M.Memory.stands l.fn.mem) (g.M.Memory.stands l.mem) (λ x y. with_chain_filled l.words (l.count - l.j) (7 * l.j) l.line y ≡ with_chain_filled l.words l.count 0 l.first x);
+  sized : IsPartLength (g.M.Memory.size l.mem);
+  can_store : IsTrue (g.M.Memory.writable l.mem);
+  size : g.M.Memory.size l.mem ≡ g.M.Memory.size l.fn.mem;
+  fixed : g.M.Memory.fixed l.mem ≡ g.M.Memory.fixed l.fn.mem;
+  writable : g.M.Memory.writable l.mem ≡ g.M.Memory.writable l.fn.mem;
+  limited : is_some (g.M.Memory.left l.mem) ≡ is_some (g.M.Memory.left l.fn.mem);
+}

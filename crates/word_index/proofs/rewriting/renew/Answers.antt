@@ -1,0 +1,64 @@
+use Rattle.std.proofs.Common.{◌≡◌, ◌+◌, ◌*◌, ◌∙◌, ap, ℕ, List, refl, sym, subst}
+use Rattle.cx_base.specs.Packing.{unpacked}
+use Rattle.cx_base.specs.Memory.{Becomes, Stored}
+use Rattle.cx_base.proofs.MemoryLemmas.{Becomes-store, Becomes-always}
+use Rattle.avl_words.proofs.Memories.{always_after, Becomes-both, Reads-none, Becomes-from-read}
+use Rattle.avl_words.specs.Lines.{with_word, IsWithin}
+use Rattle.word_index.specs.Changes.{LooseChain}
+use Rattle.word_index.specs.Exact.{with_chain_given, with_renewed}
+use Rattle.word_index.proofs.DocumentChanges.{node_here}
+use Rattle.word_index.proofs.DocumentRuns.{bare_here, renew_chain, renew_room, renew_node, named_here, renew_runs}
+use Rattle.word_index.proofs.rewriting.renew.Goals as goal
+
+-- two words stored, in words of which something is known
+bared : {Key : Type 0} {a b d : Key → List ℕ → Type 0} {P : List ℕ → Type 0} (node : ℕ) → ((first : Key) (now : List ℕ) → a first now → P now) → Stored (8 * node + 5) 0 a b → Stored (8 * node + 6) 0 b d → Becomes a d (λ x y. P x × (y ≡ with_word node 6 0 (with_word node 5 0 x)))
+bared {P = P} node all s t =
+    Becomes-store {R = λ x y. P x × (y ≡ with_word node 5 0 x)}
+    (Becomes-store {S = λ x y. P x × (y ≡ with_word node 5 0 x)} (Becomes-from-read (Reads-none _ all)) s (λ first x y m r. (subst P r.0 r.1, ap (with_word node 5 0) r.0)))
+    t (λ first x y m r. (r.0, ap (with_word node 6 0) r.1))
+
+pub put-requires-clause-line : goal.put-requires-clause-line
+put-requires-clause-line g c = λ first now s. node_here now c.args.node _ (c.requires.old first now s).can
+
+pub put-requires-2-clause-line : goal.put-requires-2-clause-line
+put-requires-2-clause-line g c =
+    let doc = c.args.doc.now in
+    always_after c.requires.old (Becomes-store (Becomes-from-read (Reads-none _ c.requires.old)) c.in_ok-put.ensures.done (λ first x y m r. ap (with_word c.args.node 5 0) r.0))
+    (λ x z h e. subst (λ u. IsWithin u c.args.node) (sym e) (bare_here x c.args.node c.args.first c.args.count (unpacked doc.len doc.words) h))
+
+pub give_chain-requires-clause-chain : goal.give_chain-requires-clause-chain
+give_chain-requires-clause-chain g c =
+    let doc = c.args.doc.now in
+    Becomes-always (bared c.args.node c.requires.old c.in_ok-put.ensures.done c.in_ok-put-2.ensures.done)
+    (λ x z r. subst (λ u. LooseChain u c.args.first c.args.count) (sym r.1) (renew_chain x c.args.node c.args.first c.args.count (unpacked doc.len doc.words) r.0))
+
+pub write_text-requires-clause-room : goal.write_text-requires-clause-room
+write_text-requires-clause-room g c =
+    let doc = c.args.doc.now in
+    Becomes-always (Becomes-both (bared c.args.node c.requires.old c.in_ok-put.ensures.done c.in_ok-put-2.ensures.done) c.in_ok-give_chain.ensures.exact)
+    (λ x z r. renew_room x z c.args.node c.args.first c.args.count doc.len c.div_ceil.result doc.words r.1.0 (r.2 ∙ ap (with_chain_given c.args.count c.args.first) r.1.1) c.div_ceil.ensures)
+
+pub put-requires-3-clause-line : goal.put-requires-3-clause-line
+put-requires-3-clause-line g c =
+    let doc = c.args.doc.now in
+    Becomes-always (Becomes-both (Becomes-both (bared c.args.node c.requires.old c.in_ok-put.ensures.done c.in_ok-put-2.ensures.done) c.in_ok-give_chain.ensures.exact) c.in_ok-text.ensures.exact)
+    (λ x w r. renew_node x r.0 w c.args.node c.args.first c.args.count doc.len c.div_ceil.result c.in_ok-text.text doc.words c.requires.doc r.1.1.0 (r.1.2 ∙ ap (with_chain_given c.args.count c.args.first) r.1.1.1) c.div_ceil.ensures r.2)
+
+pub put-requires-4-clause-line : goal.put-requires-4-clause-line
+put-requires-4-clause-line g c =
+    let doc = c.args.doc.now in
+    Becomes-always (Becomes-store (Becomes-both (Becomes-both (bared c.args.node c.requires.old c.in_ok-put.ensures.done c.in_ok-put-2.ensures.done) c.in_ok-give_chain.ensures.exact) c.in_ok-text.ensures.exact) c.in_ok-put-3.ensures.done
+    (λ first x w s r.
+    named_here w c.args.node c.in_ok-text.text (renew_node x r.0 w c.args.node c.args.first c.args.count doc.len c.div_ceil.result c.in_ok-text.text doc.words c.requires.doc r.1.1.0 (r.1.2 ∙ ap (with_chain_given c.args.count c.args.first) r.1.1.1) c.div_ceil.ensures r.2)))
+    (λ x v h. h)
+
+pub returns-clause-exact : goal.returns-clause-exact
+returns-clause-exact g c =
+    let doc = c.args.doc.now in
+    let node = c.args.node in
+    Becomes-store (Becomes-store {S = λ x u. with_word node 6 doc.len u ≡ with_renewed (unpacked doc.len doc.words) node x}
+    (Becomes-both (Becomes-both (bared node c.requires.old c.in_ok-put.ensures.done c.in_ok-put-2.ensures.done) c.in_ok-give_chain.ensures.exact) c.in_ok-text.ensures.exact) c.in_ok-put-3.ensures.done
+    (λ first x w s r.
+    renew_runs x r.0 w (with_word node 6 doc.len (with_word node 5 c.in_ok-text.text w)) node c.args.first c.args.count doc.len c.div_ceil.result c.in_ok-text.text doc.words c.requires.doc r.1.1.0 (r.1.2 ∙ ap (with_chain_given c.args.count c.args.first) r.1.1.1) c.div_ceil.ensures
+    r.2 refl)) c.in_ok-put-4.ensures.done
+    (λ first x u s q. q)

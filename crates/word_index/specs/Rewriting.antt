@@ -1,0 +1,36 @@
+-- A document is put in another's place.
+use Rattle.std.specs.Prelude.{◌≡◌, ◌+◌, ◌≤◌, ℕ, List, [], ◌∷◌, ◌++◌, length, All}
+use Rattle.cx_base.specs.Store.{Store, pair_lines, lines_of}
+use Rattle.avl_tree.specs.Tree.{Tree}
+use Rattle.avl_words.specs.Lines.{word_of, line_count, IsWithin}
+use Rattle.index_checks.specs.Layout.{IsChain, Place, Placed, Arranged}
+use Rattle.word_index.specs.Exact.{document_blocks}
+
+-- a chain of so many lines that are there
+pub record HasLines (words : List ℕ) (first count : ℕ) : Type 0 where
+  pub lines : List ℕ
+  pub chain : IsChain words first lines
+  pub counted : count ≡ length lines
+  pub within : All (IsWithin words) lines
+
+-- the pair of a node, with room for a document in place of its own
+pub record CanRewrite (words : List ℕ) (node : ℕ) (document : List ℕ) : Type 0 where
+  pub version : ℕ
+  pub tree : Tree ℕ
+  pub lower : Store
+  pub after : Store
+  pub pair : List ℕ × List ℕ
+  pub front : List Place
+  pub rest : List Place
+  pub place : Place
+  pub given : List ℕ
+  pub here : node ≡ place.node
+  pub arranged : Arranged words version (lower ++ pair ∷ after) tree (front ++ place ∷ rest) given []
+  pub placed_front : Placed words front lower
+  pub room : lines_of lower + pair_lines (pair.0, document) + lines_of after + 1 ≤ line_count words
+
+-- where its document stands
+pub record IsOld (words : List ℕ) (node first count : ℕ) (document : List ℕ) : Type 0 where
+  pub can : CanRewrite words node document
+  pub first_is : word_of words node 5 ≡ first
+  pub counted : document_blocks node words ≡ count

@@ -1,0 +1,54 @@
+//! Lines of a pair are given back.
+
+ghost use Rattle.std.specs.Prelude.{◌≡◌, ◌+◌, ◌*◌, ◌<◌, ◌≤◌, ℕ, IsTrue, IfOk, OnErr, Some, is_some};
+ghost use Rattle.cx_base.specs.Memory.{Always, Becomes};
+ghost use Rattle.cx_base.specs.Packing.{unpacked};
+ghost use Rattle.avl_words.specs.Lines.{IsPartLength, word_of};
+ghost use Rattle.index_checks.specs.Layout.{IsIndex};
+ghost use Rattle.word_index.specs.Changes.{LooseText, TextGiven, HasLoosePair, PairGiven};
+ghost use Rattle.word_index.specs.Exact.{with_text_given, with_pair_given};
+
+use crate::given_back::{give_back, give_chain};
+use avl_words::word;
+use cx_base::{Halt, Memory};
+
+/// Gives back the blocks that a node names by its words `at` and `at + 1`.
+pub fn give_text<M: Memory>(mem: &mut M, node: u64, at: u64) -> Result<(), Halt>
+    requires sized { IsPartLength (M.size mem.old) }
+    requires writable { IsTrue (M.writable mem.old) }
+    requires at { at < 7 }
+    requires text { Always (M.stands mem.old) (λ ws. LooseText ws node at) }
+    ensures done { IfOk result
+        (λ _. Becomes (M.stands mem.old) (M.stands mem.new) (TextGiven node at)) }
+    ensures exact { IfOk result (λ _. Becomes (M.stands mem.old) (M.stands mem.new)
+        (λ old now. now ≡ with_text_given node at old)) }
+    ensures halts { OnErr result (M.left mem.new ≡ Some 0) }
+    ensures limited { is_some (M.left mem.new) ≡ is_some (M.left mem.old) }
+    ensures size { M.size mem.new ≡ M.size mem.old }
+    ensures fixed { M.fixed mem.new ≡ M.fixed mem.old }
+    ensures writable { M.writable mem.new ≡ M.writable mem.old }
+{
+    let first = word(mem, node, at)?;
+    let len = word(mem, node, at + 1)?;
+    give_chain(mem, first, len.div_ceil(56))
+}
+
+/// Gives back the node and the blocks of a pair that is out of the nodes.
+pub fn give_pair<M: Memory>(mem: &mut M, node: u64) -> Result<(), Halt>
+    requires sized { IsPartLength (M.size mem.old) }
+    requires writable { IsTrue (M.writable mem.old) }
+    requires pair { Always (M.stands mem.old) (λ ws. HasLoosePair ws node) }
+    ensures done { IfOk result
+        (λ _. Becomes (M.stands mem.old) (M.stands mem.new) (PairGiven node)) }
+    ensures exact { IfOk result (λ _. Becomes (M.stands mem.old) (M.stands mem.new)
+        (λ old now. now ≡ with_pair_given node old)) }
+    ensures halts { OnErr result (M.left mem.new ≡ Some 0) }
+    ensures limited { is_some (M.left mem.new) ≡ is_some (M.left mem.old) }
+    ensures size { M.size mem.new ≡ M.size mem.old }
+    ensures fixed { M.fixed mem.new ≡ M.fixed mem.old }
+    ensures writable { M.writable mem.new ≡ M.writable mem.old }
+{
+    give_text(mem, node, 5)?;
+    give_text(mem, node, 3)?;
+    give_back(mem, node)
+}

@@ -1,0 +1,85 @@
+//! A document takes another's place.
+
+ghost use Rattle.std.specs.Prelude.{◌≡◌, IsTrue, IfOk, OnErr, Some, is_some};
+ghost use Rattle.cx_base.specs.Memory.{Always, Becomes};
+ghost use Rattle.cx_base.specs.Packing.{unpacked};
+ghost use Rattle.cx_base.specs.Store.{blocks};
+ghost use Rattle.avl_words.specs.Lines.{IsPartLength};
+ghost use Rattle.word_index.specs.Answers.{IsPacked};
+ghost use Rattle.word_index.specs.Exact.{with_refilled, with_renewed, with_rewritten};
+ghost use Rattle.word_index.specs.Rewriting.{CanRewrite, IsOld};
+
+use crate::filling::fill_chain;
+use crate::given_back::give_chain;
+use crate::taken::write_text;
+use crate::texts::Doc;
+use avl_words::{put, put_new, word};
+use cx_base::{Halt, Memory};
+
+/// Writes a document into the blocks of another of as many blocks.
+fn refill<M: Memory>(mem: &mut M, node: u64, first: u64, doc: &Doc) -> Result<(), Halt>
+    requires sized { IsPartLength (M.size mem.old) }
+    requires writable { IsTrue (M.writable mem.old) }
+    requires doc { IsPacked 128 doc.now.len doc.now.words }
+    requires old { Always (M.stands mem.old)
+        (λ ws. IsOld ws node first (blocks (unpacked doc.now.len doc.now.words)) (unpacked doc.now.len doc.now.words)) }
+    ensures exact { IfOk result (λ _. Becomes (M.stands mem.old) (M.stands mem.new)
+        (λ old now. now ≡ with_refilled (unpacked doc.now.len doc.now.words) node old)) }
+    ensures halts { OnErr result (M.left mem.new ≡ Some 0) }
+    ensures limited { is_some (M.left mem.new) ≡ is_some (M.left mem.old) }
+    ensures size { M.size mem.new ≡ M.size mem.old }
+    ensures fixed { M.fixed mem.new ≡ M.fixed mem.old }
+    ensures writable { M.writable mem.new ≡ M.writable mem.old }
+{
+    fill_chain(mem, first, &doc.words, doc.len.div_ceil(56) as usize)?;
+    put_new(mem, node, 6, doc.len)?;
+    Ok(())
+}
+
+/// Gives back the blocks of a document, and writes another into new ones.
+fn renew<M: Memory>(mem: &mut M, node: u64, first: u64, count: u64, doc: &Doc) -> Result<(), Halt>
+    requires sized { IsPartLength (M.size mem.old) }
+    requires writable { IsTrue (M.writable mem.old) }
+    requires doc { IsPacked 128 doc.now.len doc.now.words }
+    requires old { Always (M.stands mem.old)
+        (λ ws. IsOld ws node first count (unpacked doc.now.len doc.now.words)) }
+    ensures exact { IfOk result (λ _. Becomes (M.stands mem.old) (M.stands mem.new)
+        (λ old now. now ≡ with_renewed (unpacked doc.now.len doc.now.words) node old)) }
+    ensures halts { OnErr result (M.left mem.new ≡ Some 0) }
+    ensures limited { is_some (M.left mem.new) ≡ is_some (M.left mem.old) }
+    ensures size { M.size mem.new ≡ M.size mem.old }
+    ensures fixed { M.fixed mem.new ≡ M.fixed mem.old }
+    ensures writable { M.writable mem.new ≡ M.writable mem.old }
+{
+    put(mem, node, 5, 0)?;
+    put(mem, node, 6, 0)?;
+    give_chain(mem, first, count)?;
+    let text = write_text(mem, &doc.words, doc.len.div_ceil(56) as usize)?;
+    put(mem, node, 5, text)?;
+    put(mem, node, 6, doc.len)?;
+    Ok(())
+}
+
+/// Puts a document in place of a node's own: in the same blocks where it needs as many, and else in new ones.
+pub fn rewrite<M: Memory>(mem: &mut M, node: u64, doc: &Doc) -> Result<(), Halt>
+    requires sized { IsPartLength (M.size mem.old) }
+    requires writable { IsTrue (M.writable mem.old) }
+    requires doc { IsPacked 128 doc.now.len doc.now.words }
+    requires can { Always (M.stands mem.old)
+        (λ ws. CanRewrite ws node (unpacked doc.now.len doc.now.words)) }
+    ensures exact { IfOk result (λ _. Becomes (M.stands mem.old) (M.stands mem.new)
+        (λ old now. now ≡ with_rewritten (unpacked doc.now.len doc.now.words) node old)) }
+    ensures halts { OnErr result (M.left mem.new ≡ Some 0) }
+    ensures limited { is_some (M.left mem.new) ≡ is_some (M.left mem.old) }
+    ensures size { M.size mem.new ≡ M.size mem.old }
+    ensures fixed { M.fixed mem.new ≡ M.fixed mem.old }
+    ensures writable { M.writable mem.new ≡ M.writable mem.old }
+{
+    let first = word(mem, node, 5)?;
+    let count = word(mem, node, 6)?.div_ceil(56);
+    if count == doc.len.div_ceil(56) {
+        refill(mem, node, first, doc)
+    } else {
+        renew(mem, node, first, count, doc)
+    }
+}
