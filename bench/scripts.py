@@ -42,6 +42,10 @@ def gets():
     return b"\n".join(HEAD + [b"0 put k 1"] + [b"0 get k"] * 99_999) + b"\n"
 
 
+def puts(keys):
+    return b"\n".join(HEAD + [b"0 put %016d %d" % (i * 7919 % keys, i) for i in range(100_000)]) + b"\n"
+
+
 def one_line(front, piece, end):
     front = b"\n".join(HEAD + [b"0 put k " + front])
     return front + piece * ((16_777_215 - len(front) - len(end)) // len(piece)) + end + b"\n"
@@ -68,6 +72,8 @@ if __name__ == "__main__":
     measure("100,000 commands of all kinds over 1,000 keys", every_command())
     measure("100,000 counts", counts())
     measure("100,000 commands, a put and gets of its key", gets())
+    measure("100,000 puts over 1,000 keys of 16 bytes", puts(1_000))
+    measure("100,000 puts over 5,000 keys of 16 bytes", puts(5_000))
     measure("16 MiB of long documents", long_documents())
     measure("as many bytes of comments", comments())
     measure("one line, an array of numbers", one_line(b"[", b"1,", b"1]"))
