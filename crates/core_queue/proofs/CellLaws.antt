@@ -12,9 +12,10 @@ use Rattle.cx_core.specs.Layout.{cell_count, free_at, link_at, cell_at, offer_at
 use Rattle.cx_core.specs.Lawful.{Cells, IsLive, IsShown, OfferStands, OffersLinked, Shape, ShowsCells, SlotStands}
 use Rattle.cx_core.specs.State.{EachLocal, Instance}
 use Rattle.cx_core.specs.WriteSet.{IsWriteSetOf}
-use Rattle.core_queue.specs.Frames.{IsOff, SameCells}
+use Rattle.cx_core.specs.Frames.{IsOff}
+use Rattle.core_queue.specs.Frames.{SameCells}
 use Rattle.core_queue.proofs.CellNames.{KeepsNames, names_same, offered_still}
-use Rattle.core_queue.proofs.Locals.{EachLocal-set}
+use Rattle.cx_core.proofs.Locals.{EachLocal-set}
 
 -- the cells of a caller are in the table
 pub cell_within : (instance : Instance) (words : List ℕ) (locals : List Local) (caller : ℕ) (l : Local) (j : ℕ) (cell : Cell) → Shape instance words locals →

@@ -20,12 +20,12 @@ use Rattle.cx_core.specs.State.{Instance}
 use Rattle.cx_core.specs.WriteSet.{IsWriteSet, IsWriteSetOf}
 use Rattle.cx_core.proofs.HistoryLemmas.{full_stays, linked_grows}
 use Rattle.cx_core.proofs.ListLemmas.{slice_get-set_same}
-use Rattle.core_queue.specs.Frames.{IsOff}
+use Rattle.cx_core.specs.Frames.{IsOff}
 use Rattle.core_queue.proofs.CellLaws.{cell_within, held_still, shown_off}
 use Rattle.core_queue.proofs.CellNames.{idle_is_dead}
 use Rattle.core_queue.proofs.CellPuts.{Puts, cells_put, keeps_put}
 use Rattle.core_queue.proofs.LinkLaws.{code_ticket, shown_open}
-use Rattle.core_queue.proofs.Locals.{linked_below, linked_then, linked_within}
+use Rattle.cx_core.proofs.Locals.{linked_below, linked_then, linked_within}
 use Rattle.core_queue.proofs.Pigeonhole.{pigeonhole}
 use Rattle.core_queue.proofs.Shapes.{cell_there}
 

@@ -17,7 +17,7 @@ use Rattle.cx_core.specs.Merge.{IsLinked}
 use Rattle.cx_core.specs.State.{EachLocal, Instance}
 use Rattle.core_queue.proofs.CellLaws.{cell_within, held_still}
 use Rattle.core_queue.proofs.CellNames.{KeepsNames, names_put, offered_still}
-use Rattle.core_queue.proofs.Locals.{EachLocal-set, item_after}
+use Rattle.cx_core.proofs.Locals.{EachLocal-set, item_after}
 use Rattle.core_queue.proofs.Shapes.{cell_there}
 
 -- what a put cell is: an idle cell of a caller, put with the same offer word, and nothing else that cells name changed

@@ -8,7 +8,7 @@ use Rattle.cx_core.specs.Layout.{dur_at, low_at, free_at}
 use Rattle.cx_core.specs.Lawful.{Fronts, IsBehind}
 use Rattle.cx_core.specs.State.{Instance}
 use Rattle.core_queue.specs.Frames.{SameFront}
-use Rattle.core_queue.proofs.Locals.{EachLocal-set}
+use Rattle.cx_core.proofs.Locals.{EachLocal-set}
 
 -- the words that fronts name are as before
 pub record SameWords (words words' : List ℕ) : Type 0 where

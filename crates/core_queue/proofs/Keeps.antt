@@ -30,8 +30,9 @@ use Rattle.core_queue.proofs.CellLinks.{Wins, cells_linked}
 use Rattle.core_queue.proofs.CellPuts.{cells_written}
 use Rattle.core_queue.proofs.FrontLaws.{behind_free, behind_kept, behind_raised, fronts_framed, fronts_put, same_words}
 use Rattle.core_queue.proofs.LinkLaws.{links_framed, links_linked, raised_within, won_at_end}
-use Rattle.core_queue.proofs.Locals.{EachLocal-set}
-use Rattle.core_queue.proofs.QueueFrames.{either, queue_put}
+use Rattle.cx_core.proofs.Locals.{EachLocal-set}
+use Rattle.core_queue.proofs.QueueFrames.{queue_put}
+use Rattle.cx_core.proofs.Putting.{either}
 use Rattle.core_queue.proofs.Shapes.{shape_kept, shape_linked, shape_same, shape_written}
 use Rattle.core_queue.proofs.TicketLaws.{tickets_framed, tickets_linked}
 

@@ -6,7 +6,6 @@ pub mod FrontLaws
 pub mod Keeps
 pub mod LinkLaws
 pub mod LiveLaws
-pub mod Locals
 pub mod Opening
 pub mod Pigeonhole
 pub mod QueueFrames

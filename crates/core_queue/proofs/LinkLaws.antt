@@ -13,7 +13,7 @@ use Rattle.cx_core.specs.Lawful.LinkWord.{Never, Names}
 use Rattle.cx_core.specs.Merge.{IsLinked}
 use Rattle.cx_core.specs.State.{Instance}
 use Rattle.cx_core.proofs.HistoryLemmas.{linked_grows}
-use Rattle.core_queue.proofs.Locals.{linked_below, linked_last, linked_then, linked_within}
+use Rattle.cx_core.proofs.Locals.{linked_below, linked_last, linked_then, linked_within}
 
 -- a link code gives its ticket back, and is not 0
 pub code_ticket : (callers ticket k : ℕ) → k < 16 * callers → link_ticket_of callers (link_code_of callers ticket k) ≡ ticket

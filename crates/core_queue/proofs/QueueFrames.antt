@@ -7,21 +7,14 @@ use Rattle.cx_core.specs.declared.local.Local.{Local}
 use Rattle.cx_core.specs.Layout.{cur_at}
 use Rattle.cx_core.specs.Lawful.{Lawful}
 use Rattle.cx_core.specs.State.{Instance, State}
-use Rattle.core_queue.specs.Frames.{OffCells, OffFronts, OffLinks, OffQueue, SameQueue, StepApart}
+use Rattle.core_queue.specs.Frames.{OffCells, OffFronts, OffLinks, OffQueue, SameQueue}
 use Rattle.core_queue.specs.Queue.{QueueLawful}
+use Rattle.cx_core.proofs.Putting.{no_word}
 use Rattle.core_queue.proofs.CellLaws.{cells_framed}
 use Rattle.core_queue.proofs.FrontLaws.{fronts_framed}
 use Rattle.core_queue.proofs.LinkLaws.{links_framed}
 use Rattle.core_queue.proofs.Shapes.{shape_kept, shape_same}
 use Rattle.core_queue.proofs.TicketLaws.{tickets_framed}
-
--- what is kept of words and local states put so, is kept by such a step
-pub stepped : (Off : ℕ → Type 0) (Same : Local → Local → Type 0) (P : List ℕ → List Local → Type 0) (before after : State) → StepApart Off Same before after →
-    ((at v caller : ℕ) (l l' : Local) → slice_get before.locals caller ≡ Some l → Off at → Same l l' → P (set before.words at v) (set before.locals caller l')) →
-    P after.words after.locals
-stepped Off Same P before after step kept =
-    subst (λ ws. P ws after.locals) (sym step.words)
-    (subst (λ ls. P (set before.words step.at step.word) ls) (sym step.locals) (kept step.at step.word step.caller step.local step.next step.of_caller step.off step.same))
 
 off_links : (instance : Instance) (at : ℕ) → OffQueue instance at → OffLinks instance at
 off_links instance at off = elim off [ inl e ↦ inl (omega arith) | inr far ↦ elim far.1 [ inl a ↦ inl a | inr b ↦ inr (omega arith) ] ]
@@ -47,15 +40,6 @@ queue_put instance history words locals at v caller l l' law there off same =
 -- those parts of a lawful state
 pub queue_of : {instance : Instance} {s : State} (law : Lawful instance s) → QueueLawful instance law.history s.words s.locals
 queue_of law = record { shape = law.shape; tickets = law.tickets; links = law.links; cells = law.cells; fronts = law.fronts }
-
--- what holds of two local states holds of either
-pub either : (P : Local → Type 0) (b : Bool) (x y : Local) → P x → P y → P (cond b x y)
-either P true x y one other = one
-either P false x y one other = other
-
--- where a word is as it was
-pub no_word : (P : List ℕ → Type 0) (words : List ℕ) (at : ℕ) → P (set words at (slice_index words at)) → P words
-no_word P words at kept = subst P (set-get_or words at 0) kept
 
 -- where no word was put
 pub queue_local : (instance : Instance) (history : List Entry) (words : List ℕ) (locals : List Local) (caller : ℕ) (l l' : Local) → QueueLawful instance history words locals →

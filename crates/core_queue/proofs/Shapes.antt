@@ -8,7 +8,7 @@ use Rattle.cx_core.specs.declared.local.Local.{Local}
 use Rattle.cx_core.specs.QueueEvents.{cell_of, linked, written}
 use Rattle.cx_core.specs.Lawful.{CellShape, LocalShape, Shape}
 use Rattle.cx_core.specs.State.{Instance}
-use Rattle.core_queue.proofs.Locals.{EachLocal-set, item_after}
+use Rattle.cx_core.proofs.Locals.{EachLocal-set, item_after}
 
 -- a caller's cell is among its cells
 pub cell_there : (caller : ℕ) (l : Local) (j : ℕ) → LocalShape caller l → j < 16 → slice_get l.cells j ≡ Some (cell_of l j)

@@ -11,7 +11,7 @@ use Rattle.cx_core.specs.Lawful.{OwnTickets, Tickets}
 use Rattle.cx_core.specs.Merge.{own_of}
 use Rattle.cx_core.specs.Region.{slot_number}
 use Rattle.cx_core.specs.State.{Instance}
-use Rattle.core_queue.proofs.Locals.{EachLocal-set, item_after, own_of-other, own_of-push, own_of-same, slice_get-push}
+use Rattle.cx_core.proofs.Locals.{EachLocal-set, item_after, own_of-other, own_of-push, own_of-same, slice_get-push}
 
 own_same : (instance : Instance) (caller : ℕ) (l l' : Local) → OwnTickets instance caller l → l'.own ≡ l.own → l'.answered ≡ l.answered → OwnTickets instance caller l'
 own_same instance caller l l' old own answered = record {

@@ -1,32 +1,9 @@
--- What a step has to leave so that it keeps a part: the words and the fields that the part names.
+-- What a step has to leave so that it keeps a part of the queue: the words and the fields that the part names.
 use Rattle.std.specs.Prelude.{◌≡◌, ◌≢◌, ◌<◌, ◌≤◌, ◌⊎◌, ℕ, Some, slice_get, slice_set}
 use Rattle.cx_core.specs.declared.local.Local.{Local}
+use Rattle.cx_core.specs.Frames.{IsOff}
 use Rattle.cx_core.specs.Layout.{cell_count, cur_at, free_at, link_at, need_at, replicas_at}
-use Rattle.cx_core.specs.State.{Instance, State}
-
--- a step of a caller that puts one word, and leaves of the caller's local state what is said
-pub record StepApart (Off : ℕ → Type 0) (Same : Local → Local → Type 0) (before after : State) : Type 0 where
-  pub caller : ℕ
-  pub at : ℕ
-  pub word : ℕ
-  pub local : Local
-  pub next : Local
-  pub of_caller : slice_get before.locals caller ≡ Some local
-  pub off : Off at
-  pub same : Same local next
-  pub words : after.words ≡ slice_set before.words at word
-  pub locals : after.locals ≡ slice_set before.locals caller next
-
--- a step is on no word of a list, which begins and ends there
-abbrev pub IsOff : ℕ → ℕ → ℕ → Type 0
-IsOff from until at = (at < from) ⊎ (until ≤ at)
-
--- any word, and any local state
-abbrev pub AnyWord : ℕ → Type 0
-AnyWord at = Unit {0}
-
-abbrev pub AnyLocal : Local → Local → Type 0
-AnyLocal l l' = Unit {0}
+use Rattle.cx_core.specs.State.{Instance}
 
 -- no link word
 abbrev pub OffLinks : Instance → ℕ → Type 0

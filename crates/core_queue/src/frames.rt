@@ -1,7 +1,8 @@
 //! One framing law for each part of the lawful state: a step on a word that the part does not name, which changes no
 //! field that the part names, keeps the part.
 
-ghost use Rattle.core_queue.specs.Frames.{AnyLocal, AnyWord, OffCells, OffFronts, OffLinks, OffQueue, SameCells, SameFront, SameQueue, SameTickets, StepApart};
+ghost use Rattle.core_queue.specs.Frames.{OffCells, OffFronts, OffLinks, OffQueue, SameCells, SameFront, SameQueue, SameTickets};
+ghost use Rattle.cx_core.specs.Frames.{AnyLocal, AnyWord, StepApart};
 ghost use Rattle.core_queue.specs.Queue.{QueueLawful};
 ghost use Rattle.cx_core.specs.Lawful.{Cells, Fronts, Links, Shape, Tickets};
 ghost use Rattle.cx_core.specs.State.{Instance, State};

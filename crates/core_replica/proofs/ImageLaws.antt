@@ -11,16 +11,8 @@ use Rattle.cx_core.specs.LawfulRegions.{IsImage}
 use Rattle.cx_core.specs.Layout.{cur_at, lock_at}
 use Rattle.cx_core.specs.Rights.{claims, holds, is_on, shared_on}
 use Rattle.cx_core.specs.State.{Instance, State}
-use Rattle.core_replica.proofs.RegionKinds.{unheld_none}
-use Rattle.core_replica.proofs.Sums.{on_same, total_member}
-
--- a replica that is claimed or pinned is held exclusively by nobody
-unheld_claimed : (callers cur : ℕ) (locals : List Local) (r word : ℕ) → LockWord callers cur locals r word → 0 < total (claims callers r) locals + pin callers r cur → total (holds r) locals ≡ 0
-unheld_claimed callers cur locals r word lock some =
-    elim (cases_eq (total (holds r) locals) 0) [
-      | inl none ↦ none
-      | inr held ↦ (let nobody = lock.alone (omega (arith, held)) in absurd (omega arith))
-    ]
+use Rattle.cx_core.proofs.Claims.{unheld_claimed, unheld_none}
+use Rattle.cx_core.proofs.Sums.{on_same, total_member}
 
 module _ (instance : Instance) (s : State) (law : Lawful instance s) where
   pub image_unheld : (r : ℕ) → r < 2 * instance.callers → 0 < total (claims instance.callers r) s.locals + pin instance.callers r (slice_index s.words cur_at) → IsImage instance law.history s.words r

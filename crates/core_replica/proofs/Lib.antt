@@ -1,4 +1,3 @@
-pub mod HeldLists
 pub mod ImageLaws
 pub mod Keeps
 pub mod LockKinds
@@ -6,6 +5,4 @@ pub mod LockLaws
 pub mod Opening
 pub mod RegionKinds
 pub mod RegionLaws
-pub mod ReplicaWords
 pub mod Replicas
-pub mod Sums

@@ -19,11 +19,11 @@ use Rattle.cx_core.specs.QueueEvents.{seen_word}
 use Rattle.cx_core.specs.RegionEvents.{loaded_into, persisted, stored_into}
 use Rattle.cx_core.specs.Rights.{downgraded_on, exclusive_on, has, holds, is_at, is_on, rights, shared_on}
 use Rattle.cx_core.specs.State.{Instance, Scene, one_more}
-use Rattle.core_queue.proofs.QueueFrames.{either}
+use Rattle.cx_core.proofs.Putting.{either}
 use Rattle.core_replica.specs.Frames.{OffLocks, SameRights}
-use Rattle.core_replica.proofs.HeldLists.{at_false, at_true, is_none}
+use Rattle.cx_core.proofs.HeldLists.{at_false, at_true, is_none}
 use Rattle.core_replica.proofs.LockLaws.{SameOn, few_moved, lock_claimed, lock_downgraded, lock_left, lock_passed, lock_released, lock_taken, locks_framed, locks_local, locks_put}
-use Rattle.core_replica.proofs.Sums.{on_other, on_same}
+use Rattle.cx_core.proofs.Sums.{on_other, on_same}
 
 -- which replica a right is on stays where its words change
 exclusive_map : (f : HeldExclusive → HeldExclusive) → ((h : HeldExclusive) → (f h).replica ≡ h.replica) → (o : Option HeldExclusive) →

@@ -13,10 +13,10 @@ use Rattle.cx_core.specs.Layout.{cur_at, link_at, lock_at}
 use Rattle.cx_core.specs.LockEvents.{exclusive_mark, minus, plus}
 use Rattle.cx_core.specs.Rights.{claims, downgraded_on, exclusive_on, has, holds, is_on, rights, shared_on, won_on}
 use Rattle.cx_core.specs.State.{Instance}
-use Rattle.core_queue.proofs.Locals.{EachLocal-set}
-use Rattle.core_queue.proofs.QueueFrames.{no_word}
+use Rattle.cx_core.proofs.Locals.{EachLocal-set}
+use Rattle.cx_core.proofs.Putting.{no_word}
 use Rattle.core_replica.specs.Frames.{OffLocks, SameRights}
-use Rattle.core_replica.proofs.Sums.{marks_most, on_most, total_member, total_most, total_parts, total_set}
+use Rattle.cx_core.proofs.Sums.{marks_most, on_most, total_member, total_most, total_parts, total_set}
 
 -- the rights of a caller on a replica are as before
 pub record SameOn (callers q : ℕ) (l l' : Local) : Type 0 where

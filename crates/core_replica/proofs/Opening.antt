@@ -18,7 +18,7 @@ use Rattle.cx_core.specs.Rights.{holds, is_on}
 use Rattle.cx_core.specs.State.{Instance, copies, opening_code, opening_local, opening_locals, opening_words}
 use Rattle.cx_core.proofs.HistoryLemmas.{begins}
 use Rattle.cx_core.proofs.StateLemmas.{length-opening, opening_at}
-use Rattle.core_replica.proofs.Sums.{on_other, on_same, total_nothing}
+use Rattle.cx_core.proofs.Sums.{on_other, on_same, total_nothing}
 
 -- what stands in front of the locks, and of the words of replicas
 abbrev front : ℕ → Base → List ℕ

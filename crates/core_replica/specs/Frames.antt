@@ -1,6 +1,7 @@
 -- What a step has to leave so that it keeps the parts on locks and on regions: the words and the fields that they name.
 use Rattle.std.specs.Prelude.{◌≡◌, ◌≢◌, ◌<◌, ℕ}
-use Rattle.core_queue.specs.Frames.{IsOff, SameQueue}
+use Rattle.cx_core.specs.Frames.{IsOff}
+use Rattle.core_queue.specs.Frames.{SameQueue}
 use Rattle.cx_core.specs.declared.local.Local.{Local}
 use Rattle.cx_core.specs.Layout.{cur_at, link_at, lock_at, replicas_at}
 use Rattle.cx_core.specs.Rights.{downgraded_on, exclusive_on, shared_on}

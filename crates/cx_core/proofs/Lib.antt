@@ -1,10 +1,14 @@
 pub mod BaseLemmas
-pub mod EventLemmas
+pub mod Claims
+pub mod HeldLists
 pub mod HistoryLemmas
-pub mod ImageLemmas
 pub mod KeepLemmas
 pub mod LayoutLemmas
 pub mod ListLemmas
+pub mod Locals
 pub mod MergeLemmas
+pub mod Putting
+pub mod ReplicaWords
 pub mod StateLemmas
 pub mod StepLemmas
+pub mod Sums

@@ -6,12 +6,13 @@ use Rattle.std.specs.List.{slice_get}
 use Rattle.std.specs.Option.{option_to_list}
 use Rattle.cx_core.specs.declared.entry.Entry.{Entry}
 use Rattle.cx_core.specs.declared.kinds.Kind.{Kind}
-use Rattle.cx_core.specs.declared.kinds.Kind.TheVariants.{WriteCell, Link, Look, ReadCell, LoadFree, TryExclusive, TryShared, BackOff, Downgrade, ReleaseExclusive, LoadWord, StoreWord, Persist}
+use Rattle.cx_core.specs.declared.kinds.Kind.TheVariants.{WriteCell, Link, Look, ReadCell, LoadFree, TryExclusive, TryShared, BackOff, Downgrade, ReleaseExclusive, LoadWord, StoreWord, Persist, LoadCur, Publish, Raise, Retire}
 use Rattle.cx_core.specs.declared.local.Linked.{Linked}
 use Rattle.cx_core.specs.declared.local.Local.{Local}
 use Rattle.cx_core.specs.Events.{next}
 use Rattle.cx_core.specs.LockEvents.{exclusive_mark, passing, refused_by, shared_by, taken}
 use Rattle.cx_core.specs.Merge.{IsHistory, IsLinked, all_own, entry_at, history_of, in_order, own_of}
+use Rattle.cx_core.specs.RootEvents.{outrun, published}
 use Rattle.cx_core.specs.QueueEvents.{entry_in, linked, lost, seen_word}
 use Rattle.cx_core.specs.Rights.{is_at, shared_on}
 use Rattle.cx_core.specs.State.{Instance, Scene}
@@ -200,6 +201,10 @@ goes_on instance scene (ReleaseExclusive r) l found = λ _ _ at. at
 goes_on instance scene (LoadWord r i refused) l found = λ _ _ at. at
 goes_on instance scene (StoreWord r i v) l found = λ _ _ at. at
 goes_on instance scene (Persist r i) l found = λ _ _ at. at
+goes_on instance scene LoadCur l found = λ _ _ at. at
+goes_on instance scene Publish l found = goes_either l (found == l.seen_cur) (published instance.callers l) (outrun instance.callers l found) (λ _ _ at. at) (λ _ _ at. at)
+goes_on instance scene (Raise code read) l found = λ _ _ at. at
+goes_on instance scene Retire l found = λ _ _ at. at
 
 -- what is linked stays linked where one caller's own list goes on
 pub still_linked : (instance : Instance) (place : ℕ) (history history' : List Entry) (locals : List Local) (caller : ℕ) (l l' : Local) →

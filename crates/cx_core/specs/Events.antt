@@ -1,23 +1,25 @@
 -- The kinds of step: when a step is allowed, the word that it is on, what the word becomes, and the caller's local state
 -- afterwards.
-use Rattle.std.specs.Prelude.{◌≡◌, ◌+◌, ◌-◌, ◌*◌, ◌%◌, ◌<◌, ◌==◌, ◌↔◌, ℕ, max, nat_lt, Bool, IsTrue, true, false, if◌then◌else◌, List, [], ◌∷◌, length, slice_get, slice_index, slice_set, Some, None}
+use Rattle.std.specs.Prelude.{◌≡◌, ◌+◌, ◌-◌, ◌*◌, ◌%◌, ◌^◌, ◌<◌, ◌==◌, ◌↔◌, ℕ, max, nat_lt, Bool, IsTrue, true, false, if◌then◌else◌, List, [], ◌∷◌, length, slice_get, slice_index, slice_set, Some, None}
 use Rattle.std.specs.Option.{option_map}
 use Rattle.cx_core.specs.declared.kinds.Event.{Event}
 use Rattle.cx_core.specs.declared.kinds.Kind.{Kind}
-use Rattle.cx_core.specs.declared.kinds.Kind.TheVariants.{WriteCell, Link, Look, ReadCell, LoadFree, TryExclusive, TryShared, BackOff, Downgrade, ReleaseExclusive, LoadWord, StoreWord, Persist}
+use Rattle.cx_core.specs.declared.kinds.Kind.TheVariants.{WriteCell, Link, Look, ReadCell, LoadFree, TryExclusive, TryShared, BackOff, Downgrade, ReleaseExclusive, LoadWord, StoreWord, Persist, LoadCur, Publish, Raise, Retire}
 use Rattle.cx_core.specs.declared.local.Local.{Local}
 use Rattle.cx_core.specs.History.{IsFull}
-use Rattle.cx_core.specs.Layout.{cell_count, cell_at, free_at, link_at, lock_at, per_at, vol_at}
+use Rattle.cx_base.specs.Codes.{root_replica_of}
+use Rattle.cx_core.specs.Layout.{cell_count, cell_at, cur_at, dur_at, free_at, link_at, lock_at, per_at, vol_at}
 use Rattle.cx_core.specs.LockEvents.{CanBackOff, CanGiveUp, CanTryExclusive, CanTryShared, backed_off, downgraded_to, exclusive_mark, minus, passing, plus, refused_by, shared_by, taken}
 use Rattle.cx_core.specs.Merge.{scene_of}
 use Rattle.cx_core.specs.QueueEvents.{CanLink, IsIdle, ShowsTicket, exchanged, linked, lost, raised_front, seen_word, written}
 use Rattle.cx_core.specs.RegionEvents.{CanLoadAs, CanPersist, CanStore, loaded_by, persisted, stored_into}
 use Rattle.cx_core.specs.Rights.{held_words}
+use Rattle.cx_core.specs.RootEvents.{CanPublish, CanRaise, CanRetire, before_in, code_in, loaded_cur, outrun, published, raised_by}
 use Rattle.cx_core.specs.State.{Instance, Scene, State, one_more}
 
 -- when a step is allowed
 abbrev pub Guard : Instance → Scene → Kind → Local → Type 0
-Guard instance scene (WriteCell j i v) l = (j < 16) × (i < 145) × IsIdle l j
+Guard instance scene (WriteCell j i v) l = (j < 16) × (i < 145) × IsIdle l j × (v < 2 ^ 64)
 Guard instance scene (Link j) l = CanLink instance.callers instance.base l j
 Guard instance scene (Look s) l = s < cell_count instance.callers
 Guard instance scene (ReadCell t k i) l = (t < l.front) × (i < 145) × ShowsTicket instance.callers l.seen_slot t k
@@ -30,6 +32,10 @@ Guard instance scene (ReleaseExclusive r) l = CanGiveUp instance scene r l
 Guard instance scene (LoadWord r i refused) l = CanLoadAs refused instance.callers (length instance.base.words) scene.words r i l
 Guard instance scene (StoreWord r i v) l = CanStore instance.callers (length instance.base.words) r i l
 Guard instance scene (Persist r i) l = CanPersist instance.callers (length instance.base.words) r i l
+Guard instance scene LoadCur l = Unit {0}
+Guard instance scene Publish l = CanPublish instance.callers l
+Guard instance scene (Raise code read) l = CanRaise instance code read l
+Guard instance scene Retire l = CanRetire l.raised l.won
 
 -- the word that a step is on
 abbrev pub step_word : Instance → Kind → Local → ℕ
@@ -46,6 +52,10 @@ step_word instance (ReleaseExclusive r) l = lock_at instance.callers r
 step_word instance (LoadWord r i refused) l = vol_at instance.callers (length instance.base.words) r i
 step_word instance (StoreWord r i v) l = vol_at instance.callers (length instance.base.words) r i
 step_word instance (Persist r i) l = per_at instance.callers (length instance.base.words) r i
+step_word instance LoadCur l = cur_at
+step_word instance Publish l = cur_at
+step_word instance (Raise code read) l = dur_at
+step_word instance Retire l = lock_at instance.callers (root_replica_of instance.callers (before_in l.won))
 
 -- what the word becomes, given the word found
 abbrev pub new_word : Instance → Kind → Local → ℕ → ℕ
@@ -62,6 +72,10 @@ new_word instance (ReleaseExclusive r) l found = minus found exclusive_mark
 new_word instance (LoadWord r i refused) l found = found
 new_word instance (StoreWord r i v) l found = v
 new_word instance (Persist r i) l found = slice_index (held_words l.exclusive) i
+new_word instance LoadCur l found = found
+new_word instance Publish l found = if found == l.seen_cur then code_in instance.callers l.downgraded else found
+new_word instance (Raise code read) l found = max found code
+new_word instance Retire l found = minus found 1
 
 -- the caller's local state afterwards, given the word found
 abbrev pub next : Instance → Scene → Kind → Local → ℕ → Local
@@ -82,6 +96,10 @@ next instance scene (ReleaseExclusive r) l found = record l { exclusive = None; 
 next instance scene (LoadWord r i refused) l found = loaded_by r i refused l found
 next instance scene (StoreWord r i v) l found = record l { exclusive = option_map (stored_into i v) l.exclusive; steps = one_more l.steps }
 next instance scene (Persist r i) l found = record l { exclusive = option_map (persisted i) l.exclusive; steps = one_more l.steps }
+next instance scene LoadCur l found = loaded_cur instance.callers l found
+next instance scene Publish l found = if found == l.seen_cur then published instance.callers l else outrun instance.callers l found
+next instance scene (Raise code read) l found = raised_by instance scene code read l
+next instance scene Retire l found = record l { won = None; steps = one_more l.steps }
 
 -- the word that a step of a caller with this local state finds, and the words after it
 abbrev pub found_by : Instance → Kind → Local → List ℕ → ℕ

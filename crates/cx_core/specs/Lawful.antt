@@ -1,6 +1,7 @@
 -- The lawful state, by its parts. Between any two steps of any callers the state of a service is lawful.
-use Rattle.std.specs.Prelude.{◌≡◌, ◌≢◌, ◌+◌, ◌*◌, ◌%◌, ◌^◌, ◌<◌, ◌≤◌, ℕ, List, ◌∷◌, length, map, take, slice_get, slice_index, Some}
+use Rattle.std.specs.Prelude.{◌≡◌, ◌≢◌, ◌+◌, ◌*◌, ◌%◌, ◌^◌, ◌<◌, ◌≤◌, ℕ, All, List, ◌∷◌, length, map, take, slice_get, slice_index, Some}
 use Rattle.cx_base.specs.Codes.{link_code_of, link_ticket_of, root_place_of}
+use Rattle.cx_base.specs.Memory.{Words}
 use Rattle.cx_core.specs.declared.entry.Entry.{Entry}
 use Rattle.cx_core.specs.declared.local.Answer.{Answer}
 use Rattle.cx_core.specs.declared.local.Cell.{Cell}
@@ -9,17 +10,20 @@ use Rattle.cx_core.specs.declared.local.Local.{Local}
 use Rattle.cx_core.specs.declared.local.SeenOffer.{SeenOffer}
 use Rattle.cx_core.specs.declared.local.SeenSlot.{SeenSlot}
 use Rattle.cx_core.specs.declared.local.WonCode.{WonCode}
+use Rattle.cx_core.specs.LawfulAnswers.{Answers}
 use Rattle.cx_core.specs.LawfulLocks.{Locks}
 use Rattle.cx_core.specs.LawfulRegions.{Regions}
+use Rattle.cx_core.specs.LawfulRoot.{Root}
 use Rattle.cx_core.specs.Merge.{IsHistory, IsLinked}
 use Rattle.cx_core.specs.WriteSet.{IsWriteSetOf}
 use Rattle.cx_core.specs.Layout.{cell_count, dur_at, low_at, free_at, link_at, cell_at, offer_at, set_at, word_count}
 use Rattle.cx_core.specs.Region.{slot_number}
 use Rattle.cx_core.specs.State.{Instance, State, EachLocal}
 
--- a cell has 145 words, and its write set 513
+-- a cell has 145 words of 64 bits, and its write set 513
 pub record CellShape (cell : Cell) : Type 0 where
   pub words : length cell.words ≡ 145
+  pub fit : All (λ w. w < 2 ^ 64) cell.words
   pub set : length cell.set ≡ 513
 
 -- a caller's local state has the caller's number and 16 cells
@@ -36,10 +40,11 @@ pub record Shape (instance : Instance) (words : List ℕ) (locals : List Local) 
   pub count : length locals ≡ instance.callers
   pub each : EachLocal locals LocalShape
 
--- the tickets and numbers of a caller: its numbers go up by 1 from its number in the base, and its entries are answered
--- in order, at most the last one not yet
+-- the tickets and numbers of a caller: its numbers go up by 1 from its number in the base, its operations are words, and its
+-- entries are answered in order, at most the last one not yet
 pub record OwnTickets (instance : Instance) (caller : ℕ) (l : Local) : Type 0 where
   pub numbers : (i : ℕ) (x : Linked) → slice_get l.own i ≡ Some x → x.entry.number ≡ slot_number caller instance.base.words + i + 1
+  pub ops : (i : ℕ) (x : Linked) → slice_get l.own i ≡ Some x → Words 144 x.entry.op
   pub answered : map (λ (x : Answer). x.ticket) l.answered ≡ take (length l.answered) (map (λ (x : Linked). x.ticket) l.own)
   pub one : length l.own ≤ length l.answered + 1
 
@@ -155,3 +160,5 @@ pub record Lawful (instance : Instance) (s : State) : Type 0 where
   pub fronts : Fronts instance history s.words s.locals
   pub locks : Locks instance.callers s.words s.locals
   pub regions : Regions instance history s.words s.locals
+  pub root : Root instance s.words s.locals
+  pub answers : Answers instance history s.words s.locals

@@ -1,11 +1,16 @@
 pub mod Base
+pub mod Chain
+pub mod Crash
 pub mod Events
+pub mod Frames
+pub mod Free
 pub mod History
-pub mod Images
 pub mod Inside
 pub mod Lawful
+pub mod LawfulAnswers
 pub mod LawfulLocks
 pub mod LawfulRegions
+pub mod LawfulRoot
 pub mod Layout
 pub mod LockEvents
 pub mod Merge
@@ -13,6 +18,7 @@ pub mod QueueEvents
 pub mod Region
 pub mod RegionEvents
 pub mod Rights
+pub mod RootEvents
 pub mod Shown
 pub mod State
 pub mod Step

@@ -29,6 +29,15 @@ pub enum Kind {
     StoreWord { r: u64, i: u64, v: u64 },
     /// Writes word `i` of replica `r` back to the medium.
     Persist { r: u64, i: u64 },
+    /// Loads CUR.
+    LoadCur,
+    /// Tries to put the root code of the replica that the caller has downgraded in the place of the code last found in CUR.
+    Publish,
+    /// Raises DUR to `code`, which answers the caller's entry where its ticket is below the code's place. With `read` it also
+    /// answers this operation, which only reads, at that place.
+    Raise { code: u64, read: Option<[u64; 144]> },
+    /// Takes the pin back from the replica of the code before the caller's win.
+    Retire,
 }
 
 /// A step of a caller.

@@ -23,6 +23,9 @@ pub const QUEUE_WORDS: u64 = CELLS * (1 + CELL_WORDS + 1 + SET_WORDS);
 /// The protection word of a caller without one, and the limit that is none.
 pub const MAX_WORD: u64 = u64::MAX;
 
+/// What an exclusive right adds to a lock word. Each other right, and each pin, adds 1.
+pub const EXCLUSIVE_MARK: u64 = 1 << 32;
+
 /// The number of cells, and of link slots.
 pub fn cell_count(callers: u32) -> u64
     ensures { result ≡ cell_count callers }

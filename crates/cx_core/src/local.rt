@@ -1,7 +1,12 @@
 //! What a caller knows and did: its local state, which only its own steps change.
 
+ghost use Rattle.std.specs.Prelude.{◌≡◌, ◌^◌, ◌≤◌};
+ghost use Rattle.cx_core.specs.State.{blank_cell, opening_local};
+
 use crate::entry::Entry;
-use cx_base::Items;
+use crate::layout::MAX_WORD;
+use cx_base::{Items, root_code};
+use std::alloc::Global;
 
 /// What a caller wrote into one of its cells.
 #[derive(Clone, Copy, Debug, Drop)]
@@ -170,4 +175,59 @@ pub struct Local {
     pub met: u64,
     /// The scans ended.
     pub scans: u64,
+}
+
+/// A cell never written.
+const fn blank() -> Cell
+    ensures { result ≡ blank_cell }
+{
+    Cell {
+        words: [0; 145],
+        ticket: None,
+        set: [0; 513],
+        offer: 0,
+    }
+}
+
+impl Local {
+    /// The local state with which a caller opens, of `callers` callers, where the base has this place. It takes no
+    /// memory.
+    pub fn opening(alloc: Global, callers: u32, place: u64, caller: u32) -> Local
+        requires some { 1 ≤ callers }
+        requires few { callers ≤ 8 }
+        requires place { place ≤ 2 ^ 40 }
+        ensures { result ≡ opening_local callers place caller }
+    {
+        let code = root_code(callers, place, 0);
+        Local {
+            number: caller,
+            front: place,
+            own: Items::new(alloc),
+            answered: Items::new(alloc),
+            seen_reads: Items::new(alloc),
+            cells: [blank(); 16],
+            seen_slot: None,
+            seen_offer: None,
+            seen_free: place,
+            seen_low: place,
+            seen_need: None,
+            seen_cur: code,
+            fresh: false,
+            refused: Items::new(alloc),
+            seen_lock: None,
+            exclusive: None,
+            shared: None,
+            passer: None,
+            downgraded: None,
+            won: None,
+            raised: code,
+            floor: place,
+            protection: Protection::Unprotected,
+            scan: None,
+            steps: 0,
+            limit: MAX_WORD,
+            met: 0,
+            scans: 0,
+        }
+    }
 }

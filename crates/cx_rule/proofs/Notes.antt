@@ -12,7 +12,7 @@ use Rattle.cx_core.specs.Layout.{cell_at}
 use Rattle.cx_core.specs.Merge.{IsLinked, scene_of}
 use Rattle.cx_core.specs.State.{Instance, State}
 use Rattle.core_queue.proofs.LiveLaws.{read_gives}
-use Rattle.core_queue.proofs.Locals.{linked_below}
+use Rattle.cx_core.proofs.Locals.{linked_below}
 use Rattle.cx_rule.specs.declared.rule.Noted.{Noted}
 use Rattle.cx_rule.specs.Rule.{IsOfEntry, NotesHold, StandStill}
 use Rattle.cx_rule.specs.Seats.{noted_by}

@@ -19,7 +19,7 @@ use Rattle.core_queue.proofs.CellLinks.{names_small}
 use Rattle.core_queue.proofs.Keeps.{linked_callers}
 use Rattle.core_queue.proofs.LinkLaws.{code_ticket}
 use Rattle.core_queue.proofs.QueueFrames.{queue_of}
-use Rattle.core_queue.proofs.Locals.{linked_below}
+use Rattle.cx_core.proofs.Locals.{linked_below}
 use Rattle.cx_rule.specs.Rule.{StandStill}
 use Rattle.cx_rule.specs.Told.{LinkTold, LookTold, NamesTicket, Told}
 use Rattle.cx_rule.proofs.Still.{free_stands}

@@ -17,7 +17,7 @@ use Rattle.cx_core.specs.State.{Instance, one_more}
 use Rattle.cx_core.specs.Lawful.{LocalShape}
 use Rattle.cx_core.specs.Layout.{max_word}
 use Rattle.cx_core.specs.Region.{slot_number}
-use Rattle.core_queue.proofs.Locals.{slice_get-last}
+use Rattle.cx_core.proofs.Locals.{slice_get-last}
 use Rattle.core_queue.proofs.Shapes.{shape_linked, shape_same, shape_written}
 use Rattle.cx_table.specs.declared.mirror.Mirror.{Mirror}
 use Rattle.cx_rule.specs.declared.rule.Known.{Known}

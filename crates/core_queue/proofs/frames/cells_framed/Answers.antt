@@ -1,6 +1,6 @@
 use Rattle.cx_core.specs.Lawful.{Cells}
 use Rattle.core_queue.proofs.CellLaws as law
-use Rattle.core_queue.proofs.QueueFrames.{stepped}
+use Rattle.cx_core.proofs.Putting.{stepped}
 use Rattle.core_queue.proofs.frames.cells_framed.Goals as goal
 
 pub returns : goal.returns

@@ -1,6 +1,6 @@
 use Rattle.cx_core.specs.Lawful.{Fronts}
 use Rattle.core_queue.proofs.FrontLaws as law
-use Rattle.core_queue.proofs.QueueFrames.{stepped}
+use Rattle.cx_core.proofs.Putting.{stepped}
 use Rattle.core_queue.proofs.frames.fronts_framed.Goals as goal
 
 pub returns : goal.returns

@@ -1,6 +1,6 @@
 use Rattle.cx_core.specs.Lawful.{Links}
 use Rattle.core_queue.proofs.LinkLaws as law
-use Rattle.core_queue.proofs.QueueFrames.{stepped}
+use Rattle.cx_core.proofs.Putting.{stepped}
 use Rattle.core_queue.proofs.frames.links_framed.Goals as goal
 
 pub returns : goal.returns

@@ -1,5 +1,6 @@
 use Rattle.core_queue.specs.Queue.{QueueLawful}
-use Rattle.core_queue.proofs.QueueFrames.{queue_put, stepped}
+use Rattle.core_queue.proofs.QueueFrames.{queue_put}
+use Rattle.cx_core.proofs.Putting.{stepped}
 use Rattle.core_queue.proofs.frames.queue_framed.Goals as goal
 
 pub returns : goal.returns

@@ -1,5 +1,5 @@
 use Rattle.cx_core.specs.Lawful.{Tickets}
-use Rattle.core_queue.proofs.QueueFrames.{stepped}
+use Rattle.cx_core.proofs.Putting.{stepped}
 use Rattle.core_queue.proofs.TicketLaws as law
 use Rattle.core_queue.proofs.frames.tickets_framed.Goals as goal
 

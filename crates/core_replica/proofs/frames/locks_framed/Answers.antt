@@ -1,5 +1,5 @@
 use Rattle.cx_core.specs.LawfulLocks.{Locks}
-use Rattle.core_queue.proofs.QueueFrames.{stepped}
+use Rattle.cx_core.proofs.Putting.{stepped}
 use Rattle.core_replica.proofs.LockLaws as law
 use Rattle.core_replica.proofs.frames.locks_framed.Goals as goal
 

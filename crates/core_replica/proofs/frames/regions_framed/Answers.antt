@@ -1,5 +1,5 @@
 use Rattle.cx_core.specs.LawfulRegions.{Regions}
-use Rattle.core_queue.proofs.QueueFrames.{stepped}
+use Rattle.cx_core.proofs.Putting.{stepped}
 use Rattle.core_replica.proofs.RegionLaws as law
 use Rattle.core_replica.proofs.frames.regions_framed.Goals as goal
 

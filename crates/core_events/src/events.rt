@@ -1,0 +1,147 @@
+//! One step of the core, executable: the guard of each kind, its step on one word, and the change of its caller's
+//! local state.
+
+ghost use Rattle.std.specs.Prelude.{◌≡◌, ◌^◌, ◌<◌, ◌≤◌, ◌↔◌, length, slice_get, IsTrue, IfOk, OnErr, Some};
+ghost use Rattle.cx_core.specs.Base.{LawfulBase};
+ghost use Rattle.cx_core.specs.Events.{Applied, Did, TellsFull};
+ghost use Rattle.cx_core.specs.History.{IsFull};
+ghost use Rattle.cx_core.specs.Layout.{word_count};
+ghost use Rattle.cx_core.specs.Merge.{scene_of};
+ghost use Rattle.cx_core.specs.Rights.{held_words};
+ghost use Rattle.cx_core.specs.State.{EachScene, instance_of};
+
+use cx_core::Base;
+use crate::images::is_full;
+use cx_core::{Event, Kind};
+use cx_core::Local;
+use cx_core::OBJECT_START;
+use crate::state::CoreState;
+use crate::{lock_events, queue_events, region_events};
+use cx_base::Object;
+use std::alloc::{AllocError, Global};
+
+/// Makes an event of the core: one step of its caller. Ok(false) comes exactly where the event's guard fails, and the
+/// state is as it was. `Err` is want of memory, and leaves the state as it was. The time grows with the history only where
+/// an exclusive right is given up, since the object's steps are then made from the base on, and with the lists that a
+/// step appends to.
+pub fn apply<O: Object>(
+    alloc: Global,
+    object: &O,
+    state: &mut CoreState,
+    event: &Event,
+) -> Result<bool, AllocError>
+    requires base { LawfulBase (O.line_count object.now) (O.lawful object.now) state.old.base }
+    ensures ok { let instance = instance_of state.old (O.step object.now) (O.only_reads object.now) in IfOk result (λ made. Applied made instance event.now state.old.state state.new.state) }
+    ensures err { OnErr result (state.new.state ≡ state.old.state) }
+    ensures fixed { state.new ≡ record state.old { state = state.new.state } }
+{
+    let caller = event.caller as usize;
+    if caller >= state.locals.len() {
+        return Ok(false);
+    }
+    let full = tells_full(alloc, object, state, caller, &event.kind)?;
+    let local = &mut state.locals[caller];
+    step(
+        alloc,
+        state.callers,
+        &state.base,
+        &mut state.words,
+        local,
+        &event.kind,
+        full,
+    )
+}
+
+/// A step of a caller with this local state. `full` is, for a kind that gives an exclusive right up, whether the words
+/// held are the full image after their place. `Ok(false)` comes exactly where the guard fails. Then, and where `Err` says
+/// that memory is wanting, nothing changed.
+fn step(
+    alloc: Global,
+    callers: u32,
+    base: &Base,
+    words: &mut [u64],
+    local: &mut Local,
+    kind: &Kind,
+    full: bool,
+) -> Result<bool, AllocError>
+    requires some { 1 ≤ callers }
+    requires few { callers ≤ 8 }
+    requires long { length words.old ≡ word_count callers (length base.now.words) }
+    requires caller { local.old.number < callers }
+    requires slots { OBJECT_START ≤ length base.now.words }
+    ensures ok { IfOk result (λ made. EachScene callers base.now words.old (λ instance scene. TellsFull full instance scene kind.now local.old → Did made instance scene kind.now local.old local.new words.new)) }
+    ensures err { OnErr result ((local.new ≡ local.old) × (words.new ≡ words.old)) }
+{
+    match *kind {
+        Kind::WriteCell { j, i, v } => {
+            Ok(queue_events::write_cell(callers, words, local, j, i, v))
+        }
+        Kind::Link { j } => queue_events::link(callers, base, words, local, j),
+        Kind::Look { s } => Ok(queue_events::look(callers, words, local, s)),
+        Kind::ReadCell { t, k, i } => Ok(queue_events::read_cell(callers, words, local, t, k, i)),
+        Kind::LoadFree => Ok(queue_events::load_free(words, local)),
+        Kind::TryExclusive { r } => {
+            lock_events::try_exclusive(alloc, callers, base, words, local, r)
+        }
+        Kind::TryShared { r } => Ok(lock_events::try_shared(alloc, callers, words, local, r)),
+        Kind::BackOff { r } => Ok(lock_events::back_off(callers, words, local, r)),
+        Kind::Downgrade { r } => Ok(lock_events::downgrade(callers, words, local, r, full)),
+        Kind::ReleaseExclusive { r } => {
+            Ok(lock_events::release_exclusive(callers, words, local, r, full))
+        }
+        Kind::LoadWord { r, i, refused } => {
+            region_events::load_word(callers, base, words, local, r, i, refused)
+        }
+        Kind::StoreWord { r, i, v } => {
+            region_events::store_word(alloc, callers, base, words, local, r, i, v)
+        }
+        Kind::Persist { r, i } => {
+            Ok(region_events::persist(alloc, callers, base, words, local, r, i))
+        }
+    }
+}
+
+/// For a kind that gives an exclusive right up, whether the words that its caller holds are the full image after their
+/// place. `Err` is want of memory.
+fn tells_full<O: Object>(
+    alloc: Global,
+    object: &O,
+    state: &CoreState,
+    caller: usize,
+    kind: &Kind,
+) -> Result<bool, AllocError>
+    requires base { LawfulBase (O.line_count object.now) (O.lawful object.now) state.now.base }
+    requires caller { caller < length state.now.state.locals }
+    ensures { let instance = instance_of state.now (O.step object.now) (O.only_reads object.now) in IfOk result (λ full. (l : Local) → slice_get state.now.state.locals caller ≡ Some l → TellsFull full instance (scene_of instance state.now.state) kind.now l) }
+{
+    match *kind {
+        Kind::Downgrade { r: _ } => holds_full(alloc, object, state, caller),
+        Kind::ReleaseExclusive { r: _ } => holds_full(alloc, object, state, caller),
+        _ => Ok(false),
+    }
+}
+
+/// Whether the words that a caller holds exclusively are the full image after their place. `Err` is want of memory.
+fn holds_full<O: Object>(
+    alloc: Global,
+    object: &O,
+    state: &CoreState,
+    caller: usize,
+) -> Result<bool, AllocError>
+    requires base { LawfulBase (O.line_count object.now) (O.lawful object.now) state.now.base }
+    requires caller { caller < length state.now.state.locals }
+    ensures { let instance = instance_of state.now (O.step object.now) (O.only_reads object.now) in IfOk result (λ full. (l : Local) → slice_get state.now.state.locals caller ≡ Some l → IsTrue full ↔ IsFull instance (scene_of instance state.now.state).history (held_words l.exclusive)) }
+{
+    let words = held_words(&state.locals[caller]);
+    is_full(alloc, object, &state.base, &state.locals, words)
+}
+
+/// The words of the replica held exclusively, none where there is none.
+fn held_words(local: &Local) -> &[u64]
+    ensures { result.now ≡ held_words local.now.exclusive }
+{
+    match &local.exclusive {
+        None => &[],
+        Some(held) => held.words.as_slice(),
+    }
+}

@@ -1,0 +1,14 @@
+//! The core as a state machine, executable: its state, and one step of a caller on one word.
+#![tactic(auto)]
+
+#[cfg(test)]
+mod event_tests;
+mod events;
+mod images;
+mod lock_events;
+mod queue_events;
+mod region_events;
+mod state;
+
+pub use events::apply;
+pub use state::CoreState;

@@ -1,0 +1,446 @@
+//! The steps on lock words: a replica is tried, exclusively or shared, given up, downgraded or backed off from.
+
+ghost use Rattle.std.specs.Prelude.{◌≡◌, ◌+◌, ◌-◌, ◌*◌, ◌%◌, ◌^◌, ◌<◌, ◌≤◌, ◌↔◌, ◌⊎◌, ◌∷◌, ◌++◌, [], ℕ, min, length, take, drop, nat_lt, IsNone, IsTrue, IfOk, OnErr, OnOk, slice_index, slice_set, if◌then◌else◌, ◌==◌};
+ghost use Rattle.cx_core.specs.declared.kinds.Kind.TheVariants.{TryExclusive, TryShared, BackOff, Downgrade, ReleaseExclusive};
+ghost use Rattle.cx_core.specs.Events.{Did};
+ghost use Rattle.cx_core.specs.History.{IsFull};
+ghost use Rattle.cx_core.specs.Layout.{lock_at, replica_words, replicas_at, word_count};
+ghost use Rattle.cx_core.specs.LockEvents.{CanBackOff, CanTryExclusive, CanTryShared, IsClean, backed_off, downgraded_to, exclusive_mark, has_all, is_fresh_on, is_in, passing, refused_by, shared_by, taken, with_number};
+ghost use Rattle.cx_core.specs.Region.{place_of};
+ghost use Rattle.cx_core.specs.Rights.{downgraded_on, exclusive_on, held_dirty, held_words, is_at, is_on, rights, rights_on, shared_on, won_on};
+ghost use Rattle.cx_core.specs.State.{EachScene};
+
+use cx_core::Base;
+use cx_core::layout::{EXCLUSIVE_MARK, lock_at, replica_count, vol_at};
+use cx_core::{HeldDowngraded, HeldExclusive, HeldShared, Local, SeenLock};
+use cx_core::OBJECT_START;
+use cx_base::{Items, root_replica};
+use std::alloc::{AllocError, Global};
+
+/// The replica that a caller holds exclusively.
+pub(crate) fn exclusive_on(local: &Local) -> Option<u64>
+    ensures { result ≡ exclusive_on local.now }
+{
+    match &local.exclusive {
+        None => None,
+        Some(held) => Some(held.replica),
+    }
+}
+
+/// The replica that a caller holds shared.
+pub(crate) fn shared_on(local: &Local) -> Option<u64>
+    ensures { result ≡ shared_on local.now }
+{
+    match &local.shared {
+        None => None,
+        Some(held) => Some(held.replica),
+    }
+}
+
+/// The replica that a caller has downgraded.
+fn downgraded_on(local: &Local) -> Option<u64>
+    ensures { result ≡ downgraded_on local.now }
+{
+    match &local.downgraded {
+        None => None,
+        Some(held) => Some(held.replica),
+    }
+}
+
+/// The replica that an unretired win pins: that of the code before it.
+fn won_on(callers: u32, local: &Local) -> Option<u64>
+    requires some { 1 ≤ callers }
+    requires few { callers ≤ 8 }
+    ensures { result ≡ won_on callers local.now }
+{
+    match &local.won {
+        None => None,
+        Some(won) => Some(u64::from(root_replica(callers, won.before))),
+    }
+}
+
+/// Whether a right is on this replica.
+pub(crate) fn is_at(r: u64, right: Option<u64>) -> bool
+    ensures { result ≡ is_at r right }
+{
+    match right {
+        None => false,
+        Some(q) => q == r,
+    }
+}
+
+/// The number of a caller's rights.
+fn rights(callers: u32, local: &Local) -> u64
+    requires some { 1 ≤ callers }
+    requires few { callers ≤ 8 }
+    ensures { result ≡ rights callers local.now }
+{
+    u64::from(local.exclusive.is_some())
+        + u64::from(local.shared.is_some())
+        + u64::from(local.passer.is_some())
+        + u64::from(local.downgraded.is_some())
+        + u64::from(local.won.is_some())
+}
+
+/// Whether a caller has no right on a replica.
+fn has_none_on(callers: u32, r: u64, local: &Local) -> bool
+    requires some { 1 ≤ callers }
+    requires few { callers ≤ 8 }
+    ensures { IsTrue result ↔ (rights_on callers r local.now ≡ 0) }
+{
+    !(is_at(r, exclusive_on(local))
+        || is_at(r, shared_on(local))
+        || is_at(r, local.passer)
+        || is_at(r, downgraded_on(local))
+        || is_at(r, won_on(callers, local)))
+}
+
+/// Whether a caller may try to take a replica exclusively.
+fn can_try_exclusive(callers: u32, local: &Local, r: u64) -> bool
+    requires some { 1 ≤ callers }
+    requires few { callers ≤ 8 }
+    ensures { IsTrue result ↔ CanTryExclusive callers r local.now }
+{
+    r < replica_count(callers)
+        && local.exclusive.is_none()
+        && rights(callers, local) <= 1
+        && has_none_on(callers, r, local)
+}
+
+/// Whether a caller may try to take a replica shared.
+fn can_try_shared(callers: u32, local: &Local, r: u64) -> bool
+    requires some { 1 ≤ callers }
+    requires few { callers ≤ 8 }
+    ensures { IsTrue result ↔ CanTryShared callers r local.now }
+{
+    r < replica_count(callers)
+        && local.shared.is_none()
+        && local.passer.is_none()
+        && rights(callers, local) <= 1
+        && has_none_on(callers, r, local)
+}
+
+/// Whether a caller may back off from a replica.
+fn can_back_off(callers: u32, local: &Local, r: u64) -> bool
+    ensures { IsTrue result ↔ CanBackOff callers r local.now }
+{
+    r < replica_count(callers)
+        && (is_at(r, shared_on(local)) || is_at(r, local.passer) || is_at(r, downgraded_on(local)))
+}
+
+/// Adds a number to a list, unless it is in it. `Err` is want of memory, and leaves the list as it was.
+pub(crate) fn push_once(numbers: &mut Items<u64>, n: u64) -> Result<(), AllocError>
+    ensures ok { OnOk result (numbers.new ≡ with_number numbers.old n) }
+    ensures err { OnErr result (numbers.new ≡ numbers.old) }
+{
+    if numbers.as_slice().contains(&n) {
+        return Ok(());
+    }
+    numbers.push(n)
+}
+
+/// Whether all replicas are in a list.
+fn has_all(callers: u32, replicas: &[u64]) -> bool
+    ensures { result ≡ has_all callers replicas.now }
+{
+    (0..replica_count(callers)).all(|r| replicas.contains(&r))
+}
+
+/// Whether nobody has a right on a replica with this lock word, and nothing pins it.
+fn is_free(word: u64) -> bool
+    ensures { IsTrue result ↔ (word ≡ 0) }
+{
+    word == 0
+}
+
+/// Tries to take a replica exclusively: a compare-exchange of its lock word from 0. `Err` is want of memory, and
+/// nothing changed.
+pub(crate) fn try_exclusive(
+    alloc: Global,
+    callers: u32,
+    base: &Base,
+    words: &mut [u64],
+    local: &mut Local,
+    r: u64,
+) -> Result<bool, AllocError>
+    requires some { 1 ≤ callers }
+    requires few { callers ≤ 8 }
+    requires long { length words.old ≡ word_count callers (length base.now.words) }
+    requires slots { OBJECT_START ≤ length base.now.words }
+    ensures ok { IfOk result (λ made. EachScene callers base.now words.old (λ instance scene. Did made instance scene (TryExclusive r) local.old local.new words.new)) }
+    ensures err { OnErr result ((local.new ≡ local.old) × (words.new ≡ words.old)) }
+{
+    if !can_try_exclusive(callers, local, r) {
+        return Ok(false);
+    }
+    let at = lock_at(callers, r);
+    let found = words[at];
+    if is_free(found) {
+        take(alloc, callers, base, words, local, r)?;
+        words[at] = EXCLUSIVE_MARK;
+    } else {
+        refuse(alloc, callers, local, r, found)?;
+    }
+    Ok(true)
+}
+
+/// What a caller learns by an exclusive try that found 0: the replica's words are its own from here on. `Err` is want of
+/// memory, and nothing changed.
+fn take(
+    alloc: Global,
+    callers: u32,
+    base: &Base,
+    words: &[u64],
+    local: &mut Local,
+    r: u64,
+) -> Result<(), AllocError>
+    requires some { 1 ≤ callers }
+    requires few { callers ≤ 8 }
+    requires long { length words.now ≡ word_count callers (length base.now.words) }
+    requires slots { OBJECT_START ≤ length base.now.words }
+    requires r { r < 2 * callers }
+    ensures ok { OnOk result (EachScene callers base.now words.now (λ instance scene. local.new ≡ taken instance scene r local.old)) }
+    ensures err { OnErr result (local.new ≡ local.old) }
+{
+    let copy = words_of(alloc, callers, base, words, r)?;
+    local.exclusive = Some(HeldExclusive {
+        replica: r,
+        words: copy,
+        dirty: Items::new(alloc),
+    });
+    local.refused = Items::new(alloc);
+    local.seen_lock = Some(SeenLock {
+        replica: r,
+        word: 0,
+    });
+    local.steps = local.steps.saturating_add(1);
+    Ok(())
+}
+
+/// What a caller learns by an exclusive try that was refused. `Err` is want of memory, and nothing changed.
+fn refuse(
+    alloc: Global,
+    callers: u32,
+    local: &mut Local,
+    r: u64,
+    found: u64,
+) -> Result<(), AllocError>
+    ensures ok { OnOk result (local.new ≡ refused_by callers r local.old found) }
+    ensures err { OnErr result (local.new ≡ local.old) }
+{
+    push_once(&mut local.refused, r)?;
+    if has_all(callers, local.refused.as_slice()) {
+        local.refused = Items::new(alloc);
+        local.met = local.met.saturating_add(1);
+    }
+    local.seen_lock = Some(SeenLock {
+        replica: r,
+        word: found,
+    });
+    local.steps = local.steps.saturating_add(1);
+    Ok(())
+}
+
+/// Tries to take a replica shared: 1 is added to its lock word, and is a passer's mark where it was held exclusively.
+pub(crate) fn try_shared(
+    alloc: Global,
+    callers: u32,
+    words: &mut [u64],
+    local: &mut Local,
+    r: u64,
+) -> bool
+    requires some { 1 ≤ callers }
+    requires few { callers ≤ 8 }
+    requires long { replicas_at callers ≤ length words.old }
+    ensures { (base : _) → EachScene callers base words.old (λ instance scene. Did result instance scene (TryShared r) local.old local.new words.new) }
+{
+    if !can_try_shared(callers, local, r) {
+        return false;
+    }
+    let at = lock_at(callers, r);
+    let found = words[at];
+    words[at] = found.wrapping_add(1);
+    if found < EXCLUSIVE_MARK {
+        share(alloc, local, r, found);
+    } else {
+        pass(callers, local, r, found);
+    }
+    true
+}
+
+/// What a caller learns by a shared try that found no exclusive mark.
+fn share(alloc: Global, local: &mut Local, r: u64, found: u64)
+    ensures { local.new ≡ shared_by r local.old found }
+{
+    local.seen_lock = Some(SeenLock {
+        replica: r,
+        word: found,
+    });
+    local.shared = Some(HeldShared {
+        replica: r,
+        loaded: Items::new(alloc),
+    });
+    local.steps = local.steps.saturating_add(1);
+}
+
+/// What a caller learns by a shared try that found an exclusive mark.
+fn pass(callers: u32, local: &mut Local, r: u64, found: u64)
+    requires some { 1 ≤ callers }
+    requires few { callers ≤ 8 }
+    ensures { local.new ≡ passing callers r local.old found }
+{
+    if is_fresh_on(callers, r, local) {
+        local.met = local.met.saturating_add(1);
+        local.fresh = false;
+    }
+    local.seen_lock = Some(SeenLock {
+        replica: r,
+        word: found,
+    });
+    local.passer = Some(r);
+    local.steps = local.steps.saturating_add(1);
+}
+
+/// Whether the code last loaded from CUR names this replica, and nothing ended its use.
+pub(crate) fn is_fresh_on(callers: u32, r: u64, local: &Local) -> bool
+    requires some { 1 ≤ callers }
+    requires few { callers ≤ 8 }
+    ensures { result ≡ is_fresh_on callers r local.now }
+{
+    u64::from(root_replica(callers, local.seen_cur)) == r && local.fresh
+}
+
+/// Takes back what the caller added to a lock word by a shared try or a downgrade.
+pub(crate) fn back_off(callers: u32, words: &mut [u64], local: &mut Local, r: u64) -> bool
+    requires some { 1 ≤ callers }
+    requires few { callers ≤ 8 }
+    requires long { replicas_at callers ≤ length words.old }
+    ensures { (base : _) → EachScene callers base words.old (λ instance scene. Did result instance scene (BackOff r) local.old local.new words.new) }
+{
+    if !can_back_off(callers, local, r) {
+        return false;
+    }
+    let at = lock_at(callers, r);
+    words[at] = words[at].wrapping_sub(1);
+    leave(local, r);
+    true
+}
+
+/// What a caller's local state is after it backed off.
+fn leave(local: &mut Local, r: u64)
+    ensures { local.new ≡ backed_off r local.old }
+{
+    if is_at(r, shared_on(local)) {
+        local.shared = None;
+    } else if is_at(r, local.passer) {
+        local.passer = None;
+    } else {
+        local.downgraded = None;
+    }
+    local.steps = local.steps.saturating_add(1);
+}
+
+/// Whether a caller holds a replica exclusively with no word dirty and nothing downgraded.
+fn is_clean(callers: u32, local: &Local, r: u64) -> bool
+    ensures { IsTrue result ↔ IsClean callers r local.now }
+{
+    r < replica_count(callers)
+        && is_at(r, exclusive_on(local))
+        && local.downgraded.is_none()
+        && has_no_dirty(local)
+}
+
+/// Whether no word of the replica held exclusively is dirty.
+fn has_no_dirty(local: &Local) -> bool
+    ensures { IsTrue result ↔ (held_dirty local.now.exclusive ≡ []) }
+{
+    match &local.exclusive {
+        None => true,
+        Some(held) => held.dirty.is_empty(),
+    }
+}
+
+/// Turns an exclusive right into a downgraded one. `full` is whether the words held are the full image after their place.
+pub(crate) fn downgrade(
+    callers: u32,
+    words: &mut [u64],
+    local: &mut Local,
+    r: u64,
+    full: bool,
+) -> bool
+    requires some { 1 ≤ callers }
+    requires few { callers ≤ 8 }
+    requires long { replicas_at callers ≤ length words.old }
+    ensures { (base : _) → EachScene callers base words.old (λ instance scene. (IsTrue full ↔ IsFull instance scene.history (held_words local.old.exclusive)) → Did result instance scene (Downgrade r) local.old local.new words.new) }
+{
+    if !full || !is_clean(callers, local, r) {
+        return false;
+    }
+    let at = lock_at(callers, r);
+    words[at] = words[at].wrapping_sub(EXCLUSIVE_MARK - 1);
+    keep_place(local, r);
+    true
+}
+
+/// What a caller's local state is after a downgrade.
+fn keep_place(local: &mut Local, r: u64)
+    ensures { local.new ≡ downgraded_to r local.old }
+{
+    local.downgraded = Some(HeldDowngraded {
+        replica: r,
+        place: held_place(local),
+    });
+    local.exclusive = None;
+    local.steps = local.steps.saturating_add(1);
+}
+
+/// The place word of the replica held exclusively.
+pub(crate) fn held_place(local: &Local) -> u64
+    ensures { result ≡ place_of (held_words local.now.exclusive) }
+{
+    match &local.exclusive {
+        None => 0,
+        Some(held) => held.words.as_slice().first().copied().unwrap_or(0),
+    }
+}
+
+/// Gives an exclusive right up. `full` is whether the words held are the full image after their place.
+pub(crate) fn release_exclusive(
+    callers: u32,
+    words: &mut [u64],
+    local: &mut Local,
+    r: u64,
+    full: bool,
+) -> bool
+    requires some { 1 ≤ callers }
+    requires few { callers ≤ 8 }
+    requires long { replicas_at callers ≤ length words.old }
+    ensures { (base : _) → EachScene callers base words.old (λ instance scene. (IsTrue full ↔ IsFull instance scene.history (held_words local.old.exclusive)) → Did result instance scene (ReleaseExclusive r) local.old local.new words.new) }
+{
+    if !is_clean(callers, local, r) || !full {
+        return false;
+    }
+    let at = lock_at(callers, r);
+    words[at] = words[at].wrapping_sub(EXCLUSIVE_MARK);
+    local.exclusive = None;
+    local.steps = local.steps.saturating_add(1);
+    true
+}
+
+/// The words of a replica as loads give them. `Err` is want of memory.
+fn words_of(
+    alloc: Global,
+    callers: u32,
+    base: &Base,
+    words: &[u64],
+    r: u64,
+) -> Result<Items<u64>, AllocError>
+    requires long { length words.now ≡ word_count callers (length base.now.words) }
+    requires slots { OBJECT_START ≤ length base.now.words }
+    requires r { r < 2 * callers }
+    ensures { IfOk result (λ copy. copy ≡ replica_words callers (length base.now.words) words.now r) }
+{
+    let len = base.words.as_slice().len();
+    let from = vol_at(callers, len as u64, r, 0);
+    Ok(Items::of(Vec::from_slice(alloc, &words[from..from + len])?))
+}
