@@ -1,6 +1,6 @@
 //! The worked rows of codes and packing, and the object Tally over two memories.
 
-ghost use Rattle.std.specs.Prelude.{◌≡◌, ◌<◌, IfOk, IsTrue, replicate, slice_index};
+ghost use Rattle.std.specs.Prelude.{◌≡◌, ◌<◌, IfOk, IsTrue, length, replicate, slice_index};
 ghost use Rattle.cx_base.specs.Memory.{Always};
 ghost use Rattle.cx_base.specs.Tally.{IsTally, tally_opening, tally_step};
 
@@ -232,24 +232,33 @@ fn load_and_store<M: Memory>(memory: &mut M) -> Result<u64, Halt>
     memory.load(4)
 }
 
-// The same over zeros.
-fn over_zeros(words: Vec<u64>, left: Option<u64>) -> Result<u64, Halt>
-    requires { words.items ≡ replicate 8 0 }
+// The same over eight words.
+fn over_words(words: Vec<u64>, left: Option<u64>) -> Result<u64, Halt>
+    requires long { length words.items ≡ 8 }
+    requires below { slice_index words.items 0 < 10 }
 {
     let mut memory = VecMemory::of(words, left);
     load_and_store(&mut memory)
 }
 
+// Of three words put, each is loaded and, where it differs, stored: beside the two other loads, eight accesses where all differ,
+// and five where none does.
 #[test]
 fn words_over_a_memory(rt: HostRuntime) -> Result<(), Fail> {
-    assert_eq!(rt; over_zeros(zeros(rt.alloc(), 8)?, None)?, 5);
-    for left in 0..5 {
-        assert_eq!(rt;
-            over_zeros(zeros(rt.alloc(), 8)?, Some(left)),
-            Err(Halt),
-            "with {left} accesses left"
-        );
+    for (words, accesses) in [
+        ([0, 0, 0, 0, 0, 0, 0, 0], 8),
+        ([0, 0, 3, 0, 5, 0, 0, 0], 6),
+        ([0, 0, 3, 4, 5, 0, 0, 0], 5),
+    ] {
+        for left in 0..accesses {
+            assert_eq!(rt;
+                over_words(Vec::from_slice(rt.alloc(), &words)?, Some(left)),
+                Err(Halt),
+                "with {left} accesses left"
+            );
+        }
+        let all = Vec::from_slice(rt.alloc(), &words)?;
+        assert_eq!(rt; over_words(all, Some(accesses))?, 5);
     }
-    assert_eq!(rt; over_zeros(zeros(rt.alloc(), 8)?, Some(5))?, 5);
     Ok(())
 }

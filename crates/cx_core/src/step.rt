@@ -8,7 +8,7 @@ ghost use Rattle.cx_core.specs.Step.{full_step_of, OnPart};
 use crate::entry::Entry;
 use crate::part::Part;
 use crate::region::{LINE_WORDS, OBJECT_START, PLACE_AT, PLACE_END, slot_start};
-use cx_base::{Halt, Memory, Object, load_below};
+use cx_base::{Halt, Memory, Object, load_below, store_word, store_words};
 
 /// Does the full step of an entry on a region: the object's step on the object part, the number and the reply into
 /// the slot of the entry's caller, and 1 added to the place. Of the slot it stores only the words that differ.
@@ -27,8 +27,8 @@ pub fn full_step<O: Object, M: Memory>(object: &O, mem: &mut M, entry: &Entry) -
     let place = load_below(mem, PLACE_AT, PLACE_END)?;
     let reply = run_part(object, mem, &entry.op)?;
     let slot = slot_start(entry.caller);
-    put_word(mem, slot, entry.number)?;
-    put_words(mem, slot + 1, &reply)?;
+    store_word(mem, slot, entry.number)?;
+    store_words(mem, slot + 1, &reply)?;
     mem.store(PLACE_AT, place + 1)?;
     Ok(())
 }
@@ -72,33 +72,4 @@ pub fn format_part<O: Object, M: Memory>(object: &O, mem: &mut M) -> Result<(), 
         len,
     };
     object.format(&mut part)
-}
-
-/// Puts words over those from a place on, and stores only those that differ.
-fn put_words<M: Memory>(mem: &mut M, at: u64, words: &[u64]) -> Result<(), Halt>
-    requires within { at + length words.now ≤ M.size mem.old }
-    requires small { at + length words.now < 2 ^ 64 }
-    requires writable { IsTrue (M.writable mem.old) }
-    ensures done { OnOk result (Becomes (M.stands mem.old) (M.stands mem.new) (λ before now. now ≡ overwritten at words.now before)) }
-    ensures halts { OnErr result (M.left mem.new ≡ Some 0) }
-    ensures framed { Framed M.size M.fixed M.writable M.left mem.old mem.new }
-{
-    for i in 0..words.len() {
-        put_word(mem, at + i as u64, words[i])?;
-    }
-    Ok(())
-}
-
-/// Puts a word at a place, and stores it only where it differs.
-fn put_word<M: Memory>(mem: &mut M, at: u64, v: u64) -> Result<(), Halt>
-    requires within { at < M.size mem.old }
-    requires writable { IsTrue (M.writable mem.old) }
-    ensures done { OnOk result (Becomes (M.stands mem.old) (M.stands mem.new) (λ before now. now ≡ slice_set before at v)) }
-    ensures halts { OnErr result (M.left mem.new ≡ Some 0) }
-    ensures framed { Framed M.size M.fixed M.writable M.left mem.old mem.new }
-{
-    if mem.load(at)? != v {
-        mem.store(at, v)?;
-    }
-    Ok(())
 }

@@ -1,5 +1,5 @@
 use Rattle.std.proofs.Common.{sym, ◌∙◌}
-use Rattle.cx_base.proofs.MemoryLemmas.{Becomes-same, Becomes-store, Becomes-weaker, Framed-same, Framed-access, Framed-then}
+use Rattle.cx_base.proofs.MemoryLemmas.{Becomes-same, Becomes-then, Becomes-weaker, Framed-same, Framed-then}
 use Rattle.cx_base.proofs.WordLemmas.{overwritten_none, overwritten_next}
 use Rattle.cx_base.proofs.accesses.store_words.Goals as goal
 
@@ -12,8 +12,8 @@ loop-i-init g c = record {
 pub loop-i-preserved : goal.loop-i-preserved
 loop-i-preserved g c =
     let i = c.loop-i.invariant in
-    let e = c.in_ok-store.ensures in
+    let e = c.in_ok-store_word.ensures in
     record {
-      done = Becomes-store i.done e.stands (λ first x y s m. overwritten_next c.args.words.now x y c.args.at c.loop-i.i c.loop-i-test.true m);
-      framed = Framed-then i.framed (Framed-access e.size e.fixed e.writable e.left);
+      done = Becomes-then i.done e.done (λ x y z m n. n ∙ overwritten_next c.args.words.now x y c.args.at c.loop-i.i c.loop-i-test.true m);
+      framed = Framed-then i.framed e.framed;
     }

@@ -10,4 +10,4 @@ run_part-requires-clause-lawful g c =
 pub returns-clause-done : goal.returns-clause-done
 returns-clause-done g c =
     full_step_done (g.O.Object.step c.args.object.now) c.args.entry.now c.in_ok-place.place c.slot_start-slot.result c.in_ok-reply.reply c.slot_start-slot.ensures
-    c.in_ok-place.ensures.done c.in_ok-reply.ensures.done c.in_ok-put_word.ensures.done c.in_ok-put_words.ensures.done c.in_ok-store.ensures.stands
+    c.in_ok-place.ensures.done c.in_ok-reply.ensures.done c.in_ok-store_word.ensures.done c.in_ok-store_words.ensures.done c.in_ok-store.ensures.stands
