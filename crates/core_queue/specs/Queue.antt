@@ -1,9 +1,10 @@
 -- The parts of the lawful state on tickets, links, cells and fronts, with the shape, and what keeps them.
-use Rattle.std.specs.Prelude.{◌≡◌, ◌++◌, ℕ, List}
+use Rattle.std.specs.Prelude.{ℕ, List}
 use Rattle.cx_core.specs.declared.entry.Entry.{Entry}
 use Rattle.cx_core.specs.declared.kinds.Kind.{Kind}
 use Rattle.cx_core.specs.declared.local.Local.{Local}
 use Rattle.cx_core.specs.Events.{Makes}
+use Rattle.cx_core.specs.Frames.{Continues}
 use Rattle.cx_core.specs.Lawful.{Cells, Fronts, Links, Shape, Tickets}
 use Rattle.cx_core.specs.State.{Instance, State}
 
@@ -13,11 +14,6 @@ pub record QueueLawful (instance : Instance) (history : List Entry) (words : Lis
   pub links : Links instance history words
   pub cells : Cells instance history words locals
   pub fronts : Fronts instance history words locals
-
--- a history begins with another
-pub record Continues (history history' : List Entry) : Type 0 where
-  pub more : List Entry
-  pub is : history' ≡ history ++ more
 
 -- those parts hold, with a history that begins with this one
 pub record QueueContinues (instance : Instance) (history : List Entry) (words : List ℕ) (locals : List Local) : Type 0 where

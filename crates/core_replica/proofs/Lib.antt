@@ -1,5 +1,3 @@
-pub mod ImageLaws
-pub mod Keeps
 pub mod LockKinds
 pub mod LockLaws
 pub mod Opening

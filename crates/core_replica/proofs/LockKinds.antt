@@ -1,28 +1,32 @@
 -- Each kind of step keeps the part on locks.
 use Rattle.std.proofs.Common.{◌≡◌, ◌≢◌, ◌+◌, ◌-◌, ◌*◌, ◌==◌, ◌<◌, ◌≤◌, inl, inr, ℕ, nat_lt, Bool, cond, List, Option, Some, None, length, set, slice_index, refl, ap, sym, subst, ◌∙◌, arith}
-use Rattle.std.proofs.lemmas.Bool.{cases_Bool, eqb-true, ltb-true}
+use Rattle.std.proofs.lemmas.Bool.{cases_Bool, cases_eq, eqb-true, ltb-true}
 use Rattle.std.proofs.lemmas.List.{set-get_or}
+use Rattle.std.proofs.lemmas.Nat.{mod_below, mod-mul-add}
 use Rattle.std.specs.List.{slice_get}
 use Rattle.std.specs.Option.{option_map}
+use Rattle.cx_base.specs.Codes.{root_replica_of}
 use Rattle.cx_core.specs.declared.kinds.Kind.{Kind}
-use Rattle.cx_core.specs.declared.kinds.Kind.TheVariants.{WriteCell, Link, Look, ReadCell, LoadFree, TryExclusive, TryShared, BackOff, Downgrade, ReleaseExclusive, LoadWord, StoreWord, Persist}
+use Rattle.cx_core.specs.declared.kinds.Kind.TheVariants.{WriteCell, Link, Look, ReadCell, LoadFree, TryExclusive, TryShared, BackOff, Downgrade, ReleaseExclusive, LoadWord, StoreWord, Persist, LoadCur, Publish, Raise, Retire}
 use Rattle.cx_core.specs.declared.local.HeldDowngraded.{HeldDowngraded}
 use Rattle.cx_core.specs.declared.local.HeldExclusive.{HeldExclusive}
 use Rattle.cx_core.specs.declared.local.HeldShared.{HeldShared}
 use Rattle.cx_core.specs.declared.local.Local.{Local}
+use Rattle.cx_core.specs.declared.local.WonCode.{WonCode}
 use Rattle.cx_core.specs.Events.{Guard, found_by, local_after, step_word, words_after}
 use Rattle.cx_core.specs.Lawful.{Shape}
-use Rattle.cx_core.specs.LawfulLocks.{FewRights, LockWord, Locks}
+use Rattle.cx_core.specs.LawfulLocks.{FewRights, LockWord, Locks, pin}
 use Rattle.cx_core.specs.Layout.{cur_at, lock_at}
 use Rattle.cx_core.specs.LockEvents.{downgraded_to, exclusive_mark, minus, passing, plus, refused_by, shared_by, taken}
 use Rattle.cx_core.specs.QueueEvents.{seen_word}
 use Rattle.cx_core.specs.RegionEvents.{loaded_into, persisted, stored_into}
-use Rattle.cx_core.specs.Rights.{downgraded_on, exclusive_on, has, holds, is_at, is_on, rights, shared_on}
+use Rattle.cx_core.specs.Rights.{downgraded_on, exclusive_on, has, holds, is_at, is_on, rights, shared_on, won_on}
+use Rattle.cx_core.specs.RootEvents.{CanRetire, IsAbove, before_in, code_in, outrun, published}
 use Rattle.cx_core.specs.State.{Instance, Scene, one_more}
 use Rattle.cx_core.proofs.Putting.{either}
 use Rattle.core_replica.specs.Frames.{OffLocks, SameRights}
 use Rattle.cx_core.proofs.HeldLists.{at_false, at_true, is_none}
-use Rattle.core_replica.proofs.LockLaws.{SameOn, few_moved, lock_claimed, lock_downgraded, lock_left, lock_passed, lock_released, lock_taken, locks_framed, locks_local, locks_put}
+use Rattle.core_replica.proofs.LockLaws.{SameOn, few_moved, lock_claimed, lock_downgraded, lock_left, lock_passed, lock_released, lock_taken, locks_framed, locks_local, locks_put, locks_repinned}
 use Rattle.cx_core.proofs.Sums.{on_other, on_same}
 
 -- which replica a right is on stays where its words change
@@ -35,6 +39,15 @@ shared_map : (f : HeldShared → HeldShared) → ((h : HeldShared) → (f h).rep
     option_map (λ (h : HeldShared). h.replica) (option_map f o) ≡ option_map (λ (h : HeldShared). h.replica) o
 shared_map f same None = refl
 shared_map f same (Some h) = ap Some (same h)
+
+-- what may be published is downgraded, and what may be retired was won
+above_some : (callers code : ℕ) (o : Option HeldDowngraded) → IsAbove callers code o → (h : HeldDowngraded) × (o ≡ Some h)
+above_some callers code None above = absurd above
+above_some callers code (Some h) above = (h, refl)
+
+won_some : (raised : ℕ) (o : Option WonCode) → CanRetire raised o → (w : WonCode) × (o ≡ Some w)
+won_some raised None can = absurd can
+won_some raised (Some w) can = (w, refl)
 
 module _ (instance : Instance) (scene : Scene) (locals : List Local) (caller : ℕ) (l : Local) (shape : Shape instance scene.words locals) (locks : Locks instance.callers scene.words locals)
     (at : slice_get locals caller ≡ Some l) where
@@ -188,6 +201,57 @@ module _ (instance : Instance) (scene : Scene) (locals : List Local) (caller : �
       (omega (arith, few.two)) (omega (arith, few.apart r))
       (lock_released callers _ locals caller r (word r) l l' (locks.each r guard.0.0) at eight (was r ∙ on) refl refl refl)
 
+  -- a publication that won
+  publish_won : Guard instance scene Publish l → slice_index scene.words cur_at ≡ l.seen_cur → Locks callers (set scene.words cur_at (code_in callers l.downgraded)) (set locals caller (published callers l))
+  publish_won guard cur =
+      let l' = published callers l in
+      let code = code_in callers l.downgraded in
+      let m = above_some callers l.seen_cur l.downgraded guard.0 in
+      let r = m.0.replica in
+      let was : (q : ℕ) → is_on q (downgraded_on l) ≡ is_on q (Some r) = λ q. ap (λ o. is_on q (option_map (λ (h : HeldDowngraded). h.replica) o)) m.1 in
+      let small : r < 2 * callers = few.below r (omega (arith, was r, on_same r r refl)) in
+      let replica : root_replica_of callers code ≡ r = ap (λ o. root_replica_of callers (code_in callers o)) m.1 ∙ mod-mul-add m.0.place (2 * callers) r small in
+      let pinned : (q : ℕ) → pin callers q code ≡ is_on q (Some r) = λ q. ap (λ n. is_on q (Some n)) replica in
+      let unpinned : (q : ℕ) → pin callers q (slice_index scene.words cur_at) ≡ pin callers q l.seen_cur = λ q. ap (pin callers q) cur in
+      let none : l.won ≡ None = is_none l.won guard.1 in
+      let unwon : (q : ℕ) → is_on q (won_on callers l) ≡ 0 = λ q. ap (λ o. is_on q (option_map (λ (w : WonCode). root_replica_of callers w.before) o)) none in
+      let one : has (downgraded_on l) ≡ 1 = ap (λ o. has (option_map (λ (h : HeldDowngraded). h.replica) o)) m.1 in
+      let old : root_replica_of callers l.seen_cur < 2 * callers = mod_below l.seen_cur (2 * callers) (omega (arith, shape.some)) in
+      locks_repinned instance scene.words locals code caller l l' shape locks at
+      (record {
+        two = omega (arith, few.two, one);
+        below = λ q some. elim (cases_eq (root_replica_of callers l.seen_cur) q) [
+          | inl e ↦ subst (λ n. n < 2 * callers) e old
+          | inr ne ↦ few.below q (omega (arith, some, on_other (root_replica_of callers l.seen_cur) q ne))
+        ];
+        apart = λ q. omega (arith, few.apart q);
+      })
+      (λ q. refl) refl (λ q. omega (arith, was q, pinned q, unpinned q, unwon q))
+
+  publish_kept : Guard instance scene Publish l → After Publish
+  publish_kept guard =
+      let found = slice_index scene.words cur_at in
+      let P : Bool → Type 0 = λ b. Locks callers (set scene.words cur_at (cond b (code_in callers l.downgraded) found)) (set locals caller (cond b (published callers l) (outrun callers l found))) in
+      elim (cases_Bool (found == l.seen_cur)) [
+        | inl e ↦ subst P (sym e) (publish_won guard (eqb-true found l.seen_cur e))
+        | inr e ↦ subst P (sym e) (word_kept cur_at (outrun callers l found) (record { exclusive = refl; shared = refl; passer = refl; downgraded = refl; won = refl }))
+      ]
+
+  -- a win whose claim ends
+  retire_kept : Guard instance scene Retire l → After Retire
+  retire_kept guard =
+      let l' = record l { won = None; steps = one_more l.steps } in
+      let r = root_replica_of callers (before_in l.won) in
+      let m = won_some l.raised l.won guard in
+      let on = on_same r r refl in
+      let replica = λ (o : Option WonCode). option_map (λ (w : WonCode). root_replica_of callers w.before) o in
+      let was : (q : ℕ) → is_on q (won_on callers l) ≡ is_on q (Some r) = λ q. ap (λ o. is_on q (replica o)) m.1 ∙ sym (ap (λ o. is_on q (Some (root_replica_of callers (before_in o)))) m.1) in
+      let small : r < 2 * callers = mod_below (before_in l.won) (2 * callers) (omega (arith, shape.some)) in
+      moved r (minus (word r) 1) l' small
+      (λ q ne. record { exclusive = refl; shared = refl; passer = refl; downgraded = refl; won = sym (was q ∙ on_other r q (λ e. ne (sym e))) })
+      (omega (arith, few.two)) (omega (arith, few.apart r))
+      (lock_left callers _ locals caller r (word r) l l' (locks.each r small) at eight refl (omega arith) (omega (arith, was r, on)))
+
 -- an allowed step of any kind keeps the part on locks
 pub locks_kept : (instance : Instance) (scene : Scene) (locals : List Local) (caller : ℕ) (l : Local) (kind : Kind) → Shape instance scene.words locals → Locks instance.callers scene.words locals →
     slice_get locals caller ≡ Some l → Guard instance scene kind l →
@@ -217,3 +281,9 @@ locks_kept instance scene locals caller l (StoreWord r i v) shape locks at guard
 locks_kept instance scene locals caller l (Persist r i) shape locks at guard =
     apart_kept instance scene locals caller l shape locks at (Persist r i) (omega arith, inr (omega arith))
     (record { exclusive = exclusive_map (persisted i) (λ _. refl) l.exclusive; shared = refl; passer = refl; downgraded = refl; won = refl })
+locks_kept instance scene locals caller l LoadCur shape locks at guard =
+    word_kept instance scene locals caller l shape locks at cur_at _ (record { exclusive = refl; shared = refl; passer = refl; downgraded = refl; won = refl })
+locks_kept instance scene locals caller l Publish shape locks at guard = publish_kept instance scene locals caller l shape locks at guard
+locks_kept instance scene locals caller l (Raise code read) shape locks at guard =
+    apart_kept instance scene locals caller l shape locks at (Raise code read) (omega arith, inl (omega arith)) (record { exclusive = refl; shared = refl; passer = refl; downgraded = refl; won = refl })
+locks_kept instance scene locals caller l Retire shape locks at guard = retire_kept instance scene locals caller l shape locks at guard

@@ -38,10 +38,11 @@ same_on callers q l l' same = record {
   won = ap (is_on q) (won_same callers l l' same.won);
 }
 
--- a lock word of a replica on which the caller's rights stay
-pub lock_else : (callers cur : ℕ) (locals : List Local) (caller q word : ℕ) (l l' : Local) → LockWord callers cur locals q word → slice_get locals caller ≡ Some l → SameOn callers q l l' →
-    LockWord callers cur (set locals caller l') q word
-lock_else callers cur locals caller q word l l' old at same =
+-- a lock word as it is, of a replica on which the caller's claims and the pin together stay, and so do its other rights
+pub lock_repinned : (callers cur cur' : ℕ) (locals : List Local) (caller q word : ℕ) (l l' : Local) → LockWord callers cur locals q word → slice_get locals caller ≡ Some l →
+    holds q l' ≡ holds q l → is_on q l'.passer ≡ is_on q l.passer → claims callers q l' + pin callers q cur' ≡ claims callers q l + pin callers q cur →
+    LockWord callers cur' (set locals caller l') q word
+lock_repinned callers cur cur' locals caller q word l l' old at hold pass moves =
     let marked = total_set (marks callers q) locals caller l l' at in
     let held = total_set (holds q) locals caller l l' at in
     let claimed = total_set (claims callers q) locals caller l l' at in
@@ -50,6 +51,12 @@ lock_else callers cur locals caller q word l l' old at same =
       one = omega (arith, old.one);
       alone = λ some. (let none = old.alone (omega arith) in omega arith);
     }
+
+-- a lock word of a replica on which the caller's rights stay
+pub lock_else : (callers cur : ℕ) (locals : List Local) (caller q word : ℕ) (l l' : Local) → LockWord callers cur locals q word → slice_get locals caller ≡ Some l → SameOn callers q l l' →
+    LockWord callers cur (set locals caller l') q word
+lock_else callers cur locals caller q word l l' old at same =
+    lock_repinned callers cur cur locals caller q word l l' old at same.exclusive same.passer (omega (arith, same.shared, same.downgraded, same.won))
 
 pub few_same : (callers : ℕ) (l l' : Local) → FewRights callers l → SameRights l l' → FewRights callers l'
 few_same callers l l' few same =
@@ -118,6 +125,24 @@ locks_put instance words locals r v caller l l' shape locks there small else few
         | inr ne ↦ subst (LockWord callers (slice_index words cur_at) locals' q) (sym (get_or-set_other words at (lock_at callers q) v 0 (λ e. ne (omega arith))))
             (lock_else callers (slice_index words cur_at) locals caller q (slice_index words (lock_at callers q)) l l' (locks.each q q_small) there (else q ne))
       ]);
+      few = EachLocal-set locals caller l l' (λ _ x. FewRights callers x) there locks.few few;
+    }
+
+-- a code put into CUR: each lock word stays, and claims make good for the pin that goes
+pub locks_repinned : (instance : Instance) (words : List ℕ) (locals : List Local) (code caller : ℕ) (l l' : Local) → Shape instance words locals → Locks instance.callers words locals →
+    slice_get locals caller ≡ Some l → FewRights instance.callers l' → ((q : ℕ) → holds q l' ≡ holds q l) → l'.passer ≡ l.passer →
+    ((q : ℕ) → claims instance.callers q l' + pin instance.callers q code ≡ claims instance.callers q l + pin instance.callers q (slice_index words cur_at)) →
+    Locks instance.callers (set words cur_at code) (set locals caller l')
+locks_repinned instance words locals code caller l l' shape locks there few hold pass moves =
+    let callers = instance.callers in
+    let within : cur_at < length words = omega (arith, shape.long) in
+    let cur : slice_index (set words cur_at code) cur_at ≡ code = get_or-set_same words cur_at code 0 within in
+    record {
+      each = λ q small. (
+          let word : slice_index (set words cur_at code) (lock_at callers q) ≡ slice_index words (lock_at callers q) = get_or-set_other words cur_at (lock_at callers q) code 0 (λ e. omega arith) in
+          subst (λ c. LockWord callers c (set locals caller l') q (slice_index (set words cur_at code) (lock_at callers q))) (sym cur)
+          (subst (LockWord callers code (set locals caller l') q) (sym word)
+          (lock_repinned callers (slice_index words cur_at) code locals caller q (slice_index words (lock_at callers q)) l l' (locks.each q small) there (hold q) (ap (is_on q) pass) (moves q))));
       few = EachLocal-set locals caller l l' (λ _ x. FewRights callers x) there locks.few few;
     }
 

@@ -9,30 +9,32 @@ use Rattle.std.specs.List.{All, Contains, slice_get}
 use Rattle.std.specs.Option.{option_map}
 use Rattle.cx_core.specs.declared.entry.Entry.{Entry}
 use Rattle.cx_core.specs.declared.kinds.Kind.{Kind}
-use Rattle.cx_core.specs.declared.kinds.Kind.TheVariants.{WriteCell, Link, Look, ReadCell, LoadFree, TryExclusive, TryShared, BackOff, Downgrade, ReleaseExclusive, LoadWord, StoreWord, Persist}
+use Rattle.cx_core.specs.declared.kinds.Kind.TheVariants.{WriteCell, Link, Look, ReadCell, LoadFree, TryExclusive, TryShared, BackOff, Downgrade, ReleaseExclusive, LoadWord, StoreWord, Persist, LoadCur, Publish, Raise, Retire}
 use Rattle.cx_core.specs.declared.local.HeldExclusive.{HeldExclusive}
 use Rattle.cx_core.specs.declared.local.HeldShared.{HeldShared}
 use Rattle.cx_core.specs.declared.local.Local.{Local}
-use Rattle.cx_core.specs.Events.{Guard, found_by, local_after, new_word, step_word, words_after}
+use Rattle.cx_core.specs.Events.{Guard, found_by, local_after, new_word, words_after}
 use Rattle.cx_core.specs.Lawful.{Shape}
 use Rattle.cx_core.specs.History.{IsFull}
 use Rattle.cx_core.specs.LawfulLocks.{Locks, total}
-use Rattle.cx_core.specs.LawfulRegions.{HasLoaded, HasWords, IsImage, IsUnheld, Regions, vol_word}
-use Rattle.cx_core.specs.Layout.{cell_count, lock_at, per_at, replica_words, vol_at}
+use Rattle.cx_core.specs.LawfulRegions.{HasLoaded, HasWords, IsImage, Regions, vol_word}
+use Rattle.cx_core.specs.Layout.{cell_count, cur_at, lock_at, per_at, replica_words, vol_at}
 use Rattle.cx_core.specs.LockEvents.{CanGiveUp, exclusive_mark, passing, refused_by, shared_by, taken, with_number}
 use Rattle.cx_core.specs.QueueEvents.{linked, lost, seen_word}
 use Rattle.cx_core.specs.RegionEvents.{loaded_into, persisted, stored_into}
-use Rattle.cx_core.specs.Rights.{claims, exclusive_on, held_dirty, held_words, holds, is_at, is_on, shared_on}
+use Rattle.cx_core.specs.Rights.{exclusive_on, held_dirty, held_words, holds, is_at, shared_on}
+use Rattle.cx_core.specs.RootEvents.{before_in, outrun, published}
 use Rattle.cx_core.specs.State.{Instance, Scene, one_more}
 use Rattle.cx_core.proofs.LayoutLemmas.{per_within, vol_within}
 use Rattle.cx_core.proofs.ListLemmas.{slice_get-set_same}
 use Rattle.cx_core.proofs.Locals.{item_after}
+use Rattle.cx_core.proofs.Putting.{either}
 use Rattle.core_replica.specs.Frames.{OffRegions, SameHeld}
-use Rattle.cx_core.proofs.Claims.{held_alone, held_below, holds_one, shared_alone, shared_below, shared_one, unheld_none}
+use Rattle.cx_core.proofs.Claims.{held_alone, held_below, holds_one, shared_alone, shared_below, unheld_none}
 use Rattle.cx_core.proofs.HeldLists.{All-with, Contains-filter, Contains-still, Contains-with, is_none, mapped, other_passes}
 use Rattle.core_replica.proofs.RegionLaws.{SameReplica, image_given, image_same, loaded_same, regions_framed, regions_local, regions_shared, regions_words, same_off, unheld_before, words_same}
 use Rattle.cx_core.proofs.ReplicaWords.{length-replica, per_apart, replica_at, vol_apart, vol_per_apart}
-use Rattle.cx_core.proofs.Sums.{on_same, total_member, total_parts, total_two}
+use Rattle.cx_core.proofs.Sums.{total_member, total_parts}
 
 module _ (instance : Instance) (history : List Entry) (scene : Scene) (locals : List Local) (caller : ℕ) (l : Local) (shape : Shape instance scene.words locals)
     (locks : Locks instance.callers scene.words locals) (regions : Regions instance history scene.words locals) (at : slice_get locals caller ≡ Some l) where
@@ -260,12 +262,17 @@ module _ (instance : Instance) (history : List Entry) (scene : Scene) (locals : 
       let q = cell_count callers in
       let slot : l.front % q < q = mod_below l.front q (omega (arith, shape.some)) in
       let found = found_by instance (Link j) l scene.words in
-      let place = step_word instance (Link j) l in
-      let v = new_word instance (Link j) l found in
-      elim (found == seen_word l.seen_slot) as (λ b. Regions instance history (set scene.words place v) (set locals caller (cond b (linked l j) (lost callers l found)))) [
-        | true ↦ framed place v (linked l j) (omega arith) (record { exclusive = refl; shared = refl })
-        | false ↦ framed place v (lost callers l found) (omega arith) (record { exclusive = refl; shared = refl })
-      ]
+      framed _ _ _ (omega (arith, slot)) (either (SameHeld l) (found == seen_word l.seen_slot) (linked l j) (lost callers l found) (record { exclusive = refl; shared = refl }) (record { exclusive = refl; shared = refl }))
+
+  publish_kept : After Publish
+  publish_kept =
+      let found = slice_index scene.words cur_at in
+      framed _ _ _ (omega arith) (either (SameHeld l) (found == l.seen_cur) (published callers l) (outrun callers l found) (record { exclusive = refl; shared = refl }) (record { exclusive = refl; shared = refl }))
+
+  retire_kept : After Retire
+  retire_kept =
+      let small : before_in l.won % (2 * callers) < 2 * callers = mod_below (before_in l.won) (2 * callers) (omega (arith, shape.some)) in
+      framed _ _ _ (omega (arith, small)) (record { exclusive = refl; shared = refl })
 
   given_kept : (r v : ℕ) (l' : Local) → scene.history ≡ history → CanGiveUp instance scene r l → l'.exclusive ≡ None → l'.shared ≡ l.shared → Regions instance history (set scene.words (lock_at callers r) v) (set locals caller l')
   given_kept r v l' same guard none shared =
@@ -304,3 +311,7 @@ regions_kept instance history scene locals caller l (ReleaseExclusive r) shape l
 regions_kept instance history scene locals caller l (LoadWord r i refused) shape locks regions same at guard = load_kept instance history scene locals caller l shape locks regions at r i _ guard.0.1 refl refl
 regions_kept instance history scene locals caller l (StoreWord r i v) shape locks regions same at guard = store_word_kept instance history scene locals caller l shape locks regions at r i v guard
 regions_kept instance history scene locals caller l (Persist r i) shape locks regions same at guard = persist_word_kept instance history scene locals caller l shape locks regions at r i guard
+regions_kept instance history scene locals caller l LoadCur shape locks regions same at guard = framed instance history scene locals caller l shape locks regions at _ _ _ (omega arith) (record { exclusive = refl; shared = refl })
+regions_kept instance history scene locals caller l Publish shape locks regions same at guard = publish_kept instance history scene locals caller l shape locks regions at
+regions_kept instance history scene locals caller l (Raise code read) shape locks regions same at guard = framed instance history scene locals caller l shape locks regions at _ _ _ (omega arith) (record { exclusive = refl; shared = refl })
+regions_kept instance history scene locals caller l Retire shape locks regions same at guard = retire_kept instance history scene locals caller l shape locks regions at

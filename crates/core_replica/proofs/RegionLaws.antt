@@ -17,7 +17,7 @@ use Rattle.cx_core.specs.Rights.{exclusive_on}
 use Rattle.cx_core.specs.State.{Instance}
 use Rattle.cx_core.proofs.HistoryLemmas.{full_stays}
 use Rattle.cx_core.proofs.ListLemmas.{slice_get-set_same, slice_get-set_other}
-use Rattle.core_queue.specs.Queue.{Continues}
+use Rattle.cx_core.specs.Frames.{Continues}
 use Rattle.cx_core.proofs.Locals.{EachLocal-set}
 use Rattle.core_replica.specs.Frames.{OffRegions, SameHeld}
 

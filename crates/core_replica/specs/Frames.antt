@@ -1,7 +1,6 @@
 -- What a step has to leave so that it keeps the parts on locks and on regions: the words and the fields that they name.
 use Rattle.std.specs.Prelude.{◌≡◌, ◌≢◌, ◌<◌, ℕ}
 use Rattle.cx_core.specs.Frames.{IsOff}
-use Rattle.core_queue.specs.Frames.{SameQueue}
 use Rattle.cx_core.specs.declared.local.Local.{Local}
 use Rattle.cx_core.specs.Layout.{cur_at, link_at, lock_at, replicas_at}
 use Rattle.cx_core.specs.Rights.{downgraded_on, exclusive_on, shared_on}
@@ -27,9 +26,3 @@ pub record SameRights (l l' : Local) : Type 0 where
 pub record SameHeld (l l' : Local) : Type 0 where
   pub exclusive : l'.exclusive ≡ l.exclusive
   pub shared : l'.shared ≡ l.shared
-
--- the fields that any part of the lawful state names
-pub record SameLawful (l l' : Local) : Type 0 where
-  pub queue : SameQueue l l'
-  pub rights : SameRights l l'
-  pub held : SameHeld l l'

@@ -4,18 +4,19 @@ use Rattle.cx_core.specs.declared.entry.Entry.{Entry}
 use Rattle.cx_core.specs.declared.kinds.Kind.{Kind}
 use Rattle.cx_core.specs.declared.local.Local.{Local}
 use Rattle.cx_core.specs.Events.{Makes}
+use Rattle.cx_core.specs.Lawful.{Shape}
 use Rattle.cx_core.specs.LawfulLocks.{Locks}
 use Rattle.cx_core.specs.LawfulRegions.{Regions}
+use Rattle.cx_core.specs.Merge.{IsHistory}
 use Rattle.cx_core.specs.State.{Instance, State}
-use Rattle.core_queue.specs.Queue.{QueueLawful}
 
 pub record ReplicasLawful (instance : Instance) (history : List Entry) (words : List ℕ) (locals : List Local) : Type 0 where
   pub locks : Locks instance.callers words locals
   pub regions : Regions instance history words locals
 
--- each step of this kind keeps those parts, whichever caller makes it, where the queue's parts hold too
+-- each step of this kind keeps those parts, whichever caller makes it, where the shape holds and the history is the state's
 abbrev pub KeepsReplicas : Kind → Type 0
 KeepsReplicas kind =
     (instance : Instance) (history : List Entry) (before after : State) (caller : ℕ) →
-    QueueLawful instance history before.words before.locals → ReplicasLawful instance history before.words before.locals →
+    Shape instance before.words before.locals → IsHistory instance.base.place history before.locals → ReplicasLawful instance history before.words before.locals →
     Makes instance (record { caller = caller; kind = kind }) before after → ReplicasLawful instance history after.words after.locals

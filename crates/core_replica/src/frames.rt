@@ -1,8 +1,7 @@
 //! One framing law for each part: a step on a word that the part does not name, which changes no field that the part
 //! names, keeps the part. Regions are also kept by a history that goes on.
 
-ghost use Rattle.cx_core.specs.Frames.{StepApart};
-ghost use Rattle.core_queue.specs.Queue.{Continues};
+ghost use Rattle.cx_core.specs.Frames.{Continues, StepApart};
 ghost use Rattle.core_replica.specs.Frames.{OffLocks, OffRegions, SameHeld, SameRights};
 ghost use Rattle.cx_core.specs.LawfulLocks.{Locks};
 ghost use Rattle.cx_core.specs.LawfulRegions.{Regions};

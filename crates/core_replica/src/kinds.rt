@@ -1,10 +1,10 @@
 //! The opening state has the parts of the lawful state on locks and on regions, and each kind of step keeps them.
 
-ghost use Rattle.std.specs.Prelude.{◌≡◌, ◌≤◌, ℕ, Bool, []};
+ghost use Rattle.std.specs.Prelude.{◌≡◌, ◌≤◌, ℕ, Bool, List, [], Option};
 ghost use Rattle.core_replica.specs.Replicas.{KeepsReplicas, ReplicasLawful};
 ghost use Rattle.cx_core.specs.Region.{place_of};
 ghost use Rattle.cx_core.specs.State.{Instance, opening_locals, opening_words};
-ghost use Rattle.cx_core.specs.declared.kinds.Kind.TheVariants.{BackOff, Downgrade, LoadWord, Persist, ReleaseExclusive, StoreWord, TryExclusive, TryShared};
+ghost use Rattle.cx_core.specs.declared.kinds.Kind.TheVariants.{BackOff, Downgrade, LoadCur, LoadWord, Persist, Publish, Raise, ReleaseExclusive, Retire, StoreWord, TryExclusive, TryShared};
 
 /// The opening state, where the base's words have its place.
 pub fn opening_has_the_replicas()
@@ -50,6 +50,27 @@ pub fn store_word_keeps()
 /// A word persisted.
 pub fn persist_keeps()
     ensures { (r i : ℕ) → KeepsReplicas (Persist r i) }
+{}
+
+/// A load of CUR.
+pub fn load_cur_keeps()
+    ensures { KeepsReplicas LoadCur }
+{}
+
+/// A publication. Where it is won, the pin on the replica of CUR's code goes over to the replica published, from the
+/// downgraded right there, and the win claims the replica that was pinned.
+pub fn publish_keeps()
+    ensures { KeepsReplicas Publish }
+{}
+
+/// DUR raised, with a read answered or not.
+pub fn raise_keeps()
+    ensures { (code : ℕ) (read : Option (List ℕ)) → KeepsReplicas (Raise code read) }
+{}
+
+/// A win retired, whose claim ends.
+pub fn retire_keeps()
+    ensures { KeepsReplicas Retire }
 {}
 
 /// Any kind: those of the queue touch nothing that these parts name.

@@ -1,9 +1,7 @@
 //! The laws of locks and of replicas: the opening state has these parts of the lawful state, each kind of step keeps
-//! them, and so does each step that touches nothing that a part names. Over them stands the law of all parts: every
-//! state of every run is lawful. Each law is the contract of a function that does nothing.
+//! them, and so does each step that touches nothing that a part names. Each law is the contract of a function that does
+//! nothing.
 #![tactic(auto)]
 
 pub mod frames;
-pub mod images;
 pub mod kinds;
-pub mod runs;

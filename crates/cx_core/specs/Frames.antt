@@ -1,6 +1,7 @@
 -- A step that is apart from a part of the lawful state: on a word that the part does not name, with the fields as they were that
--- the part names.
-use Rattle.std.specs.Prelude.{◌≡◌, ◌<◌, ◌≤◌, ◌⊎◌, ℕ, Some, slice_get, slice_set}
+-- the part names. And a history that goes on.
+use Rattle.std.specs.Prelude.{◌≡◌, ◌<◌, ◌≤◌, ◌⊎◌, ◌++◌, ℕ, List, Some, slice_get, slice_set}
+use Rattle.cx_core.specs.declared.entry.Entry.{Entry}
 use Rattle.cx_core.specs.declared.local.Local.{Local}
 use Rattle.cx_core.specs.State.{State}
 
@@ -27,3 +28,8 @@ AnyWord at = Unit {0}
 
 abbrev pub AnyLocal : Local → Local → Type 0
 AnyLocal l l' = Unit {0}
+
+-- a history begins with another
+pub record Continues (history history' : List Entry) : Type 0 where
+  pub more : List Entry
+  pub is : history' ≡ history ++ more

@@ -1,5 +1,0 @@
-use Rattle.core_replica.proofs.ImageLaws.{image_claimed}
-use Rattle.core_replica.proofs.images.claimed_replicas_are_images.Goals as goal
-
-pub returns : goal.returns
-returns c = image_claimed

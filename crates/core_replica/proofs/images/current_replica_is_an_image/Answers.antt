@@ -1,5 +1,0 @@
-use Rattle.core_replica.proofs.ImageLaws.{image_current}
-use Rattle.core_replica.proofs.images.current_replica_is_an_image.Goals as goal
-
-pub returns : goal.returns
-returns c = image_current

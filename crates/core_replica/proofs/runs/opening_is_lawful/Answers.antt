@@ -1,5 +1,0 @@
-use Rattle.core_replica.proofs.Keeps.{opening_lawful}
-use Rattle.core_replica.proofs.runs.opening_is_lawful.Goals as goal
-
-pub returns : goal.returns
-returns c = opening_lawful
