@@ -22,7 +22,7 @@ use Rattle.cx_rule.specs.Learns.{LearnsAnyway}
 use Rattle.cx_rule.specs.Rule.{RuleHolds, IsKnown, IsLawfulLocal, NotesHold, StandStill}
 use Rattle.cx_rule.specs.Running.{Running, instance_at}
 use Rattle.cx_rule.specs.Seats.{IsByShown, known_after, known_of, noted_by, shown_next, unseen}
-use Rattle.core_replica.proofs.Keeps.{kind_kept}
+use Rattle.core_runs.proofs.Keeps.{kind_kept}
 use Rattle.cx_rule.proofs.ShownLaws.{guard_shown, lawful_shown, next_shown, put_shown, told_shown, word_shown}
 use Rattle.cx_rule.proofs.Notes.{noted_hold, notes-append, notes_still}
 use Rattle.cx_rule.specs.Steps.{IsEventOn, IsStore, Puts, Teaches}

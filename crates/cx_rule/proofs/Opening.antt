@@ -15,7 +15,7 @@ use Rattle.cx_core.proofs.ListLemmas.{slice_get-set_same, slice_get-set_other}
 use Rattle.cx_rule.specs.declared.rule.Known.{Known}
 use Rattle.cx_rule.specs.Rule.{RuleHolds, IsKnown}
 use Rattle.cx_rule.specs.Seats.{opening_known, opening_view}
-use Rattle.core_replica.proofs.Keeps.{lawful_local, opening_lawful}
+use Rattle.core_runs.proofs.Keeps.{lawful_local, opening_lawful}
 
 -- an item of a list made item by item
 pub mapped_at : {X : Type 0} (f : ℕ → X) (n i : ℕ) (x : X) → slice_get (map f (range_with_len 0 n)) i ≡ Some x → (i < n) × (x ≡ f i)

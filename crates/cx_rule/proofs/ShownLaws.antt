@@ -5,12 +5,13 @@ use Rattle.std.proofs.lemmas.Bool.{false≢true}
 use Rattle.std.specs.Prelude.{nat_lt}
 use Rattle.std.specs.Option.{option_map}
 use Rattle.cx_core.specs.declared.kinds.Kind.{Kind}
-use Rattle.cx_core.specs.declared.kinds.Kind.TheVariants.{WriteCell, Link, Look, ReadCell, LoadFree, TryExclusive, TryShared, BackOff, Downgrade, ReleaseExclusive, LoadWord, StoreWord, Persist}
+use Rattle.cx_core.specs.declared.kinds.Kind.TheVariants.{WriteCell, Link, Look, ReadCell, LoadFree, TryExclusive, TryShared, BackOff, Downgrade, ReleaseExclusive, LoadWord, StoreWord, Persist, LoadCur, Publish, Raise, Retire}
 use Rattle.cx_core.specs.declared.local.HeldExclusive.{HeldExclusive}
 use Rattle.cx_core.specs.declared.local.Local.{Local}
 use Rattle.cx_core.specs.Events.{Guard, new_word, next, step_word}
 use Rattle.cx_core.specs.Layout.{vol_at}
 use Rattle.cx_core.specs.LockEvents.{exclusive_mark, passing, refused_by, shared_by, taken}
+use Rattle.cx_core.specs.RootEvents.{outrun, published}
 use Rattle.cx_core.specs.QueueEvents.{linked, lost, seen_word}
 use Rattle.cx_core.specs.Rights.{is_at, shared_on}
 use Rattle.cx_core.specs.Shown.{shown}
@@ -66,6 +67,12 @@ next_holding instance scene (StoreWord r i v) l (Some h) found by = refl
 next_holding instance scene (Downgrade r) l o found by = absurd by
 next_holding instance scene (ReleaseExclusive r) l o found by = absurd by
 next_holding instance scene (Persist r i) l o found by = absurd by
+next_holding instance scene LoadCur l o found by = refl
+next_holding instance scene Publish l o found by =
+    elim (found == l.seen_cur) as (λ b. shown (cond b (published instance.callers (holding l o)) (outrun instance.callers (holding l o) found))
+    ≡ cond b (published instance.callers (holding l (option_map blank o))) (outrun instance.callers (holding l (option_map blank o)) found)) [ true ↦ refl | false ↦ refl ]
+next_holding instance scene (Raise code read) l o found by = absurd by
+next_holding instance scene Retire l o found by = refl
 
 -- what is shown of the local state after a step is what the step makes of the one that is shown
 pub next_shown : (instance : Instance) (scene : Scene) (kind : Kind) (l : Local) (found : ℕ) → IsByShown kind → shown (next instance scene kind l found) ≡ shown_next instance kind (shown l) found
@@ -86,6 +93,10 @@ guard_holding instance scene (StoreWord r i v) l (Some h) by g = g
 guard_holding instance scene (Downgrade r) l (Some h) by g = absurd by
 guard_holding instance scene (ReleaseExclusive r) l (Some h) by g = absurd by
 guard_holding instance scene (Persist r i) l (Some h) by g = absurd by
+guard_holding instance scene LoadCur l (Some h) by g = g
+guard_holding instance scene Publish l (Some h) by g = g
+guard_holding instance scene (Raise code read) l (Some h) by g = absurd by
+guard_holding instance scene Retire l (Some h) by g = g
 
 -- a guard that does not look at the scene
 guard_seen : (instance : Instance) (scene : Scene) (kind : Kind) (l : Local) → IsByShown kind → Guard instance unseen kind l → Guard instance scene kind l
@@ -103,6 +114,10 @@ guard_seen instance scene (StoreWord r i v) l by g = g
 guard_seen instance scene (Downgrade r) l by g = absurd by
 guard_seen instance scene (ReleaseExclusive r) l by g = absurd by
 guard_seen instance scene (Persist r i) l by g = absurd by
+guard_seen instance scene LoadCur l by g = g
+guard_seen instance scene Publish l by g = g
+guard_seen instance scene (Raise code read) l by g = absurd by
+guard_seen instance scene Retire l by g = g
 
 -- a guard over what is shown is the guard
 pub guard_shown : (instance : Instance) (scene : Scene) (kind : Kind) (l : Local) → IsByShown kind → Guard instance unseen kind (shown l) → Guard instance scene kind l
@@ -123,6 +138,10 @@ word_shown instance (ReleaseExclusive r) l = refl
 word_shown instance (LoadWord r i refused) l = refl
 word_shown instance (StoreWord r i v) l = refl
 word_shown instance (Persist r i) l = refl
+word_shown instance LoadCur l = refl
+word_shown instance Publish l = refl
+word_shown instance (Raise code read) l = refl
+word_shown instance Retire l = refl
 
 pub put_shown : (instance : Instance) (kind : Kind) (l : Local) (found : ℕ) → IsByShown kind → new_word instance kind (shown l) found ≡ new_word instance kind l found
 put_shown instance (WriteCell j i v) l found by = refl
@@ -138,6 +157,10 @@ put_shown instance (ReleaseExclusive r) l found by = refl
 put_shown instance (LoadWord r i refused) l found by = refl
 put_shown instance (StoreWord r i v) l found by = refl
 put_shown instance (Persist r i) l found by = absurd by
+put_shown instance LoadCur l found by = refl
+put_shown instance Publish l found by = refl
+put_shown instance (Raise code read) l found by = absurd by
+put_shown instance Retire l found by = refl
 
 -- what the rule says of the word found
 pub told_shown : (instance : Instance) (kind : Kind) (l : Local) (found : ℕ) → Told instance kind l found → Told instance kind (shown l) found
@@ -154,12 +177,16 @@ told_shown instance (ReleaseExclusive r) l found told = tt
 told_shown instance (LoadWord r i refused) l found told = tt
 told_shown instance (StoreWord r i v) l found told = tt
 told_shown instance (Persist r i) l found told = tt
+told_shown instance LoadCur l found told = tt
+told_shown instance Publish l found told = tt
+told_shown instance (Raise code read) l found told = tt
+told_shown instance Retire l found told = tt
 
 -- what the lawful state says of a local state by itself, it says of what is shown of it
 pub lawful_shown : (instance : Instance) (l : Local) → IsLawfulLocal instance l → IsLawfulLocal instance (shown l)
 lawful_shown instance l law = record {
   shape = record { number = law.shape.number; cells = law.shape.cells; each = law.shape.each };
-  tickets = record { numbers = law.tickets.numbers; answered = law.tickets.answered; one = law.tickets.one };
+  tickets = record { numbers = law.tickets.numbers; ops = law.tickets.ops; answered = law.tickets.answered; one = law.tickets.one };
   from = law.from;
   to = law.to;
   floor = law.floor;

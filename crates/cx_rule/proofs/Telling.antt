@@ -5,7 +5,7 @@ use Rattle.std.specs.List.{slice_get}
 use Rattle.cx_base.specs.Codes.{link_cell_of, link_code_of, link_ticket_of}
 use Rattle.cx_core.specs.declared.entry.Entry.{Entry}
 use Rattle.cx_core.specs.declared.kinds.Kind.{Kind}
-use Rattle.cx_core.specs.declared.kinds.Kind.TheVariants.{WriteCell, Link, Look, ReadCell, LoadFree, TryExclusive, TryShared, BackOff, Downgrade, ReleaseExclusive, LoadWord, StoreWord, Persist}
+use Rattle.cx_core.specs.declared.kinds.Kind.TheVariants.{WriteCell, Link, Look, ReadCell, LoadFree, TryExclusive, TryShared, BackOff, Downgrade, ReleaseExclusive, LoadWord, StoreWord, Persist, LoadCur, Publish, Raise, Retire}
 use Rattle.cx_core.specs.declared.local.Local.{Local}
 use Rattle.cx_core.specs.declared.local.SeenSlot.{SeenSlot}
 use Rattle.cx_core.specs.Events.{Guard, found_by}
@@ -124,3 +124,7 @@ told_holds instance (ReleaseExclusive r) s law caller l at guard still = tt
 told_holds instance (LoadWord r i refused) s law caller l at guard still = tt
 told_holds instance (StoreWord r i v) s law caller l at guard still = tt
 told_holds instance (Persist r i) s law caller l at guard still = tt
+told_holds instance LoadCur s law caller l at guard still = tt
+told_holds instance Publish s law caller l at guard still = tt
+told_holds instance (Raise code read) s law caller l at guard still = tt
+told_holds instance Retire s law caller l at guard still = tt

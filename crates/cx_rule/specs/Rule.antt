@@ -8,7 +8,7 @@ use Rattle.cx_core.specs.declared.entry.Entry.{Entry}
 use Rattle.cx_core.specs.declared.local.Local.{Local}
 use Rattle.cx_base.specs.Codes.{root_place_of}
 use Rattle.cx_core.specs.Lawful.{Lawful, LocalShape, OwnTickets}
-use Rattle.cx_core.specs.Layout.{lock_at, offer_at, replicas_at}
+use Rattle.cx_core.specs.Layout.{lock_at, low_at, offer_at, replicas_at}
 use Rattle.cx_core.specs.Merge.{IsLinked}
 use Rattle.cx_core.specs.Shown.{shown}
 use Rattle.cx_core.specs.State.{Instance, opening_words}
@@ -44,10 +44,10 @@ pub record IsLawfulLocal (instance : Instance) (l : Local) : Type 0 where
   pub cur : root_place_of instance.callers l.seen_cur ≤ l.front
   pub floor_cur : l.floor ≤ root_place_of instance.callers l.seen_cur
 
--- the words that no step is on yet stay as they were opened: those in front of the locks, and those of offers and sets
+-- the words that no step is on yet stay as they were opened: those between DUR and the locks, and those of offers and sets
 abbrev pub StandStill : Instance → List ℕ → Type 0
 StandStill instance words =
-    (at : ℕ) → (at < lock_at instance.callers 0) ⊎ ((offer_at instance.callers 0 ≤ at) × (at < replicas_at instance.callers)) →
+    (at : ℕ) → ((low_at ≤ at) × (at < lock_at instance.callers 0)) ⊎ ((offer_at instance.callers 0 ≤ at) × (at < replicas_at instance.callers)) →
     slice_index words at ≡ slice_index (opening_words instance.callers instance.base) at
 
 pub record RuleHolds (instance : Instance) (s : atomic.State ℕ (List Known)) : Type 0 where

@@ -4,7 +4,7 @@ use Rattle.std.specs.List.{range_with_len}
 use Rattle.std.specs.Option.{option_map}
 use Rattle.atomic_table.specs.Seated.{TableId}
 use Rattle.cx_core.specs.declared.kinds.Kind.{Kind}
-use Rattle.cx_core.specs.declared.kinds.Kind.TheVariants.{WriteCell, Link, Look, ReadCell, LoadFree, Downgrade, ReleaseExclusive, LoadWord, Persist}
+use Rattle.cx_core.specs.declared.kinds.Kind.TheVariants.{WriteCell, Link, Look, ReadCell, LoadFree, Downgrade, ReleaseExclusive, LoadWord, Persist, Raise}
 use Rattle.cx_core.specs.declared.local.Cell.{Cell}
 use Rattle.cx_core.specs.declared.local.Linked.{Linked}
 use Rattle.cx_core.specs.declared.local.Local.{Local}
@@ -21,13 +21,14 @@ abbrev pub unseen : Scene
 unseen = record { history = []; words = [] }
 
 -- Those are the kinds whose guard, whose word put and whose shown local state afterwards look at no word of a region. To give
--- up an exclusive right its words have to be a full image, what is persisted is one of them, and a load that is marked as a
--- refusal found another place.
+-- up an exclusive right its words have to be a full image, what is persisted is one of them, a load that is marked as a
+-- refusal found another place, and what a raise answers is the history's.
 abbrev pub IsByShown : Kind → Type 0
 IsByShown (Downgrade r) = ⊥
 IsByShown (ReleaseExclusive r) = ⊥
 IsByShown (Persist r i) = ⊥
 IsByShown (LoadWord r i true) = ⊥
+IsByShown (Raise code read) = ⊥
 IsByShown _ = Unit {0}
 
 -- the kinds of the queue

@@ -18,10 +18,11 @@ use Rattle.cx_core.specs.State.{Instance, opening_words}
 use Rattle.cx_rule.specs.declared.rule.Known.{Known}
 use Rattle.cx_core.specs.Layout.{vol_at, per_at}
 use Rattle.cx_table.specs.declared.remains.Remains.{Remains}
-use Rattle.cx_rule.specs.Ending.{IsCodeChain}
+use Rattle.cx_core.specs.Chain.{IsCodeChain, Leads}
+use Rattle.cx_core.specs.Free.{HoldsNone}
+use Rattle.cx_core.specs.LawfulRoot.{Root}
 use Rattle.cx_table.specs.Remains.{AreSeats, Leaves, MarksDirty, known_by, locals_of, opening_seat}
-use Rattle.cx_rule.specs.Rule.{RuleHolds, IsKnown, NotesHold, StandStill}
-use Rattle.cx_table.specs.Mirrors.{HoldsNone}
+use Rattle.cx_rule.specs.Rule.{RuleHolds, IsKnown, NotesHold}
 use Rattle.cx_rule.specs.Running.{IsSeatOf, Running}
 use Rattle.cx_rule.specs.Seats.{Seated}
 use Rattle.cx_core.proofs.MergeLemmas.{history_is}
@@ -124,14 +125,20 @@ read_is [] i x at = absurd (some-ne-none x (sym at))
 read_is (y ∷ ys) zero x at = some-injective y x at
 read_is (y ∷ ys) (suc i) x at = read_is ys i x at
 
--- no code was published since the table was opened
-pub one_code : (instance : Instance) (words : List ℕ) (locals : List Local) (code : ℕ) (codes : List ℕ) → StandStill instance words → get_elem? words 0 ≡ some code → codes ≡ code ∷ [] → IsCodeChain words locals codes
-unfolding opening_words
-one_code instance words locals code codes still at is =
-    let dur : slice_index words 1 ≡ slice_index (opening_words instance.callers instance.base) 1 = still 1 (inl (omega arith)) in
-    let cur : slice_index words 0 ≡ slice_index (opening_words instance.callers instance.base) 0 = still 0 (inl (omega arith)) in
+-- where nobody has a win, CUR has come no further than DUR
+no_further : (locals : List Local) → ((c : ℕ) (l : Local) → slice_get locals c ≡ Some l → HoldsNone l) → (from : ℕ) (codes : List ℕ) (to : ℕ) → Leads locals from codes to → from ≡ to
+no_further locals none from [] to leads = leads
+no_further locals none from (code ∷ codes) to leads =
+    let won = leads.1 in
+    absurd (none-some _ (sym (none won.caller won.local won.of_caller).won ∙ won.won))
+
+-- there the chain is the one code in CUR
+pub one_code : (instance : Instance) (words : List ℕ) (locals : List Local) (code : ℕ) (codes : List ℕ) → Root instance words locals → ((c : ℕ) (l : Local) → slice_get locals c ≡ Some l → HoldsNone l) →
+    get_elem? words 0 ≡ some code → codes ≡ code ∷ [] → IsCodeChain words locals codes
+one_code instance words locals code codes root none at is =
     let here = read_is words 0 code at in
-    subst (IsCodeChain words locals) (sym is) (dur ∙ sym cur ∙ here, sym here)
+    let dur = no_further locals none (slice_index words 1) root.above (slice_index words 0) root.leads in
+    subst (IsCodeChain words locals) (sym is) (dur ∙ here, sym here)
 
 -- a part of the words that were handed out, at the same places
 pub same_part : (words ws : List ℕ) (a b c d : ℕ) → words ≡ ws → a ≡ c → b ≡ d → slice_range ws a b ≡ slice_range words c d
@@ -176,7 +183,7 @@ leaves t instance seats r s id callers base are none held me h =
       state = state;
       history = is;
       merged = subst (λ (p : ℕ). IsHistory p r.trail.history (locals_of seats)) place (subst (λ (es : List Entry). IsHistory instance.base.place es (locals_of seats)) is state.tickets.merged);
-      chain = one_code instance s.words (locals_of seats) h.code r.trail.chain held.still h.cur h.chain;
+      chain = one_code instance s.words (locals_of seats) h.code r.trail.chain state.root (all_none (known_by seats) none) h.cur h.chain;
       volatile = h.volatile;
       durable = h.durable;
       dirty = none_dirty (locals_of seats) (2 * t.callers) (length t.base.words) r.dirty.items (all_none (known_by seats) none) h.dirty;

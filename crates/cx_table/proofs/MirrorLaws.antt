@@ -21,7 +21,8 @@ use Rattle.cx_core.proofs.Locals.{slice_get-last}
 use Rattle.core_queue.proofs.Shapes.{shape_linked, shape_same, shape_written}
 use Rattle.cx_table.specs.declared.mirror.Mirror.{Mirror}
 use Rattle.cx_rule.specs.declared.rule.Known.{Known}
-use Rattle.cx_table.specs.Mirrors.{Follows, HoldsNone, IsMirrored, mirror_of}
+use Rattle.cx_core.specs.Free.{HoldsNone}
+use Rattle.cx_table.specs.Mirrors.{Follows, IsMirrored, mirror_of}
 use Rattle.cx_rule.specs.Rule.{IsLawfulLocal}
 use Rattle.cx_rule.specs.Running.{IsSeatOf, Running, instance_at}
 use Rattle.cx_rule.specs.Seats.{IsAtLimit, IsOfQueue, IsWithinLimit, Seated, known_after, known_of, shown_next, unanswered_ticket, unseen}

@@ -7,7 +7,8 @@ use Rattle.cx_core.specs.Lawful.{CellShape}
 use Rattle.cx_core.specs.State.{blank_cell, opening_local}
 use Rattle.cx_rule.specs.declared.rule.Known.{Known}
 use Rattle.cx_table.specs.declared.mirror.Mirror.{Mirror}
-use Rattle.cx_table.specs.Mirrors.{HoldsNone, IsMirrored, mirror_of}
+use Rattle.cx_core.specs.Free.{HoldsNone}
+use Rattle.cx_table.specs.Mirrors.{IsMirrored, mirror_of}
 use Rattle.cx_rule.specs.Seats.{HasCells, IsWithinLimit, opening_known}
 use Rattle.cx_rule.proofs.Moves.{one_caller}
 

@@ -4,6 +4,7 @@ use Rattle.atomic_table.specs.Table.{Me}
 use Rattle.cx_core.specs.declared.kinds.Kind.{Kind}
 use Rattle.cx_core.specs.declared.local.Cell.{Cell}
 use Rattle.cx_core.specs.declared.local.Local.{Local}
+use Rattle.cx_core.specs.Free.{HoldsNone}
 use Rattle.cx_core.specs.Events.{Guard}
 use Rattle.cx_core.specs.State.{Instance}
 use Rattle.cx_table.specs.declared.mirror.Mirror.{Mirror}
@@ -35,16 +36,8 @@ abbrev pub Follows : ℕ → Kind → ℕ → Mirror → Mirror → Type 0
 Follows callers kind found before after =
     (instance : Instance) (l : Local) → instance.callers ≡ callers → Guard instance unseen kind l → before ≡ mirror_of l → after ≡ mirror_of (shown_next instance kind l found)
 
--- a caller has no right on a replica, since no step call takes one yet
-pub record HoldsNone (l : Local) : Type 0 where
-  pub exclusive : l.exclusive ≡ None
-  pub shared : l.shared ≡ None
-  pub passer : l.passer ≡ None
-  pub downgraded : l.downgraded ≡ None
-  pub won : l.won ≡ None
-
--- a seat knows one caller, and its numbers are that caller's. They are small enough to be counted on, and no more steps were
--- made than the limit allows.
+-- a seat knows one caller, and its numbers are that caller's. They are small enough to be counted on, no more steps were
+-- made than the limit allows, and it has no right on a replica, since no step call takes one yet.
 pub record IsMirrored (me : Me ℕ (List Known)) (mirror : Mirror) (before : ℕ) : Type 0 where
   pub one : me ≡ (known_of me.0 ∷ [], [])
   pub is : mirror ≡ mirror_of (known_of me.0).local

@@ -4,7 +4,7 @@ ghost use Rattle.std.specs.Prelude.{◌≡◌, ◌+◌, ◌*◌, ◌<◌, ◌≤
 ghost use Rattle.std.specs.Slots.{IsFull, slots_items, slots_len};
 ghost use Rattle.cx_table.specs.Remains.{AreSeats, Leaves, known_by};
 ghost use Rattle.cx_core.specs.Region.{region_words};
-ghost use Rattle.cx_table.specs.Mirrors.{HoldsNone};
+ghost use Rattle.cx_core.specs.Free.{HoldsNone};
 ghost use Rattle.cx_rule.specs.Running.{instance_at};
 ghost use Rattle.cx_rule.specs.Seats.{Seated};
 

@@ -8,7 +8,7 @@ use Rattle.cx_core.specs.State.{Instance}
 use Rattle.cx_core.specs.Merge.{history_of}
 use Rattle.cx_rule.specs.Ending.{locals_known}
 use Rattle.cx_rule.specs.Rule.{RuleHolds}
-use Rattle.cx_table.specs.Mirrors.{HoldsNone}
+use Rattle.cx_core.specs.Free.{HoldsNone}
 use Rattle.cx_rule.specs.declared.rule.Known.{Known}
 use Rattle.cx_rule.specs.Running.{instance_at}
 use Rattle.cx_table.proofs.Closing.{leaves, same_part}

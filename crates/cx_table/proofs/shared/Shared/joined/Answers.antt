@@ -4,7 +4,7 @@ use Rattle.std.proofs.lemmas.List.Elements.{All-cons, All-pop, All-weaker}
 use Rattle.atomic_table.specs.Table.{Me}
 use Rattle.cx_rule.specs.declared.rule.Known.{Known}
 use Rattle.cx_table.specs.Remains.{known_by}
-use Rattle.cx_table.specs.Mirrors.{HoldsNone}
+use Rattle.cx_core.specs.Free.{HoldsNone}
 use Rattle.cx_rule.specs.Running.{IsSeatOf}
 use Rattle.cx_rule.specs.Seats.{Seated}
 use Rattle.cx_rule.proofs.Moves.{enters}

@@ -1,5 +1,5 @@
 use Rattle.std.proofs.Common.{◌≡◌, ◌++◌, [], All}
-use Rattle.cx_table.specs.Mirrors.{HoldsNone}
+use Rattle.cx_core.specs.Free.{HoldsNone}
 use Rattle.cx_table.specs.Remains.{known_by}
 use Rattle.cx_table.proofs.shared.Shared.joined.Given as goal
 
