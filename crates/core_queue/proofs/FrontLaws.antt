@@ -55,14 +55,22 @@ fronts_put instance history history' words words' locals caller l l' fronts at l
       (λ d x there. behind_kept instance history history' words words' x x (fronts.each d x there) longer same (same_front x)) here;
 }
 
+-- a step on a word that fronts do not name, of a caller that is behind afterwards
+pub fronts_off : (instance : Instance) (history : List Entry) (words : List ℕ) (locals : List Local) (at v caller : ℕ) (l l' : Local) →
+    Fronts instance history words locals → slice_get locals caller ≡ Some l → 4 ≤ at ⊎ (at ≡ 0) → IsBehind instance history words l' →
+    Fronts instance history (set words at v) (set locals caller l')
+fronts_off instance history words locals at v caller l l' fronts there off here =
+    let same = same_words words at v off in
+    fronts_put instance history history words (set words at v) locals caller l l' fronts there (omega arith) same
+    (behind_kept instance history history words (set words at v) l' l' here (omega arith) same (same_front l'))
+
 -- the framing law: fronts name DUR, LOW and FREE, and of a local state the fields of SameFront
 pub fronts_framed : (instance : Instance) (history : List Entry) (words : List ℕ) (locals : List Local) (at v caller : ℕ) (l l' : Local) →
     Fronts instance history words locals → slice_get locals caller ≡ Some l → 4 ≤ at ⊎ (at ≡ 0) → SameFront l l' →
     Fronts instance history (set words at v) (set locals caller l')
 fronts_framed instance history words locals at v caller l l' fronts there off fields =
-    let same = same_words words at v off in
-    fronts_put instance history history words (set words at v) locals caller l l' fronts there (omega arith) same
-    (behind_kept instance history history words (set words at v) l l' (fronts.each caller l there) (omega arith) same fields)
+    fronts_off instance history words locals at v caller l l' fronts there off
+    (behind_kept instance history history words words l l' (fronts.each caller l there) (omega arith) (record { dur = refl; low = refl; free = refl }) fields)
 
 -- a caller whose front rises, but not past the end
 pub behind_raised : (instance : Instance) (history history' : List Entry) (words words' : List ℕ) (l l' : Local) → IsBehind instance history words l →

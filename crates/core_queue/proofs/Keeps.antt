@@ -1,5 +1,5 @@
 -- Each kind of step keeps the parts on tickets, links, cells and fronts.
-use Rattle.std.proofs.Common.{◌≡◌, ◌+◌, ◌-◌, ◌*◌, ◌%◌, ◌==◌, ◌<◌, ◌≤◌, inl, inr, ℕ, Bool, cond, List, [], ◌∷◌, ◌++◌, length, set, slice_index, refl, sym, subst, ◌∙◌, arith, Option, Some, length-append}
+use Rattle.std.proofs.Common.{◌≡◌, ◌+◌, ◌-◌, ◌*◌, ◌%◌, ◌==◌, ◌<◌, ◌≤◌, inl, inr, ℕ, Bool, cond, List, [], ◌∷◌, ◌++◌, length, set, slice_index, refl, sym, subst, ◌∙◌, arith, Some, length-append}
 use Rattle.std.proofs.lemmas.Bool.{cases_Bool, eqb-true}
 use Rattle.std.proofs.lemmas.List.{append-nil, set-get_or, length-set}
 use Rattle.std.proofs.lemmas.Nat.{mod_below}
@@ -9,17 +9,14 @@ use Rattle.cx_base.specs.Codes.{link_code_of}
 use Rattle.cx_core.specs.declared.entry.Entry.{Entry}
 use Rattle.cx_core.specs.declared.kinds.Event.{Event}
 use Rattle.cx_core.specs.declared.kinds.Kind.{Kind}
-use Rattle.cx_core.specs.declared.kinds.Kind.TheVariants.{WriteCell, Link, Look, ReadCell, LoadFree, TryExclusive, TryShared, BackOff, Downgrade, ReleaseExclusive, LoadWord, StoreWord, Persist}
-use Rattle.cx_core.specs.declared.local.HeldDowngraded.{HeldDowngraded}
-use Rattle.cx_core.specs.declared.local.HeldExclusive.{HeldExclusive}
-use Rattle.cx_core.specs.declared.local.HeldShared.{HeldShared}
+use Rattle.cx_core.specs.declared.kinds.Kind.TheVariants.{WriteCell, Link, Look, ReadCell, LoadFree, TryExclusive, TryShared, BackOff, Downgrade, ReleaseExclusive, LoadWord, StoreWord, Persist, LoadCur, Publish, Raise, Retire}
 use Rattle.cx_core.specs.declared.local.Local.{Local}
-use Rattle.cx_core.specs.declared.local.SeenLock.{SeenLock}
 use Rattle.cx_core.specs.declared.local.SeenSlot.{SeenSlot}
 use Rattle.cx_core.specs.Events.{Guard, Makes, local_after, step_word, words_after}
 use Rattle.cx_core.specs.QueueEvents.{CanLink, entry_in, linked, lost, raised_front, seen_word}
-use Rattle.cx_core.specs.Layout.{cell_count, free_at, link_at, cell_at, lock_at, replicas_at}
+use Rattle.cx_core.specs.Layout.{cell_count, free_at, link_at, cell_at}
 use Rattle.cx_core.specs.Lawful.{IsBehind, LocalShape, SeenStands, SlotStands}
+use Rattle.cx_core.specs.LawfulRoot.{RootBounds}
 use Rattle.cx_core.specs.Merge.{IsLinked, scene_of}
 use Rattle.cx_core.specs.Rights.{is_at, shared_on}
 use Rattle.cx_core.specs.State.{Instance, Scene, State}
@@ -31,9 +28,10 @@ use Rattle.core_queue.proofs.CellPuts.{cells_written}
 use Rattle.core_queue.proofs.FrontLaws.{behind_free, behind_kept, behind_raised, fronts_framed, fronts_put, same_words}
 use Rattle.core_queue.proofs.LinkLaws.{links_framed, links_linked, raised_within, won_at_end}
 use Rattle.cx_core.proofs.Locals.{EachLocal-set}
-use Rattle.core_queue.proofs.QueueFrames.{queue_put}
+use Rattle.core_queue.proofs.QueueFrames.{off_lock, off_region, queue_put, same_but}
+use Rattle.core_queue.proofs.RootKinds.{load_cur_kept, publish_kept, raise_kept, retire_kept}
 use Rattle.cx_core.proofs.Putting.{either}
-use Rattle.core_queue.proofs.Shapes.{shape_kept, shape_linked, shape_same, shape_written}
+use Rattle.core_queue.proofs.Shapes.{cell_there, shape_kept, shape_linked, shape_same, shape_written}
 use Rattle.core_queue.proofs.TicketLaws.{tickets_framed, tickets_linked}
 
 -- with the history as it was
@@ -112,7 +110,7 @@ module _ (instance : Instance) (history : List Entry) (words : List ℕ) (locals
           continues = record { more = entry ∷ []; is = refl };
           lawful = record {
             shape = shape_kept instance words locals place code caller l (linked l j) law.shape at (shape_linked caller l j shape guard.0);
-            tickets = tickets_linked instance history locals caller l j law.tickets at shape.number guard end;
+            tickets = tickets_linked instance history locals caller l j law.tickets at shape.number (shape.each j _ (cell_there caller l j shape guard.0)) guard end;
             links = links_linked instance history words entry l.front j law.links some long end guard.0;
             cells = cells_linked instance history words locals caller l j wins;
             fronts = fronts_put instance history (history ++ entry ∷ []) words (set words place code) locals caller l (linked l j) law.fronts at (omega (arith, longer)) (same_words words place code (inl far))
@@ -149,7 +147,7 @@ module _ (instance : Instance) (history : List Entry) (scene : Scene) (locals : 
       let j_small = guard.0 in
       let far : link_at instance.callers (cell_count instance.callers) ≤ place = omega arith in
       subst (λ n. QueueContinues instance history (set words (cell_at instance.callers (16 * n + j) i) v) (set locals caller l')) (sym shape.number) (same_history (record {
-        shape = shape_kept instance words locals place v caller l l' law.shape at (shape_written caller l l' j i v shape j_small refl refl);
+        shape = shape_kept instance words locals place v caller l l' law.shape at (shape_written caller l l' j i v shape j_small guard.3 refl refl);
         tickets = tickets_framed instance history locals caller l l' law.tickets at refl refl;
         links = links_framed instance history words place v law.links (inr far);
         cells = cells_written instance history words locals caller l l' j i v law.shape law.cells at j_small guard.1 guard.2 (law.fronts.each caller l at).free refl refl refl;
@@ -198,55 +196,41 @@ module _ (instance : Instance) (history : List Entry) (scene : Scene) (locals : 
   apart_kept kind off same =
       same_history (queue_put instance history scene.words locals (step_word instance kind l) _ caller l (local_after instance scene kind l) law at off same)
 
--- a lock word, or a word of a replica
-off_lock : (instance : Instance) (r : ℕ) → r < 2 * instance.callers → OffQueue instance (lock_at instance.callers r)
-off_lock instance r below = inr (omega arith, inl (omega arith))
-
-off_region : (instance : Instance) (at : ℕ) → replicas_at instance.callers ≤ at → OffQueue instance at
-off_region instance at behind = inr (omega arith, inr behind)
-
--- the fields that steps on locks and replicas change are none of the queue's
-same_but : (l : Local) (fresh : Bool) (refused : List ℕ) (seen_lock : Option SeenLock) (exclusive : Option HeldExclusive) (shared : Option HeldShared) (passer : Option ℕ)
-    (downgraded : Option HeldDowngraded) (steps met : ℕ) →
-    SameQueue l (record l { fresh = fresh; refused = refused; seen_lock = seen_lock; exclusive = exclusive; shared = shared; passer = passer; downgraded = downgraded; steps = steps; met = met })
-same_but l fresh refused seen_lock exclusive shared passer downgraded steps met = record {
-  number = refl;
-  tickets = record { own = refl; answered = refl };
-  cells = record { cells = refl; seen_slot = refl; seen_offer = refl };
-  front = record { front = refl; floor = refl; seen_cur = refl; seen_free = refl; seen_low = refl; raised = refl; won = refl };
-}
-
 -- an allowed step of any kind
 pub queue_kept : (instance : Instance) (history : List Entry) (scene : Scene) (locals : List Local) (caller : ℕ) (l : Local) (kind : Kind) → QueueLawful instance history scene.words locals →
-    slice_get locals caller ≡ Some l → Guard instance scene kind l →
+    RootBounds instance history scene.words locals → slice_get locals caller ≡ Some l → Guard instance scene kind l →
     QueueContinues instance history (words_after instance kind l scene.words) (set locals caller (local_after instance scene kind l))
-queue_kept instance history scene locals caller l (WriteCell j i v) law at guard = write_cell_kept instance history scene locals caller l law at j i v guard
-queue_kept instance history scene locals caller l (Link j) law at guard = link_kept instance history scene locals caller l law at j guard
-queue_kept instance history scene locals caller l (Look slot) law at guard = look_kept instance history scene locals caller l law at slot guard
-queue_kept instance history scene locals caller l (ReadCell t k i) law at guard = read_cell_kept instance history scene locals caller l law at t k i
-queue_kept instance history scene locals caller l LoadFree law at guard = load_free_kept instance history scene locals caller l law at
-queue_kept instance history scene locals caller l (TryExclusive r) law at guard =
+queue_kept instance history scene locals caller l (WriteCell j i v) law bounds at guard = write_cell_kept instance history scene locals caller l law at j i v guard
+queue_kept instance history scene locals caller l (Link j) law bounds at guard = link_kept instance history scene locals caller l law at j guard
+queue_kept instance history scene locals caller l (Look slot) law bounds at guard = look_kept instance history scene locals caller l law at slot guard
+queue_kept instance history scene locals caller l (ReadCell t k i) law bounds at guard = read_cell_kept instance history scene locals caller l law at t k i
+queue_kept instance history scene locals caller l LoadFree law bounds at guard = load_free_kept instance history scene locals caller l law at
+queue_kept instance history scene locals caller l (TryExclusive r) law bounds at guard =
     apart_kept instance history scene locals caller l law at (TryExclusive r) (off_lock instance r guard.0) (either (SameQueue l) _ _ _ (same_but l _ _ _ _ _ _ _ _ _) (same_but l _ _ _ _ _ _ _ _ _))
-queue_kept instance history scene locals caller l (TryShared r) law at guard =
+queue_kept instance history scene locals caller l (TryShared r) law bounds at guard =
     apart_kept instance history scene locals caller l law at (TryShared r) (off_lock instance r guard.0) (either (SameQueue l) _ _ _ (same_but l _ _ _ _ _ _ _ _ _) (same_but l _ _ _ _ _ _ _ _ _))
-queue_kept instance history scene locals caller l (BackOff r) law at guard =
+queue_kept instance history scene locals caller l (BackOff r) law bounds at guard =
     apart_kept instance history scene locals caller l law at (BackOff r) (off_lock instance r guard.0)
     (either (SameQueue l) (is_at r (shared_on l)) _ _ (same_but l _ _ _ _ _ _ _ _ _) (either (SameQueue l) (is_at r l.passer) _ _ (same_but l _ _ _ _ _ _ _ _ _) (same_but l _ _ _ _ _ _ _ _ _)))
-queue_kept instance history scene locals caller l (Downgrade r) law at guard =
+queue_kept instance history scene locals caller l (Downgrade r) law bounds at guard =
     apart_kept instance history scene locals caller l law at (Downgrade r) (off_lock instance r guard.0.0) (same_but l _ _ _ _ _ _ _ _ _)
-queue_kept instance history scene locals caller l (ReleaseExclusive r) law at guard =
+queue_kept instance history scene locals caller l (ReleaseExclusive r) law bounds at guard =
     apart_kept instance history scene locals caller l law at (ReleaseExclusive r) (off_lock instance r guard.0.0) (same_but l _ _ _ _ _ _ _ _ _)
-queue_kept instance history scene locals caller l (LoadWord r i refused) law at guard =
+queue_kept instance history scene locals caller l (LoadWord r i refused) law bounds at guard =
     apart_kept instance history scene locals caller l law at (LoadWord r i refused) (off_region instance _ (omega arith)) (same_but l _ _ _ _ _ _ _ _ _)
-queue_kept instance history scene locals caller l (StoreWord r i v) law at guard =
+queue_kept instance history scene locals caller l (StoreWord r i v) law bounds at guard =
     apart_kept instance history scene locals caller l law at (StoreWord r i v) (off_region instance _ (omega arith)) (same_but l _ _ _ _ _ _ _ _ _)
-queue_kept instance history scene locals caller l (Persist r i) law at guard =
+queue_kept instance history scene locals caller l (Persist r i) law bounds at guard =
     apart_kept instance history scene locals caller l law at (Persist r i) (off_region instance _ (omega arith)) (same_but l _ _ _ _ _ _ _ _ _)
+queue_kept instance history scene locals caller l LoadCur law bounds at guard = same_history (load_cur_kept instance history scene locals caller l law bounds at)
+queue_kept instance history scene locals caller l Publish law bounds at guard = same_history (publish_kept instance history scene locals caller l law bounds at guard)
+queue_kept instance history scene locals caller l (Raise code read) law bounds at guard = same_history (raise_kept instance history scene locals caller l law bounds at code read guard)
+queue_kept instance history scene locals caller l Retire law bounds at guard = same_history (retire_kept instance history scene locals caller l law bounds at)
 
 -- an event
-pub queue_event_kept : (instance : Instance) (history : List Entry) (event : Event) (before after : State) → QueueLawful instance history before.words before.locals → Makes instance event before after →
-    QueueContinues instance history after.words after.locals
-queue_event_kept instance history event before after law m =
+pub queue_event_kept : (instance : Instance) (history : List Entry) (event : Event) (before after : State) → QueueLawful instance history before.words before.locals →
+    RootBounds instance history before.words before.locals → Makes instance event before after → QueueContinues instance history after.words after.locals
+queue_event_kept instance history event before after law bounds m =
     subst (λ ws. QueueContinues instance history ws after.locals) (sym m.words)
     (subst (λ ls. QueueContinues instance history (words_after instance event.kind m.local before.words) ls) (sym m.locals)
-    (queue_kept instance history (scene_of instance before) before.locals event.caller m.local event.kind law m.of_caller m.guard))
+    (queue_kept instance history (scene_of instance before) before.locals event.caller m.local event.kind law bounds m.of_caller m.guard))

@@ -9,5 +9,7 @@ pub mod LiveLaws
 pub mod Opening
 pub mod Pigeonhole
 pub mod QueueFrames
+pub mod RootFronts
+pub mod RootKinds
 pub mod Shapes
 pub mod TicketLaws

@@ -1,6 +1,7 @@
 -- The opening state meets the parts on tickets, links, cells and fronts.
 use Rattle.std.proofs.Common.{◌≡◌, ◌+◌, ◌-◌, ◌*◌, ◌^◌, ◌<◌, ◌≤◌, ℕ, List, [], ◌∷◌, ◌++◌, length, replicate, slice_index, refl, ap, sym, subst, ◌∙◌, arith, Some, length-append}
 use Rattle.std.proofs.lemmas.List.{get_or_append_left, get_or-append_right, get_or-replicate, length-replicate}
+use Rattle.std.proofs.lemmas.List.Elements.{All-replicate}
 use Rattle.std.proofs.lemmas.List.FromFn.{length-map-range_with_len}
 use Rattle.std.proofs.lemmas.Nat.{div-mul-add}
 use Rattle.std.proofs.lemmas.Option.{none-some, get_or_from_slice_get, slice_get_within}
@@ -53,7 +54,11 @@ blank j cell at =
     (within, sym (get_or_from_slice_get (replicate 16 blank_cell) j cell blank_cell at) ∙ get_or-replicate 16 j blank_cell blank_cell within)
 
 blank_shape : CellShape blank_cell
-blank_shape = record { words = length-replicate {A = ℕ} 145 0; set = length-replicate {A = ℕ} 513 0 }
+blank_shape = record {
+  words = length-replicate {A = ℕ} 145 0;
+  fit = All-replicate (λ w. w < 2 ^ 64) 145 0 (omega arith);
+  set = length-replicate {A = ℕ} 513 0;
+}
 
 -- a cell of the opening is shown
 blank_shown : (callers : ℕ) (base : Base) (k : ℕ) → 1 ≤ callers → k < 16 * callers → IsShown callers (opening_words callers base) k blank_cell
@@ -85,7 +90,7 @@ opening_lawful instance some few place_small =
       tickets = record {
         merged = record { own = own (λ c l. l.own ≡ []) (λ _ _. refl); of_callers = λ i entry there. absurd (none-some entry there) };
         below = omega arith;
-        each = own _ (λ c _. record { numbers = λ i x there. absurd (none-some x there); answered = refl; one = omega arith });
+        each = own _ (λ c _. record { numbers = λ i x there. absurd (none-some x there); ops = λ i x there. absurd (none-some x there); answered = refl; one = omega arith });
       };
       links = record { each = λ slot below. Never (λ other e linked _. nothing_linked place other e linked) (zeros callers base (link_at callers slot) some (omega arith) (omega arith)) };
       cells = record {

@@ -1,6 +1,7 @@
 -- The shape of a state is kept by each step.
-use Rattle.std.proofs.Common.{◌≡◌, ◌<◌, ℕ, List, length, set, inl, inr, refl, ap, subst, ◌∙◌, arith, Some}
+use Rattle.std.proofs.Common.{◌≡◌, ◌^◌, ◌<◌, ℕ, List, length, set, inl, inr, refl, ap, subst, ◌∙◌, arith, Some}
 use Rattle.std.proofs.lemmas.List.{length-set}
+use Rattle.std.proofs.lemmas.List.Elements.{All-set}
 use Rattle.std.proofs.lemmas.Option.{slice_get-get_or}
 use Rattle.std.specs.List.{slice_get}
 use Rattle.cx_core.specs.declared.local.Cell.{Cell}
@@ -32,13 +33,18 @@ shape_put caller l l' j new shape below here number cells = record {
 pub shape_linked : (caller : ℕ) (l : Local) (j : ℕ) → LocalShape caller l → j < 16 → LocalShape caller (linked l j)
 shape_linked caller l j shape below =
     let old = shape.each j (cell_of l j) (cell_there caller l j shape below) in
-    shape_put caller l (linked l j) j _ shape below (record { words = old.words; set = old.set }) refl refl
+    shape_put caller l (linked l j) j _ shape below (record { words = old.words; fit = old.fit; set = old.set }) refl refl
 
 -- the local state after a word was written into a cell
-pub shape_written : (caller : ℕ) (l l' : Local) (j i v : ℕ) → LocalShape caller l → j < 16 → l'.number ≡ l.number → l'.cells ≡ written l j i v → LocalShape caller l'
-shape_written caller l l' j i v shape below number cells =
+pub shape_written : (caller : ℕ) (l l' : Local) (j i v : ℕ) → LocalShape caller l → j < 16 → v < 2 ^ 64 → l'.number ≡ l.number → l'.cells ≡ written l j i v →
+    LocalShape caller l'
+shape_written caller l l' j i v shape below fits number cells =
     let old = shape.each j (cell_of l j) (cell_there caller l j shape below) in
-    shape_put caller l l' j _ shape below (record { words = length-set (cell_of l j).words i v ∙ old.words; set = old.set }) number cells
+    shape_put caller l l' j _ shape below (record {
+      words = length-set (cell_of l j).words i v ∙ old.words;
+      fit = All-set (λ w. w < 2 ^ 64) (cell_of l j).words i v fits old.fit;
+      set = old.set;
+    }) number cells
 
 -- a local state with the same number and cells
 pub shape_same : (caller : ℕ) (l l' : Local) → LocalShape caller l → l'.number ≡ l.number → l'.cells ≡ l.cells → LocalShape caller l'

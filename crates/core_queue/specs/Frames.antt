@@ -1,5 +1,5 @@
 -- What a step has to leave so that it keeps a part of the queue: the words and the fields that the part names.
-use Rattle.std.specs.Prelude.{◌≡◌, ◌≢◌, ◌<◌, ◌≤◌, ◌⊎◌, ℕ, Some, slice_get, slice_set}
+use Rattle.std.specs.Prelude.{◌≡◌, ◌≢◌, ◌≤◌, ◌⊎◌, ℕ}
 use Rattle.cx_core.specs.declared.local.Local.{Local}
 use Rattle.cx_core.specs.Frames.{IsOff}
 use Rattle.cx_core.specs.Layout.{cell_count, cur_at, free_at, link_at, need_at, replicas_at}

@@ -6,6 +6,7 @@ use Rattle.cx_core.specs.declared.local.Local.{Local}
 use Rattle.cx_core.specs.Events.{Makes}
 use Rattle.cx_core.specs.Frames.{Continues}
 use Rattle.cx_core.specs.Lawful.{Cells, Fronts, Links, Shape, Tickets}
+use Rattle.cx_core.specs.LawfulRoot.{RootBounds}
 use Rattle.cx_core.specs.State.{Instance, State}
 
 pub record QueueLawful (instance : Instance) (history : List Entry) (words : List ℕ) (locals : List Local) : Type 0 where
@@ -21,8 +22,8 @@ pub record QueueContinues (instance : Instance) (history : List Entry) (words : 
   pub continues : Continues history after
   pub lawful : QueueLawful instance after words locals
 
--- each step of this kind keeps those parts, whichever caller makes it
+-- each step of this kind keeps those parts, whichever caller makes it, where what callers have seen of the root is within it
 abbrev pub KeepsQueue : Kind → Type 0
 KeepsQueue kind =
     (instance : Instance) (history : List Entry) (before after : State) (caller : ℕ) → QueueLawful instance history before.words before.locals →
-    Makes instance (record { caller = caller; kind = kind }) before after → QueueContinues instance history after.words after.locals
+    RootBounds instance history before.words before.locals → Makes instance (record { caller = caller; kind = kind }) before after → QueueContinues instance history after.words after.locals

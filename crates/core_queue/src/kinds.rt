@@ -1,10 +1,11 @@
 //! The opening state has the parts of the lawful state on tickets, links, cells and fronts, and each kind of step keeps
-//! them. The history stays but for a link that wins, which adds its entry at the end.
+//! them, where what callers have seen of the root is within it. The history stays but for a link that wins, which adds its
+//! entry at the end.
 
 ghost use Rattle.std.specs.Prelude.{◌^◌, ◌≤◌, ℕ, []};
 ghost use Rattle.core_queue.specs.Queue.{KeepsQueue, QueueLawful};
 ghost use Rattle.cx_core.specs.State.{Instance, opening_locals, opening_words};
-ghost use Rattle.cx_core.specs.declared.kinds.Kind.TheVariants.{Link, LoadFree, Look, ReadCell, WriteCell};
+ghost use Rattle.cx_core.specs.declared.kinds.Kind.TheVariants.{Link, LoadCur, LoadFree, Look, Publish, Raise, ReadCell, Retire, WriteCell};
 
 /// The opening state of 1 to 8 callers, where the base's place is at most 2^40.
 pub fn opening_has_the_queue()
@@ -35,6 +36,26 @@ pub fn read_cell_keeps()
 /// A load of FREE.
 pub fn load_free_keeps()
     ensures { KeepsQueue LoadFree }
+{}
+
+/// A load of CUR.
+pub fn load_cur_keeps()
+    ensures { KeepsQueue LoadCur }
+{}
+
+/// A publication, won or lost.
+pub fn publish_keeps()
+    ensures { KeepsQueue Publish }
+{}
+
+/// A raise of DUR, whatever it answers.
+pub fn raise_keeps()
+    ensures { (code : ℕ) (read : _) → KeepsQueue (Raise code read) }
+{}
+
+/// A win given up.
+pub fn retire_keeps()
+    ensures { KeepsQueue Retire }
 {}
 
 /// Any kind: those on locks and on the words of replicas touch nothing that these parts name.
