@@ -40,6 +40,8 @@ limit_kept instance words locals caller l limit law at = lawful_local instance (
   };
   rights = record { exclusive = refl; shared = refl; passer = refl; downgraded = refl; won = refl };
   held = record { exclusive = refl; shared = refl };
+  root = record { seen_cur = refl; won = refl; downgraded = λ h has. has };
+  answers = record { own = refl; answered = refl; seen_reads = refl; floor = refl };
 })
 
 -- the first n callers have their limits
