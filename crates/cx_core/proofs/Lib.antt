@@ -9,6 +9,7 @@ pub mod Locals
 pub mod MergeLemmas
 pub mod Putting
 pub mod ReplicaWords
+pub mod RootCodes
 pub mod StateLemmas
 pub mod StepLemmas
 pub mod Sums
