@@ -29,14 +29,14 @@ mapped f (Some x) y is = (x, refl, same y is)
     same y is = cc
 
 -- an item of a list is its first one or one of the rest
-contains_cases : {X : Type 0} (y : X) (ys : List X) (x : X) → Contains (y ∷ ys) x → (y ≡ x) ⊎ Contains ys x
+pub contains_cases : {X : Type 0} (y : X) (ys : List X) (x : X) → Contains (y ∷ ys) x → (y ≡ x) ⊎ Contains ys x
 contains_cases y ys x (zero, below, is) = inl is
 contains_cases y ys x (suc k, below, is) = inr (k, omega arith, is)
 
-contains_rest : {X : Type 0} (y : X) (ys : List X) (x : X) → Contains ys x → Contains (y ∷ ys) x
+pub contains_rest : {X : Type 0} (y : X) (ys : List X) (x : X) → Contains ys x → Contains (y ∷ ys) x
 contains_rest y ys x there = (suc there.0, (let below : there.0 < length ys = there.1 in omega arith), there.2)
 
-contains_first : {X : Type 0} (y : X) (ys : List X) (x : X) → y ≡ x → Contains (y ∷ ys) x
+pub contains_first : {X : Type 0} (y : X) (ys : List X) (x : X) → y ≡ x → Contains (y ∷ ys) x
 contains_first y ys x is = (zero, omega arith, is)
 
 -- an item that passes the test is kept

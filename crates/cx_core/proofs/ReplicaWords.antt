@@ -1,9 +1,13 @@
 -- Where the words of replicas stand: each in the table, and no two at one place.
-use Rattle.std.proofs.Common.{◌≡◌, ◌≢◌, ◌+◌, ◌*◌, ◌<◌, ◌≤◌, ◌⊎◌, ⊎_elim, ℕ, suc, List, length, drop, slice_index, ap, ◌∙◌, arith}
-use Rattle.std.proofs.lemmas.Bool.{cases_order}
-use Rattle.std.proofs.lemmas.List.{get_or-take, get_or-drop, length-drop, length-take-le}
+use Rattle.std.proofs.Common.{◌≡◌, ◌≢◌, ◌+◌, ◌*◌, ◌<◌, ◌≤◌, ◌⊎◌, ⊎_elim, inl, inr, ℕ, suc, List, length, drop, slice_index, ap, sym, ◌∙◌, arith}
+use Rattle.std.proofs.lemmas.Bool.{cases_lt, cases_order}
+use Rattle.std.proofs.lemmas.List.{get_or-take, get_or-drop, get_or_past, length-drop, length-take-le}
 use Rattle.std.proofs.Math.Nat.{mul-le-mul_left, mul-suc}
+use Rattle.cx_core.specs.declared.local.HeldExclusive.{HeldExclusive}
+use Rattle.cx_core.specs.LawfulRegions.{HasWords, vol_word}
 use Rattle.cx_core.specs.Layout.{per_at, replica_words, vol_at, word_count}
+use Rattle.cx_core.specs.Region.{place_of}
+use Rattle.cx_core.specs.State.{Instance}
 use Rattle.cx_core.proofs.LayoutLemmas.{replica_within}
 
 -- a replica ends before the next begins
@@ -44,3 +48,17 @@ module _ (callers region : ℕ) where
   pub length-replica : (words : List ℕ) (r : ℕ) → r < 2 * callers → length words ≡ word_count callers region → length (replica_words callers region words r) ≡ region
   length-replica words r small long =
       length-take-le region (drop (vol_at callers region r 0) words) (omega (arith, length-drop (vol_at callers region r 0) words, replica_within callers region r small, long))
+
+-- the place of the words that are held is that of the replica
+pub held_place : (instance : Instance) (words : List ℕ) (h : HeldExclusive) → length words ≡ word_count instance.callers (length instance.base.words) → HasWords instance words h →
+    vol_word instance words h.replica 0 ≡ place_of h.words
+held_place instance words h long has =
+    elim (cases_lt 0 (length instance.base.words)) [
+      | inl some ↦ has.vol 0 some
+      | inr none ↦ (
+          let nothing : length instance.base.words ≡ 0 = omega arith in
+          let rows : length instance.base.words * h.replica ≡ 0 = ap (λ n. n * h.replica) nothing ∙ omega arith in
+          let all : length instance.base.words * (4 * instance.callers) ≡ 0 = ap (λ n. n * (4 * instance.callers)) nothing ∙ omega arith in
+          get_or_past words (vol_at instance.callers (length instance.base.words) h.replica 0) 0 (omega (arith, rows, all, long))
+          ∙ sym (get_or_past h.words 0 0 (omega (arith, has.long))))
+    ]

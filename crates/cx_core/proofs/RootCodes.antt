@@ -1,9 +1,24 @@
--- Root codes rise with their places.
-use Rattle.std.proofs.Common.{◌*◌, ◌/◌, ◌≤◌, ℕ, arith}
-use Rattle.std.proofs.lemmas.Nat.{div-add-mod', le-div}
-use Rattle.cx_base.specs.Codes.{root_place_of}
+-- Root codes: what they name, and that a code at a higher place is higher.
+use Rattle.std.proofs.Common.{◌≡◌, ◌*◌, ◌<◌, ◌≤◌, inl, inr, ℕ, arith}
+use Rattle.std.proofs.lemmas.Bool.{cases_lt}
+use Rattle.std.proofs.lemmas.Nat.{div-add-mod', div-mul-add, le-div, mod-mul-add}
+use Rattle.cx_base.specs.Codes.{root_code_of, root_place_of, root_replica_of}
 
--- a greater code has no lesser place
-pub place_up : (callers code code' : ℕ) → 1 ≤ callers → code ≤ code' → root_place_of callers code ≤ root_place_of callers code'
-place_up callers code code' some up =
-    le-div (code / (2 * callers)) code' (2 * callers) (omega arith) (let back = div-add-mod' code (2 * callers) in omega arith)
+-- the code of a replica that there is names it, at its place
+pub code_replica : (callers place replica : ℕ) → replica < 2 * callers → root_replica_of callers (root_code_of callers place replica) ≡ replica
+code_replica callers place replica small = mod-mul-add place (2 * callers) replica small
+
+pub code_place : (callers place replica : ℕ) → replica < 2 * callers → root_place_of callers (root_code_of callers place replica) ≡ place
+code_place callers place replica small = div-mul-add place (2 * callers) replica small
+
+-- places rise with codes
+pub place_up : (callers a b : ℕ) → 1 ≤ callers → a ≤ b → root_place_of callers a ≤ root_place_of callers b
+place_up callers a b some up = le-div (root_place_of callers a) b (2 * callers) (omega arith) (let back = div-add-mod' a (2 * callers) in omega arith)
+
+-- and codes with places
+pub code_up : (callers a b : ℕ) → 1 ≤ callers → root_place_of callers a < root_place_of callers b → a < b
+code_up callers a b some up =
+    elim (cases_lt a b) [
+      | inl below ↦ below
+      | inr above ↦ (let falls = place_up callers b a some above in absurd (omega arith))
+    ]
