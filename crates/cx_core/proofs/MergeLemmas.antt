@@ -88,7 +88,7 @@ own_first caller ticket entry rest zero x next at =
 own_first caller ticket entry rest (suc j) x next at = in_rest ticket entry rest x (next j at)
 
 -- a linked entry among a caller's own has its place in the history
-own_at : (caller ticket : ℕ) (history : List Entry) (i : ℕ) (x : Linked) → slice_get (own_of caller ticket history) i ≡ Some x →
+pub own_at : (caller ticket : ℕ) (history : List Entry) (i : ℕ) (x : Linked) → slice_get (own_of caller ticket history) i ≡ Some x →
     (ticket ≤ x.ticket) × (slice_get history (x.ticket - ticket) ≡ Some x.entry)
 own_at caller ticket [] i x at = absurd (none-some x at)
 own_at caller ticket (entry ∷ rest) i x at =

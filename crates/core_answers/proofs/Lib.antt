@@ -1,0 +1,4 @@
+pub mod AnswerKinds
+pub mod AnswerLaws
+pub mod Opening
+pub mod RaiseLaws
