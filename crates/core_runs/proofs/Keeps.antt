@@ -25,10 +25,10 @@ use Rattle.core_replica.proofs.LockLaws.{locks_local}
 use Rattle.core_replica.proofs.Opening.{opening_locks, opening_regions}
 use Rattle.core_replica.proofs.RegionLaws.{regions_longer, regions_shared}
 use Rattle.core_replica.proofs.Replicas.{replicas_kept}
-use Rattle.core_root.proofs.Bounds.{root_bounds}
 use Rattle.core_root.proofs.Opening.{opening_root}
-use Rattle.core_root.proofs.RootKinds.{root_kept}
+use Rattle.core_root.proofs.Keeps.{root_kept}
 use Rattle.core_root.proofs.RootLaws.{low_off, root_framed}
+use Rattle.core_root.proofs.RootLimits.{root_bounds}
 use Rattle.core_runs.specs.Frames.{SameLawful}
 
 -- a local state put that has the same fields as far as any part names them
@@ -55,7 +55,7 @@ lawful_local instance s caller l l' law at same =
 
 -- what the part on fronts needs of the root
 pub bounds_of : (instance : Instance) (s : State) (law : Lawful instance s) → RootBounds instance law.history s.words s.locals
-bounds_of instance s law = root_bounds instance law.history s.words s.locals law.shape.some law.locks law.regions law.root
+bounds_of instance s law = root_bounds instance law.history s.words s.locals law.shape law.locks law.regions law.root
 
 -- what is durable is of the history
 durable_within : (instance : Instance) (history : List Entry) (words : List ℕ) (locals : List Local) → 1 ≤ instance.callers → RootBounds instance history words locals →
@@ -74,9 +74,9 @@ kind_kept instance s caller l kind law at guard =
     let locals' = set s.locals caller (local_after instance scene kind l) in
     let q = queue_kept instance law.history scene s.locals caller l kind (queue_of law) (bounds_of instance s law) at guard in
     let r = replicas_kept instance law.history s caller l kind law.shape law.tickets.merged (record { locks = law.locks; regions = law.regions }) at guard in
-    let root' = root_kept instance law.history s caller l kind law.shape law.locks law.regions law.fronts law.root at guard in
-    let answers' = answers_kept instance law.history s caller l kind law.shape law.tickets law.fronts law.locks law.regions law.answers at guard in
-    let bounds' = root_bounds instance law.history words' locals' law.shape.some r.locks r.regions root' in
+    let root' = root_kept instance law.history s caller l kind law.shape law.tickets.merged law.locks law.regions law.fronts law.root at guard in
+    let answers' = answers_kept instance law.history s caller l kind law.shape law.tickets law.fronts law.locks law.regions (bounds_of instance s law) law.answers at guard in
+    let bounds' = root_bounds instance law.history words' locals' q.lawful.shape r.locks r.regions root' in
     record {
       history = q.after;
       shape = q.lawful.shape;
