@@ -2,6 +2,7 @@ pub mod CellLaws
 pub mod CellLinks
 pub mod CellNames
 pub mod CellPuts
+pub mod EntryLaws
 pub mod FrontLaws
 pub mod Keeps
 pub mod LinkLaws

@@ -97,20 +97,21 @@ own_at caller ticket (entry ∷ rest) i x at =
       | inr ne ↦ in_rest ticket entry rest x (own_at caller (ticket + 1) rest i x (subst (λ (os : List Linked). slice_get os i ≡ Some x) (own_other caller ticket entry rest ne) at))
     ]
 
--- an entry of the history is among its caller's own
-has_own : (caller ticket : ℕ) (history : List Entry) (i : ℕ) (entry : Entry) → slice_get history i ≡ Some entry → entry.caller ≡ caller →
-    (k : ℕ) × (slice_get (own_of caller ticket history) k ≡ Some (record { ticket = ticket + i; entry = entry }))
+-- an entry of the history is among its caller's own, with no more of them before it than entries
+pub has_own : (caller ticket : ℕ) (history : List Entry) (i : ℕ) (entry : Entry) → slice_get history i ≡ Some entry → entry.caller ≡ caller →
+    (k : ℕ) × (slice_get (own_of caller ticket history) k ≡ Some (record { ticket = ticket + i; entry = entry })) × (k ≤ i)
 has_own caller ticket [] i entry at is = absurd (none-some entry at)
 has_own caller ticket (e ∷ rest) zero entry at is =
     let same : e ≡ entry = same_Some e entry at in
-    (0, ap (λ os. slice_get os 0) (own_mine caller ticket e rest (ap (λ (x : Entry). x.caller) same ∙ is)) ∙ ap (λ (x : Entry). Some (record { ticket = ticket; entry = x })) same ∙ ap (λ (t : ℕ). Some (record { ticket = t; entry = entry })) (sym (add-zero ticket)))
+    (0, ap (λ os. slice_get os 0) (own_mine caller ticket e rest (ap (λ (x : Entry). x.caller) same ∙ is)) ∙ ap (λ (x : Entry). Some (record { ticket = ticket; entry = x })) same ∙ ap (λ (t : ℕ). Some (record { ticket = t; entry = entry })) (sym (add-zero ticket)), omega arith)
 has_own caller ticket (e ∷ rest) (suc i) entry at is =
     let next = has_own caller (ticket + 1) rest i entry at is in
     let same : ticket + 1 + i ≡ ticket + suc i = omega arith in
     let there = next.1 ∙ ap (λ (t : ℕ). Some (record { ticket = t; entry = entry })) same in
+    let most : next.0 ≤ i = next.2 in
     elim (cases_eq e.caller caller) [
-      | inl mine ↦ (suc next.0, ap (λ os. slice_get os (suc next.0)) (own_mine caller ticket e rest mine) ∙ there)
-      | inr ne ↦ (next.0, ap (λ os. slice_get os next.0) (own_other caller ticket e rest ne) ∙ there)
+      | inl mine ↦ (suc next.0, ap (λ os. slice_get os (suc next.0)) (own_mine caller ticket e rest mine) ∙ there, omega arith)
+      | inr ne ↦ (next.0, ap (λ os. slice_get os next.0) (own_other caller ticket e rest ne) ∙ there, omega arith)
     ]
 
 -- what is among the own lists of all callers
