@@ -75,7 +75,7 @@ kind_kept instance s caller l kind law at guard =
     let q = queue_kept instance law.history scene s.locals caller l kind (queue_of law) (bounds_of instance s law) at guard in
     let r = replicas_kept instance law.history s caller l kind law.shape law.tickets.merged (record { locks = law.locks; regions = law.regions }) at guard in
     let root' = root_kept instance law.history s caller l kind law.shape law.tickets.merged law.locks law.regions law.fronts law.root at guard in
-    let answers' = answers_kept instance law.history s caller l kind law.shape law.tickets law.fronts law.locks law.regions (bounds_of instance s law) law.answers at guard in
+    let answers' = answers_kept instance law.history s caller l kind law.shape law.tickets law.fronts law.locks law.regions law.answers at guard in
     let bounds' = root_bounds instance law.history words' locals' q.lawful.shape r.locks r.regions root' in
     record {
       history = q.after;
