@@ -3,10 +3,8 @@ use Rattle.std.proofs.Common.{◌≡◌, ◌+◌, ◌-◌, ◌*◌, ◌^◌, ◌
 use Rattle.std.proofs.lemmas.List.{get_or_append_left, get_or-append_right, get_or-replicate, length-replicate}
 use Rattle.std.proofs.lemmas.List.Elements.{All-replicate}
 use Rattle.std.proofs.lemmas.List.FromFn.{length-map-range_with_len}
-use Rattle.std.proofs.lemmas.Nat.{div-mul-add}
 use Rattle.std.proofs.lemmas.Option.{none-some, get_or_from_slice_get, slice_get_within}
 use Rattle.std.specs.List.{slice_get}
-use Rattle.cx_base.specs.Codes.{root_place_of}
 use Rattle.cx_core.specs.declared.entry.Base.{Base}
 use Rattle.cx_core.specs.declared.entry.Entry.{Entry}
 use Rattle.cx_core.specs.declared.local.Cell.{Cell}
@@ -16,6 +14,7 @@ use Rattle.cx_core.specs.Lawful.{CellShape, IsShown, LocalShape}
 use Rattle.cx_core.specs.Lawful.LinkWord.{Never}
 use Rattle.cx_core.specs.Merge.{IsLinked}
 use Rattle.cx_core.specs.State.{Instance, blank_cell, copies, opening_code, opening_local, opening_locals, opening_words}
+use Rattle.cx_core.proofs.RootCodes.{code_place}
 use Rattle.cx_core.proofs.StateLemmas.{length-opening, opening_at}
 use Rattle.core_queue.specs.Queue.{QueueLawful}
 
@@ -40,9 +39,6 @@ roots : (callers : ℕ) (base : Base) →
     × (slice_index (opening_words callers base) free_at ≡ base.place)
 unfolding opening_words
 roots callers base = (refl, refl, refl)
-
-code_place : (callers place : ℕ) → 1 ≤ callers → root_place_of callers (opening_code callers place) ≡ place
-code_place callers place some = div-mul-add place (2 * callers) 0 (omega arith)
 
 nothing_linked : (place ticket : ℕ) (entry : Entry) → IsLinked place [] ticket entry → ⊥
 nothing_linked place ticket entry linked = none-some entry linked.at
@@ -105,7 +101,7 @@ opening_lawful instance some few place_small =
       };
       fronts = record {
         each = own _ (λ c _. (
-            let code = code_place callers place some in
+            let code = code_place callers place 0 (omega (arith, some)) in
             record {
               from = omega arith;
               to = omega arith;

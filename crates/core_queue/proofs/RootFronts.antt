@@ -1,8 +1,8 @@
 -- The part on fronts, where a caller sees a code, raises DUR, or gives its win up.
-use Rattle.std.proofs.Common.{◌≡◌, ◌+◌, ◌*◌, ◌/◌, ◌<◌, ◌≤◌, inl, inr, ℕ, max, List, [], ◌∷◌, length, set, slice_index, ap, sym, ◌∙◌, arith, Some, None}
+use Rattle.std.proofs.Common.{◌≡◌, ◌+◌, ◌*◌, ◌<◌, ◌≤◌, inl, inr, ℕ, max, List, [], ◌∷◌, length, set, slice_index, ap, sym, ◌∙◌, arith, Some, None}
 use Rattle.std.proofs.lemmas.Bool.{cases_lt}
 use Rattle.std.proofs.lemmas.List.{get_or-set_other, get_or-set_same}
-use Rattle.std.proofs.lemmas.Nat.{div-add-mod', le-div}
+use Rattle.std.proofs.lemmas.Nat.{le-div}
 use Rattle.std.proofs.lemmas.Option.{none-some}
 use Rattle.std.specs.List.{slice_get}
 use Rattle.cx_base.specs.Codes.{root_code_of, root_place_of}
@@ -16,11 +16,8 @@ use Rattle.cx_core.specs.Lawful.{Fronts, IsBehind}
 use Rattle.cx_core.specs.RootEvents.{raised_floor}
 use Rattle.cx_core.specs.State.{Instance}
 use Rattle.cx_core.proofs.Locals.{EachLocal-set}
+use Rattle.cx_core.proofs.RootCodes.{place_up}
 use Rattle.core_queue.specs.Frames.{SameFront}
-
--- a code that is not below another has a place that is not
-place_up : (callers a b : ℕ) → 1 ≤ callers → a ≤ b → root_place_of callers a ≤ root_place_of callers b
-place_up callers a b some le = le-div (a / (2 * callers)) b (2 * callers) (omega arith) (let back = div-add-mod' a (2 * callers) in omega arith)
 
 -- a code at a place above that of another is above it
 pub code_above : (callers code place replica : ℕ) → 1 ≤ callers → root_place_of callers code < place → code < root_code_of callers place replica
