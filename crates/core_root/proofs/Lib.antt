@@ -1,7 +1,10 @@
+pub mod ChainLaws
 pub mod ChainLemmas
+pub mod FreeLaws
 pub mod Keeps
 pub mod Opening
 pub mod RootKinds
 pub mod RootLaws
 pub mod RootLimits
+pub mod StoreLaws
 pub mod Unheld
