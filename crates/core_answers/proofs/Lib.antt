@@ -4,5 +4,7 @@ pub mod BaseLaws
 pub mod CrashLaws
 pub mod Opening
 pub mod OwnLaws
+pub mod Places
 pub mod RaiseLaws
 pub mod ReplyLaws
+pub mod StillLaws

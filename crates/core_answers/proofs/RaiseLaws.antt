@@ -1,9 +1,8 @@
 -- A raise of DUR, and what it answers.
-use Rattle.std.proofs.Common.{◌≡◌, ◌+◌, ◌*◌, ◌/◌, ◌<◌, ◌≤◌, inl, inr, ℕ, max, nat_lt, Bool, cond, List, ◌∷◌, ◌++◌, [], Option, Some, None, length, set, slice_index, refl, ap, sym, subst, ◌∙◌, arith, length-append}
+use Rattle.std.proofs.Common.{◌≡◌, ◌+◌, ◌<◌, ◌≤◌, inl, inr, ℕ, max, nat_lt, Bool, cond, List, ◌∷◌, ◌++◌, [], Option, Some, None, length, set, slice_index, refl, ap, sym, subst, ◌∙◌, arith, length-append}
 use Rattle.std.proofs.lemmas.Bool.{cases_Bool, cases_lt, ltb-false, ltb-true}
 use Rattle.std.proofs.lemmas.List.{append-nil, get_or-set_same}
 use Rattle.std.proofs.lemmas.List.Elements.{All-contains}
-use Rattle.std.proofs.lemmas.Nat.{div-add-mod', le-div}
 use Rattle.std.proofs.lemmas.Option.{none-some, same_Some, slice_get_within}
 use Rattle.std.specs.List.{Contains, slice_get}
 use Rattle.cx_base.specs.Codes.{root_place_of, root_replica_of}
@@ -24,12 +23,7 @@ use Rattle.cx_core.proofs.Locals.{slice_get-push}
 use Rattle.core_answers.specs.Keeping.{Grounds}
 use Rattle.core_answers.proofs.AnswerLaws.{above_same, answer_stays, answers_put, read_stays}
 use Rattle.core_answers.proofs.OwnLaws.{answered_own, own_reply}
-
--- places don't fall where codes don't
-pub place_up : (callers code code' : ℕ) → 1 ≤ callers → code ≤ code' → root_place_of callers code ≤ root_place_of callers code'
-place_up callers code code' some up =
-    let w = 2 * callers in
-    le-div (code / w) code' w (omega arith) (let back = div-add-mod' code w in omega arith)
+use Rattle.core_answers.proofs.Places.{place_up}
 
 -- what a raise to a place answers of an entry: nothing where it is at or above the place, else the history's reply
 pub record Gives (instance : Instance) (history : List Entry) (place : ℕ) (o : Option Linked) (answers : List Answer) : Type 0 where
@@ -70,7 +64,7 @@ gives instance history place None = record {
 gives instance history place (Some x) = gives_some instance history place x
 
 -- a floor doesn't fall, and rises to the place where something is answered
-floor_up : (floor place : ℕ) (answers : List Answer) (reads : List SeenRead) → floor ≤ raised_floor floor place answers reads
+pub floor_up : (floor place : ℕ) (answers : List Answer) (reads : List SeenRead) → floor ≤ raised_floor floor place answers reads
 floor_up floor place [] [] = omega arith
 floor_up floor place (x ∷ answers) reads = omega arith
 floor_up floor place [] (x ∷ reads) = omega arith

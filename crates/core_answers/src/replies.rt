@@ -1,7 +1,8 @@
 //! What answers tell their callers.
 
 ghost use Rattle.std.specs.Prelude.{◌≡◌, ◌+◌, ◌<◌, ◌≤◌, ◌↔◌, ◌++◌, ℕ, Some, length, slice_get};
-ghost use Rattle.core_answers.specs.Replies.{IsReplyToOwn};
+ghost use Rattle.core_answers.specs.Replies.{IsReplyToOwn, StillAnswered};
+ghost use Rattle.cx_core.specs.Events.{Run};
 ghost use Rattle.cx_core.specs.History.{reply_at};
 ghost use Rattle.cx_core.specs.Lawful.{Tickets};
 ghost use Rattle.cx_core.specs.LawfulAnswers.{Answers, durable_place};
@@ -13,6 +14,12 @@ ghost use Rattle.cx_core.specs.State.{Instance, State};
 pub fn answers_are_to_own_entries()
     ensures { (instance : Instance) (history : _) (s : State) (caller i : ℕ) (l x : _) → Tickets instance history s.locals → Answers instance history s.words s.locals →
         slice_get s.locals caller ≡ Some l → slice_get l.answered i ≡ Some x → IsReplyToOwn instance history l i x }
+{}
+
+/// Along each run, no answer is taken back.
+pub fn answers_are_never_taken_back()
+    ensures { (instance : Instance) (events : _) (from to : State) (caller : ℕ) (l : _) → Run instance from events to →
+        slice_get from.locals caller ≡ Some l → StillAnswered to caller l }
 {}
 
 /// A caller's answers have rising tickets.
