@@ -1,4 +1,10 @@
 pub mod AnswerKinds
 pub mod AnswerLaws
+pub mod BaseLaws
+pub mod CrashLaws
 pub mod Opening
+pub mod OwnLaws
+pub mod Places
 pub mod RaiseLaws
+pub mod ReplyLaws
+pub mod StillLaws

@@ -1,12 +1,10 @@
 -- A raise of DUR, and what it answers.
-use Rattle.std.proofs.Common.{◌≡◌, ◌+◌, ◌-◌, ◌*◌, ◌/◌, ◌<◌, ◌≤◌, inl, inr, ℕ, max, nat_lt, Bool, cond, List, ◌∷◌, ◌++◌, [], Option, Some, None, length, map, set, slice_index, take, refl, ap, sym, subst, ◌∙◌, arith, length-append}
+use Rattle.std.proofs.Common.{◌≡◌, ◌+◌, ◌<◌, ◌≤◌, inl, inr, ℕ, max, nat_lt, Bool, cond, List, ◌∷◌, ◌++◌, [], Option, Some, None, length, set, slice_index, refl, ap, sym, subst, ◌∙◌, arith, length-append}
 use Rattle.std.proofs.lemmas.Bool.{cases_Bool, cases_lt, ltb-false, ltb-true}
 use Rattle.std.proofs.lemmas.List.{append-nil, get_or-set_same}
 use Rattle.std.proofs.lemmas.List.Elements.{All-contains}
-use Rattle.std.proofs.lemmas.Nat.{div-add-mod', le-div}
-use Rattle.std.proofs.lemmas.Option.{none-some, same_Some, slice_get-map, slice_get_within}
+use Rattle.std.proofs.lemmas.Option.{none-some, same_Some, slice_get_within}
 use Rattle.std.specs.List.{Contains, slice_get}
-use Rattle.std.specs.Option.{option_map}
 use Rattle.cx_base.specs.Codes.{root_place_of, root_replica_of}
 use Rattle.cx_core.specs.declared.entry.Entry.{Entry}
 use Rattle.cx_core.specs.declared.local.Answer.{Answer}
@@ -14,25 +12,18 @@ use Rattle.cx_core.specs.declared.local.HeldShared.{HeldShared}
 use Rattle.cx_core.specs.declared.local.Linked.{Linked}
 use Rattle.cx_core.specs.declared.local.Local.{Local}
 use Rattle.cx_core.specs.declared.local.SeenRead.{SeenRead}
-use Rattle.cx_core.specs.History.{image_after, reply_at}
 use Rattle.cx_core.specs.LawfulAnswers.{Answers, AreAnswers, IsAnswer, IsRead, NeverFall, durable_place}
 use Rattle.cx_core.specs.LawfulRegions.{vol_word}
 use Rattle.cx_core.specs.Layout.{dur_at}
-use Rattle.cx_core.specs.Region.{object_part}
 use Rattle.cx_core.specs.RootEvents.{CanRaise, ShowsPlace, answers_below, raised_by, raised_floor, reply_after, unanswered}
 use Rattle.cx_core.specs.State.{Instance, Scene}
 use Rattle.cx_core.proofs.Claims.{shared_alone, shared_below, unheld_none}
-use Rattle.cx_core.proofs.ListLemmas.{item_below, slice_get-append, slice_get-take}
+use Rattle.cx_core.proofs.ListLemmas.{item_below, slice_get-append}
 use Rattle.cx_core.proofs.Locals.{slice_get-push}
-use Rattle.cx_core.proofs.MergeLemmas.{own_at}
 use Rattle.core_answers.specs.Keeping.{Grounds}
 use Rattle.core_answers.proofs.AnswerLaws.{above_same, answer_stays, answers_put, read_stays}
-
--- places don't fall where codes don't
-pub place_up : (callers code code' : ℕ) → 1 ≤ callers → code ≤ code' → root_place_of callers code ≤ root_place_of callers code'
-place_up callers code code' some up =
-    let w = 2 * callers in
-    le-div (code / w) code' w (omega arith) (let back = div-add-mod' code w in omega arith)
+use Rattle.core_answers.proofs.OwnLaws.{answered_own, own_reply}
+use Rattle.core_answers.proofs.Places.{place_up}
 
 -- what a raise to a place answers of an entry: nothing where it is at or above the place, else the history's reply
 pub record Gives (instance : Instance) (history : List Entry) (place : ℕ) (o : Option Linked) (answers : List Answer) : Type 0 where
@@ -73,7 +64,7 @@ gives instance history place None = record {
 gives instance history place (Some x) = gives_some instance history place x
 
 -- a floor doesn't fall, and rises to the place where something is answered
-floor_up : (floor place : ℕ) (answers : List Answer) (reads : List SeenRead) → floor ≤ raised_floor floor place answers reads
+pub floor_up : (floor place : ℕ) (answers : List Answer) (reads : List SeenRead) → floor ≤ raised_floor floor place answers reads
 floor_up floor place [] [] = omega arith
 floor_up floor place (x ∷ answers) reads = omega arith
 floor_up floor place [] (x ∷ reads) = omega arith
@@ -104,37 +95,17 @@ shown_place callers code (Some h) shows = (h, refl, shows.0, shows.1)
 
 module _ (instance : Instance) (history : List Entry) (words : List ℕ) (locals : List Local) (caller : ℕ) (l : Local) (grounds : Grounds instance history words locals)
     (old : Answers instance history words locals) (at : slice_get locals caller ≡ Some l) where
-  abbrev base : ℕ
-  base = instance.base.place
-
-  -- an own entry is the history's at its ticket
-  pub own_linked : (i : ℕ) (y : Linked) → slice_get l.own i ≡ Some y → (base ≤ y.ticket) × (slice_get history (y.ticket - base) ≡ Some y.entry)
-  own_linked i y there = own_at caller base history i y (ap (λ (o : List Linked). slice_get o i) (sym (grounds.tickets.merged.own caller l at)) ∙ there)
-
-  -- so the history has the object's reply to it
-  own_reply : (i : ℕ) (y : Linked) → slice_get l.own i ≡ Some y →
-      reply_at instance.step base (object_part instance.base.words) history y.ticket ≡ Some (reply_after instance history y.ticket y.entry.op)
-  own_reply i y there =
-      ap (option_map (λ (e : Entry). (instance.step (image_after instance.step (object_part instance.base.words) (take (y.ticket - base) history)) e.op).1)) (own_linked i y there).1
-
-  -- the ticket of an own entry that is answered
-  answered_ticket : (i : ℕ) (y : Linked) (x : Answer) → slice_get l.own i ≡ Some y → slice_get l.answered i ≡ Some x → x.ticket ≡ y.ticket
-  answered_ticket i y x there told =
-      let ticket_of = λ (z : Linked). z.ticket in
-      let first : slice_get (map (λ (a : Answer). a.ticket) l.answered) i ≡ Some x.ticket = slice_get-map (λ (a : Answer). a.ticket) l.answered i ∙ ap (option_map (λ (a : Answer). a.ticket)) told in
-      let second : slice_get (map ticket_of l.own) i ≡ Some x.ticket =
-      slice_get-take (length l.answered) (map ticket_of l.own) i x.ticket (ap (λ ts. slice_get ts i) (sym (grounds.tickets.each caller l at).answered) ∙ first) in
-      same_Some x.ticket y.ticket (sym second ∙ slice_get-map ticket_of l.own i ∙ ap (option_map ticket_of) there)
-
-  -- it is below the floor
+  -- an own entry that is answered is below the floor
   answered_below : (i : ℕ) (y : Linked) → slice_get l.own i ≡ Some y → i < length l.answered → y.ticket < l.floor
   answered_below i y there counted =
       let x = item_below l.answered i counted in
       let told = ((old.each caller l at).entries i x.0 x.1).told in
-      omega (arith, told, answered_ticket i y x.0 there x.1)
+      let own = answered_own instance history locals caller l grounds.tickets at i x.0 x.1 in
+      let same = ap (λ (z : Linked). z.ticket) (same_Some y own.0 (sym there ∙ own.1)) in
+      omega (arith, told, own.2, same)
 
   -- the place of a code whose replica is held shared at that place is from the base's on
-  shown_from : (code : ℕ) → ShowsPlace instance.callers code l.shared → base ≤ root_place_of instance.callers code
+  shown_from : (code : ℕ) → ShowsPlace instance.callers code l.shared → instance.base.place ≤ root_place_of instance.callers code
   shown_from code shows =
       let h = shown_place instance.callers code l.shared shows in
       let loaded = All-contains (λ (x : ℕ × ℕ). (x.0 < length instance.base.words) × (vol_word instance words h.0.replica x.0 ≡ x.1)) h.0.loaded (0, root_place_of instance.callers code) (grounds.regions.loaded caller l at h.0 h.1) h.3 in
@@ -176,7 +147,7 @@ module _ (instance : Instance) (history : List Entry) (words : List ℕ) (locals
         let below = given.below y g.1 (omega arith) in
         let answer : Answer = record { ticket = y.ticket; reply = reply_after instance history y.ticket y.entry.op } in
         subst (IsAnswer instance history end_ l') (sym g.2) (let a : IsAnswer instance history end_ l' answer = record {
-          reply = own_reply (length l.answered) y g.1;
+          reply = own_reply instance history locals caller l grounds.tickets at (length l.answered) y g.1;
           durable = omega (arith, durable_code, below);
           told = omega (arith, is, below);
         } in a)

@@ -1,2 +1,4 @@
+pub mod Crashing
 pub mod Frames
 pub mod Keeping
+pub mod Replies
