@@ -2,5 +2,7 @@
 //! place that holds every answer. Each law is the contract of a function that does nothing.
 #![tactic(auto)]
 
+pub mod chain;
+pub mod crash;
 pub mod images;
 pub mod runs;
