@@ -23,7 +23,7 @@ use Rattle.cx_core.proofs.Locals.{slice_get-push}
 use Rattle.core_answers.specs.Keeping.{Grounds}
 use Rattle.core_answers.proofs.AnswerLaws.{above_same, answer_stays, answers_put, read_stays}
 use Rattle.core_answers.proofs.OwnLaws.{answered_own, own_reply}
-use Rattle.core_answers.proofs.Places.{place_up}
+use Rattle.cx_core.proofs.RootCodes.{place_up}
 
 -- what a raise to a place answers of an entry: nothing where it is at or above the place, else the history's reply
 pub record Gives (instance : Instance) (history : List Entry) (place : ℕ) (o : Option Linked) (answers : List Answer) : Type 0 where

@@ -1,7 +1,7 @@
 -- The part on regions: its frame, and what a step leaves of it.
 use Rattle.std.proofs.Common.{◌≡◌, ◌+◌, ◌*◌, ◌<◌, inl, inr, ℕ, List, [], Some, length, set, slice_index, ap, sym, ◌∙◌, arith, length-append}
-use Rattle.std.proofs.lemmas.Bool.{cases_eq, cases_lt}
-use Rattle.std.proofs.lemmas.List.{get_or-set_other, get_or_past}
+use Rattle.std.proofs.lemmas.Bool.{cases_eq}
+use Rattle.std.proofs.lemmas.List.{get_or-set_other}
 use Rattle.std.proofs.lemmas.List.Elements.{All-weaker}
 use Rattle.std.proofs.lemmas.Option.{same_Some, slice_get_within}
 use Rattle.std.specs.List.{Contains, slice_get}
@@ -15,6 +15,7 @@ use Rattle.cx_core.specs.LawfulRegions.{HasLoaded, HasWords, IsImage, IsUnheld, 
 use Rattle.cx_core.specs.Layout.{per_at, vol_at, word_count}
 use Rattle.cx_core.specs.Rights.{exclusive_on}
 use Rattle.cx_core.specs.State.{Instance}
+use Rattle.cx_core.proofs.ReplicaWords.{held_place}
 use Rattle.cx_core.proofs.HistoryLemmas.{full_stays}
 use Rattle.cx_core.proofs.ListLemmas.{slice_get-set_same, slice_get-set_other}
 use Rattle.cx_core.specs.Frames.{Continues}
@@ -129,25 +130,11 @@ regions_framed instance history words locals at v caller l l' old there off same
     let kept = regions_words instance history words (set words at v) locals (λ r. same_off instance words at v r off) old in
     regions_shared instance history (set words at v) locals caller l l' kept there same.exclusive (λ h has. kept.loaded caller l there h (sym same.shared ∙ has))
 
--- the words of a holder are those of the replica's place
-place_same : (instance : Instance) (words : List ℕ) (h : HeldExclusive) → length words ≡ word_count instance.callers (length instance.base.words) → HasWords instance words h →
-    vol_word instance words h.replica 0 ≡ slice_index h.words 0
-place_same instance words h long has =
-    elim (cases_lt 0 (length instance.base.words)) [
-      | inl some ↦ has.vol 0 some
-      | inr none ↦ (
-          let nothing : length instance.base.words ≡ 0 = omega arith in
-          let rows : length instance.base.words * h.replica ≡ 0 = ap (λ n. n * h.replica) nothing ∙ omega arith in
-          let all : length instance.base.words * (4 * instance.callers) ≡ 0 = ap (λ n. n * (4 * instance.callers)) nothing ∙ omega arith in
-          get_or_past words (vol_at instance.callers (length instance.base.words) h.replica 0) 0 (omega (arith, rows, all, long))
-          ∙ sym (get_or_past h.words 0 0 (omega (arith, has.long))))
-    ]
-
 -- what is held, clean and the full image after its place, may be given up
 pub image_given : (instance : Instance) (history : List Entry) (words : List ℕ) (h : HeldExclusive) → length words ≡ word_count instance.callers (length instance.base.words) → HasWords instance words h →
     h.dirty ≡ [] → IsFull instance history h.words → IsImage instance history words h.replica
 image_given instance history words h long has clean full =
-    let place = place_same instance words h long has in
+    let place = held_place instance words h long has in
     let image = full_image instance.step instance.base history in
     let none : (i : ℕ) → Contains h.dirty i → ⊥ = λ i there. empty h.dirty i clean there in
     let word : (i : ℕ) → slice_index h.words i ≡ slice_index (image (vol_word instance words h.replica 0)) i = λ i.

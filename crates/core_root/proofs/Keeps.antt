@@ -9,17 +9,17 @@ use Rattle.cx_core.specs.Lawful.{Fronts, Shape}
 use Rattle.cx_core.specs.LawfulLocks.{Locks}
 use Rattle.cx_core.specs.LawfulRegions.{Regions}
 use Rattle.cx_core.specs.LawfulRoot.{Root}
-use Rattle.cx_core.specs.Merge.{IsHistory, scene_of}
+use Rattle.cx_core.specs.Merge.{scene_of}
 use Rattle.cx_core.specs.State.{Instance, State}
 use Rattle.core_root.specs.Root.{KeepsRoot}
 use Rattle.core_root.proofs.RootKinds.{root_kind_kept}
 
 -- an allowed step of a caller
-pub root_kept : (instance : Instance) (history : List Entry) (s : State) (caller : ℕ) (l : Local) (kind : Kind) → Shape instance s.words s.locals → IsHistory instance.base.place history s.locals →
+pub root_kept : (instance : Instance) (history : List Entry) (s : State) (caller : ℕ) (l : Local) (kind : Kind) → Shape instance s.words s.locals →
     Locks instance.callers s.words s.locals → Regions instance history s.words s.locals → Fronts instance history s.words s.locals → Root instance s.words s.locals →
     slice_get s.locals caller ≡ Some l → Guard instance (scene_of instance s) kind l →
     Root instance (words_after instance kind l s.words) (set s.locals caller (local_after instance (scene_of instance s) kind l))
-root_kept instance history s caller l kind shape merged locks regions fronts root at guard =
+root_kept instance history s caller l kind shape locks regions fronts root at guard =
     root_kind_kept instance history (scene_of instance s) s.locals caller l kind shape locks regions fronts root at guard
 
 -- an event

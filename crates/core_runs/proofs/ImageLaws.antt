@@ -1,15 +1,14 @@
 -- Which replicas are the full image after their place.
-use Rattle.std.proofs.Common.{◌≡◌, ◌+◌, ◌*◌, ◌<◌, inl, inr, ℕ, List, Some, slice_index, refl, ap, ◌∙◌, arith}
-use Rattle.std.proofs.lemmas.Bool.{cases_eq}
+use Rattle.std.proofs.Common.{◌≡◌, ◌+◌, ◌*◌, ◌<◌, ℕ, Some, slice_index, refl, ap, ◌∙◌, arith}
 use Rattle.std.proofs.lemmas.Nat.{mod_below}
 use Rattle.std.specs.List.{slice_get}
 use Rattle.cx_base.specs.Codes.{root_replica_of}
 use Rattle.cx_core.specs.declared.local.Local.{Local}
 use Rattle.cx_core.specs.Lawful.{Lawful}
-use Rattle.cx_core.specs.LawfulLocks.{LockWord, pin, total}
+use Rattle.cx_core.specs.LawfulLocks.{pin, total}
 use Rattle.cx_core.specs.LawfulRegions.{IsImage}
 use Rattle.cx_core.specs.Layout.{cur_at, lock_at}
-use Rattle.cx_core.specs.Rights.{claims, holds, is_on, shared_on}
+use Rattle.cx_core.specs.Rights.{claims, is_on, shared_on}
 use Rattle.cx_core.specs.State.{Instance, State}
 use Rattle.cx_core.proofs.Claims.{unheld_claimed, unheld_none}
 use Rattle.cx_core.proofs.Sums.{on_same, total_member}

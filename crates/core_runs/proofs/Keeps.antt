@@ -1,23 +1,22 @@
 -- Each allowed step of any kind leaves a lawful state: what each part's own crate proves of it, put together.
-use Rattle.std.proofs.Common.{◌≡◌, ◌+◌, ◌^◌, ◌≤◌, ℕ, List, [], ◌∷◌, length, set, slice_index, sym, subst, ◌∙◌, arith, Some}
+use Rattle.std.proofs.Common.{◌≡◌, ◌^◌, ◌≤◌, ℕ, List, [], ◌∷◌, set, slice_index, sym, subst, ◌∙◌, arith, Some}
 use Rattle.std.specs.List.{slice_get}
-use Rattle.cx_core.specs.declared.entry.Entry.{Entry}
 use Rattle.cx_core.specs.declared.kinds.Event.{Event}
 use Rattle.cx_core.specs.declared.kinds.Kind.{Kind}
 use Rattle.cx_core.specs.declared.local.Local.{Local}
 use Rattle.cx_core.specs.Events.{Guard, Makes, Run, local_after, words_after}
 use Rattle.cx_core.specs.Lawful.{Lawful}
-use Rattle.cx_core.specs.LawfulAnswers.{Answers, durable_place}
+use Rattle.cx_core.specs.LawfulAnswers.{Answers}
 use Rattle.cx_core.specs.LawfulRoot.{Root, RootBounds}
-use Rattle.cx_core.specs.Layout.{dur_at, low_at}
+use Rattle.cx_core.specs.Layout.{low_at}
 use Rattle.cx_core.specs.Merge.{scene_of}
 use Rattle.cx_core.specs.Region.{place_of}
 use Rattle.cx_core.specs.State.{Instance, State, opening_state}
 use Rattle.cx_core.proofs.Putting.{no_word}
-use Rattle.cx_core.proofs.RootCodes.{place_up}
 use Rattle.core_answers.proofs.AnswerKinds.{answers_kept}
 use Rattle.core_answers.proofs.AnswerLaws.{answers_framed, answers_longer}
 use Rattle.core_answers.proofs.Opening.{opening_answers}
+use Rattle.core_answers.proofs.Places.{durable_within}
 use Rattle.core_queue.proofs.Keeps.{queue_kept}
 use Rattle.core_queue.proofs.Opening as queue
 use Rattle.core_queue.proofs.QueueFrames.{queue_local, queue_of}
@@ -57,13 +56,6 @@ lawful_local instance s caller l l' law at same =
 pub bounds_of : (instance : Instance) (s : State) (law : Lawful instance s) → RootBounds instance law.history s.words s.locals
 bounds_of instance s law = root_bounds instance law.history s.words s.locals law.shape law.locks law.regions law.root
 
--- what is durable is of the history
-durable_within : (instance : Instance) (history : List Entry) (words : List ℕ) (locals : List Local) → 1 ≤ instance.callers → RootBounds instance history words locals →
-    durable_place instance words ≤ instance.base.place + length history
-durable_within instance history words locals some bounds =
-    let up = place_up instance.callers (slice_index words dur_at) _ some bounds.dur in
-    omega (arith, up, bounds.current)
-
 -- An allowed step of a caller. Locks, regions, root and answers are kept with the history as it was, and then with that which
 -- the queue goes on to.
 pub kind_kept : (instance : Instance) (s : State) (caller : ℕ) (l : Local) (kind : Kind) → Lawful instance s → slice_get s.locals caller ≡ Some l → Guard instance (scene_of instance s) kind l →
@@ -74,7 +66,7 @@ kind_kept instance s caller l kind law at guard =
     let locals' = set s.locals caller (local_after instance scene kind l) in
     let q = queue_kept instance law.history scene s.locals caller l kind (queue_of law) (bounds_of instance s law) at guard in
     let r = replicas_kept instance law.history s caller l kind law.shape law.tickets.merged (record { locks = law.locks; regions = law.regions }) at guard in
-    let root' = root_kept instance law.history s caller l kind law.shape law.tickets.merged law.locks law.regions law.fronts law.root at guard in
+    let root' = root_kept instance law.history s caller l kind law.shape law.locks law.regions law.fronts law.root at guard in
     let answers' = answers_kept instance law.history s caller l kind law.shape law.tickets law.fronts law.locks law.regions law.answers at guard in
     let bounds' = root_bounds instance law.history words' locals' q.lawful.shape r.locks r.regions root' in
     record {
