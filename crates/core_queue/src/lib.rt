@@ -6,5 +6,3 @@
 pub mod frames;
 pub mod kinds;
 pub mod live;
-#[cfg(test)]
-mod tests;

@@ -4,8 +4,10 @@ ghost use Rattle.std.specs.Prelude.{◌≤◌};
 ghost use Rattle.cx_base.specs.Tally.{IsTally};
 ghost use Rattle.cx_core.specs.Base.{LawfulBase};
 
+use crate::events::apply;
+use crate::state::CoreState;
 use cx_base::tally::Tally;
-use cx_core::{Base, CoreState, Event, Kind, apply};
+use cx_core::{Base, Event, Kind};
 use std::alloc::{AllocError, Global};
 use std::process::Abort;
 use std::test::Fail;
