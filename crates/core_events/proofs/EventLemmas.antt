@@ -1,20 +1,29 @@
--- What one step leaves: the numbers of the callers, the size of the core, and the event that it is.
-use Rattle.std.proofs.Common.{◌≡◌, ◌==◌, ◌^◌, ◌<◌, ◌⊎◌, ⊎_elim, ◌∷◌, zero, suc, arith, ℕ, Bool, true, false, nat_lt, List, [], length, set, refl, ap, sym, subst, ◌∙◌, cond, Result, Ok, Err, inl, inr, IfOk, OnErr, Some}
+-- What one step leaves: the numbers of the callers, the size of the core, the codes of what is downgraded, and the event that
+-- it is.
+use Rattle.std.proofs.Common.{◌≡◌, ◌==◌, ◌+◌, ◌*◌, ◌^◌, ◌<◌, ◌≤◌, ◌⊎◌, ⊎_elim, ◌∷◌, zero, suc, arith, ℕ, Bool, true, false, nat_lt, List, [], length, set, refl, ap, sym, subst, ◌∙◌, cond, Result, Ok, Err, inl, inr, IfOk, OnErr, None, Some}
 use Rattle.std.proofs.lemmas.Bool.{cases_eq}
 use Rattle.std.proofs.lemmas.List.{length-set}
 use Rattle.std.proofs.lemmas.Option.{none-some, same_Some, slice_get_within}
 use Rattle.std.specs.List.{slice_get}
+use Rattle.core_events.specs.Codes.{HasCode, IsKept}
+use Rattle.core_events.specs.Told.{Tells}
+use Rattle.core_events.specs.declared.events.Told.{Told}
+use Rattle.cx_core.specs.declared.entry.Base.{Base}
 use Rattle.cx_core.specs.declared.kinds.Event.{Event}
 use Rattle.cx_core.specs.declared.kinds.Kind.{Kind}
-use Rattle.cx_core.specs.declared.kinds.Kind.TheVariants.{WriteCell, Link, Look, ReadCell, LoadFree, TryExclusive, TryShared, BackOff, Downgrade, ReleaseExclusive, LoadWord, StoreWord, Persist}
+use Rattle.cx_core.specs.declared.kinds.Kind.TheVariants.{WriteCell, Link, Look, ReadCell, LoadFree, TryExclusive, TryShared, BackOff, Downgrade, ReleaseExclusive, LoadWord, StoreWord, Persist, LoadCur, Publish, Raise, Retire}
+use Rattle.cx_core.specs.declared.local.HeldDowngraded.{HeldDowngraded}
 use Rattle.cx_core.specs.declared.local.Linked.{Linked}
 use Rattle.cx_core.specs.declared.local.Local.{Local}
 use Rattle.cx_core.specs.Events.{Allowed, Applied, Did, Guard, next}
-use Rattle.cx_core.specs.LockEvents.{exclusive_mark, passing, refused_by, shared_by, taken}
+use Rattle.cx_core.specs.LockEvents.{CanGiveUp, downgraded_to, exclusive_mark, passing, refused_by, shared_by, taken}
 use Rattle.cx_core.specs.Merge.{scene_of}
 use Rattle.cx_core.specs.QueueEvents.{entry_in, linked, lost, seen_word}
-use Rattle.cx_core.specs.Rights.{is_at, shared_on}
-use Rattle.cx_core.specs.State.{Core, EachLocal, IsWhole, Instance, Scene, State}
+use Rattle.cx_core.specs.Region.{place_of}
+use Rattle.cx_core.specs.Rights.{held_words, is_at, shared_on}
+use Rattle.cx_core.specs.RootEvents.{outrun, published}
+use Rattle.cx_core.specs.State.{Core, EachLocal, IsWhole, Instance, Scene, State, instance_of, opening_state}
+use Rattle.cx_core.proofs.StateLemmas.{opening_at, opening_whole}
 use Rattle.cx_core.proofs.ListLemmas.{set_here, slice_get-append, slice_get-set_same, slice_get-set_other}
 
 -- no step changes a caller's number
@@ -37,6 +46,10 @@ next-number instance scene (ReleaseExclusive r) l found = refl
 next-number instance scene (LoadWord r i refused) l found = refl
 next-number instance scene (StoreWord r i v) l found = refl
 next-number instance scene (Persist r i) l found = refl
+next-number instance scene LoadCur l found = refl
+next-number instance scene Publish l found = either-number (found == l.seen_cur) (published instance.callers l) (outrun instance.callers l found) l.number refl refl
+next-number instance scene (Raise code read) l found = refl
+next-number instance scene Retire l found = refl
 
 -- each own entry after a step is from before, or was linked by it
 abbrev OwnFrom : Local → Local → Type 0
@@ -76,29 +89,74 @@ own_next instance scene (ReleaseExclusive r) l found guard = λ _ _ at. inl at
 own_next instance scene (LoadWord r i refused) l found guard = λ _ _ at. inl at
 own_next instance scene (StoreWord r i v) l found guard = λ _ _ at. inl at
 own_next instance scene (Persist r i) l found guard = λ _ _ at. inl at
+own_next instance scene LoadCur l found guard = λ _ _ at. inl at
+own_next instance scene Publish l found guard = own_either l (found == l.seen_cur) (published instance.callers l) (outrun instance.callers l found) (λ _ _ at. inl at) (λ _ _ at. inl at)
+own_next instance scene (Raise code read) l found guard = λ _ _ at. inl at
+own_next instance scene Retire l found guard = λ _ _ at. inl at
 
--- what a step keeps of its caller's number and own list
-pub record Follows (l l' : Local) : Type 0 where
+-- what is downgraded after a step was so before, or is the full image after its place
+code_none : (callers : ℕ) → HasCode callers None
+code_none callers h some = absurd (none-some h some)
+
+code_either : (callers : ℕ) (b : Bool) (x y : Local) → HasCode callers x.downgraded → HasCode callers y.downgraded → HasCode callers (cond b x y).downgraded
+code_either callers true x y p q = p
+code_either callers false x y p q = q
+
+code_given_up : (instance : Instance) (scene : Scene) (r : ℕ) (l : Local) → instance.base.place + length scene.history ≤ 2 ^ 40 → CanGiveUp instance scene r l → HasCode instance.callers (downgraded_to r l).downgraded
+code_given_up instance scene r l small guard h is =
+    let to = guard.1.to in
+    let place : place_of (held_words l.exclusive) ≤ 2 ^ 40 = omega (arith, to, small) in
+    let of : (x : HeldDowngraded) → Some (record { replica = r; place = place_of (held_words l.exclusive) }) ≡ Some x → (x.replica < 2 * instance.callers) × (x.place ≤ 2 ^ 40) =
+    (λ x e. subst (λ (y : HeldDowngraded). (y.replica < 2 * instance.callers) × (y.place ≤ 2 ^ 40)) (same_Some _ x e) (guard.0.0, place)) in
+    of h is
+
+code_next : (instance : Instance) (scene : Scene) (kind : Kind) (l : Local) (found : ℕ) → instance.base.place + length scene.history ≤ 2 ^ 40 → Guard instance scene kind l →
+    HasCode instance.callers l.downgraded → HasCode instance.callers (next instance scene kind l found).downgraded
+code_next instance scene (WriteCell j i v) l found small guard has = has
+code_next instance scene (Link j) l found small guard has = code_either instance.callers (found == seen_word l.seen_slot) (linked l j) (lost instance.callers l found) has has
+code_next instance scene (Look s) l found small guard has = has
+code_next instance scene (ReadCell t k i) l found small guard has = has
+code_next instance scene LoadFree l found small guard has = has
+code_next instance scene (TryExclusive r) l found small guard has = code_either instance.callers (found == 0) (taken instance scene r l) (refused_by instance.callers r l found) has has
+code_next instance scene (TryShared r) l found small guard has = code_either instance.callers (nat_lt found exclusive_mark) (shared_by r l found) (passing instance.callers r l found) has has
+code_next instance scene (BackOff r) l found small guard has =
+    code_either instance.callers (is_at r (shared_on l)) _ _ has (code_either instance.callers (is_at r l.passer) _ _ has (code_none instance.callers))
+code_next instance scene (Downgrade r) l found small guard has = code_given_up instance scene r l small guard
+code_next instance scene (ReleaseExclusive r) l found small guard has = has
+code_next instance scene (LoadWord r i refused) l found small guard has = has
+code_next instance scene (StoreWord r i v) l found small guard has = has
+code_next instance scene (Persist r i) l found small guard has = has
+code_next instance scene LoadCur l found small guard has = has
+code_next instance scene Publish l found small guard has = code_either instance.callers (found == l.seen_cur) (published instance.callers l) (outrun instance.callers l found) (code_none instance.callers) has
+code_next instance scene (Raise code read) l found small guard has = has
+code_next instance scene Retire l found small guard has = has
+
+-- what a step keeps of its caller's number and own list, and of what is downgraded
+pub record Follows (callers : ℕ) (l l' : Local) : Type 0 where
   pub number : l'.number ≡ l.number
   pub own : OwnFrom l l'
+  pub code : HasCode callers l.downgraded → HasCode callers l'.downgraded
 
-same_follows : (l l' : Local) → l' ≡ l → Follows l l'
-same_follows l l' same = record {
+same_follows : (callers : ℕ) (l l' : Local) → l' ≡ l → Follows callers l l'
+same_follows callers l l' same = record {
   number = ap (λ (x : Local). x.number) same;
   own = λ i x at. inl (subst (λ (y : Local). slice_get y.own i ≡ Some x) same at);
+  code = λ has. subst (λ (x : Local). HasCode callers x.downgraded) (sym same) has;
 }
 
-did-follows : (made : Bool) (instance : Instance) (scene : Scene) (kind : Kind) (l l' : Local) (words' : List ℕ) → Did made instance scene kind l l' words' → Follows l l'
-did-follows true instance scene kind l l' words' did = record {
+did-follows : (made : Bool) (instance : Instance) (scene : Scene) (kind : Kind) (l l' : Local) (words' : List ℕ) → instance.base.place + length scene.history ≤ 2 ^ 40 →
+    Did made instance scene kind l l' words' → Follows instance.callers l l'
+did-follows true instance scene kind l l' words' small did = record {
   number = ap (λ (x : Local). x.number) did.1 ∙ next-number instance scene kind l _;
   own = subst (OwnFrom l) (sym did.1) (own_next instance scene kind l _ did.0);
+  code = λ has. subst (λ (x : Local). HasCode instance.callers x.downgraded) (sym did.1) (code_next instance scene kind l _ small did.0 has);
 }
-did-follows false instance scene kind l l' words' did = same_follows l l' did.1
+did-follows false instance scene kind l l' words' small did = same_follows instance.callers l l' did.1
 
-pub step-follows : {E : Type 0} (r : Result Bool E) (instance : Instance) (scene : Scene) (kind : Kind) (l l' : Local) (words' : List ℕ) →
-    IfOk r (λ made. Did made instance scene kind l l' words') → OnErr r ((l' ≡ l) × (words' ≡ scene.words)) → Follows l l'
-step-follows (Ok made) instance scene kind l l' words' did err = did-follows made instance scene kind l l' words' did
-step-follows (Err e) instance scene kind l l' words' did err = same_follows l l' err.0
+pub step-follows : {E : Type 0} (r : Result Bool E) (instance : Instance) (scene : Scene) (kind : Kind) (l l' : Local) (words' : List ℕ) → instance.base.place + length scene.history ≤ 2 ^ 40 →
+    IfOk r (λ made. Did made instance scene kind l l' words') → OnErr r ((l' ≡ l) × (words' ≡ scene.words)) → Follows instance.callers l l'
+step-follows (Ok made) instance scene kind l l' words' small did err = did-follows made instance scene kind l l' words' small did
+step-follows (Err e) instance scene kind l l' words' small did err = same_follows instance.callers l l' err.0
 
 -- what holds of each local state holds after one was put, where it holds of that
 put_kept : (P : ℕ → Local → Type 0) (locals : List Local) (caller : ℕ) (l l' : Local) → slice_get locals caller ≡ Some l → EachLocal locals P → P caller l' → EachLocal (set locals caller l') P
@@ -112,8 +170,8 @@ put_kept P locals caller l l' at each holds other x there =
     ]
 
 -- what a core holds stays whole
-pub still_whole : (core : Core) (words : List ℕ) (caller : ℕ) (l l' : Local) → IsWhole core →
-    length words ≡ length core.state.words → slice_get core.state.locals caller ≡ Some l → Follows l l' →
+still_whole : (core : Core) (words : List ℕ) (caller : ℕ) (l l' : Local) → IsWhole core →
+    length words ≡ length core.state.words → slice_get core.state.locals caller ≡ Some l → Follows core.callers l l' →
     IsWhole (record core { state = record { words = words; locals = set core.state.locals caller l' } })
 still_whole core words caller l l' whole long at follows = record {
   some = whole.some;
@@ -137,6 +195,31 @@ still_whole core words caller l l' whole long at follows = record {
       (follows.own i z own))
       other x there;
 }
+
+-- and so do the codes of what is downgraded in it
+pub still_kept : (core : Core) (words : List ℕ) (caller : ℕ) (l l' : Local) → IsKept core →
+    length words ≡ length core.state.words → slice_get core.state.locals caller ≡ Some l → Follows core.callers l l' →
+    IsKept (record core { state = record { words = words; locals = set core.state.locals caller l' } })
+still_kept core words caller l l' kept long at follows = record {
+  whole = still_whole core words caller l l' kept.whole long at follows;
+  codes = put_kept (λ _ y. HasCode core.callers y.downgraded) core.state.locals caller l l' at kept.codes (follows.code (kept.codes caller l at));
+}
+
+-- what a core opens with is whole, and nothing is downgraded in it
+pub opening_kept : (callers lines : ℕ) (base : Base) → 1 ≤ callers → callers ≤ 8 → 1168 ≤ length base.words →
+    IsKept (record { callers = callers; lines = lines; base = base; state = opening_state callers base })
+opening_kept callers lines base some few slots = record {
+  whole = opening_whole callers lines base some few slots;
+  codes = λ caller l at. subst (λ (x : Local). HasCode callers x.downgraded) (sym (opening_at callers base.place caller l at).1) (code_none callers);
+}
+
+-- what is told of a state's step is told of it where the words are read from elsewhere
+pub tells_here : (core : Core) (step : List ℕ → List ℕ → List ℕ × List ℕ) (reads : List ℕ → Bool) (words : List ℕ) (told : Told) (event : Event) (l : Local) → words ≡ core.state.words →
+    slice_get core.state.locals event.caller ≡ Some l →
+    ((x : Local) → slice_get core.state.locals event.caller ≡ Some x → Tells told (instance_of core step reads) (scene_of (instance_of core step reads) core.state) event.kind x) →
+    Tells told (instance_of core step reads) (scene_of (instance_of core step reads) (record { words = words; locals = core.state.locals })) event.kind l
+tells_here core step reads words told event l same at tells =
+    subst (λ ws. Tells told (instance_of core step reads) (scene_of (instance_of core step reads) (let now : State = record { words = ws; locals = core.state.locals } in now)) event.kind l) (sym same) (tells l at)
 
 -- the event that a step of its caller is
 pub applied : (made : Bool) (instance : Instance) (event : Event) (s : State) (words' : List ℕ) (l l' : Local) →

@@ -1,2 +1,3 @@
 pub mod EventLemmas
 pub mod ImageLemmas
+pub mod ReplyLemmas

@@ -5,14 +5,11 @@ ghost use Rattle.std.specs.Prelude.{◌<◌, ◌≤◌};
 ghost use Rattle.cx_base.specs.Tally.{IsTally};
 ghost use Rattle.cx_core.specs.Base.{LawfulBase};
 
-use cx_core::Base;
 use crate::events::apply;
-use cx_core::{Event, Kind};
-use cx_core::Local;
 use crate::lock_events::{exclusive_on, shared_on};
-use cx_core::EXCLUSIVE_MARK;
 use crate::state::CoreState;
 use cx_base::tally::Tally;
+use cx_core::{Base, EXCLUSIVE_MARK, Event, Kind, Local};
 use std::alloc::{AllocError, Global};
 use std::test::Fail;
 

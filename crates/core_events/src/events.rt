@@ -2,28 +2,28 @@
 //! local state.
 
 ghost use Rattle.std.specs.Prelude.{◌≡◌, ◌^◌, ◌<◌, ◌≤◌, ◌↔◌, length, slice_get, IsTrue, IfOk, OnErr, Some};
+ghost use Rattle.core_events.specs.Codes.{HasCode};
+ghost use Rattle.core_events.specs.Told.{Tells, TellsAnswers};
 ghost use Rattle.cx_core.specs.Base.{LawfulBase};
-ghost use Rattle.cx_core.specs.Events.{Applied, Did, TellsFull};
+ghost use Rattle.cx_core.specs.Events.{Applied, Did};
 ghost use Rattle.cx_core.specs.History.{IsFull};
 ghost use Rattle.cx_core.specs.Layout.{word_count};
 ghost use Rattle.cx_core.specs.Merge.{scene_of};
 ghost use Rattle.cx_core.specs.Rights.{held_words};
 ghost use Rattle.cx_core.specs.State.{EachScene, instance_of};
 
-use cx_core::Base;
 use crate::images::is_full;
-use cx_core::{Event, Kind};
-use cx_core::Local;
-use cx_core::OBJECT_START;
+use crate::replies::{Acknowledged, replies_of};
 use crate::state::CoreState;
-use crate::{lock_events, queue_events, region_events};
+use crate::{lock_events, queue_events, region_events, root_events};
 use cx_base::Object;
+use cx_core::{Base, Event, Kind, Local, OBJECT_START};
 use std::alloc::{AllocError, Global};
 
 /// Makes an event of the core: one step of its caller. Ok(false) comes exactly where the event's guard fails, and the
 /// state is as it was. `Err` is want of memory, and leaves the state as it was. The time grows with the history only where
-/// an exclusive right is given up, since the object's steps are then made from the base on, and with the lists that a
-/// step appends to.
+/// an exclusive right is given up or a raise answers, since the object's steps are then made from the base on, and with
+/// the lists that a step appends to.
 pub fn apply<O: Object>(
     alloc: Global,
     object: &O,
@@ -39,7 +39,7 @@ pub fn apply<O: Object>(
     if caller >= state.locals.len() {
         return Ok(false);
     }
-    let full = tells_full(alloc, object, state, caller, &event.kind)?;
+    let told = tells(alloc, object, state, caller, &event.kind)?;
     let local = &mut state.locals[caller];
     step(
         alloc,
@@ -48,13 +48,20 @@ pub fn apply<O: Object>(
         &mut state.words,
         local,
         &event.kind,
-        full,
+        &told,
     )
 }
 
-/// A step of a caller with this local state. `full` is, for a kind that gives an exclusive right up, whether the words
-/// held are the full image after their place. `Ok(false)` comes exactly where the guard fails. Then, and where `Err` says
-/// that memory is wanting, nothing changed.
+/// What a step is told of the history: of a kind that gives an exclusive right up, whether the words held are the full image
+/// after their place, and of a raise what it answers, where it is allowed.
+#[derive(Drop)]
+pub(crate) struct Told {
+    full: bool,
+    answers: Option<Acknowledged>,
+}
+
+/// A step of a caller with this local state, which is told what it has to know of the history. `Ok(false)` comes exactly
+/// where the guard fails. Then, and where `Err` says that memory is wanting, nothing changed.
 fn step(
     alloc: Global,
     callers: u32,
@@ -62,14 +69,15 @@ fn step(
     words: &mut [u64],
     local: &mut Local,
     kind: &Kind,
-    full: bool,
+    told: &Told,
 ) -> Result<bool, AllocError>
     requires some { 1 ≤ callers }
     requires few { callers ≤ 8 }
     requires long { length words.old ≡ word_count callers (length base.now.words) }
     requires caller { local.old.number < callers }
     requires slots { OBJECT_START ≤ length base.now.words }
-    ensures ok { IfOk result (λ made. EachScene callers base.now words.old (λ instance scene. TellsFull full instance scene kind.now local.old → Did made instance scene kind.now local.old local.new words.new)) }
+    requires code { HasCode callers local.old.downgraded }
+    ensures ok { IfOk result (λ made. EachScene callers base.now words.old (λ instance scene. Tells told.now instance scene kind.now local.old → Did made instance scene kind.now local.old local.new words.new)) }
     ensures err { OnErr result ((local.new ≡ local.old) × (words.new ≡ words.old)) }
 {
     match *kind {
@@ -85,9 +93,9 @@ fn step(
         }
         Kind::TryShared { r } => Ok(lock_events::try_shared(alloc, callers, words, local, r)),
         Kind::BackOff { r } => Ok(lock_events::back_off(callers, words, local, r)),
-        Kind::Downgrade { r } => Ok(lock_events::downgrade(callers, words, local, r, full)),
+        Kind::Downgrade { r } => Ok(lock_events::downgrade(callers, words, local, r, told.full)),
         Kind::ReleaseExclusive { r } => {
-            Ok(lock_events::release_exclusive(callers, words, local, r, full))
+            Ok(lock_events::release_exclusive(callers, words, local, r, told.full))
         }
         Kind::LoadWord { r, i, refused } => {
             region_events::load_word(callers, base, words, local, r, i, refused)
@@ -98,27 +106,74 @@ fn step(
         Kind::Persist { r, i } => {
             Ok(region_events::persist(alloc, callers, base, words, local, r, i))
         }
+        Kind::LoadCur => Ok(root_events::load_cur(callers, words, local)),
+        Kind::Publish => Ok(root_events::publish(callers, words, local)),
+        Kind::Raise { code, read: _ } => {
+            root_events::raise(alloc, callers, words, local, code, told.answers)
+        }
+        Kind::Retire => Ok(root_events::retire(callers, words, local)),
     }
 }
 
-/// For a kind that gives an exclusive right up, whether the words that its caller holds are the full image after their
-/// place. `Err` is want of memory.
-fn tells_full<O: Object>(
+/// What a step of a caller is told of the history. `Err` is want of memory.
+fn tells<O: Object>(
     alloc: Global,
     object: &O,
     state: &CoreState,
     caller: usize,
     kind: &Kind,
-) -> Result<bool, AllocError>
+) -> Result<Told, AllocError>
     requires base { LawfulBase (O.line_count object.now) (O.lawful object.now) state.now.base }
     requires caller { caller < length state.now.state.locals }
-    ensures { let instance = instance_of state.now (O.step object.now) (O.only_reads object.now) in IfOk result (λ full. (l : Local) → slice_get state.now.state.locals caller ≡ Some l → TellsFull full instance (scene_of instance state.now.state) kind.now l) }
+    ensures { let instance = instance_of state.now (O.step object.now) (O.only_reads object.now) in IfOk result (λ told. (l : Local) → slice_get state.now.state.locals caller ≡ Some l → Tells told instance (scene_of instance state.now.state) kind.now l) }
 {
     match *kind {
-        Kind::Downgrade { r: _ } => holds_full(alloc, object, state, caller),
-        Kind::ReleaseExclusive { r: _ } => holds_full(alloc, object, state, caller),
-        _ => Ok(false),
+        Kind::Downgrade { r: _ } => Ok(only_full(holds_full(alloc, object, state, caller)?)),
+        Kind::ReleaseExclusive { r: _ } => {
+            Ok(only_full(holds_full(alloc, object, state, caller)?))
+        }
+        Kind::Raise { code, read } => Ok(Told {
+            full: false,
+            answers: answers_of(alloc, object, state, caller, code, &read)?,
+        }),
+        _ => Ok(only_full(false)),
     }
+}
+
+/// No answers.
+fn only_full(full: bool) -> Told
+    ensures { result.full ≡ full }
+{
+    Told {
+        full,
+        answers: None,
+    }
+}
+
+/// What a raise of a caller answers, where it is allowed. `Err` is want of memory.
+fn answers_of<O: Object>(
+    alloc: Global,
+    object: &O,
+    state: &CoreState,
+    caller: usize,
+    code: u64,
+    read: &Option<[u64; 144]>,
+) -> Result<Option<Acknowledged>, AllocError>
+    requires base { LawfulBase (O.line_count object.now) (O.lawful object.now) state.now.base }
+    requires caller { caller < length state.now.state.locals }
+    ensures { let instance = instance_of state.now (O.step object.now) (O.only_reads object.now) in IfOk result (λ told. (l : Local) → slice_get state.now.state.locals caller ≡ Some l → TellsAnswers told instance (scene_of instance state.now.state) code read.now l) }
+{
+    let local = &state.locals[caller];
+    replies_of(
+        alloc,
+        object,
+        state.callers,
+        &state.base,
+        &state.locals,
+        local,
+        code,
+        read,
+    )
 }
 
 /// Whether the words that a caller holds exclusively are the full image after their place. `Err` is want of memory.

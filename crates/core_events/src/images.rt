@@ -11,10 +11,8 @@ ghost use Rattle.cx_core.specs.Region.{place_of};
 ghost use Rattle.cx_core.specs.State.{HasEntries};
 ghost use Rattle.cx_core.specs.Step.{full_step_of};
 
-use cx_core::{Base, Entry};
-use cx_core::{Linked, Local};
-use cx_core::full_step;
 use cx_base::{Object, VecMemory};
+use cx_core::{Base, Entry, Linked, Local, full_step};
 use std::alloc::{AllocError, Global};
 
 /// Whether a region is the full image after its place. `Err` is want of memory.
@@ -41,7 +39,7 @@ pub(crate) fn is_full<O: Object>(
 
 /// The history of a state: the merge of the own lists by ticket. `Err` is want of memory; more entries than a 64-bit
 /// number counts are that, too.
-fn merged(alloc: Global, place: u64, locals: &[Local]) -> Result<Vec<Entry>, AllocError>
+pub(crate) fn merged(alloc: Global, place: u64, locals: &[Local]) -> Result<Vec<Entry>, AllocError>
     ensures { IfOk result (λ history. history.items ≡ history_of place locals.now) }
 {
     let count = own_count(locals).ok_or(AllocError)?;
@@ -90,7 +88,8 @@ fn own_entry(ticket: u64, own: &[Linked]) -> Option<Entry>
     None
 }
 
-fn copied(entry: &Entry) -> Entry
+/// A copy of an entry.
+pub(crate) fn copied(entry: &Entry) -> Entry
     ensures { result ≡ entry.now }
 {
     Entry {
@@ -139,7 +138,7 @@ fn step_on<O: Object>(object: &O, memory: &mut VecMemory, entry: &Entry)
 }
 
 /// The law that an operation is 144 words of 64 bits.
-fn op_fits(op: &[u64])
+pub(crate) fn op_fits(op: &[u64])
     requires { length op.now ≡ 144 }
     ensures { Words 144 op.now }
 {}

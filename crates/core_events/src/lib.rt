@@ -7,7 +7,11 @@ mod events;
 mod images;
 mod lock_events;
 mod queue_events;
+#[cfg(test)]
+mod queue_tests;
 mod region_events;
+mod replies;
+mod root_events;
 mod state;
 
 pub use events::apply;

@@ -10,11 +10,9 @@ ghost use Rattle.cx_core.specs.Region.{place_of};
 ghost use Rattle.cx_core.specs.Rights.{downgraded_on, exclusive_on, held_dirty, held_words, is_at, is_on, rights, rights_on, shared_on, won_on};
 ghost use Rattle.cx_core.specs.State.{EachScene};
 
-use cx_core::Base;
-use cx_core::layout::{EXCLUSIVE_MARK, lock_at, replica_count, vol_at};
-use cx_core::{HeldDowngraded, HeldExclusive, HeldShared, Local, SeenLock};
-use cx_core::OBJECT_START;
 use cx_base::{Items, root_replica};
+use cx_core::layout::{EXCLUSIVE_MARK, lock_at, replica_count, vol_at};
+use cx_core::{Base, HeldDowngraded, HeldExclusive, HeldShared, Local, OBJECT_START, SeenLock};
 use std::alloc::{AllocError, Global};
 
 /// The replica that a caller holds exclusively.

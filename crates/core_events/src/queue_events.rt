@@ -7,11 +7,9 @@ ghost use Rattle.cx_core.specs.Layout.{cell_count, link_at, replicas_at};
 ghost use Rattle.cx_core.specs.QueueEvents.{CanLink, IsIdle, next_number, exchanged, lost, ShowsOpen, ShowsTicket, cell_of, entry_in, linked, raised_front, seen_word};
 ghost use Rattle.cx_core.specs.State.{EachScene};
 
-use cx_core::{Base, Entry};
-use cx_core::layout::{CELL_WORDS, CELLS, FREE_AT, cell_at, cell_count, link_at};
-use cx_core::{Linked, Local, SeenSlot};
-use cx_core::{OBJECT_START, slot_start};
 use cx_base::{link_cell, link_code, link_ticket};
+use cx_core::layout::{CELL_WORDS, CELLS, FREE_AT, cell_at, cell_count, link_at};
+use cx_core::{Base, Entry, Linked, Local, OBJECT_START, SeenSlot, slot_start};
 use std::alloc::AllocError;
 
 /// Whether a caller's cell may be written: it was never linked, or its ticket is below the greatest FREE found.

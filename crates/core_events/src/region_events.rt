@@ -10,11 +10,10 @@ ghost use Rattle.cx_core.specs.RegionEvents.{CanLoad, CanLoadAs, CanPersist, Can
 ghost use Rattle.cx_core.specs.Rights.{exclusive_on, held_dirty, held_words, shared_on};
 ghost use Rattle.cx_core.specs.State.{EachScene, one_more};
 
-use cx_core::Base;
-use cx_core::layout::{per_at, replica_count, vol_at};
-use cx_core::{HeldExclusive, HeldShared, Local};
 use crate::lock_events::{exclusive_on, is_at, is_fresh_on, push_once, shared_on};
 use cx_base::{Items, root_place};
+use cx_core::layout::{per_at, replica_count, vol_at};
+use cx_core::{Base, HeldExclusive, HeldShared, Local};
 use std::alloc::{AllocError, Global};
 use std::mem;
 

@@ -5,13 +5,12 @@ ghost use Rattle.cx_core.specs.Base.{LawfulBase};
 ghost use Rattle.cx_core.specs.Layout.{cell_count, cur_at, dur_at, low_at, free_at, link_at, lock_at, need_at, cell_at, offer_at, set_at, vol_at, per_at, word_count, max_word};
 ghost use Rattle.cx_core.specs.State.{copies, opening_local, opening_locals, opening_words, opening_state};
 
-use cx_core::Base;
+use cx_base::{Items, Object, root_code};
 use cx_core::layout::{
     CUR_AT, DUR_AT, FREE_AT, LOW_AT, MAX_WORD, QUEUE_WORDS, cell_at, cell_count, link_at, lock_at,
     need_at, offer_at, replica_count, replicas_at, set_at,
 };
-use cx_core::Local;
-use cx_base::{Items, Object, root_code};
+use cx_core::{Base, Local};
 use std::alloc::{AllocError, Global};
 use std::marker::Model;
 
@@ -27,13 +26,14 @@ pub struct CoreState {
 }
 
 impl Model for CoreState {
-    ghost use Rattle.cx_core.specs.State.{Core, IsWhole};
+    ghost use Rattle.core_events.specs.Codes.{IsKept};
+    ghost use Rattle.cx_core.specs.State.{Core};
 
     ghost Value = { Core };
 
     ghost view = { λ s. record { callers = s.callers; lines = s.lines; base = s.base; state = record { words = s.words.items; locals = s.locals.items } } };
 
-    ghost invariant = { λ s. IsWhole (record { callers = s.callers; lines = s.lines; base = s.base; state = record { words = s.words.items; locals = s.locals.items } }) };
+    ghost invariant = { λ s. IsKept (record { callers = s.callers; lines = s.lines; base = s.base; state = record { words = s.words.items; locals = s.locals.items } }) };
 }
 
 impl CoreState {

@@ -1,0 +1,28 @@
+-- What a step is told of the history before it is made.
+use Rattle.std.specs.Prelude.{◌≡◌, ◌+◌, ℕ, List, Option, None, Some, length}
+use Rattle.std.specs.Option.{option_to_list}
+use Rattle.core_events.specs.declared.replies.Acknowledged.{Acknowledged}
+use Rattle.core_events.specs.declared.events.Told.{Told}
+use Rattle.cx_base.specs.Codes.{root_place_of}
+use Rattle.cx_core.specs.declared.kinds.Kind.{Kind}
+use Rattle.cx_core.specs.declared.kinds.Kind.TheVariants.{Downgrade, ReleaseExclusive, Raise}
+use Rattle.cx_core.specs.declared.local.Local.{Local}
+use Rattle.cx_core.specs.Events.{TellsFull}
+use Rattle.cx_core.specs.RootEvents.{CanRaise, answers_below, reads_at, unanswered}
+use Rattle.cx_core.specs.State.{Instance, Scene}
+
+-- of a raise, whether it is allowed, and what it then answers
+abbrev pub TellsAnswers : Option Acknowledged → Instance → Scene → ℕ → Option (List ℕ) → Local → Type 0
+TellsAnswers None instance scene code read l = ¬ CanRaise instance code read l
+TellsAnswers (Some answers) instance scene code read l =
+    let below = answers_below instance scene.history (root_place_of instance.callers code) (unanswered l) in
+    CanRaise instance code read l
+    × (option_to_list answers.entry ≡ below)
+    × (option_to_list answers.read ≡ reads_at instance scene.history (root_place_of instance.callers code) (length l.answered + length below) read)
+
+-- of a kind that gives an exclusive right up, whether the words held are the full image after their place
+abbrev pub Tells : Told → Instance → Scene → Kind → Local → Type 0
+Tells told instance scene (Downgrade r) l = TellsFull told.full instance scene (Downgrade r) l
+Tells told instance scene (ReleaseExclusive r) l = TellsFull told.full instance scene (ReleaseExclusive r) l
+Tells told instance scene (Raise code read) l = TellsAnswers told.answers instance scene code read l
+Tells told instance scene _ l = Unit {0}

@@ -1,0 +1,229 @@
+//! What a raise answers: whether its guard holds, and the replies, for which the object is run along the history.
+
+ghost use Rattle.std.specs.Prelude.{◌≡◌, ◌+◌, ◌^◌, ◌<◌, ◌≤◌, ◌↔◌, ◌⊎◌, ℕ, Bool, List, None, length, fold, IsTrue, IfOk};
+ghost use Rattle.std.specs.Option.{option_to_list};
+ghost use Rattle.core_events.specs.Told.{TellsAnswers};
+ghost use Rattle.cx_base.specs.VecMemory.{words_of};
+ghost use Rattle.cx_core.specs.Base.{LawfulBase};
+ghost use Rattle.cx_core.specs.History.{image_after};
+ghost use Rattle.cx_core.specs.Merge.{history_of};
+ghost use Rattle.cx_core.specs.Region.{object_part};
+ghost use Rattle.cx_core.specs.RootEvents.{CanRaise, IsWonCode, ShowsPlace, answers_below, reads_at, reply_after, unanswered};
+
+use crate::images::{copied, merged, op_fits};
+use cx_base::{Object, VecMemory, root_place, root_replica};
+use cx_core::{Answer, Base, Entry, HeldShared, Linked, Local, OBJECT_START, SeenRead, WonCode};
+use std::alloc::{AllocError, Global};
+
+/// What a raise answers: the caller's own entry that is not answered yet, and a read.
+#[derive(Clone, Copy, Drop)]
+pub(crate) struct Acknowledged {
+    pub(crate) entry: Option<Answer>,
+    pub(crate) read: Option<SeenRead>,
+}
+
+/// Whether a code is the one that a caller won with.
+fn is_won_code(code: u64, won: Option<WonCode>) -> bool
+    ensures { IsTrue result ↔ IsWonCode code won }
+{
+    match won {
+        None => false,
+        Some(won) => code == won.code,
+    }
+}
+
+/// Whether the replica that a code names is held shared, and its place word was loaded, which is the code's place.
+fn shows_place(callers: u32, code: u64, shared: &Option<HeldShared>) -> bool
+    requires some { 1 ≤ callers }
+    requires few { callers ≤ 8 }
+    ensures { IsTrue result ↔ ShowsPlace callers code shared.now }
+{
+    match shared {
+        None => false,
+        Some(held) => {
+            held.replica == u64::from(root_replica(callers, code))
+                && held
+                    .loaded
+                    .as_slice()
+                    .contains(&(0, root_place(callers, code)))
+        }
+    }
+}
+
+/// Whether a raise by a code may answer a read whose operation only reads.
+fn shows_current(callers: u32, local: &Local, code: u64) -> bool
+    requires some { 1 ≤ callers }
+    requires few { callers ≤ 8 }
+    ensures { IsTrue result ↔ ((code ≡ local.now.seen_cur) × IsTrue local.now.fresh × ShowsPlace callers code local.now.shared) }
+{
+    code == local.seen_cur && local.fresh && shows_place(callers, code, &local.shared)
+}
+
+/// Whether a caller may raise DUR by a code, and have this read answered.
+fn can_raise<O: Object>(
+    object: &O,
+    callers: u32,
+    local: &Local,
+    code: u64,
+    read: &Option<[u64; 144]>,
+) -> bool
+    requires some { 1 ≤ callers }
+    requires few { callers ≤ 8 }
+    ensures { (base : _) (step : List ℕ → List ℕ → List ℕ × List ℕ) → IsTrue result ↔ CanRaise (record { callers = callers; base = base; step = step; reads = O.only_reads object.now }) code read.now local.now }
+{
+    (code == local.seen_cur || is_won_code(code, local.won))
+        && match read {
+            None => true,
+            Some(op) => object.reads(op) && shows_current(callers, local, code),
+        }
+}
+
+/// Whether a caller may raise DUR by a code, and what the raise then answers; none where it may not. `Err` is want of
+/// memory, and comes only where the guard holds.
+pub(crate) fn replies_of<O: Object>(
+    alloc: Global,
+    object: &O,
+    callers: u32,
+    base: &Base,
+    locals: &[Local],
+    local: &Local,
+    code: u64,
+    read: &Option<[u64; 144]>,
+) -> Result<Option<Acknowledged>, AllocError>
+    requires some { 1 ≤ callers }
+    requires few { callers ≤ 8 }
+    requires base { LawfulBase (O.line_count object.now) (O.lawful object.now) base.now }
+    ensures { (words : List ℕ) → IfOk result (λ told. TellsAnswers told (record { callers = callers; base = base.now; step = O.step object.now; reads = O.only_reads object.now }) (record { history = history_of base.now.place locals.now; words = words }) code read.now local.now) }
+{
+    if !can_raise(object, callers, local, code, read) {
+        return Ok(None);
+    }
+    let place = root_place(callers, code);
+    let entry = answer_below(alloc, object, base, locals, local, place)?;
+    let before = local.answered.as_slice().len() as u64 + count(&entry);
+    let read = read_at(alloc, object, base, locals, place, before, read)?;
+    Ok(Some(Acknowledged { entry, read }))
+}
+
+/// The number of answers.
+fn count(answer: &Option<Answer>) -> u64
+    ensures { result ≡ length (option_to_list answer.now) }
+{
+    match answer {
+        None => 0,
+        Some(_) => 1,
+    }
+}
+
+/// What a raise to a place answers of a caller's own entries: the reply to the first that is not answered, where its
+/// ticket is below the place. `Err` is want of memory.
+fn answer_below<O: Object>(
+    alloc: Global,
+    object: &O,
+    base: &Base,
+    locals: &[Local],
+    local: &Local,
+    place: u64,
+) -> Result<Option<Answer>, AllocError>
+    requires base { LawfulBase (O.line_count object.now) (O.lawful object.now) base.now }
+    ensures { (callers : ℕ) (reads : List ℕ → Bool) → IfOk result (λ answer. option_to_list answer ≡ answers_below (record { callers = callers; base = base.now; step = O.step object.now; reads = reads }) (history_of base.now.place locals.now) place (unanswered local.now)) }
+{
+    let Some(own) = unanswered(local) else {
+        return Ok(None);
+    };
+    if own.ticket >= place {
+        return Ok(None);
+    }
+    let ticket = own.ticket;
+    let reply = reply_after(alloc, object, base, locals, ticket, &own.entry.op)?;
+    Ok(Some(Answer { ticket, reply }))
+}
+
+/// The first entry of a caller that is not answered.
+fn unanswered(local: &Local) -> Option<Linked>
+    ensures { result ≡ unanswered local.now }
+{
+    let linked = local.own.as_slice().get(local.answered.len())?;
+    Some(Linked {
+        ticket: linked.ticket,
+        entry: copied(&linked.entry),
+    })
+}
+
+/// What a raise to a place answers of a read, where so many of its caller's entries are answered. `Err` is want of memory.
+fn read_at<O: Object>(
+    alloc: Global,
+    object: &O,
+    base: &Base,
+    locals: &[Local],
+    place: u64,
+    before: u64,
+    read: &Option<[u64; 144]>,
+) -> Result<Option<SeenRead>, AllocError>
+    requires base { LawfulBase (O.line_count object.now) (O.lawful object.now) base.now }
+    ensures { (callers : ℕ) (reads : List ℕ → Bool) → IfOk result (λ seen. option_to_list seen ≡ reads_at (record { callers = callers; base = base.now; step = O.step object.now; reads = reads }) (history_of base.now.place locals.now) place before read.now) }
+{
+    let Some(op) = read else {
+        return Ok(None);
+    };
+    let reply = reply_after(alloc, object, base, locals, place, op)?;
+    Ok(Some(SeenRead {
+        place,
+        op: *op,
+        reply,
+        before,
+    }))
+}
+
+/// The object's reply to an operation after the entries of a state with tickets below a place. `Err` is want of memory.
+fn reply_after<O: Object>(
+    alloc: Global,
+    object: &O,
+    base: &Base,
+    locals: &[Local],
+    place: u64,
+    op: &[u64; 144],
+) -> Result<[u64; 144], AllocError>
+    requires base { LawfulBase (O.line_count object.now) (O.lawful object.now) base.now }
+    ensures { (callers : ℕ) (reads : List ℕ → Bool) → IfOk result (λ reply. reply ≡ reply_after (record { callers = callers; base = base.now; step = O.step object.now; reads = reads }) (history_of base.now.place locals.now) place op.now) }
+{
+    let history = merged(alloc, base.place, locals)?;
+    let count = place.saturating_sub(base.place).min(history.len() as u64) as usize;
+    let mut memory = part_after(alloc, object, base, &history[..count])?;
+    Ok(run_on(object, &mut memory, op))
+}
+
+/// The object's image after some entries from a base on, in a memory without a limit. `Err` is want of memory.
+fn part_after<O: Object>(
+    alloc: Global,
+    object: &O,
+    base: &Base,
+    entries: &[Entry],
+) -> Result<VecMemory, AllocError>
+    requires base { LawfulBase (O.line_count object.now) (O.lawful object.now) base.now }
+    ensures words { IfOk result (λ memory. words_of memory ≡ image_after (O.step object.now) (object_part base.now.words) entries.now) }
+    ensures lawful { IfOk result (λ memory. O.lawful object.now (words_of memory)) }
+    ensures free { IfOk result (λ memory. memory.left ≡ None) }
+{
+    let words = Vec::from_slice(alloc, &base.words.as_slice()[OBJECT_START as usize..])?;
+    let mut memory = VecMemory::of(words, None);
+    for entry in entries {
+        run_on(object, &mut memory, &entry.op);
+    }
+    Ok(memory)
+}
+
+/// Does the object's step on its image in a memory without a limit, and gives the reply.
+fn run_on<O: Object>(object: &O, memory: &mut VecMemory, op: &[u64; 144]) -> [u64; 144]
+    requires lawful { O.lawful object.now (words_of memory.old) }
+    requires free { memory.old.left ≡ None }
+    ensures step { O.step object.now (words_of memory.old) op.now ≡ (words_of memory.new, result) }
+    ensures lawful { O.lawful object.now (words_of memory.new) }
+    ensures free { memory.new.left ≡ None }
+{
+    op_fits(op);
+    match object.run(memory, op) {
+        Ok(reply) => reply,
+        Err(_) => unreachable!(),
+    }
+}

@@ -1,0 +1,251 @@
+//! The steps on the root: CUR is loaded and replaced, DUR is raised, and a win is retired.
+
+ghost use Rattle.std.specs.Prelude.{◌≡◌, ◌+◌, ◌*◌, ◌^◌, ◌<◌, ◌≤◌, ◌↔◌, ◌⊎◌, ◌∷◌, ◌++◌, [], ℕ, List, Option, Some, max, min, length, IsTrue, IfOk, OnErr, OnOk};
+ghost use Rattle.std.specs.Option.{option_to_list};
+ghost use Rattle.core_events.specs.Codes.{HasCode};
+ghost use Rattle.core_events.specs.Told.{TellsAnswers};
+ghost use Rattle.cx_base.specs.Codes.{root_place_of};
+ghost use Rattle.cx_core.specs.declared.kinds.Kind.TheVariants.{LoadCur, Publish, Raise, Retire};
+ghost use Rattle.cx_core.specs.Events.{Did};
+ghost use Rattle.cx_core.specs.Layout.{replicas_at};
+ghost use Rattle.cx_core.specs.RootEvents.{CanPublish, CanRetire, IsAbove, before_in, code_in, loaded_cur, outrun, published, raised_floor};
+ghost use Rattle.cx_core.specs.State.{EachScene, one_more};
+
+use crate::replies::Acknowledged;
+use cx_base::{Items, root_code, root_place, root_replica};
+use cx_core::layout::{CUR_AT, DUR_AT, lock_at};
+use cx_core::{Answer, HeldDowngraded, Local, SeenRead, WonCode};
+use std::alloc::{AllocError, Global};
+use std::mem;
+
+/// Loads CUR, which is always allowed.
+pub(crate) fn load_cur(callers: u32, words: &[u64], local: &mut Local) -> bool
+    requires some { 1 ≤ callers }
+    requires few { callers ≤ 8 }
+    requires long { 4 ≤ length words.now }
+    ensures { (base : _) → EachScene callers base words.now (λ instance scene. Did result instance scene LoadCur local.old local.new words.now) }
+{
+    see(callers, local, words[CUR_AT]);
+    local.fresh = true;
+    true
+}
+
+/// A code is now the last one found in CUR, or put there. Every ticket below its place is linked. It is one step.
+fn see(callers: u32, local: &mut Local, code: u64)
+    requires some { 1 ≤ callers }
+    requires few { callers ≤ 8 }
+    ensures { local.new ≡ record local.old { seen_cur = code; front = max local.old.front (root_place_of callers code); steps = one_more local.old.steps } }
+{
+    local.seen_cur = code;
+    local.front = local.front.max(root_place(callers, code));
+    local.steps = local.steps.saturating_add(1);
+}
+
+/// Whether a replica is downgraded at a place above that of a code.
+fn is_above(callers: u32, code: u64, held: Option<HeldDowngraded>) -> bool
+    requires some { 1 ≤ callers }
+    requires few { callers ≤ 8 }
+    ensures { IsTrue result ↔ IsAbove callers code held }
+{
+    match held {
+        None => false,
+        Some(held) => root_place(callers, code) < held.place,
+    }
+}
+
+/// The root code of the replica that is downgraded, 0 where there is none.
+fn code_in(callers: u32, held: Option<HeldDowngraded>) -> u64
+    requires some { 1 ≤ callers }
+    requires few { callers ≤ 8 }
+    requires code { HasCode callers held }
+    ensures { result ≡ code_in callers held }
+{
+    match held {
+        None => 0,
+        Some(held) => root_code(callers, held.place, held.replica as u32),
+    }
+}
+
+/// Whether a caller may publish the replica that it has downgraded.
+fn can_publish(callers: u32, local: &Local) -> bool
+    requires some { 1 ≤ callers }
+    requires few { callers ≤ 8 }
+    ensures { IsTrue result ↔ CanPublish callers local.now }
+{
+    is_above(callers, local.seen_cur, local.downgraded) && local.won.is_none()
+}
+
+/// Tries to publish the replica that is downgraded: a compare-exchange of CUR from the code last found there.
+pub(crate) fn publish(callers: u32, words: &mut [u64], local: &mut Local) -> bool
+    requires some { 1 ≤ callers }
+    requires few { callers ≤ 8 }
+    requires long { 4 ≤ length words.old }
+    requires code { HasCode callers local.old.downgraded }
+    ensures { (base : _) → EachScene callers base words.old (λ instance scene. Did result instance scene Publish local.old local.new words.new) }
+{
+    if !can_publish(callers, local) {
+        return false;
+    }
+    let found = words[CUR_AT];
+    if found == local.seen_cur {
+        words[CUR_AT] = win(callers, local);
+    } else {
+        lose(callers, local, found);
+    }
+    true
+}
+
+/// What a caller learns by a publication that won, and its code: what was downgraded is the pin of CUR, and the pin before
+/// is the win's.
+fn win(callers: u32, local: &mut Local) -> u64
+    requires some { 1 ≤ callers }
+    requires few { callers ≤ 8 }
+    requires code { HasCode callers local.old.downgraded }
+    ensures local { local.new ≡ published callers local.old }
+    ensures code { result ≡ code_in callers local.old.downgraded }
+{
+    let code = code_in(callers, local.downgraded);
+    local.downgraded = None;
+    local.won = Some(WonCode {
+        code,
+        before: local.seen_cur,
+    });
+    see(callers, local, code);
+    local.fresh = false;
+    code
+}
+
+/// What a caller learns by a publication that was lost to the code found.
+fn lose(callers: u32, local: &mut Local, found: u64)
+    requires some { 1 ≤ callers }
+    requires few { callers ≤ 8 }
+    ensures { local.new ≡ outrun callers local.old found }
+{
+    if local.fresh {
+        local.met = local.met.saturating_add(1);
+    }
+    see(callers, local, found);
+    local.fresh = false;
+}
+
+/// Raises DUR by a code, and gives what the raise answers. `told` is that, and none where the guard fails. `Err` is want of
+/// memory, and nothing changed.
+pub(crate) fn raise(
+    alloc: Global,
+    callers: u32,
+    words: &mut [u64],
+    local: &mut Local,
+    code: u64,
+    told: Option<Acknowledged>,
+) -> Result<bool, AllocError>
+    requires some { 1 ≤ callers }
+    requires few { callers ≤ 8 }
+    requires long { 4 ≤ length words.old }
+    ensures ok { IfOk result (λ made. (base : _) → EachScene callers base words.old (λ instance scene. (read : Option (List ℕ)) → TellsAnswers told instance scene code read local.old → Did made instance scene (Raise code read) local.old local.new words.new)) }
+    ensures err { OnErr result ((local.new ≡ local.old) × (words.new ≡ words.old)) }
+{
+    let Some(answers) = told else {
+        return Ok(false);
+    };
+    acknowledge(alloc, local, root_place(callers, code), answers)?;
+    local.raised = local.raised.max(code);
+    local.fresh = false;
+    local.steps = local.steps.saturating_add(1);
+    words[DUR_AT] = words[DUR_AT].max(code);
+    Ok(true)
+}
+
+/// Gives what a raise to a place answers. `Err` is want of memory, and nothing changed.
+fn acknowledge(
+    alloc: Global,
+    local: &mut Local,
+    place: u64,
+    told: Acknowledged,
+) -> Result<(), AllocError>
+    ensures ok { let answers = option_to_list told.entry in let reads = option_to_list told.read in OnOk result (local.new ≡ record local.old { answered = local.old.answered ++ answers; seen_reads = local.old.seen_reads ++ reads; floor = raised_floor local.old.floor place answers reads }) }
+    ensures err { OnErr result (local.new ≡ local.old) }
+{
+    push_both(
+        alloc,
+        &mut local.answered,
+        told.entry,
+        &mut local.seen_reads,
+        told.read,
+    )?;
+    if told.entry.is_some() || told.read.is_some() {
+        local.floor = local.floor.max(place);
+    }
+    Ok(())
+}
+
+/// Adds to two lists what there is. `Err` is want of memory, and leaves both as they were.
+fn push_both(
+    alloc: Global,
+    answered: &mut Items<Answer>,
+    answer: Option<Answer>,
+    reads: &mut Items<SeenRead>,
+    read: Option<SeenRead>,
+) -> Result<(), AllocError>
+    ensures ok { OnOk result ((answered.new ≡ answered.old ++ option_to_list answer) × (reads.new ≡ reads.old ++ option_to_list read)) }
+    ensures err { OnErr result ((answered.new ≡ answered.old) × (reads.new ≡ reads.old)) }
+{
+    if let Some(answer) = answer {
+        answered.push(answer)?;
+    }
+    if let Some(read) = read {
+        if let Err(error) = reads.push(read) {
+            if answer.is_some() {
+                take_last(alloc, answered);
+            }
+            return Err(error);
+        }
+    }
+    Ok(())
+}
+
+/// Takes the last item off a list.
+fn take_last(alloc: Global, answered: &mut Items<Answer>)
+    ensures { (before : List Answer) (last : Answer) → answered.old ≡ before ++ last ∷ [] → answered.new ≡ before }
+{
+    let mut items = mem::replace(answered, Items::new(alloc)).into_vec();
+    items.pop();
+    *answered = Items::of(items);
+}
+
+/// Whether a caller may retire its win, having raised DUR to this code.
+fn can_retire(raised: u64, won: Option<WonCode>) -> bool
+    ensures { IsTrue result ↔ CanRetire raised won }
+{
+    match won {
+        None => false,
+        Some(won) => won.code <= raised,
+    }
+}
+
+/// The code before a win, 0 where there is none.
+fn before_in(won: Option<WonCode>) -> u64
+    ensures { result ≡ before_in won }
+{
+    match won {
+        None => 0,
+        Some(won) => won.before,
+    }
+}
+
+/// Takes the pin back from the replica of the code before the caller's win.
+pub(crate) fn retire(callers: u32, words: &mut [u64], local: &mut Local) -> bool
+    requires some { 1 ≤ callers }
+    requires few { callers ≤ 8 }
+    requires long { replicas_at callers ≤ length words.old }
+    ensures { (base : _) → EachScene callers base words.old (λ instance scene. Did result instance scene Retire local.old local.new words.new) }
+{
+    if !can_retire(local.raised, local.won) {
+        return false;
+    }
+    let before = root_replica(callers, before_in(local.won));
+    let at = lock_at(callers, u64::from(before));
+    words[at] = words[at].wrapping_sub(1);
+    local.won = None;
+    local.steps = local.steps.saturating_add(1);
+    true
+}
