@@ -1,6 +1,6 @@
-//! Accesses for whoever writes an object: several words at once, and a word below a bound.
+//! Accesses for whoever writes an object: several words at once, only words that differ, and a word below a bound.
 
-ghost use Rattle.std.specs.Prelude.{◌≡◌, ◌+◌, ◌^◌, ◌<◌, ◌≤◌, Some, length, slice_index, IsTrue, IfOk, OnOk, OnErr};
+ghost use Rattle.std.specs.Prelude.{◌≡◌, ◌+◌, ◌^◌, ◌<◌, ◌≤◌, Some, length, slice_index, slice_set, IsTrue, IfOk, OnOk, OnErr};
 ghost use Rattle.cx_base.specs.Memory.{Loaded, Becomes, Framed, Always, overwritten};
 
 use crate::memory::{Halt, Memory};
@@ -17,6 +17,36 @@ pub fn store_words<M: Memory>(mem: &mut M, at: u64, words: &[u64]) -> Result<(),
 {
     for i in 0..words.len() {
         mem.store(at + i as u64, words[i])?;
+    }
+    Ok(())
+}
+
+/// Stores a word where another one is there. `Halt` comes only where no access is left.
+pub fn store_new<M: Memory>(mem: &mut M, at: u64, v: u64) -> Result<(), Halt>
+    requires within { at < M.size mem.old }
+    requires writable { IsTrue (M.writable mem.old) }
+    ensures done { OnOk result (Becomes (M.stands mem.old) (M.stands mem.new) (λ before now. now ≡ slice_set before at v)) }
+    ensures halts { OnErr result (M.left mem.new ≡ Some 0) }
+    ensures framed { Framed M.size M.fixed M.writable M.left mem.old mem.new }
+{
+    if mem.load(at)? != v {
+        mem.store(at, v)?;
+    }
+    Ok(())
+}
+
+/// Stores words over those from a place on, each only where another one is there. `Halt` comes only where no access
+/// is left, and then only the first of the words are there.
+pub fn store_new_words<M: Memory>(mem: &mut M, at: u64, words: &[u64]) -> Result<(), Halt>
+    requires within { at + length words.now ≤ M.size mem.old }
+    requires small { at + length words.now < 2 ^ 64 }
+    requires writable { IsTrue (M.writable mem.old) }
+    ensures done { OnOk result (Becomes (M.stands mem.old) (M.stands mem.new) (λ before now. now ≡ overwritten at words.now before)) }
+    ensures halts { OnErr result (M.left mem.new ≡ Some 0) }
+    ensures framed { Framed M.size M.fixed M.writable M.left mem.old mem.new }
+{
+    for i in 0..words.len() {
+        store_new(mem, at + i as u64, words[i])?;
     }
     Ok(())
 }

@@ -17,7 +17,7 @@ pub mod tally;
 #[cfg(test)]
 mod tests;
 
-pub use accesses::{load_below, store_words};
+pub use accesses::{load_below, store_new, store_new_words, store_words};
 pub use codes::{
     link_cell, link_code, link_parts, link_ticket, link_whole, root_code, root_parts, root_place,
     root_replica, root_whole,

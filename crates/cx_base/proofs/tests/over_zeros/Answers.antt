@@ -1,4 +1,4 @@
-use Rattle.std.proofs.Common.{◌≡◌, ◌<◌, ℕ, List, replicate, slice_index, subst, sym, ap, ◌∙◌, arith}
+use Rattle.std.proofs.Common.{◌≡◌, ◌<◌, ℕ, List, replicate, slice_index, ap, ◌∙◌, arith}
 use Rattle.cx_base.proofs.MemoryLemmas.{known_always}
 use Rattle.cx_base.proofs.tests.over_zeros.Goals as goal
 
