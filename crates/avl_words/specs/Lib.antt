@@ -1,4 +1,3 @@
-pub mod Access
 pub mod Lines
 pub mod Words
 pub mod Links

@@ -1,10 +1,21 @@
 //! Words of lines.
 
-ghost use Rattle.std.specs.Prelude.{◌≡◌, ◌+◌, ◌*◌, ◌<◌, ◌≤◌, IsTrue, IfOk, OnErr, Some, is_some};
-ghost use Rattle.cx_base.specs.Memory.{Always, Loaded, Stored, Becomes};
+ghost use Rattle.std.specs.Prelude.{◌≡◌, ◌+◌, ◌*◌, ◌<◌, ◌≤◌, ◌^◌, IsTrue, IfOk, OnErr, Some};
+ghost use Rattle.cx_base.specs.Memory.{Always, Loaded, Stored, Becomes, Framed};
 ghost use Rattle.avl_words.specs.Lines.{IsWithin, IsPartLength, with_word};
 
-use cx_base::{Halt, Memory};
+use cx_base::{Halt, Memory, store_word};
+
+/// Where the words of a line begin.
+pub fn start_of<M: Memory>(mem: &M, line: u64) -> u64
+    requires sized { IsPartLength (M.size mem.now) }
+    requires line { Always (M.stands mem.now) (λ ws. IsWithin ws line) }
+    ensures is { result ≡ 8 * line }
+    ensures within { result + 8 ≤ M.size mem.now }
+    ensures small { result + 8 ≤ 2 ^ 35 }
+{
+    8 * line
+}
 
 /// Loads word `place` of a line.
 pub fn word<M: Memory>(mem: &mut M, line: u64, place: u64) -> Result<u64, Halt>
@@ -15,12 +26,10 @@ pub fn word<M: Memory>(mem: &mut M, line: u64, place: u64) -> Result<u64, Halt>
         (λ v. Loaded (8 * line + place) v (M.stands mem.old) (M.stands mem.new)) }
     ensures kept { Becomes (M.stands mem.old) (M.stands mem.new) ◌≡◌ }
     ensures halts { OnErr result (M.left mem.new ≡ Some 0) }
-    ensures limited { is_some (M.left mem.new) ≡ is_some (M.left mem.old) }
-    ensures size { M.size mem.new ≡ M.size mem.old }
-    ensures fixed { M.fixed mem.new ≡ M.fixed mem.old }
-    ensures writable { M.writable mem.new ≡ M.writable mem.old }
+    ensures framed { Framed M.size M.fixed M.writable M.left mem.old mem.new }
 {
-    mem.load(8 * line + place)
+    let start = start_of(mem, line);
+    mem.load(start + place)
 }
 
 /// Stores word `place` of a line.
@@ -32,12 +41,10 @@ pub fn put<M: Memory>(mem: &mut M, line: u64, place: u64, v: u64) -> Result<(), 
     ensures done { IfOk result
         (λ _. Stored (8 * line + place) v (M.stands mem.old) (M.stands mem.new)) }
     ensures halts { OnErr result (M.left mem.new ≡ Some 0) }
-    ensures limited { is_some (M.left mem.new) ≡ is_some (M.left mem.old) }
-    ensures size { M.size mem.new ≡ M.size mem.old }
-    ensures fixed { M.fixed mem.new ≡ M.fixed mem.old }
-    ensures writable { M.writable mem.new ≡ M.writable mem.old }
+    ensures framed { Framed M.size M.fixed M.writable M.left mem.old mem.new }
 {
-    mem.store(8 * line + place, v)
+    let start = start_of(mem, line);
+    mem.store(start + place, v)
 }
 
 /// Stores a word where it is another.
@@ -49,15 +56,8 @@ pub fn put_new<M: Memory>(mem: &mut M, line: u64, place: u64, v: u64) -> Result<
     ensures done { IfOk result (λ _. Becomes (M.stands mem.old) (M.stands mem.new)
         (λ old now. now ≡ with_word line place v old)) }
     ensures halts { OnErr result (M.left mem.new ≡ Some 0) }
-    ensures limited { is_some (M.left mem.new) ≡ is_some (M.left mem.old) }
-    ensures size { M.size mem.new ≡ M.size mem.old }
-    ensures fixed { M.fixed mem.new ≡ M.fixed mem.old }
-    ensures writable { M.writable mem.new ≡ M.writable mem.old }
+    ensures framed { Framed M.size M.fixed M.writable M.left mem.old mem.new }
 {
-    let there = word(mem, line, place)?;
-    if there == v {
-        Ok(())
-    } else {
-        put(mem, line, place, v)
-    }
+    let start = start_of(mem, line);
+    store_word(mem, start + place, v)
 }

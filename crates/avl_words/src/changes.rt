@@ -1,11 +1,10 @@
 //! A node is put where a walk ended, or the node there is taken out.
 
-ghost use Rattle.std.specs.Prelude.{◌≡◌, ◌≢◌, ◌≤◌, ℕ, List, IsTrue, IfOk, OnErr, Some, is_some, length};
+ghost use Rattle.std.specs.Prelude.{◌≡◌, ◌≢◌, ◌≤◌, ℕ, List, IsTrue, IfOk, OnErr, Some, length};
 ghost use Rattle.std.specs.declared.cmp.Ordering.{Ordering};
-ghost use Rattle.cx_base.specs.Memory.{Always, Becomes};
+ghost use Rattle.cx_base.specs.Memory.{Always, Becomes, Framed, Reads};
 ghost use Rattle.avl_tree.specs.Removal.{gone_way, gone_rest};
 ghost use Rattle.avl_tree.specs.Tree.{Tree};
-ghost use Rattle.avl_words.specs.Access.{Reads};
 ghost use Rattle.avl_words.specs.Changes.{CanPut, Puts, CanTake, Takes, HasTwo, CanDescend, Descends, Raises};
 ghost use Rattle.avl_words.specs.Lines.{IsPartLength};
 
@@ -20,10 +19,7 @@ pub fn put_node<M: Memory>(mem: &mut M, way: &Way, node: u64) -> Result<(), Halt
     requires can { Always (M.stands mem.old) (λ ws. CanPut ws way.now.nodes way.now.sides way.now.depth node) }
     ensures done { IfOk result (λ _. Becomes (M.stands mem.old) (M.stands mem.new) (Puts way.now.nodes way.now.sides way.now.depth node)) }
     ensures halts { OnErr result (M.left mem.new ≡ Some 0) }
-    ensures limited { is_some (M.left mem.new) ≡ is_some (M.left mem.old) }
-    ensures size { M.size mem.new ≡ M.size mem.old }
-    ensures fixed { M.fixed mem.new ≡ M.fixed mem.old }
-    ensures writable { M.writable mem.new ≡ M.writable mem.old }
+    ensures framed { Framed M.size M.fixed M.writable M.left mem.old mem.new }
 {
     let top = mend(mem, way, node)?;
     put_new(mem, 0, 1, top)?;
@@ -41,10 +37,7 @@ fn descend<M: Memory>(mem: &mut M, way: &mut Way, node: u64) -> Result<u64, Halt
     ensures depth { IfOk result (λ _. way.new.depth ≤ 64) }
     ensures kept { Becomes (M.stands mem.old) (M.stands mem.new) ◌≡◌ }
     ensures halts { OnErr result (M.left mem.new ≡ Some 0) }
-    ensures limited { is_some (M.left mem.new) ≡ is_some (M.left mem.old) }
-    ensures size { M.size mem.new ≡ M.size mem.old }
-    ensures fixed { M.fixed mem.new ≡ M.fixed mem.old }
-    ensures writable { M.writable mem.new ≡ M.writable mem.old }
+    ensures framed { Framed M.size M.fixed M.writable M.left mem.old mem.new }
 {
     let mut least = node;
     for depth in way.depth..64 {
@@ -79,10 +72,7 @@ fn next_up<M: Memory>(
         (Raises way.old.nodes way.old.sides way.old.depth node left right way.new.nodes way.new.sides way.new.depth rest)) }
     ensures depth { IfOk result (λ _. way.new.depth ≤ 64) }
     ensures halts { OnErr result (M.left mem.new ≡ Some 0) }
-    ensures limited { is_some (M.left mem.new) ≡ is_some (M.left mem.old) }
-    ensures size { M.size mem.new ≡ M.size mem.old }
-    ensures fixed { M.fixed mem.new ≡ M.fixed mem.old }
-    ensures writable { M.writable mem.new ≡ M.writable mem.old }
+    ensures framed { Framed M.size M.fixed M.writable M.left mem.old mem.new }
 {
     let at = way.depth;
     way.nodes[at] = node;
@@ -111,10 +101,7 @@ fn hung_up<M: Memory>(
         (Raises way.old.nodes way.old.sides way.old.depth node left right way.new.nodes way.new.sides way.new.depth rest)) }
     ensures depth { IfOk result (λ _. way.new.depth ≤ 64) }
     ensures halts { OnErr result (M.left mem.new ≡ Some 0) }
-    ensures limited { is_some (M.left mem.new) ≡ is_some (M.left mem.old) }
-    ensures size { M.size mem.new ≡ M.size mem.old }
-    ensures fixed { M.fixed mem.new ≡ M.fixed mem.old }
-    ensures writable { M.writable mem.new ≡ M.writable mem.old }
+    ensures framed { Framed M.size M.fixed M.writable M.left mem.old mem.new }
 {
     if left == 0 {
         return Ok(right);
@@ -134,10 +121,7 @@ pub fn take_node<M: Memory>(mem: &mut M, way: &mut Way, node: u64) -> Result<(),
     requires can { Always (M.stands mem.old) (λ ws. CanTake ws way.old.nodes way.old.sides way.old.depth node) }
     ensures done { IfOk result (λ _. Becomes (M.stands mem.old) (M.stands mem.new) (Takes way.old.nodes way.old.sides way.old.depth node)) }
     ensures halts { OnErr result (M.left mem.new ≡ Some 0) }
-    ensures limited { is_some (M.left mem.new) ≡ is_some (M.left mem.old) }
-    ensures size { M.size mem.new ≡ M.size mem.old }
-    ensures fixed { M.fixed mem.new ≡ M.fixed mem.old }
-    ensures writable { M.writable mem.new ≡ M.writable mem.old }
+    ensures framed { Framed M.size M.fixed M.writable M.left mem.old mem.new }
 {
     let left = word(mem, node, 0)?;
     let right = word(mem, node, 1)?;

@@ -8,7 +8,7 @@ mod mending;
 #[cfg(test)]
 mod tests;
 
-pub use blocks::{put, put_new, word};
+pub use blocks::{put, put_new, start_of, word};
 pub use changes::{put_node, take_node};
 pub use links::{height_of, join, rotate, set_node};
 pub use mending::{Way, hang, mend};

@@ -1,8 +1,7 @@
 //! Links and heights of nodes, and how a node is balanced.
 
-ghost use Rattle.std.specs.Prelude.{◌≡◌, ◌≢◌, ◌+◌, ◌*◌, ◌<◌, ◌≤◌, IsTrue, IfOk, OnErr, Some, is_some};
-ghost use Rattle.cx_base.specs.Memory.{Always, Becomes};
-ghost use Rattle.avl_words.specs.Access.{Reads};
+ghost use Rattle.std.specs.Prelude.{◌≡◌, ◌≢◌, ◌+◌, ◌*◌, ◌<◌, ◌≤◌, IsTrue, IfOk, OnErr, Some};
+ghost use Rattle.cx_base.specs.Memory.{Always, Becomes, Framed, Reads};
 ghost use Rattle.avl_words.specs.Lines.{IsWithin, IsPartLength};
 ghost use Rattle.avl_words.specs.Links.{high_of, with_node, IsLink, CanSet, CanRotate, Rotates, CanJoin, Joins};
 
@@ -16,10 +15,7 @@ pub fn height_of<M: Memory>(mem: &mut M, node: u64) -> Result<u64, Halt>
     ensures done { IfOk result (λ h. Reads (M.stands mem.old) (M.stands mem.new) (λ ws. high_of node ws ≡ h)) }
     ensures kept { Becomes (M.stands mem.old) (M.stands mem.new) ◌≡◌ }
     ensures halts { OnErr result (M.left mem.new ≡ Some 0) }
-    ensures limited { is_some (M.left mem.new) ≡ is_some (M.left mem.old) }
-    ensures size { M.size mem.new ≡ M.size mem.old }
-    ensures fixed { M.fixed mem.new ≡ M.fixed mem.old }
-    ensures writable { M.writable mem.new ≡ M.writable mem.old }
+    ensures framed { Framed M.size M.fixed M.writable M.left mem.old mem.new }
 {
     if node == 0 { Ok(0) } else { word(mem, node, 2) }
 }
@@ -33,10 +29,7 @@ pub fn set_node<M: Memory>(mem: &mut M, node: u64, side: u64, a: u64, b: u64) ->
     ensures done { IfOk result (λ _. Becomes (M.stands mem.old) (M.stands mem.new)
         (λ old now. now ≡ with_node node side a b old)) }
     ensures halts { OnErr result (M.left mem.new ≡ Some 0) }
-    ensures limited { is_some (M.left mem.new) ≡ is_some (M.left mem.old) }
-    ensures size { M.size mem.new ≡ M.size mem.old }
-    ensures fixed { M.fixed mem.new ≡ M.fixed mem.old }
-    ensures writable { M.writable mem.new ≡ M.writable mem.old }
+    ensures framed { Framed M.size M.fixed M.writable M.left mem.old mem.new }
 {
     let first = height_of(mem, a)?;
     let second = height_of(mem, b)?;
@@ -62,10 +55,7 @@ pub fn rotate<M: Memory>(
     requires can { Always (M.stands mem.old) (λ ws. CanRotate ws node side child low) }
     ensures done { IfOk result (λ top. Becomes (M.stands mem.old) (M.stands mem.new) (Rotates node side child low top)) }
     ensures halts { OnErr result (M.left mem.new ≡ Some 0) }
-    ensures limited { is_some (M.left mem.new) ≡ is_some (M.left mem.old) }
-    ensures size { M.size mem.new ≡ M.size mem.old }
-    ensures fixed { M.fixed mem.new ≡ M.fixed mem.old }
-    ensures writable { M.writable mem.new ≡ M.writable mem.old }
+    ensures framed { Framed M.size M.fixed M.writable M.left mem.old mem.new }
 {
     let outer = word(mem, child, side)?;
     let inner = word(mem, child, 1 - side)?;
@@ -92,10 +82,7 @@ pub fn join<M: Memory>(mem: &mut M, node: u64, left: u64, right: u64) -> Result<
     requires can { Always (M.stands mem.old) (λ ws. CanJoin ws node left right) }
     ensures done { IfOk result (λ top. Becomes (M.stands mem.old) (M.stands mem.new) (Joins node left right top)) }
     ensures halts { OnErr result (M.left mem.new ≡ Some 0) }
-    ensures limited { is_some (M.left mem.new) ≡ is_some (M.left mem.old) }
-    ensures size { M.size mem.new ≡ M.size mem.old }
-    ensures fixed { M.fixed mem.new ≡ M.fixed mem.old }
-    ensures writable { M.writable mem.new ≡ M.writable mem.old }
+    ensures framed { Framed M.size M.fixed M.writable M.left mem.old mem.new }
 {
     let left_height = height_of(mem, left)?;
     let right_height = height_of(mem, right)?;

@@ -1,7 +1,7 @@
 //! A tree takes another's place at the end of a way down.
 
-ghost use Rattle.std.specs.Prelude.{◌≡◌, ◌<◌, ◌≤◌, IsTrue, IfOk, OnErr, Some, is_some};
-ghost use Rattle.cx_base.specs.Memory.{Always, Becomes};
+ghost use Rattle.std.specs.Prelude.{◌≡◌, ◌<◌, ◌≤◌, IsTrue, IfOk, OnErr, Some};
+ghost use Rattle.cx_base.specs.Memory.{Always, Becomes, Framed};
 ghost use Rattle.avl_words.specs.Lines.{IsPartLength};
 ghost use Rattle.avl_words.specs.Mending.{CanHang, Hangs, CanMend, Mends};
 
@@ -25,10 +25,7 @@ pub fn hang<M: Memory>(mem: &mut M, node: u64, side: u64, child: u64) -> Result<
     requires can { Always (M.stands mem.old) (λ ws. CanHang ws node side child) }
     ensures done { IfOk result (λ top. Becomes (M.stands mem.old) (M.stands mem.new) (Hangs node side child top)) }
     ensures halts { OnErr result (M.left mem.new ≡ Some 0) }
-    ensures limited { is_some (M.left mem.new) ≡ is_some (M.left mem.old) }
-    ensures size { M.size mem.new ≡ M.size mem.old }
-    ensures fixed { M.fixed mem.new ≡ M.fixed mem.old }
-    ensures writable { M.writable mem.new ≡ M.writable mem.old }
+    ensures framed { Framed M.size M.fixed M.writable M.left mem.old mem.new }
 {
     let sibling = word(mem, node, 1 - side)?;
     if side == 0 {
@@ -48,10 +45,7 @@ pub fn mend<M: Memory>(mem: &mut M, way: &Way, node: u64) -> Result<u64, Halt>
     requires can { Always (M.stands mem.old) (λ ws. CanMend ws way.now.nodes way.now.sides way.now.depth node) }
     ensures done { IfOk result (λ top. Becomes (M.stands mem.old) (M.stands mem.new) (Mends way.now.nodes way.now.sides way.now.depth node top)) }
     ensures halts { OnErr result (M.left mem.new ≡ Some 0) }
-    ensures limited { is_some (M.left mem.new) ≡ is_some (M.left mem.old) }
-    ensures size { M.size mem.new ≡ M.size mem.old }
-    ensures fixed { M.fixed mem.new ≡ M.fixed mem.old }
-    ensures writable { M.writable mem.new ≡ M.writable mem.old }
+    ensures framed { Framed M.size M.fixed M.writable M.left mem.old mem.new }
 {
     let mut top = node;
     for i in 0..way.depth {

@@ -1,7 +1,9 @@
 -- Words put over a list of words. What is known of words of 64 bits stands in the specs, since laws of objects cite it.
-use Rattle.std.proofs.Common.{◌≡◌, ◌+◌, ◌<◌, ℕ, List, [], ◌∷◌, ◌++◌, length, take, slice_index, slice_set, refl, sym, ap, ◌∙◌, arith}
-use Rattle.std.proofs.lemmas.List.{length-set, take_more, length-take-le}
-use Rattle.cx_base.specs.Memory.{overwritten}
+use Rattle.std.proofs.Common.{◌≡◌, ◌≢◌, ◌+◌, ◌^◌, ◌<◌, ◌≤◌, ℕ, zero, suc, List, [], ◌∷◌, ◌++◌, length, take, slice_index, slice_set, refl, sym, ap, ◌∙◌, arith}
+use Rattle.std.specs.List.{All}
+use Rattle.std.proofs.lemmas.List.{length-set, take_more, length-take-le, get_or-set_same, get_or-set_other}
+use Rattle.std.proofs.lemmas.List.Elements.{All-head, All-tail}
+use Rattle.cx_base.specs.Memory.{Words, overwritten}
 pub use Rattle.cx_base.specs.WordLaws.{Words-set, Words-at, Words-then_zeros}
 
 -- no word put
@@ -29,3 +31,35 @@ overwritten_next vs before ws at i below e =
     ap (λ xs. slice_set xs (at + i) (slice_index vs i)) e
     ∙ sym (overwritten_more (take i vs) before at i (slice_index vs i) (length-take-le i vs (omega arith)))
     ∙ ap (λ xs. overwritten at xs before) (sym (take_more vs i 0 below))
+
+-- words put among words
+pub Words-overwritten : (n : ℕ) (vs ws : List ℕ) (at : ℕ) → All (λ x. x < 2 ^ 64) vs → Words n ws → Words n (overwritten at vs ws)
+unfolding overwritten
+Words-overwritten n [] ws at small w = w
+Words-overwritten n (v ∷ vs) ws at small w =
+    Words-overwritten n vs (slice_set ws at v) (at + 1) (All-tail (λ x. x < 2 ^ 64) v vs small) (Words-set n ws at v (All-head (λ x. x < 2 ^ 64) v vs small) w)
+
+-- a word before those put, one behind them, and one of them
+pub overwritten_before : (vs ws : List ℕ) (at i : ℕ) → i < at → slice_index (overwritten at vs ws) i ≡ slice_index ws i
+unfolding overwritten
+overwritten_before [] ws at i below = refl
+overwritten_before (v ∷ vs) ws at i below =
+    let apart : i ≢ at = λ e. omega (arith, e) in
+    overwritten_before vs (slice_set ws at v) (at + 1) i (omega arith) ∙ get_or-set_other ws at i v 0 apart
+
+pub overwritten_behind : (vs ws : List ℕ) (at i : ℕ) → at + length vs ≤ i → slice_index (overwritten at vs ws) i ≡ slice_index ws i
+unfolding overwritten
+overwritten_behind [] ws at i past = refl
+overwritten_behind (v ∷ vs) ws at i past =
+    let apart : i ≢ at = λ e. omega (arith, e) in
+    overwritten_behind vs (slice_set ws at v) (at + 1) i (omega arith) ∙ get_or-set_other ws at i v 0 apart
+
+pub overwritten_within : (vs ws : List ℕ) (at k : ℕ) → k < length vs → at + k < length ws → slice_index (overwritten at vs ws) (at + k) ≡ slice_index vs k
+unfolding overwritten
+overwritten_within [] ws at k below inside = absurd (omega arith)
+overwritten_within (v ∷ vs) ws at zero below inside =
+    let here : at + 0 ≡ at = omega arith in
+    ap (λ n. slice_index (overwritten (at + 1) vs (slice_set ws at v)) n) here ∙ overwritten_before vs (slice_set ws at v) (at + 1) at (omega arith) ∙ get_or-set_same ws at v 0 (omega arith)
+overwritten_within (v ∷ vs) ws at (suc k) below inside =
+    let on : at + suc k ≡ at + 1 + k = omega arith in
+    ap (λ n. slice_index (overwritten (at + 1) vs (slice_set ws at v)) n) on ∙ overwritten_within vs (slice_set ws at v) (at + 1) k (omega arith) (omega (arith, length-set ws at v))

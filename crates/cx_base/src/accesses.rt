@@ -1,4 +1,4 @@
-//! Accesses for whoever writes an object: several words at once, and a word below a bound.
+//! Accesses for whoever writes an object: several words at once, only words that differ, and a word below a bound.
 
 ghost use Rattle.std.specs.Prelude.{◌≡◌, ◌+◌, ◌^◌, ◌<◌, ◌≤◌, Some, length, slice_index, slice_set, IsTrue, IfOk, OnOk, OnErr};
 ghost use Rattle.cx_base.specs.Memory.{Loaded, Becomes, Framed, Always, overwritten};

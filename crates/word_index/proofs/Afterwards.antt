@@ -1,5 +1,5 @@
 -- Words that stand for a store go on doing so.
-use Rattle.std.proofs.Common.{◌≡◌, ℕ, Bool, List, Some, subst, sym}
+use Rattle.std.proofs.Common.{ℕ, Bool, List, Some, subst, sym}
 use Rattle.cx_base.specs.Store.{Store}
 use Rattle.doc_model.specs.Meaning.{with_pair, without_key}
 use Rattle.index_checks.specs.Layout.{StandsFor, IsIndex}

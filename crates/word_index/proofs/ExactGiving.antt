@@ -1,8 +1,5 @@
 -- What is taken out leaves the exact words of its meaning.
-use Rattle.std.proofs.Common.{◌≡◌, ◌^◌, ◌+◌, ◌*◌, ◌/◌, ◌<◌, ◌≤◌, ℕ, zero, suc, List, length, get_or, set, refl, sym, ap, subst, ◌∙◌, inl, inr, lit<, arith}
-use Rattle.std.proofs.lemmas.Bool.{cases_lt}
-use Rattle.std.proofs.lemmas.List.{get_or_past, length-set}
-use Rattle.std.proofs.lemmas.List.Elements.{All-set}
+use Rattle.std.proofs.Common.{◌≡◌, ◌^◌, ◌+◌, ◌*◌, ◌/◌, ◌<◌, ◌≤◌, ℕ, zero, suc, List, refl, sym, ap, ◌∙◌, arith}
 use Rattle.cx_base.specs.Memory.{Words}
 use Rattle.index_checks.proofs.Texts.{blocks_are}
 use Rattle.avl_words.specs.Lines.{with_word, word_of}
@@ -10,26 +7,15 @@ use Rattle.word_index.proofs.Giving.{ChainSoFar, so_far_none, so_far_more, so_fa
 use Rattle.word_index.proofs.PairsGiven.{text_given, pair_given, has_document_text, has_key_text, node_can_be_given}
 use Rattle.word_index.specs.Changes.{with_given, LooseChain, ChainGiven, LooseText, TextGiven, HasLoosePair, PairGiven}
 use Rattle.word_index.specs.Exact.{with_chain_given, with_text_given, with_pair_given}
+use Rattle.cx_base.proofs.WordLemmas.{Words-at, Words-set}
 
 -- words among words
-pub word_fits : (n : ℕ) (ws : List ℕ) → Words n ws → (i : ℕ) → get_or ws i 0 < 2 ^ 64
-word_fits n ws w i = elim (cases_lt i (length ws)) [
-  | inl lt ↦ w.fit i 0 lt
-  | inr ge ↦ subst (λ v. v < 2 ^ 64) (sym (get_or_past ws i 0 ge)) (lit< tt)
-]
-
-pub set_at_words : (n : ℕ) (ws : List ℕ) (at v : ℕ) → v < 2 ^ 64 → Words n ws → Words n (set ws at v)
-set_at_words n ws at v small w = record { long = length-set ws at v ∙ w.long; fit = All-set (λ x. x < 2 ^ 64) ws at v small w.fit }
-
-pub set_words : (n : ℕ) (ws : List ℕ) (line i v : ℕ) → v < 2 ^ 64 → Words n ws → Words n (with_word line i v ws)
-set_words n ws line i v small w = record { long = length-set ws (8 * line + i) v ∙ w.long; fit = All-set (λ x. x < 2 ^ 64) ws (8 * line + i) v small w.fit }
-
 pub given_words : (n : ℕ) (ws : List ℕ) (line : ℕ) → line < 2 ^ 64 → word_of ws 0 4 ≤ 2 ^ 32 → Words n ws → Words n (with_given line ws)
 unfolding with_given
 given_words n ws line small few w =
     let w1 = with_word line 0 (word_of ws 0 2) ws in
     let w2 = with_word 0 2 line w1 in
-    set_words n w2 0 4 (word_of ws 0 4 + 1) (omega arith) (set_words n w1 0 2 line small (set_words n ws line 0 (word_of ws 0 2) (word_fits n ws w 2) w))
+    Words-set n w2 (8 * 0 + 4) (word_of ws 0 4 + 1) (omega arith) (Words-set n w1 (8 * 0 + 2) line small (Words-set n ws (8 * line + 0) (word_of ws 0 2) (Words-at n ws 2 w) w))
 
 -- a chain
 module _ (first count : ℕ) (x : List ℕ) where
@@ -43,7 +29,7 @@ module _ (first count : ℕ) (x : List ℕ) where
   chain_words_go k (suc n) i line y e h r small w =
       let can = next_can_be_given first count i line x y (omega arith) h r in
       chain_words_go k n (i + 1) (word_of y line 0) (with_given line y) (omega arith) h (so_far_more first count i line (word_of y line 0) x y (with_given line y) (omega arith) r refl refl)
-      (word_fits k y w (8 * line + 0)) (given_words k y line small can.few w)
+      (Words-at k y (8 * line + 0) w) (given_words k y line small can.few w)
 
   pub chain_is_given : ChainGiven first count x (with_chain_given count first x)
   chain_is_given = chain_goes count 0 first x (omega arith) (so_far_none first count x x refl)
@@ -74,7 +60,7 @@ loose_chain x node at t = record {
 pub text_given_words : (k node at : ℕ) (x : List ℕ) → LooseText x node at → Words k x → Words k (with_text_given node at x)
 unfolding with_text_given
 text_given_words k node at x t w =
-    chain_given_words (word_of x node at) ((word_of x node (at + 1) + 55) / 56) x k (loose_chain x node at t) (word_fits k x w (8 * node + at)) w
+    chain_given_words (word_of x node at) ((word_of x node (at + 1) + 55) / 56) x k (loose_chain x node at t) (Words-at k x (8 * node + at) w) w
 
 -- a pair
 pub pair_is_given : (node : ℕ) (x : List ℕ) → PairGiven node x (with_pair_given node x)

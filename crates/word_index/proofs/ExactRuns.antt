@@ -1,20 +1,19 @@
 -- How the calls come to the exact words, step by step.
-use Rattle.std.proofs.Common.{◌≡◌, ◌+◌, ◌-◌, ◌*◌, ◌/◌, ◌<◌, ◌≤◌, ◌==◌, ℕ, zero, suc, true, false, cond, List, [], ◌∷◌, ◌++◌, length, get_or, set, take, map, zero-add, sym, ap, ap₂, ◌∙◌, arith}
+use Rattle.std.proofs.Common.{◌≡◌, ◌+◌, ◌-◌, ◌*◌, ◌/◌, ◌<◌, ◌==◌, ℕ, zero, suc, true, false, cond, List, [], ◌∷◌, length, get_or, map, zero-add, sym, ap, ap₂, ◌∙◌, arith}
 use Rattle.std.specs.Int.{div_ceil}
 use Rattle.std.specs.List.{range_with_len}
 use Rattle.std.proofs.lemmas.Bool.Decides.{nat_tests}
-use Rattle.std.proofs.lemmas.List.{take_more, take_all, length-take-le}
 use Rattle.std.proofs.lemmas.Grind.{same_number_lists}
 use Rattle.std.proofs.lemmas.List.FromFn.{length-map-range_with_len, get_or-map-range_with_len}
+use Rattle.cx_base.specs.Memory.{overwritten}
 use Rattle.cx_base.specs.Packing.{packed, unpacked}
 use Rattle.cx_base.specs.Store.{blocks}
 use Rattle.avl_words.specs.Lines.{with_word, word_of}
 use Rattle.index_checks.proofs.Texts.{blocks_are}
-use Rattle.word_index.proofs.ExactTaking.{row_more}
 use Rattle.word_index.proofs.Putting.{length_unpacked}
 use Rattle.word_index.specs.Answers.{IsPacked}
 use Rattle.word_index.specs.Changes.{with_given}
-use Rattle.word_index.specs.Exact.{with_chain_given, with_text_given, with_pair_given, line_to_take, with_line_taken, with_row, block_words, with_text, with_new_pair}
+use Rattle.word_index.specs.Exact.{with_chain_given, with_text_given, with_pair_given, line_to_take, with_line_taken, block_words, with_text, with_new_pair}
 use Rattle.word_index.specs.Fresh.{IsBlock}
 
 -- a chain given back
@@ -66,16 +65,7 @@ given_line_runs x y z head e is some r =
           ∙ ap (λ b. cond b (with_word 0 3 (word_of x 0 3 + 1) x) (with_word 0 4 (word_of x 0 4 - 1) (with_word 0 2 (word_of x (word_of x 0 2) 0) x))) (sym test),
     )
 
--- a line filled
-pub row_goes_on : (line i v : ℕ) (content x y : List ℕ) → i < length content → v ≡ get_or content i 0 → y ≡ with_row (8 * line) (take i content) x → with_word line i v y ≡ with_row (8 * line) (take (i + 1) content) x
-row_goes_on line i v content x y l is r =
-    let long : length (take i content) ≡ i = length-take-le i content (omega arith) in
-    ap (with_word line i v) r ∙ ap (λ n. set (with_row (8 * line) (take i content) x) (8 * line + n) v) (sym long) ∙ sym (row_more (8 * line) v (take i content) x)
-    ∙ ap (λ s. with_row (8 * line) s x) (ap (λ u. take i content ++ u ∷ []) is ∙ sym (take_more content i 0 l))
-
-pub row_ends : (line i : ℕ) (content x y : List ℕ) → length content ≤ i → y ≡ with_row (8 * line) (take i content) x → y ≡ with_row (8 * line) content x
-row_ends line i content x y l r = r ∙ ap (λ s. with_row (8 * line) s x) (take_all i content l)
-
+-- a block
 pub block_exact : (next : ℕ) (text : List ℕ) (from : ℕ) (content : List ℕ) → IsBlock next text from content → content ≡ block_words next text from
 unfolding block_words
 block_exact next text from content b =
@@ -93,13 +83,13 @@ pub text_begins : (text : List ℕ) (count : ℕ) (x y : List ℕ) → x ≡ y �
 text_begins text count x y e = (let z : count - 0 ≡ count = omega arith in ap (λ n. with_text text n 0 y) z ∙ ap (with_text text count 0) (sym e))
 
 pub text_goes_on : (text : List ℕ) (count j next line : ℕ) (content y z w : List ℕ) (target : ℕ × List ℕ) → j < count → with_text text (count - j) next y ≡ target → (line ≡ line_to_take y) × (z ≡ with_line_taken y) →
-    IsBlock next text (7 * (count - 1 - j)) content → w ≡ with_row (8 * line) content z → with_text text (count - (j + 1)) line w ≡ target
+    IsBlock next text (7 * (count - 1 - j)) content → w ≡ overwritten (8 * line) content z → with_text text (count - (j + 1)) line w ≡ target
 text_goes_on text count j next line content y z w target l r t b f =
     let less : count - j ≡ suc (count - (j + 1)) = omega arith in
     let from : count - 1 - j ≡ count - (j + 1) = omega arith in
     let block : content ≡ block_words next text (7 * (count - (j + 1))) = block_exact next text (7 * (count - 1 - j)) content b ∙ ap (λ n. block_words next text (7 * n)) from in
-    let row : w ≡ with_row (8 * line_to_take y) (block_words next text (7 * (count - (j + 1)))) (with_line_taken y) =
-    f ∙ ap (λ s. with_row (8 * line) s z) block ∙ ap₂ (λ n v. with_row (8 * n) (block_words next text (7 * (count - (j + 1)))) v) t.0 t.1 in
+    let row : w ≡ overwritten (8 * line_to_take y) (block_words next text (7 * (count - (j + 1)))) (with_line_taken y) =
+    f ∙ ap (λ s. overwritten (8 * line) s z) block ∙ ap₂ (λ n v. overwritten (8 * n) (block_words next text (7 * (count - (j + 1)))) v) t.0 t.1 in
     ap₂ (λ n v. with_text text (count - (j + 1)) n v) t.0 row ∙ ap (λ n. with_text text n next y) (sym less) ∙ r
 
 pub text_ends : (text : List ℕ) (count j next : ℕ) (y : List ℕ) (target : ℕ × List ℕ) → j ≡ count → with_text text (count - j) next y ≡ target → target ≡ (next, y)
@@ -108,7 +98,7 @@ text_ends text count j next y target e r = (let none : count - j ≡ 0 = omega a
 -- a pair written
 pub new_pair_runs : (node key_first doc_first key_len doc_len count other : ℕ) (key_words doc_words x y z w v : List ℕ) → IsPacked 8 key_len key_words → IsPacked 128 doc_len doc_words → count ≡ div_ceil key_len 56 → other ≡ div_ceil doc_len 56 →
     (node ≡ line_to_take x) × (y ≡ with_line_taken x) → with_text key_words count 0 y ≡ (key_first, z) → with_text doc_words other 0 z ≡ (doc_first, w) →
-    v ≡ with_row (8 * node) (0 ∷ 0 ∷ 1 ∷ key_first ∷ key_len ∷ doc_first ∷ doc_len ∷ 0 ∷ []) w → with_new_pair (unpacked key_len key_words, unpacked doc_len doc_words) x ≡ (node, v)
+    v ≡ overwritten (8 * node) (0 ∷ 0 ∷ 1 ∷ key_first ∷ key_len ∷ doc_first ∷ doc_len ∷ 0 ∷ []) w → with_new_pair (unpacked key_len key_words, unpacked doc_len doc_words) x ≡ (node, v)
 unfolding with_new_pair
 new_pair_runs node key_first doc_first key_len doc_len count other key_words doc_words x y z w v key_packed doc_packed counted other_counted t k d f =
     let key = unpacked key_len key_words in
@@ -122,7 +112,7 @@ new_pair_runs node key_first doc_first key_len doc_len count other key_words doc
     let after : (with_text (packed 8 key) (blocks key) 0 (with_line_taken x)).1 ≡ z = ap (λ p. p.1) key_text in
     let doc_text : with_text (packed 128 doc) (blocks doc) 0 (with_text (packed 8 key) (blocks key) 0 (with_line_taken x)).1 ≡ (doc_first, w) =
     ap (with_text (packed 128 doc) (blocks doc) 0) after ∙ ap₂ (λ s n. with_text s n 0 z) (sym doc_packed.unused) doc_blocks ∙ d in
-    let row : ℕ × List ℕ → ℕ × List ℕ → ℕ → ℕ → ℕ → ℕ × List ℕ = λ a b m i j. (m, with_row (8 * m) (0 ∷ 0 ∷ 1 ∷ a.0 ∷ i ∷ b.0 ∷ j ∷ 0 ∷ []) b.1) in
+    let row : ℕ × List ℕ → ℕ × List ℕ → ℕ → ℕ → ℕ → ℕ × List ℕ = λ a b m i j. (m, overwritten (8 * m) (0 ∷ 0 ∷ 1 ∷ a.0 ∷ i ∷ b.0 ∷ j ∷ 0 ∷ []) b.1) in
     ap₂ (λ a b. row a b (line_to_take x) (length key) (length doc)) key_text doc_text
     ∙ ap (λ m. row (key_first, z) (doc_first, w) m (length key) (length doc)) (sym t.0)
     ∙ ap₂ (λ i j. row (key_first, z) (doc_first, w) node i j) key_long doc_long

@@ -1,21 +1,21 @@
 -- What is taken and written has the exact words of its meaning.
-use Rattle.std.proofs.Common.{◌≡◌, ◌^◌, ◌+◌, ◌-◌, ◌*◌, ◌<◌, ◌≤◌, ◌==◌, ℕ, zero, suc, Bool, true, false, cond, List, [], ◌∷◌, ◌++◌, length, get_or, set, map, refl, zero-add, sym, ap, subst, ◌∙◌, lit<, arith}
+use Rattle.std.proofs.Common.{◌≡◌, ◌^◌, ◌+◌, ◌-◌, ◌*◌, ◌<◌, ◌≤◌, ◌==◌, ℕ, zero, suc, Bool, true, false, cond, List, [], ◌∷◌, length, get_or, map, refl, zero-add, sym, ap, ap₂, subst, ◌∙◌, inl, inr, lit<, arith}
 use Rattle.std.specs.List.{range_with_len, All}
-use Rattle.std.proofs.lemmas.Bool.{eqb-true, eqb-false}
-use Rattle.std.proofs.lemmas.List.Elements.{All-head, All-tail, All-cons, All-nil, All-map}
+use Rattle.std.proofs.lemmas.Bool.{cases_lt, eqb-true, eqb-false}
+use Rattle.std.proofs.lemmas.List.Elements.{All-cons, All-nil, All-map}
 use Rattle.std.proofs.lemmas.List.FromFn.{length-map-range_with_len, get_or-map-range_with_len}
-use Rattle.cx_base.specs.Memory.{Words}
+use Rattle.cx_base.specs.Memory.{Words, overwritten}
 use Rattle.cx_base.specs.Packing.{packed, unpacked, packed_at}
 use Rattle.cx_base.specs.Store.{blocks, pair_lines}
+use Rattle.cx_base.proofs.WordLemmas.{Words-set, Words-at, Words-overwritten, length-overwritten, overwritten_before, overwritten_behind, overwritten_within}
 use Rattle.cx_base.proofs.PackingLemmas.{unpacked-packed, packed_fit}
 use Rattle.avl_words.specs.Lines.{IsWithin, with_word, word_of}
 use Rattle.index_checks.proofs.Texts.{blocks_are}
-use Rattle.word_index.proofs.ExactGiving.{word_fits, set_at_words, set_words}
 use Rattle.word_index.proofs.Putting.{room_less, room_after_line, room_after_text, node_still, pair_written}
 use Rattle.word_index.proofs.Taking.{end_small, new_line, given_line}
-use Rattle.word_index.proofs.Writing.{LineSoFar, line_begins, line_more, line_done, WrittenSoFar, written_none, can_take_next, taken_within, written_more, written_all}
+use Rattle.word_index.proofs.Writing.{WrittenSoFar, written_none, can_take_next, taken_within, written_more, written_all}
 use Rattle.word_index.specs.Answers.{IsPacked}
-use Rattle.word_index.specs.Exact.{line_to_take, with_line_taken, with_row, block_words, with_text, with_new_pair}
+use Rattle.word_index.specs.Exact.{line_to_take, with_line_taken, block_words, with_text, with_new_pair}
 use Rattle.word_index.specs.Fresh.{CanTake, LineTaken, LineFilled, IsBlock, TextWritten}
 use Rattle.word_index.specs.Insertion.{PairWritten}
 
@@ -32,42 +32,30 @@ module _ (x : List ℕ) where
 
   taken_words_by : (k : ℕ) (b : Bool) → word_of x 0 3 ≤ 2 ^ 32 → Words k x →
       (cond b (word_of x 0 3) (word_of x 0 2) < 2 ^ 64) × Words k (cond b (with_word 0 3 (word_of x 0 3 + 1) x) (with_word 0 4 (word_of x 0 4 - 1) (with_word 0 2 (word_of x (word_of x 0 2) 0) x)))
-  taken_words_by k true few w = (word_fits k x w 3, set_words k x 0 3 (word_of x 0 3 + 1) (omega arith) w)
+  taken_words_by k true few w = (Words-at k x 3 w, Words-set k x (8 * 0 + 3) (word_of x 0 3 + 1) (omega arith) w)
   taken_words_by k false few w =
-      let next = word_fits k x w (8 * word_of x 0 2 + 0) in
-      let number = word_fits k x w 4 in
-      (word_fits k x w 2, set_words k (with_word 0 2 (word_of x (word_of x 0 2) 0) x) 0 4 (word_of x 0 4 - 1) (omega arith) (set_words k x 0 2 (word_of x (word_of x 0 2) 0) next w))
+      let next = Words-at k x (8 * word_of x 0 2 + 0) w in
+      let number = Words-at k x 4 w in
+      (Words-at k x 2 w, Words-set k (with_word 0 2 (word_of x (word_of x 0 2) 0) x) (8 * 0 + 4) (word_of x 0 4 - 1) (omega arith) (Words-set k x (8 * 0 + 2) (word_of x (word_of x 0 2) 0) next w))
 
   pub line_taken_words : (k more : ℕ) → CanTake x more → Words k x → (line_to_take x < 2 ^ 64) × Words k (with_line_taken x)
   unfolding line_to_take with_line_taken
   line_taken_words k more c w = taken_words_by k (word_of x 0 2 == 0) (end_small x more c) w
 
--- a row of words
-pub row_more : (at v : ℕ) (row ws : List ℕ) → with_row at (row ++ v ∷ []) ws ≡ with_row (at + length row) (v ∷ []) (with_row at row ws)
-row_more at v [] ws = (let e : at + 0 ≡ at = omega arith in ap (λ n. with_row n (v ∷ []) ws) (sym e))
-row_more at v (u ∷ row) ws =
-    let e : (at + 1) + length row ≡ at + suc (length row) = omega arith in
-    row_more (at + 1) v row (with_row at (u ∷ []) ws) ∙ ap (λ n. with_row n (v ∷ []) (with_row (at + 1) row (with_row at (u ∷ []) ws))) e
+-- a line that eight words are stored over
+pub row_is_filled : (line : ℕ) (content x : List ℕ) → length content ≡ 8 → IsWithin x line → LineFilled line content x (overwritten (8 * line) content x)
+row_is_filled line content x long within = record {
+  here = λ i l. overwritten_within content x (8 * line) i (omega arith) (omega arith);
+  others = λ other ne i l. elim (cases_lt other line) [
+    | inl below ↦ overwritten_before content x (8 * line) (8 * other + i) (omega arith)
+    | inr past ↦ overwritten_behind content x (8 * line) (8 * other + i) (omega arith)
+  ];
+  long = length-overwritten content x (8 * line);
+}
 
-pub row_words : (k at : ℕ) (row ws : List ℕ) → All (λ w. w < 2 ^ 64) row → Words k ws → Words k (with_row at row ws)
-row_words k at [] ws small w = w
-row_words k at (v ∷ row) ws small w =
-    row_words k (at + 1) row (set ws at v) (All-tail (λ w. w < 2 ^ 64) v row small) (set_at_words k ws at v (All-head (λ w. w < 2 ^ 64) v row small) w)
-
-module _ (line : ℕ) (content x : List ℕ) where
-  row_goes : (i : ℕ) (rest y : List ℕ) → i + length rest ≡ 8 → ((k : ℕ) → k < length rest → get_or content (i + k) 0 ≡ get_or rest k 0) → LineSoFar line content i x y → LineFilled line content x (with_row (8 * line + i) rest y)
-  row_goes i [] y e same r = line_done line content i x y (omega arith) r
-  row_goes i (v ∷ rest) y e same r =
-      let first : v ≡ get_or content i 0 = sym (same 0 (omega arith)) ∙ (let z : i + 0 ≡ i = omega arith in ap (λ n. get_or content n 0) z) in
-      let at : 8 * line + (i + 1) ≡ 8 * line + i + 1 = omega arith in
-      subst (λ n. LineFilled line content x (with_row n rest (with_word line i v y))) at
-      (row_goes (i + 1) rest (with_word line i v y) (omega arith) (λ k l. (let z : i + suc k ≡ (i + 1) + k = omega arith in sym (ap (λ n. get_or content n 0) z) ∙ same (suc k) (omega arith)))
-      (line_more line content i v x y (omega arith) first r))
-
-  pub row_is_filled : length content ≡ 8 → IsWithin x line → LineFilled line content x (with_row (8 * line) content x)
-  row_is_filled long within =
-      let at : 8 * line + 0 ≡ 8 * line = omega arith in
-      subst (λ n. LineFilled line content x (with_row n content x)) at (row_goes 0 content x (zero-add (length content) ∙ long) (λ k l. ap (λ n. get_or content n 0) (zero-add k)) (line_begins line content x x refl within))
+pub filled_by_row : (line start : ℕ) (content x y z : List ℕ) → length content ≡ 8 → start ≡ 8 * line → (y ≡ x) × IsWithin y line → z ≡ overwritten start content y → LineFilled line content x z
+filled_by_row line start content x y z long at p e =
+    subst (LineFilled line content x) (sym (e ∙ ap₂ (λ n w. overwritten n content w) at p.0)) (row_is_filled line content x long (subst (λ w. IsWithin w line) p.0 p.1))
 
 -- a block
 pub block_is : (next : ℕ) (text : List ℕ) (from : ℕ) → IsBlock next text from (block_words next text from)
@@ -90,8 +78,8 @@ module _ (text : List ℕ) (count : ℕ) (x : List ℕ) (can : CanTake x count) 
       let b = block_is next text (7 * n) in
       let from : 7 * n ≡ 7 * (count - 1 - j) = omega arith in
       let f = row_is_filled line content z b.long (taken_within text count j next line x y z (omega arith) can r t) in
-      text_goes n (j + 1) line (with_row (8 * line) content z) (omega arith)
-      (written_more text count j next line content x y z (with_row (8 * line) content z) (omega arith) r t (subst (λ m. IsBlock next text m content) from b) f)
+      text_goes n (j + 1) line (overwritten (8 * line) content z) (omega arith)
+      (written_more text count j next line content x y z (overwritten (8 * line) content z) (omega arith) r t (subst (λ m. IsBlock next text m content) from b) f)
 
   pub text_is_written : TextWritten text count (with_text text count 0 x).0 x (with_text text count 0 x).1
   text_is_written = text_goes count 0 0 x (omega arith) (written_none text count x x refl)
@@ -113,9 +101,9 @@ module _ (k : ℕ) (text : List ℕ) (count : ℕ) (x : List ℕ) (can : CanTake
       let from : 7 * n ≡ 7 * (count - 1 - j) = omega arith in
       let f = row_is_filled line content z b.long (taken_within text count j next line x y z (omega arith) can r t) in
       let taken = line_taken_words y k 1 (can_take_next text count j next x y (omega arith) can r) w in
-      text_words_go n (j + 1) line (with_row (8 * line) content z) (omega arith)
-      (written_more text count j next line content x y z (with_row (8 * line) content z) (omega arith) r t (subst (λ m. IsBlock next text m content) from b) f)
-      taken.0 (row_words k (8 * line) content z (block_fits next (7 * n) l) taken.1)
+      text_words_go n (j + 1) line (overwritten (8 * line) content z) (omega arith)
+      (written_more text count j next line content x y z (overwritten (8 * line) content z) (omega arith) r t (subst (λ m. IsBlock next text m content) from b) f)
+      taken.0 (Words-overwritten k content z (8 * line) (block_fits next (7 * n) l) taken.1)
 
   pub text_words : Words k x → ((with_text text count 0 x).0 < 2 ^ 64) × Words k (with_text text count 0 x).1
   text_words w = text_words_go count 0 0 x (omega arith) (written_none text count x x refl) (lit< tt) w
@@ -131,7 +119,7 @@ pub packs_itself : (n : ℕ) (bytes : List ℕ) → length bytes ≤ 8 * n → (
 packs_itself n bytes short small = record { short = short; unused = ap (packed n) (sym (unpacked-packed n bytes small short)) }
 
 pub packed_small : (n : ℕ) (bytes : List ℕ) → ((i : ℕ) → get_or bytes i 0 < 256) → (i : ℕ) → get_or (packed n bytes) i 0 < 2 ^ 64
-packed_small n bytes small i = word_fits n (packed n bytes) (record { long = length-map-range_with_len (packed_at bytes) 0 n; fit = packed_fit n bytes small }) i
+packed_small n bytes small i = Words-at n (packed n bytes) i (record { long = length-map-range_with_len (packed_at bytes) 0 n; fit = packed_fit n bytes small })
 
 -- the words of a node
 node_fits : (d e f g : ℕ) → d < 2 ^ 64 → e < 2 ^ 64 → f < 2 ^ 64 → g < 2 ^ 64 → All (λ v. v < 2 ^ 64) (0 ∷ 0 ∷ 1 ∷ d ∷ e ∷ f ∷ g ∷ 0 ∷ [])
@@ -183,10 +171,10 @@ module _ (pair : List ℕ × List ℕ) (x : List ℕ) (is : IsPlain pair) (can :
       let f = row_is_filled node content d.1 refl still in
       let key_same = unpacked-packed 8 pair.0 is.key_bytes is.key_short in
       let document_same = unpacked-packed 128 pair.1 is.document_bytes is.document_short in
-      let made = pair_written x y k.1 d.1 (with_row (8 * node) content d.1) node (blocks pair.0) (blocks pair.1) k.0 d.0 (length pair.0) (length pair.1) (packed 8 pair.0) (packed 128 pair.1)
+      let made = pair_written x y k.1 d.1 (overwritten (8 * node) content d.1) node (blocks pair.0) (blocks pair.1) k.0 d.0 (length pair.0) (length pair.1) (packed 8 pair.0) (packed 128 pair.1)
       (packs_itself 8 pair.0 is.key_short is.key_bytes) (packs_itself 128 pair.1 is.document_short is.document_bytes) (blocks_are (length pair.0)) (blocks_are (length pair.1)) (line_is_taken x) key_is d_is f in
-      subst (λ b. PairWritten (pair.0, b) node x (with_row (8 * node) content d.1)) document_same
-      (subst (λ a. PairWritten (a, unpacked (length pair.1) (packed 128 pair.1)) node x (with_row (8 * node) content d.1)) key_same made)
+      subst (λ b. PairWritten (pair.0, b) node x (overwritten (8 * node) content d.1)) document_same
+      (subst (λ a. PairWritten (a, unpacked (length pair.1) (packed 128 pair.1)) node x (overwritten (8 * node) content d.1)) key_same made)
 
   pub new_pair_words : (k : ℕ) → Words k x → ((with_new_pair pair x).0 < 2 ^ 64) × Words k (with_new_pair pair x).1
   unfolding with_new_pair
@@ -200,7 +188,7 @@ module _ (pair : List ℕ × List ℕ) (x : List ℕ) (is : IsPlain pair) (can :
       let key_short = is.key_short in
       let document_short = is.document_short in (
         t.0,
-        row_words n (8 * line_to_take x) (0 ∷ 0 ∷ 1 ∷ k.0 ∷ length pair.0 ∷ d.0 ∷ length pair.1 ∷ 0 ∷ []) d.1
+        Words-overwritten n (0 ∷ 0 ∷ 1 ∷ k.0 ∷ length pair.0 ∷ d.0 ∷ length pair.1 ∷ 0 ∷ []) d.1 (8 * line_to_take x)
             (node_fits k.0 (length pair.0) d.0 (length pair.1) kw.0 (omega arith) dw.0 (omega arith))
             dw.1,
       )

@@ -1,13 +1,14 @@
 -- The blocks of a chain get other words.
-use Rattle.std.proofs.Common.{◌≡◌, ◌≢◌, ◌+◌, ◌-◌, ◌*◌, ◌/◌, ◌%◌, ◌<◌, ◌≤◌, ℕ, zero, suc, List, [], ◌∷◌, length, get_or, set, inl, inr, refl, sym, ap, subst, ◌∙◌, arith}
+use Rattle.std.proofs.Common.{◌≡◌, ◌≢◌, ◌+◌, ◌-◌, ◌*◌, ◌/◌, ◌%◌, ◌<◌, ◌≤◌, ℕ, zero, suc, List, [], ◌∷◌, length, get_or, inl, inr, refl, sym, ap, subst, ◌∙◌, arith}
 use Rattle.std.specs.List.{All}
-use Rattle.std.proofs.Math.ListN.{length-set}
 use Rattle.std.proofs.lemmas.Bool.{cases_lt, cases_eq}
 use Rattle.std.proofs.lemmas.List.Elements.{All-head, All-tail}
+use Rattle.cx_base.specs.Memory.{overwritten}
+use Rattle.cx_base.proofs.WordLemmas.{length-overwritten}
 use Rattle.avl_words.specs.Lines.{word_of, IsWithin}
 use Rattle.index_checks.specs.Layout.{IsChain}
 use Rattle.word_index.specs.Changes.{SameLine}
-use Rattle.word_index.specs.Exact.{with_row, block_words, with_chain_filled}
+use Rattle.word_index.specs.Exact.{block_words, with_chain_filled}
 use Rattle.word_index.specs.Fresh.{LineFilled, IsBlock}
 use Rattle.word_index.specs.Rewriting.{HasLines}
 use Rattle.word_index.proofs.ExactRuns.{block_exact}
@@ -49,7 +50,7 @@ chain_filled text [] x from first c w once = record {
 chain_filled text (line ∷ lines) x from first c w once =
     let next = word_of x first 0 in
     let content = block_words next text from in
-    let y = with_row (8 * first) content x in
+    let y = overwritten (8 * first) content x in
     let now = with_chain_filled text (length lines) (from + 7) next y in
     let b = block_is next text from in
     let f = subst (λ l. LineFilled l content x y) c.0 (row_is_filled first content x b.long (subst (IsWithin x) (sym c.0) (All-head (IsWithin x) line lines w))) in
@@ -79,15 +80,11 @@ chain_filled text (line ∷ lines) x from first c w once =
     }
 
 -- their number stays
-pub row_long : (at : ℕ) (row ws : List ℕ) → length (with_row at row ws) ≡ length ws
-row_long at [] ws = refl
-row_long at (v ∷ row) ws = row_long (at + 1) row (set ws at v) ∙ length-set ws at v
-
 pub filled_long : (text : List ℕ) (n from line : ℕ) (ws : List ℕ) → length (with_chain_filled text n from line ws) ≡ length ws
 filled_long text zero from line ws = refl
 filled_long text (suc n) from line ws =
-    let y = with_row (8 * line) (block_words (word_of ws line 0) text from) ws in
-    filled_long text n (from + 7) (word_of ws line 0) y ∙ row_long (8 * line) (block_words (word_of ws line 0) text from) ws
+    let y = overwritten (8 * line) (block_words (word_of ws line 0) text from) ws in
+    filled_long text n (from + 7) (word_of ws line 0) y ∙ length-overwritten (block_words (word_of ws line 0) text from) ws (8 * line)
 
 -- as the code runs
 pub line_there : (x : List ℕ) (line n count : ℕ) → HasLines x line n → n ≡ suc count → IsWithin x line
@@ -112,12 +109,12 @@ lines_on x y content text line n count next from h e word b f = by_lines h.lines
 pub fill_begins : (text : List ℕ) (count first : ℕ) (x y : List ℕ) → x ≡ y → with_chain_filled text (count - 0) (7 * 0) first y ≡ with_chain_filled text count 0 first x
 fill_begins text count first x y e = (let z : count - 0 ≡ count = omega arith in ap (λ n. with_chain_filled text n 0 first y) z ∙ ap (with_chain_filled text count 0 first) (sym e))
 
-pub fill_goes_on : (text : List ℕ) (count j line next : ℕ) (content y z target : List ℕ) → j < count → with_chain_filled text (count - j) (7 * j) line y ≡ target → word_of y line 0 ≡ next → IsBlock next text (7 * j) content → z ≡ with_row (8 * line) content y →
+pub fill_goes_on : (text : List ℕ) (count j line next : ℕ) (content y z target : List ℕ) → j < count → with_chain_filled text (count - j) (7 * j) line y ≡ target → word_of y line 0 ≡ next → IsBlock next text (7 * j) content → z ≡ overwritten (8 * line) content y →
     with_chain_filled text (count - (j + 1)) (7 * (j + 1)) next z ≡ target
 fill_goes_on text count j line next content y z target l r word b f =
     let less : count - j ≡ suc (count - (j + 1)) = omega arith in
     let at : 7 * (j + 1) ≡ 7 * j + 7 = omega arith in
-    let row : z ≡ with_row (8 * line) (block_words (word_of y line 0) text (7 * j)) y = f ∙ ap (λ s. with_row (8 * line) s y) (block_exact next text (7 * j) content b) ∙ ap (λ n. with_row (8 * line) (block_words n text (7 * j)) y) (sym word) in
+    let row : z ≡ overwritten (8 * line) (block_words (word_of y line 0) text (7 * j)) y = f ∙ ap (λ s. overwritten (8 * line) s y) (block_exact next text (7 * j) content b) ∙ ap (λ n. overwritten (8 * line) (block_words n text (7 * j)) y) (sym word) in
     ap (λ m. with_chain_filled text (count - (j + 1)) m next z) at ∙ ap (λ m. with_chain_filled text (count - (j + 1)) (7 * j + 7) m z) (sym word)
     ∙ ap (with_chain_filled text (count - (j + 1)) (7 * j + 7) (word_of y line 0)) row ∙ ap (λ n. with_chain_filled text n (7 * j) line y) (sym less) ∙ r
 

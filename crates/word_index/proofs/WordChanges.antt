@@ -26,12 +26,13 @@ use Rattle.word_index.specs.Rewriting.{CanRewrite}
 use Rattle.word_index.proofs.Adding.{add_room, plain_of, added_there, added_size, added_pairs}
 use Rattle.word_index.proofs.Cutting.{cut_is, cut_loose, cut_there, cut_size, count_kept}
 use Rattle.word_index.proofs.DocumentChanges.{chain_loose, renew_can}
-use Rattle.word_index.proofs.ExactGiving.{word_fits, set_words, chain_given_words, pair_given_words}
-use Rattle.word_index.proofs.ExactTaking.{row_words, text_words, packed_small, new_pair_is, new_pair_words}
+use Rattle.word_index.proofs.ExactGiving.{chain_given_words, pair_given_words}
+use Rattle.word_index.proofs.ExactTaking.{text_words, packed_small, new_pair_is, new_pair_words}
 use Rattle.word_index.proofs.Frames.{times_self}
 use Rattle.word_index.proofs.Inserting.{missing_lines, missing_key, here_key, here_can, node_at_is, room_parts}
 use Rattle.word_index.proofs.NodeReads.{node_within}
 use Rattle.word_index.proofs.KeyPlaces.{tree_of, walk_end, none_at, place_is_at, place_node}
+use Rattle.cx_base.proofs.WordLemmas.{Words-at, Words-overwritten, Words-set}
 
 -- a tree's links
 height_size : (t : Tree ℕ) → height t ≤ size t
@@ -69,9 +70,9 @@ tree_words n t ws there short few w =
     let links : Words n (with_links t ws) = record {
       long = links_long t ws ∙ w.long;
       fit = All-map (λ v. v < 2 ^ 64) (λ p. link_of t (p / 8) (p % 8) (get_or ws p 0)) (range_with_len 0 (length ws))
-          (λ i d m. (let p = get_or (range_with_len 0 (length ws)) i d in link_fits t (p / 8) (p % 8) (get_or ws p 0) f few (word_fits n ws w p)));
+          (λ i d m. (let p = get_or (range_with_len 0 (length ws)) i d in link_fits t (p / 8) (p % 8) (get_or ws p 0) f few (Words-at n ws p w)));
     } in
-    set_words n (with_links t ws) 0 1 (root t) (root_fits t f) links
+    Words-set n (with_links t ws) (8 * 0 + 1) (root t) (root_fits t f) links
 
 -- a document in another's place
 block_fits : (next : ℕ) (text : List ℕ) (from : ℕ) → next < 2 ^ 64 → ((i : ℕ) → get_or text i 0 < 2 ^ 64) → All (λ v. v < 2 ^ 64) (block_words next text from)
@@ -84,7 +85,7 @@ filled_words : (k : ℕ) (text : List ℕ) (n from line : ℕ) (ws : List ℕ) �
 filled_words k text zero from line ws small w = w
 filled_words k text (suc n) from line ws small w =
     let next = word_of ws line 0 in
-    filled_words k text n (from + 7) next _ small (row_words k (8 * line) (block_words next text from) ws (block_fits next text from (word_fits k ws w (8 * line + 0)) small) w)
+    filled_words k text n (from + 7) next _ small (Words-overwritten k (block_words next text from) ws (8 * line) (block_fits next text from (Words-at k ws (8 * line + 0) w) small) w)
 
 module _ (k : ℕ) (x : List ℕ) (node : ℕ) (document : List ℕ) (c : CanRewrite x node document) (is_document : IsDocument document) (w : Words k x) where
   small : (i : ℕ) → get_or (packed 128 document) i 0 < 2 ^ 64
@@ -96,19 +97,19 @@ module _ (k : ℕ) (x : List ℕ) (node : ℕ) (document : List ℕ) (c : CanRew
   refilled_words : Words k (with_refilled document node x)
   unfolding with_refilled
   refilled_words =
-      set_words k _ node 6 (length document) long_fits (filled_words k (packed 128 document) (blocks document) 0 (word_of x node 5) x small w)
+      Words-set k _ (8 * node + 6) (length document) long_fits (filled_words k (packed 128 document) (blocks document) 0 (word_of x node 5) x small w)
 
   emptied_words : Words k (with_emptied node x)
   unfolding with_emptied
   emptied_words =
-      chain_given_words (word_of x node 5) (document_blocks node x) (with_word node 6 0 (with_word node 5 0 x)) k (chain_loose x node document c (word_of x node 5) (document_blocks node x) refl refl) (word_fits k x w (8 * node + 5))
-      (set_words k (with_word node 5 0 x) node 6 0 (lit< tt) (set_words k x node 5 0 (lit< tt) w))
+      chain_given_words (word_of x node 5) (document_blocks node x) (with_word node 6 0 (with_word node 5 0 x)) k (chain_loose x node document c (word_of x node 5) (document_blocks node x) refl refl) (Words-at k x (8 * node + 5) w)
+      (Words-set k (with_word node 5 0 x) (8 * node + 6) 0 (lit< tt) (Words-set k x (8 * node + 5) 0 (lit< tt) w))
 
   renewed_words : Words k (with_renewed document node x)
   unfolding with_renewed
   renewed_words =
       let t = text_words k (packed 128 document) (blocks document) (with_emptied node x) (renew_can x node document c) small emptied_words in
-      set_words k _ node 6 (length document) long_fits (set_words k _ node 5 _ t.0 t.1)
+      Words-set k _ (8 * node + 6) (length document) long_fits (Words-set k _ (8 * node + 5) _ t.0 t.1)
 
   by_blocks : (b : Bool) → Words k (cond b (with_refilled document node x) (with_renewed document node x))
   by_blocks true = refilled_words
@@ -140,7 +141,7 @@ module _ (k : ℕ) (x key document : List ℕ) (version : ℕ) (store : Store) (
       let pairs = added_pairs x pair version store s none new.1 new.0 p in
       let tree = tree_words k t new.1 (added_there x pair version store s none new.1 new.0 p) (omega (arith, long, short)) (omega (arith, size)) n.1 in
       subst (λ u. Words k (with_one_more (with_tree (with_new (order_in key x) new.0 u) new.1))) (sym (tree_in_is x s.tree (tree_of x version store s)))
-      (set_words k (with_tree t new.1) 0 5 (word_of (with_tree t new.1) 0 5 + 1) (omega (arith, pairs)) tree)
+      (Words-set k (with_tree t new.1) (8 * 0 + 5) (word_of (with_tree t new.1) 0 5 + 1) (omega (arith, pairs)) tree)
 
   pub put_words : IsKey key → IsDocument document → lines_of (with_pair key document store) + 1 ≤ line_count x → (b : Bool) → is_some (document_at key store) ≡ b → Words k (cond b (with_rewritten document (node_at key x) x) (with_added (key, document) x))
   put_words is_key is_document room b e =
@@ -186,9 +187,9 @@ module _ (key x : List ℕ) (k : ℕ) (w : Words k x) (version : ℕ) (store : S
       let loose : HasLoosePair now node = record { version = version; store = _; tree = t; places = _; place = _; pair = _; there = cut_loose x key version store s node h } in
       let within = node_within x node (record { pair = (key, h.document); is = place_node x key version store s (walk_end (order_in key x) s.tree).0 (walk_end (order_in key x) s.tree).1 node h }) in
       let tree = tree_words k t x (cut_there x key version store s node h) short (omega (arith, size)) w in
-      let fits = word_fits k (with_tree t x) tree 5 in
+      let fits = Words-at k (with_tree t x) 5 tree in
       subst (λ u. Words k (with_pair_given node u)) (sym (cut_is x key version store s))
-      (pair_given_words k node now loose (omega (arith, within, short)) (set_words k (with_tree t x) 0 5 _ (omega (arith, fits)) tree))
+      (pair_given_words k node now loose (omega (arith, within, short)) (Words-set k (with_tree t x) (8 * 0 + 5) _ (omega (arith, fits)) tree))
 
   pub removed_by : (b : Bool) → is_some (document_at key store) ≡ b → Words k (cond b (with_pair_given (node_at key x) (with_cut key x)) x)
   removed_by false e = w

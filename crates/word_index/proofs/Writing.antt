@@ -1,50 +1,19 @@
 -- Lines are filled, and words written into chains of new blocks.
-use Rattle.std.proofs.Common.{◌≡◌, ◌≢◌, ◌+◌, ◌-◌, ◌*◌, ◌/◌, ◌%◌, ◌<◌, ◌≤◌, ℕ, suc, cond, leb, ltb, ◌&&◌, List, [], ◌∷◌, ◌++◌, length, get_or, refl, sym, ap, subst, ◌∙◌, inl, inr, below_more, arith, length-append}
+use Rattle.std.proofs.Common.{◌≡◌, ◌≢◌, ◌+◌, ◌-◌, ◌*◌, ◌/◌, ◌%◌, ◌<◌, ◌≤◌, ℕ, suc, cond, leb, ltb, ◌&&◌, List, [], ◌∷◌, ◌++◌, length, get_or, refl, sym, ap, subst, ◌∙◌, inl, inr, arith, length-append}
 use Rattle.std.specs.List.{flat_map, All}
 use Rattle.std.proofs.lemmas.Bool.{cases_lt}
-use Rattle.std.proofs.lemmas.List.{get_or-set_same, get_or-set_other, length-set}
 use Rattle.std.proofs.lemmas.List.Elements.{All-head}
 use Rattle.cx_base.specs.Store.{Store}
-use Rattle.avl_words.specs.Lines.{IsWithin, with_word, word_of, IsPartLength}
+use Rattle.avl_words.specs.Lines.{IsWithin, word_of, IsPartLength}
 use Rattle.index_checks.proofs.Lines.{all_left, all_right}
 use Rattle.index_checks.specs.Layout.{IsChain, Place, lines_at, Nodes, Arranged}
-use Rattle.word_index.proofs.Frames.{stored_elsewhere, same_then, chain_same, nodes_same}
+use Rattle.word_index.proofs.Frames.{chain_same, nodes_same}
 use Rattle.word_index.proofs.Giving.{stands_alone, all_same_then}
 use Rattle.word_index.proofs.PairsGiven.{loose_within}
 use Rattle.word_index.proofs.Taking.{from_one}
 use Rattle.word_index.specs.Changes.{SameLine}
 use Rattle.word_index.specs.Fresh.{HasRoom, CanTake, LineTaken, LineFilled, IsBlock, IsWritten, TextWritten}
 use Rattle.avl_tree.specs.Tree.{Tree}
-
--- a line of which the first words are filled
-pub record LineSoFar (line : ℕ) (content : List ℕ) (n : ℕ) (before now : List ℕ) : Type 0 where
-  pub here : (k : ℕ) → k < n → word_of now line k ≡ get_or content k 0
-  pub others : (other : ℕ) → other ≢ line → SameLine before now other
-  pub long : length now ≡ length before
-  pub within : IsWithin now line
-
-pub line_begins : (line : ℕ) (content x y : List ℕ) → y ≡ x → IsWithin y line → LineSoFar line content 0 x y
-line_begins line content x y e within = record {
-  here = λ k l. absurd (omega arith);
-  others = λ other ne i l. ap (λ w. word_of w other i) e;
-  long = ap length e;
-  within = within;
-}
-
-pub line_more : (line : ℕ) (content : List ℕ) (i v : ℕ) (x y : List ℕ) → i < 8 → v ≡ get_or content i 0 → LineSoFar line content i x y → LineSoFar line content (i + 1) x (with_word line i v y)
-line_more line content i v x y l is r =
-    let within = r.within in
-    let room : 8 * line + i < length y = omega arith in
-    record {
-      here = below_more (λ k. word_of (with_word line i v y) line k ≡ get_or content k 0) i
-          (λ k b. get_or-set_other y (8 * line + i) (8 * line + k) v 0 (omega arith) ∙ r.here k b) (get_or-set_same y (8 * line + i) v 0 room ∙ is);
-      others = λ other ne. same_then x y (with_word line i v y) other (r.others other ne) (stored_elsewhere y line i v other l ne);
-      long = length-set y (8 * line + i) v ∙ r.long;
-      within = omega (arith, length-set y (8 * line + i) v);
-    }
-
-pub line_done : (line : ℕ) (content : List ℕ) (i : ℕ) (x y : List ℕ) → 8 ≤ i → LineSoFar line content i x y → LineFilled line content x y
-line_done line content i x y past r = record { here = λ k l. r.here k (omega arith); others = r.others; long = r.long }
 
 -- a loose line that is filled
 pub fill_arranged : (x y : List ℕ) (version : ℕ) (store : Store) (tree : Tree ℕ) (places : List Place) (given loose content : List ℕ) (line : ℕ) → Arranged x version store tree places given (line ∷ loose) → LineFilled line content x y →

@@ -1,7 +1,8 @@
 -- The words that each change leaves, as a function of the words before it.
-use Rattle.std.specs.Prelude.{◌+◌, ◌-◌, ◌*◌, ◌/◌, ◌==◌, ℕ, zero, suc, Bool, List, [], ◌∷◌, ◌++◌, length, map, drop, replicate, slice_index, slice_set, is_some, if◌then◌else◌}
+use Rattle.std.specs.Prelude.{◌+◌, ◌-◌, ◌*◌, ◌/◌, ◌==◌, ℕ, zero, suc, Bool, List, [], ◌∷◌, ◌++◌, length, map, drop, replicate, slice_index, is_some, if◌then◌else◌}
 use Rattle.std.specs.List.{range_with_len}
 use Rattle.std.specs.declared.cmp.Ordering.{Ordering}
+use Rattle.cx_base.specs.Memory.{overwritten}
 use Rattle.cx_base.specs.Store.{blocks, key_cmp}
 use Rattle.cx_base.specs.Packing.{packed}
 use Rattle.doc_model.specs.Meaning.{document_at, with_pair, has_room}
@@ -42,11 +43,6 @@ with_line_taken words =
     then with_word 0 3 (word_of words 0 3 + 1) words
     else with_word 0 4 (word_of words 0 4 - 1) (with_word 0 2 (word_of words (word_of words 0 2) 0) words)
 
--- words are stored in a row
-abbrev pub with_row : ℕ → List ℕ → List ℕ → List ℕ
-with_row at [] words = words
-with_row at (v ∷ row) words = with_row (at + 1) row (slice_set words at v)
-
 -- the words of a block: the next line, and seven words of a text
 unfoldable pub block_words : ℕ → List ℕ → ℕ → List ℕ
 block_words next text from = next ∷ map (λ i. slice_index text (from + i)) (range_with_len 0 7)
@@ -55,7 +51,7 @@ block_words next text from = next ∷ map (λ i. slice_index text (from + i)) (r
 -- chain; with the first line of the chain.
 abbrev pub with_text : List ℕ → ℕ → ℕ → List ℕ → ℕ × List ℕ
 with_text text zero next words = (next, words)
-with_text text (suc n) next words = with_text text n (line_to_take words) (with_row (8 * line_to_take words) (block_words next text (7 * n)) (with_line_taken words))
+with_text text (suc n) next words = with_text text n (line_to_take words) (overwritten (8 * line_to_take words) (block_words next text (7 * n)) (with_line_taken words))
 
 -- a pair is written into new lines, its node first, as a leaf; with the node
 unfoldable pub with_new_pair : List ℕ × List ℕ → List ℕ → ℕ × List ℕ
@@ -63,7 +59,7 @@ with_new_pair pair words =
     let node = line_to_take words in
     let key = with_text (packed 8 pair.0) (blocks pair.0) 0 (with_line_taken words) in
     let document = with_text (packed 128 pair.1) (blocks pair.1) 0 key.1 in
-    (node, with_row (8 * node) (0 ∷ 0 ∷ 1 ∷ key.0 ∷ length pair.0 ∷ document.0 ∷ length pair.1 ∷ 0 ∷ []) document.1)
+    (node, overwritten (8 * node) (0 ∷ 0 ∷ 1 ∷ key.0 ∷ length pair.0 ∷ document.0 ∷ length pair.1 ∷ 0 ∷ []) document.1)
 
 -- how the key of a node compares with a key
 abbrev pub order_in : List ℕ → List ℕ → ℕ → Ordering
@@ -93,7 +89,7 @@ with_cut key words = with_one_less (with_tree (without (order_in key words) (tre
 -- the blocks of a chain get the words of a text, from one on; each goes on naming the next
 abbrev pub with_chain_filled : List ℕ → ℕ → ℕ → ℕ → List ℕ → List ℕ
 with_chain_filled text zero from line words = words
-with_chain_filled text (suc n) from line words = with_chain_filled text n (from + 7) (word_of words line 0) (with_row (8 * line) (block_words (word_of words line 0) text from) words)
+with_chain_filled text (suc n) from line words = with_chain_filled text n (from + 7) (word_of words line 0) (overwritten (8 * line) (block_words (word_of words line 0) text from) words)
 
 -- the blocks that a node's document takes
 unfoldable pub document_blocks : ℕ → List ℕ → ℕ

@@ -1,9 +1,8 @@
 //! The bytes that a chain of blocks holds.
 
-ghost use Rattle.std.specs.Prelude.{◌≡◌, ◌+◌, ◌*◌, ◌/◌, ◌%◌, ◌<◌, ◌≤◌, ◌≢◌, ℕ, List, IsTrue, IfOk, OnErr, Some, length, replicate, is_some};
-ghost use Rattle.cx_base.specs.Memory.{Always, Loaded, Stored, Becomes};
+ghost use Rattle.std.specs.Prelude.{◌≡◌, ◌+◌, ◌*◌, ◌/◌, ◌%◌, ◌<◌, ◌≤◌, ◌≢◌, ℕ, List, IsTrue, IfOk, OnErr, Some, length, replicate};
+ghost use Rattle.cx_base.specs.Memory.{Always, Loaded, Stored, Becomes, Framed, Reads};
 ghost use Rattle.cx_base.specs.Packing.{packed};
-ghost use Rattle.avl_words.specs.Access.{Reads};
 ghost use Rattle.avl_words.specs.Lines.{IsWithin, IsPartLength, word_of};
 ghost use Rattle.index_checks.specs.Blocks.{HasWords, IsText, HasText};
 ghost use Rattle.index_checks.specs.Layout.{Holds};
@@ -20,10 +19,7 @@ fn line_after<M: Memory>(mem: &mut M, line: u64, i: usize) -> Result<u64, Halt>
         (λ ws. (i % 7 ≡ 6 → word_of ws line 0 ≡ next) × (i % 7 ≢ 6 → next ≡ line))) }
     ensures kept { Becomes (M.stands mem.old) (M.stands mem.new) ◌≡◌ }
     ensures halts { OnErr result (M.left mem.new ≡ Some 0) }
-    ensures limited { is_some (M.left mem.new) ≡ is_some (M.left mem.old) }
-    ensures size { M.size mem.new ≡ M.size mem.old }
-    ensures fixed { M.fixed mem.new ≡ M.fixed mem.old }
-    ensures writable { M.writable mem.new ≡ M.writable mem.old }
+    ensures framed { Framed M.size M.fixed M.writable M.left mem.old mem.new }
 {
     if i % 7 == 6 {
         word(mem, line, 0)
@@ -47,10 +43,7 @@ fn read_words<M: Memory>(
         (λ ws. (lines bytes : List ℕ) → Holds ws first lines bytes → count ≡ (length bytes + 7) / 8 → into.new ≡ packed (length into.old) bytes)) }
     ensures kept { Becomes (M.stands mem.old) (M.stands mem.new) ◌≡◌ }
     ensures halts { OnErr result (M.left mem.new ≡ Some 0) }
-    ensures limited { is_some (M.left mem.new) ≡ is_some (M.left mem.old) }
-    ensures size { M.size mem.new ≡ M.size mem.old }
-    ensures fixed { M.fixed mem.new ≡ M.fixed mem.old }
-    ensures writable { M.writable mem.new ≡ M.writable mem.old }
+    ensures framed { Framed M.size M.fixed M.writable M.left mem.old mem.new }
 {
     let mut line = first;
     for i in 0..count {
@@ -70,10 +63,7 @@ pub fn read_text<M: Memory>(mem: &mut M, node: u64, at: u64, into: &mut [u64]) -
         (λ ws. (lines bytes : List ℕ) → IsText ws node at lines bytes → IsPackOf (length into.old) len into.new bytes)) }
     ensures kept { Becomes (M.stands mem.old) (M.stands mem.new) ◌≡◌ }
     ensures halts { OnErr result (M.left mem.new ≡ Some 0) }
-    ensures limited { is_some (M.left mem.new) ≡ is_some (M.left mem.old) }
-    ensures size { M.size mem.new ≡ M.size mem.old }
-    ensures fixed { M.fixed mem.new ≡ M.fixed mem.old }
-    ensures writable { M.writable mem.new ≡ M.writable mem.old }
+    ensures framed { Framed M.size M.fixed M.writable M.left mem.old mem.new }
 {
     let first = word(mem, node, at)?;
     let len = word(mem, node, at + 1)?;

@@ -1,15 +1,15 @@
 //! The blocks of a chain get other words.
 
-ghost use Rattle.std.specs.Prelude.{◌≡◌, ◌*◌, ◌≤◌, ◌^◌, IsTrue, IfOk, OnErr, Some, length, is_some};
-ghost use Rattle.cx_base.specs.Memory.{Always, Becomes};
+ghost use Rattle.std.specs.Prelude.{◌≡◌, ◌*◌, ◌≤◌, ◌^◌, IsTrue, IfOk, OnErr, Some, length};
+ghost use Rattle.cx_base.specs.Memory.{Always, Becomes, Framed, overwritten};
 ghost use Rattle.avl_words.specs.Lines.{IsWithin, IsPartLength};
-ghost use Rattle.word_index.specs.Exact.{with_row, with_chain_filled};
+ghost use Rattle.word_index.specs.Exact.{with_chain_filled};
 ghost use Rattle.word_index.specs.Fresh.{LineFilled};
 ghost use Rattle.word_index.specs.Rewriting.{HasLines};
 
 use crate::taken::block;
-use avl_words::{put_new, word};
-use cx_base::{Halt, Memory};
+use avl_words::{start_of, word};
+use cx_base::{Halt, Memory, store_words};
 
 /// Fills a line, and stores only the words that change.
 fn fill_line<M: Memory>(mem: &mut M, line: u64, content: &[u64; 8]) -> Result<(), Halt>
@@ -19,16 +19,12 @@ fn fill_line<M: Memory>(mem: &mut M, line: u64, content: &[u64; 8]) -> Result<()
     ensures done { IfOk result
         (λ _. Becomes (M.stands mem.old) (M.stands mem.new) (LineFilled line content.now)) }
     ensures exact { IfOk result (λ _. Becomes (M.stands mem.old) (M.stands mem.new)
-        (λ old now. now ≡ with_row (8 * line) content.now old)) }
+        (λ old now. now ≡ overwritten (8 * line) content.now old)) }
     ensures halts { OnErr result (M.left mem.new ≡ Some 0) }
-    ensures limited { is_some (M.left mem.new) ≡ is_some (M.left mem.old) }
-    ensures size { M.size mem.new ≡ M.size mem.old }
-    ensures fixed { M.fixed mem.new ≡ M.fixed mem.old }
-    ensures writable { M.writable mem.new ≡ M.writable mem.old }
+    ensures framed { Framed M.size M.fixed M.writable M.left mem.old mem.new }
 {
-    for i in 0..8 {
-        put_new(mem, line, i as u64, content[i])?;
-    }
+    let start = start_of(mem, line);
+    store_words(mem, start, content)?;
     Ok(())
 }
 
@@ -46,10 +42,7 @@ pub fn fill_chain<M: Memory>(
     ensures exact { IfOk result (λ _. Becomes (M.stands mem.old) (M.stands mem.new)
         (λ old now. now ≡ with_chain_filled words.now count 0 first old)) }
     ensures halts { OnErr result (M.left mem.new ≡ Some 0) }
-    ensures limited { is_some (M.left mem.new) ≡ is_some (M.left mem.old) }
-    ensures size { M.size mem.new ≡ M.size mem.old }
-    ensures fixed { M.fixed mem.new ≡ M.fixed mem.old }
-    ensures writable { M.writable mem.new ≡ M.writable mem.old }
+    ensures framed { Framed M.size M.fixed M.writable M.left mem.old mem.new }
 {
     let mut line = first;
     for j in 0..count {

@@ -1,7 +1,7 @@
 //! The empty index.
 
-ghost use Rattle.std.specs.Prelude.{◌≡◌, ◌<◌, ◌∷◌, [], IsTrue, IfOk, OnErr, Some, slice_index, replicate, is_some};
-ghost use Rattle.cx_base.specs.Memory.{Becomes};
+ghost use Rattle.std.specs.Prelude.{◌≡◌, ◌<◌, ◌∷◌, [], IsTrue, IfOk, OnErr, Some, slice_index, replicate};
+ghost use Rattle.cx_base.specs.Memory.{Becomes, Framed};
 ghost use Rattle.avl_words.specs.Lines.{IsPartLength};
 ghost use Rattle.index_checks.specs.Layout.{StandsFor};
 ghost use Rattle.word_index.specs.Exact.{with_empty_header};
@@ -18,10 +18,7 @@ pub fn format_index<M: Memory>(mem: &mut M, version: u64) -> Result<(), Halt>
     ensures exact { IfOk result
         (λ _. Becomes (M.stands mem.old) (M.stands mem.new) (λ before now. now ≡ with_empty_header version before)) }
     ensures halts { OnErr result (M.left mem.new ≡ Some 0) }
-    ensures limited { is_some (M.left mem.new) ≡ is_some (M.left mem.old) }
-    ensures size { M.size mem.new ≡ M.size mem.old }
-    ensures fixed { M.fixed mem.new ≡ M.fixed mem.old }
-    ensures writable { M.writable mem.new ≡ M.writable mem.old }
+    ensures framed { Framed M.size M.fixed M.writable M.left mem.old mem.new }
 {
     for at in 0..8 {
         mem.store(at, header_word(version, at))?;

@@ -1,7 +1,7 @@
 //! Lines that are given back.
 
-ghost use Rattle.std.specs.Prelude.{◌≡◌, ℕ, IsTrue, IfOk, OnErr, Some, is_some};
-ghost use Rattle.cx_base.specs.Memory.{Always, Becomes};
+ghost use Rattle.std.specs.Prelude.{◌≡◌, ℕ, IsTrue, IfOk, OnErr, Some};
+ghost use Rattle.cx_base.specs.Memory.{Always, Becomes, Framed};
 ghost use Rattle.avl_words.specs.Lines.{IsPartLength};
 ghost use Rattle.word_index.specs.Changes.{with_given, CanGive, LooseChain, ChainGiven};
 ghost use Rattle.word_index.specs.Exact.{with_chain_given};
@@ -17,10 +17,7 @@ pub fn give_back<M: Memory>(mem: &mut M, line: u64) -> Result<(), Halt>
     ensures done { IfOk result
         (λ _. Becomes (M.stands mem.old) (M.stands mem.new) (λ before now. now ≡ with_given line before)) }
     ensures halts { OnErr result (M.left mem.new ≡ Some 0) }
-    ensures limited { is_some (M.left mem.new) ≡ is_some (M.left mem.old) }
-    ensures size { M.size mem.new ≡ M.size mem.old }
-    ensures fixed { M.fixed mem.new ≡ M.fixed mem.old }
-    ensures writable { M.writable mem.new ≡ M.writable mem.old }
+    ensures framed { Framed M.size M.fixed M.writable M.left mem.old mem.new }
 {
     let head = word(mem, 0, 2)?;
     let number = word(mem, 0, 4)?;
@@ -40,10 +37,7 @@ pub fn give_chain<M: Memory>(mem: &mut M, first: u64, count: u64) -> Result<(), 
     ensures exact { IfOk result (λ _. Becomes (M.stands mem.old) (M.stands mem.new)
         (λ old now. now ≡ with_chain_given count first old)) }
     ensures halts { OnErr result (M.left mem.new ≡ Some 0) }
-    ensures limited { is_some (M.left mem.new) ≡ is_some (M.left mem.old) }
-    ensures size { M.size mem.new ≡ M.size mem.old }
-    ensures fixed { M.fixed mem.new ≡ M.fixed mem.old }
-    ensures writable { M.writable mem.new ≡ M.writable mem.old }
+    ensures framed { Framed M.size M.fixed M.writable M.left mem.old mem.new }
 {
     let mut line = first;
     for _ in 0..count {

@@ -1,11 +1,10 @@
 //! A pair is put in.
 
-ghost use Rattle.std.specs.Prelude.{◌≡◌, ◌≢◌, ◌+◌, ◌-◌, ◌*◌, ◌≤◌, ℕ, List, IsTrue, IfOk, OnErr, Some, length, is_some};
-ghost use Rattle.cx_base.specs.Memory.{Always, Becomes};
+ghost use Rattle.std.specs.Prelude.{◌≡◌, ◌≢◌, ◌+◌, ◌-◌, ◌*◌, ◌≤◌, ℕ, List, IsTrue, IfOk, OnErr, Some, length};
+ghost use Rattle.cx_base.specs.Memory.{Always, Becomes, Framed, Reads};
 ghost use Rattle.cx_base.specs.Packing.{unpacked};
 ghost use Rattle.cx_base.specs.Store.{Store, IsKey, IsDocument, lines_of, pair_lines};
 ghost use Rattle.doc_model.specs.Meaning.{with_pair};
-ghost use Rattle.avl_words.specs.Access.{Reads};
 ghost use Rattle.avl_words.specs.Lines.{IsPartLength};
 ghost use Rattle.index_checks.specs.Layout.{IsIndex, StandsFor};
 ghost use Rattle.word_index.specs.Answers.{IsPacked, IsNodeOf};
@@ -47,10 +46,7 @@ fn lines_of_node<M: Memory>(mem: &mut M, node: u64) -> Result<u64, Halt>
     ensures done { IfOk result (λ n. Reads (M.stands mem.old) (M.stands mem.new)
         (λ ws. (pair : List ℕ × List ℕ) → IsNodeOf ws node pair → n ≡ pair_lines pair)) }
     ensures halts { OnErr result (M.left mem.new ≡ Some 0) }
-    ensures limited { is_some (M.left mem.new) ≡ is_some (M.left mem.old) }
-    ensures size { M.size mem.new ≡ M.size mem.old }
-    ensures fixed { M.fixed mem.new ≡ M.fixed mem.old }
-    ensures writable { M.writable mem.new ≡ M.writable mem.old }
+    ensures framed { Framed M.size M.fixed M.writable M.left mem.old mem.new }
 {
     let key = word(mem, node, 4)?;
     let document = word(mem, node, 6)?;
@@ -63,10 +59,7 @@ fn lines_at<M: Memory>(mem: &mut M, node: u64) -> Result<u64, Halt>
     requires node { Always (M.stands mem.old) (λ ws. node ≢ 0 → HasNode ws node) }
     ensures done { IfOk result (λ n. Reads (M.stands mem.old) (M.stands mem.new) (LinesAt node n)) }
     ensures halts { OnErr result (M.left mem.new ≡ Some 0) }
-    ensures limited { is_some (M.left mem.new) ≡ is_some (M.left mem.old) }
-    ensures size { M.size mem.new ≡ M.size mem.old }
-    ensures fixed { M.fixed mem.new ≡ M.fixed mem.old }
-    ensures writable { M.writable mem.new ≡ M.writable mem.old }
+    ensures framed { Framed M.size M.fixed M.writable M.left mem.old mem.new }
 {
     if node == 0 {
         Ok(0)
@@ -82,10 +75,7 @@ fn lines_in_use<M: Memory>(mem: &mut M) -> Result<u64, Halt>
     ensures done { IfOk result (λ n. Reads (M.stands mem.old) (M.stands mem.new)
         (λ ws. (version : ℕ) (store : Store) → StandsFor ws version store → n ≡ lines_of store)) }
     ensures halts { OnErr result (M.left mem.new ≡ Some 0) }
-    ensures limited { is_some (M.left mem.new) ≡ is_some (M.left mem.old) }
-    ensures size { M.size mem.new ≡ M.size mem.old }
-    ensures fixed { M.fixed mem.new ≡ M.fixed mem.old }
-    ensures writable { M.writable mem.new ≡ M.writable mem.old }
+    ensures framed { Framed M.size M.fixed M.writable M.left mem.old mem.new }
 {
     let end = word(mem, 0, 3)?;
     let given = word(mem, 0, 4)?;
@@ -105,10 +95,7 @@ fn write_pair<M: Memory>(mem: &mut M, key: &Key, doc: &Doc) -> Result<u64, Halt>
     ensures exact { IfOk result (λ node. Becomes (M.stands mem.old) (M.stands mem.new)
         (λ old now. with_new_pair (unpacked key.now.len key.now.words, unpacked doc.now.len doc.now.words) old ≡ (node, now))) }
     ensures halts { OnErr result (M.left mem.new ≡ Some 0) }
-    ensures limited { is_some (M.left mem.new) ≡ is_some (M.left mem.old) }
-    ensures size { M.size mem.new ≡ M.size mem.old }
-    ensures fixed { M.fixed mem.new ≡ M.fixed mem.old }
-    ensures writable { M.writable mem.new ≡ M.writable mem.old }
+    ensures framed { Framed M.size M.fixed M.writable M.left mem.old mem.new }
 {
     let node = take_line(mem)?;
     let key_first = write_text(mem, &key.words, key.len.div_ceil(56) as usize)?;
@@ -132,10 +119,7 @@ fn add<M: Memory>(mem: &mut M, way: &Way, key: &Key, doc: &Doc) -> Result<(), Ha
     ensures exact { IfOk result (λ _. Becomes (M.stands mem.old) (M.stands mem.new)
         (Adds way.now.nodes way.now.sides way.now.depth (unpacked key.now.len key.now.words, unpacked doc.now.len doc.now.words))) }
     ensures halts { OnErr result (M.left mem.new ≡ Some 0) }
-    ensures limited { is_some (M.left mem.new) ≡ is_some (M.left mem.old) }
-    ensures size { M.size mem.new ≡ M.size mem.old }
-    ensures fixed { M.fixed mem.new ≡ M.fixed mem.old }
-    ensures writable { M.writable mem.new ≡ M.writable mem.old }
+    ensures framed { Framed M.size M.fixed M.writable M.left mem.old mem.new }
 {
     let node = write_pair(mem, key, doc)?;
     put_node(mem, way, node)?;
@@ -167,10 +151,7 @@ pub fn insert<M: Memory, L: Ledger>(
         (λ old now. (inserted ≡ inserted_in (unpacked key.now.len key.now.words) (unpacked doc.now.len doc.now.words) old) × (now ≡ with_document (unpacked key.now.len key.now.words) (unpacked doc.now.len doc.now.words) old))) }
     ensures visits { IfOk result (λ _. Becomes (M.stands mem.old) (M.stands mem.new) (λ old now. FewVisits (visits.new - visits.old) old)) }
     ensures halts { OnErr result (M.left mem.new ≡ Some 0) }
-    ensures limited { is_some (M.left mem.new) ≡ is_some (M.left mem.old) }
-    ensures size { M.size mem.new ≡ M.size mem.old }
-    ensures fixed { M.fixed mem.new ≡ M.fixed mem.old }
-    ensures writable { M.writable mem.new ≡ M.writable mem.old }
+    ensures framed { Framed M.size M.fixed M.writable M.left mem.old mem.new }
 {
     let spot = seek(mem, key, false, visits)?;
     let used = lines_in_use(mem)?;

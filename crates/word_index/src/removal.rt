@@ -1,7 +1,7 @@
 //! A pair is taken out.
 
-ghost use Rattle.std.specs.Prelude.{◌≡◌, ◌-◌, ◌≤◌, IsTrue, IfOk, OnErr, Some, is_some, length};
-ghost use Rattle.cx_base.specs.Memory.{Always, Becomes};
+ghost use Rattle.std.specs.Prelude.{◌≡◌, ◌-◌, ◌≤◌, IsTrue, IfOk, OnErr, Some, length};
+ghost use Rattle.cx_base.specs.Memory.{Always, Becomes, Framed};
 ghost use Rattle.cx_base.specs.Packing.{unpacked};
 ghost use Rattle.avl_words.specs.Lines.{IsPartLength};
 ghost use Rattle.index_checks.specs.Layout.{IsIndex};
@@ -25,10 +25,7 @@ fn cut<M: Memory>(mem: &mut M, way: &mut Way, node: u64) -> Result<(), Halt>
     requires can { Always (M.stands mem.old) (λ ws. CanCut ws way.old.nodes way.old.sides way.old.depth node) }
     ensures exact { IfOk result (λ _. Becomes (M.stands mem.old) (M.stands mem.new) (Cuts way.old.nodes way.old.sides way.old.depth node)) }
     ensures halts { OnErr result (M.left mem.new ≡ Some 0) }
-    ensures limited { is_some (M.left mem.new) ≡ is_some (M.left mem.old) }
-    ensures size { M.size mem.new ≡ M.size mem.old }
-    ensures fixed { M.fixed mem.new ≡ M.fixed mem.old }
-    ensures writable { M.writable mem.new ≡ M.writable mem.old }
+    ensures framed { Framed M.size M.fixed M.writable M.left mem.old mem.new }
 {
     take_node(mem, way, node)?;
     let pairs = word(mem, 0, 5)?;
@@ -53,10 +50,7 @@ pub fn remove<M: Memory, L: Ledger>(
         (λ old now. (there ≡ is_key_in (unpacked key.now.len key.now.words) old) × (now ≡ with_key_removed (unpacked key.now.len key.now.words) old))) }
     ensures visits { IfOk result (λ _. Becomes (M.stands mem.old) (M.stands mem.new) (λ old now. FewVisits (visits.new - visits.old) old)) }
     ensures halts { OnErr result (M.left mem.new ≡ Some 0) }
-    ensures limited { is_some (M.left mem.new) ≡ is_some (M.left mem.old) }
-    ensures size { M.size mem.new ≡ M.size mem.old }
-    ensures fixed { M.fixed mem.new ≡ M.fixed mem.old }
-    ensures writable { M.writable mem.new ≡ M.writable mem.old }
+    ensures framed { Framed M.size M.fixed M.writable M.left mem.old mem.new }
 {
     let mut spot = seek(mem, key, false, visits)?;
     if spot.node == 0 {

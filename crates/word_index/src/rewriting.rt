@@ -1,7 +1,7 @@
 //! A document takes another's place.
 
-ghost use Rattle.std.specs.Prelude.{◌≡◌, IsTrue, IfOk, OnErr, Some, is_some};
-ghost use Rattle.cx_base.specs.Memory.{Always, Becomes};
+ghost use Rattle.std.specs.Prelude.{◌≡◌, IsTrue, IfOk, OnErr, Some};
+ghost use Rattle.cx_base.specs.Memory.{Always, Becomes, Framed};
 ghost use Rattle.cx_base.specs.Packing.{unpacked};
 ghost use Rattle.cx_base.specs.Store.{blocks};
 ghost use Rattle.avl_words.specs.Lines.{IsPartLength};
@@ -26,10 +26,7 @@ fn refill<M: Memory>(mem: &mut M, node: u64, first: u64, doc: &Doc) -> Result<()
     ensures exact { IfOk result (λ _. Becomes (M.stands mem.old) (M.stands mem.new)
         (λ old now. now ≡ with_refilled (unpacked doc.now.len doc.now.words) node old)) }
     ensures halts { OnErr result (M.left mem.new ≡ Some 0) }
-    ensures limited { is_some (M.left mem.new) ≡ is_some (M.left mem.old) }
-    ensures size { M.size mem.new ≡ M.size mem.old }
-    ensures fixed { M.fixed mem.new ≡ M.fixed mem.old }
-    ensures writable { M.writable mem.new ≡ M.writable mem.old }
+    ensures framed { Framed M.size M.fixed M.writable M.left mem.old mem.new }
 {
     fill_chain(mem, first, &doc.words, doc.len.div_ceil(56) as usize)?;
     put_new(mem, node, 6, doc.len)?;
@@ -46,10 +43,7 @@ fn renew<M: Memory>(mem: &mut M, node: u64, first: u64, count: u64, doc: &Doc) -
     ensures exact { IfOk result (λ _. Becomes (M.stands mem.old) (M.stands mem.new)
         (λ old now. now ≡ with_renewed (unpacked doc.now.len doc.now.words) node old)) }
     ensures halts { OnErr result (M.left mem.new ≡ Some 0) }
-    ensures limited { is_some (M.left mem.new) ≡ is_some (M.left mem.old) }
-    ensures size { M.size mem.new ≡ M.size mem.old }
-    ensures fixed { M.fixed mem.new ≡ M.fixed mem.old }
-    ensures writable { M.writable mem.new ≡ M.writable mem.old }
+    ensures framed { Framed M.size M.fixed M.writable M.left mem.old mem.new }
 {
     put(mem, node, 5, 0)?;
     put(mem, node, 6, 0)?;
@@ -70,10 +64,7 @@ pub fn rewrite<M: Memory>(mem: &mut M, node: u64, doc: &Doc) -> Result<(), Halt>
     ensures exact { IfOk result (λ _. Becomes (M.stands mem.old) (M.stands mem.new)
         (λ old now. now ≡ with_rewritten (unpacked doc.now.len doc.now.words) node old)) }
     ensures halts { OnErr result (M.left mem.new ≡ Some 0) }
-    ensures limited { is_some (M.left mem.new) ≡ is_some (M.left mem.old) }
-    ensures size { M.size mem.new ≡ M.size mem.old }
-    ensures fixed { M.fixed mem.new ≡ M.fixed mem.old }
-    ensures writable { M.writable mem.new ≡ M.writable mem.old }
+    ensures framed { Framed M.size M.fixed M.writable M.left mem.old mem.new }
 {
     let first = word(mem, node, 5)?;
     let count = word(mem, node, 6)?.div_ceil(56);

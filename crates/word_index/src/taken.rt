@@ -1,13 +1,13 @@
 //! Lines are taken and filled.
 
-ghost use Rattle.std.specs.Prelude.{◌≡◌, ◌+◌, ◌*◌, ◌-◌, ◌<◌, ◌≤◌, ◌≢◌, ◌^◌, ℕ, IsTrue, IfOk, OnErr, Some, length, is_some};
-ghost use Rattle.cx_base.specs.Memory.{Always, Becomes};
+ghost use Rattle.std.specs.Prelude.{◌≡◌, ◌+◌, ◌*◌, ◌-◌, ◌<◌, ◌≤◌, ◌≢◌, ◌^◌, ℕ, IsTrue, IfOk, OnErr, Some, length};
+ghost use Rattle.cx_base.specs.Memory.{Always, Becomes, Framed, overwritten};
 ghost use Rattle.avl_words.specs.Lines.{IsWithin, with_word, IsPartLength, word_of};
-ghost use Rattle.word_index.specs.Exact.{line_to_take, with_line_taken, with_row, with_text};
+ghost use Rattle.word_index.specs.Exact.{line_to_take, with_line_taken, with_text};
 ghost use Rattle.word_index.specs.Fresh.{CanTake, LineTaken, LineFilled, IsBlock, TextWritten};
 
-use avl_words::{put, word};
-use cx_base::{Halt, Memory};
+use avl_words::{put, start_of, word};
+use cx_base::{Halt, Memory, store_words};
 
 /// Takes the first line never given.
 fn take_new<M: Memory>(mem: &mut M) -> Result<u64, Halt>
@@ -17,10 +17,7 @@ fn take_new<M: Memory>(mem: &mut M) -> Result<u64, Halt>
     ensures done { IfOk result (λ line. Becomes (M.stands mem.old) (M.stands mem.new)
         (λ before now. (word_of before 0 3 ≡ line) × (now ≡ with_word 0 3 (line + 1) before))) }
     ensures halts { OnErr result (M.left mem.new ≡ Some 0) }
-    ensures limited { is_some (M.left mem.new) ≡ is_some (M.left mem.old) }
-    ensures size { M.size mem.new ≡ M.size mem.old }
-    ensures fixed { M.fixed mem.new ≡ M.fixed mem.old }
-    ensures writable { M.writable mem.new ≡ M.writable mem.old }
+    ensures framed { Framed M.size M.fixed M.writable M.left mem.old mem.new }
 {
     let line = word(mem, 0, 3)?;
     put(mem, 0, 3, line + 1)?;
@@ -35,10 +32,7 @@ fn take_given<M: Memory>(mem: &mut M, head: u64) -> Result<(), Halt>
     ensures done { IfOk result (λ _. Becomes (M.stands mem.old) (M.stands mem.new)
         (λ before now. now ≡ with_word 0 4 (word_of before 0 4 - 1) (with_word 0 2 (word_of before head 0) before))) }
     ensures halts { OnErr result (M.left mem.new ≡ Some 0) }
-    ensures limited { is_some (M.left mem.new) ≡ is_some (M.left mem.old) }
-    ensures size { M.size mem.new ≡ M.size mem.old }
-    ensures fixed { M.fixed mem.new ≡ M.fixed mem.old }
-    ensures writable { M.writable mem.new ≡ M.writable mem.old }
+    ensures framed { Framed M.size M.fixed M.writable M.left mem.old mem.new }
 {
     let next = word(mem, head, 0)?;
     let number = word(mem, 0, 4)?;
@@ -57,10 +51,7 @@ pub fn take_line<M: Memory>(mem: &mut M) -> Result<u64, Halt>
     ensures exact { IfOk result (λ line. Becomes (M.stands mem.old) (M.stands mem.new)
         (λ old now. (line ≡ line_to_take old) × (now ≡ with_line_taken old))) }
     ensures halts { OnErr result (M.left mem.new ≡ Some 0) }
-    ensures limited { is_some (M.left mem.new) ≡ is_some (M.left mem.old) }
-    ensures size { M.size mem.new ≡ M.size mem.old }
-    ensures fixed { M.fixed mem.new ≡ M.fixed mem.old }
-    ensures writable { M.writable mem.new ≡ M.writable mem.old }
+    ensures framed { Framed M.size M.fixed M.writable M.left mem.old mem.new }
 {
     let head = word(mem, 0, 2)?;
     if head == 0 {
@@ -78,16 +69,12 @@ pub fn put_line<M: Memory>(mem: &mut M, line: u64, content: &[u64; 8]) -> Result
     ensures done { IfOk result
         (λ _. Becomes (M.stands mem.old) (M.stands mem.new) (LineFilled line content.now)) }
     ensures exact { IfOk result (λ _. Becomes (M.stands mem.old) (M.stands mem.new)
-        (λ old now. now ≡ with_row (8 * line) content.now old)) }
+        (λ old now. now ≡ overwritten (8 * line) content.now old)) }
     ensures halts { OnErr result (M.left mem.new ≡ Some 0) }
-    ensures limited { is_some (M.left mem.new) ≡ is_some (M.left mem.old) }
-    ensures size { M.size mem.new ≡ M.size mem.old }
-    ensures fixed { M.fixed mem.new ≡ M.fixed mem.old }
-    ensures writable { M.writable mem.new ≡ M.writable mem.old }
+    ensures framed { Framed M.size M.fixed M.writable M.left mem.old mem.new }
 {
-    for i in 0..8 {
-        put(mem, line, i as u64, content[i])?;
-    }
+    let start = start_of(mem, line);
+    store_words(mem, start, content)?;
     Ok(())
 }
 
@@ -114,10 +101,7 @@ pub fn write_text<M: Memory>(mem: &mut M, words: &[u64], count: usize) -> Result
     ensures exact { IfOk result (λ first. Becomes (M.stands mem.old) (M.stands mem.new)
         (λ old now. with_text words.now count 0 old ≡ (first, now))) }
     ensures halts { OnErr result (M.left mem.new ≡ Some 0) }
-    ensures limited { is_some (M.left mem.new) ≡ is_some (M.left mem.old) }
-    ensures size { M.size mem.new ≡ M.size mem.old }
-    ensures fixed { M.fixed mem.new ≡ M.fixed mem.old }
-    ensures writable { M.writable mem.new ≡ M.writable mem.old }
+    ensures framed { Framed M.size M.fixed M.writable M.left mem.old mem.new }
 {
     let mut next = 0;
     for j in 0..count {

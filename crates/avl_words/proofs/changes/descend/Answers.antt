@@ -1,7 +1,8 @@
+use Rattle.cx_base.proofs.MemoryLemmas.{Framed-same, Framed-then}
 use Rattle.std.proofs.Common.{rules, ◌∙◌, ◌≤◌, ◌<◌, arith}
 use Rattle.std.proofs.Math.ListN.{length-set}
 use Rattle.avl_words.proofs.Leaving.{descending_begins, descending_ends, descending_on, descending_within, descending_deep}
-use Rattle.avl_words.proofs.Memories.{kept_then, Reads-none, Reads-load, Reads-weaker, Reads-with, always_read}
+use Rattle.cx_base.proofs.ReadLemmas.{kept_then, Reads-none, Reads-load, Reads-weaker, Reads-with, always_read}
 use Rattle.avl_words.proofs.changes.descend.Goals as goal
 
 pub loop-depth-init : goal.loop-depth-init
@@ -11,10 +12,7 @@ loop-depth-init g c = record {
   sides_long = c.requires.arrays.1;
   kept = search rules;
   sized = search rules;
-  size = search rules;
-  fixed = search rules;
-  writable = search rules;
-  limited = search rules;
+  framed = Framed-same _;
 }
 
 pub word-requires-clause-line : goal.word-requires-clause-line
@@ -40,10 +38,7 @@ loop-depth-preserved g c =
       sides_long = length-set l.way.sides l.depth 0 ∙ i.sides_long;
       kept = kept_then i.kept w.kept;
       sized = search rules;
-      size = w.size ∙ i.size;
-      fixed = w.fixed ∙ i.fixed;
-      writable = w.writable ∙ i.writable;
-      limited = w.limited ∙ i.limited;
+      framed = Framed-then i.framed w.framed;
     }
 
 pub returns-clause-done : goal.returns-clause-done

@@ -1,8 +1,7 @@
-use Rattle.std.proofs.Common.{◌≡◌, length, is_some, ℕ, List}
-use Rattle.cx_base.specs.Memory.{Becomes}
+use Rattle.std.proofs.Common.{◌≡◌, length, ℕ, List}
+use Rattle.cx_base.specs.Memory.{Becomes, Framed, Reads}
 use Rattle.avl_tree.specs.Tree.{Tree}
 use Rattle.avl_tree.specs.Ways.{Turn}
-use Rattle.avl_words.specs.Access.{Reads}
 use Rattle.avl_words.specs.Changes.{IsBelow, IsDescending}
 use Rattle.avl_words.specs.Lines.{IsPartLength}
 use Rattle.avl_words.proofs.changes.descend.Given as goal
@@ -18,8 +17,5 @@ invariant-loop-depth g l = record {
   sides_long : length l.way.sides ≡ 64;
   kept : Becomes (g.M.Memory.stands l.fn.mem) (g.M.Memory.stands l.mem) ◌≡◌;
   sized : IsPartLength (g.M.Memory.size l.mem);
-  size : g.M.Memory.size l.mem ≡ g.M.Memory.size l.fn.mem;
-  fixed : g.M.Memory.fixed l.mem ≡ g.M.Memory.fixed l.fn.mem;
-  writable : g.M.Memory.writable l.mem ≡ g.M.Memory.writable l.fn.mem;
-  limited : is_some (g.M.Memory.left l.mem) ≡ is_some (g.M.Memory.left l.fn.mem);
+  framed : Framed g.M.Memory.size g.M.Memory.fixed g.M.Memory.writable g.M.Memory.left l.fn.mem l.mem;
 }

@@ -1,6 +1,5 @@
-use Rattle.cx_base.proofs.MemoryLemmas.{Becomes-same, Becomes-weaker}
+use Rattle.cx_base.proofs.MemoryLemmas.{Becomes-same, Becomes-weaker, always_at_most}
 use Rattle.avl_words.proofs.Leaving.{take_depth, one_raises_left, one_raises_right}
-use Rattle.avl_words.proofs.Memories.{always_at_most}
 use Rattle.avl_words.proofs.changes.hung_up.Goals as goal
 
 pub returns-then-left-eq0-clause-done : goal.returns-then-left-eq0-clause-done

@@ -1,7 +1,8 @@
 use Rattle.std.proofs.Common.{◌+◌, ◌≤◌, arith}
-use Rattle.cx_base.proofs.MemoryLemmas.{Becomes-then}
+use Rattle.cx_base.proofs.MemoryLemmas.{Becomes-then, always_at_most}
 use Rattle.avl_words.proofs.Leaving.{two_room, two_descends, two_within, two_raises}
-use Rattle.avl_words.proofs.Memories.{always_at_most, Reads-with, Reads-load, Reads-loaded, Reads-weaker, always_said, Becomes-from-read}
+use Rattle.cx_base.proofs.ReadLemmas.{Reads-with, Reads-load, Reads-loaded, Reads-weaker, Becomes-from-read}
+use Rattle.avl_words.proofs.Memories.{always_said}
 use Rattle.avl_words.proofs.changes.next_up.Goals as goal
 
 pub offset_bounds-way-at : goal.offset_bounds-way-at

@@ -1,5 +1,4 @@
-use Rattle.cx_base.proofs.MemoryLemmas.{Becomes-then}
-use Rattle.avl_words.proofs.Memories.{always_at_most}
+use Rattle.cx_base.proofs.MemoryLemmas.{Becomes-then, always_at_most}
 use Rattle.avl_words.proofs.Putting.{can_mend_leaf, put_depth, puts}
 use Rattle.avl_words.proofs.changes.put_node.Goals as goal
 

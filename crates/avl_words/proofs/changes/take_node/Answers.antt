@@ -1,7 +1,8 @@
-use Rattle.cx_base.proofs.MemoryLemmas.{Becomes-then}
+use Rattle.cx_base.proofs.MemoryLemmas.{Becomes-then, always_after, Becomes-both}
 use Rattle.avl_words.specs.Changes.{HasTwo}
 use Rattle.avl_words.proofs.Leaving.{node_there, can_mend_out, takes_from}
-use Rattle.avl_words.proofs.Memories.{Reads-none, Reads-load, Reads-loaded, Reads-weaker, always_said, always_after, Becomes-from-read, Becomes-both}
+use Rattle.cx_base.proofs.ReadLemmas.{Reads-none, Reads-load, Reads-loaded, Reads-weaker, Becomes-from-read}
+use Rattle.avl_words.proofs.Memories.{always_said}
 use Rattle.avl_words.proofs.changes.take_node.Goals as goal
 
 pub word-requires-clause-line : goal.word-requires-clause-line

@@ -1,8 +1,9 @@
 use Rattle.std.proofs.Common.{◌≡◌, ◌^◌, ◌≤◌, ℕ, List, arith}
-use Rattle.cx_base.specs.Memory.{Always}
-use Rattle.avl_words.specs.Access.{Reads}
+use Rattle.cx_base.specs.Memory.{Always, Reads}
 use Rattle.avl_words.specs.Links.{high_of, with_node, CanJoin, Joins}
-use Rattle.avl_words.proofs.Memories.{Reads-weaker, always_said, always_read, always_at_most, Becomes-set, Becomes-behind}
+use Rattle.cx_base.proofs.MemoryLemmas.{always_at_most}
+use Rattle.cx_base.proofs.ReadLemmas.{Reads-weaker, always_read}
+use Rattle.avl_words.proofs.Memories.{always_said, Becomes-set, Becomes-behind}
 use Rattle.avl_words.proofs.Joining.{join_left, join_right, Sees, can_right, can_left, can_plain, joins_right, joins_left, joins_plain}
 use Rattle.avl_words.proofs.links.join.Goals as goal
 

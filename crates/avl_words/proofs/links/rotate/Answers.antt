@@ -1,8 +1,8 @@
 use Rattle.std.proofs.Common.{◌≡◌, ◌+◌, ◌-◌, ◌*◌, ℕ, List}
-use Rattle.cx_base.specs.Memory.{Always, Loaded}
-use Rattle.avl_words.specs.Access.{Reads}
+use Rattle.cx_base.specs.Memory.{Always, Loaded, Reads}
 use Rattle.avl_words.specs.Links.{high_of, with_node, CanSet, CanRotate, Rotates}
-use Rattle.avl_words.proofs.Memories.{Reads-weaker, always_said, always_set, Becomes-set, set_then}
+use Rattle.cx_base.proofs.ReadLemmas.{Reads-weaker}
+use Rattle.avl_words.proofs.Memories.{always_said, always_set, Becomes-set, set_then}
 use Rattle.avl_words.proofs.Rotations.{IsSeen, IsSeenInner, runs_single_first, runs_single_second, runs_single, runs_double_first, runs_double_second, runs_double_third, runs_double}
 use Rattle.avl_words.proofs.links.rotate.Goals as goal
 

@@ -1,8 +1,8 @@
 use Rattle.std.proofs.Common.{◌≡◌, ◌^◌, ◌+◌, ◌-◌, ◌≤◌, max, ℕ, List, ap, sym, ◌∙◌, arith}
-use Rattle.cx_base.proofs.MemoryLemmas.{Becomes-then}
+use Rattle.cx_base.proofs.MemoryLemmas.{Becomes-then, always_at_most}
 use Rattle.avl_words.specs.Lines.{with_word}
 use Rattle.avl_words.specs.Links.{high_of, with_node}
-use Rattle.avl_words.proofs.Memories.{Reads-then, always_read, always_at_most, Becomes-from-read}
+use Rattle.cx_base.proofs.ReadLemmas.{Reads-then, always_read, Becomes-from-read}
 use Rattle.avl_words.proofs.links.set_node.Goals as goal
 
 record Heights (a b first second : ℕ) (ws : List ℕ) : Type 0 where

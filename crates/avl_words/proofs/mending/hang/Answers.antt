@@ -1,6 +1,7 @@
 use Rattle.std.proofs.Common.{arith}
 use Rattle.avl_words.specs.Mending.{Hangs}
-use Rattle.avl_words.proofs.Memories.{Reads-none, Reads-loaded, Reads-weaker, always_said, Becomes-behind}
+use Rattle.cx_base.proofs.ReadLemmas.{Reads-none, Reads-loaded, Reads-weaker}
+use Rattle.avl_words.proofs.Memories.{always_said, Becomes-behind}
 use Rattle.avl_words.proofs.Hanging.{hang_within, can_left, can_right, hangs_left, hangs_right}
 use Rattle.avl_words.proofs.mending.hang.Goals as goal
 

@@ -1,7 +1,6 @@
-use Rattle.std.proofs.Common.{rules, ◌≡◌, ◌+◌, ◌-◌, ◌<◌, ℕ, List, get_or, subst, sym, ◌∙◌, arith}
-use Rattle.cx_base.proofs.MemoryLemmas.{Becomes-then, Becomes-weaker}
+use Rattle.std.proofs.Common.{rules, ◌≡◌, ◌+◌, ◌-◌, ◌<◌, ℕ, List, get_or, subst, sym, arith}
+use Rattle.cx_base.proofs.MemoryLemmas.{Becomes-then, Becomes-weaker, Framed-same, Framed-then, always_after, always_below}
 use Rattle.avl_words.specs.Mending.{CanHang, Hangs, Mending}
-use Rattle.avl_words.proofs.Memories.{always_after, always_below}
 use Rattle.avl_words.proofs.Hanging.{mending_begins, mending_goes_on, mending_ends, can_go_on, side_below}
 use Rattle.avl_words.proofs.mending.mend.Goals as goal
 
@@ -15,10 +14,7 @@ pub loop-i-init : goal.loop-i-init
 loop-i-init g c = record {
   done = record { from = λ first now s. (now, s, begins now c.args.way.now.nodes c.args.way.now.sides c.args.way.now.depth c.args.node) };
   sized = c.requires.sized;
-  size = search rules;
-  fixed = search rules;
-  writable = search rules;
-  limited = search rules;
+  framed = Framed-same _;
 }
 
 pub hang-requires-clause-side : goal.hang-requires-clause-side
@@ -49,10 +45,7 @@ loop-i-preserved g c =
           (mending_goes_on x y z w.nodes w.sides w.depth c.args.node (w.depth - l.i) l.top next (omega (arith, c.loop-i-test.true)) m
           (subst (λ k. Hangs (get_or w.nodes k 0) (get_or w.sides k 0) l.top next y z) (sym (last w.depth l.i)) q)));
       sized = search rules;
-      size = h.size ∙ l.invariant.size;
-      fixed = h.fixed ∙ l.invariant.fixed;
-      writable = h.writable ∙ l.invariant.writable;
-      limited = h.limited ∙ l.invariant.limited;
+      framed = Framed-then l.invariant.framed h.framed;
     }
 
 pub returns-clause-done : goal.returns-clause-done

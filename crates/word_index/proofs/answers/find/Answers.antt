@@ -1,5 +1,5 @@
 use Rattle.cx_base.specs.Packing.{unpacked}
-use Rattle.avl_words.proofs.Memories.{Reads-weaker}
+use Rattle.cx_base.proofs.ReadLemmas.{Reads-weaker}
 use Rattle.word_index.proofs.KeyPlaces.{spot_found, spot_missing}
 use Rattle.word_index.proofs.answers.find.Goals as goal
 

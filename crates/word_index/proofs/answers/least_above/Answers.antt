@@ -2,7 +2,8 @@ use Rattle.std.proofs.Common.{◌≡◌, ℕ, List, [], ◌∷◌, refl, arith}
 use Rattle.cx_base.specs.Packing.{unpacked}
 use Rattle.cx_base.specs.Store.{Store}
 use Rattle.doc_model.specs.Meaning.{pairs_above}
-use Rattle.avl_words.proofs.Memories.{Reads-weaker, Reads-then, always_read, always_kept}
+use Rattle.cx_base.proofs.ReadLemmas.{Reads-weaker, Reads-then, always_read}
+use Rattle.avl_words.proofs.Memories.{always_kept}
 use Rattle.word_index.specs.Answers.{IsNodeOf, IsPackOf}
 use Rattle.word_index.specs.Walk.{IsFirstNode}
 use Rattle.word_index.proofs.KeyPlaces.{spot_above, there_first}

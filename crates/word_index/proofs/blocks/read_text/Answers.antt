@@ -1,5 +1,6 @@
 use Rattle.std.proofs.Common.{◌≡◌, ◌+◌, ◌≤◌, ℕ, List, length, arith, ◌/◌}
-use Rattle.avl_words.proofs.Memories.{Reads-none, Reads-loaded, always_at_most}
+use Rattle.cx_base.proofs.MemoryLemmas.{always_at_most}
+use Rattle.cx_base.proofs.ReadLemmas.{Reads-none, Reads-loaded}
 use Rattle.avl_words.specs.Lines.{word_of}
 use Rattle.index_checks.specs.Blocks.{HasText}
 use Rattle.word_index.proofs.blocks.read_text.Goals as goal

@@ -1,7 +1,8 @@
-use Rattle.std.proofs.Common.{◌≡◌, ◌≢◌, ◌<◌, length, arith, rules, subst, ◌∙◌}
+use Rattle.cx_base.proofs.MemoryLemmas.{Framed-then}
+use Rattle.std.proofs.Common.{◌≡◌, ◌≢◌, ◌<◌, length, arith, rules, subst}
 use Rattle.std.proofs.lemmas.List.{length-set, get_or-set_other}
 use Rattle.cx_base.specs.Packing.{packed}
-use Rattle.avl_words.proofs.Memories.{kept_then, Reads-loaded, Reads-then, Reads-weaker}
+use Rattle.cx_base.proofs.ReadLemmas.{kept_then, Reads-loaded, Reads-then, Reads-weaker}
 use Rattle.index_checks.proofs.BlockReads.{read_more, read_all}
 use Rattle.word_index.proofs.blocks.read_words.Goals as goal
 
@@ -18,10 +19,7 @@ loop-i-preserved g c =
       room = rw length-set i.room;
       kept = kept_then (kept_then i.kept w.kept) a.kept;
       sized = search rules;
-      size = a.size ∙ w.size ∙ i.size;
-      fixed = a.fixed ∙ w.fixed ∙ i.fixed;
-      writable = a.writable ∙ w.writable ∙ i.writable;
-      limited = a.limited ∙ w.limited ∙ i.limited;
+      framed = Framed-then (Framed-then i.framed w.framed) a.framed;
     }
 
 pub returns-clause-done : goal.returns-clause-done

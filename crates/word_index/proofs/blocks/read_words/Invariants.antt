@@ -1,6 +1,5 @@
-use Rattle.std.proofs.Common.{◌≡◌, is_some, ◌≤◌, ℕ, get_or, length}
-use Rattle.cx_base.specs.Memory.{Becomes}
-use Rattle.avl_words.specs.Access.{Reads}
+use Rattle.std.proofs.Common.{◌≡◌, ◌≤◌, ℕ, get_or, length}
+use Rattle.cx_base.specs.Memory.{Becomes, Framed, Reads}
 use Rattle.avl_words.specs.Lines.{IsPartLength}
 use Rattle.index_checks.proofs.BlockReads.{ReadSoFar}
 use Rattle.word_index.proofs.blocks.read_words.Given as goal
@@ -12,8 +11,5 @@ invariant-loop-i g l = record {
   room : l.count ≤ length l.into;
   kept : Becomes (g.M.Memory.stands l.fn.mem) (g.M.Memory.stands l.mem) ◌≡◌;
   sized : IsPartLength (g.M.Memory.size l.mem);
-  size : g.M.Memory.size l.mem ≡ g.M.Memory.size l.fn.mem;
-  fixed : g.M.Memory.fixed l.mem ≡ g.M.Memory.fixed l.fn.mem;
-  writable : g.M.Memory.writable l.mem ≡ g.M.Memory.writable l.fn.mem;
-  limited : is_some (g.M.Memory.left l.mem) ≡ is_some (g.M.Memory.left l.fn.mem);
+  framed : Framed g.M.Memory.size g.M.Memory.fixed g.M.Memory.writable g.M.Memory.left l.fn.mem l.mem;
 }

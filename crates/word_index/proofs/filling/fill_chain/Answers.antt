@@ -1,6 +1,7 @@
-use Rattle.std.proofs.Common.{◌≡◌, ◌+◌, ◌-◌, suc, subst, ◌∙◌, rules, arith}
-use Rattle.cx_base.proofs.MemoryLemmas.{Becomes-same, Becomes-then, Becomes-weaker}
-use Rattle.avl_words.proofs.Memories.{Becomes-loaded, always_after, Reads-none, Reads-loaded, always_said, Reads-weaker}
+use Rattle.std.proofs.Common.{◌≡◌, ◌+◌, ◌-◌, suc, subst, rules, arith}
+use Rattle.cx_base.proofs.MemoryLemmas.{Becomes-same, Becomes-then, Becomes-weaker, Becomes-loaded, always_after, Framed-same, Framed-then}
+use Rattle.cx_base.proofs.ReadLemmas.{Reads-none, Reads-loaded, Reads-weaker}
+use Rattle.avl_words.proofs.Memories.{always_said}
 use Rattle.word_index.specs.Exact.{with_chain_filled}
 use Rattle.word_index.specs.Rewriting.{HasLines}
 use Rattle.word_index.proofs.Refilling.{line_there, lines_on, fill_begins, fill_goes_on, fill_ends}
@@ -12,10 +13,7 @@ loop-j-init g c = record {
   exact = Becomes-weaker (Becomes-same _) (λ first x y s e. fill_begins c.args.words.now c.args.count c.args.first x y e);
   sized = search rules;
   can_store = search rules;
-  size = search rules;
-  fixed = search rules;
-  writable = search rules;
-  limited = search rules;
+  framed = Framed-same _;
 }
 
 pub word-requires-clause-line : goal.word-requires-clause-line
@@ -44,10 +42,7 @@ loop-j-preserved g c =
           fill_goes_on c.args.words.now c.args.count l.j l.line c.in_ok-next.next c.block.result y z (with_chain_filled c.args.words.now c.args.count 0 c.args.first x) c.loop-j-test.true r.0 r.1 c.block.ensures f);
       sized = search rules;
       can_store = search rules;
-      size = p.size ∙ w.size ∙ i.size;
-      fixed = p.fixed ∙ w.fixed ∙ i.fixed;
-      writable = p.writable ∙ w.writable ∙ i.writable;
-      limited = p.limited ∙ w.limited ∙ i.limited;
+      framed = Framed-then (Framed-then i.framed w.framed) p.framed;
     }
 
 pub returns-clause-exact : goal.returns-clause-exact

@@ -1,5 +1,5 @@
-use Rattle.std.proofs.Common.{is_some, rules, ap, sym, arith, subst, ◌∙◌}
-use Rattle.cx_base.proofs.MemoryLemmas.{Becomes-same, Becomes-store, Becomes-weaker, is_some-one_less}
+use Rattle.std.proofs.Common.{rules, sym, arith, subst}
+use Rattle.cx_base.proofs.MemoryLemmas.{Becomes-same, Becomes-store, Becomes-weaker, Framed-access, Framed-same, Framed-then}
 use Rattle.avl_words.specs.Lines.{IsPartLength}
 use Rattle.word_index.proofs.Arrangements.{empty_begins, empty_more, empty_stands, empty_done}
 use Rattle.word_index.proofs.format.format_index.Goals as goal
@@ -9,10 +9,7 @@ loop-at-init g c = record {
   done = Becomes-weaker (Becomes-same _) (λ first x y s e. empty_begins c.args.version x y e);
   sized = search rules;
   can_store = search rules;
-  size = search rules;
-  fixed = search rules;
-  writable = search rules;
-  limited = search rules;
+  framed = Framed-same _;
 }
 
 pub loop-at-preserved : goal.loop-at-preserved
@@ -24,10 +21,7 @@ loop-at-preserved g c =
           empty_more c.args.version c.loop-at.at c.header_word.result x y (omega arith) (subst IsPartLength (sym (g.met.M.Memory.words c.loop-at.mem first y s).long) i.sized) c.header_word.ensures r);
       sized = search rules;
       can_store = search rules;
-      size = e.size ∙ i.size;
-      fixed = e.fixed ∙ i.fixed;
-      writable = e.writable ∙ i.writable;
-      limited = ap is_some e.left ∙ is_some-one_less _ ∙ i.limited;
+      framed = Framed-then i.framed (Framed-access e.size e.fixed e.writable e.left);
     }
 
 pub returns-clause-done : goal.returns-clause-done

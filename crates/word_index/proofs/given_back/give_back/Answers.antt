@@ -1,6 +1,6 @@
 use Rattle.std.proofs.Common.{◌≡◌, ◌^◌, ◌+◌, ◌≤◌, ℕ, List, slice_index, sym, ap, ◌∙◌, arith}
-use Rattle.cx_base.proofs.MemoryLemmas.{Becomes-same, Becomes-store}
-use Rattle.avl_words.proofs.Memories.{Reads-none, Reads-loaded, Becomes-loaded, always_at_most}
+use Rattle.cx_base.proofs.MemoryLemmas.{Becomes-same, Becomes-store, Becomes-loaded, always_at_most}
+use Rattle.cx_base.proofs.ReadLemmas.{Reads-none, Reads-loaded}
 use Rattle.avl_words.specs.Lines.{with_word, word_of}
 use Rattle.word_index.specs.Changes.{with_given, CanGive}
 use Rattle.word_index.proofs.given_back.give_back.Goals as goal

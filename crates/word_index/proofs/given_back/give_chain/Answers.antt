@@ -1,6 +1,5 @@
-use Rattle.std.proofs.Common.{rules, arith, ◌∙◌}
-use Rattle.cx_base.proofs.MemoryLemmas.{Becomes-same, Becomes-then, Becomes-weaker}
-use Rattle.avl_words.proofs.Memories.{Becomes-loaded, always_after}
+use Rattle.std.proofs.Common.{rules, arith}
+use Rattle.cx_base.proofs.MemoryLemmas.{Becomes-same, Becomes-then, Becomes-weaker, Becomes-loaded, always_after, Framed-same, Framed-then}
 use Rattle.word_index.proofs.ExactRuns.{chain_begins, chain_goes_on, chain_ends}
 use Rattle.word_index.proofs.Giving.{so_far_none, next_can_be_given, so_far_more, so_far_all}
 use Rattle.word_index.specs.Exact.{with_chain_given}
@@ -12,10 +11,7 @@ loop-init g c = record {
   exact = Becomes-weaker (Becomes-same _) (λ first x y s e. chain_begins c.args.count c.args.first x y e);
   sized = search rules;
   can_store = search rules;
-  size = search rules;
-  fixed = search rules;
-  writable = search rules;
-  limited = search rules;
+  framed = Framed-same _;
 }
 
 pub word-requires-clause-line : goal.word-requires-clause-line
@@ -39,10 +35,7 @@ loop-preserved g c =
       exact = Becomes-then (Becomes-loaded i.exact w.done) b.done (λ x y z r e. chain_goes_on c.args.count l.counter l.line c.in_ok-next.next y z (with_chain_given c.args.count c.args.first x) c.loop-test.true r.0 r.1 e);
       sized = search rules;
       can_store = search rules;
-      size = b.size ∙ w.size ∙ i.size;
-      fixed = b.fixed ∙ w.fixed ∙ i.fixed;
-      writable = b.writable ∙ w.writable ∙ i.writable;
-      limited = b.limited ∙ w.limited ∙ i.limited;
+      framed = Framed-then (Framed-then i.framed w.framed) b.framed;
     }
 
 pub returns-clause-done : goal.returns-clause-done

@@ -1,7 +1,7 @@
 use Rattle.std.proofs.Common.{◌≡◌}
 use Rattle.cx_base.specs.Memory.{Becomes}
-use Rattle.cx_base.proofs.MemoryLemmas.{Becomes-then}
-use Rattle.avl_words.proofs.Memories.{always_after, IfOk-weaker, Becomes-both}
+use Rattle.cx_base.proofs.MemoryLemmas.{Becomes-then, always_after, Becomes-both}
+use Rattle.std.proofs.lemmas.Result.{IfOk-weaker}
 use Rattle.word_index.proofs.ExactRuns.{pair_runs}
 use Rattle.word_index.proofs.PairsGiven.{has_document_text, has_key_text, node_can_be_given, pair_given}
 use Rattle.word_index.specs.Changes.{with_given}
@@ -19,10 +19,12 @@ give_back-requires-clause-line g c =
 
 pub returns-clause-done : goal.returns-clause-done
 returns-clause-done g c =
-    IfOk-weaker c.give_back.result (λ _. Becomes (g.M.Memory.stands c.give_text-2.new.mem) (g.M.Memory.stands c.give_back.new.mem) (λ before now. now ≡ with_given c.args.node before)) _ c.give_back.ensures.done
+    IfOk-weaker c.give_back.result (λ _. Becomes (g.M.Memory.stands c.give_text-2.new.mem) (g.M.Memory.stands c.give_back.new.mem) (λ before now. now ≡ with_given c.args.node before)) _
     (λ _ b. Becomes-then (Becomes-both c.in_ok-give_text.ensures.done c.in_ok-give_text-2.ensures.done) b (λ x z w t is. pair_given x t.0 z w c.args.node t.1 t.2 is))
+    c.give_back.ensures.done
 
 pub returns-clause-exact : goal.returns-clause-exact
 returns-clause-exact g c =
-    IfOk-weaker c.give_back.result (λ _. Becomes (g.M.Memory.stands c.give_text-2.new.mem) (g.M.Memory.stands c.give_back.new.mem) (λ before now. now ≡ with_given c.args.node before)) _ c.give_back.ensures.done
+    IfOk-weaker c.give_back.result (λ _. Becomes (g.M.Memory.stands c.give_text-2.new.mem) (g.M.Memory.stands c.give_back.new.mem) (λ before now. now ≡ with_given c.args.node before)) _
     (λ _ b. Becomes-then (Becomes-both c.in_ok-give_text.ensures.exact c.in_ok-give_text-2.ensures.exact) b (λ x z w t is. pair_runs c.args.node x t.0 z w t.1 t.2 is))
+    c.give_back.ensures.done

@@ -1,6 +1,7 @@
 use Rattle.cx_base.specs.Memory.{Becomes}
 use Rattle.cx_base.proofs.MemoryLemmas.{Becomes-then}
-use Rattle.avl_words.proofs.Memories.{Reads-none, Reads-loaded, Becomes-from-read, IfOk-weaker}
+use Rattle.std.proofs.lemmas.Result.{IfOk-weaker}
+use Rattle.cx_base.proofs.ReadLemmas.{Reads-none, Reads-loaded, Becomes-from-read}
 use Rattle.word_index.proofs.ExactRuns.{text_runs}
 use Rattle.word_index.proofs.PairsGiven.{text_given}
 use Rattle.word_index.specs.Changes.{ChainGiven}
@@ -14,8 +15,9 @@ returns-clause-done g c =
     let len = c.in_ok-len.len in
     let count = c.div_ceil.result in
     let r = Reads-loaded (Reads-loaded (Reads-none _ c.requires.text) c.in_ok-first.ensures.done) c.in_ok-len.ensures.done in
-    IfOk-weaker c.give_chain.result (λ _. Becomes (g.M.Memory.stands c.word-2.new.mem) (g.M.Memory.stands c.give_chain.new.mem) (ChainGiven first count)) _ c.give_chain.ensures.done
+    IfOk-weaker c.give_chain.result (λ _. Becomes (g.M.Memory.stands c.word-2.new.mem) (g.M.Memory.stands c.give_chain.new.mem) (ChainGiven first count)) _
     (λ _ b. Becomes-then (Becomes-from-read r) b (λ x y z p q. text_given c.args.node c.args.at first len count x y z p.0 p.1.0.1 p.1.1 c.div_ceil.ensures q))
+    c.give_chain.ensures.done
 
 pub returns-clause-exact : goal.returns-clause-exact
 returns-clause-exact g c =
@@ -23,5 +25,6 @@ returns-clause-exact g c =
     let len = c.in_ok-len.len in
     let count = c.div_ceil.result in
     let r = Reads-loaded (Reads-loaded (Reads-none _ c.requires.text) c.in_ok-first.ensures.done) c.in_ok-len.ensures.done in
-    IfOk-weaker c.give_chain.result (λ _. Becomes (g.M.Memory.stands c.word-2.new.mem) (g.M.Memory.stands c.give_chain.new.mem) (λ old now. now ≡ with_chain_given count first old)) _ c.give_chain.ensures.exact
+    IfOk-weaker c.give_chain.result (λ _. Becomes (g.M.Memory.stands c.word-2.new.mem) (g.M.Memory.stands c.give_chain.new.mem) (λ old now. now ≡ with_chain_given count first old)) _
     (λ _ b. Becomes-then (Becomes-from-read r) b (λ x y z p q. text_runs c.args.node c.args.at first len count x y z p.0 p.1.0.1 p.1.1 c.div_ceil.ensures q))
+    c.give_chain.ensures.exact

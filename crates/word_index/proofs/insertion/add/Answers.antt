@@ -1,8 +1,7 @@
 use Rattle.std.proofs.Common.{◌+◌, ◌^◌, ◌≤◌, refl, arith}
 use Rattle.cx_base.specs.Packing.{unpacked}
-use Rattle.cx_base.proofs.MemoryLemmas.{Becomes-store}
+use Rattle.cx_base.proofs.MemoryLemmas.{Becomes-store, always_at_most, always_after, Becomes-loaded, Becomes-both}
 use Rattle.avl_words.specs.Lines.{with_word}
-use Rattle.avl_words.proofs.Memories.{always_at_most, always_after, Becomes-loaded, Becomes-both}
 use Rattle.word_index.proofs.Adding.{can_write, can_put_node, add_few, adds}
 use Rattle.word_index.proofs.insertion.add.Goals as goal
 

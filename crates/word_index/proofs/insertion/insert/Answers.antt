@@ -1,10 +1,9 @@
 use Rattle.std.proofs.Common.{◌≡◌, ◌^◌, ◌*◌, ◌≤◌, ℕ, false, List, sym, ap, subst, ◌∙◌, arith}
-use Rattle.cx_base.specs.Memory.{Words, Becomes}
+use Rattle.cx_base.specs.Memory.{Words, Becomes, Reads}
 use Rattle.cx_base.specs.Packing.{unpacked}
 use Rattle.cx_base.specs.Store.{Store, IsKey, IsDocument, lines_of}
-use Rattle.cx_base.proofs.MemoryLemmas.{Becomes-then, Becomes-weaker}
-use Rattle.avl_words.specs.Access.{Reads}
-use Rattle.avl_words.proofs.Memories.{Reads-with, Becomes-from-read, always_read, always_at_most, Reads-then}
+use Rattle.cx_base.proofs.MemoryLemmas.{Becomes-then, Becomes-weaker, always_at_most}
+use Rattle.cx_base.proofs.ReadLemmas.{Reads-with, Becomes-from-read, always_read, Reads-then}
 use Rattle.index_checks.specs.Layout.{StandsFor}
 use Rattle.word_index.specs.Exact.{inserted_in, with_document}
 use Rattle.word_index.specs.Insertion.{Inserts, LinesAt}
@@ -67,7 +66,7 @@ returns-then-lines-needed-clause-exact g c =
     let doc = unpacked c.args.doc.now.len c.args.doc.now.words in
     let spot = c.in_ok-spot.spot in
     let n = g.M.Memory.size m in
-    let size : n ≡ 8 * c.args.lines = c.in_ok-old.ensures.size ∙ c.in_ok-used.ensures.size ∙ c.in_ok-spot.ensures.size ∙ c.requires.lines in
+    let size : n ≡ 8 * c.args.lines = c.in_ok-old.ensures.framed.size_kept ∙ c.in_ok-used.ensures.framed.size_kept ∙ c.in_ok-spot.ensures.framed.size_kept ∙ c.requires.lines in
     let known = known_from key spot.way.nodes spot.way.sides spot.way.depth spot.node spot.above c.in_ok-used.used c.in_ok-old.old n c.in_ok-spot.ensures.done c.in_ok-used.ensures.done c.in_ok-old.ensures.done (g.met.M.Memory.words m) in
     Becomes-weaker (Becomes-from-read (Reads-with c.requires.lawful known)) (λ first x y s r. (
     let e = exact_none y key doc spot.way.nodes spot.way.sides spot.way.depth spot.node spot.above c.in_ok-used.used c.in_ok-old.old n r.1.1 c.args.lines c.lines_of_pair.result r.1.0 c.lines_of_pair.ensures size c.if-lines-needed.true in
@@ -84,7 +83,7 @@ add-requires-clause-can g c =
     let doc = unpacked c.args.doc.now.len c.args.doc.now.words in
     let spot = c.in_ok-spot.spot in
     let n = g.M.Memory.size m in
-    let size : n ≡ 8 * c.args.lines = c.in_ok-old.ensures.size ∙ c.in_ok-used.ensures.size ∙ c.in_ok-spot.ensures.size ∙ c.requires.lines in
+    let size : n ≡ 8 * c.args.lines = c.in_ok-old.ensures.framed.size_kept ∙ c.in_ok-used.ensures.framed.size_kept ∙ c.in_ok-spot.ensures.framed.size_kept ∙ c.requires.lines in
     let known = known_from key spot.way.nodes spot.way.sides spot.way.depth spot.node spot.above c.in_ok-used.used c.in_ok-old.old n c.in_ok-spot.ensures.done c.in_ok-used.ensures.done c.in_ok-old.ensures.done (g.met.M.Memory.words m) in
     always_read c.requires.lawful known (λ ws i k.
     can_add ws key doc spot.way.nodes spot.way.sides spot.way.depth spot.node spot.above c.in_ok-used.used c.in_ok-old.old n k c.args.lines c.lines_of_pair.result i c.lines_of_pair.ensures size c.if-lines-needed.false c.if-spot-eq0.true
@@ -97,7 +96,7 @@ returns-then-spot-eq0-clause-exact g c =
     let doc = unpacked c.args.doc.now.len c.args.doc.now.words in
     let spot = c.in_ok-spot.spot in
     let n = g.M.Memory.size m in
-    let size : n ≡ 8 * c.args.lines = c.in_ok-old.ensures.size ∙ c.in_ok-used.ensures.size ∙ c.in_ok-spot.ensures.size ∙ c.requires.lines in
+    let size : n ≡ 8 * c.args.lines = c.in_ok-old.ensures.framed.size_kept ∙ c.in_ok-used.ensures.framed.size_kept ∙ c.in_ok-spot.ensures.framed.size_kept ∙ c.requires.lines in
     let known = known_from key spot.way.nodes spot.way.sides spot.way.depth spot.node spot.above c.in_ok-used.used c.in_ok-old.old n c.in_ok-spot.ensures.done c.in_ok-used.ensures.done c.in_ok-old.ensures.done (g.met.M.Memory.words m) in
     Becomes-then (Becomes-from-read (Reads-with c.requires.lawful known)) c.in_ok-add.ensures.exact (λ x y w r a. (
     let e = exact_new y key doc spot.way.nodes spot.way.sides spot.way.depth spot.node spot.above c.in_ok-used.used c.in_ok-old.old n r.1.1 c.args.lines c.lines_of_pair.result r.1.0 c.lines_of_pair.ensures size w c.if-lines-needed.false c.if-spot-eq0.true
@@ -115,7 +114,7 @@ rewrite-requires-clause-can g c =
     let doc = unpacked c.args.doc.now.len c.args.doc.now.words in
     let spot = c.in_ok-spot.spot in
     let n = g.M.Memory.size m in
-    let size : n ≡ 8 * c.args.lines = c.in_ok-old.ensures.size ∙ c.in_ok-used.ensures.size ∙ c.in_ok-spot.ensures.size ∙ c.requires.lines in
+    let size : n ≡ 8 * c.args.lines = c.in_ok-old.ensures.framed.size_kept ∙ c.in_ok-used.ensures.framed.size_kept ∙ c.in_ok-spot.ensures.framed.size_kept ∙ c.requires.lines in
     let known = known_from key spot.way.nodes spot.way.sides spot.way.depth spot.node spot.above c.in_ok-used.used c.in_ok-old.old n c.in_ok-spot.ensures.done c.in_ok-used.ensures.done c.in_ok-old.ensures.done (g.met.M.Memory.words m) in
     always_read c.requires.lawful known (λ ws i k.
     can_rewrite ws key doc spot.way.nodes spot.way.sides spot.way.depth spot.node spot.above c.in_ok-used.used c.in_ok-old.old n k c.args.lines c.lines_of_pair.result i c.lines_of_pair.ensures size c.if-lines-needed.false c.if-spot-eq0.false)
@@ -127,7 +126,7 @@ returns-clause-exact g c =
     let doc = unpacked c.args.doc.now.len c.args.doc.now.words in
     let spot = c.in_ok-spot.spot in
     let n = g.M.Memory.size m in
-    let size : n ≡ 8 * c.args.lines = c.in_ok-old.ensures.size ∙ c.in_ok-used.ensures.size ∙ c.in_ok-spot.ensures.size ∙ c.requires.lines in
+    let size : n ≡ 8 * c.args.lines = c.in_ok-old.ensures.framed.size_kept ∙ c.in_ok-used.ensures.framed.size_kept ∙ c.in_ok-spot.ensures.framed.size_kept ∙ c.requires.lines in
     let known = known_from key spot.way.nodes spot.way.sides spot.way.depth spot.node spot.above c.in_ok-used.used c.in_ok-old.old n c.in_ok-spot.ensures.done c.in_ok-used.ensures.done c.in_ok-old.ensures.done (g.met.M.Memory.words m) in
     Becomes-then (Becomes-from-read (Reads-with c.requires.lawful known)) c.in_ok-rewrite.ensures.exact (λ x y w r a. (
     let e = exact_over y key doc spot.way.nodes spot.way.sides spot.way.depth spot.node spot.above c.in_ok-used.used c.in_ok-old.old n r.1.1 c.args.lines c.lines_of_pair.result r.1.0 c.lines_of_pair.ensures size w c.if-lines-needed.false c.if-spot-eq0.false a in

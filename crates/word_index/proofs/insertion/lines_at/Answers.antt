@@ -1,7 +1,8 @@
 use Rattle.std.proofs.Common.{◌≡◌, ℕ, List, refl}
 use Rattle.cx_base.specs.Store.{pair_lines}
-use Rattle.avl_words.specs.Access.{Reads}
-use Rattle.avl_words.proofs.Memories.{Reads-none, Reads-weaker, IfOk-weaker}
+use Rattle.cx_base.specs.Memory.{Reads}
+use Rattle.std.proofs.lemmas.Result.{IfOk-weaker}
+use Rattle.cx_base.proofs.ReadLemmas.{Reads-none, Reads-weaker}
 use Rattle.word_index.specs.Answers.{IsNodeOf}
 use Rattle.word_index.proofs.insertion.lines_at.Goals as goal
 
@@ -13,5 +14,6 @@ lines_of_node-requires-clause-node g c = λ first now s. c.requires.node first n
 
 pub returns-else-node-eq0-clause-done : goal.returns-else-node-eq0-clause-done
 returns-else-node-eq0-clause-done g c =
-    IfOk-weaker c.lines_of_node.result (λ n. Reads (g.M.Memory.stands c.args.mem.now) (g.M.Memory.stands c.lines_of_node.new.mem) (λ ws. (pair : List ℕ × List ℕ) → IsNodeOf ws c.args.node pair → n ≡ pair_lines pair)) _ c.lines_of_node.ensures.done
+    IfOk-weaker c.lines_of_node.result (λ n. Reads (g.M.Memory.stands c.args.mem.now) (g.M.Memory.stands c.lines_of_node.new.mem) (λ ws. (pair : List ℕ × List ℕ) → IsNodeOf ws c.args.node pair → n ≡ pair_lines pair)) _
     (λ n r. Reads-weaker r (λ ws p. record { none = λ z. absurd (c.if-node-eq0.false z); some = λ ne pair is. p pair is }))
+    c.lines_of_node.ensures.done

@@ -1,6 +1,7 @@
 use Rattle.std.proofs.Common.{◌≡◌, ◌+◌, ◌-◌, ◌≤◌, ℕ, List, [], arith}
 use Rattle.cx_base.specs.Store.{Store, lines_of}
-use Rattle.avl_words.proofs.Memories.{Reads-none, Reads-loaded, Reads-weaker, always_at_most}
+use Rattle.cx_base.proofs.MemoryLemmas.{always_at_most}
+use Rattle.cx_base.proofs.ReadLemmas.{Reads-none, Reads-loaded, Reads-weaker}
 use Rattle.avl_words.specs.Lines.{word_of}
 use Rattle.index_checks.proofs.Totals.{all_lines}
 use Rattle.index_checks.specs.Layout.{StandsFor, IsIndex}

@@ -2,8 +2,7 @@ use Rattle.std.proofs.Common.{◌≡◌, ◌+◌, ℕ, List, refl, arith}
 use Rattle.std.specs.Int.{div_ceil}
 use Rattle.cx_base.specs.Packing.{unpacked}
 use Rattle.cx_base.specs.Store.{pair_lines}
-use Rattle.cx_base.proofs.MemoryLemmas.{Becomes-then}
-use Rattle.avl_words.proofs.Memories.{always_after, Becomes-both}
+use Rattle.cx_base.proofs.MemoryLemmas.{Becomes-then, always_after, Becomes-both}
 use Rattle.word_index.proofs.ExactRuns.{new_pair_runs}
 use Rattle.word_index.proofs.Putting.{length_unpacked, room_less, room_after_line, room_after_text, node_still, pair_written}
 use Rattle.word_index.specs.Fresh.{CanTake}

@@ -1,4 +1,4 @@
-use Rattle.avl_words.proofs.Memories.{Reads-weaker}
+use Rattle.cx_base.proofs.ReadLemmas.{Reads-weaker}
 use Rattle.word_index.proofs.NodeReads.{has_document, document_text}
 use Rattle.word_index.proofs.nodes.doc_at.Goals as goal
 

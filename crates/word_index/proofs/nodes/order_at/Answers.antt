@@ -1,7 +1,8 @@
 use Rattle.std.proofs.Common.{◌≤◌, ℕ, List, ap, ◌∙◌, subst, sym}
 use Rattle.cx_base.specs.Packing.{unpacked}
 use Rattle.cx_base.specs.Store.{key_cmp}
-use Rattle.avl_words.proofs.Memories.{Reads-weaker, always_read, always_at_most}
+use Rattle.cx_base.proofs.MemoryLemmas.{always_at_most}
+use Rattle.cx_base.proofs.ReadLemmas.{Reads-weaker, always_read}
 use Rattle.word_index.proofs.NodeReads.{unpacked_key}
 use Rattle.word_index.specs.Answers.{IsPackOf, IsNodeOf}
 use Rattle.word_index.specs.Walk.{HasNode}

@@ -1,7 +1,6 @@
 use Rattle.std.proofs.Common.{◌-◌, refl}
 use Rattle.avl_words.specs.Lines.{with_word}
-use Rattle.cx_base.proofs.MemoryLemmas.{Becomes-store}
-use Rattle.avl_words.proofs.Memories.{always_at_most, always_after, Becomes-loaded}
+use Rattle.cx_base.proofs.MemoryLemmas.{Becomes-store, always_at_most, always_after, Becomes-loaded}
 use Rattle.word_index.proofs.Cutting.{can_take, cut_count, cuts}
 use Rattle.word_index.proofs.removal.cut.Goals as goal
 

@@ -1,6 +1,6 @@
 use Rattle.cx_base.specs.Packing.{unpacked}
-use Rattle.cx_base.proofs.MemoryLemmas.{Becomes-then, Becomes-weaker}
-use Rattle.avl_words.proofs.Memories.{always_read, always_after, Reads-with, Becomes-from-read, Becomes-both}
+use Rattle.cx_base.proofs.MemoryLemmas.{Becomes-then, Becomes-weaker, always_after, Becomes-both}
+use Rattle.cx_base.proofs.ReadLemmas.{always_read, Reads-with, Becomes-from-read}
 use Rattle.word_index.proofs.Cutting.{can_cut, visits_read, cut_pair, removed, not_removed, removal_runs, no_removal_runs}
 use Rattle.word_index.proofs.removal.remove.Goals as goal
 

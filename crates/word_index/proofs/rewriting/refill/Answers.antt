@@ -1,6 +1,6 @@
 use Rattle.cx_base.specs.Packing.{unpacked}
-use Rattle.cx_base.proofs.MemoryLemmas.{Becomes-then}
-use Rattle.avl_words.proofs.Memories.{always_after, Becomes-both, Reads-none, Becomes-from-read}
+use Rattle.cx_base.proofs.MemoryLemmas.{Becomes-then, always_after, Becomes-both}
+use Rattle.cx_base.proofs.ReadLemmas.{Reads-none, Becomes-from-read}
 use Rattle.word_index.proofs.DocumentRuns.{refill_lines, refill_here, refill_runs}
 use Rattle.word_index.proofs.rewriting.refill.Goals as goal
 

@@ -1,8 +1,8 @@
 use Rattle.std.proofs.Common.{◌≡◌, ◌+◌, ◌*◌, ◌∙◌, ap, ℕ, List, refl, sym, subst}
 use Rattle.cx_base.specs.Packing.{unpacked}
 use Rattle.cx_base.specs.Memory.{Becomes, Stored}
-use Rattle.cx_base.proofs.MemoryLemmas.{Becomes-store, Becomes-always}
-use Rattle.avl_words.proofs.Memories.{always_after, Becomes-both, Reads-none, Becomes-from-read}
+use Rattle.cx_base.proofs.MemoryLemmas.{Becomes-store, Becomes-always, always_after, Becomes-both}
+use Rattle.cx_base.proofs.ReadLemmas.{Reads-none, Becomes-from-read}
 use Rattle.avl_words.specs.Lines.{with_word, IsWithin}
 use Rattle.word_index.specs.Changes.{LooseChain}
 use Rattle.word_index.specs.Exact.{with_chain_given, with_renewed}

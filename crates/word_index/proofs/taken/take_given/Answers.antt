@@ -1,5 +1,6 @@
 use Rattle.std.proofs.Common.{◌≡◌, ◌≤◌, ℕ, List, arith}
-use Rattle.avl_words.proofs.Memories.{Reads-none, Reads-loaded, always_at_most}
+use Rattle.cx_base.proofs.MemoryLemmas.{always_at_most}
+use Rattle.cx_base.proofs.ReadLemmas.{Reads-none, Reads-loaded}
 use Rattle.avl_words.specs.Lines.{word_of}
 use Rattle.word_index.proofs.taken.take_given.Goals as goal
 

@@ -1,7 +1,8 @@
 use Rattle.std.proofs.Common.{◌≡◌, ◌+◌}
 use Rattle.cx_base.specs.Memory.{Becomes}
 use Rattle.cx_base.proofs.MemoryLemmas.{Becomes-then}
-use Rattle.avl_words.proofs.Memories.{Reads-none, Reads-loaded, Becomes-from-read, IfOk-weaker}
+use Rattle.std.proofs.lemmas.Result.{IfOk-weaker}
+use Rattle.cx_base.proofs.ReadLemmas.{Reads-none, Reads-loaded, Becomes-from-read}
 use Rattle.avl_words.specs.Lines.{with_word, word_of}
 use Rattle.word_index.proofs.ExactRuns.{new_line_runs, given_line_runs}
 use Rattle.word_index.proofs.Taking.{new_line, given_line, head_there}
@@ -11,8 +12,9 @@ pub returns-then-head-eq0-clause-done : goal.returns-then-head-eq0-clause-done
 returns-then-head-eq0-clause-done g c =
     let head = c.in_ok-head.head in
     let r = Reads-loaded (Reads-none _ c.requires.room) c.in_ok-head.ensures.done in
-    IfOk-weaker c.take_new.result (λ line. Becomes (g.M.Memory.stands c.word.new.mem) (g.M.Memory.stands c.take_new.new.mem) (λ before now. (word_of before 0 3 ≡ line) × (now ≡ with_word 0 3 (line + 1) before))) _ c.take_new.ensures.done
+    IfOk-weaker c.take_new.result (λ line. Becomes (g.M.Memory.stands c.word.new.mem) (g.M.Memory.stands c.take_new.new.mem) (λ before now. (word_of before 0 3 ≡ line) × (now ≡ with_word 0 3 (line + 1) before))) _
     (λ line b. Becomes-then (Becomes-from-read r) b (λ x y z p q. new_line x y z head line p.0 p.1.1 c.if-head-eq0.true q))
+    c.take_new.ensures.done
 
 pub take_given-requires-clause-head : goal.take_given-requires-clause-head
 take_given-requires-clause-head g c =
@@ -30,8 +32,9 @@ pub returns-then-head-eq0-clause-exact : goal.returns-then-head-eq0-clause-exact
 returns-then-head-eq0-clause-exact g c =
     let head = c.in_ok-head.head in
     let r = Reads-loaded (Reads-none _ c.requires.room) c.in_ok-head.ensures.done in
-    IfOk-weaker c.take_new.result (λ line. Becomes (g.M.Memory.stands c.word.new.mem) (g.M.Memory.stands c.take_new.new.mem) (λ before now. (word_of before 0 3 ≡ line) × (now ≡ with_word 0 3 (line + 1) before))) _ c.take_new.ensures.done
+    IfOk-weaker c.take_new.result (λ line. Becomes (g.M.Memory.stands c.word.new.mem) (g.M.Memory.stands c.take_new.new.mem) (λ before now. (word_of before 0 3 ≡ line) × (now ≡ with_word 0 3 (line + 1) before))) _
     (λ line b. Becomes-then (Becomes-from-read r) b (λ x y z p q. new_line_runs x y z head line p.0 p.1.1 c.if-head-eq0.true q))
+    c.take_new.ensures.done
 
 pub returns-clause-exact : goal.returns-clause-exact
 returns-clause-exact g c =

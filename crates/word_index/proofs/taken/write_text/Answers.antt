@@ -1,6 +1,5 @@
-use Rattle.std.proofs.Common.{◌∙◌, rules, arith}
-use Rattle.cx_base.proofs.MemoryLemmas.{Becomes-same, Becomes-then, Becomes-weaker}
-use Rattle.avl_words.proofs.Memories.{always_after, Becomes-both}
+use Rattle.std.proofs.Common.{rules, arith}
+use Rattle.cx_base.proofs.MemoryLemmas.{Becomes-same, Becomes-then, Becomes-weaker, always_after, Becomes-both, Framed-same, Framed-then}
 use Rattle.word_index.proofs.ExactRuns.{text_begins, text_goes_on, text_ends}
 use Rattle.word_index.proofs.Writing.{written_none, can_take_next, taken_within, written_more, written_all}
 use Rattle.word_index.specs.Exact.{with_text}
@@ -12,10 +11,7 @@ loop-j-init g c = record {
   exact = Becomes-weaker (Becomes-same _) (λ first x y s e. text_begins c.args.words.now c.args.count x y e);
   sized = search rules;
   can_store = search rules;
-  size = search rules;
-  fixed = search rules;
-  writable = search rules;
-  limited = search rules;
+  framed = Framed-same _;
 }
 
 pub take_line-requires-clause-room : goal.take_line-requires-clause-room
@@ -39,10 +35,7 @@ loop-j-preserved g c =
       exact = Becomes-then (Becomes-both i.exact t.exact) p.exact (λ x z w r f. text_goes_on c.args.words.now c.args.count l.j l.next c.in_ok-line.line c.block.result r.0 z w (with_text c.args.words.now c.args.count 0 x) c.loop-j-test.true r.1 r.2 c.block.ensures f);
       sized = search rules;
       can_store = search rules;
-      size = p.size ∙ t.size ∙ i.size;
-      fixed = p.fixed ∙ t.fixed ∙ i.fixed;
-      writable = p.writable ∙ t.writable ∙ i.writable;
-      limited = p.limited ∙ t.limited ∙ i.limited;
+      framed = Framed-then (Framed-then i.framed t.framed) p.framed;
     }
 
 pub returns-clause-done : goal.returns-clause-done

@@ -1,5 +1,5 @@
-use Rattle.std.proofs.Common.{◌≡◌, ◌-◌, is_some, IsTrue}
-use Rattle.cx_base.specs.Memory.{Becomes}
+use Rattle.std.proofs.Common.{◌≡◌, ◌-◌, IsTrue}
+use Rattle.cx_base.specs.Memory.{Becomes, Framed}
 use Rattle.avl_words.specs.Lines.{IsPartLength}
 use Rattle.word_index.proofs.Writing.{WrittenSoFar}
 use Rattle.word_index.specs.Exact.{with_text}
@@ -11,8 +11,5 @@ invariant-loop-j g l = record {
   exact : Becomes (g.M.Memory.stands l.fn.mem) (g.M.Memory.stands l.mem) (λ x y. with_text l.words (l.count - l.j) l.next y ≡ with_text l.words l.count 0 x);
   sized : IsPartLength (g.M.Memory.size l.mem);
   can_store : IsTrue (g.M.Memory.writable l.mem);
-  size : g.M.Memory.size l.mem ≡ g.M.Memory.size l.fn.mem;
-  fixed : g.M.Memory.fixed l.mem ≡ g.M.Memory.fixed l.fn.mem;
-  writable : g.M.Memory.writable l.mem ≡ g.M.Memory.writable l.fn.mem;
-  limited : is_some (g.M.Memory.left l.mem) ≡ is_some (g.M.Memory.left l.fn.mem);
+  framed : Framed g.M.Memory.size g.M.Memory.fixed g.M.Memory.writable g.M.Memory.left l.fn.mem l.mem;
 }

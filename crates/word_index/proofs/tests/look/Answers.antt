@@ -1,4 +1,4 @@
-use Rattle.avl_words.proofs.Memories.{always_read, Reads-then}
+use Rattle.cx_base.proofs.ReadLemmas.{always_read, Reads-then}
 use Rattle.word_index.proofs.tests.look.Goals as goal
 
 pub least_above-requires-clause-lawful : goal.least_above-requires-clause-lawful

@@ -2,7 +2,8 @@ use Rattle.std.proofs.Common.{subst}
 use Rattle.cx_base.specs.Packing.{unpacked}
 use Rattle.word_index.specs.Answers.{IsFound}
 use Rattle.word_index.proofs.Afterwards.{found_node}
-use Rattle.avl_words.proofs.Memories.{always_read, always_kept}
+use Rattle.cx_base.proofs.ReadLemmas.{always_read}
+use Rattle.avl_words.proofs.Memories.{always_kept}
 use Rattle.word_index.proofs.tests.read.Goals as goal
 
 pub doc_at-requires-clause-node : goal.doc_at-requires-clause-node

@@ -1,5 +1,5 @@
 use Rattle.word_index.proofs.Afterwards.{index_after_remove}
-use Rattle.avl_words.proofs.Memories.{always_after}
+use Rattle.cx_base.proofs.MemoryLemmas.{always_after}
 use Rattle.word_index.proofs.tests.take.Goals as goal
 
 pub returns-clause-lawful : goal.returns-clause-lawful

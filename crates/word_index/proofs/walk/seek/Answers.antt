@@ -1,7 +1,9 @@
+use Rattle.cx_base.proofs.MemoryLemmas.{Framed-then}
 use Rattle.std.proofs.Common.{rules, arith, refl, sym, subst, ◌≡◌, ◌+◌, ◌∙◌}
 use Rattle.std.proofs.Math.ListN.{length-set}
 use Rattle.cx_base.specs.Packing.{unpacked}
-use Rattle.avl_words.proofs.Memories.{kept_then, Reads-none, Reads-then, Reads-weaker, Reads-load, Reads-loaded, always_read, always_said, always_kept}
+use Rattle.cx_base.proofs.ReadLemmas.{kept_then, Reads-none, Reads-then, Reads-weaker, Reads-load, Reads-loaded, always_read}
+use Rattle.avl_words.proofs.Memories.{always_said, always_kept}
 use Rattle.word_index.specs.Walk.{AtSpot}
 use Rattle.word_index.proofs.NodeReads.{node_within}
 use Rattle.word_index.proofs.KeyPlaces.{passing_begins, passing_few, passing_few_node, passing_has_node, passing_ends, passing_ends_same, passing_deep, passing_on, few_counted, is_same, is_other}
@@ -17,10 +19,7 @@ loop-depth-init g c =
       sides_long = search rules;
       kept = b.kept;
       sized = search rules;
-      size = b.size;
-      fixed = b.fixed;
-      writable = b.writable;
-      limited = b.limited;
+      framed = b.framed;
     }
 
 pub returns-then-node-eq0-clause-done : goal.returns-then-node-eq0-clause-done
@@ -88,10 +87,7 @@ loop-depth-preserved g c =
       sides_long = length-set l.sides l.depth c.side_of-side.result ∙ i.sides_long;
       kept = kept_then (kept_then i.kept o.kept) w.kept;
       sized = search rules;
-      size = w.size ∙ o.size ∙ i.size;
-      fixed = w.fixed ∙ o.fixed ∙ i.fixed;
-      writable = w.writable ∙ o.writable ∙ i.writable;
-      limited = w.limited ∙ o.limited ∙ i.limited;
+      framed = Framed-then (Framed-then i.framed o.framed) w.framed;
     }
 
 pub returns-clause-done : goal.returns-clause-done

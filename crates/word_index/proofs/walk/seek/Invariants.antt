@@ -1,7 +1,6 @@
-use Rattle.std.proofs.Common.{◌≡◌, ◌+◌, length, is_some}
+use Rattle.std.proofs.Common.{◌≡◌, ◌+◌, length}
 use Rattle.cx_base.specs.Packing.{unpacked}
-use Rattle.cx_base.specs.Memory.{Becomes}
-use Rattle.avl_words.specs.Access.{Reads}
+use Rattle.cx_base.specs.Memory.{Becomes, Framed, Reads}
 use Rattle.avl_words.specs.Lines.{IsPartLength}
 use Rattle.word_index.specs.Walk.{OnWay}
 use Rattle.word_index.proofs.walk.seek.Given as goal
@@ -14,8 +13,5 @@ invariant-loop-depth g l = record {
   sides_long : length l.sides ≡ 64;
   kept : Becomes (g.M.Memory.stands l.fn.mem) (g.M.Memory.stands l.mem) ◌≡◌;
   sized : IsPartLength (g.M.Memory.size l.mem);
-  size : g.M.Memory.size l.mem ≡ g.M.Memory.size l.fn.mem;
-  fixed : g.M.Memory.fixed l.mem ≡ g.M.Memory.fixed l.fn.mem;
-  writable : g.M.Memory.writable l.mem ≡ g.M.Memory.writable l.fn.mem;
-  limited : is_some (g.M.Memory.left l.mem) ≡ is_some (g.M.Memory.left l.fn.mem);
+  framed : Framed g.M.Memory.size g.M.Memory.fixed g.M.Memory.writable g.M.Memory.left l.fn.mem l.mem;
 }
