@@ -49,7 +49,7 @@ blank j cell at =
     let within : j < 16 = (let w = slice_get_within (replicate 16 blank_cell) j cell at in w) in
     (within, sym (get_or_from_slice_get (replicate 16 blank_cell) j cell blank_cell at) ∙ get_or-replicate 16 j blank_cell blank_cell within)
 
-blank_shape : CellShape blank_cell
+pub blank_shape : CellShape blank_cell
 blank_shape = record {
   words = length-replicate {A = ℕ} 145 0;
   fit = All-replicate (λ w. w < 2 ^ 64) 145 0 (omega arith);

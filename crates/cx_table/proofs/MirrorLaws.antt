@@ -78,7 +78,7 @@ small_after instance LoadFree l found queue guard small = small
 small_after instance kind l found queue guard small = absurd queue
 
 shape_after : (instance : Instance) (kind : Kind) (l : Local) (found : ℕ) → IsOfQueue kind → Guard instance unseen kind l → LocalShape l.number l → LocalShape l.number (shown_next instance kind l found)
-shape_after instance (WriteCell j i v) l found queue guard shape = shape_written l.number l (shown_next instance (WriteCell j i v) l found) j i v shape guard.0 refl refl
+shape_after instance (WriteCell j i v) l found queue guard shape = shape_written l.number l (shown_next instance (WriteCell j i v) l found) j i v shape guard.0 guard.3 refl refl
 shape_after instance (Link j) l found queue guard shape =
     elim (found == seen_word l.seen_slot) as (λ b. LocalShape l.number (cond b (linked l j) (lost instance.callers l found))) [
       | true ↦ shape_linked l.number l j shape guard.0

@@ -7,6 +7,7 @@ use Rattle.cx_core.specs.Lawful.{CellShape}
 use Rattle.cx_core.specs.State.{blank_cell, opening_local}
 use Rattle.cx_rule.specs.declared.rule.Known.{Known}
 use Rattle.cx_table.specs.declared.mirror.Mirror.{Mirror}
+use Rattle.core_queue.proofs.Opening.{blank_shape}
 use Rattle.cx_core.specs.Free.{HoldsNone}
 use Rattle.cx_table.specs.Mirrors.{IsMirrored, mirror_of}
 use Rattle.cx_rule.specs.Seats.{HasCells, IsWithinLimit, opening_known}
@@ -19,7 +20,7 @@ blank_cells callers place number limit = record {
   each = λ j cell at. (
       let within = slice_get_within (replicate 16 blank_cell) j cell at in
       let is : blank_cell ≡ cell = sym (get_or-replicate 16 j blank_cell blank_cell (omega (arith, length-replicate 16 blank_cell))) ∙ get_or_from_slice_get (replicate 16 blank_cell) j cell blank_cell at in
-      subst CellShape is (record { words = length-replicate {A = ℕ} 145 0; set = length-replicate {A = ℕ} 513 0 }));
+      subst CellShape is blank_shape);
 }
 
 -- a caller's seat as it is cut from the first seat

@@ -10,7 +10,8 @@ use Rattle.cx_core.specs.Region.{slot_number}
 use Rattle.cx_core.specs.State.{Instance}
 use Rattle.cx_rule.specs.declared.rule.Known.{Known}
 use Rattle.cx_table.specs.declared.remains.Remains.{Remains}
-use Rattle.cx_rule.specs.Ending.{IsCodeChain, locals_known}
+use Rattle.cx_core.specs.Chain.{IsCodeChain}
+use Rattle.cx_rule.specs.Ending.{locals_known}
 use Rattle.cx_rule.specs.Rule.{NotesHold}
 use Rattle.cx_rule.specs.Running.{IsSeatOf, Running}
 use Rattle.cx_rule.specs.Seats.{Seated, opening_known}
