@@ -1,5 +1,5 @@
 -- Two vectors differ in some lane exactly where the exclusive ors of their lanes, or'ed into one word, are not 0.
-use Rattle.std.proofs.Common.{◌≡◌, ◌≢◌, ℕ, zero, suc, ◌+◌, ◌-◌, ◌*◌, ◌/◌, ◌<◌, ◌≤◌, ◌↔◌, Bool, true, not, IsTrue, eqb, List, [], ◌∷◌, length, get_or, bit_and, bit_or, bit_xor, refl, sym, ap, ◌∙◌, inl, inr, arith}
+use Rattle.std.proofs.Common.{◌≡◌, ◌≢◌, ℕ, zero, suc, ◌+◌, ◌-◌, ◌*◌, ◌<◌, ◌≤◌, ◌↔◌, not, IsTrue, eqb, List, [], ◌∷◌, length, get_or, bit_or, bit_xor, refl, sym, ap, ◌∙◌, inl, inr, arith}
 use Rattle.std.specs.Int.Bits.{or_add_and, xor_add_and, xor_self}
 use Rattle.std.proofs.lemmas.Bool.{cases_eq, cases_lt, eqb-false, ne_eqb, not-true}
 use Rattle.std.proofs.lemmas.Nat.{and_le_l, and_le_r}
@@ -64,5 +64,6 @@ line_differs a b line in_a in_b = (
   where
     nothing : (xs : List ℕ) (lane : ℕ) → 8 * line + 8 ≤ length xs → 8 ≤ lane → get_or (chunk (8 * line) 8 xs) lane 0 ≡ 0
     nothing xs lane room past = get_or_past (chunk (8 * line) 8 xs) lane 0 (omega (arith, length-chunk (8 * line) 8 xs room))
+
     word : (xs : List ℕ) (at lane : ℕ) → 8 * line + lane ≡ at → lane < 8 → get_or xs at 0 ≡ get_or (chunk (8 * line) 8 xs) lane 0
     word xs at lane back within = ap (λ i. get_or xs i 0) (sym back) ∙ sym (get_or-chunk (8 * line) 8 xs lane 0 within)

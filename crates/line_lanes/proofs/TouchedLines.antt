@@ -1,6 +1,6 @@
 -- The lines of a list of addresses: of eight at once, of a list piece by piece, and as a relation.
-use Rattle.std.proofs.Common.{◌≡◌, ℕ, ◌+◌, ◌-◌, ◌*◌, ◌/◌, ◌^◌, ◌<◌, ◌≤◌, ◌↔◌, ◌++◌, ◌||◌, Bool, true, IsTrue, eqb, List, [], ◌∷◌, length, map, take, drop, length-drop, get_or, replicate, refl, sym, ap, subst, ◌∙◌, arith, eq-eqb, eqb-true}
-use Rattle.std.specs.List.{All, Any, list_any}
+use Rattle.std.proofs.Common.{◌≡◌, ℕ, ◌+◌, ◌-◌, ◌*◌, ◌/◌, ◌^◌, ◌<◌, ◌↔◌, ◌||◌, Bool, IsTrue, eqb, List, [], ◌∷◌, length, map, take, drop, length-drop, replicate, refl, sym, ap, ◌∙◌, arith, eq-eqb, eqb-true}
+use Rattle.std.specs.List.{All}
 use Rattle.std.proofs.lemmas.List.{take-append-drop, take_all}
 use Rattle.std.proofs.lemmas.List.Elements.{All-drop, All-map, All-take}
 use Rattle.std.proofs.lemmas.List.Folds.{Any-from_list_any, list_any-append, list_any-from_Any}
@@ -51,7 +51,7 @@ pub marked_whole : (addresses : List ℕ) (n m line : ℕ) (old new : Bool) → 
 marked_whole addresses n m line old new same was is =
     let left : take (length addresses - m) (drop m addresses) ≡ drop m addresses = take_all (length addresses - m) (drop m addresses) (omega (arith, length-drop m addresses)) in
     let parts : is_touched addresses line ≡ (is_touched (take m addresses) line || is_touched (drop m addresses) line) =
-        ap (λ l. is_touched l line) (sym (take-append-drop m addresses)) ∙ list_any-append (λ a. eqb (a / 8) line) (take m addresses) (drop m addresses) in
+    ap (λ l. is_touched l line) (sym (take-append-drop m addresses)) ∙ list_any-append (λ a. eqb (a / 8) line) (take m addresses) (drop m addresses) in
     let all : new ≡ is_touched addresses line = rw (is, was, same, left, parts) in
     let t = touched_is addresses line in
     (λ h. t.0 (sym all ∙ h), λ h. all ∙ t.1 h)

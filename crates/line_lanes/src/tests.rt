@@ -8,6 +8,7 @@ use std::test::Fail;
 
 // The most lines that are tried, and some words behind the last of them.
 const LINES: usize = 40;
+
 const WORDS: usize = 8 * LINES + 3;
 
 #[test]

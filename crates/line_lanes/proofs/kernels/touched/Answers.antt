@@ -1,4 +1,4 @@
-use Rattle.std.proofs.Common.{◌≡◌, ◌*◌, ◌/◌, length, arith, sym, subst, ap, ◌∙◌}
+use Rattle.std.proofs.Common.{◌≡◌, ◌*◌, ◌/◌, length, arith, ◌∙◌}
 use Rattle.line_lanes.proofs.TouchedLines.{eight_within, marked_more, marked_whole}
 use Rattle.line_lanes.proofs.kernels.touched.Goals as goal
 
