@@ -1,0 +1,3 @@
+mod DifferingLines
+mod LineMarks
+mod TouchedLines

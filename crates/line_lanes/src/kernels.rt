@@ -1,0 +1,76 @@
+//! The kernels. A line is 8 words, so it is one vector of eight `u64`, and no words of a line are left over. Addresses are
+//! taken eight at once; those that fill no vector go through a plain loop.
+
+ghost use Rattle.std.specs.Prelude.{◌≡◌, ◌+◌, ◌*◌, ◌/◌, ◌<◌, ◌≤◌, ◌↔◌, All, IsTrue, length};
+ghost use Rattle.line_lanes.specs.Lines.{AddsMarks, DifferSomewhere, DiffersInLine, MarksLines, TouchesLine, is_line_of, is_touched};
+
+use std::simd::prelude::*;
+
+/// Marks the lines in which two lists of words differ. Words behind the last line are not looked at.
+#[inline]
+pub fn differing(a: &[u64], b: &[u64], out: &mut [bool])
+    requires a_lines { 8 * length out.old ≤ length a.now }
+    requires b_lines { 8 * length out.old ≤ length b.now }
+    ensures { MarksLines (DiffersInLine a.now b.now) out.new }
+{
+    for (line, differs) in out.iter_mut().enumerate() {
+        let first = 8 * line;
+        *differs = differ(
+            u64x8::from_slice(&a[first..]),
+            u64x8::from_slice(&b[first..]),
+        );
+    }
+}
+
+// Whether two lines differ: the words' differences, gathered into one word, are not 0. On x86-64 with SSE4.1 that is four
+// `pxor`, three `por` and one `ptest`.
+#[inline(always)]
+fn differ(a: u64x8, b: u64x8) -> bool
+    ensures { IsTrue result ↔ DifferSomewhere a b }
+{
+    (a ^ b).reduce_or() != 0
+}
+
+/// Marks the lines in which some address lies, and unmarks every other.
+#[inline]
+pub fn touched(addresses: &[u64], out: &mut [bool])
+    requires { All (λ address. address < 8 * length out.old) addresses.now }
+    ensures { MarksLines (TouchesLine addresses.now) out.new }
+{
+    out.fill(false);
+    let whole = addresses.len() / 8;
+    for eight in 0..whole {
+        mark_eight(u64x8::from_slice(&addresses[8 * eight..]), out);
+    }
+    mark_left(&addresses[8 * whole..], out);
+}
+
+// Marks the lines of eight addresses, which four `psrlq` find.
+#[inline(always)]
+fn mark_eight(addresses: u64x8, out: &mut [bool])
+    requires { All (λ address. address < 8 * length out.old) addresses }
+    ensures { AddsMarks (is_touched addresses) out.old out.new }
+{
+    mark_lines(&(addresses >> 3).to_array(), out);
+}
+
+// Marks these lines.
+#[inline(always)]
+fn mark_lines(lines: &[u64], out: &mut [bool])
+    requires { All (λ line. line < length out.old) lines.now }
+    ensures { AddsMarks (is_line_of lines.now) out.old out.new }
+{
+    for line in lines {
+        out[*line as usize] = true;
+    }
+}
+
+// Marks the lines of the addresses that fill no vector.
+fn mark_left(addresses: &[u64], out: &mut [bool])
+    requires { All (λ address. address < 8 * length out.old) addresses.now }
+    ensures { AddsMarks (is_touched addresses.now) out.old out.new }
+{
+    for address in addresses {
+        out[(*address / 8) as usize] = true;
+    }
+}

@@ -1,0 +1,48 @@
+//! The plain programs that the kernels are compared with: word by word, and line by line.
+
+ghost use Rattle.std.specs.Prelude.{◌≡◌, ◌+◌, ◌*◌, ◌/◌, ◌<◌, ◌≤◌, ◌↔◌, IsTrue, length};
+ghost use Rattle.line_lanes.specs.Lines.{DiffersInLine, MarksLines, TouchesLine};
+
+// Whether a word of the line differs.
+fn is_different(a: &[u64], b: &[u64], line: usize) -> bool
+    requires a_line { 8 * line + 8 ≤ length a.now }
+    requires b_line { 8 * line + 8 ≤ length b.now }
+    ensures { IsTrue result ↔ DiffersInLine a.now b.now line }
+{
+    for at in 8 * line..8 * line + 8 {
+        if a[at] != b[at] {
+            return true;
+        }
+    }
+    false
+}
+
+pub(crate) fn differing(a: &[u64], b: &[u64], out: &mut [bool])
+    requires a_lines { 8 * length out.old ≤ length a.now }
+    requires b_lines { 8 * length out.old ≤ length b.now }
+    ensures { MarksLines (DiffersInLine a.now b.now) out.new }
+{
+    for (line, differs) in out.iter_mut().enumerate() {
+        *differs = is_different(a, b, line);
+    }
+}
+
+// Whether some address lies in the line.
+fn is_touched(addresses: &[u64], line: usize) -> bool
+    ensures { IsTrue result ↔ TouchesLine addresses.now line }
+{
+    for address in addresses {
+        if *address / 8 == line as u64 {
+            return true;
+        }
+    }
+    false
+}
+
+pub(crate) fn touched(addresses: &[u64], out: &mut [bool])
+    ensures { MarksLines (TouchesLine addresses.now) out.new }
+{
+    for (line, marked) in out.iter_mut().enumerate() {
+        *marked = is_touched(addresses, line);
+    }
+}
