@@ -1,56 +1,13 @@
 //! The kinds on locks and regions: the worked row, each guard failing for one reason, each right in each order, and a
 //! script of three callers against a state written out by hand.
 
-ghost use Rattle.std.specs.Prelude.{◌<◌, ◌≤◌};
-ghost use Rattle.cx_base.specs.Tally.{IsTally};
-ghost use Rattle.cx_core.specs.Base.{LawfulBase};
+ghost use Rattle.std.specs.Prelude.{◌<◌};
 
-use crate::events::apply;
+use crate::board::{Board, Row};
 use crate::lock_events::{exclusive_on, shared_on};
-use crate::state::CoreState;
-use cx_base::tally::Tally;
-use cx_core::{Base, EXCLUSIVE_MARK, Event, Kind, Local};
+use cx_core::{EXCLUSIVE_MARK, Kind, Local};
 use std::alloc::{AllocError, Global};
 use std::test::Fail;
-
-// A core over the first base of Tally, whose regions have 1,680 words.
-#[derive(Drop)]
-struct Board {
-    state: CoreState,
-    ghost lawful: { LawfulBase 64 IsTally state.base },
-}
-
-fn opened(alloc: Global, callers: u32) -> Result<Board, AllocError>
-    requires some { 1 ≤ callers }
-    requires few { callers ≤ 8 }
-{
-    let base = Base::fresh(alloc, &Tally)?;
-    Ok(Board {
-        state: CoreState::opening(alloc, &Tally, callers, &base)?,
-    })
-}
-
-// Whether a step of a caller is allowed, and made.
-fn steps(alloc: Global, board: &mut Board, caller: u32, kind: Kind) -> Result<bool, AllocError> {
-    apply(alloc, &Tally, &mut board.state, &Event { caller, kind })
-}
-
-// Caller, kind, and whether it is allowed.
-type Row = (u32, Kind, bool);
-
-// The first row that answers otherwise.
-fn first_wrong(
-    alloc: Global,
-    board: &mut Board,
-    rows: &[Row],
-) -> Result<Option<usize>, AllocError> {
-    for (i, row) in rows.iter().enumerate() {
-        if steps(alloc, board, row.0, row.1)? != row.2 {
-            return Ok(Some(i));
-        }
-    }
-    Ok(None)
-}
 
 fn lock_word(board: &Board, r: usize) -> Option<u64> {
     board.state.lock().get(r).copied()
@@ -63,7 +20,7 @@ fn met(board: &Board, caller: usize) -> Option<u64> {
 #[test]
 fn one_caller_on_two_replicas(rt: HostRuntime) -> Result<(), Fail> {
     let alloc = rt.alloc();
-    let mut board = opened(alloc, 1)?;
+    let mut board = Board::open(alloc, 1)?;
     let rows = [
         (Kind::TryExclusive { r: 0 }, true, 1),
         (Kind::TryShared { r: 0 }, true, 2),
@@ -74,7 +31,7 @@ fn one_caller_on_two_replicas(rt: HostRuntime) -> Result<(), Fail> {
         (Kind::Downgrade { r: 1 }, false, 1),
     ];
     for (kind, allowed, lock) in rows {
-        assert_eq!(rt; steps(alloc, &mut board, 0, kind)?, allowed, "{kind:?}");
+        assert_eq!(rt; board.step(alloc, 0, kind)?, allowed, "{kind:?}");
         assert_eq!(rt; lock_word(&board, 0), Some(lock), "{kind:?}");
     }
     assert_eq!(rt; met(&board, 0), Some(0));
@@ -217,8 +174,8 @@ const PERSIST_BEHIND_2: Kind = Kind::Persist { r: 2, i: 1680 };
 #[test]
 fn each_guard_fails_for_one_reason(rt: HostRuntime) -> Result<(), Fail> {
     let alloc = rt.alloc();
-    let mut board = opened(alloc, 2)?;
-    assert_eq!(rt; first_wrong(alloc, &mut board, &REFUSALS)?, None);
+    let mut board = Board::open(alloc, 2)?;
+    assert_eq!(rt; board.first_wrong(alloc, &REFUSALS)?, None);
     for (r, word) in [(0, 1), (1, 0), (2, 0), (3, 0)] {
         assert_eq!(rt; lock_word(&board, r), Some(word), "replica {r}");
     }
@@ -231,7 +188,7 @@ type Right<'a> = (&'a [Kind], Kind);
 // Whether caller 0 may make these steps.
 fn all_made(alloc: Global, board: &mut Board, kinds: &[Kind]) -> Result<bool, AllocError> {
     for kind in kinds {
-        if !steps(alloc, board, 0, *kind)? {
+        if !board.step(alloc, 0, *kind)? {
             return Ok(false);
         }
     }
@@ -300,8 +257,8 @@ const DOWNGRADED_FIRST: [Row; 11] = [
 #[test]
 fn rights_in_each_order(rt: HostRuntime) -> Result<(), Fail> {
     let alloc = rt.alloc();
-    let mut board = opened(alloc, 2)?;
-    let held = steps(alloc, &mut board, 1, Kind::TryExclusive { r: 3 })?;
+    let mut board = Board::open(alloc, 2)?;
+    let held = board.step(alloc, 1, Kind::TryExclusive { r: 3 })?;
     assert!(rt; held);
     for (i, (a, b)) in [
         (EXCLUSIVE, SHARED),
@@ -314,7 +271,7 @@ fn rights_in_each_order(rt: HostRuntime) -> Result<(), Fail> {
     {
         assert!(rt; in_each_order(alloc, &mut board, *a, *b)?, "pair {i}");
     }
-    assert_eq!(rt; first_wrong(alloc, &mut board, &DOWNGRADED_FIRST)?, None);
+    assert_eq!(rt; board.first_wrong(alloc, &DOWNGRADED_FIRST)?, None);
     for (r, word) in [(0, 1), (1, 0), (2, 0), (3, EXCLUSIVE_MARK)] {
         assert_eq!(rt; lock_word(&board, r), Some(word), "replica {r}");
     }
@@ -555,16 +512,12 @@ fn has_lists(locals: &[Local]) -> bool {
 #[test]
 fn three_callers_in_300_steps(rt: HostRuntime) -> Result<(), Fail> {
     let alloc = rt.alloc();
-    let mut board = opened(alloc, 3)?;
-    assert_eq!(rt; first_wrong(alloc, &mut board, &BEGINNING)?, None);
+    let mut board = Board::open(alloc, 3)?;
+    assert_eq!(rt; board.first_wrong(alloc, &BEGINNING)?, None);
     for round in 0..8 {
-        assert_eq!(rt;
-            first_wrong(alloc, &mut board, &ROUND)?,
-            None,
-            "round {round}"
-        );
+        assert_eq!(rt; board.first_wrong(alloc, &ROUND)?, None, "round {round}");
     }
-    assert_eq!(rt; first_wrong(alloc, &mut board, &END)?, None);
+    assert_eq!(rt; board.first_wrong(alloc, &END)?, None);
     let locks = board.state.lock().to_vec(alloc)?;
     assert_eq!(rt;
         locks.as_slice(),

@@ -1,6 +1,7 @@
 //! The core as a state machine, executable: its state, and one step of a caller on one word.
 #![tactic(auto)]
 
+pub mod board;
 #[cfg(test)]
 mod event_tests;
 mod events;
@@ -12,6 +13,8 @@ mod queue_tests;
 mod region_events;
 mod replies;
 mod root_events;
+#[cfg(test)]
+mod root_tests;
 mod state;
 
 pub use events::apply;
