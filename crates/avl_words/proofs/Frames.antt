@@ -156,3 +156,13 @@ but_more a b s t le p = record {
 -- a tree that stands apart from the changed one
 pub stands_apart : (a b : List ℕ) (s t : Tree ℕ) → SameBut a b t → ((line : ℕ) → times line s + times line t ≤ 1) → Stands a s → Stands b s
 stands_apart a b s t but apart h = stands_same a b s but.long (λ k n i l. but.same k i l (inl (let m = apart k in let o : times k s ≢ 0 = n in omega arith))) h
+
+-- one link of a node
+pub link_but : (ws : List ℕ) (m j v : ℕ) → j < 3 → SameBut ws (with_word m j v ws) (Node Empty m Empty)
+link_but ws m j v small = record {
+  long = length-set ws (8 * m + j) v;
+  same = λ k i l h. get_or-set_other ws (8 * m + j) (8 * k + i) v 0 (elim h as (λ _. 8 * k + i ≢ 8 * m + j) [
+    | inl none ↦ (λ e. absurd (let s : k ≡ m = omega arith in let n = subst (λ j. times j (Node Empty m Empty) ≡ 0) s none in let o = times_self m in omega (arith, n, o)))
+    | inr far ↦ (λ e. absurd (omega arith))
+  ]);
+}

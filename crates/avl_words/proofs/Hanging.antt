@@ -4,10 +4,12 @@ use Rattle.std.proofs.lemmas.Bool.{cond_both}
 use Rattle.avl_tree.specs.Tree.{Tree, Empty, Node, height, node_on, inner_up, child_up, rotated, joined}
 use Rattle.avl_tree.specs.Ways.{Turn, under, whole, mended}
 use Rattle.avl_words.specs.Lines.{word_of, IsWithin}
-use Rattle.avl_words.specs.Words.{root, times, Stands}
-use Rattle.avl_words.specs.Links.{SameBut, IsOpen, IsMade, CanJoin, Joins}
-use Rattle.avl_words.specs.Mending.{IsHanging, CanHang, Hangs, Spine, times_way, IsHung, CanMend, Mends, Mending}
-use Rattle.avl_words.proofs.Frames.{times_self, times_on, but_then, but_more, stands_apart}
+use Rattle.avl_words.specs.Words.{root, times}
+use Rattle.avl_words.specs.Links.{high_of, HasLink, IsSubtree, SameBut, IsOpen, IsHigh, CanJoin, Joins}
+use Rattle.avl_words.specs.Mending.{IsHanging, CanHang, Hangs, Spine, times_way, IsHung}
+use Rattle.avl_words.proofs.Frames.{times_self, times_on, high_is, stands_apart}
+use Rattle.avl_words.proofs.Rotations.{link_is}
+use Rattle.avl_tree.proofs.Trees.{height_on}
 
 -- the lines of a balanced node
 inner_up_times : (k side : ℕ) (a : Tree ℕ) (y : ℕ) (b : Tree ℕ) (x : ℕ) (c : Tree ℕ) → times k (inner_up side a y b x c) ≡ times k (node_on side (node_on side a y b) x c)
@@ -35,7 +37,7 @@ joined_times k l x r =
     cond_both (leb (height l + 2) (height r)) (rotated 1 r x l) (cond (leb (height r + 2) (height l)) (rotated 0 l x r) (Node l x r)) (λ t. times k t ≡ times k (Node l x r)) (λ _. rotated_times k 1 r x l)
     (λ _. cond_both (leb (height r + 2) (height l)) (rotated 0 l x r) (Node l x r) (λ t. times k t ≡ times k (Node l x r)) (λ _. rotated_times k 0 l x r) (λ _. refl))
 
-under_times : (k side : ℕ) (t : Tree ℕ) (x : ℕ) (s : Tree ℕ) → times k (under side t x s) ≡ times k (node_on side t x s)
+pub under_times : (k side : ℕ) (t : Tree ℕ) (x : ℕ) (s : Tree ℕ) → times k (under side t x s) ≡ times k (node_on side t x s)
 under_times k zero t x s = joined_times k t x s
 under_times k (suc n) t x s = joined_times k s x t
 
@@ -61,46 +63,52 @@ open_left ws t x s h = record { some = h.some; within = h.within; left = h.hung;
 open_right : (ws : List ℕ) (t : Tree ℕ) (x : ℕ) (s : Tree ℕ) → IsHanging ws 1 t x s → IsOpen ws s x t
 open_right ws t x s h = record { some = h.some; within = h.within; left = h.beside; right = h.hung; once = λ line. (let n = h.once line in omega (arith, n)); low = h.low }
 
-pub hang_within : (ws : List ℕ) (node side child : ℕ) → CanHang ws node side child → IsWithin ws node
-hang_within ws node side child c = subst (IsWithin ws) c.node_is c.hanging.within
+-- the link to the sibling
+pub hang_link : (ws : List ℕ) (node side child high : ℕ) → CanHang ws node side child high → HasLink ws node (1 - side)
+hang_link ws node side child high c =
+    let there = subst (IsWithin ws) c.node_is c.hanging.within in
+    let is : root c.sibling ≡ word_of ws node (1 - side) = sym c.hanging.link_is ∙ ap (λ n. word_of ws n (1 - side)) c.node_is in
+    record { there = there; link = (link_is ws c.sibling (word_of ws node (1 - side)) c.hanging.beside is (let m = c.hanging.low in let h = height_on side c.tree c.item c.sibling in omega (arith, m, h))).there }
 
 link_there : (ws : List ℕ) (node side sibling : ℕ) (t : Tree ℕ) (x : ℕ) (s : Tree ℕ) → IsHanging ws side t x s → x ≡ node → word_of ws node (1 - side) ≡ sibling → root s ≡ sibling
 link_there ws node side sibling t x s h e w = sym h.link_is ∙ ap (λ n. word_of ws n (1 - side)) e ∙ w
 
-at_left : (ws : List ℕ) (side : ℕ) (t : Tree ℕ) (x : ℕ) (s : Tree ℕ) → side ≡ 0 → IsHanging ws side t x s → IsHanging ws 0 t x s
-at_left ws side t x s e h = subst (λ k. IsHanging ws k t x s) e h
+module _ (ws : List ℕ) (node side child high sibling sh : ℕ) (b : IsSubtree node (1 - side) sibling sh ws) where
+  pub can_left : CanHang ws node side child high → side ≡ 0 → CanJoin ws node child high sibling sh
+  can_left c z = record {
+    item = c.item;
+    left_tree = c.tree;
+    right_tree = c.sibling;
+    open_node = open_left ws c.tree c.item c.sibling (subst (λ k. IsHanging ws k c.tree c.item c.sibling) z c.hanging);
+    node_is = c.node_is;
+    left_is = c.child_is;
+    left_high_is = c.high_is;
+    right_is = link_there ws node side sibling c.tree c.item c.sibling c.hanging c.node_is b.link_is;
+    right_high_is = b.high_is;
+  }
 
-pub can_left : (ws : List ℕ) (node side child sibling : ℕ) → CanHang ws node side child → side ≡ 0 → word_of ws node (1 - side) ≡ sibling → CanJoin ws node child sibling
-can_left ws node side child sibling c z w = record {
-  item = c.item;
-  left_tree = c.tree;
-  right_tree = c.sibling;
-  open_node = open_left ws c.tree c.item c.sibling (subst (λ k. IsHanging ws k c.tree c.item c.sibling) z c.hanging);
-  node_is = c.node_is;
-  left_is = c.child_is;
-  right_is = link_there ws node side sibling c.tree c.item c.sibling c.hanging c.node_is w;
-}
+  pub can_right : CanHang ws node side child high → side ≡ 1 → CanJoin ws node sibling sh child high
+  can_right c z = record {
+    item = c.item;
+    left_tree = c.sibling;
+    right_tree = c.tree;
+    open_node = open_right ws c.tree c.item c.sibling (subst (λ k. IsHanging ws k c.tree c.item c.sibling) z c.hanging);
+    node_is = c.node_is;
+    left_is = link_there ws node side sibling c.tree c.item c.sibling c.hanging c.node_is b.link_is;
+    left_high_is = b.high_is;
+    right_is = c.child_is;
+    right_high_is = c.high_is;
+  }
 
-pub can_right : (ws : List ℕ) (node side child sibling : ℕ) → CanHang ws node side child → side ≡ 1 → word_of ws node (1 - side) ≡ sibling → CanJoin ws node sibling child
-can_right ws node side child sibling c z w = record {
-  item = c.item;
-  left_tree = c.sibling;
-  right_tree = c.tree;
-  open_node = open_right ws c.tree c.item c.sibling (subst (λ k. IsHanging ws k c.tree c.item c.sibling) z c.hanging);
-  node_is = c.node_is;
-  right_is = c.child_is;
-  left_is = link_there ws node side sibling c.tree c.item c.sibling c.hanging c.node_is w;
-}
+  pub hangs_left : (now : List ℕ) (top top_high : ℕ) → side ≡ 0 → Joins node child sibling top top_high ws now → Hangs node side child top top_high ws now
+  hangs_left now top top_high z j t x s h e f =
+      subst (λ k. IsHigh ws now (node_on k t x s) (under k t x s) top top_high) (sym z)
+      (j x t s (open_left ws t x s (subst (λ k. IsHanging ws k t x s) z h)) e f (link_there ws node side sibling t x s h e b.link_is))
 
-pub hangs_left : (ws now : List ℕ) (node side child sibling top : ℕ) → side ≡ 0 → word_of ws node (1 - side) ≡ sibling → Joins node child sibling top ws now → Hangs node side child top ws now
-hangs_left ws now node side child sibling top z w j t x s h e f =
-    subst (λ k. IsMade ws now (node_on k t x s) (under k t x s) top) (sym z)
-    (j x t s (open_left ws t x s (subst (λ k. IsHanging ws k t x s) z h)) e f (link_there ws node side sibling t x s h e w))
-
-pub hangs_right : (ws now : List ℕ) (node side child sibling top : ℕ) → side ≡ 1 → word_of ws node (1 - side) ≡ sibling → Joins node sibling child top ws now → Hangs node side child top ws now
-hangs_right ws now node side child sibling top z w j t x s h e f =
-    subst (λ k. IsMade ws now (node_on k t x s) (under k t x s) top) (sym z)
-    (j x s t (open_right ws t x s (subst (λ k. IsHanging ws k t x s) z h)) e (link_there ws node side sibling t x s h e w) f)
+  pub hangs_right : (now : List ℕ) (top top_high : ℕ) → side ≡ 1 → Joins node sibling child top top_high ws now → Hangs node side child top top_high ws now
+  hangs_right now top top_high z j t x s h e f =
+      subst (λ k. IsHigh ws now (node_on k t x s) (under k t x s) top top_high) (sym z)
+      (j x s t (open_right ws t x s (subst (λ k. IsHanging ws k t x s) z h)) e (link_there ws node side sibling t x s h e b.link_is) f)
 
 -- the whole way
 pub spine_kept : (a b : List ℕ) (t : Tree ℕ) (way : List (Turn ℕ)) → SameBut a b t → ((line : ℕ) → times_way line way + times line t ≤ 1) → Spine a way → Spine b way
@@ -114,7 +122,7 @@ spine_kept a b t (turn ∷ way) but once s =
       spine_kept a b t way but (λ k. (let n = once k in omega (arith, n))) s.4,
     )
 
-hanging_is : (ws nodes sides : List ℕ) (depth : ℕ) (turn : Turn ℕ) (way : List (Turn ℕ)) (t : Tree ℕ) (node : ℕ) → IsHung ws nodes sides depth (turn ∷ way) t node → IsHanging ws turn.side t turn.item turn.sibling
+pub hanging_is : (ws nodes sides : List ℕ) (depth : ℕ) (turn : Turn ℕ) (way : List (Turn ℕ)) (t : Tree ℕ) (node : ℕ) → IsHung ws nodes sides depth (turn ∷ way) t node → IsHanging ws turn.side t turn.item turn.sibling
 hanging_is ws nodes sides depth turn way t node h = record {
   some = h.spine.0;
   within = h.spine.1;
@@ -125,13 +133,13 @@ hanging_is ws nodes sides depth turn way t node h = record {
   low = h.low.0;
 }
 
-last_is : (depth : ℕ) (turn : Turn ℕ) (way : List (Turn ℕ)) → length (turn ∷ way) ≡ depth → length way ≡ depth - 1
+pub last_is : (depth : ℕ) (turn : Turn ℕ) (way : List (Turn ℕ)) → length (turn ∷ way) ≡ depth → length way ≡ depth - 1
 last_is depth turn way e = omega arith
 
 -- the node to hang it at
-pub hung_at : (ws nodes sides : List ℕ) (depth : ℕ) (way : List (Turn ℕ)) (t : Tree ℕ) (node : ℕ) → IsHung ws nodes sides depth way t node → 1 ≤ depth → CanHang ws (get_or nodes (depth - 1) 0) (get_or sides (depth - 1) 0) node
-hung_at ws nodes sides depth [] t node h some = absurd (let e = h.long in omega arith)
-hung_at ws nodes sides depth (turn ∷ way) t node h some =
+pub hung_at : (ws nodes sides : List ℕ) (depth : ℕ) (way : List (Turn ℕ)) (t : Tree ℕ) (node high : ℕ) → IsHung ws nodes sides depth way t node → height t ≡ high → 1 ≤ depth → CanHang ws (get_or nodes (depth - 1) 0) (get_or sides (depth - 1) 0) node high
+hung_at ws nodes sides depth [] t node high h tall some = absurd (let e = h.long in omega arith)
+hung_at ws nodes sides depth (turn ∷ way) t node high h tall some =
     let e = last_is depth turn way h.long in
     let s : turn.side ≡ get_or sides (depth - 1) 0 = sym h.noted.1 ∙ ap (λ k. get_or sides k 0) e in
     record {
@@ -141,6 +149,7 @@ hung_at ws nodes sides depth (turn ∷ way) t node h some =
       hanging = subst (λ k. IsHanging ws k t turn.item turn.sibling) s (hanging_is ws nodes sides depth turn way t node h);
       node_is = sym h.noted.0 ∙ ap (λ k. get_or nodes k 0) e;
       child_is = h.root_is;
+      high_is = ap (λ k. high_of k ws) (sym h.root_is) ∙ high_is ws t h.stands ∙ tall;
     }
 
 pub side_at : (ws nodes sides : List ℕ) (depth : ℕ) (way : List (Turn ℕ)) (t : Tree ℕ) (node : ℕ) → IsHung ws nodes sides depth way t node → 1 ≤ depth → get_or sides (depth - 1) 0 < 2
@@ -148,72 +157,3 @@ side_at ws nodes sides depth [] t node h some = absurd (let e = h.long in omega 
 side_at ws nodes sides depth (turn ∷ way) t node h some =
     let e = last_is depth turn way h.long in
     subst (λ k. k < 2) (sym h.noted.1 ∙ ap (λ k. get_or sides k 0) e) h.noted.2
-
-record IsUp (before now nodes sides : List ℕ) (depth : ℕ) (way : List (Turn ℕ)) (t : Tree ℕ) (top : ℕ) : Type 0 where
-  rest : List (Turn ℕ)
-  tree : Tree ℕ
-  hung : IsHung now nodes sides depth rest tree top
-  same : mended rest tree ≡ mended way t
-  lines : (line : ℕ) → times_way line rest + times line tree ≡ times_way line way + times line t
-  but : (big : Tree ℕ) → ((line : ℕ) → times line big ≡ times_way line way + times line t) → SameBut before now big
-
-up : (ws now nodes sides : List ℕ) (depth : ℕ) (way : List (Turn ℕ)) (t : Tree ℕ) (node top : ℕ) → IsHung ws nodes sides depth way t node → 1 ≤ depth → Hangs (get_or nodes (depth - 1) 0) (get_or sides (depth - 1) 0) node top ws now →
-    IsUp ws now nodes sides (depth - 1) way t top
-up ws now nodes sides depth [] t node top h some hangs = absurd (let e = h.long in omega arith)
-up ws now nodes sides depth (turn ∷ way) t node top h some hangs =
-    let e = last_is depth turn way h.long in
-    let s : turn.side ≡ get_or sides (depth - 1) 0 = sym h.noted.1 ∙ ap (λ k. get_or sides k 0) e in
-    let hanging = subst (λ k. IsHanging ws k t turn.item turn.sibling) s (hanging_is ws nodes sides depth turn way t node h) in
-    let m = subst (λ k. IsMade ws now (node_on k t turn.item turn.sibling) (under k t turn.item turn.sibling) top) (sym s)
-    (hangs t turn.item turn.sibling hanging (sym h.noted.0 ∙ ap (λ k. get_or nodes k 0) e) h.root_is) in
-    let on = λ (k : ℕ). times_on k turn.side t turn.item turn.sibling in
-    let un = λ (k : ℕ). under_times k turn.side t turn.item turn.sibling in
-    record {
-      rest = way;
-      tree = under turn.side t turn.item turn.sibling;
-      hung = record {
-        noted = h.noted.3;
-        long = e;
-        spine = spine_kept ws now (node_on turn.side t turn.item turn.sibling) way m.but (λ k. (let n = h.once k in let o = on k in omega (arith, n, o))) h.spine.4;
-        stands = m.stands;
-        root_is = m.root_is;
-        once = λ k. (let n = h.once k in let o = on k in let u = un k in omega (arith, n, o, u));
-        low = h.low.1;
-      };
-      same = refl;
-      lines = λ k. (let o = on k in let u = un k in omega (arith, o, u));
-      but = λ big b. but_more ws now (node_on turn.side t turn.item turn.sibling) big (λ k. (let o = on k in let c = b k in omega (arith, o, c))) m.but;
-    }
-
-pub mending_begins : (ws nodes sides : List ℕ) (depth node : ℕ) → Mending nodes sides depth node depth node ws ws
-mending_begins ws nodes sides depth node way t h = record { rest = way; tree = t; hung = h; same = refl; lines = λ line. refl; but = record { long = refl; same = λ line i l n. refl } }
-
-pub mending_goes_on : (before mid now nodes sides : List ℕ) (depth node rest top next : ℕ) → 1 ≤ rest → Mending nodes sides depth node rest top before mid → Hangs (get_or nodes (rest - 1) 0) (get_or sides (rest - 1) 0) top next mid now →
-    Mending nodes sides depth node (rest - 1) next before now
-mending_goes_on before mid now nodes sides depth node rest top next some m hangs way t h =
-    let a = m way t h in
-    let u = up mid now nodes sides rest a.rest a.tree top next a.hung some hangs in
-    record {
-      rest = u.rest;
-      tree = u.tree;
-      hung = u.hung;
-      same = u.same ∙ a.same;
-      lines = λ k. u.lines k ∙ a.lines k;
-      but = but_then before mid now (whole way t) a.but (u.but (whole way t) (λ k. whole_times k way t ∙ sym (a.lines k)));
-    }
-
-ends : (before now nodes sides : List ℕ) (way : List (Turn ℕ)) (t : Tree ℕ) (top : ℕ) (rest : List (Turn ℕ)) (tree : Tree ℕ) → IsHung now nodes sides 0 rest tree top → mended rest tree ≡ mended way t → SameBut before now (whole way t) →
-    IsMade before now (whole way t) (mended way t) top
-ends before now nodes sides way t top [] tree h e b = record { stands = subst (Stands now) e h.stands; root_is = ap root (sym e) ∙ h.root_is; but = b }
-ends before now nodes sides way t top (turn ∷ rest) tree h e b = absurd (let l = h.long in omega arith)
-
-pub mending_ends : (before now nodes sides : List ℕ) (depth node top : ℕ) → Mending nodes sides depth node 0 top before now → Mends nodes sides depth node top before now
-mending_ends before now nodes sides depth node top m way t h = (let a = m way t h in ends before now nodes sides way t top a.rest a.tree a.hung a.same a.but)
-
--- what every words that may stand allow
-pub can_go_on : (before mid nodes sides : List ℕ) (depth node rest top : ℕ) → CanMend before nodes sides depth node → Mending nodes sides depth node rest top before mid → 1 ≤ rest →
-    CanHang mid (get_or nodes (rest - 1) 0) (get_or sides (rest - 1) 0) top
-can_go_on before mid nodes sides depth node rest top c m some = (let a = m c.way c.tree c.hung in hung_at mid nodes sides rest a.rest a.tree top a.hung some)
-
-pub side_below : (before mid nodes sides : List ℕ) (depth node rest top : ℕ) → CanMend before nodes sides depth node → Mending nodes sides depth node rest top before mid → 1 ≤ rest → get_or sides (rest - 1) 0 < 2
-side_below before mid nodes sides depth node rest top c m some = (let a = m c.way c.tree c.hung in side_at mid nodes sides rest a.rest a.tree top a.hung some)

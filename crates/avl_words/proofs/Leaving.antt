@@ -10,14 +10,15 @@ use Rattle.avl_tree.proofs.Spots.{spot_whole}
 use Rattle.avl_words.specs.Changes.{IsThere, CanTake, Takes, HasTwo, IsBelow, CanDescend, IsLeast, Descends, IsGone, IsOut, Raises, IsDescending}
 use Rattle.avl_words.specs.Lines.{word_of, IsWithin, with_word}
 use Rattle.avl_words.specs.Words.{root, times, Stands, IsNoted}
-use Rattle.avl_words.specs.Links.{SameBut}
-use Rattle.avl_words.specs.Mending.{CanMend, Mends}
+use Rattle.avl_words.specs.Links.{high_of, SameBut, IsMade}
+use Rattle.avl_words.specs.Mending.{Settled, CanMend, Mends}
 use Rattle.avl_words.specs.Exact.{with_tree}
 use Rattle.avl_words.proofs.ExactWords.{only_words}
-use Rattle.avl_words.proofs.Frames.{but_then, but_more}
+use Rattle.avl_words.proofs.Frames.{but_then, but_more, link_but}
 use Rattle.avl_words.proofs.Hanging.{whole_times, mended_times}
 use Rattle.avl_words.proofs.Putting.{spine_of, low_way}
-use Rattle.avl_words.proofs.Taking.{link_but, gone_hung, least_is_there, times_both}
+use Rattle.avl_words.proofs.Taking.{gone_hung, gone_settled, least_is_there, times_both}
+use Rattle.avl_words.proofs.Relinking.{settled_of}
 use Rattle.avl_words.proofs.Walks.{stands_at, noted_set, spot_depth}
 
 -- the node of a turn noted is another
@@ -110,7 +111,7 @@ module _ (ws nodes sides : List ℕ) (depth node left right : ℕ) (way : List (
     pub left_is : word_of ws node 0 ≡ left
     pub right_is : word_of ws node 1 ≡ right
 
-  one_gone : (l : Tree ℕ) (x : ℕ) (r c : Tree ℕ) → IsAtEnd (Node l x r) → Stands ws c → Balanced c → IsLevel (height (Node l x r)) (height c) → ((line : ℕ) → times line c ≤ times line (Node l x r)) → IsGone ws ws nodes sides depth (root c) way c
+  one_gone : (l : Tree ℕ) (x : ℕ) (r c : Tree ℕ) → IsAtEnd (Node l x r) → Stands ws c → Balanced c → IsLevel (height (Node l x r)) (height c) → ((line : ℕ) → times line c ≤ times line (Node l x r)) → IsGone ws ws nodes sides depth depth (root c) way c
   one_gone l x r c e s b level le = record {
     hung = record {
       noted = e.noted;
@@ -121,23 +122,24 @@ module _ (ws nodes sides : List ℕ) (depth node left right : ℕ) (way : List (
       once = λ k. (let o = e.once k in let w = whole_times k way (Node l x r) in let m = le k in omega (arith, o, w, m));
       low = low_way way (Node l x r) c e.balanced b level (let h = e.low in omega arith);
     };
+    settled_way = settled_of ws nodes sides depth way (Node l x r) e.noted e.stands e.balanced;
     but = record { long = refl; same = λ line i l h. refl };
   }
 
-  pub left_out : (here : Tree ℕ) → IsAtEnd here → left ≡ 0 → IsOut ws ws nodes sides depth right way here
+  pub left_out : (here : Tree ℕ) → IsAtEnd here → left ≡ 0 → IsOut ws ws nodes sides depth depth right way here
   left_out Empty e z = tt
   left_out (Node Empty x r) e z =
       let s = stands_at ws way (Node Empty x r) e.stands in
       let b = balanced_at way (Node Empty x r) e.balanced in
       let level = b.0 in
       let is : root r ≡ right = sym s.0.right_is ∙ ap (λ n. word_of ws n 1) (sym e.node_is) ∙ e.right_is in
-      subst (λ n. IsGone ws ws nodes sides depth n way r) is (one_gone Empty x r r e s.2 b.2 (record { left = omega arith; right = omega arith }) (λ k. omega arith))
+      subst (λ n. IsGone ws ws nodes sides depth depth n way r) is (one_gone Empty x r r e s.2 b.2 (record { left = omega arith; right = omega arith }) (λ k. omega arith))
   left_out (Node (Node a y c) x r) e z =
       let s = stands_at ws way (Node (Node a y c) x r) e.stands in
       let is : y ≡ left = sym s.0.left_is ∙ ap (λ n. word_of ws n 0) (sym e.node_is) ∙ e.left_is in
       absurd (let some = s.1.0.some in omega arith)
 
-  pub right_out : (here : Tree ℕ) → IsAtEnd here → left ≢ 0 → right ≡ 0 → IsOut ws ws nodes sides depth left way here
+  pub right_out : (here : Tree ℕ) → IsAtEnd here → left ≢ 0 → right ≡ 0 → IsOut ws ws nodes sides depth depth left way here
   right_out Empty e n z = tt
   right_out (Node Empty x r) e n z =
       let s = stands_at ws way (Node Empty x r) e.stands in
@@ -147,7 +149,7 @@ module _ (ws nodes sides : List ℕ) (depth node left right : ℕ) (way : List (
       let b = balanced_at way (Node (Node a y c) x Empty) e.balanced in
       let level = b.0 in
       let is : y ≡ left = sym s.0.left_is ∙ ap (λ k. word_of ws k 0) (sym e.node_is) ∙ e.left_is in
-      subst (λ k. IsGone ws ws nodes sides depth k way (Node a y c)) is (one_gone (Node a y c) x Empty (Node a y c) e s.1 b.1 (record { left = omega arith; right = omega arith }) (λ k. omega arith))
+      subst (λ k. IsGone ws ws nodes sides depth depth k way (Node a y c)) is (one_gone (Node a y c) x Empty (Node a y c) e s.1 b.1 (record { left = omega arith; right = omega arith }) (λ k. omega arith))
   right_out (Node (Node a y c) x (Node u v w)) e n z =
       let s = stands_at ws way (Node (Node a y c) x (Node u v w)) e.stands in
       let is : v ≡ right = sym s.0.right_is ∙ ap (λ k. word_of ws k 1) (sym e.node_is) ∙ e.right_is in
@@ -224,7 +226,7 @@ module _ (ws nodes sides : List ℕ) (depth node left right : ℕ) (way : List (
 
     pub raised : (nodes_now sides_now : List ℕ) (depth_now m rest : ℕ) (now : List ℕ) → length nodes_now ≡ 64 →
         IsLeast nodes_now sides_now depth_now m (record { side = 1; item = p.x; sibling = Node p.a p.y p.b } ∷ way) p.c p.z p.d → word_of ws m 1 ≡ rest → now ≡ with_word m 0 left ws →
-        IsOut ws now (set nodes_now depth m) sides_now depth_now rest way here
+        IsOut ws now (set nodes_now depth m) sides_now depth_now depth rest way here
     raised nodes_now sides_now depth_now m rest now long l word is =
         let q = least [] p.c p.z p.d in
         let up : List (Turn ℕ) = record { side = 1; item = q.item; sibling = Node p.a p.y p.b } ∷ way in
@@ -235,11 +237,12 @@ module _ (ws nodes sides : List ℕ) (depth node left right : ℕ) (way : List (
         (subst (λ k. IsNoted (set nodes_now k m) sides_now (q.way ++ record { side = 1; item = m; sibling = Node p.a p.y p.b } ∷ way)) e.long (noted_other nodes_now sides_now q.way way p.x m (Node p.a p.y p.b) (omega (arith, e.long, room_two, long)) l.noted)) in
         let same : length (q.way ++ up) ≡ depth_now = (let a = length-append q.way up in let b = length-append q.way (record { side = 1; item = p.x; sibling = Node p.a p.y p.b } ∷ way) in let c = l.long in omega (arith, a, b, c)) in
         let hung = gone_hung ws (set nodes_now depth m) sides_now depth_now way p.a p.y p.b p.x p.c p.z p.d e.stands e.balanced e.once e.low noted same in
+        let settled = subst (λ n. Settled (with_word q.item 0 p.y ws) n (q.way ++ up)) e.long (gone_settled ws nodes sides depth way p.a p.y p.b p.x p.c p.z p.d e.stands e.balanced e.once e.low e.noted) in
         let but : SameBut ws (with_word q.item 0 p.y ws) (whole (q.way ++ up) q.rest) = but_more ws (with_word q.item 0 p.y ws) (Node Empty q.item Empty) (whole (q.way ++ up) q.rest)
-        (λ k. (let w = whole_times k (q.way ++ up) q.rest in let t = times_both k q.way up in omega (arith, w, t))) (link_but ws q.item p.y) in
-        subst (IsOut ws now (set nodes_now depth m) sides_now depth_now rest way) (sym p.is)
-        (subst (λ k. IsGone ws now (set nodes_now depth m) sides_now depth_now k (q.way ++ up) q.rest) rest_is
-        (subst (λ v. IsGone ws v (set nodes_now depth m) sides_now depth_now (root q.rest) (q.way ++ up) q.rest) words (record { hung = hung; but = but })))
+        (λ k. (let w = whole_times k (q.way ++ up) q.rest in let t = times_both k q.way up in omega (arith, w, t))) (link_but ws q.item 0 p.y (lit< tt)) in
+        subst (IsOut ws now (set nodes_now depth m) sides_now depth_now depth rest way) (sym p.is)
+        (subst (λ k. IsGone ws now (set nodes_now depth m) sides_now depth_now depth k (q.way ++ up) q.rest) rest_is
+        (subst (λ v. IsGone ws v (set nodes_now depth m) sides_now depth_now depth (root q.rest) (q.way ++ up) q.rest) words (record { hung = hung; settled_way = settled; but = but })))
 
 -- as the code runs
 pub at_end : (ws nodes sides : List ℕ) (order : ℕ → Ordering) (depth node left right : ℕ) (t : Tree ℕ) → IsThere ws nodes sides order depth node t → word_of ws node 0 ≡ left → word_of ws node 1 ≡ right →
@@ -259,46 +262,61 @@ at_end ws nodes sides order depth node left right t i l r =
     }
 
 -- from what is to hang there to the whole
-out_words : (ws mid now nodes sides : List ℕ) (depth rest top : ℕ) (way : List (Turn ℕ)) (here : Tree ℕ) → here ≢ Empty → IsOut ws mid nodes sides depth rest way here → Mends nodes sides depth rest top mid now →
+out_made : (ws mid now nodes sides : List ℕ) (depth settled rest high top : ℕ) (way : List (Turn ℕ)) (l : Tree ℕ) (x : ℕ) (r : Tree ℕ) → IsOut ws mid nodes sides depth settled rest way (Node l x r) → high_of rest mid ≡ high → Mends nodes sides depth settled rest high top mid now →
+    IsMade mid now (whole (gone_way way l r) (gone_rest l r)) (mended (gone_way way l r) (gone_rest l r)) top
+out_made ws mid now nodes sides depth settled rest high top way l x r o tall m = m (gone_way way l r) (gone_rest l r) o.hung tall o.settled_way
+
+out_words : (ws mid now nodes sides : List ℕ) (depth settled rest high top : ℕ) (way : List (Turn ℕ)) (here : Tree ℕ) → here ≢ Empty → IsOut ws mid nodes sides depth settled rest way here → high_of rest mid ≡ high → Mends nodes sides depth settled rest high top mid now →
     with_word 0 1 top now ≡ with_tree (with_out way here) ws
 unfolding with_tree
-out_words ws mid now nodes sides depth rest top way Empty n o m = absurd (n refl)
-out_words ws mid now nodes sides depth rest top way (Node l x r) n o m =
+out_words ws mid now nodes sides depth settled rest high top way Empty n o tall m = absurd (n refl)
+out_words ws mid now nodes sides depth settled rest high top way (Node l x r) n o tall m =
     let v = gone_way way l r in
     let c = gone_rest l r in
-    let made = m v c o.hung in
+    let made = out_made ws mid now nodes sides depth settled rest high top way l x r o tall m in
     let but : SameBut ws now (mended v c) = but_more ws now (whole v c) (mended v c) (λ k. (let a = mended_times k v c in let b = whole_times k v c in omega (arith, a, b))) (but_then ws mid now (whole v c) o.but made.but) in
     ap (λ k. with_word 0 1 k now) (sym made.root_is) ∙ ap (with_word 0 1 (root (mended v c))) (only_words ws now (mended v c) but made.stands)
 
 not_empty : (t : Tree ℕ) (node : ℕ) → node ≡ root t → node ≢ 0 → t ≢ Empty
 not_empty t node e n = λ f. n (e ∙ ap root f)
 
-pub takes : (ws mid now last nodes sides nodes_now sides_now : List ℕ) (depth node left right depth_now rest top : ℕ) → word_of ws node 0 ≡ left → word_of ws node 1 ≡ right → Raises nodes sides depth node left right nodes_now sides_now depth_now rest ws mid →
-    Mends nodes_now sides_now depth_now rest top mid now → last ≡ with_word 0 1 top now → Takes nodes sides depth node ws last
-takes ws mid now last nodes sides nodes_now sides_now depth node left right depth_now rest top l r u m e order t i =
-    e ∙ out_words ws mid now nodes_now sides_now depth_now rest top (spot order [] t).0 (spot order [] t).1 (not_empty (spot order [] t).1 node i.spot.node_is i.some) (u order t i l r) m
+pub takes : (ws mid now last nodes sides nodes_now sides_now : List ℕ) (depth node left right depth_now rest high top : ℕ) → word_of ws node 0 ≡ left → word_of ws node 1 ≡ right → Raises nodes sides depth node left right nodes_now sides_now depth_now rest ws mid →
+    high_of rest mid ≡ high → Mends nodes_now sides_now depth_now depth rest high top mid now → last ≡ with_word 0 1 top now → Takes nodes sides depth node ws last
+takes ws mid now last nodes sides nodes_now sides_now depth node left right depth_now rest high top l r u tall m e order t i =
+    e ∙ out_words ws mid now nodes_now sides_now depth_now depth rest high top (spot order [] t).0 (spot order [] t).1 (not_empty (spot order [] t).1 node i.spot.node_is i.some) (u order t i l r) tall m
 
-out_hung : (ws mid nodes sides : List ℕ) (depth rest : ℕ) (way : List (Turn ℕ)) (here : Tree ℕ) → here ≢ Empty → IsOut ws mid nodes sides depth rest way here → CanMend mid nodes sides depth rest
-out_hung ws mid nodes sides depth rest way Empty n o = absurd (n refl)
-out_hung ws mid nodes sides depth rest way (Node l x r) n o = record { way = gone_way way l r; tree = gone_rest l r; hung = o.hung }
+out_hung : (ws mid nodes sides : List ℕ) (depth settled rest high : ℕ) (way : List (Turn ℕ)) (here : Tree ℕ) → here ≢ Empty → IsOut ws mid nodes sides depth settled rest way here → high_of rest mid ≡ high → CanMend mid nodes sides depth settled rest high
+out_hung ws mid nodes sides depth settled rest high way Empty n o tall = absurd (n refl)
+out_hung ws mid nodes sides depth settled rest high way (Node l x r) n o tall = record { way = gone_way way l r; tree = gone_rest l r; hung = o.hung; high_is = tall; settled_way = o.settled_way }
 
-pub can_mend_out : (ws mid nodes sides nodes_now sides_now : List ℕ) (depth node left right depth_now rest : ℕ) → HasTwo ws nodes sides depth node left right → Raises nodes sides depth node left right nodes_now sides_now depth_now rest ws mid →
-    CanMend mid nodes_now sides_now depth_now rest
-can_mend_out ws mid nodes sides nodes_now sides_now depth node left right depth_now rest h u =
+pub can_mend_out : (ws mid nodes sides nodes_now sides_now : List ℕ) (depth node left right depth_now rest high : ℕ) → HasTwo ws nodes sides depth node left right → Raises nodes sides depth node left right nodes_now sides_now depth_now rest ws mid →
+    high_of rest mid ≡ high → CanMend mid nodes_now sides_now depth_now depth rest high
+can_mend_out ws mid nodes sides nodes_now sides_now depth node left right depth_now rest high h u tall =
     let i = h.can.there in
-    out_hung ws mid nodes_now sides_now depth_now rest (spot h.can.order [] h.can.tree).0 (spot h.can.order [] h.can.tree).1 (not_empty (spot h.can.order [] h.can.tree).1 node i.spot.node_is i.some) (u h.can.order h.can.tree i h.left_is h.right_is)
+    out_hung ws mid nodes_now sides_now depth_now depth rest high (spot h.can.order [] h.can.tree).0 (spot h.can.order [] h.can.tree).1 (not_empty (spot h.can.order [] h.can.tree).1 node i.spot.node_is i.some) (u h.can.order h.can.tree i h.left_is h.right_is) tall
 
-out_long : (ws mid now nodes sides : List ℕ) (depth rest top : ℕ) (way : List (Turn ℕ)) (here : Tree ℕ) → here ≢ Empty → IsOut ws mid nodes sides depth rest way here → Mends nodes sides depth rest top mid now → length now ≡ length ws
-out_long ws mid now nodes sides depth rest top way Empty n o m = absurd (n refl)
-out_long ws mid now nodes sides depth rest top way (Node l x r) n o m = (m (gone_way way l r) (gone_rest l r) o.hung).but.long ∙ o.but.long
+-- what is to hang there is a node that is there, or nothing
+pub rest_there : (ws mid nodes sides nodes_now sides_now : List ℕ) (depth node left right depth_now rest : ℕ) → HasTwo ws nodes sides depth node left right → Raises nodes sides depth node left right nodes_now sides_now depth_now rest ws mid →
+    rest ≢ 0 → IsWithin mid rest
+rest_there ws mid nodes sides nodes_now sides_now depth node left right depth_now rest h u n =
+    (let c = can_mend_out ws mid nodes sides nodes_now sides_now depth node left right depth_now rest (high_of rest mid) h u refl in at_root c.tree c.hung.stands c.hung.root_is)
+  where
+    at_root : (t : Tree ℕ) → Stands mid t → root t ≡ rest → IsWithin mid rest
+    at_root Empty s e = absurd (n (sym e))
+    at_root (Node l x r) s e = subst (IsWithin mid) e s.0.within
 
-pub out_header : (ws mid now nodes sides nodes_now sides_now : List ℕ) (depth node left right depth_now rest top : ℕ) → HasTwo ws nodes sides depth node left right → Raises nodes sides depth node left right nodes_now sides_now depth_now rest ws mid →
-    Mends nodes_now sides_now depth_now rest top mid now → IsWithin now 0
-out_header ws mid now nodes sides nodes_now sides_now depth node left right depth_now rest top h u m =
-    let i = h.can.there in
-    let header = i.header in
-    let long = out_long ws mid now nodes_now sides_now depth_now rest top (spot h.can.order [] h.can.tree).0 (spot h.can.order [] h.can.tree).1 (not_empty (spot h.can.order [] h.can.tree).1 node i.spot.node_is i.some) (u h.can.order h.can.tree i h.left_is h.right_is) m in
+pub out_header : (ws mid now nodes sides nodes_now sides_now : List ℕ) (depth node left right depth_now rest high top : ℕ) → HasTwo ws nodes sides depth node left right → Raises nodes sides depth node left right nodes_now sides_now depth_now rest ws mid →
+    high_of rest mid ≡ high → Mends nodes_now sides_now depth_now depth rest high top mid now → IsWithin now 0
+out_header ws mid now nodes sides nodes_now sides_now depth node left right depth_now rest high top h u tall m =
+    let header = h.can.there.header in
+    let c = can_mend_out ws mid nodes sides nodes_now sides_now depth node left right depth_now rest high h u tall in
+    let long = (m c.way c.tree c.hung c.high_is c.settled_way).but.long in
+    let before = out_kept (spot h.can.order [] h.can.tree).1 (not_empty (spot h.can.order [] h.can.tree).1 node h.can.there.spot.node_is h.can.there.some) (u h.can.order h.can.tree h.can.there h.left_is h.right_is) in
     omega arith
+  where
+    out_kept : (here : Tree ℕ) → here ≢ Empty → IsOut ws mid nodes_now sides_now depth_now depth rest (spot h.can.order [] h.can.tree).0 here → length mid ≡ length ws
+    out_kept Empty n o = absurd (n refl)
+    out_kept (Node l x r) n o = o.but.long
 
 pub node_there : (ws nodes sides : List ℕ) (depth node : ℕ) → CanTake ws nodes sides depth node → IsWithin ws node
 node_there ws nodes sides depth node c =
@@ -313,19 +331,19 @@ node_there ws nodes sides depth node c =
 pub take_depth : (ws nodes sides : List ℕ) (depth node : ℕ) → CanTake ws nodes sides depth node → depth ≤ 64
 take_depth ws nodes sides depth node c = spot_depth ws c.order c.tree c.there.tree nodes sides depth node c.there.spot
 
-pub takes_from : (x y mid now last nodes sides nodes_now sides_now : List ℕ) (depth node left right depth_now rest top : ℕ) → y ≡ x → HasTwo y nodes sides depth node left right → Raises nodes sides depth node left right nodes_now sides_now depth_now rest y mid →
-    Mends nodes_now sides_now depth_now rest top mid now → last ≡ with_word 0 1 top now → Takes nodes sides depth node x last
-takes_from x y mid now last nodes sides nodes_now sides_now depth node left right depth_now rest top e h u m l =
-    subst (λ w. Takes nodes sides depth node w last) e (takes y mid now last nodes sides nodes_now sides_now depth node left right depth_now rest top h.left_is h.right_is u m l)
+pub takes_from : (x y mid now last nodes sides nodes_now sides_now : List ℕ) (depth node left right depth_now rest high top : ℕ) → y ≡ x → HasTwo y nodes sides depth node left right → Raises nodes sides depth node left right nodes_now sides_now depth_now rest y mid →
+    high_of rest mid ≡ high → Mends nodes_now sides_now depth_now depth rest high top mid now → last ≡ with_word 0 1 top now → Takes nodes sides depth node x last
+takes_from x y mid now last nodes sides nodes_now sides_now depth node left right depth_now rest high top e h u tall m l =
+    subst (λ w. Takes nodes sides depth node w last) e (takes y mid now last nodes sides nodes_now sides_now depth node left right depth_now rest high top h.left_is h.right_is u tall m l)
 
 pub one_raises_left : (x y nodes sides : List ℕ) (depth node left right : ℕ) → x ≡ y → left ≡ 0 → Raises nodes sides depth node left right nodes sides depth right x y
 one_raises_left x y nodes sides depth node left right e z order t i l r =
-    subst (λ w. IsOut x w nodes sides depth right (spot order [] t).0 (spot order [] t).1) e
+    subst (λ w. IsOut x w nodes sides depth depth right (spot order [] t).0 (spot order [] t).1) e
     (left_out x nodes sides depth node left right (spot order [] t).0 (spot order [] t).1 (at_end x nodes sides order depth node left right t i l r) z)
 
 pub one_raises_right : (x y nodes sides : List ℕ) (depth node left right : ℕ) → x ≡ y → left ≢ 0 → right ≡ 0 → Raises nodes sides depth node left right nodes sides depth left x y
 one_raises_right x y nodes sides depth node left right e n z order t i l r =
-    subst (λ w. IsOut x w nodes sides depth left (spot order [] t).0 (spot order [] t).1) e
+    subst (λ w. IsOut x w nodes sides depth depth left (spot order [] t).0 (spot order [] t).1) e
     (right_out x nodes sides depth node left right (spot order [] t).0 (spot order [] t).1 (at_end x nodes sides order depth node left right t i l r) n z)
 
 -- the end of the loop is never reached: no tree goes down so far

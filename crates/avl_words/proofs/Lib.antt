@@ -5,6 +5,8 @@ pub mod Joining
 pub mod Hanging
 pub mod ExactWords
 pub mod Walks
+pub mod Relinking
+pub mod Rising
 pub mod Putting
 pub mod Taking
 pub mod Leaving

@@ -12,10 +12,11 @@ use Rattle.avl_words.specs.Lines.{word_of, IsWithin, with_word}
 use Rattle.avl_words.specs.Words.{root, times, IsNode, Stands, IsTree, IsSpot}
 use Rattle.avl_words.specs.Links.{IsMade}
 use Rattle.avl_words.specs.Changes.{CanPut, Puts}
-use Rattle.avl_words.specs.Mending.{Spine, IsLow, IsHung, CanMend, Mends}
+use Rattle.avl_words.specs.Mending.{Spine, IsLow, IsHung, Settled, CanMend, Mends}
 use Rattle.avl_words.specs.Exact.{with_tree}
 use Rattle.avl_words.proofs.Walks.{stands_at, spot_depth}
-use Rattle.avl_words.proofs.Frames.{times_most, times_other, stands_same, but_more}
+use Rattle.avl_words.proofs.Frames.{times_most, times_other, stands_same, but_more, high_is}
+use Rattle.avl_words.proofs.Relinking.{settled_of}
 use Rattle.avl_words.proofs.ExactWords.{only_words}
 use Rattle.avl_words.proofs.Hanging.{whole_times, mended_times}
 
@@ -100,6 +101,10 @@ module _ (ws nodes sides : List ℕ) (order : ℕ → Ordering) (depth node : �
         low = low_way way Empty (Node Empty node Empty) (subst Balanced (sym gap_whole) i.balanced) (record { left = lit≤ tt; right = lit≤ tt }, tt, tt) (record { left = lit≤ tt; right = lit≤ tt }) (omega arith);
       }
 
+  -- the nodes of the way stand
+  pub settled_leaf : Settled ws depth (spot order [] t).0
+  settled_leaf = settled_of ws nodes sides depth (spot order [] t).0 Empty o.noted (subst (Stands ws) (sym gap_whole) i.stands) (subst Balanced (sym gap_whole) i.balanced)
+
   new_times : (k : ℕ) → times k (with_new order node t) ≡ times k t + cond (eqb node k) 1 0
   new_times k =
       let m = mended_times k (spot order [] t).0 (Node Empty node Empty) in
@@ -128,22 +133,30 @@ module _ (ws nodes sides : List ℕ) (order : ℕ → Ordering) (depth node : �
       (λ k. (let e = mended_times k (spot order [] t).0 (Node Empty node Empty) in let w = whole_times k (spot order [] t).0 (Node Empty node Empty) in omega (arith, e, w))) m
 
 -- as the code runs
-pub can_mend_leaf : (ws nodes sides : List ℕ) (depth node : ℕ) → CanPut ws nodes sides depth node → CanMend ws nodes sides depth node
+pub can_mend_leaf : (ws nodes sides : List ℕ) (depth node : ℕ) → CanPut ws nodes sides depth node → CanMend ws nodes sides depth depth node 1
 can_mend_leaf ws nodes sides depth node c =
     let b = c.beside in
-    record { way = (spot c.order [] c.tree).0; tree = Node Empty node Empty; hung = hung_leaf ws nodes sides c.order depth node c.tree b.tree b.spot b.leaf b.apart }
+    let h = hung_leaf ws nodes sides c.order depth node c.tree b.tree b.spot b.leaf b.apart in
+    record {
+      way = (spot c.order [] c.tree).0;
+      tree = Node Empty node Empty;
+      hung = h;
+      high_is = high_is ws (Node Empty node Empty) h.stands;
+      settled_way = settled_leaf ws nodes sides c.order depth node c.tree b.tree b.spot b.leaf b.apart;
+    }
 
 pub put_depth : (ws nodes sides : List ℕ) (depth node : ℕ) → CanPut ws nodes sides depth node → depth ≤ 64
 put_depth ws nodes sides depth node c = spot_depth ws c.order c.tree c.beside.tree nodes sides depth 0 c.beside.spot
 
-pub put_header : (ws now nodes sides : List ℕ) (depth node top : ℕ) → CanPut ws nodes sides depth node → Mends nodes sides depth node top ws now → IsWithin now 0
+pub put_header : (ws now nodes sides : List ℕ) (depth node top : ℕ) → CanPut ws nodes sides depth node → Mends nodes sides depth depth node 1 top ws now → IsWithin now 0
 put_header ws now nodes sides depth node top c m =
     let h = can_mend_leaf ws nodes sides depth node c in
     let header = c.beside.header in
-    let long = (m h.way h.tree h.hung).but.long in
+    let long = (m h.way h.tree h.hung h.high_is h.settled_way).but.long in
     omega arith
 
-pub puts : (ws now last nodes sides : List ℕ) (depth node top : ℕ) → Mends nodes sides depth node top ws now → last ≡ with_word 0 1 top now → Puts nodes sides depth node ws last
+pub puts : (ws now last nodes sides : List ℕ) (depth node top : ℕ) → Mends nodes sides depth depth node 1 top ws now → last ≡ with_word 0 1 top now → Puts nodes sides depth node ws last
 puts ws now last nodes sides depth node top m e order t b =
+    let h = hung_leaf ws nodes sides order depth node t b.tree b.spot b.leaf b.apart in
     e ∙ new_words ws nodes sides order depth node t b.tree b.spot b.leaf b.apart now top
-    (m (spot order [] t).0 (Node Empty node Empty) (hung_leaf ws nodes sides order depth node t b.tree b.spot b.leaf b.apart))
+    (m (spot order [] t).0 (Node Empty node Empty) h (high_is ws (Node Empty node Empty) h.stands) (settled_leaf ws nodes sides order depth node t b.tree b.spot b.leaf b.apart))

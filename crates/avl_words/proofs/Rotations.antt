@@ -1,20 +1,24 @@
 -- What the writes of a rotation make of a tree.
-use Rattle.std.proofs.Common.{◌≡◌, ◌^◌, ◌+◌, ◌-◌, ◌<◌, ◌≤◌, max, ℕ, zero, suc, cond, eqb, leb, List, refl, sym, ap, subst, ◌∙◌, arith}
+use Rattle.std.proofs.Common.{◌≡◌, ◌≢◌, ◌^◌, ◌+◌, ◌-◌, ◌<◌, ◌≤◌, max, ℕ, zero, suc, cond, eqb, leb, List, refl, sym, ap, subst, ◌∙◌, arith}
 use Rattle.std.proofs.lemmas.Bool.{cond-true, cond-false, le-leb, lt-leb}
 use Rattle.avl_tree.specs.Tree.{Tree, Empty, Node, height, node_on, inner_up, child_up, rotated}
 use Rattle.avl_words.specs.Lines.{word_of, IsWithin}
 use Rattle.avl_words.specs.Words.{root, times, IsNode, Stands}
-use Rattle.avl_words.specs.Links.{high_of, with_node, IsLink, CanSet, SameBut, IsOpen, IsMade, CanRotate, Rotates}
+use Rattle.avl_words.specs.Links.{high_of, with_node, IsLink, CanSet, SameBut, IsOpen, IsHigh, CanRotate, Rotates}
 use Rattle.avl_tree.proofs.Trees.{height_on}
 use Rattle.avl_words.proofs.Frames.{times_self, times_on, root_on, stands_set, high_is, IsThere, there_set, stands_on, but_set, but_then}
 
 -- a link to a tree that stands
-pub link_is : (ws : List ℕ) (t : Tree ℕ) (node : ℕ) → Stands ws t → root t ≡ node → height t ≤ 2 ^ 32 → IsLink ws node
-link_is ws Empty node s e low = record { there = λ n. absurd (n (sym e)); low = subst (λ n. high_of n ws ≤ 2 ^ 32) e low }
-link_is ws (Node l x r) node s e low = record {
-  there = λ n. subst (IsWithin ws) e s.0.within;
-  low = subst (λ n. high_of n ws ≤ 2 ^ 32) e (subst (λ h. h ≤ 2 ^ 32) (sym (high_is ws (Node l x r) s)) low);
+pub link_is : (ws : List ℕ) (t : Tree ℕ) (node : ℕ) → Stands ws t → root t ≡ node → height t ≤ 2 ^ 32 → IsLink ws node (height t)
+link_is ws t node s e low = record {
+  there = λ n. root_there t s e n;
+  high_is = ap (λ n. high_of n ws) (sym e) ∙ high_is ws t s;
+  low = low;
 }
+  where
+    root_there : (t : Tree ℕ) → Stands ws t → root t ≡ node → node ≢ 0 → IsWithin ws node
+    root_there Empty s e n = absurd (n (sym e))
+    root_there (Node l x r) s e n = subst (IsWithin ws) e s.0.within
 
 -- the trees around a node and its higher child
 pub record IsView (ws : List ℕ) (side : ℕ) (t : Tree ℕ) (x : ℕ) (s : Tree ℕ) (a : Tree ℕ) (y : ℕ) (b : Tree ℕ) : Type 0 where
@@ -94,7 +98,7 @@ view_of ws (suc (suc k)) node child low outer inner (Node u y v) x s l o e f g h
 
 module _ (ws : List ℕ) (side : ℕ) (t : Tree ℕ) (x : ℕ) (s : Tree ℕ) (a : Tree ℕ) (y : ℕ) (b : Tree ℕ) (l : side < 2) (w : IsView ws side t x s a y b) where
   -- the child goes up: the node first
-  pub single_first : CanSet ws x (root b) (root s)
+  pub single_first : CanSet ws x (root b) (height b) (root s) (height s)
   single_first = (let m = w.bound in record { there = w.x_there.within; first = link_is ws b (root b) w.b_stands refl (omega arith); second = link_is ws s (root s) w.s_stands refl (omega arith) })
 
   single_mid : Stands (with_node x side (root b) (root s) ws) (node_on side b x s)
@@ -103,7 +107,7 @@ module _ (ws : List ℕ) (side : ℕ) (t : Tree ℕ) (x : ℕ) (s : Tree ℕ) (a
   single_outer : Stands (with_node x side (root b) (root s) ws) a
   single_outer = stands_set x side (root b) (root s) ws a l (omega (arith, w.once x, times_self x)) w.a_stands
 
-  pub single_second : CanSet (with_node x side (root b) (root s) ws) y (root a) x
+  pub single_second : CanSet (with_node x side (root b) (root s) ws) y (root a) (height a) x (height (node_on side b x s))
   single_second = (let m = w.bound in let h = height_on side b x s in record {
     there = (there_set x side (root b) (root s) ws y l w.y_there).within;
     first = link_is (with_node x side (root b) (root s) ws) a (root a) single_outer refl (omega arith);
@@ -122,13 +126,16 @@ module _ (ws : List ℕ) (side : ℕ) (t : Tree ℕ) (x : ℕ) (s : Tree ℕ) (a
       (but_set x side (root b) (root s) ws (Node t x s) l (omega (arith, w.lines x, times_self x)))
       (but_set y side (root a) x (with_node x side (root b) (root s) ws) (Node t x s) l (omega (arith, w.lines y, times_self y)))
 
-  pub single_made : height b ≤ height a → IsMade ws (with_node y side (root a) x (with_node x side (root b) (root s) ws)) (Node t x s) (rotated side t x s) y
+  pub single_made : height b ≤ height a → IsHigh ws (with_node y side (root a) x (with_node x side (root b) (root s) ws)) (Node t x s) (rotated side t x s) y (1 + max (height a) (height (node_on side b x s)))
   single_made le =
       let e : rotated side t x s ≡ node_on side a y (node_on side b x s) = w.turns ∙ cond-true (leb (height b) (height a)) (node_on side a y (node_on side b x s)) (inner_up side a y b x s) (le-leb (height b) (height a) le) in
       record {
-        stands = subst (Stands (with_node y side (root a) x (with_node x side (root b) (root s) ws))) (sym e) single_stands;
-        root_is = ap root e ∙ root_on side a y (node_on side b x s);
-        but = single_but;
+        made = record {
+          stands = subst (Stands (with_node y side (root a) x (with_node x side (root b) (root s) ws))) (sym e) single_stands;
+          root_is = ap root e ∙ root_on side a y (node_on side b x s);
+          but = single_but;
+        };
+        high_is = ap height e ∙ height_on side a y (node_on side b x s);
       }
 
 -- the trees of the inner child, which goes up
@@ -194,7 +201,7 @@ module _ (ws : List ℕ) (side : ℕ) (t : Tree ℕ) (x : ℕ) (s : Tree ℕ) (a
   once_all line = omega (arith, w.once line, i.lines line)
 
   -- the child first
-  pub double_first : CanSet ws y (root a) (root n)
+  pub double_first : CanSet ws y (root a) (height a) (root n) (height n)
   double_first = (let m = w.bound in let h = i.high in record { there = w.y_there.within; first = link_is ws a (root a) w.a_stands refl (omega arith); second = link_is ws n (root n) i.n_stands refl (omega arith) })
 
   abbrev one : List ℕ
@@ -209,7 +216,7 @@ module _ (ws : List ℕ) (side : ℕ) (t : Tree ℕ) (x : ℕ) (s : Tree ℕ) (a
   first_made : Stands one (node_on side a y n)
   first_made = stands_on side a y n ws l w.y_there w.a_stands i.n_stands (omega (arith, once_all y, times_self y)) (omega (arith, once_all y, times_self y))
 
-  pub double_second : CanSet one x (root f) (root s)
+  pub double_second : CanSet one x (root f) (height f) (root s) (height s)
   double_second = (let m = w.bound in let h = i.high in record {
     there = (there_set y side (root a) (root n) ws x l w.x_there).within;
     first = link_is one f (root f) (stands_set y side (root a) (root n) ws f l (omega (arith, once_all y, times_self y)) i.f_stands) refl (omega arith);
@@ -229,7 +236,7 @@ module _ (ws : List ℕ) (side : ℕ) (t : Tree ℕ) (x : ℕ) (s : Tree ℕ) (a
   z_kept : IsThere two z
   z_kept = there_set x side (root f) (root s) one z l (there_set y side (root a) (root n) ws z l i.z_there)
 
-  pub double_third : CanSet two z y x
+  pub double_third : CanSet two z y (height (node_on side a y n)) x (height (node_on side f x s))
   double_third = (let m = w.bound in let h = i.high in let j = height_on side a y n in let k = height_on side f x s in record {
     there = z_kept.within;
     first = link_is two (node_on side a y n) y first_kept (root_on side a y n) (omega arith);
@@ -251,14 +258,17 @@ module _ (ws : List ℕ) (side : ℕ) (t : Tree ℕ) (x : ℕ) (s : Tree ℕ) (a
       (but_set x side (root f) (root s) one (Node t x s) l (omega (arith, w.lines x, times_self x))))
       (but_set z side y x two (Node t x s) l (omega (arith, w.lines z, i.lines z, times_self z)))
 
-  pub double_made : height a < height b → IsMade ws three (Node t x s) (rotated side t x s) z
+  pub double_made : height a < height b → IsHigh ws three (Node t x s) (rotated side t x s) z (1 + max (height (node_on side a y n)) (height (node_on side f x s)))
   double_made lt =
       let e : rotated side t x s ≡ node_on side (node_on side a y n) z (node_on side f x s)
       = w.turns ∙ cond-false (leb (height b) (height a)) (node_on side a y (node_on side b x s)) (inner_up side a y b x s) (lt-leb (height b) (height a) lt) ∙ i.turns a y x s in
       record {
-        stands = subst (Stands three) (sym e) third_made;
-        root_is = ap root e ∙ root_on side (node_on side a y n) z (node_on side f x s);
-        but = double_but;
+        made = record {
+          stands = subst (Stands three) (sym e) third_made;
+          root_is = ap root e ∙ root_on side (node_on side a y n) z (node_on side f x s);
+          but = double_but;
+        };
+        high_is = ap height e ∙ height_on side (node_on side a y n) z (node_on side f x s);
       }
 
 -- what the loads of a rotation gave
@@ -268,97 +278,148 @@ pub record IsSeen (ws : List ℕ) (side child outer inner outer_height inner_hei
   pub outer_high : high_of outer ws ≡ outer_height
   pub inner_high : high_of inner ws ≡ inner_height
 
-can_same : (ws vs : List ℕ) (a b c d e f : ℕ) → ws ≡ vs → a ≡ d → b ≡ e → c ≡ f → CanSet ws a b c → CanSet vs d e f
-can_same ws vs a b c d e f p q r t h = subst (λ v. CanSet v d e f) p (subst (λ n. CanSet ws n e f) q (subst (λ n. CanSet ws a n f) r (subst (CanSet ws a b) t h)))
+can_same : (ws vs : List ℕ) (a b bh c ch d e eh f fh : ℕ) → ws ≡ vs → a ≡ d → b ≡ e → bh ≡ eh → c ≡ f → ch ≡ fh → CanSet ws a b bh c ch → CanSet vs d e eh f fh
+can_same ws vs a b bh c ch d e eh f fh p q r s t u h =
+    subst (λ v. CanSet v d e eh f fh) p (subst (λ n. CanSet ws n e eh f fh) q (subst (λ n. CanSet ws a n eh f fh) r (subst (λ n. CanSet ws a b n f fh) s (subst (λ n. CanSet ws a b bh n fh) t (subst (CanSet ws a b bh c) u h)))))
 
 seen_view : (ws : List ℕ) (side node child low outer inner oh ih : ℕ) (t : Tree ℕ) (x : ℕ) (s : Tree ℕ) → side < 2 → IsSeen ws side child outer inner oh ih → IsOpen ws t x s → x ≡ node → root t ≡ child → root s ≡ low →
     height s + 2 ≤ height t → HasView ws side node child low outer inner t x s
 seen_view ws side node child low outer inner oh ih t x s l seen o e f g h = view_of ws side node child low outer inner t x s l o e f g h seen.outer_is seen.inner_is
 
-can_view : (ws : List ℕ) (side node child low outer inner oh ih : ℕ) (c : CanRotate ws node side child low) → side < 2 → IsSeen ws side child outer inner oh ih → HasView ws side node child low outer inner c.high_tree c.item c.low_tree
-can_view ws side node child low outer inner oh ih c l seen = seen_view ws side node child low outer inner oh ih c.high_tree c.item c.low_tree l seen c.open_node c.node_is c.child_is c.low_is c.higher
+-- the height below a link is that of the tree
+pub height_seen : (ws : List ℕ) (t : Tree ℕ) (n h : ℕ) → Stands ws t → root t ≡ n → high_of n ws ≡ h → height t ≡ h
+height_seen ws t n h s e f = sym (high_is ws t s) ∙ ap (λ k. high_of k ws) e ∙ f
 
--- the heights that were seen are those of the trees
-heights_seen : (ws : List ℕ) (side node child low outer inner oh ih : ℕ) (t : Tree ℕ) (x : ℕ) (s : Tree ℕ) → IsSeen ws side child outer inner oh ih → (v : HasView ws side node child low outer inner t x s) →
-    (height v.a ≡ oh) × (height v.b ≡ ih)
-heights_seen ws side node child low outer inner oh ih t x s seen v =
-    (sym (high_is ws v.a v.view.a_stands) ∙ ap (λ n. high_of n ws) v.outer_is ∙ seen.outer_high, sym (high_is ws v.b v.view.b_stands) ∙ ap (λ n. high_of n ws) v.inner_is ∙ seen.inner_high)
+-- a rotation of trees, as its loads saw them
+record IsSeenView (ws : List ℕ) (side node child low low_height outer inner oh ih : ℕ) (t : Tree ℕ) (x : ℕ) (s : Tree ℕ) : Type 0 where
+  has : HasView ws side node child low outer inner t x s
+  outer_high : height has.a ≡ oh
+  inner_high : height has.b ≡ ih
+  low_high : height s ≡ low_height
+  lower_high : height (node_on side has.b x s) ≡ 1 + max ih low_height
+
+see_view : (ws : List ℕ) (side node child low lh outer inner oh ih : ℕ) (t : Tree ℕ) (x : ℕ) (s : Tree ℕ) → side < 2 → IsSeen ws side child outer inner oh ih → IsOpen ws t x s → x ≡ node → root t ≡ child → root s ≡ low →
+    high_of low ws ≡ lh → height s + 2 ≤ height t → IsSeenView ws side node child low lh outer inner oh ih t x s
+see_view ws side node child low lh outer inner oh ih t x s l seen o e f g low_is h =
+    let v = seen_view ws side node child low outer inner oh ih t x s l seen o e f g h in
+    let i = height_seen ws v.b inner ih v.view.b_stands v.inner_is seen.inner_high in
+    let k = height_seen ws s low lh o.right g low_is in
+    record {
+      has = v;
+      outer_high = height_seen ws v.a outer oh v.view.a_stands v.outer_is seen.outer_high;
+      inner_high = i;
+      low_high = k;
+      lower_high = height_on side v.b x s ∙ ap (λ n. 1 + max n (height s)) i ∙ ap (λ n. 1 + max ih n) k;
+    }
+
+can_view : (ws : List ℕ) (side node child low lh outer inner oh ih : ℕ) (c : CanRotate ws node side child low lh) → side < 2 → IsSeen ws side child outer inner oh ih → IsSeenView ws side node child low lh outer inner oh ih c.high_tree c.item c.low_tree
+can_view ws side node child low lh outer inner oh ih c l seen = see_view ws side node child low lh outer inner oh ih c.high_tree c.item c.low_tree l seen c.open_node c.node_is c.child_is c.low_is c.high_is c.higher
 
 -- a single rotation, as the code runs it
-pub runs_single_first : (ws : List ℕ) (side node child low outer inner oh ih : ℕ) → side < 2 → CanRotate ws node side child low → IsSeen ws side child outer inner oh ih → CanSet ws node inner low
-runs_single_first ws side node child low outer inner oh ih l c seen =
-    let v = can_view ws side node child low outer inner oh ih c l seen in
-    can_same ws ws c.item (root v.b) (root c.low_tree) node inner low refl v.node_is v.inner_is v.low_is (single_first ws side c.high_tree c.item c.low_tree v.a v.y v.b l v.view)
+pub runs_single_first : (ws : List ℕ) (side node child low lh outer inner oh ih : ℕ) → side < 2 → CanRotate ws node side child low lh → IsSeen ws side child outer inner oh ih → CanSet ws node inner ih low lh
+runs_single_first ws side node child low lh outer inner oh ih l c seen =
+    let w = can_view ws side node child low lh outer inner oh ih c l seen in
+    let v = w.has in
+    can_same ws ws c.item (root v.b) (height v.b) (root c.low_tree) (height c.low_tree) node inner ih low lh refl v.node_is v.inner_is w.inner_high v.low_is w.low_high (single_first ws side c.high_tree c.item c.low_tree v.a v.y v.b l v.view)
 
 single_words : (ws : List ℕ) (side a b c d e f g h i j : ℕ) → a ≡ f → b ≡ g → c ≡ h → d ≡ i → e ≡ j → with_node a side b c (with_node c side d e ws) ≡ with_node f side g h (with_node h side i j ws)
 single_words ws side a b c d e f g h i j p q r s t = cc
 
-pub runs_single_second : (ws : List ℕ) (side node child low outer inner oh ih : ℕ) → side < 2 → CanRotate ws node side child low → IsSeen ws side child outer inner oh ih →
-    CanSet (with_node node side inner low ws) child outer node
-runs_single_second ws side node child low outer inner oh ih l c seen =
-    let v = can_view ws side node child low outer inner oh ih c l seen in
+pub runs_single_second : (ws : List ℕ) (side node child low lh outer inner oh ih lower lower_high : ℕ) → side < 2 → CanRotate ws node side child low lh → IsSeen ws side child outer inner oh ih → lower ≡ node → lower_high ≡ 1 + max ih lh →
+    CanSet (with_node node side inner low ws) child outer oh lower lower_high
+runs_single_second ws side node child low lh outer inner oh ih lower lower_high l c seen is high =
+    let w = can_view ws side node child low lh outer inner oh ih c l seen in
+    let v = w.has in
     let e : with_node c.item side (root v.b) (root c.low_tree) ws ≡ with_node node side inner low ws = (let p = v.node_is in let q = v.inner_is in let r = v.low_is in cc) in
-    can_same (with_node c.item side (root v.b) (root c.low_tree) ws) (with_node node side inner low ws) v.y (root v.a) c.item child outer node e v.child_is v.outer_is v.node_is
+    can_same (with_node c.item side (root v.b) (root c.low_tree) ws) (with_node node side inner low ws) v.y (root v.a) (height v.a) c.item (height (node_on side v.b c.item c.low_tree)) child outer oh lower lower_high
+    e v.child_is v.outer_is w.outer_high (v.node_is ∙ sym is) (w.lower_high ∙ sym high)
     (single_second ws side c.high_tree c.item c.low_tree v.a v.y v.b l v.view)
 
-pub runs_single : (ws : List ℕ) (side node child low outer inner oh ih : ℕ) → side < 2 → IsSeen ws side child outer inner oh ih → ih ≤ oh →
-    Rotates node side child low child ws (with_node child side outer node (with_node node side inner low ws))
-runs_single ws side node child low outer inner oh ih l seen le x t s o e f g h =
-    let v = seen_view ws side node child low outer inner oh ih t x s l seen o e f g h in
-    let k = heights_seen ws side node child low outer inner oh ih t x s seen v in
-    subst (λ n. IsMade ws (with_node child side outer node (with_node node side inner low ws)) (Node t x s) (rotated side t x s) n) v.child_is
-    (subst (λ now. IsMade ws now (Node t x s) (rotated side t x s) v.y)
-    (single_words ws side v.y (root v.a) x (root v.b) (root s) child outer node inner low v.child_is v.outer_is v.node_is v.inner_is v.low_is)
-    (single_made ws side t x s v.a v.y v.b l v.view (let i = k.0 in let j = k.1 in omega arith)))
+pub runs_single : (ws : List ℕ) (side node child low lh outer inner oh ih lower top_high : ℕ) → side < 2 → high_of low ws ≡ lh → IsSeen ws side child outer inner oh ih → ih ≤ oh → lower ≡ node → top_high ≡ 1 + max oh (1 + max ih lh) →
+    Rotates node side child low child top_high ws (with_node child side outer lower (with_node node side inner low ws))
+runs_single ws side node child low lh outer inner oh ih lower top_high l low_is seen le is high x t s o e f g h =
+    let w = see_view ws side node child low lh outer inner oh ih t x s l seen o e f g low_is h in
+    let v = w.has in
+    let words : with_node v.y side (root v.a) x (with_node x side (root v.b) (root s) ws) ≡ with_node child side outer lower (with_node node side inner low ws) =
+    single_words ws side v.y (root v.a) x (root v.b) (root s) child outer node inner low v.child_is v.outer_is v.node_is v.inner_is v.low_is ∙ ap (λ n. with_node child side outer n (with_node node side inner low ws)) (sym is) in
+    let tall : 1 + max (height v.a) (height (node_on side v.b x s)) ≡ top_high = ap (λ n. 1 + max n (height (node_on side v.b x s))) w.outer_high ∙ ap (λ n. 1 + max oh n) w.lower_high ∙ sym high in
+    subst (λ n. IsHigh ws (with_node child side outer lower (with_node node side inner low ws)) (Node t x s) (rotated side t x s) n top_high) v.child_is
+    (subst (λ n. IsHigh ws (with_node child side outer lower (with_node node side inner low ws)) (Node t x s) (rotated side t x s) v.y n) tall
+    (subst (λ now. IsHigh ws now (Node t x s) (rotated side t x s) v.y (1 + max (height v.a) (height (node_on side v.b x s)))) words
+    (single_made ws side t x s v.a v.y v.b l v.view (let i = w.outer_high in let j = w.inner_high in omega arith))))
 
 -- a double rotation
-pub record IsSeenInner (ws : List ℕ) (side inner near far : ℕ) : Type 0 where
+pub record IsSeenInner (ws : List ℕ) (side inner near far near_height far_height : ℕ) : Type 0 where
   pub near_is : word_of ws inner side ≡ near
   pub far_is : word_of ws inner (1 - side) ≡ far
+  pub near_high : high_of near ws ≡ near_height
+  pub far_high : high_of far ws ≡ far_height
 
-inner_view : (ws : List ℕ) (side node child low outer inner near far oh ih : ℕ) (t : Tree ℕ) (x : ℕ) (s : Tree ℕ) → side < 2 → IsSeen ws side child outer inner oh ih → IsSeenInner ws side inner near far → oh < ih →
-    (v : HasView ws side node child low outer inner t x s) → HasInner ws side inner near far v.b
-inner_view ws side node child low outer inner near far oh ih t x s l seen more lt v =
-    let k = heights_seen ws side node child low outer inner oh ih t x s seen v in
-    inner_of ws side inner near far v.b l v.view.b_stands v.inner_is (let j = k.1 in omega arith) more.near_is more.far_is
+record IsInnerView (ws : List ℕ) (side inner near far nh fh lh oh : ℕ) (a : Tree ℕ) (y : ℕ) (b : Tree ℕ) (x : ℕ) (s : Tree ℕ) : Type 0 where
+  has : HasInner ws side inner near far b
+  near_high : height has.n ≡ nh
+  far_high : height has.f ≡ fh
+  first_high : height (node_on side a y has.n) ≡ 1 + max oh nh
+  second_high : height (node_on side has.f x s) ≡ 1 + max fh lh
 
-pub runs_double_first : (ws : List ℕ) (side node child low outer inner near far oh ih : ℕ) → side < 2 → CanRotate ws node side child low → IsSeen ws side child outer inner oh ih → IsSeenInner ws side inner near far → oh < ih →
-    CanSet ws child outer near
-runs_double_first ws side node child low outer inner near far oh ih l c seen more lt =
-    let v = can_view ws side node child low outer inner oh ih c l seen in
-    let i = inner_view ws side node child low outer inner near far oh ih c.high_tree c.item c.low_tree l seen more lt v in
-    can_same ws ws v.y (root v.a) (root i.n) child outer near refl v.child_is v.outer_is i.near_is (double_first ws side c.high_tree c.item c.low_tree v.a v.y v.b i.n i.z i.f l v.view i.is)
-
-pub runs_double_second : (ws : List ℕ) (side node child low outer inner near far oh ih : ℕ) → side < 2 → CanRotate ws node side child low → IsSeen ws side child outer inner oh ih → IsSeenInner ws side inner near far → oh < ih →
-    CanSet (with_node child side outer near ws) node far low
-runs_double_second ws side node child low outer inner near far oh ih l c seen more lt =
-    let v = can_view ws side node child low outer inner oh ih c l seen in
-    let i = inner_view ws side node child low outer inner near far oh ih c.high_tree c.item c.low_tree l seen more lt v in
-    let e : with_node v.y side (root v.a) (root i.n) ws ≡ with_node child side outer near ws = (let p = v.child_is in let q = v.outer_is in let r = i.near_is in cc) in
-    can_same (with_node v.y side (root v.a) (root i.n) ws) (with_node child side outer near ws) c.item (root i.f) (root c.low_tree) node far low e v.node_is i.far_is v.low_is
-    (double_second ws side c.high_tree c.item c.low_tree v.a v.y v.b i.n i.z i.f l v.view i.is)
+inner_view : (ws : List ℕ) (side node child low lh outer inner near far oh ih nh fh : ℕ) (t : Tree ℕ) (x : ℕ) (s : Tree ℕ) → side < 2 → IsSeenInner ws side inner near far nh fh → oh < ih →
+    (w : IsSeenView ws side node child low lh outer inner oh ih t x s) → IsInnerView ws side inner near far nh fh lh oh w.has.a w.has.y w.has.b x s
+inner_view ws side node child low lh outer inner near far oh ih nh fh t x s l more lt w =
+    let v = w.has in
+    let i = inner_of ws side inner near far v.b l v.view.b_stands v.inner_is (let j = w.inner_high in omega arith) more.near_is more.far_is in
+    let n = height_seen ws i.n near nh i.is.n_stands i.near_is more.near_high in
+    let f = height_seen ws i.f far fh i.is.f_stands i.far_is more.far_high in
+    record {
+      has = i;
+      near_high = n;
+      far_high = f;
+      first_high = height_on side v.a v.y i.n ∙ ap (λ k. 1 + max k (height i.n)) w.outer_high ∙ ap (λ k. 1 + max oh k) n;
+      second_high = height_on side i.f x s ∙ ap (λ k. 1 + max k (height s)) f ∙ ap (λ k. 1 + max fh k) w.low_high;
+    }
 
 double_two : (ws : List ℕ) (side a b c d e f g h i j k l : ℕ) → a ≡ g → b ≡ h → c ≡ i → d ≡ j → e ≡ k → f ≡ l → with_node a side b c (with_node d side e f ws) ≡ with_node g side h i (with_node j side k l ws)
 double_two ws side a b c d e f g h i j k l p q r s t u = cc
 
-pub runs_double_third : (ws : List ℕ) (side node child low outer inner near far oh ih : ℕ) → side < 2 → CanRotate ws node side child low → IsSeen ws side child outer inner oh ih → IsSeenInner ws side inner near far → oh < ih →
-    CanSet (with_node node side far low (with_node child side outer near ws)) inner child node
-runs_double_third ws side node child low outer inner near far oh ih l c seen more lt =
-    let v = can_view ws side node child low outer inner oh ih c l seen in
-    let i = inner_view ws side node child low outer inner near far oh ih c.high_tree c.item c.low_tree l seen more lt v in
-    can_same (with_node c.item side (root i.f) (root c.low_tree) (with_node v.y side (root v.a) (root i.n) ws)) (with_node node side far low (with_node child side outer near ws)) i.z v.y c.item inner child node
-    (double_two ws side c.item (root i.f) (root c.low_tree) v.y (root v.a) (root i.n) node far low child outer near v.node_is i.far_is v.low_is v.child_is v.outer_is i.near_is) i.z_is v.child_is v.node_is
-    (double_third ws side c.high_tree c.item c.low_tree v.a v.y v.b i.n i.z i.f l v.view i.is)
+module _ (ws : List ℕ) (side node child low lh outer inner near far oh ih nh fh : ℕ) (l : side < 2) (c : CanRotate ws node side child low lh) (seen : IsSeen ws side child outer inner oh ih) (more : IsSeenInner ws side inner near far nh fh) (lt : oh < ih) where
+  abbrev w : IsSeenView ws side node child low lh outer inner oh ih c.high_tree c.item c.low_tree
+  w = can_view ws side node child low lh outer inner oh ih c l seen
 
-pub runs_double : (ws : List ℕ) (side node child low outer inner near far oh ih : ℕ) → side < 2 → IsSeen ws side child outer inner oh ih → IsSeenInner ws side inner near far → oh < ih →
-    Rotates node side child low inner ws (with_node inner side child node (with_node node side far low (with_node child side outer near ws)))
-runs_double ws side node child low outer inner near far oh ih l seen more lt x t s o e f g h =
-    let v = seen_view ws side node child low outer inner oh ih t x s l seen o e f g h in
-    let k = heights_seen ws side node child low outer inner oh ih t x s seen v in
-    let i = inner_view ws side node child low outer inner near far oh ih t x s l seen more lt v in
+  abbrev i : IsInnerView ws side inner near far nh fh lh oh w.has.a w.has.y w.has.b c.item c.low_tree
+  i = inner_view ws side node child low lh outer inner near far oh ih nh fh c.high_tree c.item c.low_tree l more lt w
+
+  pub runs_double_first : CanSet ws child outer oh near nh
+  runs_double_first =
+      can_same ws ws w.has.y (root w.has.a) (height w.has.a) (root i.has.n) (height i.has.n) child outer oh near nh refl w.has.child_is w.has.outer_is w.outer_high i.has.near_is i.near_high
+      (double_first ws side c.high_tree c.item c.low_tree w.has.a w.has.y w.has.b i.has.n i.has.z i.has.f l w.has.view i.has.is)
+
+  pub runs_double_second : CanSet (with_node child side outer near ws) node far fh low lh
+  runs_double_second =
+      let e : with_node w.has.y side (root w.has.a) (root i.has.n) ws ≡ with_node child side outer near ws = (let p = w.has.child_is in let q = w.has.outer_is in let r = i.has.near_is in cc) in
+      can_same (with_node w.has.y side (root w.has.a) (root i.has.n) ws) (with_node child side outer near ws) c.item (root i.has.f) (height i.has.f) (root c.low_tree) (height c.low_tree) node far fh low lh e w.has.node_is i.has.far_is i.far_high w.has.low_is w.low_high
+      (double_second ws side c.high_tree c.item c.low_tree w.has.a w.has.y w.has.b i.has.n i.has.z i.has.f l w.has.view i.has.is)
+
+  pub runs_double_third : (first first_high second second_high : ℕ) → first ≡ child → first_high ≡ 1 + max oh nh → second ≡ node → second_high ≡ 1 + max fh lh →
+      CanSet (with_node node side far low (with_node child side outer near ws)) inner first first_high second second_high
+  runs_double_third first first_high second second_high p q r s =
+      can_same (with_node c.item side (root i.has.f) (root c.low_tree) (with_node w.has.y side (root w.has.a) (root i.has.n) ws)) (with_node node side far low (with_node child side outer near ws))
+      i.has.z w.has.y (height (node_on side w.has.a w.has.y i.has.n)) c.item (height (node_on side i.has.f c.item c.low_tree)) inner first first_high second second_high
+      (double_two ws side c.item (root i.has.f) (root c.low_tree) w.has.y (root w.has.a) (root i.has.n) node far low child outer near w.has.node_is i.has.far_is w.has.low_is w.has.child_is w.has.outer_is i.has.near_is)
+      i.has.z_is (w.has.child_is ∙ sym p) (i.first_high ∙ sym q) (w.has.node_is ∙ sym r) (i.second_high ∙ sym s)
+      (double_third ws side c.high_tree c.item c.low_tree w.has.a w.has.y w.has.b i.has.n i.has.z i.has.f l w.has.view i.has.is)
+
+pub runs_double : (ws : List ℕ) (side node child low lh outer inner near far oh ih nh fh first second top_high : ℕ) → side < 2 → high_of low ws ≡ lh → IsSeen ws side child outer inner oh ih → IsSeenInner ws side inner near far nh fh → oh < ih →
+    first ≡ child → second ≡ node → top_high ≡ 1 + max (1 + max oh nh) (1 + max fh lh) →
+    Rotates node side child low inner top_high ws (with_node inner side first second (with_node node side far low (with_node child side outer near ws)))
+runs_double ws side node child low lh outer inner near far oh ih nh fh first second top_high l low_is seen more lt first_is second_is high x t s o e f g h =
+    let w = see_view ws side node child low lh outer inner oh ih t x s l seen o e f g low_is h in
+    let v = w.has in
+    let j = inner_view ws side node child low lh outer inner near far oh ih nh fh t x s l more lt w in
+    let i = j.has in
     let two = double_two ws side x (root i.f) (root s) v.y (root v.a) (root i.n) node far low child outer near v.node_is i.far_is v.low_is v.child_is v.outer_is i.near_is in
     let all : with_node i.z side v.y x (with_node x side (root i.f) (root s) (with_node v.y side (root v.a) (root i.n) ws))
-    ≡ with_node inner side child node (with_node node side far low (with_node child side outer near ws)) = (let p = i.z_is in let q = v.child_is in let r = v.node_is in cc) in
-    subst (λ n. IsMade ws (with_node inner side child node (with_node node side far low (with_node child side outer near ws))) (Node t x s) (rotated side t x s) n) i.z_is
-    (subst (λ now. IsMade ws now (Node t x s) (rotated side t x s) i.z) all
-    (double_made ws side t x s v.a v.y v.b i.n i.z i.f l v.view i.is (let u = k.0 in let j = k.1 in omega arith)))
+    ≡ with_node inner side first second (with_node node side far low (with_node child side outer near ws)) = (let p = i.z_is in let q = v.child_is in let r = v.node_is in cc) in
+    let tall : 1 + max (height (node_on side v.a v.y i.n)) (height (node_on side i.f x s)) ≡ top_high = ap (λ n. 1 + max n (height (node_on side i.f x s))) j.first_high ∙ ap (λ n. 1 + max (1 + max oh nh) n) j.second_high ∙ sym high in
+    subst (λ n. IsHigh ws (with_node inner side first second (with_node node side far low (with_node child side outer near ws))) (Node t x s) (rotated side t x s) n top_high) i.z_is
+    (subst (λ n. IsHigh ws (with_node inner side first second (with_node node side far low (with_node child side outer near ws))) (Node t x s) (rotated side t x s) i.z n) tall
+    (subst (λ now. IsHigh ws now (Node t x s) (rotated side t x s) i.z (1 + max (height (node_on side v.a v.y i.n)) (height (node_on side i.f x s)))) all
+    (double_made ws side t x s v.a v.y v.b i.n i.z i.f l v.view i.is (let u = w.outer_high in let k = w.inner_high in omega arith))))

@@ -1,16 +1,15 @@
 -- A node with two children is taken out by one write and one way up: the least node behind it takes its place on the way.
-use Rattle.std.proofs.Common.{◌≡◌, ◌≢◌, ◌+◌, ◌*◌, ◌≤◌, inl, inr, max, ℕ, cond, eqb, List, [], ◌∷◌, ◌++◌, length, refl, sym, ap, subst, ◌∙◌, get_or-set_same, get_or-set_other, arith}
-use Rattle.std.proofs.Math.ListN.{length-set}
+use Rattle.std.proofs.Common.{◌≡◌, ◌+◌, ◌*◌, ◌≤◌, max, ℕ, cond, eqb, List, [], ◌∷◌, ◌++◌, length, refl, sym, ap, subst, ◌∙◌, get_or-set_same, arith, lit<}
 use Rattle.avl_tree.specs.Tree.{Tree, Empty, Node, height, Balanced, node_on}
 use Rattle.avl_tree.specs.Ways.{Turn, whole}
 use Rattle.avl_words.specs.Lines.{with_word}
 use Rattle.avl_words.specs.Words.{root, times, Stands, IsNoted}
-use Rattle.avl_words.specs.Links.{SameBut}
-use Rattle.avl_words.specs.Mending.{Spine, times_way, IsHung}
+use Rattle.avl_words.specs.Mending.{Spine, times_way, IsHung, Settled}
+use Rattle.avl_words.proofs.Relinking.{settled_of, settled_kept, settled_behind}
 use Rattle.avl_tree.specs.Removal.{Least, least}
 use Rattle.avl_tree.proofs.Trees.{height_on, balanced_at}
 use Rattle.avl_words.proofs.Walks.{stands_at}
-use Rattle.avl_words.proofs.Frames.{times_self, stands_apart}
+use Rattle.avl_words.proofs.Frames.{stands_apart, link_but}
 use Rattle.avl_words.proofs.Hanging.{whole_times, spine_kept}
 use Rattle.avl_words.proofs.Putting.{spine_of, low_way}
 use Rattle.avl_tree.proofs.Removing.{least_whole, balanced_in, whole_both}
@@ -28,16 +27,6 @@ heights_in [] s t e = e
 heights_in (turn ∷ way) s t e =
     heights_in way (node_on turn.side s turn.item turn.sibling) (node_on turn.side t turn.item turn.sibling)
     (height_on turn.side s turn.item turn.sibling ∙ ap (λ h. 1 + max h (height turn.sibling)) e ∙ sym (height_on turn.side t turn.item turn.sibling))
-
--- one link of a node
-pub link_but : (ws : List ℕ) (m : ℕ) (v : ℕ) → SameBut ws (with_word m 0 v ws) (Node Empty m Empty)
-link_but ws m v = record {
-  long = length-set ws (8 * m + 0) v;
-  same = λ k i l h. get_or-set_other ws (8 * m + 0) (8 * k + i) v 0 (elim h as (λ _. 8 * k + i ≢ 8 * m + 0) [
-    | inl none ↦ (λ e. absurd (let s : k ≡ m = omega arith in let n = subst (λ j. times j (Node Empty m Empty) ≡ 0) s none in let o = times_self m in omega (arith, n, o)))
-    | inr far ↦ (λ e. absurd (omega arith))
-  ]);
-}
 
 module _ (ws nodes sides : List ℕ) (depth : ℕ) (way : List (Turn ℕ)) (a : Tree ℕ) (y : ℕ) (b : Tree ℕ) (x : ℕ) (c : Tree ℕ) (z : ℕ) (d : Tree ℕ)
     (s : Stands ws (whole way (Node (Node a y b) x (Node c z d)))) (w : Balanced (whole way (Node (Node a y b) x (Node c z d)))) (once : (k : ℕ) → times k (whole way (Node (Node a y b) x (Node c z d))) ≤ 1)
@@ -70,7 +59,7 @@ module _ (ws nodes sides : List ℕ) (depth : ℕ) (way : List (Turn ℕ)) (a : 
 
   pub gone_hung : IsNoted nodes sides (q.way ++ up_way) → length (q.way ++ up_way) ≡ depth → IsHung now nodes sides depth (q.way ++ up_way) q.rest (root q.rest)
   gone_hung noted long =
-      let but = link_but ws q.item (root (Node a y b)) in
+      let but = link_but ws q.item 0 (root (Node a y b)) (lit< tt) in
       let e : whole (q.way ++ up_way) (Node Empty q.item q.rest) ≡ whole way (Node (Node a y b) q.item (Node c z d)) = whole_both q.way up_way (Node Empty q.item q.rest) ∙ ap (whole up_way) (least_whole [] c z d) in
       let h = balanced_at way (Node (Node a y b) x (Node c z d)) w in
       let all = subst Balanced (sym e) (balanced_in way (Node (Node a y b) x (Node c z d)) (Node (Node a y b) q.item (Node c z d)) refl (h.0, h.1, h.2) w) in
@@ -92,3 +81,10 @@ module _ (ws nodes sides : List ℕ) (depth : ℕ) (way : List (Turn ℕ)) (a : 
         low = low_way (q.way ++ up_way) (Node Empty q.item q.rest) q.rest all rest.2 (record { left = omega arith; right = omega arith })
             (let f = ap height e in let g = heights_in way (Node (Node a y b) q.item (Node c z d)) (Node (Node a y b) x (Node c z d)) refl in omega (arith, f, g, high));
       }
+
+  -- the nodes above the one taken out stand as they did
+  pub gone_settled : IsNoted nodes sides way → Settled now (length way) (q.way ++ up_way)
+  gone_settled noted =
+      settled_behind now q.way (record { side = 1; item = q.item; sibling = Node a y b }) way
+      (settled_kept ws now nodes sides (Node Empty q.item Empty) (length way) way (link_but ws q.item 0 (root (Node a y b)) (lit< tt)) noted (λ k. (let o = counted k in omega (arith, o)))
+      (settled_of ws nodes sides (length way) way (Node (Node a y b) x (Node c z d)) noted s w))

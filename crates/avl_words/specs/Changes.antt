@@ -7,7 +7,7 @@ use Rattle.avl_tree.specs.Removal.{least, gone_way, gone_rest, without}
 use Rattle.avl_words.specs.Lines.{word_of}
 use Rattle.avl_words.specs.Words.{times, IsNode, Stands, IsTree, IsNoted, IsSpot}
 use Rattle.avl_words.specs.Links.{SameBut}
-use Rattle.avl_words.specs.Mending.{IsHung}
+use Rattle.avl_words.specs.Mending.{IsHung, Settled}
 use Rattle.avl_words.specs.Exact.{with_tree}
 
 -- a walk ended at nothing, and a leaf beside the tree is to go there
@@ -75,18 +75,19 @@ Descends nodes sides depth node nodes_now sides_now depth_now node_now words =
     (way : List (Turn ℕ)) (c : Tree ℕ) (z : ℕ) (d : Tree ℕ) → IsBelow words nodes sides depth node way c z d → IsLeast nodes_now sides_now depth_now node_now way c z d
 
 -- a tree is to hang at the end of a way, to stand for the one without a node
-pub record IsGone (before now nodes sides : List ℕ) (depth node : ℕ) (way : List (Turn ℕ)) (t : Tree ℕ) : Type 0 where
+pub record IsGone (before now nodes sides : List ℕ) (depth settled node : ℕ) (way : List (Turn ℕ)) (t : Tree ℕ) : Type 0 where
   pub hung : IsHung now nodes sides depth way t node
+  pub settled_way : Settled now settled way
   pub but : SameBut before now (whole way t)
 
-abbrev pub IsOut : List ℕ → List ℕ → List ℕ → List ℕ → ℕ → ℕ → List (Turn ℕ) → Tree ℕ → Type 0
-IsOut before now nodes sides depth node way Empty = Unit {0}
-IsOut before now nodes sides depth node way (Node l x r) = IsGone before now nodes sides depth node (gone_way way l r) (gone_rest l r)
+abbrev pub IsOut : List ℕ → List ℕ → List ℕ → List ℕ → ℕ → ℕ → ℕ → List (Turn ℕ) → Tree ℕ → Type 0
+IsOut before now nodes sides depth settled node way Empty = Unit {0}
+IsOut before now nodes sides depth settled node way (Node l x r) = IsGone before now nodes sides depth settled node (gone_way way l r) (gone_rest l r)
 
 abbrev pub Raises : List ℕ → List ℕ → ℕ → ℕ → ℕ → ℕ → List ℕ → List ℕ → ℕ → ℕ → List ℕ → List ℕ → Type 0
 Raises nodes sides depth node left right nodes_now sides_now depth_now rest before now =
     (order : ℕ → Ordering) (t : Tree ℕ) → IsThere before nodes sides order depth node t → word_of before node 0 ≡ left → word_of before node 1 ≡ right →
-    IsOut before now nodes_now sides_now depth_now rest (spot order [] t).0 (spot order [] t).1
+    IsOut before now nodes_now sides_now depth_now depth rest (spot order [] t).0 (spot order [] t).1
 
 -- so far down
 pub record IsDescending (words nodes sides : List ℕ) (depth node : ℕ) (way : List (Turn ℕ)) (c : Tree ℕ) (z : ℕ) (d : Tree ℕ) : Type 0 where

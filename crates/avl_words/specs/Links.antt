@@ -14,15 +14,26 @@ unfoldable pub with_node : ℕ → ℕ → ℕ → ℕ → List ℕ → List ℕ
 with_node line side a b words =
     with_word line 2 (1 + max (high_of a words) (high_of b words)) (with_word line (1 - side) b (with_word line side a words))
 
--- a link to a node that is there, or to nothing
-pub record IsLink (words : List ℕ) (node : ℕ) : Type 0 where
+-- a link to a node that is there, or to nothing, and the height below it
+pub record IsLink (words : List ℕ) (node high : ℕ) : Type 0 where
   pub there : node ≢ 0 → IsWithin words node
-  pub low : high_of node words ≤ 2 ^ 32
+  pub high_is : high_of node words ≡ high
+  pub low : high ≤ 2 ^ 32
 
-pub record CanSet (words : List ℕ) (node a b : ℕ) : Type 0 where
+pub record CanSet (words : List ℕ) (node a a_high b b_high : ℕ) : Type 0 where
   pub there : IsWithin words node
-  pub first : IsLink words a
-  pub second : IsLink words b
+  pub first : IsLink words a a_high
+  pub second : IsLink words b b_high
+
+-- the link at a side of a node is one to a node that is there, or to nothing
+pub record HasLink (words : List ℕ) (node side : ℕ) : Type 0 where
+  pub there : IsWithin words node
+  pub link : word_of words node side ≢ 0 → IsWithin words (word_of words node side)
+
+-- what such a link names, and the height below it
+pub record IsSubtree (node side link high : ℕ) (words : List ℕ) : Type 0 where
+  pub link_is : word_of words node side ≡ link
+  pub high_is : high_of link words ≡ high
 
 -- All words are as they were but for the links and heights of a tree's nodes.
 pub record SameBut (before now : List ℕ) (t : Tree ℕ) : Type 0 where
@@ -44,8 +55,13 @@ pub record IsMade (before now : List ℕ) (old new : Tree ℕ) (node : ℕ) : Ty
   pub root_is : root new ≡ node
   pub but : SameBut before now old
 
+-- so high
+pub record IsHigh (before now : List ℕ) (old new : Tree ℕ) (node high : ℕ) : Type 0 where
+  pub made : IsMade before now old new node
+  pub high_is : height new ≡ high
+
 -- the child at a side is higher than the other
-pub record CanRotate (words : List ℕ) (node side child low : ℕ) : Type 0 where
+pub record CanRotate (words : List ℕ) (node side child low low_high : ℕ) : Type 0 where
   pub item : ℕ
   pub high_tree : Tree ℕ
   pub low_tree : Tree ℕ
@@ -53,22 +69,25 @@ pub record CanRotate (words : List ℕ) (node side child low : ℕ) : Type 0 whe
   pub node_is : item ≡ node
   pub child_is : root high_tree ≡ child
   pub low_is : root low_tree ≡ low
+  pub high_is : high_of low words ≡ low_high
   pub higher : height low_tree + 2 ≤ height high_tree
 
-abbrev pub Rotates : ℕ → ℕ → ℕ → ℕ → ℕ → List ℕ → List ℕ → Type 0
-Rotates node side child low top before now =
-    (x : ℕ) (t : Tree ℕ) (s : Tree ℕ) → IsOpen before t x s → x ≡ node → root t ≡ child → root s ≡ low → height s + 2 ≤ height t → IsMade before now (Node t x s) (rotated side t x s) top
+abbrev pub Rotates : ℕ → ℕ → ℕ → ℕ → ℕ → ℕ → List ℕ → List ℕ → Type 0
+Rotates node side child low top high before now =
+    (x : ℕ) (t : Tree ℕ) (s : Tree ℕ) → IsOpen before t x s → x ≡ node → root t ≡ child → root s ≡ low → height s + 2 ≤ height t → IsHigh before now (Node t x s) (rotated side t x s) top high
 
--- a node with its links, and the trees below them; its height may be anything
-pub record CanJoin (words : List ℕ) (node left right : ℕ) : Type 0 where
+-- a node with its links, and the trees below them with their heights; its own height may be anything
+pub record CanJoin (words : List ℕ) (node left left_high right right_high : ℕ) : Type 0 where
   pub item : ℕ
   pub left_tree : Tree ℕ
   pub right_tree : Tree ℕ
   pub open_node : IsOpen words left_tree item right_tree
   pub node_is : item ≡ node
   pub left_is : root left_tree ≡ left
+  pub left_high_is : high_of left words ≡ left_high
   pub right_is : root right_tree ≡ right
+  pub right_high_is : high_of right words ≡ right_high
 
-abbrev pub Joins : ℕ → ℕ → ℕ → ℕ → List ℕ → List ℕ → Type 0
-Joins node left right top before now =
-    (x : ℕ) (l : Tree ℕ) (r : Tree ℕ) → IsOpen before l x r → x ≡ node → root l ≡ left → root r ≡ right → IsMade before now (Node l x r) (joined l x r) top
+abbrev pub Joins : ℕ → ℕ → ℕ → ℕ → ℕ → List ℕ → List ℕ → Type 0
+Joins node left right top high before now =
+    (x : ℕ) (l : Tree ℕ) (r : Tree ℕ) → IsOpen before l x r → x ≡ node → root l ≡ left → root r ≡ right → IsHigh before now (Node l x r) (joined l x r) top high

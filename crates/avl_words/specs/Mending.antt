@@ -1,10 +1,10 @@
 -- A tree takes another's place at the end of a way down, and each node of the way is balanced again, the last one first.
 use Rattle.std.specs.Prelude.{◌≡◌, ◌^◌, ◌+◌, ◌-◌, ◌≤◌, ◌==◌, ℕ, List, [], ◌∷◌, length, if◌then◌else◌}
-use Rattle.avl_tree.specs.Tree.{Tree, height, node_on}
+use Rattle.avl_tree.specs.Tree.{Tree, height, node_on, Balanced}
 use Rattle.avl_tree.specs.Ways.{Turn, under, whole, mended}
 use Rattle.avl_words.specs.Lines.{word_of, IsWithin}
 use Rattle.avl_words.specs.Words.{root, times, Stands, IsNoted}
-use Rattle.avl_words.specs.Links.{SameBut, IsMade}
+use Rattle.avl_words.specs.Links.{high_of, SameBut, IsMade, IsHigh}
 
 -- A node at one side of which a tree is to hang, and at the other the tree that is there. Its link to the side, and its height, may be anything.
 pub record IsHanging (words : List ℕ) (side : ℕ) (t : Tree ℕ) (x : ℕ) (sibling : Tree ℕ) : Type 0 where
@@ -16,17 +16,18 @@ pub record IsHanging (words : List ℕ) (side : ℕ) (t : Tree ℕ) (x : ℕ) (s
   pub once : (line : ℕ) → times line t + (if x == line then 1 else 0) + times line sibling ≤ 1
   pub low : height (node_on side t x sibling) ≤ 2 ^ 32
 
-pub record CanHang (words : List ℕ) (node side child : ℕ) : Type 0 where
+pub record CanHang (words : List ℕ) (node side child high : ℕ) : Type 0 where
   pub tree : Tree ℕ
   pub item : ℕ
   pub sibling : Tree ℕ
   pub hanging : IsHanging words side tree item sibling
   pub node_is : item ≡ node
   pub child_is : root tree ≡ child
+  pub high_is : high_of child words ≡ high
 
-abbrev pub Hangs : ℕ → ℕ → ℕ → ℕ → List ℕ → List ℕ → Type 0
-Hangs node side child top before now =
-    (t : Tree ℕ) (x : ℕ) (sibling : Tree ℕ) → IsHanging before side t x sibling → x ≡ node → root t ≡ child → IsMade before now (node_on side t x sibling) (under side t x sibling) top
+abbrev pub Hangs : ℕ → ℕ → ℕ → ℕ → ℕ → List ℕ → List ℕ → Type 0
+Hangs node side child top high before now =
+    (t : Tree ℕ) (x : ℕ) (sibling : Tree ℕ) → IsHanging before side t x sibling → x ≡ node → root t ≡ child → IsHigh before now (node_on side t x sibling) (under side t x sibling) top high
 
 -- the nodes of a way, with what hangs at their other sides
 abbrev pub Spine : List ℕ → List (Turn ℕ) → Type 0
@@ -54,24 +55,59 @@ pub record IsHung (words nodes sides : List ℕ) (depth : ℕ) (way : List (Turn
   pub once : (line : ℕ) → times_way line way + times line t ≤ 1
   pub low : IsLow way t
 
-pub record CanMend (words nodes sides : List ℕ) (depth node : ℕ) : Type 0 where
+-- The nodes of a way as they are with a tree at its end: each with its link down the way, and its height.
+abbrev pub Stood : List ℕ → List (Turn ℕ) → Tree ℕ → Type 0
+Stood words [] t = Unit {0}
+Stood words (turn ∷ way) t =
+    (word_of words turn.item turn.side ≡ root t) × (word_of words turn.item 2 ≡ height (node_on turn.side t turn.item turn.sibling))
+    × Stood words way (node_on turn.side t turn.item turn.sibling)
+
+-- they stand for a balanced tree with some tree at the end
+pub record IsStood (words : List ℕ) (way : List (Turn ℕ)) : Type 0 where
+  pub tree : Tree ℕ
+  pub stood : Stood words way tree
+  pub balanced : Balanced (whole way tree)
+
+-- the first so many nodes of a way do
+abbrev pub Settled : List ℕ → ℕ → List (Turn ℕ) → Type 0
+Settled words n [] = Unit {0}
+Settled words n (turn ∷ way) = (length (turn ∷ way) ≤ n → IsStood words (turn ∷ way)) × Settled words n way
+
+-- a tree is to hang at the end of a way, as high as the one for which the nodes of the way stand
+pub record CanRelink (words nodes sides : List ℕ) (depth node : ℕ) : Type 0 where
+  pub way : List (Turn ℕ)
+  pub tree : Tree ℕ
+  pub old : Tree ℕ
+  pub hung : IsHung words nodes sides depth way tree node
+  pub stood : Stood words way old
+  pub level : height old ≡ height tree
+
+abbrev pub Relinks : List ℕ → List ℕ → ℕ → ℕ → ℕ → List ℕ → List ℕ → Type 0
+Relinks nodes sides depth node top before now =
+    (way : List (Turn ℕ)) (t : Tree ℕ) (old : Tree ℕ) → IsHung before nodes sides depth way t node → Stood before way old → height old ≡ height t → IsMade before now (whole way t) (whole way t) top
+
+pub record CanMend (words nodes sides : List ℕ) (depth settled node high : ℕ) : Type 0 where
   pub way : List (Turn ℕ)
   pub tree : Tree ℕ
   pub hung : IsHung words nodes sides depth way tree node
+  pub high_is : high_of node words ≡ high
+  pub settled_way : Settled words settled way
 
-abbrev pub Mends : List ℕ → List ℕ → ℕ → ℕ → ℕ → List ℕ → List ℕ → Type 0
-Mends nodes sides depth node top before now =
-    (way : List (Turn ℕ)) (t : Tree ℕ) → IsHung before nodes sides depth way t node → IsMade before now (whole way t) (mended way t) top
+abbrev pub Mends : List ℕ → List ℕ → ℕ → ℕ → ℕ → ℕ → ℕ → List ℕ → List ℕ → Type 0
+Mends nodes sides depth settled node high top before now =
+    (way : List (Turn ℕ)) (t : Tree ℕ) → IsHung before nodes sides depth way t node → high_of node before ≡ high → Settled before settled way → IsMade before now (whole way t) (mended way t) top
 
 -- so far up
-pub record IsMending (before now nodes sides : List ℕ) (depth : ℕ) (way : List (Turn ℕ)) (t : Tree ℕ) (top : ℕ) : Type 0 where
+pub record IsMending (before now nodes sides : List ℕ) (depth settled : ℕ) (way : List (Turn ℕ)) (t : Tree ℕ) (top high : ℕ) : Type 0 where
   pub rest : List (Turn ℕ)
   pub tree : Tree ℕ
   pub hung : IsHung now nodes sides depth rest tree top
+  pub high_is : height tree ≡ high
+  pub settled_way : Settled now settled rest
   pub same : mended rest tree ≡ mended way t
   pub lines : (line : ℕ) → times_way line rest + times line tree ≡ times_way line way + times line t
   pub but : SameBut before now (whole way t)
 
-abbrev pub Mending : List ℕ → List ℕ → ℕ → ℕ → ℕ → ℕ → List ℕ → List ℕ → Type 0
-Mending nodes sides depth node rest top before now =
-    (way : List (Turn ℕ)) (t : Tree ℕ) → IsHung before nodes sides depth way t node → IsMending before now nodes sides rest way t top
+abbrev pub Mending : List ℕ → List ℕ → ℕ → ℕ → ℕ → ℕ → ℕ → ℕ → ℕ → List ℕ → List ℕ → Type 0
+Mending nodes sides depth settled node high rest top top_high before now =
+    (way : List (Turn ℕ)) (t : Tree ℕ) → IsHung before nodes sides depth way t node → high_of node before ≡ high → Settled before settled way → IsMending before now nodes sides rest settled way t top top_high

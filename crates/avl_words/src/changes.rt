@@ -9,6 +9,7 @@ ghost use Rattle.avl_words.specs.Changes.{CanPut, Puts, CanTake, Takes, HasTwo, 
 ghost use Rattle.avl_words.specs.Lines.{IsPartLength};
 
 use crate::blocks::{put_new, word};
+use crate::links::{Subtree, height_of};
 use crate::mending::{Way, mend};
 use cx_base::{Halt, Memory};
 
@@ -21,7 +22,11 @@ pub fn put_node<M: Memory>(mem: &mut M, way: &Way, node: u64) -> Result<(), Halt
     ensures halts { OnErr result (M.left mem.new ≡ Some 0) }
     ensures framed { Framed M.size M.fixed M.writable M.left mem.old mem.new }
 {
-    let top = mend(mem, way, node)?;
+    let leaf = Subtree {
+        root: node,
+        height: 1,
+    };
+    let top = mend(mem, way, way.depth, leaf)?;
     put_new(mem, 0, 1, top)?;
     Ok(())
 }
@@ -125,8 +130,10 @@ pub fn take_node<M: Memory>(mem: &mut M, way: &mut Way, node: u64) -> Result<(),
 {
     let left = word(mem, node, 0)?;
     let right = word(mem, node, 1)?;
-    let child = hung_up(mem, way, node, left, right)?;
-    let top = mend(mem, way, child)?;
+    let settled = way.depth;
+    let root = hung_up(mem, way, node, left, right)?;
+    let height = height_of(mem, root)?;
+    let top = mend(mem, way, settled, Subtree { root, height })?;
     put_new(mem, 0, 1, top)?;
     Ok(())
 }

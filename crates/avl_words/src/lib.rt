@@ -10,5 +10,5 @@ mod tests;
 
 pub use blocks::{put, put_new, start_of, word};
 pub use changes::{put_node, take_node};
-pub use links::{height_of, join, rotate, set_node};
+pub use links::{Subtree, below, height_of, join, rotate, set_node};
 pub use mending::{Way, hang, mend};

@@ -1,12 +1,19 @@
 //! Links and heights of nodes, and how a node is balanced.
 
-ghost use Rattle.std.specs.Prelude.{◌≡◌, ◌≢◌, ◌+◌, ◌*◌, ◌<◌, ◌≤◌, IsTrue, IfOk, OnErr, Some};
+ghost use Rattle.std.specs.Prelude.{◌≡◌, ◌≢◌, ◌+◌, ◌*◌, ◌<◌, ◌≤◌, max, IsTrue, IfOk, OnErr, Some};
 ghost use Rattle.cx_base.specs.Memory.{Always, Becomes, Framed, Reads};
 ghost use Rattle.avl_words.specs.Lines.{IsWithin, IsPartLength};
-ghost use Rattle.avl_words.specs.Links.{high_of, with_node, IsLink, CanSet, CanRotate, Rotates, CanJoin, Joins};
+ghost use Rattle.avl_words.specs.Links.{high_of, with_node, CanSet, HasLink, IsSubtree, CanRotate, Rotates, CanJoin, Joins};
 
 use crate::blocks::{put_new, word};
 use cx_base::{Halt, Memory};
+
+/// A tree of lines: the line of its root, 0 for none, and its height.
+#[derive(Clone, Copy, Debug, PartialEq, Eq)]
+pub struct Subtree {
+    pub root: u64,
+    pub height: u64,
+}
 
 /// The height of the tree below a link.
 pub fn height_of<M: Memory>(mem: &mut M, node: u64) -> Result<u64, Halt>
@@ -20,80 +27,101 @@ pub fn height_of<M: Memory>(mem: &mut M, node: u64) -> Result<u64, Halt>
     if node == 0 { Ok(0) } else { word(mem, node, 2) }
 }
 
-/// Gives a node its children, the first at a side, and its height.
-pub fn set_node<M: Memory>(mem: &mut M, node: u64, side: u64, a: u64, b: u64) -> Result<(), Halt>
+/// The tree below the link at a side of a node.
+pub fn below<M: Memory>(mem: &mut M, node: u64, side: u64) -> Result<Subtree, Halt>
     requires sized { IsPartLength (M.size mem.old) }
-    requires writable { IsTrue (M.writable mem.old) }
     requires side { side < 2 }
-    requires can { Always (M.stands mem.old) (λ ws. CanSet ws node a b) }
-    ensures done { IfOk result (λ _. Becomes (M.stands mem.old) (M.stands mem.new)
-        (λ old now. now ≡ with_node node side a b old)) }
+    requires link { Always (M.stands mem.old) (λ ws. HasLink ws node side) }
+    ensures done { IfOk result (λ t. Reads (M.stands mem.old) (M.stands mem.new) (IsSubtree node side t.root t.height)) }
     ensures halts { OnErr result (M.left mem.new ≡ Some 0) }
     ensures framed { Framed M.size M.fixed M.writable M.left mem.old mem.new }
 {
-    let first = height_of(mem, a)?;
-    let second = height_of(mem, b)?;
-    let height = 1 + first.max(second);
-    put_new(mem, node, side, a)?;
-    put_new(mem, node, 1 - side, b)?;
+    let root = word(mem, node, side)?;
+    let height = height_of(mem, root)?;
+    Ok(Subtree { root, height })
+}
+
+/// Gives a node its children, the first at a side, and its height.
+pub fn set_node<M: Memory>(
+    mem: &mut M,
+    node: u64,
+    side: u64,
+    a: Subtree,
+    b: Subtree,
+) -> Result<Subtree, Halt>
+    requires sized { IsPartLength (M.size mem.old) }
+    requires writable { IsTrue (M.writable mem.old) }
+    requires side { side < 2 }
+    requires can { Always (M.stands mem.old) (λ ws. CanSet ws node a.root a.height b.root b.height) }
+    ensures done { IfOk result (λ _. Becomes (M.stands mem.old) (M.stands mem.new)
+        (λ old now. now ≡ with_node node side a.root b.root old)) }
+    ensures root { IfOk result (λ top. top.root ≡ node) }
+    ensures height { IfOk result (λ top. top.height ≡ 1 + max a.height b.height) }
+    ensures halts { OnErr result (M.left mem.new ≡ Some 0) }
+    ensures framed { Framed M.size M.fixed M.writable M.left mem.old mem.new }
+{
+    let height = 1 + a.height.max(b.height);
+    put_new(mem, node, side, a.root)?;
+    put_new(mem, node, 1 - side, b.root)?;
     put_new(mem, node, 2, height)?;
-    Ok(())
+    Ok(Subtree { root: node, height })
 }
 
 /// A child at a side, which is two higher than the other child, goes up, or its own child at the other side does.
-/// Gives the node on top.
+/// Gives the tree on top.
 pub fn rotate<M: Memory>(
     mem: &mut M,
     node: u64,
     side: u64,
     child: u64,
-    low: u64,
-) -> Result<u64, Halt>
+    low: Subtree,
+) -> Result<Subtree, Halt>
     requires sized { IsPartLength (M.size mem.old) }
     requires writable { IsTrue (M.writable mem.old) }
     requires side { side < 2 }
-    requires can { Always (M.stands mem.old) (λ ws. CanRotate ws node side child low) }
-    ensures done { IfOk result (λ top. Becomes (M.stands mem.old) (M.stands mem.new) (Rotates node side child low top)) }
+    requires can { Always (M.stands mem.old) (λ ws. CanRotate ws node side child low.root low.height) }
+    ensures done { IfOk result (λ top. Becomes (M.stands mem.old) (M.stands mem.new) (Rotates node side child low.root top.root top.height)) }
     ensures halts { OnErr result (M.left mem.new ≡ Some 0) }
     ensures framed { Framed M.size M.fixed M.writable M.left mem.old mem.new }
 {
-    let outer = word(mem, child, side)?;
-    let inner = word(mem, child, 1 - side)?;
-    let outer_height = height_of(mem, outer)?;
-    let inner_height = height_of(mem, inner)?;
-    if inner_height <= outer_height {
-        set_node(mem, node, side, inner, low)?;
-        set_node(mem, child, side, outer, node)?;
-        Ok(child)
+    let outer = below(mem, child, side)?;
+    let inner = below(mem, child, 1 - side)?;
+    if inner.height <= outer.height {
+        let lower = set_node(mem, node, side, inner, low)?;
+        let top = set_node(mem, child, side, outer, lower)?;
+        Ok(top)
     } else {
-        let near = word(mem, inner, side)?;
-        let far = word(mem, inner, 1 - side)?;
-        set_node(mem, child, side, outer, near)?;
-        set_node(mem, node, side, far, low)?;
-        set_node(mem, inner, side, child, node)?;
-        Ok(inner)
+        let near = below(mem, inner.root, side)?;
+        let far = below(mem, inner.root, 1 - side)?;
+        let first = set_node(mem, child, side, outer, near)?;
+        let second = set_node(mem, node, side, far, low)?;
+        let top = set_node(mem, inner.root, side, first, second)?;
+        Ok(top)
     }
 }
 
-/// Balances a node where its children's heights differ by two, and sets its height. Gives the node on top.
-pub fn join<M: Memory>(mem: &mut M, node: u64, left: u64, right: u64) -> Result<u64, Halt>
+/// Balances a node where its children's heights differ by two, and sets its height. Gives the tree on top.
+pub fn join<M: Memory>(
+    mem: &mut M,
+    node: u64,
+    left: Subtree,
+    right: Subtree,
+) -> Result<Subtree, Halt>
     requires sized { IsPartLength (M.size mem.old) }
     requires writable { IsTrue (M.writable mem.old) }
-    requires can { Always (M.stands mem.old) (λ ws. CanJoin ws node left right) }
-    ensures done { IfOk result (λ top. Becomes (M.stands mem.old) (M.stands mem.new) (Joins node left right top)) }
+    requires can { Always (M.stands mem.old) (λ ws. CanJoin ws node left.root left.height right.root right.height) }
+    ensures done { IfOk result (λ top. Becomes (M.stands mem.old) (M.stands mem.new) (Joins node left.root right.root top.root top.height)) }
     ensures halts { OnErr result (M.left mem.new ≡ Some 0) }
     ensures framed { Framed M.size M.fixed M.writable M.left mem.old mem.new }
 {
-    let left_height = height_of(mem, left)?;
-    let right_height = height_of(mem, right)?;
-    if left_height + 2 <= right_height {
-        let top = rotate(mem, node, 1, right, left)?;
+    if left.height + 2 <= right.height {
+        let top = rotate(mem, node, 1, right.root, left)?;
         return Ok(top);
     }
-    if right_height + 2 <= left_height {
-        let top = rotate(mem, node, 0, left, right)?;
+    if right.height + 2 <= left.height {
+        let top = rotate(mem, node, 0, left.root, right)?;
         return Ok(top);
     }
-    set_node(mem, node, 0, left, right)?;
-    Ok(node)
+    let top = set_node(mem, node, 0, left, right)?;
+    Ok(top)
 }

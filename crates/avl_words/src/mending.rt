@@ -3,10 +3,10 @@
 ghost use Rattle.std.specs.Prelude.{◌≡◌, ◌<◌, ◌≤◌, IsTrue, IfOk, OnErr, Some};
 ghost use Rattle.cx_base.specs.Memory.{Always, Becomes, Framed};
 ghost use Rattle.avl_words.specs.Lines.{IsPartLength};
-ghost use Rattle.avl_words.specs.Mending.{CanHang, Hangs, CanMend, Mends};
+ghost use Rattle.avl_words.specs.Mending.{CanHang, Hangs, CanRelink, Relinks, CanMend, Mends};
 
-use crate::blocks::word;
-use crate::links::join;
+use crate::blocks::{put_new, word};
+use crate::links::{Subtree, below, join};
 use cx_base::{Halt, Memory};
 
 /// The nodes passed on a way down, and the side taken at each: 0 is the left.
@@ -17,17 +17,17 @@ pub struct Way {
     pub depth: usize,
 }
 
-/// Hangs a tree at a side of a node, and balances it. Gives the node on top.
-pub fn hang<M: Memory>(mem: &mut M, node: u64, side: u64, child: u64) -> Result<u64, Halt>
+/// Hangs a tree at a side of a node, and balances it. Gives the tree on top.
+pub fn hang<M: Memory>(mem: &mut M, node: u64, side: u64, child: Subtree) -> Result<Subtree, Halt>
     requires sized { IsPartLength (M.size mem.old) }
     requires writable { IsTrue (M.writable mem.old) }
     requires side { side < 2 }
-    requires can { Always (M.stands mem.old) (λ ws. CanHang ws node side child) }
-    ensures done { IfOk result (λ top. Becomes (M.stands mem.old) (M.stands mem.new) (Hangs node side child top)) }
+    requires can { Always (M.stands mem.old) (λ ws. CanHang ws node side child.root child.height) }
+    ensures done { IfOk result (λ top. Becomes (M.stands mem.old) (M.stands mem.new) (Hangs node side child.root top.root top.height)) }
     ensures halts { OnErr result (M.left mem.new ≡ Some 0) }
     ensures framed { Framed M.size M.fixed M.writable M.left mem.old mem.new }
 {
-    let sibling = word(mem, node, 1 - side)?;
+    let sibling = below(mem, node, 1 - side)?;
     if side == 0 {
         let top = join(mem, node, child, sibling)?;
         Ok(top)
@@ -37,20 +37,44 @@ pub fn hang<M: Memory>(mem: &mut M, node: u64, side: u64, child: u64) -> Result<
     }
 }
 
-/// Hangs a tree at the end of a way, and balances each node of the way. Gives the node on top of all.
-pub fn mend<M: Memory>(mem: &mut M, way: &Way, node: u64) -> Result<u64, Halt>
+/// Links a tree to the end of a way of so many nodes, which stand for a tree as high as it. Gives the node on top of all.
+fn relink<M: Memory>(mem: &mut M, way: &Way, depth: usize, node: u64) -> Result<u64, Halt>
     requires sized { IsPartLength (M.size mem.old) }
     requires writable { IsTrue (M.writable mem.old) }
-    requires depth { way.now.depth ≤ 64 }
-    requires can { Always (M.stands mem.old) (λ ws. CanMend ws way.now.nodes way.now.sides way.now.depth node) }
-    ensures done { IfOk result (λ top. Becomes (M.stands mem.old) (M.stands mem.new) (Mends way.now.nodes way.now.sides way.now.depth node top)) }
+    requires depth { depth ≤ 64 }
+    requires can { Always (M.stands mem.old) (λ ws. CanRelink ws way.now.nodes way.now.sides depth node) }
+    ensures done { IfOk result (λ top. Becomes (M.stands mem.old) (M.stands mem.new) (Relinks way.now.nodes way.now.sides depth node top)) }
     ensures halts { OnErr result (M.left mem.new ≡ Some 0) }
     ensures framed { Framed M.size M.fixed M.writable M.left mem.old mem.new }
 {
-    let mut top = node;
-    for i in 0..way.depth {
-        let last = way.depth - 1 - i;
-        top = hang(mem, way.nodes[last], way.sides[last], top)?;
+    if depth == 0 {
+        return Ok(node);
     }
-    Ok(top)
+    put_new(mem, way.nodes[depth - 1], way.sides[depth - 1], node)?;
+    Ok(way.nodes[0])
+}
+
+/// Hangs a tree at the end of a way, and balances each node of the way. Gives the node on top of all. The first
+/// `settled` nodes of the way stand as they did before the change: where one of them has the height that it had, those
+/// above it stay as they are.
+pub fn mend<M: Memory>(mem: &mut M, way: &Way, settled: usize, tree: Subtree) -> Result<u64, Halt>
+    requires sized { IsPartLength (M.size mem.old) }
+    requires writable { IsTrue (M.writable mem.old) }
+    requires depth { way.now.depth ≤ 64 }
+    requires can { Always (M.stands mem.old) (λ ws. CanMend ws way.now.nodes way.now.sides way.now.depth settled tree.root tree.height) }
+    ensures done { IfOk result (λ top. Becomes (M.stands mem.old) (M.stands mem.new) (Mends way.now.nodes way.now.sides way.now.depth settled tree.root tree.height top)) }
+    ensures halts { OnErr result (M.left mem.new ≡ Some 0) }
+    ensures framed { Framed M.size M.fixed M.writable M.left mem.old mem.new }
+{
+    let mut top = tree;
+    for i in 0..way.depth {
+        let last = way.depth - i - 1;
+        let high = word(mem, way.nodes[last], 2)?;
+        top = hang(mem, way.nodes[last], way.sides[last], top)?;
+        if last < settled && top.height == high {
+            let root = relink(mem, way, last, top.root)?;
+            return Ok(root);
+        }
+    }
+    Ok(top.root)
 }

@@ -1,6 +1,6 @@
 //! Calls over a memory of a vector.
 
-use crate::links::{height_of, set_node};
+use crate::links::{Subtree, height_of, set_node};
 use cx_base::VecMemory;
 use std::test::Fail;
 
@@ -8,7 +8,9 @@ use std::test::Fail;
 fn a_leaf_over_a_vector(rt: HostRuntime) -> Result<(), Fail> {
     let words = vec![in rt.alloc(); 5; 16]?;
     let mut memory = VecMemory::of(words, None);
-    set_node(&mut memory, 1, 1, 0, 0).expect(&rt, "leaf");
+    let none = Subtree { root: 0, height: 0 };
+    let leaf = set_node(&mut memory, 1, 1, none, none).expect(&rt, "leaf");
+    assert_eq!(rt; leaf, Subtree { root: 1, height: 1 });
     let height = height_of(&mut memory, 1).expect(&rt, "height");
     assert_eq!(rt; height, 1);
     let words = memory.into_words();

@@ -1,5 +1,7 @@
 -- What the place of a key says of a store.
 use Rattle.std.proofs.Common.{◌≡◌, ◌≢◌, ◌^◌, ◌+◌, ◌-◌, ◌*◌, ◌<◌, ◌≤◌, ℕ, List, [], ◌∷◌, ◌++◌, length, map, Some, None, refl, sym, ap, subst, ◌∙◌, Bool, true, false, set, arith}
+use Rattle.std.proofs.Math.Logic.{∥∥₁_map}
+use Rattle.cx_base.specs.Memory.{Becomes, Always}
 use Rattle.std.specs.List.{flat_map, All}
 use Rattle.std.specs.declared.cmp.Ordering.{Ordering}
 use Rattle.std.specs.declared.cmp.Ordering.TheVariants.{Less, Equal, Greater}
@@ -21,7 +23,7 @@ use Rattle.index_checks.proofs.OneStore.{placed_count}
 use Rattle.index_checks.proofs.Texts.{text_is, key_small}
 use Rattle.word_index.specs.Answers.{IsNodeOf, IsFound}
 use Rattle.word_index.specs.Exact.{order_in}
-use Rattle.word_index.specs.Walk.{HasNode, AtSpot, FewVisits, OnWay, toward, walk_order, IsFirst, IsPassing, IsEnded, IsFirstNode}
+use Rattle.word_index.specs.Walk.{HasNode, AtSpot, FewVisits, OnWay, toward, walk_order, IsFirst, IsPassing, IsEnded, IsFirstNode, Walked}
 use Rattle.word_index.proofs.Frames.{all_nodes}
 use Rattle.word_index.proofs.NodeReads.{node_key}
 use Rattle.word_index.proofs.Splits.{all_above, document_there, document_missing}
@@ -483,3 +485,7 @@ spot_above ws key nodes sides d node above spot version store s =
 pub there_first : (ws : List ℕ) (node : ℕ) (pairs : Store) → IsFirstNode ws node pairs → (node ≡ 0 → ⊥) → HasNode ws node
 there_first ws node [] is some = absurd (some is)
 there_first ws node (pair ∷ pairs) is some = record { pair = pair; is = is.1 }
+
+-- after a walk some words may have been there for which it was short
+pub walked : {Key : Type 0} {old new : Key → List ℕ → Type 0} (visits : ℕ) → ∥ ((first : Key) × (now : List ℕ) × new first now) ∥₁ → Becomes old new ◌≡◌ → Always new (FewVisits visits) → Walked old visits
+walked visits some kept all = ∥∥₁_map some (λ p. (let q = kept.from p.0 p.1 p.2 in (p.0, q.0, q.1, subst (FewVisits visits) (sym q.2) (all p.0 p.1 p.2))))

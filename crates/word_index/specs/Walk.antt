@@ -50,6 +50,10 @@ AtSpot past key nodes sides depth node above words = (version : ℕ) (store : St
 abbrev pub FewVisits : ℕ → List ℕ → Type 0
 FewVisits visits words = (version : ℕ) (store : Store) → StandsFor words version store → 2 ^ visits ≤ 2 * ((length store + 1) * (length store + 1))
 
+-- the same for words that may be there
+abbrev pub Walked : {Key : Type 0} → (Key → List ℕ → Type 0) → ℕ → Type 0
+Walked {Key = Key} stands visits = ∥ ((first : Key) × (now : List ℕ) × stands first now × FewVisits visits now) ∥₁
+
 -- the node of the first of some pairs, 0 for none
 abbrev pub IsFirstNode : List ℕ → ℕ → Store → Type 0
 IsFirstNode words node [] = node ≡ 0

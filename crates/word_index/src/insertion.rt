@@ -11,12 +11,12 @@ ghost use Rattle.word_index.specs.Answers.{IsPacked, IsNodeOf};
 ghost use Rattle.word_index.specs.Exact.{with_new_pair, inserted_in, with_document};
 ghost use Rattle.word_index.specs.Fresh.{CanTake};
 ghost use Rattle.word_index.specs.Insertion.{PairWritten, CanAdd, Adds, Inserts, LinesAt};
-ghost use Rattle.word_index.specs.Walk.{HasNode, FewVisits};
+ghost use Rattle.word_index.specs.Walk.{HasNode, FewVisits, Walked};
 
 use crate::rewriting::rewrite;
 use crate::taken::{put_line, take_line, write_text};
 use crate::texts::{Doc, Key};
-use crate::walk::seek;
+use crate::walk::seek_place;
 use avl_words::{Way, put, put_node, word};
 use cx_base::{Halt, Memory, Steps};
 use std::sync::ledger::Ledger;
@@ -129,7 +129,8 @@ fn add<M: Memory>(mem: &mut M, way: &Way, key: &Key, doc: &Doc) -> Result<(), Ha
 }
 
 /// Puts a document at a key, in words of so many lines. `NoRoom` comes exactly where the store would then need more
-/// than `lines - 1` lines. `Halt` comes only where no access is left; the words may then be anything.
+/// than `lines - 1` lines. `Halt` comes only where no access is left; the words may then be anything. The bound on
+/// visits holds of the words before, and where the call halts of some words that may have been there.
 pub fn insert<M: Memory, L: Ledger>(
     mem: &mut M,
     lines: u64,
@@ -150,10 +151,11 @@ pub fn insert<M: Memory, L: Ledger>(
     ensures exact { IfOk result (λ inserted. Becomes (M.stands mem.old) (M.stands mem.new)
         (λ old now. (inserted ≡ inserted_in (unpacked key.now.len key.now.words) (unpacked doc.now.len doc.now.words) old) × (now ≡ with_document (unpacked key.now.len key.now.words) (unpacked doc.now.len doc.now.words) old))) }
     ensures visits { IfOk result (λ _. Becomes (M.stands mem.old) (M.stands mem.new) (λ old now. FewVisits (visits.new - visits.old) old)) }
+    ensures walked { Walked (M.stands mem.old) (visits.new - visits.old) }
     ensures halts { OnErr result (M.left mem.new ≡ Some 0) }
     ensures framed { Framed M.size M.fixed M.writable M.left mem.old mem.new }
 {
-    let spot = seek(mem, key, false, visits)?;
+    let spot = seek_place(mem, key, visits)?;
     let used = lines_in_use(mem)?;
     let old = lines_at(mem, spot.node)?;
     let needed = used - old + lines_of_pair(key, doc);

@@ -8,11 +8,11 @@ ghost use Rattle.index_checks.specs.Layout.{IsIndex};
 ghost use Rattle.word_index.specs.Changes.{IsRemoved};
 ghost use Rattle.word_index.specs.Exact.{is_key_in, with_key_removed};
 ghost use Rattle.word_index.specs.Removal.{CanCut, Cuts};
-ghost use Rattle.word_index.specs.Walk.{FewVisits};
+ghost use Rattle.word_index.specs.Walk.{FewVisits, Walked};
 
 use crate::given_pairs::give_pair;
 use crate::texts::Key;
-use crate::walk::seek;
+use crate::walk::seek_place;
 use avl_words::{Way, put, take_node, word};
 use cx_base::{Halt, Memory, Steps};
 use std::sync::ledger::Ledger;
@@ -34,7 +34,7 @@ fn cut<M: Memory>(mem: &mut M, way: &mut Way, node: u64) -> Result<(), Halt>
 }
 
 /// Takes the pair of a key out, and says whether the key was there. `Halt` comes only where no access is left; the
-/// words may then be anything.
+/// words may then be anything. The bound on visits is said as for `insert`.
 pub fn remove<M: Memory, L: Ledger>(
     mem: &mut M,
     key: &Key,
@@ -49,10 +49,11 @@ pub fn remove<M: Memory, L: Ledger>(
     ensures exact { IfOk result (λ there. Becomes (M.stands mem.old) (M.stands mem.new)
         (λ old now. (there ≡ is_key_in (unpacked key.now.len key.now.words) old) × (now ≡ with_key_removed (unpacked key.now.len key.now.words) old))) }
     ensures visits { IfOk result (λ _. Becomes (M.stands mem.old) (M.stands mem.new) (λ old now. FewVisits (visits.new - visits.old) old)) }
+    ensures walked { Walked (M.stands mem.old) (visits.new - visits.old) }
     ensures halts { OnErr result (M.left mem.new ≡ Some 0) }
     ensures framed { Framed M.size M.fixed M.writable M.left mem.old mem.new }
 {
-    let mut spot = seek(mem, key, false, visits)?;
+    let mut spot = seek_place(mem, key, visits)?;
     if spot.node == 0 {
         return Ok(false);
     }

@@ -1,6 +1,6 @@
 //! A walk down the tree to the place of a key.
 
-ghost use Rattle.std.specs.Prelude.{◌≡◌, ◌≢◌, ◌+◌, ◌-◌, ◌≤◌, ℕ, Bool, List, IfOk, OnErr, Some, length};
+ghost use Rattle.std.specs.Prelude.{◌≡◌, ◌≢◌, ◌+◌, ◌-◌, ◌≤◌, ℕ, Bool, false, List, IfOk, OnErr, Some, length};
 ghost use Rattle.std.specs.declared.cmp.Ordering.TheVariants.{Less, Greater};
 ghost use Rattle.cx_base.specs.Memory.{Always, Becomes, Framed, Reads};
 ghost use Rattle.cx_base.specs.Packing.{unpacked};
@@ -8,7 +8,7 @@ ghost use Rattle.cx_base.specs.Store.{key_cmp};
 ghost use Rattle.avl_words.specs.Lines.{IsPartLength};
 ghost use Rattle.index_checks.specs.Layout.{IsIndex};
 ghost use Rattle.word_index.specs.Answers.{IsNodeOf};
-ghost use Rattle.word_index.specs.Walk.{AtSpot, FewVisits, HasNode, toward};
+ghost use Rattle.word_index.specs.Walk.{AtSpot, FewVisits, HasNode, Walked, toward};
 
 use crate::nodes::order_at;
 use crate::texts::Key;
@@ -128,4 +128,26 @@ pub fn seek<M: Memory, L: Ledger>(
         depth: 64,
     };
     Ok(Spot { way, node, above })
+}
+
+/// Walks to the place of a key that is put in or taken out. Whether it halts or not, its visits are few for words that
+/// may have been there.
+pub fn seek_place<M: Memory, L: Ledger>(
+    mem: &mut M,
+    key: &Key,
+    visits: &mut Steps<L>,
+) -> Result<Spot, Halt>
+    requires sized { IsPartLength (M.size mem.old) }
+    requires lawful { Always (M.stands mem.old) IsIndex }
+    requires key { key.now.len ≤ 64 }
+    ensures done { IfOk result (λ spot. Reads (M.stands mem.old) (M.stands mem.new)
+        (AtSpot false (unpacked key.now.len key.now.words) spot.way.nodes spot.way.sides spot.way.depth spot.node spot.above)) }
+    ensures arrays { IfOk result (λ spot. (length spot.way.nodes ≡ 64) × (length spot.way.sides ≡ 64)) }
+    ensures visits { Always (M.stands mem.new) (FewVisits (visits.new - visits.old)) }
+    ensures walked { Walked (M.stands mem.old) (visits.new - visits.old) }
+    ensures kept { Becomes (M.stands mem.old) (M.stands mem.new) ◌≡◌ }
+    ensures halts { OnErr result (M.left mem.new ≡ Some 0) }
+    ensures framed { Framed M.size M.fixed M.writable M.left mem.old mem.new }
+{
+    seek(mem, key, false, visits)
 }

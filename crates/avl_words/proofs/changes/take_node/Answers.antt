@@ -1,7 +1,7 @@
 use Rattle.cx_base.proofs.MemoryLemmas.{Becomes-then, always_after, Becomes-both}
 use Rattle.avl_words.specs.Changes.{HasTwo}
-use Rattle.avl_words.proofs.Leaving.{node_there, can_mend_out, takes_from}
-use Rattle.cx_base.proofs.ReadLemmas.{Reads-none, Reads-load, Reads-loaded, Reads-weaker, Becomes-from-read}
+use Rattle.avl_words.proofs.Leaving.{node_there, rest_there, can_mend_out, takes_from}
+use Rattle.cx_base.proofs.ReadLemmas.{Becomes-read, Reads-none, Reads-load, Reads-loaded, Reads-weaker, Becomes-from-read}
 use Rattle.avl_words.proofs.Memories.{always_said}
 use Rattle.avl_words.proofs.changes.take_node.Goals as goal
 
@@ -20,13 +20,22 @@ hung_up-requires-clause-can g c =
     let w = c.args.way.now in
     always_said (Reads-weaker (Reads-loaded (Reads-loaded (Reads-none _ c.requires.can) c.in_ok-left.ensures.done) c.in_ok-right.ensures.done) (λ ws p. (let h : HasTwo ws w.nodes w.sides w.depth c.args.node c.in_ok-left.left c.in_ok-right.right = record { can = p.0.0; left_is = p.0.1; right_is = p.1 } in h)))
 
+pub height_of-requires-clause-link : goal.height_of-requires-clause-link
+height_of-requires-clause-link g c =
+    let w = c.args.way.now in
+    let v = c.hung_up.new.way in
+    let two = Reads-weaker {Q = λ ws. HasTwo ws w.nodes w.sides w.depth c.args.node c.in_ok-left.left c.in_ok-right.right} (Reads-loaded (Reads-loaded (Reads-none _ c.requires.can) c.in_ok-left.ensures.done) c.in_ok-right.ensures.done)
+    (λ ws p. record { can = p.0.0; left_is = p.0.1; right_is = p.1 }) in
+    always_after (always_said two) c.in_ok-root.ensures.done (λ x y h u. rest_there x y w.nodes w.sides v.nodes v.sides w.depth c.args.node c.in_ok-left.left c.in_ok-right.right v.depth c.in_ok-root.root h u)
+
 pub mend-requires-clause-can : goal.mend-requires-clause-can
 mend-requires-clause-can g c =
     let w = c.args.way.now in
     let v = c.hung_up.new.way in
     let two = Reads-weaker {Q = λ ws. HasTwo ws w.nodes w.sides w.depth c.args.node c.in_ok-left.left c.in_ok-right.right} (Reads-loaded (Reads-loaded (Reads-none _ c.requires.can) c.in_ok-left.ensures.done) c.in_ok-right.ensures.done)
     (λ ws p. record { can = p.0.0; left_is = p.0.1; right_is = p.1 }) in
-    always_after (always_said two) c.in_ok-child.ensures.done (λ x y h u. can_mend_out x y w.nodes w.sides v.nodes v.sides w.depth c.args.node c.in_ok-left.left c.in_ok-right.right v.depth c.in_ok-child.child h u)
+    always_after (always_said two) (Becomes-read c.in_ok-root.ensures.done c.in_ok-height.ensures.done)
+    (λ x y h u. can_mend_out x y w.nodes w.sides v.nodes v.sides w.depth c.args.node c.in_ok-left.left c.in_ok-right.right v.depth c.in_ok-root.root c.in_ok-height.height h u.0 u.1)
 
 pub returns-clause-done : goal.returns-clause-done
 returns-clause-done g c =
@@ -34,5 +43,5 @@ returns-clause-done g c =
     let v = c.hung_up.new.way in
     let two = Reads-weaker {Q = λ ws. HasTwo ws w.nodes w.sides w.depth c.args.node c.in_ok-left.left c.in_ok-right.right} (Reads-loaded (Reads-loaded (Reads-none _ c.requires.can) c.in_ok-left.ensures.done) c.in_ok-right.ensures.done)
     (λ ws p. record { can = p.0.0; left_is = p.0.1; right_is = p.1 }) in
-    Becomes-then (Becomes-both (Becomes-both (Becomes-from-read two) c.in_ok-child.ensures.done) c.in_ok-top.ensures.done) c.in_ok-put_new.ensures.done
-    (λ x z u t e. takes_from x t.1.0 t.0 z u w.nodes w.sides v.nodes v.sides w.depth c.args.node c.in_ok-left.left c.in_ok-right.right v.depth c.in_ok-child.child c.in_ok-top.top t.1.1.0 t.1.1.1 t.1.2 t.2 e)
+    Becomes-then (Becomes-both (Becomes-both (Becomes-from-read two) (Becomes-read c.in_ok-root.ensures.done c.in_ok-height.ensures.done)) c.in_ok-top.ensures.done) c.in_ok-put_new.ensures.done
+    (λ x z u t e. takes_from x t.1.0 t.0 z u w.nodes w.sides v.nodes v.sides w.depth c.args.node c.in_ok-left.left c.in_ok-right.right v.depth c.in_ok-root.root c.in_ok-height.height c.in_ok-top.top t.1.1.0 t.1.1.1 t.1.2.0 t.1.2.1 t.2 e)
