@@ -168,7 +168,8 @@ class Picture:
         left, top = MARGIN, MARGIN
         put = []
         for row in self.rows:
-            if top + row.height / 2 > tallest + MARGIN and not self.look.texts:
+            full = top + row.height / 2 > tallest + MARGIN and row.kind != "power"
+            if full and not self.look.texts:
                 left, top = left + self.column_width(), MARGIN
                 if row.kind != "head":
                     put.append(Row("lanes", row.life, self.report.lives[row.life].head, False, left, top, LANES_AGAIN))
@@ -364,7 +365,7 @@ class Picture:
         else:
             size -= 0.5
             shape = f'<path d="M{-size} {-size}H{size}V{size}H{-size}Z" class="full">{{title}}</path>'
-            words = f"gave up: client {item.holder} holds {item.need}, ticket {item.ticket} in the way"
+            words = f"gave up: holder {item.holder}, need {item.need}, ticket {item.ticket}"
         self.mark(row, shape)
         if self.look.texts:
             left = self.text_left(row)

@@ -142,10 +142,11 @@ def integer_in(text):
 
 
 def raw_lines(data):
-    """The lines of an input: cut at each LF, one CR before an LF dropped."""
-    *ended, last = data.split(b"\n")
-    lines = [line[:-1] if line.endswith(b"\r") else line for line in ended]
-    return lines + [last] if last else lines
+    """The lines of an input: cut at each LF, one CR before an LF dropped; the last one counts where it is not empty."""
+    lines = data.replace(b"\r\n", b"\n").split(b"\n")
+    if not lines[-1]:
+        lines.pop()
+    return lines
 
 
 def read_script(data):

@@ -18,6 +18,8 @@ from pathlib import Path
 TOOLS = Path(__file__).resolve().parent
 TESTS = TOOLS / "tests"
 ROWS = TESTS / "rows"
+PICTURES = TOOLS.parent / "docs" / "pictures"
+SHOP = TOOLS.parent / "examples" / "shop.script"
 sys.path[:0] = [str(TOOLS), str(TESTS)]
 
 import check_report
@@ -80,11 +82,10 @@ class LegalReports(unittest.TestCase):
             with self.subTest(name):
                 self.assertTrue(judged(*row(name)).startswith("legal: "))
 
-    def test_pictured_report_is_legal(self):
-        pictures = TOOLS.parent / "docs" / "pictures"
-        for script in pictures.glob("*.script"):
-            with self.subTest(script.stem):
-                self.assertTrue(judged(script.read_bytes(), script.with_suffix(".report").read_bytes()).startswith("legal: "))
+    def test_pictured_reports_are_legal(self):
+        for script, report in ((SHOP, "shop.report"), (PICTURES / "two_shops.script", "two_shops.report")):
+            with self.subTest(report):
+                self.assertTrue(judged(script.read_bytes(), (PICTURES / report).read_bytes()).startswith("legal: "))
 
     def test_random_lives_are_legal(self):
         for seed in range(120):
@@ -99,6 +100,8 @@ class LegalReports(unittest.TestCase):
         if not random_lives.PROGRAM.exists():
             self.skipTest("the program is not built")
         self.assertIsNone(random_lives.compare(100))
+        written = random_lives.answer_of_program(random_lives.PROGRAM, SHOP.read_bytes())
+        self.assertEqual((PICTURES / "shop.report").read_bytes(), written)
 
 
 class WrongReports(unittest.TestCase):
@@ -126,6 +129,17 @@ class WrongReports(unittest.TestCase):
         with self.assertRaises(Fault) as caught:
             judged(script, report.replace(b"= new", b"= none").replace(b"power", b"Power"))
         self.assertEqual(2, caught.exception.line)
+
+    def test_broken_off_after_each_line(self):
+        """Every front of a legal report is refused where it ends, and not before."""
+        for name in sorted(path.stem for path in ROWS.glob("*.report")):
+            script, report = row(name)
+            lines = report.splitlines(keepends=True)
+            for count in range(len(lines)):
+                with self.subTest(f"{name}, {count} lines"), self.assertRaises(Fault) as caught:
+                    judged(script, b"".join(lines[:count]))
+                self.assertEqual(count + 1, caught.exception.line)
+                self.assertIn("the report ends before", caught.exception.why)
 
     def test_each_changed_number_of_a_report_without_choice(self):
         """Where nothing is free, no number of a report can be another."""
@@ -319,6 +333,12 @@ class Pictures(unittest.TestCase):
         for name, report in self.reports():
             with self.subTest(name):
                 self.assertEqual(self.expected(report), self.marks(draw_life.drawn(report)))
+
+    def test_pictures_of_the_documents_are_these(self):
+        """After a change of the drawing: draw_life.py docs/pictures/NAME.report docs/pictures/NAME.svg"""
+        for report in PICTURES.glob("*.report"):
+            with self.subTest(report.stem):
+                self.assertEqual(draw_life.drawn(report.read_bytes()), report.with_suffix(".svg").read_text(encoding="utf-8"))
 
     def test_long_reports_have_no_texts(self):
         for name, report in self.reports():
