@@ -146,6 +146,9 @@ class Picture:
         self.parts = []
         self.bottom = MARGIN
         self.put_rows()
+        # the row in which a client of a life ended, and the rows that a life has once
+        self.ended = {(row.life, row.item.client): row for row in self.rows if row.kind == "ended"}
+        self.single = {(row.kind, row.life): row for row in self.rows if row.kind in ("head", "cut", "power")}
 
     # where things stand
 
@@ -169,8 +172,8 @@ class Picture:
         put = []
         for row in self.rows:
             full = top + row.height / 2 > tallest + MARGIN and row.kind != "power"
-            if full and not self.look.texts:
-                left, top = left + self.column_width(), MARGIN
+            if full and columns > 1:
+                columns, left, top = columns - 1, left + self.column_width(), MARGIN
                 if row.kind != "head":
                     put.append(Row("lanes", row.life, self.report.lives[row.life].head, False, left, top, LANES_AGAIN))
                     top += LANES_AGAIN
@@ -247,16 +250,14 @@ class Picture:
             self.line(x, top, x, end, "history")
 
     def end_of_lane(self, rows, client):
-        """A lane ends where its client ended, or where power was lost."""
-        for row in self.rows:
-            if row.kind == "ended" and row.life == rows[0].life and row.item.client == client:
-                return min(row.middle, rows[-1].bottom) if row.left == rows[0].left else self.lane_before(row, rows)
+        """A lane ends where its client ended, or where power was lost; in this column it may go through, or not be there."""
         last = rows[-1]
-        return last.top + 14 if last.kind == "power" else last.bottom
-
-    def lane_before(self, ended, rows):
-        """The end of a lane in a column in which its client did not end: it goes through, or ended in an earlier column."""
-        return rows[-1].bottom if ended.left > rows[0].left else 0
+        ended = self.ended.get((last.life, client))
+        if ended is None:
+            return last.top + 14 if last.kind == "power" else last.bottom
+        if ended.left == last.left:
+            return ended.middle
+        return last.bottom if ended.left > last.left else 0
 
     def draw_band(self, lost):
         left = lost[0].left + self.history - 8
@@ -268,14 +269,12 @@ class Picture:
 
     def draw_way_back(self, index):
         """From the end of what was kept to where the next life begins: straight on, or round the band of what was lost."""
-        head = next(row for row in self.rows if row.kind == "head" and row.life == index)
-        before = [row for row in self.rows if row.life == index - 1]
-        cut = next((row for row in before if row.kind == "cut"), None)
-        if before[-1].left != head.left or (cut and cut.left != head.left):
+        head, cut, power = self.single["head", index], self.single.get(("cut", index - 1)), self.single["power", index - 1]
+        if head.left != (cut or power).left:
             return
         x, end = head.left + self.history, head.bottom - 6
         if cut is None:
-            self.line(x, before[-1].top + 14, x, end, "history")
+            self.line(x, power.top + 14, x, end, "history")
             return
         side, start = head.left + WAY_BACK, cut.top + self.look.cut / 2
         self.add(f'<path d="M{x:g} {start:g}H{side:g}V{head.top + 8:g}H{x:g}V{end:g}" class="history"/>')
@@ -306,7 +305,7 @@ class Picture:
         self.draw_text(row)
         kind = "entry unanswered" if unanswered else "entry"
         radius = self.look.mark - (0.5 if unanswered else 0)
-        self.mark(row, f'<circle cx="{{x:g}}" cy="{{y:g}}" r="{radius:g}" class="{kind}">{{title}}</circle>')
+        self.mark(row, f'<circle r="{radius:g}" class="{kind}">{{title}}</circle>')
 
     def draw_read(self, row):
         self.draw_ticket(row)
@@ -314,13 +313,10 @@ class Picture:
         self.mark(row, f'<path d="{diamond(self.look.mark + 1)}" class="read">{{title}}</path>')
 
     def mark(self, row, shape):
-        """Draws a mark in the lane of its client; `shape` has places for where it stands and what it is."""
-        x, y = self.lane(row, row.item.client), row.middle
+        """Draws a mark in the lane of its client; `shape` has a place for what it is, which is shown to who points at it."""
+        x = self.lane(row, row.item.client)
         title = f"<title>{clean(described(row.item))}</title>"
-        if shape.startswith("<path"):
-            self.add(f'<g transform="translate({x:g} {y:g})">{shape.format(title=title)}</g>')
-        else:
-            self.add(shape.format(x=x, y=y, title=title))
+        self.add(f'<g transform="translate({x:g} {row.middle:g})">{shape.format(title=title)}</g>')
 
     def draw_ticket(self, row):
         """The ticket or place beside the history; without texts, each tenth ticket."""

@@ -1,7 +1,13 @@
-"""Reports, read by docs/FORMATS.md alone: the lines of each life, in their order.
+"""Reports, read by docs/FORMATS.md: the lines of each life, in their order.
 
-A line tells more than its own words here, since a reader may know of the script, or not: `Answered.rest` is the command with
-its reply, which `split_reply` takes apart without a script.
+Beside the lines that stand there it reads those of lives in which a client is stopped. Today's program does not write them:
+
+    T K.J COMMAND = unanswered          an entry whose client was stopped in this command
+    stopped K.J at S kept|lost          after the reads, by client: stopped after S steps; kept where the command's entry is
+    full K.J holder H need M ticket T   then, by client: gave up, since the stopped client H needs entries from M on, at most T
+
+Commands and replies are left together here, as `rest`: a judge knows the command from the script, and `split_reply` takes them
+apart without one.
 """
 import json
 import re
@@ -24,6 +30,14 @@ class Fault(Exception):
         self.why = why
 
 
+class Named:
+    """A line that names a command of a client."""
+
+    @property
+    def name(self):
+        return f"{self.client}.{self.command}"
+
+
 @dataclass(frozen=True)
 class Head:
     line: int
@@ -33,56 +47,40 @@ class Head:
 
 
 @dataclass(frozen=True)
-class Entry:
+class Entry(Named):
     line: int
     ticket: int
     client: int
     command: int
     rest: str
 
-    @property
-    def name(self):
-        return f"{self.client}.{self.command}"
-
 
 @dataclass(frozen=True)
-class Read:
+class Read(Named):
     line: int
     client: int
     command: int
     place: int
     rest: str
 
-    @property
-    def name(self):
-        return f"{self.client}.{self.command}"
-
 
 @dataclass(frozen=True)
-class Stop:
+class Stop(Named):
     line: int
     client: int
     command: int
     steps: int
     fate: str
 
-    @property
-    def name(self):
-        return f"{self.client}.{self.command}"
-
 
 @dataclass(frozen=True)
-class Full:
+class Full(Named):
     line: int
     client: int
     command: int
     holder: int
     need: int
     ticket: int
-
-    @property
-    def name(self):
-        return f"{self.client}.{self.command}"
 
 
 @dataclass(frozen=True)
@@ -94,7 +92,7 @@ class Power:
     documents: int
 
 
-# what a line is by its form: its words' pattern, where the form stands in a life, and what it is called
+# the forms of lines in the order in which they stand in a life, each with its pattern and what it is called
 FORMS = (
     (Head, re.compile(f"life {NUMBER} clients {NUMBER} from {NUMBER}"), "a life's first line"),
     (Entry, re.compile(f"{NUMBER} {NUMBER}[.]{NUMBER} (.+)"), "an entry"),
