@@ -1,0 +1,183 @@
+#!/usr/bin/env python3
+"""Runs a script, and says in words why it is refused, where it is.
+
+    explain.py [--program PATH] SCRIPT
+
+The program is the one given, or the one built under crates/cx_tool/out. What it refuses is shown with its line, the place in
+the line, and the row of the grammar of docs/FORMATS.md that it breaks.
+
+Status 0 where the script is accepted, 1 where it is refused, 2 where the program could not be run or ended for another cause.
+"""
+import subprocess
+import sys
+import unicodedata
+from pathlib import Path
+
+from script_text import LARGEST_INPUT, Refusal, TooLong, raw_lines, read_script, words_of
+
+BUILT = Path(__file__).resolve().parent.parent / "crates" / "cx_tool" / "out" / "cx_tool"
+HOW_TO_BUILD = "build it: cd crates/cx_tool && rt run -- run < ../../examples/first.script"
+SHOWN = 72
+
+LINES_ROW = "lines L            L is 64 to 16384; the first line that is not passed over, and nowhere else"
+LIFE_ROW = "life N power C     N is 1 to 8, C at most 2^64 - 1; begins a life, after the lines line"
+CUT_ROW = "cut K S            K is below N, S at most 2^64 - 1; in a life, one for each client"
+COMMAND_ROWS = {
+    "put": "K put KEY JSON     JSON is the rest of the line",
+    "del": "K del KEY",
+    "add": "K add KEY INTEGER  an integer within 64 bits, without leading zeros",
+    "get": "K get KEY",
+    "next": "K next KEY         or K next, for the least key of all",
+    "count": "K count",
+}
+KEY_RULE = "KEY                1 to 64 bytes, each 0x21 to 0x7E"
+CLIENT_RULE = "K                  a client of the life: a number below its N"
+COMMANDS_RULE = "a script           has at most 1,000 lives and 100,000 commands"
+JSON_RULE = "JSON               a value as JSON has it, nested at most 127 deep"
+NUMBER_RULE = "JSON               each number in it is an integer of 64 bits, with a sign or without; -0 is none"
+LENGTH_RULE = "JSON               its compact text, without spaces between its parts, has at most 1,024 bytes"
+FORM_RULE = "not read yet       a life of more than one client, a second life, a cut line"
+
+SENTENCES = {
+    "utf8": "The line is not UTF-8: the marked byte cannot stand there. Only empty lines and comments may have any bytes.",
+    "header": "A script begins with its lines line, and this line is none.",
+    "life": "Here a life line must stand, and this is none.",
+    "lives": "This would be the 1,001st life.",
+    "cut": "This is no cut line for a client of the life that has none yet.",
+    "client": "The line begins with no client of this life.",
+    "commands": "This would be the 100,001st command.",
+    "command": "This is no command, or a command with too few or too many words. Words are separated by exactly one space.",
+    "key": "The key is empty, longer than 64 bytes, or has a byte that a key may not have.",
+    "number": "The amount is no integer within 64 bits. It has no plus sign and no leading zeros, and -0 is none.",
+    "json": "The document is no JSON from the marked place on.",
+    "fraction": "A number of the document is no integer within 64 bits. Fractions, exponents and -0 are not taken.",
+    "long": "The document's compact text has more than 1,024 bytes.",
+    "form": "The line is right, but the program does not read lines of this form yet.",
+}
+UNKNOWN = "docs/FORMATS.md, as this tool knows it, has no such reason."
+OTHER_ENDS = {
+    2: "the program knows no word `run`: it is another one",
+    4: "the program could not read its input",
+    5: "the program could not write its report",
+    6: "the program had too little memory",
+    8: f"refused: the script has more than {LARGEST_INPUT:,} bytes",
+}
+
+
+def rows_of(reason, line):
+    """The rows of the grammar that a line breaks which is refused for this reason."""
+    words = words_of(line)
+    kind = words[1].text if len(words) > 1 else ""
+    command = [COMMAND_ROWS[kind]] if kind in COMMAND_ROWS else list(COMMAND_ROWS.values())
+    return {
+        "utf8": ["a line             that is not passed over is UTF-8"],
+        "header": [LINES_ROW],
+        "life": [LIFE_ROW],
+        "lives": [LIFE_ROW, COMMANDS_RULE],
+        "cut": [CUT_ROW],
+        "client": [CLIENT_RULE],
+        "commands": [COMMANDS_RULE],
+        "command": command,
+        "key": command + [KEY_RULE],
+        "number": command,
+        "json": command + [JSON_RULE],
+        "fraction": command + [NUMBER_RULE],
+        "long": command + [LENGTH_RULE],
+        "form": [LIFE_ROW, CUT_ROW, FORM_RULE],
+    }.get(reason, [])
+
+
+def explanation(path, data, number, reason):
+    """What is said of a script that was refused at this line for this reason."""
+    raw = raw_lines(data)[number - 1]
+    start, end, agreed = place_of_fault(data, number, reason)
+    line, start, end = shown_line(raw, reason, start, end)
+    parts = [f"{path}, line {number}: {reason}", "", *with_caret(line, number, start, end), "", SENTENCES.get(reason, UNKNOWN), ""]
+    parts.append("By the grammar (docs/FORMATS.md, The script):")
+    parts.extend("  " + row for row in rows_of(reason, raw.decode("utf-8", "replace")))
+    if not agreed:
+        parts.append("")
+        parts.append("The place is a guess: read by docs/FORMATS.md alone, the script has another first fault, or none.")
+    return "\n".join(parts)
+
+
+def place_of_fault(data, number, reason):
+    """Where in the line the fault shows, and whether this reader finds the same fault as the program."""
+    whole = len(raw_lines(data)[number - 1].decode("utf-8", "replace"))
+    try:
+        read_script(data)
+    except Refusal as refusal:
+        if (refusal.line, refusal.reason) == (number, reason):
+            return refusal.start, refusal.end, True
+        if refusal.line <= number:
+            return 0, whole, False
+    except TooLong:
+        return 0, whole, False
+    # a line of a form that is not read is right by the grammar, so this reader has no fault to show in it
+    return 0, whole, reason == "form"
+
+
+def shown_line(raw, reason, start, end):
+    """The line's text, with the place counted in its characters; for `utf8` it was counted in bytes."""
+    if reason != "utf8":
+        return raw.decode("utf-8", "replace"), start, end
+    front = raw[:start].decode("utf-8")
+    return front + "\ufffd" + raw[end:].decode("utf-8", "replace"), len(front), len(front) + 1
+
+
+def with_caret(line, number, start, end):
+    """The line as far as it is shown, and carets below the place."""
+    first = max(0, min(start - SHOWN // 2, len(line) - SHOWN))
+    last = min(len(line), first + SHOWN)
+    front, rear = ("..." if first else ""), ("..." if last < len(line) else "")
+    shown = front + "".join(map(printed, line[first:last])) + rear
+    before = len(front) + sum(map(width, line[first:start]))
+    marked = max(1, sum(map(width, line[start : min(end, last)])))
+    margin = f"  {number} | "
+    return [margin + shown, " " * (len(margin) - 2) + "| " + " " * before + "^" * marked]
+
+
+def printed(letter):
+    return letter if letter.isprintable() else "\u00b7"
+
+
+def width(letter):
+    """How many columns of a terminal a character takes."""
+    if unicodedata.combining(letter):
+        return 0
+    return 2 if unicodedata.east_asian_width(letter) in "WF" else 1
+
+
+def explained(path, data, status, output):
+    """The words on how the program ended, and the status of this one."""
+    if status == 0:
+        return f"{path}: accepted, {output.count(bytes([10]))} lines of report", 0
+    if status == 3:
+        _, _, number, reason = output.decode("ascii").split()
+        return explanation(path, data, int(number.rstrip(":")), reason), 1
+    return f"{path}: {OTHER_ENDS.get(status, f'the program ended with status {status}')}", 1 if status == 8 else 2
+
+
+def main(words):
+    program = BUILT
+    if words[:1] == ["--program"] and len(words) > 1:
+        program, words = Path(words[1]), words[2:]
+    if len(words) != 1:
+        print("usage: explain.py [--program PATH] SCRIPT")
+        return 2
+    if not program.exists():
+        print(f"no program at {program}; {HOW_TO_BUILD}")
+        return 2
+    try:
+        data = Path(words[0]).read_bytes()
+    except OSError as error:
+        print(f"{words[0]}: {error.strerror}")
+        return 2
+    ended = subprocess.run([program.resolve(), "run"], input=data, capture_output=True, check=False)
+    said, status = explained(words[0], data, ended.returncode, ended.stdout)
+    print(said)
+    return status
+
+
+if __name__ == "__main__":
+    sys.exit(main(sys.argv[1:]))

@@ -1,0 +1,387 @@
+#!/usr/bin/env python3
+"""Tests of the tools: python3 tools/test_tools.py
+
+No network, and no program is needed; where it is built, random scripts are run through it too.
+"""
+import contextlib
+import io
+import itertools
+import os
+import random
+import re
+import sys
+import tempfile
+import unittest
+import xml.etree.ElementTree as ElementTree
+from pathlib import Path
+
+TOOLS = Path(__file__).resolve().parent
+TESTS = TOOLS / "tests"
+ROWS = TESTS / "rows"
+PICTURES = TOOLS.parent / "docs" / "pictures"
+SHOP = TOOLS.parent / "examples" / "shop.script"
+sys.path[:0] = [str(TOOLS), str(TESTS)]
+
+import check_report
+import draw_life
+import explain
+import random_lives
+from report_text import Fault, read_report, split_reply
+from script_text import Refusal, TooLong, read_script
+from wrong_reports import WRONG
+
+HEAD = b"lines 64\nlife 1 power 0\n"
+# of each reason: a script, its line at fault, and what is marked there
+REFUSED = {
+    "utf8": (HEAD + b'0 put a "\xff"\n', 3, "\ufffd"),
+    "header": (b"# no lines line\nlines 63\n", 2, "63"),
+    "life": (b"lines 64\nlife 9 power 0\n", 2, "9"),
+    "lives": (b"lines 64\n" + b"life 1 power 0\n" * 1_001, 1_002, "life"),
+    "cut": (HEAD + b"cut 0 1\ncut 0 1\n", 4, "0"),
+    "client": (HEAD + b"1 count\n", 3, "1"),
+    "commands": (HEAD + b"0 count\n" * 100_001, 100_003, "0"),
+    "command": (HEAD + b"0 push a 1\n", 3, "push"),
+    "key": (HEAD + b"0 get " + b"k" * 65 + b"\n", 3, "k"),
+    "number": (HEAD + b"0 add a 01\n", 3, "01"),
+    "json": (HEAD + b'0 put a {"b":}\n', 3, "}"),
+    "fraction": (HEAD + b'0 put a {"price":1.5,"sold":2}\n', 3, "1.5"),
+    "long": (HEAD + b'0 put a "' + b"t" * 1_023 + b'"\n', 3, '"' + "t" * 60),
+    "form": (b"lines 64\nlife 2 power 0\n", 2, "life 2 power 0"),
+}
+
+
+def row(name):
+    return tuple((ROWS / f"{name}.{kind}").read_bytes() for kind in ("script", "report"))
+
+
+def judged(script, report):
+    return check_report.judge(read_script(script), read_report(report))
+
+
+def first_refusal(script):
+    try:
+        read_script(script)
+    except Refusal as refusal:
+        return refusal.line, refusal.reason
+    return None
+
+
+def said_by(main, words):
+    """What a tool prints, and its status."""
+    said = io.StringIO()
+    with contextlib.redirect_stdout(said), contextlib.redirect_stderr(said):
+        status = main([str(word) for word in words])
+    return said.getvalue(), status
+
+
+class LegalReports(unittest.TestCase):
+    def test_every_row_is_legal(self):
+        names = sorted(path.stem for path in ROWS.glob("*.report"))
+        self.assertGreaterEqual(len(names), 20)
+        for name in names:
+            with self.subTest(name):
+                self.assertTrue(judged(*row(name)).startswith("legal: "))
+
+    def test_pictured_reports_are_legal(self):
+        for script, report in ((SHOP, "shop.report"), (PICTURES / "two_shops.script", "two_shops.report")):
+            with self.subTest(report):
+                self.assertTrue(judged(script.read_bytes(), (PICTURES / report).read_bytes()).startswith("legal: "))
+
+    def test_random_lives_are_legal(self):
+        for seed in range(120):
+            choice = random.Random(seed)
+            clients, lives = choice.choice([1, 2, 3, 8]), choice.choice([1, 2, 3])
+            script = random_lives.script_text(choice, clients, lives, choice.randint(0, 60), cuts=True)
+            report = random_lives.report_text(choice, read_script(script))
+            with self.subTest(seed):
+                self.assertTrue(judged(script, report).startswith("legal: "))
+
+    def test_program_writes_legal_reports(self):
+        if not random_lives.PROGRAM.exists():
+            self.skipTest("the program is not built")
+        self.assertIsNone(random_lives.compare(100))
+        written = random_lives.answer_of_program(random_lives.PROGRAM, SHOP.read_bytes())
+        self.assertEqual((PICTURES / "shop.report").read_bytes(), written)
+
+
+class WrongReports(unittest.TestCase):
+    def test_one_thing_wrong(self):
+        self.assertGreaterEqual(len(WRONG), 40)
+        for name, old, new, line, why in WRONG:
+            script, report = row(name)
+            with self.subTest(f"{name}: {old!r} to {new!r}"):
+                self.assertIn(old, report.decode())
+                wrong = report.decode().replace(old, new, 1).encode()
+                with self.assertRaises(Fault) as caught:
+                    judged(script, wrong)
+                self.assertIn(why, caught.exception.why)
+                self.assertEqual(line, caught.exception.line)
+
+    def test_line_that_is_not_utf8(self):
+        script, report = row("written_read_back")
+        with self.assertRaises(Fault) as caught:
+            judged(script, report.replace(b"read", b"\xff"))
+        self.assertEqual((4, "the line is not UTF-8"), (caught.exception.line, caught.exception.why))
+
+    def test_answered_first_is_refused_first(self):
+        """A wrong reply is named though a later line is none of a report."""
+        script, report = row("written_read_back")
+        with self.assertRaises(Fault) as caught:
+            judged(script, report.replace(b"= new", b"= none").replace(b"power", b"Power"))
+        self.assertEqual(2, caught.exception.line)
+
+    def test_broken_off_after_each_line(self):
+        """Every front of a legal report is refused where it ends, and not before."""
+        for name in sorted(path.stem for path in ROWS.glob("*.report")):
+            script, report = row(name)
+            lines = report.splitlines(keepends=True)
+            for count in range(len(lines)):
+                with self.subTest(f"{name}, {count} lines"), self.assertRaises(Fault) as caught:
+                    judged(script, b"".join(lines[:count]))
+                self.assertEqual(count + 1, caught.exception.line)
+                self.assertIn("the report ends before", caught.exception.why)
+
+    def test_each_changed_number_of_a_report_without_choice(self):
+        """Where nothing is free, no number of a report can be another."""
+        for name in ("written_read_back", "room", "next_and_count", "two_clients", "stopped_linked_kept"):
+            script, report = row(name)
+            text = report.decode()
+            for found in re.finditer(r"(?<![A-Za-z0-9])[0-9]+(?![A-Za-z0-9])", text):
+                wrong = f"{text[: found.start()]}{int(found[0]) + 1}{text[found.end() :]}"
+                with self.subTest(f"{name} at {found.start()}"), self.assertRaises(Fault):
+                    judged(script, wrong.encode())
+
+
+class Statuses(unittest.TestCase):
+    def test_check_report(self):
+        with tempfile.TemporaryDirectory() as folder:
+            bad = Path(folder) / "bad.script"
+            bad.write_bytes(b"lines 1\n")
+            good, report = ROWS / "room.script", ROWS / "room.report"
+            cases = [
+                ([good, report], 0, "legal: lives 1, entries 23, reads 0, documents 21\n"),
+                ([good, ROWS / "nothing.report"], 1, "line 1: the report ends before life 0\n"),
+                ([bad, report], 2, "no script: line 1: header\n"),
+                ([good], 3, "usage: check_report.py SCRIPT REPORT\n"),
+                ([good, Path(folder) / "none"], 3, f"{folder}/none: No such file or directory\n"),
+            ]
+            for words, status, said in cases:
+                self.assertEqual((said, status), said_by(check_report.main, words))
+
+    def test_too_long(self):
+        self.assertEqual([], read_script(b"\n" * 16_777_216).lives)
+        with self.assertRaises(TooLong):
+            read_script(b"\n" * 16_777_217)
+
+    def test_draw_life(self):
+        with tempfile.TemporaryDirectory() as folder:
+            out = Path(folder) / "out.svg"
+            self.assertEqual(("", 0), said_by(draw_life.main, [ROWS / "room.report", out]))
+            self.assertEqual(draw_life.drawn(row("room")[1]), out.read_text(encoding="utf-8"))
+            self.assertEqual(1, said_by(draw_life.main, [ROWS / "room.script"])[1])
+            self.assertEqual(2, said_by(draw_life.main, [])[1])
+
+
+class Scripts(unittest.TestCase):
+    def test_first_reason(self):
+        for reason, (script, line, _) in REFUSED.items():
+            with self.subTest(reason):
+                self.assertEqual(None if reason == "form" else (line, reason), first_refusal(script))
+
+    def test_edges(self):
+        documents = {
+            "-0": "fraction",
+            "1e1": "fraction",
+            "1e999": "json",
+            "18446744073709551615": None,
+            "18446744073709551616": "fraction",
+            "-9223372036854775809": "fraction",
+            '{"a":1.5,"a":1}': None,
+            "[" * 127 + "]" * 127: None,
+            "[" * 128 + "]" * 128: "json",
+            "[" * 100_000: "json",
+            '"\\ud800"': "json",
+            '"\\ud83d\\ude00"': None,
+            "NaN": "json",
+            " 1\t": None,
+            "": "json",
+            "1 2": "json",
+            '"' + "t" * 1_022 + '"': None,
+        }
+        for document, reason in documents.items():
+            with self.subTest(document[:40]):
+                expected = (3, reason) if reason else None
+                self.assertEqual(expected, first_refusal(HEAD + f"0 put a {document}\n".encode()))
+
+    def test_compact_text(self):
+        script = HEAD + '0 put a {"b" : [1, -2] ,"\u00e9":"\\u00e9\\/\\u001F\\n", "a":{"x":1,"x":2}}'.encode()
+        self.assertEqual(
+            '{"a":{"x":2},"b":[1,-2],"\u00e9":"\u00e9/\\u001f\\n"}', read_script(script).lives[0].commands[0].document
+        )
+
+    def test_lines(self):
+        script = b"\r\n#\xff\r\nlines 64\r\n\nlife 1 power 0\r\n0 put a 1\r\n0 count"
+        self.assertEqual(["put a 1", "count"], [command.text for command in read_script(script).lives[0].commands])
+        self.assertEqual((1, "header"), first_refusal(b"lines 64\r"))
+
+    def test_replies_are_split_without_a_script(self):
+        cases = {
+            'put a "x = new" = replaced': ('put a "x = new"', "replaced"),
+            "next = key =": ("next", "key ="),
+            "next = = none": ("next =", "none"),
+            "get = = =": ("get =", "="),
+            "count = count 1": ("count", "count 1"),
+            "add = 1 = sum 1": ("add = 1", "sum 1"),
+        }
+        for rest, parts in cases.items():
+            self.assertEqual(parts, split_reply(1, rest))
+        for rest in ("put a { = new", "look a = 1", "get a", "get a = "):
+            with self.assertRaises(Fault):
+                split_reply(1, rest)
+
+
+class Explanations(unittest.TestCase):
+    def test_each_reason(self):
+        self.assertEqual(set(explain.SENTENCES), set(REFUSED))
+        for reason, (script, line, marked) in REFUSED.items():
+            with self.subTest(reason):
+                said, status = explain.explained("a.script", script, 3, f"refused line {line}: {reason}\n".encode())
+                self.assertEqual(1, status)
+                self.assertEqual(f"a.script, line {line}: {reason}", said.split("\n")[0])
+                self.assertIn(explain.SENTENCES[reason], said)
+                self.assertTrue(said.split("\n")[-1].startswith("  "))
+                self.assertTrue(self.marked(said).startswith(marked), self.marked(said))
+
+    def marked(self, said):
+        """What stands above the carets."""
+        shown, carets = said.split("\n")[2:4]
+        return shown[carets.index("^") : carets.rindex("^") + 1]
+
+    def test_another_fault(self):
+        said, _ = explain.explained("a.script", HEAD, 3, b"refused line 2: cut\n")
+        self.assertIn("The place is a guess", said)
+
+    def test_other_ends(self):
+        self.assertEqual(("a: accepted, 2 lines of report", 0), explain.explained("a", HEAD, 0, b"life\npower\n"))
+        for status, ended in ((8, 1), (2, 2), (6, 2), (-11, 2)):
+            self.assertEqual(ended, explain.explained("a", HEAD, status, b"")[1])
+
+    def test_runs_the_program(self):
+        with tempfile.TemporaryDirectory() as folder:
+            program, script = Path(folder) / "program", Path(folder) / "a.script"
+            program.write_text("#!/bin/sh\ncat > /dev/null\necho refused line 3: client\nexit 3\n")
+            os.chmod(program, 0o755)
+            script.write_bytes(REFUSED["client"][0])
+            said, status = said_by(explain.main, ["--program", program, script])
+            self.assertEqual((f"{script}, line 3: client", 1), (said.split("\n")[0], status))
+            self.assertEqual(2, said_by(explain.main, ["--program", Path(folder) / "none", script])[1])
+
+    def test_program_gives_the_same_reasons(self):
+        if not random_lives.PROGRAM.exists():
+            self.skipTest("the program is not built")
+        for reason, (script, line, _) in REFUSED.items():
+            if reason not in ("form", "lives", "cut"):
+                with self.subTest(reason):
+                    self.assertEqual((line, reason), random_lives.answer_of_program(random_lives.PROGRAM, script))
+
+
+class Pictures(unittest.TestCase):
+    def elements(self, picture):
+        """The elements of a picture but those of its legend, each with the x and y that it is moved by."""
+        root = ElementTree.fromstring(picture)
+        found = []
+        pending = [(root, 0.0, 0.0)]
+        while pending:
+            element, x, y = pending.pop()
+            moved = re.fullmatch(r"translate\((\S+) (\S+)\)", element.get("transform", ""))
+            if moved:
+                x, y = x + float(moved[1]), y + float(moved[2])
+            if element.get("class") != "legend":
+                found.append((element, x, y))
+                pending.extend((child, x, y) for child in element)
+        return found
+
+    def marks(self, picture):
+        counts = dict.fromkeys(["entry", "entry unanswered", "read", "stop", "full", "power"], 0)
+        for element, _, _ in self.elements(picture):
+            if element.get("class") in counts:
+                counts[element.get("class")] += 1
+        return counts
+
+    def expected(self, report):
+        lives = read_report(report).lives
+        entries = [entry for life in lives for entry in life.entries]
+        unanswered = sum(entry.rest.endswith(" = unanswered") for entry in entries)
+        return {
+            "entry": len(entries) - unanswered,
+            "entry unanswered": unanswered,
+            "read": sum(len(life.reads) for life in lives),
+            "stop": sum(len(life.stops) for life in lives),
+            "full": sum(len(life.fulls) for life in lives),
+            "power": len(lives),
+        }
+
+    def reports(self):
+        for path in sorted(ROWS.glob("*.report")):
+            yield path.stem, path.read_bytes()
+        for clients, lives, commands in itertools.product((1, 2, 8), (1, 3), (12, 30, 300)):
+            choice = random.Random(clients * 1_000 + lives * 100 + commands)
+            text = random_lives.script_text(choice, clients, lives, commands // lives, cuts=clients > 1)
+            yield f"{clients} clients, {lives} lives, {commands}", random_lives.report_text(choice, read_script(text))
+
+    def test_marks(self):
+        for name, report in self.reports():
+            with self.subTest(name):
+                self.assertEqual(self.expected(report), self.marks(draw_life.drawn(report)))
+
+    def test_pictures_of_the_documents_are_these(self):
+        """After a change of the drawing: draw_life.py docs/pictures/NAME.report docs/pictures/NAME.svg"""
+        for report in PICTURES.glob("*.report"):
+            with self.subTest(report.stem):
+                self.assertEqual(draw_life.drawn(report.read_bytes()), report.with_suffix(".svg").read_text(encoding="utf-8"))
+
+    def test_long_reports_have_no_texts(self):
+        for name, report in self.reports():
+            picture = draw_life.drawn(report)
+            rows = len(draw_life.rows_of(read_report(report)))
+            with self.subTest(name):
+                self.assertEqual(rows <= draw_life.MOST_ROWS_WITH_TEXT and " = " in report.decode(), 'class="code"' in picture)
+
+    def test_no_text_is_small(self):
+        sizes = [float(size) for size in re.findall(r"font-size: ([0-9.]+)px", draw_life.STYLE)]
+        self.assertGreaterEqual(min(sizes), 11)
+
+    def test_labels_do_not_overlap(self):
+        for name, report in self.reports():
+            boxes = [self.box(*found) for found in self.elements(draw_life.drawn(report)) if found[0].tag.endswith("}text")]
+            with self.subTest(name):
+                for one, other in itertools.combinations(boxes, 2):
+                    apart = one[2] <= other[0] or other[2] <= one[0] or one[3] <= other[1] or other[3] <= one[1]
+                    self.assertTrue(apart, (one, other))
+                self.assertLessEqual(max((box[2] for box in boxes), default=0), draw_life.WIDTH)
+                self.assertGreaterEqual(min((box[0] for box in boxes), default=0), 0)
+
+    def box(self, element, x, y):
+        """About the rectangle that a text takes, by letters as wide as those of common fonts, and its words."""
+        kind = element.get("class", "").split()
+        words = "".join(element.itertext())
+        wide = len(words) * (7.55 if "code" in kind else 6.0 if "small" in kind else 6.6)
+        left = x + float(element.get("x")) - wide * (1 if "right" in kind else 0.5 if "middle" in kind else 0)
+        top = y + float(element.get("y")) - 9
+        return left, top, left + wide, top + 11, words
+
+    def test_strange_letters(self):
+        script = HEAD + '0 put a "<&>\u3042\ufffe\x7f\x85"\n'.encode() + b"0 get a\n"
+        text = '"<&>\u3042\ufffe\x7f\x85"'
+        report = f"life 0 clients 1 from 0\n0 0.1 put a {text} = new\nread 0.2 at 1 get a = {text}\npower 0 kept 1 of 1 documents 1\n"
+        self.assertTrue(judged(script, report.encode()).startswith("legal"))
+        self.assertEqual(1, self.marks(draw_life.drawn(report.encode()))["entry"])
+
+    def test_wrong_reports_are_refused(self):
+        for report in (b"life 0 clients 1 from 0\n", b"life 0 clients 9 from 0\npower 0 kept 0 of 0 documents 0\n", b"x\n"):
+            with self.assertRaises(Fault):
+                draw_life.drawn(report)
+
+
+if __name__ == "__main__":
+    unittest.main()
