@@ -49,7 +49,7 @@ write_cell-requires-in-loop-i-clause-guard g c =
       omega arith,
       subst (IsIdle c.loop-i.seat.known.local) (sym c.from-j.ensures)
           (still_idle instance s c.args.cell words c.next_number-number.ensures.cells c.requires.cell.0 (omega (arith, c.told-op)) c.loop-i.i c.loop-i.seat (omega arith) c.loop-i.invariant.seat),
-      c.fits-op c.loop-i.i 0,
+      c.fits-op c.loop-i.i,
     )
 
 pub returns-in_err-write_cell-2-clause-halted : goal.returns-in_err-write_cell-2-clause-halted
