@@ -307,21 +307,11 @@ class Numbers:
 
     def take(self, text):
         self.count += 1
-        if not text.isascii():
-            raise ValueError("digits of another script")
-        if re.search("[.eE]", text) and abs(float(text)) == float("inf"):
-            raise ValueError("a number beyond all doubles")
-        if len(text) > 20:
-            return self.take_long(text)
-        value = int(text) if re.fullmatch("-?[0-9]+", text) else None
+        if not text.isascii() or abs(float(text)) == float("inf"):
+            raise ValueError("digits of another script, or a number beyond all doubles")
+        value = int(text) if re.fullmatch("-?[0-9]{1,20}", text) else None
         fits = value is not None and -(2**63) <= value < 2**64 and text != "-0"
         return value if fits else NoInteger(self.count - 1)
-
-    def take_long(self, text):
-        """A number of more digits than 64 bits have, which must still lie within the doubles."""
-        if abs(float(text)) == float("inf"):
-            raise ValueError("a number beyond all doubles")
-        return NoInteger(self.count - 1)
 
 
 def no_constant(name):

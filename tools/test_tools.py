@@ -48,6 +48,68 @@ REFUSED = {
     "long": (HEAD + b'0 put a "' + b"t" * 1_023 + b'"\n', 3, '"' + "t" * 60),
     "form": (b"lines 64\nlife 2 power 0\n", 2, "life 2 power 0"),
 }
+# lines and the reasons for which they are refused, with what is marked in them: where no lines line was read,
+HEADERS = {
+    "lines 64": (None, ""),
+    "lines 16384": (None, ""),
+    "lines 16385": ("header", "16385"),
+    "lines 064": ("header", "064"),
+    "lines": ("header", ""),
+    "lines 64 ": ("header", ""),
+    "life 1 power 0": ("header", "life"),
+}
+# where no life has begun,
+FIRST_LIVES = {
+    "life 8 power 18446744073709551615": (None, ""),
+    "life 0 power 0": ("life", "0"),
+    "life 1 power 18446744073709551616": ("life", "18446744073709551616"),
+    "life 1 Power 0": ("life", "Power"),
+    "life 1 power": ("life", ""),
+    "life 1 power 0 0 0": ("life", "0 0"),
+    "lines 64": ("life", "lines"),
+    "0 count": ("life", "0"),
+    "cut 0 1": ("life", "cut"),
+}
+# and in a life of one client
+IN_A_LIFE = {
+    "life 9 power 0": ("life", "9"),
+    " life 1 power 0": ("client", " "),
+    "lines 64": ("client", "lines"),
+    "cut 0 18446744073709551615": (None, ""),
+    "cut 0 18446744073709551616": ("cut", "18446744073709551616"),
+    "cut 1 5": ("cut", "1"),
+    "cut 0": ("cut", ""),
+    "cut 0 1 2": ("cut", "2"),
+    "00 count": ("client", "00"),
+    "+0 count": ("client", "+0"),
+    "0": ("command", ""),
+    "0 counts": ("command", "counts"),
+    "0 count 1": ("command", "1"),
+    "0 get a b": ("command", "b"),
+    "0 get": ("command", ""),
+    "0 put a": ("command", ""),
+    "0 put a ": ("json", ""),
+    "0 put a  1": (None, ""),
+    "0 next a b c": ("command", "b c"),
+    "0 get ": ("key", ""),
+    "0 next ": ("key", ""),
+    "0 add  1": ("key", " "),
+    "0 get !~": (None, ""),
+    "0 get a\x7fb": ("key", "\x7f"),
+    "0 get a\tb": ("key", "\t"),
+    "0 get caf\u00e9": ("key", "\u00e9"),
+    "0 get " + "k" * 64: (None, ""),
+    "0 get " + "k" * 66: ("key", "kk"),
+    "0 add a 9223372036854775807": (None, ""),
+    "0 add a 9223372036854775808": ("number", "9223372036854775808"),
+    "0 add a -9223372036854775808": (None, ""),
+    "0 add a -9223372036854775809": ("number", "-9223372036854775809"),
+    "0 add a -0": ("number", "-0"),
+    "0 put a [1.5,-0]": ("fraction", "1.5"),
+    '0 put a {"b":1e2,"a":-0}': ("fraction", "1e2"),
+    '0 put a ["1.5",[-0]]': ("fraction", "-0"),
+    '0 put a [1,"\\ud800"]': ("json", '"\\ud800"'),
+}
 
 
 def row(name):
@@ -188,7 +250,27 @@ class Scripts(unittest.TestCase):
             with self.subTest(reason):
                 self.assertEqual(None if reason == "form" else (line, reason), first_refusal(script))
 
-    def test_edges(self):
+    def test_lines_before_a_life(self):
+        for front, lines in ((b"", HEADERS), (b"lines 64\n", FIRST_LIVES)):
+            for line, (reason, marked) in lines.items():
+                with self.subTest(line):
+                    self.assertEqual((reason, marked), self.refusal(front, line))
+
+    def test_lines_of_a_life(self):
+        for line, (reason, marked) in IN_A_LIFE.items():
+            with self.subTest(line):
+                self.assertEqual((reason, marked), self.refusal(HEAD, line))
+
+    def refusal(self, front, line):
+        """The reason for which a line after others is refused, and what is marked in it."""
+        try:
+            read_script(front + line.encode() + b"\n")
+        except Refusal as refusal:
+            self.assertEqual(front.count(b"\n") + 1, refusal.line)
+            return refusal.reason, line[refusal.start : refusal.end]
+        return None, ""
+
+    def test_documents(self):
         documents = {
             "-0": "fraction",
             "1e1": "fraction",
