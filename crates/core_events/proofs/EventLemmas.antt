@@ -22,7 +22,7 @@ use Rattle.cx_core.specs.QueueEvents.{entry_in, linked, lost, seen_word}
 use Rattle.cx_core.specs.Region.{place_of}
 use Rattle.cx_core.specs.Rights.{held_words, is_at, shared_on}
 use Rattle.cx_core.specs.RootEvents.{outrun, published}
-use Rattle.cx_core.specs.State.{Core, EachLocal, IsWhole, Instance, Scene, State, instance_of, opening_state}
+use Rattle.cx_core.specs.State.{Core, EachLocal, EachScene, IsWhole, Instance, Scene, State, instance_of, opening_state}
 use Rattle.cx_core.proofs.StateLemmas.{opening_at, opening_whole}
 use Rattle.cx_core.proofs.ListLemmas.{set_here, slice_get-append, slice_get-set_same, slice_get-set_other}
 
@@ -213,14 +213,6 @@ opening_kept callers lines base some few slots = record {
   codes = λ caller l at. subst (λ (x : Local). HasCode callers x.downgraded) (sym (opening_at callers base.place caller l at).1) (code_none callers);
 }
 
--- what is told of a state's step is told of it where the words are read from elsewhere
-pub tells_here : (core : Core) (step : List ℕ → List ℕ → List ℕ × List ℕ) (reads : List ℕ → Bool) (words : List ℕ) (told : Told) (event : Event) (l : Local) → words ≡ core.state.words →
-    slice_get core.state.locals event.caller ≡ Some l →
-    ((x : Local) → slice_get core.state.locals event.caller ≡ Some x → Tells told (instance_of core step reads) (scene_of (instance_of core step reads) core.state) event.kind x) →
-    Tells told (instance_of core step reads) (scene_of (instance_of core step reads) (record { words = words; locals = core.state.locals })) event.kind l
-tells_here core step reads words told event l same at tells =
-    subst (λ ws. Tells told (instance_of core step reads) (scene_of (instance_of core step reads) (let now : State = record { words = ws; locals = core.state.locals } in now)) event.kind l) (sym same) (tells l at)
-
 -- the event that a step of its caller is
 pub applied : (made : Bool) (instance : Instance) (event : Event) (s : State) (words' : List ℕ) (l l' : Local) →
     slice_get s.locals event.caller ≡ Some l →
@@ -241,3 +233,16 @@ applied false instance event s words' l l' at did = (
 pub IfOk-then : {X E : Type 0} (r : Result X E) (P Q : X → Type 0) → IfOk r P → ((x : X) → P x → Q x) → IfOk r Q
 IfOk-then (Ok x) P Q p f = f x p
 IfOk-then (Err e) P Q p f = tt
+
+-- a step that is told what holds of its state is the caller's step there, where the words are read from elsewhere
+pub did_here : {E : Type 0} (core : Core) (step : List ℕ → List ℕ → List ℕ × List ℕ) (reads : List ℕ → Bool) (told : Told) (event : Event) (words words' : List ℕ) (l l' : Local) (r : Result Bool E) →
+    words ≡ core.state.words → slice_get core.state.locals event.caller ≡ Some l →
+    ((x : Local) → slice_get core.state.locals event.caller ≡ Some x → Tells told (instance_of core step reads) (scene_of (instance_of core step reads) core.state) event.kind x) →
+    IfOk r (λ made. EachScene core.callers core.base words (λ instance scene. Tells told instance scene event.kind l → Did made instance scene event.kind l l' words')) →
+    IfOk r (λ made. Did made (instance_of core step reads) (scene_of (instance_of core step reads) (record { words = words; locals = core.state.locals })) event.kind l l' words')
+did_here core step reads told event words words' l l' r same at tells did =
+    let instance = instance_of core step reads in
+    let before : List ℕ → State = λ ws. record { words = ws; locals = core.state.locals } in
+    let scene = scene_of instance (before words) in
+    let here : Tells told instance scene event.kind l = subst (λ ws. Tells told instance (scene_of instance (before ws)) event.kind l) (sym same) (tells l at) in
+    IfOk-then r _ (λ made. Did made instance scene event.kind l l' words') did (λ made d. d step reads scene.history here)

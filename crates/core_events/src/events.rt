@@ -1,7 +1,7 @@
 //! One step of the core, executable: the guard of each kind, its step on one word, and the change of its caller's
 //! local state.
 
-ghost use Rattle.std.specs.Prelude.{◌≡◌, ◌^◌, ◌<◌, ◌≤◌, ◌↔◌, length, slice_get, IsTrue, IfOk, OnErr, Some};
+ghost use Rattle.std.specs.Prelude.{◌≡◌, ◌^◌, ◌<◌, ◌≤◌, ◌↔◌, length, slice_get, IsTrue, IfOk, OnErr, None, Some};
 ghost use Rattle.core_events.specs.Codes.{HasCode};
 ghost use Rattle.core_events.specs.Told.{Tells, TellsAnswers};
 ghost use Rattle.cx_core.specs.Base.{LawfulBase};
@@ -140,9 +140,9 @@ fn tells<O: Object>(
     }
 }
 
-/// No answers.
+/// What a step is told that answers nothing.
 fn only_full(full: bool) -> Told
-    ensures { result.full ≡ full }
+    ensures { result ≡ record { full = full; answers = None } }
 {
     Told {
         full,

@@ -5,8 +5,8 @@ use Rattle.core_events.specs.Told.{Tells}
 use Rattle.cx_core.specs.declared.local.Local.{Local}
 use Rattle.cx_core.specs.Events.{Applied, Did}
 use Rattle.cx_core.specs.Merge.{history_of, scene_of}
-use Rattle.cx_core.specs.State.{Core, EachScene, State, instance_of}
-use Rattle.core_events.proofs.EventLemmas.{applied, IfOk-then, step-follows, still_kept, tells_here}
+use Rattle.cx_core.specs.State.{Core, State, instance_of}
+use Rattle.core_events.proofs.EventLemmas.{applied, did_here, IfOk-then, step-follows, still_kept}
 use Rattle.core_events.proofs.ImageLemmas.{history_few}
 use Rattle.cx_core.proofs.ListLemmas.{over_all}
 use Rattle.core_events.proofs.events.apply.Goals as goal
@@ -21,23 +21,15 @@ invariant_of-state g c =
     let core : Core = record { callers = s.callers; lines = s.lines; base = s.base; state = record { words = s.words.items; locals = s.locals.items } } in
     let instance = instance_of core step reads in
     let before : State = record { words = c.deref_mut.result.now; locals = s.locals.items } in
-    let scene = scene_of instance before in
-    let long = c.step.auto.words ∙ c.deref_mut.ensures.len in
     let within : event.caller < length s.locals.items = omega (arith, s.locals.ok) in
     let at = slice_get_read s.locals.items (length s.locals.items) event.caller l refl within c.index_mut-local.ensures.value in
-    let tells : Tells c.in_ok-told.told instance scene event.kind l =
-    tells_here core step reads c.deref_mut.result.now c.in_ok-told.told event l c.deref_mut.ensures.value at
-    (subst (λ (k : Core). (x : Local) → slice_get k.state.locals event.caller ≡ Some x → Tells c.in_ok-told.told (instance_of k step reads) (scene_of (instance_of k step reads) k.state) event.kind x) (sym c.state.view_is) c.in_ok-told.ensures) in
-    let did = IfOk-then c.step.result
-    (λ made. EachScene s.callers s.base before.words (λ instance scene. Tells c.in_ok-told.told instance scene event.kind l → Did made instance scene event.kind l c.step.new.local c.step.new.words))
-    (λ made. Did made instance scene event.kind l c.step.new.local c.step.new.words)
-    c.step.ensures.ok (λ made d. d instance.step instance.reads scene.history tells) in
+    let tells = subst (λ (k : Core). (x : Local) → slice_get k.state.locals event.caller ≡ Some x → Tells c.in_ok-told.told (instance_of k step reads) (scene_of (instance_of k step reads) k.state) event.kind x) (sym c.state.view_is) c.in_ok-told.ensures in
+    let did = did_here core step reads c.in_ok-told.told event c.deref_mut.result.now c.step.new.words l c.step.new.local c.step.result c.deref_mut.ensures.value at tells c.step.ensures.ok in
     let small : s.base.place + length (history_of s.base.place s.locals.items) ≤ 2 ^ 40 =
-    history_few s.base.place s.locals.items c.state.invariant.whole.entries
-    (subst (λ (k : Core). k.base.place ≤ 2 ^ 40) (sym c.state.view_is) c.requires.base.place_within) in
-    rw (over_all s.words.len c.step.new.words s.words.items long)
+    history_few s.base.place s.locals.items c.state.invariant.whole.entries (subst (λ (k : Core). k.base.place ≤ 2 ^ 40) (sym c.state.view_is) c.requires.base.place_within) in
+    rw (over_all s.words.len c.step.new.words s.words.items (c.step.auto.words ∙ c.deref_mut.ensures.len))
     (still_kept core c.step.new.words event.caller l c.step.new.local c.state.invariant (c.step.auto.words ∙ ap length c.deref_mut.ensures.value) at
-    (step-follows c.step.result instance scene event.kind l c.step.new.local c.step.new.words small did c.step.ensures.err))
+    (step-follows c.step.result instance (scene_of instance before) event.kind l c.step.new.local c.step.new.words small did c.step.ensures.err))
 
 pub returns-clause-ok : goal.returns-clause-ok
 returns-clause-ok g c =
@@ -49,15 +41,12 @@ returns-clause-ok g c =
     let core : Core = record { callers = s.callers; lines = s.lines; base = s.base; state = record { words = s.words.items; locals = s.locals.items } } in
     let instance = instance_of core step reads in
     let before : State = record { words = c.deref_mut.result.now; locals = s.locals.items } in
-    let scene = scene_of instance before in
-    let long = c.step.auto.words ∙ c.deref_mut.ensures.len in
     let within : event.caller < length s.locals.items = omega (arith, s.locals.ok) in
     let at = slice_get_read s.locals.items (length s.locals.items) event.caller l refl within c.index_mut-local.ensures.value in
-    let tells : Tells c.in_ok-told.told instance scene event.kind l =
-    tells_here core step reads c.deref_mut.result.now c.in_ok-told.told event l c.deref_mut.ensures.value at
-    (subst (λ (k : Core). (x : Local) → slice_get k.state.locals event.caller ≡ Some x → Tells c.in_ok-told.told (instance_of k step reads) (scene_of (instance_of k step reads) k.state) event.kind x) (sym c.state.view_is) c.in_ok-told.ensures) in
-    rw (← c.state.view_is, over_all s.words.len c.step.new.words s.words.items long, ← c.deref_mut.ensures.value)
+    let tells = subst (λ (k : Core). (x : Local) → slice_get k.state.locals event.caller ≡ Some x → Tells c.in_ok-told.told (instance_of k step reads) (scene_of (instance_of k step reads) k.state) event.kind x) (sym c.state.view_is) c.in_ok-told.ensures in
+    let did = did_here core step reads c.in_ok-told.told event c.deref_mut.result.now c.step.new.words l c.step.new.local c.step.result c.deref_mut.ensures.value at tells c.step.ensures.ok in
+    rw (← c.state.view_is, over_all s.words.len c.step.new.words s.words.items (c.step.auto.words ∙ c.deref_mut.ensures.len), ← c.deref_mut.ensures.value)
     (IfOk-then c.step.result
-    (λ made. EachScene s.callers s.base before.words (λ instance scene. Tells c.in_ok-told.told instance scene event.kind l → Did made instance scene event.kind l c.step.new.local c.step.new.words))
+    (λ made. Did made instance (scene_of instance before) event.kind l c.step.new.local c.step.new.words)
     (λ made. Applied made instance event before (record { words = c.step.new.words; locals = set before.locals event.caller c.step.new.local }))
-    c.step.ensures.ok (λ made d. applied made instance event before c.step.new.words l c.step.new.local at (d instance.step instance.reads scene.history tells)))
+    did (λ made d. applied made instance event before c.step.new.words l c.step.new.local at d))
