@@ -1,6 +1,8 @@
 //! The document store: pairs of a key and a document in a fixed number of lines, over the words of any memory.
 #![tactic(auto)]
 
+#[cfg(test)]
+mod access_tests;
 mod changes;
 #[cfg(test)]
 mod mixed_tests;

@@ -37,7 +37,7 @@ impl Numbers {
     }
 }
 
-fn digit(n: u64) -> u8 {
+pub(crate) fn digit(n: u64) -> u8 {
     DIGITS[(n % 10) as usize]
 }
 
