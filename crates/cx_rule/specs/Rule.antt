@@ -107,3 +107,4 @@ pub record RuleHolds (instance : Instance) (s : atomic.State ℕ (List Known)) :
   pub each : (seat i : ℕ) (view : List Known) (known : Known) → get_elem? s.views seat ≡ some view → slice_get view i ≡ Some known → IsKnown instance law.history locals place_of seat i known
   pub still : StandStill instance s.words
   pub fit : EachLocal locals (λ _ l. HasWords64 l)
+  pub some : 0 < length instance.base.words

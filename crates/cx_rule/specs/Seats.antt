@@ -50,7 +50,6 @@ HasCall (ReleaseExclusive r) = Unit {0}
 HasCall (LoadWord r i refused) = Unit {0}
 HasCall (StoreWord r i v) = Unit {0}
 HasCall (Persist r i) = Unit {0}
-HasCall _ = ⊥
 
 -- the guard as far as a seat sees it: not that words are a full image, nor what a load will find
 abbrev pub SeenGuard : Instance → Kind → Local → Type 0
