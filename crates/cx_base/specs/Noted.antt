@@ -34,12 +34,12 @@ pub shown_words : (n : ℕ) (notes : List Note) (first now : List ℕ) → Notes
 shown_words n notes first now s = leads_to_words n notes first now s.words s.leads
 
 -- one load more
-load_leads : (notes : List Note) (at v : ℕ) (ws now : List ℕ) → NotesLead notes ws now → slice_index now at ≡ v → NotesLead (notes ++ (false, at, v) ∷ []) ws now
+pub load_leads : (notes : List Note) (at v : ℕ) (ws now : List ℕ) → NotesLead notes ws now → slice_index now at ≡ v → NotesLead (notes ++ (false, at, v) ∷ []) ws now
 load_leads [] at v ws now l e = (ap (λ x. slice_index x at) (sym l) ∙ e, l)
 load_leads ((false, a, b) ∷ notes) at v ws now l e = (l.0, load_leads notes at v ws now l.1 e)
 load_leads ((true, a, b) ∷ notes) at v ws now l e = (l.0, load_leads notes at v (slice_set ws a b) now l.1 e)
 
-led_by_load : (notes : List Note) (at v : ℕ) (ws now : List ℕ) → NotesLead (notes ++ (false, at, v) ∷ []) ws now → NotesLead notes ws now × (slice_index now at ≡ v)
+pub led_by_load : (notes : List Note) (at v : ℕ) (ws now : List ℕ) → NotesLead (notes ++ (false, at, v) ∷ []) ws now → NotesLead notes ws now × (slice_index now at ≡ v)
 led_by_load [] at v ws now l = (l.1, ap (λ x. slice_index x at) l.1 ∙ l.0)
 led_by_load ((false, a, b) ∷ notes) at v ws now l = (let p = led_by_load notes at v ws now l.1 in ((l.0, p.0), p.1))
 led_by_load ((true, a, b) ∷ notes) at v ws now l = (let p = led_by_load notes at v (slice_set ws a b) now l.1 in ((l.0, p.0), p.1))
@@ -51,12 +51,12 @@ shows_load n notes at v = record {
 }
 
 -- one store more
-store_leads : (notes : List Note) (at v : ℕ) (ws before : List ℕ) → v < 2 ^ 64 → NotesLead notes ws before → NotesLead (notes ++ (true, at, v) ∷ []) ws (slice_set before at v)
+pub store_leads : (notes : List Note) (at v : ℕ) (ws before : List ℕ) → v < 2 ^ 64 → NotesLead notes ws before → NotesLead (notes ++ (true, at, v) ∷ []) ws (slice_set before at v)
 store_leads [] at v ws before small l = (small, ap (λ x. slice_set x at v) l)
 store_leads ((false, a, b) ∷ notes) at v ws before small l = (l.0, store_leads notes at v ws before small l.1)
 store_leads ((true, a, b) ∷ notes) at v ws before small l = (l.0, store_leads notes at v (slice_set ws a b) before small l.1)
 
-led_by_store : (notes : List Note) (at v : ℕ) (ws now : List ℕ) → NotesLead (notes ++ (true, at, v) ∷ []) ws now → (before : List ℕ) × NotesLead notes ws before × (now ≡ slice_set before at v)
+pub led_by_store : (notes : List Note) (at v : ℕ) (ws now : List ℕ) → NotesLead (notes ++ (true, at, v) ∷ []) ws now → (before : List ℕ) × NotesLead notes ws before × (now ≡ slice_set before at v)
 led_by_store [] at v ws now l = (ws, refl, l.1)
 led_by_store ((false, a, b) ∷ notes) at v ws now l = (let p = led_by_store notes at v ws now l.1 in (p.0, (l.0, p.1), p.2))
 led_by_store ((true, a, b) ∷ notes) at v ws now l = (let p = led_by_store notes at v (slice_set ws a b) now l.1 in (p.0, (l.0, p.1), p.2))

@@ -1,5 +1,5 @@
 -- Each event of the core keeps the rule of the table.
-use Rattle.std.proofs.Common.{length, arith, ◌≡◌, ◌≢◌, ◌<◌, ⊎_elim, ℕ, Bool, zero, suc, List, [], ◌∷◌, set, slice_index, refl, ap, sym, subst, ◌∙◌, Some}
+use Rattle.std.proofs.Common.{length, arith, ◌≡◌, ◌≢◌, ◌^◌, ◌<◌, ⊎_elim, ℕ, Bool, zero, suc, List, [], ◌∷◌, set, slice_index, refl, ap, sym, subst, ◌∙◌, Some}
 use Rattle.std.proofs.lemmas.Option.{same_Some, none-some, slice_get_within}
 use Rattle.std.specs.List.{slice_get}
 use mathlib.Core.Option.{some, some-ne-none}
@@ -14,21 +14,31 @@ use Rattle.cx_core.specs.Events.{Guard, found_by, local_after, new_word, next, s
 use Rattle.cx_core.specs.Lawful.{Lawful, LocalShape, OwnTickets}
 use Rattle.cx_core.specs.Merge.{scene_of}
 use Rattle.cx_core.specs.Shown.{shown}
-use Rattle.cx_core.specs.State.{Instance, State}
+use Rattle.cx_core.specs.State.{EachLocal, Instance, Scene, State}
 use Rattle.cx_core.proofs.ListLemmas.{slice_get-set_same, slice_get-set_other}
 use Rattle.cx_core.proofs.MergeLemmas.{goes_on, still_linked}
 use Rattle.cx_rule.specs.declared.rule.Known.{Known}
 use Rattle.cx_rule.specs.Learns.{LearnsAnyway}
-use Rattle.cx_rule.specs.Rule.{RuleHolds, IsKnown, IsLawfulLocal, NotesHold, StandStill}
+use Rattle.cx_rule.specs.Rule.{RuleHolds, HasWords64, IsBehindNotes, IsKnown, IsLawfulLocal, IsTraced, NotesHold, StandStill}
 use Rattle.cx_rule.specs.Running.{Running, instance_at}
-use Rattle.cx_rule.specs.Seats.{IsByShown, known_after, known_of, noted_by, shown_next, unseen}
+use Rattle.cx_rule.specs.Seats.{IsByShown, WordFits, accesses_after, known_after, known_local, known_of, noted_by, unseen}
+use Rattle.cx_core.proofs.Locals.{EachLocal-set}
 use Rattle.core_runs.proofs.Keeps.{kind_kept}
-use Rattle.cx_rule.proofs.ShownLaws.{guard_shown, lawful_shown, next_shown, put_shown, told_shown, word_shown}
+use Rattle.cx_rule.proofs.ShownLaws.{guard_shown, known_shown, lawful_shown, put_shown, told_shown, word_shown}
 use Rattle.cx_rule.proofs.Notes.{noted_hold, notes-append, notes_still}
 use Rattle.cx_rule.specs.Steps.{IsEventOn, IsStore, Puts, Teaches}
 use Rattle.cx_rule.specs.Told.{Told}
 use Rattle.cx_rule.proofs.Telling.{told_holds}
 use Rattle.cx_rule.proofs.Still.{still_stands}
+use Rattle.cx_rule.proofs.Behind.{behind_notes}
+use Rattle.cx_rule.proofs.Traced.{traced_longer, traced_next}
+use Rattle.cx_rule.proofs.Words64.{fit_next}
+
+-- an event is allowed, puts that word, and its caller's seat then shows the local state after it
+pub record Sees (instance : Instance) (scene : Scene) (kind : Kind) (known : Known) (l : Local) (new found : ℕ) : Type 0 where
+  pub guard : Guard instance scene kind l
+  pub new_is : new ≡ new_word instance kind l found
+  pub shows : known_local instance kind known found ≡ shown (next instance scene kind l found)
 
 -- the only item of a view of one
 pub only_item : (x : Known) (i : ℕ) (y : Known) → slice_get (x ∷ []) i ≡ Some y → (i ≡ 0) × (x ≡ y)
@@ -44,7 +54,7 @@ event_held instance kind s id known after word new held at learns =
     let caller = known.local.number in
     let state : State = record { words = s.words; locals = held.locals } in
     let law = held.law in
-    let learnt = learns held.locals law l mine.of_caller mine.shows mine.notes held.still in
+    let learnt = learns held.locals law l mine.of_caller mine.shows mine.notes mine.traced held.still held.some held.fit in
     let l' = local_after instance (scene_of instance state) kind l in
     let locals' = set held.locals caller l' in
     let put : words_after instance kind l s.words ≡ set s.words word new =
@@ -69,6 +79,7 @@ event_held instance kind s id known after word new held at learns =
             shows = learnt.shows;
             only = ap held.place_of number ∙ mine.only;
             notes = notes_still instance law.history law'.history after.noted grows learnt.notes;
+            traced = traced_longer instance law.history law'.history after.accesses l' grows learnt.traced;
           } in
           subst (λ n. IsKnown instance law'.history locals' held.place_of seat n k) (sym only.0)
           (subst (λ n. IsKnown instance law'.history locals' held.place_of n 0 k) (sym e.0)
@@ -82,30 +93,53 @@ event_held instance kind s id known after word new held at learns =
             shows = was.shows;
             only = was.only;
             notes = notes_still instance law.history law'.history k.noted grows was.notes;
+            traced = traced_longer instance law.history law'.history k.accesses was.local grows was.traced;
           }))
           (at_set s.views id seat (after ∷ []) view view_at);
       still = subst (StandStill instance) put (still_stands instance (scene_of instance state) kind l s.words law.shape.some small learnt.guard held.still);
+      fit = EachLocal-set held.locals caller l l' (λ _ x. HasWords64 x) mine.of_caller held.fit
+          (fit_next instance (scene_of instance state) kind l (found_by instance kind l s.words) (subst (λ (n : ℕ). LocalShape n l) (sym (law.shape.each caller l mine.of_caller).number) (law.shape.each caller l mine.of_caller)) learnt.guard learnt.fits
+          (held.fit caller l mine.of_caller));
+      some = held.some;
     }
 
--- a step whose guard and word the seat's shown local state tells teaches it so, whatever else is not shown
-learns_shown : (instance : Instance) (kind : Kind) (known : Known) (words : List ℕ) (word new : ℕ) → IsByShown kind → Guard instance unseen kind known.local → word ≡ step_word instance kind known.local →
-    new ≡ new_word instance kind known.local (slice_index words word) → LearnsAnyway instance words kind known word new (known_after instance kind known (slice_index words word))
-learns_shown instance kind known words word new by may at puts locals law l of_caller shows noted still =
+-- an event whose guard and whose word put are known teaches its seat so
+pub learns_of : (instance : Instance) (kind : Kind) (known : Known) (words : List ℕ) (word new : ℕ) → WordFits kind → word ≡ step_word instance kind known.local →
+    ((locals : List Local) (law : Lawful instance (record { words = words; locals = locals })) (l : Local) → slice_get locals known.local.number ≡ Some l → known.local ≡ shown l → NotesHold instance law.history known.noted →
+    IsTraced instance law.history known.accesses l → EachLocal locals (λ _ x. HasWords64 x) → Sees instance (scene_of instance (record { words = words; locals = locals })) kind known l new (slice_index words word)) →
+    LearnsAnyway instance words kind known word new (known_after instance kind known (slice_index words word))
+learns_of instance kind known words word new fits at sees locals law l of_caller shows noted traced still full fit =
     let state : State = record { words = words; locals = locals } in
     let scene = scene_of instance state in
     let caller = known.local.number in
-    let guard = guard_shown instance scene kind l by (subst (Guard instance unseen kind) shows may) in
     let here : word ≡ step_word instance kind l = at ∙ ap (step_word instance kind) shows ∙ word_shown instance kind l in
     let found = slice_index words word in
     let same : found_by instance kind l words ≡ found = ap (slice_index words) (sym here) in
+    let seen = sees locals law l of_caller shows noted traced fit in
     record {
-      guard = guard;
+      guard = seen.guard;
       word_is = here;
-      new_is = puts ∙ ap (λ (x : Local). new_word instance kind x found) shows ∙ put_shown instance kind l found by;
-      shows = ap (λ (x : Local). shown_next instance kind x found) shows ∙ sym (next_shown instance scene kind l found by) ∙ ap (λ (n : ℕ). shown (next instance scene kind l n)) (sym same);
+      new_is = seen.new_is;
+      shows = seen.shows ∙ ap (λ (n : ℕ). shown (next instance scene kind l n)) (sym same);
       notes = notes-append instance law.history known.noted (noted_by kind found) noted
-          (subst (λ (n : ℕ). NotesHold instance law.history (noted_by kind n)) same (noted_hold instance kind state law caller l of_caller guard still));
+          (subst (λ (n : ℕ). NotesHold instance law.history (noted_by kind n)) same (noted_hold instance kind state law caller l of_caller seen.guard still));
+      traced = subst (λ (n : ℕ). IsTraced instance law.history (accesses_after kind known n) (local_after instance scene kind l)) same
+          (traced_next instance state law caller l of_caller known shows traced full kind seen.guard fits);
+      fits = fits;
     }
+
+-- a step whose guard and word the seat's shown local state tells teaches it so, whatever else is not shown
+learns_shown : (instance : Instance) (kind : Kind) (known : Known) (words : List ℕ) (word new : ℕ) → IsByShown kind → WordFits kind → Guard instance unseen kind known.local → word ≡ step_word instance kind known.local →
+    new ≡ new_word instance kind known.local (slice_index words word) → LearnsAnyway instance words kind known word new (known_after instance kind known (slice_index words word))
+learns_shown instance kind known words word new by fits may at puts =
+    learns_of instance kind known words word new fits at (λ locals law l of_caller shows noted traced fit. (
+    let scene = scene_of instance (record { words = words; locals = locals }) in
+    let found = slice_index words word in
+    record {
+      guard = guard_shown instance scene kind l by (subst (Guard instance unseen kind) shows may);
+      new_is = puts ∙ ap (λ (x : Local). new_word instance kind x found) shows ∙ put_shown instance kind l found by;
+      shows = known_shown instance scene kind known l found by shows;
+    }))
 
 -- what the lawful state says of a caller's local state by itself
 own_lawful : (instance : Instance) (words : List ℕ) (locals : List Local) (caller : ℕ) (l : Local) → Lawful instance (record { words = words; locals = locals }) → slice_get locals caller ≡ Some l → IsLawfulLocal instance l
@@ -130,26 +164,33 @@ view_within [] id v at = absurd (some-ne-none v (sym at))
 view_within (w ∷ views) zero v at = omega arith
 view_within (w ∷ views) (suc id) v at = (let rest = view_within views id v at in omega arith)
 
+-- what an event learns, by the word found, of which the kind and the word put may depend on it
+abbrev pub LearnsBy : Instance → (ℕ → Kind) → Known → ℕ → (ℕ → ℕ) → Type 0
+LearnsBy instance kind known word f =
+    (words : List ℕ) → slice_index words word < 2 ^ 64 →
+    LearnsAnyway instance words (kind (slice_index words word)) known word (f (slice_index words word)) (known_after instance (kind (slice_index words word)) known (slice_index words word))
+
 -- what the table asks of a step, from the core's law: the word is the event's, it becomes what the event puts, and the seat
 -- then knows what the event teaches
-allows : (instance : Instance) (kind : Kind) (known : Known) (slots id word : ℕ) (me : atomic.Me ℕ (List Known)) (f : ℕ → ℕ) (then : ℕ → atomic.Me ℕ (List Known) → Type 0) → IsByShown kind →
-    me ≡ (known ∷ [], []) → Guard instance unseen kind known.local → word ≡ step_word instance kind known.local → ((x : ℕ) → f x ≡ new_word instance kind known.local x) →
-    ((found : ℕ) → Teaches instance kind known found (known_after instance kind known found ∷ [], []) → then found (known_after instance kind known found ∷ [], [])) →
+pub allows : (instance : Instance) (kind : ℕ → Kind) (known : Known) (slots id word : ℕ) (me : atomic.Me ℕ (List Known)) (f : ℕ → ℕ) (then : ℕ → atomic.Me ℕ (List Known) → Type 0) →
+    me ≡ (known ∷ [], []) → LearnsBy instance kind known word f →
+    ((found : ℕ) → Teaches instance (kind found) known found (known_after instance (kind found) known found ∷ [], []) → then found (known_after instance (kind found) known found ∷ [], [])) →
     atomic.Allows (RuleHolds instance) slots id me word f then
-allows instance kind known slots id word me f then by one may at puts tells =
+allows instance kinds known slots id word me f then one learn tells =
     subst (λ m. atomic.Allows (RuleHolds instance) slots id m word f then) (sym one) (λ s held homes view fits.
     (let found = slice_index s.words word in
+    let kind = kinds found in
     let known' = known_after instance kind known found in
     let mine = held.each id 0 (known ∷ []) known view refl in
     let l = mine.local in
-    let learns = learns_shown instance kind known s.words word (f found) by may at (puts found) in
+    let learns = learn s.words fits in
     let after = event_held instance kind s id known known' word (f found) held view learns in
     let there : get_elem? (set s.views id (known' ∷ [])) id ≡ some (known' ∷ []) = set_here s.views id (known' ∷ []) (view_within s.views id (known ∷ []) view) in
     let mine' = after.each id 0 (known' ∷ []) known' there refl in
     let state : State = record { words = s.words; locals = held.locals } in
-    let guard = (learns held.locals held.law l mine.of_caller mine.shows mine.notes held.still).guard in
-    let told = told_holds instance kind state held.law known.local.number l mine.of_caller guard held.still in
-    let here : step_word instance kind l ≡ word = sym (at ∙ ap (step_word instance kind) mine.shows ∙ word_shown instance kind l) in (
+    let learnt = learns held.locals held.law l mine.of_caller mine.shows mine.notes mine.traced held.still held.some held.fit in
+    let told = told_holds instance kind state held.law known.local.number l mine.of_caller learnt.guard held.still in
+    let here : step_word instance kind l ≡ word = sym learnt.word_is in (
       known' ∷ [],
       atomic.keeps,
       tt,
@@ -159,8 +200,29 @@ allows instance kind known slots id word me f then by one may at puts tells =
         lawful = subst (IsLawfulLocal instance) (sym mine.shows) (lawful_shown instance l (own_lawful instance s.words held.locals known.local.number l held.law mine.of_caller));
         lawful_after = subst (IsLawfulLocal instance) (sym mine'.shows) (lawful_shown instance mine'.local (own_lawful instance _ after.locals known'.local.number mine'.local after.law mine'.of_caller));
         told = subst (λ (x : Local). Told instance kind x found) (sym mine.shows) (told_shown instance kind l found (subst (λ (w : ℕ). Told instance kind l (slice_index s.words w)) here told));
+        behind = behind_notes instance _ after.law after.fit after.some known'.local.number mine'.local mine'.of_caller known' mine'.shows mine'.traced;
       }),
     )))
+
+-- what a step teaches that does not look at the word found
+pub blind_teaches : (instance : Instance) (kind : Kind) (known : Known) (found : ℕ) → ((x y : ℕ) → known_after instance kind known x ≡ known_after instance kind known y) → Told instance kind known.local 0 →
+    Teaches instance kind known found (known_after instance kind known found ∷ [], []) → Teaches instance kind known 0 (known_after instance kind known found ∷ [], [])
+blind_teaches instance kind known found blind silent taught = record {
+  knows = ap (λ (k : Known). the_me k) (blind found 0);
+  lawful = taught.lawful;
+  lawful_after = subst (λ (k : Known). IsLawfulLocal instance k.local) (blind found 0) taught.lawful_after;
+  told = silent;
+  behind = subst (IsBehindNotes instance) (blind found 0) taught.behind;
+}
+  where
+    the_me : Known → atomic.Me ℕ (List Known)
+    the_me k = (k ∷ [], [])
+
+-- what a step learns that the seat's shown local state tells
+pub event_learns : {O : Type 0} (r : Running O) (step : O → List ℕ → List ℕ → List ℕ × List ℕ) (reads : O → List ℕ → Bool) (kind : Kind) (word : ℕ) (table : TableId) (me : atomic.Me ℕ (List Known)) (f : ℕ → ℕ) →
+    IsEventOn r step reads kind word table me → Puts (instance_at r step reads) kind (known_of me.0).local f → LearnsBy (instance_at r step reads) (λ _. kind) (known_of me.0) word f
+event_learns r step reads kind word table me f event puts words within =
+    learns_shown (instance_at r step reads) kind (known_of me.0) words word (f (slice_index words word)) event.by_shown event.fits event.guard event.place (sym (puts (slice_index words word)))
 
 -- the same of a step that finds a word
 pub allows_found : {O : Type 0} (r : Running O) (step : O → List ℕ → List ℕ → List ℕ × List ℕ) (reads : O → List ℕ → Bool) (kind : Kind) (slots id word : ℕ) (table : TableId) (me : atomic.Me ℕ (List Known)) (f : ℕ → ℕ) →
@@ -168,7 +230,7 @@ pub allows_found : {O : Type 0} (r : Running O) (step : O → List ℕ → List 
 allows_found r step reads kind slots id word table me f event puts =
     let instance = instance_at r step reads in
     let known = known_of me.0 in
-    allows instance kind known slots id word me f (Teaches instance kind known) event.by_shown event.one event.guard event.place (λ x. sym (puts x)) (λ found taught. taught)
+    allows instance (λ _. kind) known slots id word me f (Teaches instance kind known) event.one (event_learns r step reads kind word table me f event puts) (λ found taught. taught)
 
 -- the same of a store, which finds no word
 pub allows_store : {O : Type 0} (r : Running O) (step : O → List ℕ → List ℕ → List ℕ × List ℕ) (reads : O → List ℕ → Bool) (kind : Kind) (slots id word : ℕ) (table : TableId) (me : atomic.Me ℕ (List Known)) (new : ℕ) →
@@ -176,15 +238,8 @@ pub allows_store : {O : Type 0} (r : Running O) (step : O → List ℕ → List 
 allows_store r step reads kind slots id word table me new event store =
     let instance = instance_at r step reads in
     let known = known_of me.0 in
-    allows instance kind known slots id word me (λ _. new) (λ _. Teaches instance kind known 0) event.by_shown event.one event.guard event.place (λ x. sym (store.puts x)) (λ found taught. record {
-      knows = ap (λ (k : Known). the_me k) (store.blind found 0);
-      lawful = taught.lawful;
-      lawful_after = subst (λ (k : Known). IsLawfulLocal instance k.local) (store.blind found 0) taught.lawful_after;
-      told = store.silent;
-    })
-  where
-    the_me : Known → atomic.Me ℕ (List Known)
-    the_me k = (k ∷ [], [])
+    allows instance (λ _. kind) known slots id word me (λ _. new) (λ _. Teaches instance kind known 0) event.one (event_learns r step reads kind word table me (λ _. new) event store.puts)
+    (λ found taught. blind_teaches instance kind known found store.blind store.silent taught)
 
 abbrev pub Same : Instance → Instance → Type 0
 Same a b = a ≡ b

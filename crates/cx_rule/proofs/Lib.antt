@@ -2,6 +2,11 @@ pub mod ShownLaws
 pub mod Telling
 pub mod Notes
 pub mod Still
+pub mod Words64
+pub mod Traced
+pub mod Behind
 pub mod Keeps
+pub mod Fitting
+pub mod Giving
 pub mod Opening
 pub mod Moves

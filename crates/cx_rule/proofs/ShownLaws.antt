@@ -17,7 +17,8 @@ use Rattle.cx_core.specs.Rights.{is_at, shared_on}
 use Rattle.cx_core.specs.Shown.{shown}
 use Rattle.cx_core.specs.State.{Instance, Scene, one_more}
 use Rattle.cx_rule.specs.Rule.{IsLawfulLocal}
-use Rattle.cx_rule.specs.Seats.{IsByShown, shown_next, unseen}
+use Rattle.cx_rule.specs.declared.rule.Known.{Known}
+use Rattle.cx_rule.specs.Seats.{IsByShown, known_local, shown_next, unseen}
 use Rattle.cx_rule.specs.Told.{Told}
 
 abbrev blank : HeldExclusive → HeldExclusive
@@ -77,6 +78,29 @@ next_holding instance scene Retire l o found by = refl
 -- what is shown of the local state after a step is what the step makes of the one that is shown
 pub next_shown : (instance : Instance) (scene : Scene) (kind : Kind) (l : Local) (found : ℕ) → IsByShown kind → shown (next instance scene kind l found) ≡ shown_next instance kind (shown l) found
 next_shown instance scene kind l found by = next_holding instance scene kind l l.exclusive found by
+
+-- where what is known is by what is shown
+known_by_shown : (instance : Instance) (kind : Kind) (k : Known) (found : ℕ) → IsByShown kind → known_local instance kind k found ≡ shown_next instance kind k.local found
+known_by_shown instance (WriteCell j i v) k found by = refl
+known_by_shown instance (Link j) k found by = refl
+known_by_shown instance (Look s) k found by = refl
+known_by_shown instance (ReadCell t c i) k found by = refl
+known_by_shown instance LoadFree k found by = refl
+known_by_shown instance (TryExclusive r) k found by = refl
+known_by_shown instance (TryShared r) k found by = refl
+known_by_shown instance (BackOff r) k found by = refl
+known_by_shown instance (LoadWord r i refused) k found by = refl
+known_by_shown instance (StoreWord r i v) k found by = refl
+known_by_shown instance (Downgrade r) k found by = absurd by
+known_by_shown instance (ReleaseExclusive r) k found by = absurd by
+known_by_shown instance (Persist r i) k found by = absurd by
+known_by_shown instance LoadCur k found by = refl
+known_by_shown instance Publish k found by = refl
+known_by_shown instance (Raise code read) k found by = absurd by
+known_by_shown instance Retire k found by = refl
+
+pub known_shown : (instance : Instance) (scene : Scene) (kind : Kind) (k : Known) (l : Local) (found : ℕ) → IsByShown kind → k.local ≡ shown l → known_local instance kind k found ≡ shown (next instance scene kind l found)
+known_shown instance scene kind k l found by shows = known_by_shown instance kind k found by ∙ ap (λ (x : Local). shown_next instance kind x found) shows ∙ sym (next_shown instance scene kind l found by)
 
 guard_holding : (instance : Instance) (scene : Scene) (kind : Kind) (l : Local) (o : Option HeldExclusive) → IsByShown kind → Guard instance scene kind (holding l (option_map blank o)) → Guard instance scene kind (holding l o)
 guard_holding instance scene kind l None by g = g

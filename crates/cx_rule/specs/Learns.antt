@@ -1,5 +1,5 @@
 -- What an event of the core teaches the seat of its caller, whatever the state is that the seat does not show.
-use Rattle.std.specs.Prelude.{◌≡◌, ℕ, List, Some, slice_get, slice_index}
+use Rattle.std.specs.Prelude.{◌≡◌, ◌<◌, ℕ, List, Some, length, slice_get, slice_index}
 use Rattle.cx_core.specs.declared.entry.Entry.{Entry}
 use Rattle.cx_core.specs.declared.kinds.Kind.{Kind}
 use Rattle.cx_core.specs.declared.local.Local.{Local}
@@ -7,21 +7,25 @@ use Rattle.cx_core.specs.Events.{Guard, local_after, new_word, step_word}
 use Rattle.cx_core.specs.Lawful.{Lawful}
 use Rattle.cx_core.specs.Merge.{scene_of}
 use Rattle.cx_core.specs.Shown.{shown}
-use Rattle.cx_core.specs.State.{Instance, State}
+use Rattle.cx_core.specs.State.{EachLocal, Instance, State}
 use Rattle.cx_rule.specs.declared.rule.Known.{Known}
-use Rattle.cx_rule.specs.Rule.{NotesHold, StandStill}
+use Rattle.cx_rule.specs.Rule.{HasWords64, IsTraced, NotesHold, StandStill}
+use Rattle.cx_rule.specs.Seats.{WordFits}
 
 -- An event of a caller with this local state is allowed in this state, is on this word and puts that one, and what the
--- caller's seat knows afterwards is so: it shows the local state after the event, and what it notes is the history's.
+-- caller's seat knows afterwards is so: it shows the local state after the event, what it notes is the history's, and its
+-- accesses are those of the replica held exclusively.
 pub record Learns (instance : Instance) (s : State) (history : List Entry) (kind : Kind) (l : Local) (word new : ℕ) (after : Known) : Type 0 where
   pub guard : Guard instance (scene_of instance s) kind l
   pub word_is : word ≡ step_word instance kind l
   pub new_is : new ≡ new_word instance kind l (slice_index s.words word)
   pub shows : after.local ≡ shown (local_after instance (scene_of instance s) kind l)
   pub notes : NotesHold instance history after.noted
+  pub traced : IsTraced instance history after.accesses (local_after instance (scene_of instance s) kind l)
+  pub fits : WordFits kind
 
 -- it is so in each lawful state with these words, of each local state that a seat shows which knows this of its caller
 abbrev pub LearnsAnyway : Instance → List ℕ → Kind → Known → ℕ → ℕ → Known → Type 0
 LearnsAnyway instance words kind known word new after =
     (locals : List Local) (law : Lawful instance (record { words = words; locals = locals })) (l : Local) → slice_get locals known.local.number ≡ Some l → known.local ≡ shown l →
-    NotesHold instance law.history known.noted → StandStill instance words → Learns instance (record { words = words; locals = locals }) law.history kind l word new after
+    NotesHold instance law.history known.noted → IsTraced instance law.history known.accesses l → StandStill instance words → 0 < length instance.base.words → EachLocal locals (λ _ x. HasWords64 x) → Learns instance (record { words = words; locals = locals }) law.history kind l word new after

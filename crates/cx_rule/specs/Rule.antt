@@ -1,19 +1,28 @@
 -- The rule of the table, which holds between any two steps of any callers: there is a lawful state of the core whose words
 -- are the table's and whose local states are what the seats show.
-use Rattle.std.specs.Prelude.{◌≡◌, ◌^◌, ◌<◌, ◌≤◌, ◌⊎◌, ℕ, List, ◌∷◌, Some, slice_get, slice_index}
+use Rattle.std.specs.Prelude.{◌≡◌, ◌+◌, ◌^◌, ◌<◌, ◌≤◌, ◌⊎◌, ℕ, All, List, ◌∷◌, Some, length, slice_get, slice_index}
 use mathlib.Core.Option.{some}
 use lib.ListN.{get_elem?}
 use Rattle.atomic_table.specs.Table as atomic
-use Rattle.cx_core.specs.declared.entry.Entry.{Entry}
-use Rattle.cx_core.specs.declared.local.Local.{Local}
 use Rattle.cx_base.specs.Codes.{root_place_of}
+use Rattle.cx_base.specs.Memory.{Words}
+use Rattle.cx_base.specs.Noted.{Note, NotesLead}
+use Rattle.cx_core.specs.declared.entry.Entry.{Entry}
+use Rattle.cx_core.specs.declared.local.Cell.{Cell}
+use Rattle.cx_core.specs.declared.local.HeldExclusive.{HeldExclusive}
+use Rattle.cx_core.specs.declared.local.HeldShared.{HeldShared}
+use Rattle.cx_core.specs.declared.local.Linked.{Linked}
+use Rattle.cx_core.specs.declared.local.Local.{Local}
+use Rattle.cx_core.specs.History.{full_image}
 use Rattle.cx_core.specs.Lawful.{Lawful, LocalShape, OwnTickets}
 use Rattle.cx_core.specs.Layout.{lock_at, low_at, offer_at, replicas_at}
 use Rattle.cx_core.specs.Merge.{IsLinked}
+use Rattle.cx_core.specs.Region.{place_of, slot_number}
 use Rattle.cx_core.specs.Shown.{shown}
-use Rattle.cx_core.specs.State.{Instance, opening_words}
+use Rattle.cx_core.specs.State.{EachLocal, Instance, opening_words}
 use Rattle.cx_rule.specs.declared.rule.Known.{Known}
 use Rattle.cx_rule.specs.declared.rule.Noted.{Noted}
+use Rattle.cx_rule.specs.Fitting.{loads_of}
 
 -- a noted word is the history's. With a ticket below the base's place, which no entry has, it says nothing.
 pub record IsOfEntry (instance : Instance) (history : List Entry) (noted : Noted) : Type 0 where
@@ -25,14 +34,30 @@ pub record IsOfEntry (instance : Instance) (history : List Entry) (noted : Noted
 abbrev pub NotesHold : Instance → List Entry → List Noted → Type 0
 NotesHold instance history notes = (n : ℕ) (noted : Noted) → slice_get notes n ≡ Some noted → instance.base.place ≤ noted.ticket → IsOfEntry instance history noted
 
--- what a seat knows of a caller is so: it shows the caller's local state, which no other place of any view shows, and the
--- noted words are the history's
+-- a region has the words of the full image after its place, which is between the base's and the end of the history
+pub record IsOrigin (instance : Instance) (history : List Entry) (region : List ℕ) : Type 0 where
+  pub from : instance.base.place ≤ place_of region
+  pub to : place_of region ≤ instance.base.place + length history
+  pub long : length region ≡ length instance.base.words
+  pub words : (i : ℕ) → i < length instance.base.words → slice_index region i ≡ slice_index (full_image instance.step instance.base history (place_of region)) i
+
+-- accesses lead on from a full image, and where a replica is held exclusively, to its words
+pub record IsTraced (instance : Instance) (history : List Entry) (accesses : List Note) (l : Local) : Type 0 where
+  pub first : List ℕ
+  pub now : List ℕ
+  pub origin : IsOrigin instance history first
+  pub leads : NotesLead accesses first now
+  pub held : (h : HeldExclusive) → l.exclusive ≡ Some h → now ≡ h.words
+
+-- what a seat knows of a caller is so: it shows the caller's local state, which no other place of any view shows, the noted
+-- words are the history's, and the accesses are those of the replica held exclusively
 pub record IsKnown (instance : Instance) (history : List Entry) (locals : List Local) (place_of : ℕ → ℕ × ℕ) (seat i : ℕ) (known : Known) : Type 0 where
   pub local : Local
   pub of_caller : slice_get locals known.local.number ≡ Some local
   pub shows : known.local ≡ shown local
   pub only : place_of known.local.number ≡ (seat, i)
   pub notes : NotesHold instance history known.noted
+  pub traced : IsTraced instance history known.accesses local
 
 -- what the lawful state says of a caller's local state by itself
 pub record IsLawfulLocal (instance : Instance) (l : Local) : Type 0 where
@@ -43,6 +68,30 @@ pub record IsLawfulLocal (instance : Instance) (l : Local) : Type 0 where
   pub floor : l.floor ≤ l.front
   pub cur : root_place_of instance.callers l.seen_cur ≤ l.front
   pub floor_cur : l.floor ≤ root_place_of instance.callers l.seen_cur
+
+-- the words in a caller's cells, and those of its operations, have 64 bits
+pub record HasWords64 (l : Local) : Type 0 where
+  pub cells : (j : ℕ) (cell : Cell) → slice_get l.cells j ≡ Some cell → All (λ w. w < 2 ^ 64) cell.words
+  pub ops : (i : ℕ) (x : Linked) → slice_get l.own i ≡ Some x → Words 144 x.entry.op
+
+-- the entries of a history, by their callers' numbers in the base
+pub record IsEntryFrom (instance : Instance) (i : ℕ) (entry : Entry) : Type 0 where
+  pub caller : entry.caller < 8
+  pub some : 0 < entry.number
+  pub most : entry.number ≤ slot_number entry.caller instance.base.words + i + 1
+  pub op : Words 144 entry.op
+
+-- what really is there, where a caller noted this: a history, the full image that the caller's accesses lead on from, and the
+-- one that was loaded under a shared right
+pub record IsBehindNotes (instance : Instance) (known : Known) : Type 0 where
+  pub history : List Entry
+  pub small : instance.base.place + length history ≤ 2 ^ 40
+  pub entries : (i : ℕ) (entry : Entry) → slice_get history i ≡ Some entry → IsEntryFrom instance i entry
+  pub first : List ℕ
+  pub now : List ℕ
+  pub origin : IsOrigin instance history first
+  pub leads : NotesLead known.accesses first now
+  pub shared : (h : HeldShared) → known.local.shared ≡ Some h → (words : List ℕ) × IsOrigin instance history words × NotesLead (loads_of h.loaded) words words
 
 -- the words that no step is on yet stay as they were opened: those between DUR and the locks, and those of offers and sets
 abbrev pub StandStill : Instance → List ℕ → Type 0
@@ -57,3 +106,5 @@ pub record RuleHolds (instance : Instance) (s : atomic.State ℕ (List Known)) :
   pub law : Lawful instance (record { words = s.words; locals = locals })
   pub each : (seat i : ℕ) (view : List Known) (known : Known) → get_elem? s.views seat ≡ some view → slice_get view i ≡ Some known → IsKnown instance law.history locals place_of seat i known
   pub still : StandStill instance s.words
+  pub fit : EachLocal locals (λ _ l. HasWords64 l)
+  pub some : 0 < length instance.base.words

@@ -25,6 +25,7 @@ pub record IsSeatOf {O : Type 0} (r : Running O) (seat : Seated) : Type 0 where
   pub table : seat.table ≡ r.table
   pub caller : seat.known.local.number < r.callers
   pub before : seat.before ≡ slot_number seat.known.local.number r.base.words
+  pub region : seat.region ≡ length r.base.words
 
 -- a running table is within the limits: 1 to 8 callers, 64 to 16,384 lines, a lawful base, and all words of the table
 pub record IsRunning {O : Type 0} (line_count : O → ℕ) (lawful : O → List ℕ → Type 0) (r : Running O) : Type 0 where

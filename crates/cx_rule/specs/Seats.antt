@@ -1,17 +1,22 @@
 -- What a seat of the table knows, what a step of a caller teaches it, and the numbers of it that code reads.
-use Rattle.std.specs.Prelude.{true, ◌≡◌, ◌/◌, ◌<◌, ◌≤◌, ℕ, List, [], ◌∷◌, ◌++◌, length, map, slice_get, slice_index, Option, Some}
+use Rattle.std.specs.Prelude.{true, false, ◌≡◌, ◌/◌, ◌^◌, ◌<◌, ◌≤◌, ◌==◌, ◌&&◌, if◌then◌else◌, ℕ, Bool, List, [], ◌∷◌, ◌++◌, length, map, slice_get, slice_index, Option, Some, None}
 use Rattle.std.specs.List.{range_with_len}
 use Rattle.std.specs.Option.{option_map}
 use Rattle.atomic_table.specs.Seated.{TableId}
 use Rattle.cx_core.specs.declared.kinds.Kind.{Kind}
-use Rattle.cx_core.specs.declared.kinds.Kind.TheVariants.{WriteCell, Link, Look, ReadCell, LoadFree, Downgrade, ReleaseExclusive, LoadWord, Persist, Raise}
+use Rattle.cx_base.specs.Codes.{root_place_of}
+use Rattle.cx_base.specs.Noted.{Note}
+use Rattle.cx_core.specs.declared.kinds.Kind.TheVariants.{WriteCell, Link, Look, ReadCell, LoadFree, TryExclusive, TryShared, BackOff, Downgrade, ReleaseExclusive, LoadWord, StoreWord, Persist, Raise}
 use Rattle.cx_core.specs.declared.local.Cell.{Cell}
 use Rattle.cx_core.specs.declared.local.Linked.{Linked}
 use Rattle.cx_core.specs.declared.local.Local.{Local}
-use Rattle.cx_core.specs.Events.{next}
+use Rattle.cx_core.specs.Events.{Guard, next}
 use Rattle.cx_core.specs.Lawful.{CellShape}
 use Rattle.cx_core.specs.Layout.{max_word}
-use Rattle.cx_core.specs.State.{Instance, Scene, opening_local}
+use Rattle.cx_core.specs.LockEvents.{IsClean, is_fresh_on}
+use Rattle.cx_core.specs.RegionEvents.{CanLoad}
+use Rattle.cx_core.specs.Rights.{exclusive_on, is_at, shared_on}
+use Rattle.cx_core.specs.State.{Instance, Scene, one_more, opening_local}
 use Rattle.cx_rule.specs.declared.rule.Known.{Known}
 use Rattle.cx_rule.specs.declared.rule.Noted.{Noted}
 
@@ -31,14 +36,35 @@ IsByShown (LoadWord r i true) = ⊥
 IsByShown (Raise code read) = ⊥
 IsByShown _ = Unit {0}
 
--- the kinds of the queue
-abbrev pub IsOfQueue : Kind → Type 0
-IsOfQueue (WriteCell j i v) = Unit {0}
-IsOfQueue (Link j) = Unit {0}
-IsOfQueue (Look s) = Unit {0}
-IsOfQueue (ReadCell t k i) = Unit {0}
-IsOfQueue LoadFree = Unit {0}
-IsOfQueue _ = ⊥
+-- the kinds that have a step call
+abbrev pub HasCall : Kind → Type 0
+HasCall (WriteCell j i v) = Unit {0}
+HasCall (Link j) = Unit {0}
+HasCall (Look s) = Unit {0}
+HasCall (ReadCell t k i) = Unit {0}
+HasCall LoadFree = Unit {0}
+HasCall (TryExclusive r) = Unit {0}
+HasCall (TryShared r) = Unit {0}
+HasCall (BackOff r) = Unit {0}
+HasCall (Downgrade r) = Unit {0}
+HasCall (ReleaseExclusive r) = Unit {0}
+HasCall (LoadWord r i refused) = Unit {0}
+HasCall (StoreWord r i v) = Unit {0}
+HasCall (Persist r i) = Unit {0}
+HasCall _ = ⊥
+
+-- the guard as far as a seat sees it: not that words are a full image, nor what a load will find
+abbrev pub SeenGuard : Instance → Kind → Local → Type 0
+SeenGuard instance (Downgrade r) l = IsClean instance.callers r l
+SeenGuard instance (ReleaseExclusive r) l = IsClean instance.callers r l
+SeenGuard instance (LoadWord r i refused) l = CanLoad instance.callers (length instance.base.words) r i l
+SeenGuard instance kind l = Guard instance unseen kind l
+
+-- a word that a step stores has 64 bits
+abbrev pub WordFits : Kind → Type 0
+WordFits (WriteCell j i v) = v < 2 ^ 64
+WordFits (StoreWord r i v) = v < 2 ^ 64
+WordFits _ = Unit {0}
 
 -- what a seat shows of its caller's local state after a step that found this word
 abbrev pub shown_next : Instance → Kind → Local → ℕ → Local
@@ -46,7 +72,7 @@ shown_next instance kind l found = next instance unseen kind l found
 
 -- what a caller knows that made no step: its opening local state, with its limit of steps
 abbrev pub opening_known : ℕ → ℕ → List ℕ → ℕ → Known
-opening_known callers place limits caller = record { local = record (opening_local callers place caller) { limit = slice_index limits caller }; noted = [] }
+opening_known callers place limits caller = record { local = record (opening_local callers place caller) { limit = slice_index limits caller }; noted = []; accesses = [] }
 
 -- what the first seat knows: the openings of all callers, in order
 abbrev pub opening_view : ℕ → ℕ → List ℕ → List Known
@@ -54,7 +80,7 @@ opening_view callers place limits = map (opening_known callers place limits) (ra
 
 -- the caller of a seat with one caller
 abbrev pub nobody : Known
-nobody = record { local = opening_local 1 0 0; noted = [] }
+nobody = record { local = opening_local 1 0 0; noted = []; accesses = [] }
 
 abbrev pub known_of : List Known → Known
 known_of [] = nobody
@@ -65,20 +91,55 @@ abbrev pub noted_by : Kind → ℕ → List Noted
 noted_by (ReadCell t k i) found = record { ticket = t; caller = k / 16; index = i; word = found } ∷ []
 noted_by _ found = []
 
+-- the accesses of the replica held exclusively after a step that found this word. They begin anew with each exclusive try.
+abbrev pub accesses_after : Kind → Known → ℕ → List Note
+accesses_after (TryExclusive r) k found = []
+accesses_after (LoadWord r i refused) k found = if is_at r (exclusive_on k.local) then k.accesses ++ (false, i, found) ∷ [] else k.accesses
+accesses_after (StoreWord r i v) k found = k.accesses ++ (true, i, v) ∷ []
+accesses_after _ k found = k.accesses
+
+-- the last word that was loaded from the place of a replica or stored there, where this one was known before
+abbrev pub place_noted : ℕ → List Note → ℕ
+place_noted place [] = place
+place_noted place ((stores, at, word) ∷ accesses) = place_noted (if at == 0 then word else place) accesses
+
+-- what a seat shows of its caller's local state after a step, where the place after a downgrade is the one noted
+abbrev pub known_local : Instance → Kind → Known → ℕ → Local
+known_local instance (Downgrade r) k found = record k.local {
+  exclusive = None;
+  downgraded = Some (record { replica = r; place = place_noted 0 k.accesses });
+  steps = one_more k.local.steps;
+}
+known_local instance kind k found = shown_next instance kind k.local found
+
 -- what a caller knows after a step of its own that found this word: of the local state it shows what the event shows
 abbrev pub known_after : Instance → Kind → Known → ℕ → Known
-known_after instance kind k found = record { local = shown_next instance kind k.local found; noted = k.noted ++ noted_by kind found }
+known_after instance kind k found = record {
+  local = known_local instance kind k found;
+  noted = k.noted ++ noted_by kind found;
+  accesses = accesses_after kind k found;
+}
 
--- what contracts see of a caller's seat: its table, the number of the caller's last entry in the table's base, and what it
--- knows
+-- whether the place word of a replica held shared, which the code last loaded from CUR names, was found to be another place
+abbrev pub is_outdated : Instance → ℕ → ℕ → Local → ℕ → Bool
+is_outdated instance r i l found =
+    (i == 0) && (is_at r (shared_on l) && (is_fresh_on instance.callers r l && (if found == root_place_of instance.callers l.seen_cur then false else true)))
+
+-- the kind of a load that found this word: it is marked as a refusal where that is asked for and the word shows it
+abbrev pub marked_load : Instance → ℕ → ℕ → Bool → Local → ℕ → Kind
+marked_load instance r i mark l found = LoadWord r i (mark && is_outdated instance r i l found)
+
+-- what contracts see of a caller's seat: its table, the number of the caller's last entry in the table's base, the words of
+-- a region, and what it knows
 pub record Seated : Type 0 where
   pub table : TableId
   pub before : ℕ
+  pub region : ℕ
   pub known : Known
 
 -- the seat after a step of its caller that found this word
 abbrev pub stepped : Instance → Kind → Seated → ℕ → Seated
-stepped instance kind seat found = record { table = seat.table; before = seat.before; known = known_after instance kind seat.known found }
+stepped instance kind seat found = record seat { known = known_after instance kind seat.known found }
 
 -- no further step is allowed: the steps equal the limit, where 2^64 - 1 is none
 abbrev pub IsAtLimit : Local → Type 0

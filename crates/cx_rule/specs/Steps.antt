@@ -7,9 +7,9 @@ use Rattle.cx_core.specs.State.{Instance}
 use Rattle.cx_rule.specs.declared.rule.Known.{Known}
 use Rattle.cx_core.specs.declared.kinds.Kind.{Kind}
 use Rattle.cx_core.specs.declared.local.Local.{Local}
-use Rattle.cx_rule.specs.Rule.{IsLawfulLocal}
+use Rattle.cx_rule.specs.Rule.{IsBehindNotes, IsLawfulLocal}
 use Rattle.cx_rule.specs.Running.{IsSeatOf, Running, instance_at}
-use Rattle.cx_rule.specs.Seats.{IsAtLimit, IsByShown, IsWithinLimit, Seated, known_after, known_of, shown_next, stepped, unseen}
+use Rattle.cx_rule.specs.Seats.{IsAtLimit, IsByShown, IsWithinLimit, Seated, WordFits, known_after, known_of, stepped, unseen}
 use Rattle.cx_rule.specs.Told.{Told}
 
 -- an event of this kind is allowed for the caller of a seat of this table, and this is the word that it is on
@@ -17,6 +17,7 @@ pub record IsEventOn {O : Type 0} (r : Running O) (step : O → List ℕ → Lis
   pub of_table : table ≡ r.table
   pub one : me ≡ (known_of me.0 ∷ [], [])
   pub by_shown : IsByShown kind
+  pub fits : WordFits kind
   pub guard : Guard (instance_at r step reads) unseen kind (known_of me.0).local
   pub place : word ≡ step_word (instance_at r step reads) kind (known_of me.0).local
   pub within : word < r.table.words
@@ -32,12 +33,13 @@ pub record IsStore (instance : Instance) (kind : Kind) (known : Known) (new : �
   pub silent : Told instance kind known.local 0
 
 -- what an event of a caller that found this word teaches the caller's seat: what it then knows, what the lawful state says of
--- the caller's local state by itself, before and after, and what the rule says of the word found
+-- the caller's local state by itself, before and after, what the rule says of the word found, and what is behind the notes
 pub record Teaches (instance : Instance) (kind : Kind) (known : Known) (found : ℕ) (after : Me ℕ (List Known)) : Type 0 where
   pub knows : after ≡ (known_after instance kind known found ∷ [], [])
   pub lawful : IsLawfulLocal instance known.local
-  pub lawful_after : IsLawfulLocal instance (shown_next instance kind known.local found)
+  pub lawful_after : IsLawfulLocal instance (known_after instance kind known found).local
   pub told : Told instance kind known.local found
+  pub behind : IsBehindNotes instance (known_after instance kind known found)
 
 -- The step was made, which the limit allowed: the seat is the one after the event of this kind that found this word. The
 -- step also tells what the event teaches.

@@ -15,11 +15,13 @@ pub struct Noted {
     pub word: u64,
 }
 
-/// What a seat knows of one caller: its local state, and the words of entries that it read. It exists in proofs alone.
+/// What a seat knows of one caller: its local state, the words of entries that it read, and in order the loads (false) and
+/// stores (true) of words of the replica that it holds exclusively. It exists in proofs alone.
 #[derive(Drop)]
 pub struct Known {
     pub local: Local,
     pub noted: Items<Noted>,
+    pub accesses: Items<(bool, u64, u64)>,
 }
 
 /// What a seat of the table knows: one item for each caller whose seat it is. A caller's seat has one item, the first

@@ -4,5 +4,7 @@ pub use Rattle.cx_rule.specs.Told
 pub use Rattle.cx_rule.specs.Rule
 pub use Rattle.cx_rule.specs.Steps
 pub use Rattle.cx_rule.specs.Ending
+pub use Rattle.cx_rule.specs.Fitting
 pub mod Mirrors
+pub mod Tokens
 pub mod Remains

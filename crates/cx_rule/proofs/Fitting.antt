@@ -1,0 +1,109 @@
+-- What is really there fits what a caller noted. So what is said of all that fits is true of it: noted entries that lead on
+-- from a full image lead to the full image after their place.
+use Rattle.std.proofs.Common.{false, ◌≡◌, ◌+◌, ◌-◌, ◌^◌, ◌<◌, ◌≤◌, ℕ, suc, List, [], ◌∷◌, length, slice_index, refl, ap, sym, subst, ◌∙◌, arith, Some}
+use Rattle.std.proofs.lemmas.List.{ext_get_or}
+use Rattle.std.proofs.lemmas.Option.{same_Some, slice_get_within}
+use Rattle.std.specs.List.{slice_get}
+use Rattle.cx_base.specs.Noted.{Note, NotesLead}
+use Rattle.cx_core.specs.declared.entry.Base.{Base}
+use Rattle.cx_core.specs.declared.entry.Entry.{Entry}
+use Rattle.cx_core.specs.Base.{LawfulBase}
+use Rattle.cx_core.specs.History.{AreLawful, IsFull, full_image}
+use Rattle.cx_core.specs.Merge.{IsLinked}
+use Rattle.cx_core.specs.Region.{place_of}
+use Rattle.cx_core.specs.State.{Instance}
+use Rattle.cx_core.specs.Step.{full_step_of}
+use Rattle.cx_core.proofs.HistoryLemmas.{ObjectLaws, full_lawful, full_next}
+use Rattle.cx_rule.specs.declared.rule.Known.{Known}
+use Rattle.cx_rule.specs.declared.rule.Noted.{Noted}
+use Rattle.cx_rule.specs.Fitting.{Chain, Fits, Fitting, IsNoted, ReadFits, ReplayedTo, base_of, no_set, start, with_entry, with_set}
+use Rattle.cx_rule.specs.Rule.{IsBehindNotes, IsEntryFrom, IsOrigin, NotesHold}
+
+-- entries by their callers' numbers in a lawful base are lawful
+pub entries_lawful : (lines : ℕ) (lawful : List ℕ → Type 0) (instance : Instance) (history : List Entry) → LawfulBase lines lawful instance.base → ((i : ℕ) (entry : Entry) → slice_get history i ≡ Some entry → IsEntryFrom instance i entry) →
+    AreLawful instance.base.place history
+entries_lawful lines lawful instance history base from i entry at =
+    let e = from i entry at in
+    let most = e.most in
+    let least = base.numbers entry.caller e.caller in
+    record { caller = e.caller; some = e.some; most = omega arith; op = e.op }
+
+module _ (lines : ℕ) (lawful : List ℕ → Type 0) (instance : Instance) (laws : ObjectLaws lines lawful instance.step) (base : LawfulBase lines lawful instance.base) (history : List Entry)
+    (small : instance.base.place + length history ≤ 2 ^ 40) (entries : (i : ℕ) (entry : Entry) → slice_get history i ≡ Some entry → IsEntryFrom instance i entry) where
+  are_lawful : AreLawful instance.base.place history
+  are_lawful = entries_lawful lines lawful instance history base entries
+
+  full_at : (place : ℕ) → instance.base.place ≤ place → place ≤ instance.base.place + length history → LawfulBase lines lawful (record { place = place; words = full_image instance.step instance.base history place })
+  full_at place from to = full_lawful lines lawful instance laws history base are_lawful small place from to
+
+  -- the words of a full image are the full image
+  origin_full : (region : List ℕ) → IsOrigin instance history region → IsFull instance history region
+  origin_full region o =
+      let place = place_of region in
+      let long = (full_at place o.from o.to).size.long ∙ sym base.size.long in
+      record { from = o.from; to = o.to; full = ext_get_or 0 region (full_image instance.step instance.base history place) (o.long ∙ sym long) (λ i below. o.words i (omega (arith, o.long))) }
+
+  full_base : (region : List ℕ) → IsFull instance history region → LawfulBase lines lawful (base_of region)
+  full_base region f = subst (λ ws. LawfulBase lines lawful (let b : Base = record { place = place_of region; words = ws } in b)) (sym f.full) (full_at (place_of region) f.from f.to)
+
+  -- what is there fits
+  pub traced_fits : (accesses : List Note) (first now : List ℕ) → IsOrigin instance history first → NotesLead accesses first now → Fits lines lawful instance.base accesses first now
+  traced_fits accesses first now o leads = record { origin = full_base first (origin_full first o); from = o.from; leads = leads }
+
+  -- an entry that is noted whole is the history's
+  noted_linked : (notes : List Noted) (ticket : ℕ) (e : Entry) → NotesHold instance history notes → instance.base.place ≤ ticket → IsNoted notes ticket e → IsLinked instance.base.place history ticket e
+  noted_linked notes ticket e hold from noted =
+      let first = noted.each 0 (omega arith) in
+      let is = hold first.0 _ first.1 from in
+      let x = is.entry in
+      let op = (entries _ x is.linked.at).op in
+      let words : (i : ℕ) → i < 145 → slice_index (x.number ∷ x.op) i ≡ slice_index (e.number ∷ e.op) i = λ i below. (
+      let at = noted.each i below in
+      let here = hold at.0 _ at.1 from in
+      let same : here.entry ≡ x = same_Some here.entry x (sym here.linked.at ∙ is.linked.at) in
+      ap (λ (y : Entry). slice_index (y.number ∷ y.op) i) (sym same) ∙ here.word) in
+      let l = op.long in
+      let ops : x.op ≡ e.op = ext_get_or 0 x.op e.op (l ∙ sym noted.long) (λ i below. words (suc i) (omega (arith, below, l))) in
+      let all : x ≡ e =
+      ap (λ c. (let y : Entry = record { caller = c; number = x.number; op = x.op } in y)) is.caller
+      ∙ ap (λ k. (let y : Entry = record { caller = e.caller; number = k; op = x.op } in y)) (words 0 (omega arith))
+      ∙ ap (λ ws. (let y : Entry = record { caller = e.caller; number = e.number; op = ws } in y)) ops in
+      subst (λ y. IsLinked instance.base.place history ticket y) all is.linked
+
+  -- noted entries in order lead from a full image to full images
+  chain_on : (notes : List Noted) → NotesHold instance history notes → (first : List ℕ) → IsFull instance history first → (place : ℕ) (now : List ℕ) → ReplayedTo instance.step notes first place now →
+      (instance.base.place ≤ place) × (place ≤ instance.base.place + length history) × (now ≡ full_image instance.step instance.base history place)
+  chain_on notes hold first origin place now (start _ _ at is) =
+      (subst (λ q. instance.base.place ≤ q) (sym at) origin.from, subst (λ q. q ≤ instance.base.place + length history) (sym at) origin.to, is ∙ origin.full ∙ ap (full_image instance.step instance.base history) (sym at))
+  chain_on notes hold first origin place now (with_entry _ _ t before e at is noted rest) =
+      let r = chain_on notes hold first origin t before rest in
+      let l = noted_linked notes t e hold r.0 noted in
+      let within = slice_get_within history (t - instance.base.place) e l.at in
+      let from = r.0 in (
+        omega (arith, at, from),
+        omega (arith, at, within, from),
+        is ∙ ap (full_step_of instance.step e) r.2 ∙ sym (full_next instance history t e l) ∙ ap (full_image instance.step instance.base history) (sym at),
+      )
+  chain_on notes hold first origin place now (with_set _ _ t before set at is noted rest) = absurd noted
+
+  -- so they are the full image after their place
+  pub chain_full : (notes : List Noted) → NotesHold instance history notes → (first : List ℕ) → IsOrigin instance history first → (place : ℕ) (now : List ℕ) → ReplayedTo instance.step notes first place now → IsFull instance history now × (place_of now ≡ place)
+  chain_full notes hold first origin place now chain =
+      let r = chain_on notes hold first (origin_full first origin) place now chain in
+      let at : place_of now ≡ place = ap place_of r.2 ∙ (full_at place r.0 r.1).at_place in (
+        record {
+          from = subst (λ q. instance.base.place ≤ q) (sym at) r.0;
+          to = subst (λ q. q ≤ instance.base.place + length history) (sym at) r.1;
+          full = r.2 ∙ ap (full_image instance.step instance.base history) (sym at);
+        },
+        at,
+      )
+
+-- some pair fits what a caller noted
+pub fitting : (lines : ℕ) (lawful : List ℕ → Type 0) (instance : Instance) → ObjectLaws lines lawful instance.step → LawfulBase lines lawful instance.base → (known : Known) → IsBehindNotes instance known → Fitting lines lawful instance.base known
+fitting lines lawful instance laws base known behind = record {
+  exclusive = ∣ (behind.first, behind.now, traced_fits lines lawful instance laws base behind.history behind.small behind.entries known.accesses behind.first behind.now behind.origin behind.leads) ∣₁;
+  shared = λ h has. (
+      let s = behind.shared h has in
+      ∣ (s.0, s.0, record { fits = traced_fits lines lawful instance laws base behind.history behind.small behind.entries _ s.0 s.0 s.1 s.2; same = refl }) ∣₁);
+}

@@ -1,0 +1,75 @@
+-- What a caller noted of the replicas that it holds tells of their words: which words they may have had first, and which they
+-- then have now.
+use Rattle.std.specs.Prelude.{false, ◌≡◌, ◌+◌, ◌<◌, ◌≤◌, ℕ, List, ◌∷◌, length, map, slice_get, slice_index, Some}
+use Rattle.cx_base.specs.Noted.{Note, NotesLead}
+use Rattle.cx_core.specs.declared.entry.Base.{Base}
+use Rattle.cx_core.specs.declared.entry.Entry.{Entry}
+use Rattle.cx_core.specs.declared.local.HeldShared.{HeldShared}
+use Rattle.cx_core.specs.Base.{LawfulBase}
+use Rattle.cx_core.specs.Region.{place_of}
+use Rattle.cx_core.specs.Step.{full_step_of}
+use Rattle.cx_core.specs.WriteSet.{stored}
+use Rattle.cx_rule.specs.declared.rule.Known.{Known}
+use Rattle.cx_rule.specs.declared.rule.Noted.{Noted}
+use Rattle.cx_rule.specs.Seats.{place_noted}
+
+-- words as a base
+abbrev pub base_of : List ℕ → Base
+base_of words = record { place = place_of words; words = words }
+
+-- A pair of lists fits the accesses of a replica held exclusively: the first is lawful as a base, at a place from the base's
+-- on, and the accesses lead from it to the second.
+pub record Fits (lines : ℕ) (lawful : List ℕ → Type 0) (base : Base) (accesses : List Note) (first now : List ℕ) : Type 0 where
+  pub origin : LawfulBase lines lawful (base_of first)
+  pub from : base.place ≤ place_of first
+  pub leads : NotesLead accesses first now
+
+-- the words loaded of a replica held shared, as accesses
+abbrev pub loads_of : List (ℕ × ℕ) → List Note
+loads_of loaded = map (λ (x : ℕ × ℕ). (false, x.0, x.1)) loaded
+
+-- the same for a replica held shared, which nobody stores to: the second list is the first
+pub record ReadFits (lines : ℕ) (lawful : List ℕ → Type 0) (base : Base) (loaded : List (ℕ × ℕ)) (first now : List ℕ) : Type 0 where
+  pub fits : Fits lines lawful base (loads_of loaded) first now
+  pub same : now ≡ first
+
+-- some pair fits
+abbrev pub SomeFits : ℕ → (List ℕ → Type 0) → Base → List Note → Type 0
+SomeFits lines lawful base accesses = ∥ ((first : List ℕ) × (now : List ℕ) × Fits lines lawful base accesses first now) ∥₁
+
+abbrev pub SomeReadFits : ℕ → (List ℕ → Type 0) → Base → List (ℕ × ℕ) → Type 0
+SomeReadFits lines lawful base loaded = ∥ ((first : List ℕ) × (now : List ℕ) × ReadFits lines lawful base loaded first now) ∥₁
+
+-- some pair fits what a caller noted: of the replica that it holds exclusively or held so last, and of one that it holds
+-- shared. What is really there does.
+pub record Fitting (lines : ℕ) (lawful : List ℕ → Type 0) (base : Base) (known : Known) : Type 0 where
+  pub exclusive : SomeFits lines lawful base known.accesses
+  pub shared : (h : HeldShared) → known.local.shared ≡ Some h → SomeReadFits lines lawful base h.loaded
+
+-- each word of an entry is noted with a ticket
+pub record IsNoted (noted : List Noted) (ticket : ℕ) (entry : Entry) : Type 0 where
+  pub long : length entry.op ≡ 144
+  pub each : (i : ℕ) → i < 145 → (n : ℕ) × (slice_get noted n ≡ Some (record { ticket = ticket; caller = entry.caller; index = i; word = slice_index (entry.number ∷ entry.op) i }))
+
+-- no write set is noted yet
+abbrev pub no_set : ℕ → List ℕ → Type 0
+no_set ticket set = ⊥
+
+-- The words now are those first after noted entries and write sets, of the tickets from the place first on to below a place,
+-- in order.
+pub data Chain (step : List ℕ → List ℕ → List ℕ × List ℕ) (has_entry : ℕ → Entry → Type 0) (has_set : ℕ → List ℕ → Type 0) (first : List ℕ) : ℕ → List ℕ → Type 0 where
+  start : (place : ℕ) (now : List ℕ) → place ≡ place_of first → now ≡ first → Chain step has_entry has_set first place now
+  with_entry : (place : ℕ) (now : List ℕ) (ticket : ℕ) (before : List ℕ) (entry : Entry) → place ≡ ticket + 1 → now ≡ full_step_of step entry before → has_entry ticket entry → Chain step has_entry has_set first ticket before → Chain step has_entry has_set first place now
+  with_set : (place : ℕ) (now : List ℕ) (ticket : ℕ) (before set : List ℕ) → place ≡ ticket + 1 → now ≡ stored (slice_index set 0) set before → has_set ticket set → Chain step has_entry has_set first ticket before → Chain step has_entry has_set first place now
+
+-- the chain of what a caller noted
+abbrev pub ReplayedTo : (List ℕ → List ℕ → List ℕ × List ℕ) → List Noted → List ℕ → ℕ → List ℕ → Type 0
+ReplayedTo step noted = Chain step (IsNoted noted) no_set
+
+-- for every pair that fits the accesses, noted entries lead from the first list to the second
+abbrev pub IsReplayed : ℕ → (List ℕ → Type 0) → Base → (List ℕ → List ℕ → List ℕ × List ℕ) → Known → Type 0
+IsReplayed lines lawful base step known = (first now : List ℕ) → Fits lines lawful base known.accesses first now → (place : ℕ) × ReplayedTo step known.noted first place now
+
+-- and they lead to the place that was last loaded or stored
+abbrev pub IsReplayedToPlace : ℕ → (List ℕ → Type 0) → Base → (List ℕ → List ℕ → List ℕ × List ℕ) → Known → Type 0
+IsReplayedToPlace lines lawful base step known = (first now : List ℕ) → Fits lines lawful base known.accesses first now → ReplayedTo step known.noted first (place_noted 0 known.accesses) now

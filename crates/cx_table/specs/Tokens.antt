@@ -1,0 +1,54 @@
+-- Whose a token is: the seat whose caller it was handed to still has that right on that replica.
+use Rattle.std.specs.Prelude.{◌≡◌, ◌≢◌, ◌*◌, ◌≤◌, ◌<◌, ℕ, Option, Some, None, Result, Ok, Err}
+use Rattle.cx_core.specs.LockEvents.{exclusive_mark}
+use Rattle.cx_core.specs.Rights.{downgraded_on, exclusive_on, shared_on}
+use Rattle.cx_rule.specs.Seats.{Seated}
+use Rattle.cx_table.specs.declared.tokens.SharedRight.{SharedRight}
+use Rattle.cx_table.specs.declared.tokens.SharedRight.TheVariants.{Hold, Passer, Downgraded}
+
+-- what contracts see of a token
+pub record Right : Type 0 where
+  pub replica : ℕ
+  pub caller : ℕ
+
+pub record IsExclusiveOf (callers : ℕ) (seat : Seated) (held : Right) : Type 0 where
+  pub few : held.replica < 2 * callers
+  pub caller : held.caller ≡ seat.known.local.number
+  pub holds : exclusive_on seat.known.local ≡ Some held.replica
+
+pub record IsSharedOf (callers : ℕ) (seat : Seated) (held : Right) : Type 0 where
+  pub few : held.replica < 2 * callers
+  pub caller : held.caller ≡ seat.known.local.number
+  pub holds : shared_on seat.known.local ≡ Some held.replica
+
+pub record IsPasserOf (callers : ℕ) (seat : Seated) (mark : Right) : Type 0 where
+  pub few : mark.replica < 2 * callers
+  pub caller : mark.caller ≡ seat.known.local.number
+  pub holds : seat.known.local.passer ≡ Some mark.replica
+
+pub record IsDowngradedOf (callers : ℕ) (seat : Seated) (held : Right) : Type 0 where
+  pub few : held.replica < 2 * callers
+  pub caller : held.caller ≡ seat.known.local.number
+  pub holds : downgraded_on seat.known.local ≡ Some held.replica
+
+-- an exclusive try hands a token out exactly where it found 0
+abbrev pub TriedExclusive : ℕ → ℕ → Seated → ℕ → Option Right → Type 0
+TriedExclusive callers replica seat found (Some held) = (found ≡ 0) × (held.replica ≡ replica) × IsExclusiveOf callers seat held
+TriedExclusive callers replica seat found None = found ≢ 0
+
+-- a shared try hands out a hold exactly where it found no exclusive mark, and else a passer
+abbrev pub TriedShared : ℕ → ℕ → Seated → ℕ → Result Right Right → Type 0
+TriedShared callers replica seat found (Ok held) = (found < exclusive_mark) × (held.replica ≡ replica) × IsSharedOf callers seat held
+TriedShared callers replica seat found (Err mark) = (exclusive_mark ≤ found) × (mark.replica ≡ replica) × IsPasserOf callers seat mark
+
+-- the replica of a right that one step takes back
+abbrev pub replica_of : SharedRight → ℕ
+replica_of (Hold held) = held.replica
+replica_of (Passer mark) = mark.replica
+replica_of (Downgraded held) = held.replica
+
+-- whose it is
+abbrev pub IsRightOf : ℕ → Seated → SharedRight → Type 0
+IsRightOf callers seat (Hold held) = IsSharedOf callers seat held
+IsRightOf callers seat (Passer mark) = IsPasserOf callers seat mark
+IsRightOf callers seat (Downgraded held) = IsDowngradedOf callers seat held

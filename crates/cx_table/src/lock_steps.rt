@@ -1,0 +1,83 @@
+//! The step calls on locks: tries, and rights given up. A call that begins a right hands out its token beside the word found,
+//! and a call that ends one takes it. `Halt` comes exactly where the seat's steps equal its limit, and then nothing changes.
+
+ghost use Rattle.std.specs.Prelude.{◌≡◌, OnErr, OnOk, IfOk};
+ghost use Rattle.cx_core.specs.declared.kinds.Kind.TheVariants.{BackOff, Downgrade, ReleaseExclusive, TryExclusive, TryShared};
+ghost use Rattle.cx_rule.specs.Fitting.{Fitting, IsReplayed, IsReplayedToPlace};
+ghost use Rattle.cx_rule.specs.Running.{IsSeatOf, instance_at};
+ghost use Rattle.cx_rule.specs.Seats.{SeenGuard};
+ghost use Rattle.cx_rule.specs.Steps.{Halts, Steps};
+ghost use Rattle.cx_table.specs.Tokens.{IsDowngradedOf, IsExclusiveOf, IsRightOf, TriedExclusive, TriedShared, replica_of};
+
+use crate::seat::CallerSeat;
+use crate::shared::Shared;
+use crate::tokens::{Downgraded, Exclusive, Passer, SharedHold, SharedRight};
+use cx_base::{Halt, Object};
+use cx_core::Kind;
+use cx_core::layout::lock_at;
+
+/// What an exclusive right adds to a lock word.
+const EXCLUSIVE_MARK: u64 = 1 << 32;
+
+impl<O: Object> Shared<O> {
+    /// Tries to take a replica exclusively: a compare-exchange of its lock word from 0. It gives the word found, and where
+    /// that is 0 the replica's token.
+    pub fn try_exclusive(
+        &self,
+        seat: &mut CallerSeat,
+        r: u64,
+    ) -> Result<(u64, Option<Exclusive>), Halt>
+        requires seat { IsSeatOf self.now seat.old }
+        requires guard { SeenGuard (instance_at self.now O.step O.only_reads) (TryExclusive r) seat.old.known.local }
+        ensures made { IfOk result (λ x. Steps self.now O.step O.only_reads (TryExclusive r) x.0 seat.old seat.new) }
+        ensures token { IfOk result (λ x. TriedExclusive self.now.callers r seat.new x.0 x.1) }
+        ensures fits { OnOk result (Fitting self.now.lines (O.lawful self.now.object) self.now.base seat.new.known) }
+        ensures halted { OnErr result (Halts self.now seat.old seat.new) };
+
+    /// Tries to take a replica shared: adds 1 to its lock word. It gives the word found, and where that is below 2^32 a hold,
+    /// else a passer, which has to be taken back.
+    pub fn try_shared(
+        &self,
+        seat: &mut CallerSeat,
+        r: u64,
+    ) -> Result<(u64, Result<SharedHold, Passer>), Halt>
+        requires seat { IsSeatOf self.now seat.old }
+        requires guard { SeenGuard (instance_at self.now O.step O.only_reads) (TryShared r) seat.old.known.local }
+        ensures made { IfOk result (λ x. Steps self.now O.step O.only_reads (TryShared r) x.0 seat.old seat.new) }
+        ensures token { IfOk result (λ x. TriedShared self.now.callers r seat.new x.0 x.1) }
+        ensures fits { OnOk result (Fitting self.now.lines (O.lawful self.now.object) self.now.base seat.new.known) }
+        ensures halted { OnErr result (Halts self.now seat.old seat.new) };
+
+    /// Takes a shared right, a passer's mark or a downgraded right back: subtracts 1 from the lock word. It gives the word
+    /// found.
+    pub fn back_off(&self, seat: &mut CallerSeat, right: SharedRight) -> Result<u64, Halt>
+        requires seat { IsSeatOf self.now seat.old }
+        requires right { IsRightOf self.now.callers seat.old right }
+        ensures made { IfOk result (λ found. Steps self.now O.step O.only_reads (BackOff (replica_of right)) found seat.old seat.new) }
+        ensures halted { OnErr result (Halts self.now seat.old seat.new) };
+
+    /// Turns an exclusive right into a shared one, where no word is dirty and whatever fits what is noted is the image after
+    /// the place noted, by noted entries. It gives the word found and the token of the shared right.
+    pub fn downgrade(
+        &self,
+        seat: &mut CallerSeat,
+        held: Exclusive,
+    ) -> Result<(u64, Downgraded), Halt>
+        requires seat { IsSeatOf self.now seat.old }
+        requires held { IsExclusiveOf self.now.callers seat.old held }
+        requires guard { SeenGuard (instance_at self.now O.step O.only_reads) (Downgrade held.replica) seat.old.known.local }
+        requires replayed { IsReplayedToPlace self.now.lines (O.lawful self.now.object) self.now.base (O.step self.now.object) seat.old.known }
+        ensures made { IfOk result (λ x. Steps self.now O.step O.only_reads (Downgrade held.replica) x.0 seat.old seat.new) }
+        ensures token { IfOk result (λ x. (x.1.replica ≡ held.replica) × IsDowngradedOf self.now.callers seat.new x.1) }
+        ensures halted { OnErr result (Halts self.now seat.old seat.new) };
+
+    /// Gives an exclusive right up, where no word is dirty and whatever fits what is noted is the image after its place, by
+    /// noted entries. It gives the word found.
+    pub fn release_exclusive(&self, seat: &mut CallerSeat, held: Exclusive) -> Result<u64, Halt>
+        requires seat { IsSeatOf self.now seat.old }
+        requires held { IsExclusiveOf self.now.callers seat.old held }
+        requires guard { SeenGuard (instance_at self.now O.step O.only_reads) (ReleaseExclusive held.replica) seat.old.known.local }
+        requires replayed { IsReplayed self.now.lines (O.lawful self.now.object) self.now.base (O.step self.now.object) seat.old.known }
+        ensures made { IfOk result (λ found. Steps self.now O.step O.only_reads (ReleaseExclusive held.replica) found seat.old seat.new) }
+        ensures halted { OnErr result (Halts self.now seat.old seat.new) };
+}
