@@ -4,6 +4,7 @@ use Rattle.std.proofs.lemmas.Bool.{cases_Bool, eqb-true, false≢true}
 use Rattle.std.proofs.lemmas.Option.{same_Some}
 use Rattle.std.specs.List.{Contains, slice_get}
 use Rattle.std.specs.Option.{IsNone, option_map}
+use Rattle.atomic_table.specs.Table as atomic
 use Rattle.cx_base.specs.Codes.{root_place_of}
 use Rattle.cx_base.specs.Noted.{Note, NotesLead}
 use Rattle.cx_core.specs.declared.entry.Entry.{Entry}
@@ -27,12 +28,13 @@ use Rattle.cx_core.proofs.HistoryLemmas.{ObjectLaws}
 use Rattle.cx_core.proofs.MergeLemmas.{history_is}
 use Rattle.core_replica.proofs.HeldLists.{at_true, mapped}
 use Rattle.cx_rule.specs.declared.rule.Known.{Known}
-use Rattle.cx_rule.specs.Fitting.{Fits, IsReplayed, IsReplayedToPlace, ReplayedTo}
-use Rattle.cx_rule.specs.Learns.{LearnsAnyway}
-use Rattle.cx_rule.specs.Rule.{HasWords64, IsTraced, NotesHold}
-use Rattle.cx_rule.specs.Seats.{is_outdated, known_after, known_local, marked_load, place_noted, unseen}
+use Rattle.cx_rule.specs.Fitting.{Fits, IsReplayed, IsReplayedToPlace, ReplayedTo, TellsWord}
+use Rattle.cx_rule.specs.Learns.{LearnsBy}
+use Rattle.cx_rule.specs.Rule.{HasWords64, IsTraced, NotesHold, RuleHolds}
+use Rattle.cx_rule.specs.Steps.{IsBlind, IsLearned, Teaches}
+use Rattle.cx_rule.specs.Seats.{is_outdated, kind_found, known_after, known_local, known_of, marked_load, place_noted, unseen}
 use Rattle.cx_rule.proofs.Fitting.{chain_full, traced_fits}
-use Rattle.cx_rule.proofs.Keeps.{LearnsBy, learns_of}
+use Rattle.cx_rule.proofs.Keeps.{allows, blind_teaches, learns_of}
 use Rattle.cx_rule.proofs.ShownLaws.{known_shown}
 use Rattle.cx_rule.proofs.Words64.{entries_from}
 
@@ -57,10 +59,6 @@ dirty_on known l shows = sym (ap (λ (x : Local). held_dirty x.exclusive) shows 
 clean_on : (callers r : ℕ) (known : Known) (l : Local) → known.local ≡ shown l → IsClean callers r known.local → IsClean callers r l
 clean_on callers r known l shows clean =
     (clean.0, held_on known l shows ∙ clean.1, subst (λ (x : Local). IsNone x.downgraded) shows clean.2, dirty_on known l shows ∙ clean.3)
-
--- the accesses tell this word of a replica that has so many
-abbrev pub TellsWord : ℕ → List Note → ℕ → ℕ → Type 0
-TellsWord region accesses at word = (first now : List ℕ) → length first ≡ region → NotesLead accesses first now → slice_index now at ≡ word
 
 -- a word is persisted as the accesses tell it
 pub learns_persist : (instance : Instance) (r i : ℕ) (known : Known) (word new : ℕ) → Guard instance unseen (Persist r i) known.local → word ≡ step_word instance (Persist r i) known.local →
@@ -181,3 +179,23 @@ learns_load instance r i mark known word can at words _ =
 
     can_on : (callers region r i : ℕ) (known : Known) (l : Local) → known.local ≡ shown l → CanLoad callers region r i known.local → CanLoad callers region r i l
     can_on callers region r i known l shows can = (can.0, can.1, elim can.2 [ inl held ↦ inl (held_on known l shows ∙ held) | inr shared ↦ inr (ap (λ (x : Local). shared_on x) (sym shows) ∙ shared) ])
+
+-- what the table asks of a step that is learned by what was noted
+pub allows_learned : (instance : Instance) (kind : Kind) (slots id word : ℕ) (me : atomic.Me ℕ (List Known)) (f : ℕ → ℕ) → me ≡ (known_of me.0 ∷ [], []) → IsLearned instance kind (known_of me.0) word f →
+    atomic.Allows (RuleHolds instance) slots id me word f (λ found. Teaches instance (kind_found instance kind (known_of me.0).local found) (known_of me.0) found)
+allows_learned instance kind slots id word me f one learns =
+    let known = known_of me.0 in
+    let by = kind_found instance kind known.local in
+    allows instance by known slots id word me f (λ found. Teaches instance (by found) known found) one learns (λ found taught. taught)
+
+pub allows_learned_store : (instance : Instance) (kind : Kind) (slots id word : ℕ) (me : atomic.Me ℕ (List Known)) (new : ℕ) → me ≡ (known_of me.0 ∷ [], []) → IsLearned instance kind (known_of me.0) word (λ _. new) →
+    ((l : Local) (found : ℕ) → kind_found instance kind l found ≡ kind) → IsBlind instance kind (known_of me.0) →
+    atomic.Allows (RuleHolds instance) slots id me word (λ _. new) (λ _. Teaches instance kind (known_of me.0) 0)
+allows_learned_store instance kind slots id word me new one learns plain blind =
+    let known = known_of me.0 in
+    let by = kind_found instance kind known.local in
+    allows instance by known slots id word me (λ _. new) (λ _. Teaches instance kind known 0) one learns
+    (λ found taught. (
+    let same = plain known.local found in
+    subst (λ (k : Kind). Teaches instance kind known 0 (known_after instance k known found ∷ [], [])) (sym same)
+    (blind_teaches instance kind known found blind.blind blind.silent (subst (λ (k : Kind). Teaches instance k known found (known_after instance k known found ∷ [], [])) same taught))))

@@ -18,7 +18,7 @@ use Rattle.cx_core.specs.State.{EachLocal, Instance, Scene, State}
 use Rattle.cx_core.proofs.ListLemmas.{slice_get-set_same, slice_get-set_other}
 use Rattle.cx_core.proofs.MergeLemmas.{goes_on, still_linked}
 use Rattle.cx_rule.specs.declared.rule.Known.{Known}
-use Rattle.cx_rule.specs.Learns.{LearnsAnyway}
+use Rattle.cx_rule.specs.Learns.{LearnsAnyway, LearnsBy}
 use Rattle.cx_rule.specs.Rule.{RuleHolds, HasWords64, IsBehindNotes, IsKnown, IsLawfulLocal, IsTraced, NotesHold, StandStill}
 use Rattle.cx_rule.specs.Running.{Running, instance_at}
 use Rattle.cx_rule.specs.Seats.{IsByShown, WordFits, accesses_after, known_after, known_local, known_of, noted_by, unseen}
@@ -129,7 +129,7 @@ learns_of instance kind known words word new fits at sees locals law l of_caller
     }
 
 -- a step whose guard and word the seat's shown local state tells teaches it so, whatever else is not shown
-learns_shown : (instance : Instance) (kind : Kind) (known : Known) (words : List ℕ) (word new : ℕ) → IsByShown kind → WordFits kind → Guard instance unseen kind known.local → word ≡ step_word instance kind known.local →
+pub learns_shown : (instance : Instance) (kind : Kind) (known : Known) (words : List ℕ) (word new : ℕ) → IsByShown kind → WordFits kind → Guard instance unseen kind known.local → word ≡ step_word instance kind known.local →
     new ≡ new_word instance kind known.local (slice_index words word) → LearnsAnyway instance words kind known word new (known_after instance kind known (slice_index words word))
 learns_shown instance kind known words word new by fits may at puts =
     learns_of instance kind known words word new fits at (λ locals law l of_caller shows noted traced fit. (
@@ -163,12 +163,6 @@ view_within : (views : List (List Known)) (id : ℕ) (v : List Known) → get_el
 view_within [] id v at = absurd (some-ne-none v (sym at))
 view_within (w ∷ views) zero v at = omega arith
 view_within (w ∷ views) (suc id) v at = (let rest = view_within views id v at in omega arith)
-
--- what an event learns, by the word found, of which the kind and the word put may depend on it
-abbrev pub LearnsBy : Instance → (ℕ → Kind) → Known → ℕ → (ℕ → ℕ) → Type 0
-LearnsBy instance kind known word f =
-    (words : List ℕ) → slice_index words word < 2 ^ 64 →
-    LearnsAnyway instance words (kind (slice_index words word)) known word (f (slice_index words word)) (known_after instance (kind (slice_index words word)) known (slice_index words word))
 
 -- what the table asks of a step, from the core's law: the word is the event's, it becomes what the event puts, and the seat
 -- then knows what the event teaches

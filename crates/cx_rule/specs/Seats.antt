@@ -127,6 +127,11 @@ is_outdated instance r i l found =
 abbrev pub marked_load : Instance → ℕ → ℕ → Bool → Local → ℕ → Kind
 marked_load instance r i mark l found = LoadWord r i (mark && is_outdated instance r i l found)
 
+-- the kind of an event that found this word
+abbrev pub kind_found : Instance → Kind → Local → ℕ → Kind
+kind_found instance (LoadWord r i mark) l found = marked_load instance r i mark l found
+kind_found instance kind l found = kind
+
 -- what contracts see of a caller's seat: its table, the number of the caller's last entry in the table's base, the words of
 -- a region, and what it knows
 pub record Seated : Type 0 where
