@@ -1,13 +1,10 @@
 -- What steps teach whose guard or word is not told by the local state that a seat shows, but by what its caller noted.
-use Rattle.std.proofs.Common.{false, true, ◌≡◌, ◌≢◌, ◌+◌, ◌-◌, ◌^◌, ◌==◌, ◌&&◌, ◌<◌, ◌≤◌, inl, inr, ℕ, Bool, IsTrue, cond, List, [], ◌∷◌, length, slice_index, refl, ap, sym, subst, ◌∙◌, arith, eq-eqb, Option, Some, None}
-use Rattle.std.proofs.lemmas.Bool.{cases_Bool, eqb-true, false≢true}
-use Rattle.std.proofs.lemmas.Option.{same_Some}
-use Rattle.std.specs.List.{Contains, slice_get}
+use Rattle.std.proofs.Common.{false, true, ◌≡◌, ◌≢◌, ◌==◌, ◌&&◌, inl, inr, ℕ, Bool, IsTrue, cond, List, [], ◌∷◌, length, slice_index, refl, ap, sym, subst, ◌∙◌, eq-eqb, Option, Some, None}
+use Rattle.std.proofs.lemmas.Bool.{eqb-true}
+use Rattle.std.specs.List.{Contains}
 use Rattle.std.specs.Option.{IsNone, option_map}
 use Rattle.atomic_table.specs.Table as atomic
 use Rattle.cx_base.specs.Codes.{root_place_of}
-use Rattle.cx_base.specs.Noted.{Note, NotesLead}
-use Rattle.cx_core.specs.declared.entry.Entry.{Entry}
 use Rattle.cx_core.specs.declared.kinds.Kind.{Kind}
 use Rattle.cx_core.specs.declared.kinds.Kind.TheVariants.{Downgrade, LoadWord, Persist, ReleaseExclusive}
 use Rattle.cx_core.specs.declared.local.HeldExclusive.{HeldExclusive}
@@ -17,7 +14,7 @@ use Rattle.cx_core.specs.Events.{Guard, new_word, next, step_word}
 use Rattle.cx_core.specs.History.{IsFull}
 use Rattle.cx_core.specs.Lawful.{Lawful}
 use Rattle.cx_core.specs.Layout.{vol_at}
-use Rattle.cx_core.specs.LockEvents.{IsClean, downgraded_to, exclusive_mark, is_fresh_on}
+use Rattle.cx_core.specs.LockEvents.{IsClean, is_fresh_on}
 use Rattle.cx_core.specs.Merge.{history_of, scene_of}
 use Rattle.cx_core.specs.Region.{place_of}
 use Rattle.cx_core.specs.RegionEvents.{CanLoad, ShowsOutdated}
@@ -35,7 +32,6 @@ use Rattle.cx_rule.specs.Steps.{IsBlind, IsLearned, Teaches}
 use Rattle.cx_rule.specs.Seats.{is_outdated, kind_found, known_after, known_local, known_of, marked_load, place_noted, unseen}
 use Rattle.cx_rule.proofs.Fitting.{chain_full, traced_fits}
 use Rattle.cx_rule.proofs.Keeps.{allows, blind_teaches, learns_of}
-use Rattle.cx_rule.proofs.ShownLaws.{known_shown}
 use Rattle.cx_rule.proofs.Words64.{entries_from}
 
 abbrev blank : HeldExclusive → HeldExclusive
@@ -143,8 +139,7 @@ outdated_shows instance words r i l is =
     let a = and_true (i == 0) _ is in
     let b = and_true (is_at r (shared_on l)) _ a.1 in
     let c = and_true (is_fresh_on instance.callers r l) _ b.1 in
-    let at : i ≡ 0 = eqb-true i 0 a.0 in
-    (
+    let at : i ≡ 0 = eqb-true i 0 a.0 in (
       at,
       at_true r (shared_on l) b.0,
       c.0,
@@ -166,9 +161,12 @@ learns_load instance r i mark known word can at words _ =
     let kind : Kind = LoadWord r i refused in
     learns_of instance kind known words word found tt at (λ locals law l of_caller shows noted traced fit. (
     record {
-      guard = (can_on instance.callers (length instance.base.words) r i known l shows can, λ is. (
-          let out : is_outdated instance r i l found ≡ true = ap (λ (x : Local). is_outdated instance r i x found) (sym shows) ∙ second mark _ is in
-          outdated_shows instance words r i l (subst (λ w. is_outdated instance r i l (slice_index words w) ≡ true) at out)));
+      guard = (
+        can_on instance.callers (length instance.base.words) r i known l shows can,
+        λ is. (
+            let out : is_outdated instance r i l found ≡ true = ap (λ (x : Local). is_outdated instance r i x found) (sym shows) ∙ second mark _ is in
+            outdated_shows instance words r i l (subst (λ w. is_outdated instance r i l (slice_index words w) ≡ true) at out)),
+      );
       new_is = refl;
       shows = ap (λ (x : Local). next instance unseen kind x found) shows;
     }))

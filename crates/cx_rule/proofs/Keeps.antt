@@ -1,5 +1,5 @@
 -- Each event of the core keeps the rule of the table.
-use Rattle.std.proofs.Common.{length, arith, ◌≡◌, ◌≢◌, ◌^◌, ◌<◌, ⊎_elim, ℕ, Bool, zero, suc, List, [], ◌∷◌, set, slice_index, refl, ap, sym, subst, ◌∙◌, Some}
+use Rattle.std.proofs.Common.{length, arith, ◌≡◌, ◌≢◌, ◌<◌, ⊎_elim, ℕ, Bool, zero, suc, List, [], ◌∷◌, set, slice_index, refl, ap, sym, subst, ◌∙◌, Some}
 use Rattle.std.proofs.lemmas.Option.{same_Some, none-some, slice_get_within}
 use Rattle.std.specs.List.{slice_get}
 use mathlib.Core.Option.{some, some-ne-none}

@@ -1,6 +1,6 @@
 -- What a table that was closed leaves.
-use Rattle.std.proofs.Common.{◌≡◌, ◌+◌, ◌*◌, ◌<◌, ℕ, zero, suc, Bool, true, false, List, [], ◌∷◌, ◌++◌, length, map, replicate, slice_index, refl, sym, ap, subst, ◌∙◌, inl, arith, Some, All, get_or, zero-add}
-use Rattle.std.proofs.lemmas.List.{length-map, length-replicate, get_or-map}
+use Rattle.std.proofs.Common.{◌≡◌, ◌*◌, ◌<◌, ℕ, zero, suc, List, [], ◌∷◌, ◌++◌, length, map, slice_index, refl, sym, ap, subst, ◌∙◌, inl, arith, Some, All, get_or, zero-add}
+use Rattle.std.proofs.lemmas.List.{length-map, get_or-map}
 use Rattle.std.proofs.lemmas.List.Elements.{All-map}
 use Rattle.std.proofs.lemmas.List.FromFn.{length-range_with_len, get_or-range_with_len}
 use Rattle.std.proofs.lemmas.Option.{same_Some, none-some, slice_get_within, slice_get-get_or, get_or_from_slice_get}
@@ -12,7 +12,6 @@ use Rattle.atomic_table.specs.Table.{State}
 use Rattle.cx_core.specs.declared.entry.Base.{Base}
 use Rattle.cx_core.specs.declared.entry.Entry.{Entry}
 use Rattle.cx_core.specs.declared.local.Local.{Local}
-use Rattle.cx_core.specs.Lawful.{Lawful}
 use Rattle.std.specs.Option.{option_map}
 use Rattle.cx_core.specs.declared.local.Linked.{Linked}
 use Rattle.cx_core.specs.Merge.{IsHistory, all_own, history_of, in_order}
@@ -23,7 +22,7 @@ use Rattle.cx_core.specs.Layout.{vol_at, per_at}
 use Rattle.cx_table.specs.declared.remains.Remains.{Remains}
 use Rattle.cx_rule.specs.Ending.{IsCodeChain}
 use Rattle.cx_table.specs.Remains.{AreSeats, Leaves, MarksDirty, known_by, locals_of, opening_seat}
-use Rattle.cx_rule.specs.Rule.{RuleHolds, IsKnown, NotesHold, StandStill}
+use Rattle.cx_rule.specs.Rule.{RuleHolds, NotesHold, StandStill}
 use Rattle.cx_rule.specs.Running.{IsSeatOf, Running}
 use Rattle.cx_rule.specs.Seats.{Seated}
 use Rattle.cx_core.proofs.MergeLemmas.{history_is}

@@ -1,9 +1,8 @@
 -- What a seat keeps in plain memory follows each step.
-use Rattle.std.proofs.Common.{◌≡◌, ◌≢◌, ◌<◌, ◌==◌, ◌↔◌, ◌⊎◌, inl, inr, ℕ, nat_lt, Bool, true, false, cond, List, [], ◌∷◌, ◌++◌, length, filter, set, slice_index, refl, ap, sym, subst, ◌∙◌, arith, eq-eqb, ne_eqb, Option, Some, None}
-use Rattle.std.proofs.lemmas.Bool.{cases_Bool, cases_eq, eqb-true}
+use Rattle.std.proofs.Common.{◌≡◌, ◌≢◌, ◌<◌, ◌==◌, ◌↔◌, ◌⊎◌, inl, inr, ℕ, nat_lt, Bool, true, false, cond, List, [], ◌∷◌, ◌++◌, length, filter, set, slice_index, refl, ap, sym, subst, ◌∙◌, arith, eq-eqb, Option, Some, None}
+use Rattle.std.proofs.lemmas.Bool.{cases_Bool, cases_eq}
 use Rattle.std.proofs.lemmas.List.{get_or-set_other, get_or-set_same, length-set}
 use Rattle.std.proofs.lemmas.List.Elements.{Contains-append_cases, Contains-append_left, Contains-append_right, Contains-push_cases}
-use Rattle.std.proofs.lemmas.Option.{same_Some}
 use Rattle.std.specs.List.{Contains, slice_get}
 use Rattle.std.specs.Option.{option_map}
 use Rattle.cx_base.specs.Noted.{Note, NotesLead, led_by_load, led_by_store}
@@ -17,7 +16,7 @@ use Rattle.cx_core.specs.RegionEvents.{persisted, stored_into}
 use Rattle.cx_core.specs.Rights.{exclusive_on, held_dirty, is_at, shared_on}
 use Rattle.cx_core.specs.State.{Instance, one_more}
 use Rattle.cx_core.proofs.ListLemmas.{slice_get-set_same, slice_get-set_other}
-use Rattle.core_replica.proofs.HeldLists.{Contains-filter, Contains-still, Contains-with, is_none, mapped, other_passes}
+use Rattle.core_replica.proofs.HeldLists.{Contains-filter, Contains-still, Contains-with, is_none, other_passes}
 use Rattle.cx_rule.specs.declared.rule.Known.{Known}
 use Rattle.cx_rule.specs.Fitting.{TellsWord}
 use Rattle.cx_rule.specs.Seats.{SeenGuard, known_after, known_local, place_noted, unseen}
@@ -161,9 +160,9 @@ cleaned k k' c i small accesses dirty is =
       place = is.place ∙ ap (place_noted 0) (sym accesses);
       marks = λ j below. subst (λ xs. (slice_get (set c.dirty i false) j ≡ Some true) ↔ Contains xs j) (sym dirty) (elim (cases_eq j i) [
         | inl e ↦ (
-            λ marked. absurd (off (sym (slice_get-set_same c.dirty i false within) ∙ subst (λ m. slice_get (set c.dirty i false) m ≡ Some true) e marked)),
-            λ there. absurd (fails j e (filtered p ds j there).1),
-          )
+          λ marked. absurd (off (sym (slice_get-set_same c.dirty i false within) ∙ subst (λ m. slice_get (set c.dirty i false) m ≡ Some true) e marked)),
+          λ there. absurd (fails j e (filtered p ds j there).1),
+        )
         | inr ne ↦ (
             let was = is.marks j below in
             let same = slice_get-set_other c.dirty i j false ne in (

@@ -1,19 +1,15 @@
 -- The tokens that steps hand out are of their seats, and what really is there fits what was noted.
-use Rattle.std.proofs.Common.{◌≡◌, ◌≢◌, ◌*◌, ◌==◌, ◌<◌, ◌≤◌, inl, inr, ℕ, nat_lt, Bool, true, false, cond, List, length, refl, ap, sym, subst, ◌∙◌, arith, eq-eqb, Option, Some, None, Result, Ok, Err}
+use Rattle.std.proofs.Common.{◌≡◌, ◌*◌, ◌<◌, ◌≤◌, inl, inr, ℕ, nat_lt, Bool, false, cond, List, ap, sym, subst, ◌∙◌, arith, eq-eqb, Option, Some, None, Result, Ok, Err}
 use Rattle.std.proofs.lemmas.Bool.{cases_Bool, lt-ltb, ltb-true}
 use Rattle.atomic_table.specs.Table.{Me}
 use Rattle.cx_base.specs.Memory.{Words}
 use Rattle.cx_core.specs.declared.kinds.Kind.{Kind}
 use Rattle.cx_core.specs.declared.kinds.Kind.TheVariants.{Downgrade, TryExclusive, TryShared}
-use Rattle.cx_core.specs.declared.local.Local.{Local}
-use Rattle.cx_core.specs.Base.{LawfulBase}
 use Rattle.cx_core.specs.LockEvents.{CanBackOff, exclusive_mark, passing, refused_by, shared_by, taken}
 use Rattle.cx_core.specs.Rights.{downgraded_on, exclusive_on, shared_on}
-use Rattle.cx_core.specs.State.{Instance}
 use Rattle.cx_core.proofs.HistoryLemmas.{ObjectLaws}
 use Rattle.cx_rule.specs.declared.rule.Known.{Known}
 use Rattle.cx_rule.specs.Fitting.{Fitting}
-use Rattle.cx_rule.specs.Rule.{IsBehindNotes}
 use Rattle.cx_rule.specs.Running.{IsRunning, Running, instance_at}
 use Rattle.cx_rule.specs.Seats.{Seated, known_after, known_of, unseen}
 use Rattle.cx_rule.specs.Steps.{Steps, Teaches}

@@ -1,7 +1,7 @@
 -- The marks of dirty words that are handed out.
-use Rattle.std.proofs.Common.{◌≡◌, ◌≢◌, ◌+◌, ◌-◌, ◌*◌, ◌<◌, ◌≤◌, ◌↔◌, ◌⊎◌, inl, inr, ℕ, zero, suc, Bool, true, false, List, [], ◌∷◌, length, map, replicate, set, refl, ap, sym, subst, ◌∙◌, arith, Option, Some, None, length-set}
+use Rattle.std.proofs.Common.{◌≡◌, ◌+◌, ◌*◌, ◌<◌, ◌≤◌, ◌↔◌, inl, inr, ℕ, zero, suc, Bool, true, false, List, [], ◌∷◌, length, replicate, set, refl, ap, sym, subst, ◌∙◌, arith, Some}
 use Rattle.std.proofs.Math.Nat.{mul-le-mul_left, mul-suc}
-use Rattle.std.proofs.lemmas.Bool.{cases_Bool, cases_eq, cases_lt}
+use Rattle.std.proofs.lemmas.Bool.{cases_eq, cases_lt}
 use Rattle.std.proofs.lemmas.Option.{none-some, same_Some, slice_get_within}
 use Rattle.std.specs.List.{Contains, slice_get}
 use Rattle.std.specs.Option.{option_map}
@@ -10,11 +10,9 @@ use Rattle.cx_core.specs.declared.local.Local.{Local}
 use Rattle.cx_core.specs.Rights.{exclusive_on, held_dirty}
 use Rattle.cx_core.proofs.ListLemmas.{slice_get-set_same, slice_get-set_other}
 use Rattle.core_replica.proofs.HeldLists.{mapped}
-use Rattle.cx_rule.specs.declared.rule.Known.{Known}
 use Rattle.cx_rule.specs.Seats.{Seated}
-use Rattle.cx_table.specs.Copies.{Copied, IsCopied}
 use Rattle.cx_table.specs.Marks.{MarksMore}
-use Rattle.cx_table.specs.Remains.{IsDirty, MarksDirty, known_by, locals_of}
+use Rattle.cx_table.specs.Remains.{MarksDirty, locals_of}
 
 -- none of no marks, and one mark more
 pub marks_none : (marks : List Bool) (from : ℕ) (before : List Bool) → MarksMore marks from 0 before before
@@ -25,9 +23,9 @@ marks_on marks from n before after marked within more at =
     let place = from + n in
     elim (cases_eq at place) [
       | inl e ↦ (
-          λ _. inr (n, omega arith, e, marked),
-          λ _. subst (λ k. slice_get (set after place true) k ≡ Some true) (sym e) (slice_get-set_same after place true within),
-        )
+        λ _. inr (n, omega arith, e, marked),
+        λ _. subst (λ k. slice_get (set after place true) k ≡ Some true) (sym e) (slice_get-set_same after place true within),
+      )
       | inr ne ↦ (
           let same = slice_get-set_other after place at true ne in (
             λ now. elim ((more at).0 (sym same ∙ now)) [ inl was ↦ inl was | inr i ↦ inr (i.0, (let below = i.1 in omega arith), i.2, i.3) ],
@@ -87,13 +85,13 @@ dirty_off seats n replicas region marks seat at none old = record {
       let was = old.is replica word small below in (
         λ marked. (let s = was.0 marked in (s.0, (let less = s.1 in omega arith), s.2, s.3, s.4, s.5)),
         λ some. was.1 (
-          let less = some.1 in
-          elim (cases_eq some.0 n) [
-            | inl last ↦ (
-                let same : some.2 ≡ seat = same_Some some.2 seat (sym some.3 ∙ ap (slice_get seats) last ∙ at) in
-                absurd (none replica small (ap (λ (s : Seated). exclusive_on s.known.local) (sym same) ∙ some.4)))
-            | inr earlier ↦ (some.0, omega (arith, less, earlier), some.2, some.3, some.4, some.5)
-          ]),
+            let less = some.1 in
+            elim (cases_eq some.0 n) [
+              | inl last ↦ (
+                  let same : some.2 ≡ seat = same_Some some.2 seat (sym some.3 ∙ ap (slice_get seats) last ∙ at) in
+                  absurd (none replica small (ap (λ (s : Seated). exclusive_on s.known.local) (sym same) ∙ some.4)))
+              | inr earlier ↦ (some.0, omega (arith, less, earlier), some.2, some.3, some.4, some.5)
+            ]),
       ));
 }
 
@@ -114,15 +112,15 @@ dirty_on seats n replicas region r before after dirty seat at held small_r long 
               (n, omega arith, seat, at, held ∙ ap Some (sym row.0), subst (Contains (held_dirty seat.known.local.exclusive)) (sym row.1) ((marks now.0 inside).0 now.3)))
         ],
         λ some. (more place).1 (
-          let less = some.1 in
-          elim (cases_eq some.0 n) [
-            | inl last ↦ (
-                let is : some.2 ≡ seat = same_Some some.2 seat (sym some.3 ∙ ap (slice_get seats) last ∙ at) in
-                let here : r ≡ replica = same_Some r replica (sym held ∙ ap (λ (s : Seated). exclusive_on s.known.local) (sym is) ∙ some.4) in
-                let there = subst (λ (s : Seated). Contains (held_dirty s.known.local.exclusive) word) is some.5 in
-                inr (word, subst (λ k. word < k) (sym long) below, ap (λ q. region * q + word) (sym here), (marks word below).1 there))
-            | inr earlier ↦ inl (was.1 (some.0, omega (arith, less, earlier), some.2, some.3, some.4, some.5))
-          ]),
+            let less = some.1 in
+            elim (cases_eq some.0 n) [
+              | inl last ↦ (
+                  let is : some.2 ≡ seat = same_Some some.2 seat (sym some.3 ∙ ap (slice_get seats) last ∙ at) in
+                  let here : r ≡ replica = same_Some r replica (sym held ∙ ap (λ (s : Seated). exclusive_on s.known.local) (sym is) ∙ some.4) in
+                  let there = subst (λ (s : Seated). Contains (held_dirty s.known.local.exclusive) word) is some.5 in
+                  inr (word, subst (λ k. word < k) (sym long) below, ap (λ q. region * q + word) (sym here), (marks word below).1 there))
+              | inr earlier ↦ inl (was.1 (some.0, omega (arith, less, earlier), some.2, some.3, some.4, some.5))
+            ]),
       ));
 }
 
@@ -144,13 +142,13 @@ dirty_all seats n replicas region marks count to = record {
   is = λ replica at small below. (
       let each = to.is replica at small below in (
         λ marked. (
-          let s = each.0 marked in
-          let held = mapped (λ (h : HeldExclusive). h.replica) s.2.known.local.exclusive replica s.4 in
-          record { caller = s.0; local = s.2.known.local; held = held.0; of_caller = local_of seats s.0 s.2 s.3; holds = held.1; here = held.2; dirty = subst (λ o. Contains (held_dirty o) at) held.1 s.5 }),
+            let s = each.0 marked in
+            let held = mapped (λ (h : HeldExclusive). h.replica) s.2.known.local.exclusive replica s.4 in
+            record { caller = s.0; local = s.2.known.local; held = held.0; of_caller = local_of seats s.0 s.2 s.3; holds = held.1; here = held.2; dirty = subst (λ o. Contains (held_dirty o) at) held.1 s.5 }),
         λ dirty. each.1 (
-          let s = local_at seats dirty.caller dirty.local dirty.of_caller in
-          let holds : s.0.known.local.exclusive ≡ Some dirty.held = ap (λ (l : Local). l.exclusive) s.2 ∙ dirty.holds in
-          let within = slice_get_within seats dirty.caller s.0 s.1 in
-          (dirty.caller, omega (arith, within, count), s.0, s.1, ap (option_map (λ (h : HeldExclusive). h.replica)) holds ∙ ap Some dirty.here, subst (λ o. Contains (held_dirty o) at) (sym holds) dirty.dirty)),
+            let s = local_at seats dirty.caller dirty.local dirty.of_caller in
+            let holds : s.0.known.local.exclusive ≡ Some dirty.held = ap (λ (l : Local). l.exclusive) s.2 ∙ dirty.holds in
+            let within = slice_get_within seats dirty.caller s.0 s.1 in
+            (dirty.caller, omega (arith, within, count), s.0, s.1, ap (option_map (λ (h : HeldExclusive). h.replica)) holds ∙ ap Some dirty.here, subst (λ o. Contains (held_dirty o) at) (sym holds) dirty.dirty)),
       ));
 }

@@ -1,14 +1,13 @@
 -- The replicas that refused a caller, as marks.
-use Rattle.std.proofs.Common.{◌≡◌, ◌+◌, ◌*◌, ◌<◌, ◌≤◌, ◌==◌, ◌&&◌, ◌||◌, inl, inr, ℕ, zero, suc, Bool, true, false, cond, List, [], ◌∷◌, ◌++◌, length, map, replicate, set, refl, ap, sym, subst, ◌∙◌, arith, Some, eq-eqb, ne_eqb, slice_index_or}
+use Rattle.std.proofs.Common.{◌≡◌, ◌+◌, ◌*◌, ◌<◌, ◌≤◌, ◌==◌, ◌&&◌, ◌||◌, inl, inr, ℕ, zero, suc, Bool, true, false, cond, List, [], ◌∷◌, ◌++◌, length, map, replicate, set, refl, ap, sym, ◌∙◌, arith, eq-eqb, ne_eqb, slice_index_or}
 use Rattle.std.proofs.lemmas.Bool.{cases_Bool, cases_eq}
 use Rattle.std.proofs.lemmas.List.{get_or-set_other, get_or-set_same, length-set}
 use Rattle.std.proofs.lemmas.List.{ext_get_or}
 use Rattle.std.proofs.lemmas.List.FromFn.{get_or-map-range_with_len, length-map-range_with_len}
-use Rattle.std.specs.List.{list_all, list_any, range_with_len}
+use Rattle.std.specs.List.{list_all, range_with_len}
 use Rattle.cx_core.specs.declared.local.Local.{Local}
-use Rattle.cx_core.specs.LockEvents.{has_all, is_in, refused_by, taken, with_number}
-use Rattle.cx_core.specs.State.{Instance, one_more}
-use Rattle.cx_rule.specs.Seats.{unseen}
+use Rattle.cx_core.specs.LockEvents.{has_all, is_in, refused_by, with_number}
+use Rattle.cx_core.specs.State.{one_more}
 use Rattle.cx_table.specs.declared.mirror.Mirror.{Mirror}
 use Rattle.cx_table.specs.Mirrors.{mirror_of}
 

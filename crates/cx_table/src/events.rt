@@ -167,13 +167,7 @@ impl<O: Object> Shared<O> {
         self.add_as::<Brand>(seat, kind, word, k)
     }
 
-    fn add_as<J: Named>(
-        &self,
-        seat: &mut Seat<u8, View>,
-        kind: &Kind,
-        word: usize,
-        k: u64,
-    ) -> u64
+    fn add_as<J: Named>(&self, seat: &mut Seat<u8, View>, kind: &Kind, word: usize, k: u64) -> u64
         requires table { seat.old.table_id ≡ self.now.table }
         requires within { word < self.now.table.words }
         requires allows { Allows (RuleHolds (instance_at self.now O.step O.only_reads)) self.now.table.slots seat.old.id seat.old.me word (λ x. (x + k) % 2 ^ 64) J.tells }

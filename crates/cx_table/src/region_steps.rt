@@ -79,8 +79,7 @@ impl<O: Object> Shared<O> {
     fn is_refusal(&self, mirror: &Mirror, r: u64, i: u64, mark: bool, found: u64) -> bool
         ensures { (l : _) → mirror.now ≡ mirror_of l → result ≡ (mark && is_outdated (instance_at self.now O.step O.only_reads) r i l found) }
     {
-        mark
-            && i == 0
+        mark && i == 0
             && is_at(r, mirror.shared)
             && mirror.is_fresh_on(self.callers, r)
             && found != root_place(self.callers, mirror.seen_cur)

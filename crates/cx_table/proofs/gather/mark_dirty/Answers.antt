@@ -1,4 +1,4 @@
-use Rattle.std.proofs.Common.{◌≡◌, ◌+◌, ◌<◌, ◌↔◌, Bool, Global, Vec, true, length, ap, subst, sym, ◌∙◌, arith, Some}
+use Rattle.std.proofs.Common.{◌≡◌, ◌+◌, ◌↔◌, Bool, Global, Vec, true, length, ap, subst, sym, ◌∙◌, arith, Some}
 use Rattle.std.proofs.lemmas.Option.{same_Some, slice_get-get_or}
 use Rattle.std.specs.List.{Contains, slice_get}
 use Rattle.cx_core.specs.Rights.{exclusive_on, held_dirty}
@@ -20,19 +20,19 @@ loop-k-preserved c =
       | in-Some+then-replica-replicas w ↦ (
           let new = w.mark_replica.new.dirty in
           subst (λ (v : Vec Bool Global). DirtyTo seats (n + 1) c.args.replicas c.args.region v.items) (sym w.dirty-is)
-              (dirty_on seats n c.args.replicas c.args.region w.in-Some.replica c.loop-k.dirty.items new.items w.marks.result.now seat at (on ∙ w.in-Some.is) w.if-replica-replicas.true
-              (ap length w.marks.ensures ∙ c.seat.invariant.1.long ∙ size) (sym new.ok.0 ∙ w.mark_replica.ensures.len ∙ c.loop-k.dirty.ok.0)
-              (λ i below. subst (λ (s : Seated). (slice_get w.marks.result.now i ≡ Some true) ↔ Contains (held_dirty s.known.local.exclusive) i) c.seat.view_is
-              (subst (λ ds. (slice_get ds i ≡ Some true) ↔ Contains (held_dirty (known_of c.seat.inside.seat.me.0).local.exclusive) i) (sym w.marks.ensures) (c.seat.invariant.1.marks i (omega (arith, size, below)))))
-              w.mark_replica.ensures.marked c.loop-k.invariant))
+          (dirty_on seats n c.args.replicas c.args.region w.in-Some.replica c.loop-k.dirty.items new.items w.marks.result.now seat at (on ∙ w.in-Some.is) w.if-replica-replicas.true
+          (ap length w.marks.ensures ∙ c.seat.invariant.1.long ∙ size) (sym new.ok.0 ∙ w.mark_replica.ensures.len ∙ c.loop-k.dirty.ok.0)
+          (λ i below. subst (λ (s : Seated). (slice_get w.marks.result.now i ≡ Some true) ↔ Contains (held_dirty s.known.local.exclusive) i) c.seat.view_is
+          (subst (λ ds. (slice_get ds i ≡ Some true) ↔ Contains (held_dirty (known_of c.seat.inside.seat.me.0).local.exclusive) i) (sym w.marks.ensures) (c.seat.invariant.1.marks i (omega (arith, size, below)))))
+          w.mark_replica.ensures.marked c.loop-k.invariant))
       | in-Some+else-replica-replicas w ↦ (
           let past = w.if-replica-replicas.false in
           subst (λ (v : Vec Bool Global). DirtyTo seats (n + 1) c.args.replicas c.args.region v.items) (sym w.dirty-is)
-              (dirty_off seats n c.args.replicas c.args.region c.loop-k.dirty.items seat at
-              (λ replica small holds. (let same : w.in-Some.replica ≡ replica = same_Some w.in-Some.replica replica (sym w.in-Some.is ∙ sym on ∙ holds) in omega (arith, past, small, same))) c.loop-k.invariant))
+          (dirty_off seats n c.args.replicas c.args.region c.loop-k.dirty.items seat at
+          (λ replica small holds. (let same : w.in-Some.replica ≡ replica = same_Some w.in-Some.replica replica (sym w.in-Some.is ∙ sym on ∙ holds) in omega (arith, past, small, same))) c.loop-k.invariant))
       | in_default w ↦
           subst (λ (v : Vec Bool Global). DirtyTo seats (n + 1) c.args.replicas c.args.region v.items) (sym w.dirty-is)
-              (dirty_off seats n c.args.replicas c.args.region c.loop-k.dirty.items seat at (λ replica small holds. w.in_default.not-Some replica (sym on ∙ holds)) c.loop-k.invariant)
+          (dirty_off seats n c.args.replicas c.args.region c.loop-k.dirty.items seat at (λ replica small holds. w.in_default.not-Some replica (sym on ∙ holds)) c.loop-k.invariant)
     ]
 
 pub returns : goal.returns

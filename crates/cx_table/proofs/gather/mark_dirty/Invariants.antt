@@ -1,4 +1,3 @@
-use Rattle.cx_table.specs.Remains.{locals_of}
 use Rattle.cx_table.proofs.Marking.{DirtyTo}
 use Rattle.cx_table.proofs.gather.mark_dirty.Given as goal
 

@@ -1,4 +1,4 @@
-use Rattle.std.proofs.Common.{◌≡◌, ◌<◌, false, true, List, replicate, set, ap, sym, ◌∙◌, arith}
+use Rattle.std.proofs.Common.{◌≡◌, ◌<◌, false, true, replicate, set, ap, sym, ◌∙◌, arith}
 use Rattle.cx_core.specs.LockEvents.{has_all, with_number}
 use Rattle.cx_table.specs.declared.mirror.Mirror.{Mirror}
 use Rattle.cx_table.proofs.Refused.{after_refusal, all_marked, marked_more, mirror_refused}

@@ -1,4 +1,4 @@
-use Rattle.std.proofs.Common.{◌==◌, cond, ap, sym, ◌∙◌, eq-eqb, ne_eqb}
+use Rattle.std.proofs.Common.{cond, ap, sym, ◌∙◌, eq-eqb, ne_eqb}
 use Rattle.cx_core.specs.LockEvents.{refused_by, taken}
 use Rattle.cx_rule.specs.Seats.{unseen}
 use Rattle.cx_table.specs.Mirrors.{mirror_of}

@@ -1,4 +1,4 @@
-use Rattle.std.proofs.Common.{◌+◌, ◌-◌, ◌%◌, ◌^◌, ap, rules, sym}
+use Rattle.std.proofs.Common.{◌+◌, ◌%◌, ◌^◌, ap, rules, sym}
 use Rattle.cx_rule.proofs.Keeps.{allows_told, key_instance}
 use Rattle.cx_table.proofs.shared.Shared.add_as.Goals as goal
 

@@ -1,4 +1,4 @@
-use Rattle.std.proofs.Common.{◌≡◌, ◌+◌, ◌*◌, ◌∷◌, ◌++◌, ℕ, List, [], length, replicate, false, All, add-zero, sym, refl, ap, subst, ◌∙◌, arith}
+use Rattle.std.proofs.Common.{◌≡◌, ◌+◌, ◌*◌, ◌∷◌, ◌++◌, ℕ, List, [], length, add-zero, sym, refl, ap, subst, ◌∙◌, arith}
 use Rattle.std.specs.Slots.{slots_len}
 use mathlib.Core.Option.{some}
 use lib.ListN.{get_elem?}
@@ -8,7 +8,6 @@ use Rattle.cx_core.specs.State.{Instance}
 use Rattle.cx_core.specs.Merge.{history_of}
 use Rattle.cx_rule.specs.Ending.{locals_known}
 use Rattle.cx_rule.specs.Rule.{RuleHolds}
-use Rattle.cx_rule.specs.declared.rule.Known.{Known}
 use Rattle.cx_rule.specs.Running.{instance_at}
 use Rattle.cx_table.proofs.Closing.{leaves, same_part}
 use Rattle.cx_rule.proofs.Keeps.{key_instance}

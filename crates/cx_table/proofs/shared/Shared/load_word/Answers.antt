@@ -1,4 +1,4 @@
-use Rattle.std.proofs.Common.{◌==◌, Bool, cond, ap, refl, subst, sym, ◌∙◌, length}
+use Rattle.std.proofs.Common.{◌==◌, Bool, cond, ap, subst, sym, ◌∙◌, length}
 use Rattle.cx_core.specs.declared.kinds.Kind.TheVariants.{LoadWord}
 use Rattle.cx_core.specs.Layout.{vol_at}
 use Rattle.cx_core.specs.RegionEvents.{CanLoad}

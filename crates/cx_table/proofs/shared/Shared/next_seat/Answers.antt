@@ -37,13 +37,14 @@ invariant_of-result g c =
     let eight : n < 8 = omega (arith, running.few, c.requires.caller, ap (λ s. s.callers) view) in
     let at = c.slot_start.result in
     let before : slice_index c.as_slice.result.now at ≡ slot_number n c.self.inside.base.words = ap (λ ws. slice_index ws at) c.as_slice.ensures ∙ ap (slice_index c.self.inside.base.words) c.slot_start.ensures in
-    let me = c.split_seat-seat.ensures.4 ∙ ap (λ (v : List Known). (v, [])) r.1 in
-    (opening_mirrored c.split_seat-seat.result.me c.opening_mirror-mirror.result (slice_index c.as_slice.result.now at) callers place n limits
-    me
-    (c.opening_mirror-mirror.ensures ∙ ap (λ s. mirror_of (record (opening_local s.callers s.base.place n) { limit = slice_index limits n })) view)
-    (omega (arith, ap (λ s. s.base.place) view, running.base.place_within))
-    (omega (arith, before, running.base.numbers n eight, running.base.place_within)),
-    opening_copied c.split_seat-seat.result.me c.args.copy callers place n (length c.args.self.now.base.words) limits me c.requires.copy)
+    let me = c.split_seat-seat.ensures.4 ∙ ap (λ (v : List Known). (v, [])) r.1 in (
+      opening_mirrored c.split_seat-seat.result.me c.opening_mirror-mirror.result (slice_index c.as_slice.result.now at) callers place n limits
+          me
+          (c.opening_mirror-mirror.ensures ∙ ap (λ s. mirror_of (record (opening_local s.callers s.base.place n) { limit = slice_index limits n })) view)
+          (omega (arith, ap (λ s. s.base.place) view, running.base.place_within))
+          (omega (arith, before, running.base.numbers n eight, running.base.place_within)),
+      opening_copied c.split_seat-seat.result.me c.args.copy callers place n (length c.args.self.now.base.words) limits me c.requires.copy,
+    )
 
 pub returns-clause-me : goal.returns-clause-me
 returns-clause-me g c =

@@ -1,4 +1,4 @@
-use Rattle.std.proofs.Common.{◌≡◌, arith, ap, refl, subst, sym, ◌∙◌, length}
+use Rattle.std.proofs.Common.{◌≡◌, arith, ap, subst, sym, ◌∙◌, length}
 use Rattle.cx_core.specs.declared.kinds.Kind.TheVariants.{Persist}
 use Rattle.cx_core.specs.Layout.{per_at}
 use Rattle.cx_rule.specs.Fitting.{TellsWord}

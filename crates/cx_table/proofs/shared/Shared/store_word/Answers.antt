@@ -1,4 +1,4 @@
-use Rattle.std.proofs.Common.{ap, refl, subst}
+use Rattle.std.proofs.Common.{ap, subst}
 use Rattle.cx_core.specs.declared.kinds.Kind.TheVariants.{StoreWord}
 use Rattle.cx_rule.specs.Running.{IsRunning, Running}
 use Rattle.cx_table.proofs.Handing.{laws_at, step_fits}

@@ -1,4 +1,4 @@
-use Rattle.std.proofs.Common.{ap, refl, subst}
+use Rattle.std.proofs.Common.{ap, subst}
 use Rattle.cx_core.specs.declared.kinds.Kind.TheVariants.{TryExclusive}
 use Rattle.cx_rule.specs.Running.{IsRunning, Running}
 use Rattle.cx_table.specs.declared.mirror.Mirror.{Mirror}
