@@ -1,16 +1,14 @@
 -- What is behind a caller's notes: the history, and the full images that were loaded.
-use Rattle.std.proofs.Common.{false, ◌≡◌, ◌*◌, ◌<◌, ℕ, List, [], ◌∷◌, length, map, slice_index, inl, inr, refl, ap, sym, subst, ◌∙◌, arith, Some}
+use Rattle.std.proofs.Common.{◌≡◌, ◌<◌, ℕ, List, [], ◌∷◌, length, slice_index, refl, ap, sym, ◌∙◌, Some}
 use Rattle.std.proofs.lemmas.List.Elements.{All-head, All-tail}
-use Rattle.std.proofs.lemmas.Option.{same_Some}
 use Rattle.std.specs.List.{All, slice_get}
 use Rattle.std.specs.Option.{option_map}
-use Rattle.cx_base.specs.Noted.{Note, NotesLead}
+use Rattle.cx_base.specs.Noted.{NotesLead}
 use Rattle.cx_core.specs.declared.local.HeldShared.{HeldShared}
 use Rattle.cx_core.specs.declared.local.Local.{Local}
 use Rattle.cx_core.specs.Lawful.{Lawful}
 use Rattle.cx_core.specs.LawfulRegions.{vol_word}
 use Rattle.cx_core.specs.Layout.{replica_words}
-use Rattle.cx_core.specs.Rights.{shared_on}
 use Rattle.cx_core.specs.Shown.{shown}
 use Rattle.cx_core.specs.State.{EachLocal, Instance, State}
 use Rattle.core_runs.proofs.ImageLaws.{image_shared}
@@ -18,7 +16,7 @@ use Rattle.cx_core.proofs.Claims.{shared_below}
 use Rattle.cx_core.proofs.ReplicaWords.{replica_at}
 use Rattle.cx_rule.specs.declared.rule.Known.{Known}
 use Rattle.cx_rule.specs.Fitting.{loads_of}
-use Rattle.cx_rule.specs.Rule.{HasWords64, IsBehindNotes, IsOrigin, IsTraced}
+use Rattle.cx_rule.specs.Rule.{HasWords64, IsBehindNotes, IsTraced}
 use Rattle.cx_rule.proofs.Traced.{image_origin}
 use Rattle.cx_rule.proofs.Words64.{entries_from}
 
@@ -45,8 +43,7 @@ behind_notes instance s law fit some caller l at k shows traced =
       shared = λ h has. (
           let mine : l.shared ≡ Some h = ap (λ (x : Local). x.shared) (sym shows) ∙ has in
           let words = replica_words instance.callers region s.words h.replica in
-          let small = shared_below instance.callers s.words s.locals law.locks caller l h at mine in
-          (
+          let small = shared_below instance.callers s.words s.locals law.locks caller l h at mine in (
             words,
             image_origin instance s law h.replica small some (image_shared instance s law caller h.replica l at (ap (option_map (λ (x : HeldShared). x.replica)) mine)),
             loads_lead region (vol_word instance s.words h.replica) words h.loaded (λ i below. replica_at instance.callers region s.words h.replica i below) (law.regions.loaded caller l at h mine),

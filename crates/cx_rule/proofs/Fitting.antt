@@ -1,6 +1,6 @@
 -- What is really there fits what a caller noted. So what is said of all that fits is true of it: noted entries that lead on
 -- from a full image lead to the full image after their place.
-use Rattle.std.proofs.Common.{false, ◌≡◌, ◌+◌, ◌-◌, ◌^◌, ◌<◌, ◌≤◌, ℕ, suc, List, [], ◌∷◌, length, slice_index, refl, ap, sym, subst, ◌∙◌, arith, Some}
+use Rattle.std.proofs.Common.{◌≡◌, ◌+◌, ◌-◌, ◌^◌, ◌<◌, ◌≤◌, ℕ, suc, List, ◌∷◌, length, slice_index, refl, ap, sym, subst, ◌∙◌, arith, Some}
 use Rattle.std.proofs.lemmas.List.{ext_get_or}
 use Rattle.std.proofs.lemmas.Option.{same_Some, slice_get_within}
 use Rattle.std.specs.List.{slice_get}
@@ -16,7 +16,7 @@ use Rattle.cx_core.specs.Step.{full_step_of}
 use Rattle.cx_core.proofs.HistoryLemmas.{ObjectLaws, full_lawful, full_next}
 use Rattle.cx_rule.specs.declared.rule.Known.{Known}
 use Rattle.cx_rule.specs.declared.rule.Noted.{Noted}
-use Rattle.cx_rule.specs.Fitting.{Chain, Fits, Fitting, IsNoted, ReadFits, ReplayedTo, base_of, no_set, start, with_entry, with_set}
+use Rattle.cx_rule.specs.Fitting.{Fits, Fitting, IsNoted, ReplayedTo, base_of, start, with_entry, with_set}
 use Rattle.cx_rule.specs.Rule.{IsBehindNotes, IsEntryFrom, IsOrigin, NotesHold}
 
 -- entries by their callers' numbers in a lawful base are lawful

@@ -1,12 +1,10 @@
 -- What steps teach whose guard or word is not told by the local state that a seat shows, but by what its caller noted.
-use Rattle.std.proofs.Common.{false, true, ◌≡◌, ◌≢◌, ◌+◌, ◌-◌, ◌^◌, ◌==◌, ◌&&◌, ◌<◌, ◌≤◌, inl, inr, ℕ, Bool, IsTrue, cond, List, [], ◌∷◌, length, slice_index, refl, ap, sym, subst, ◌∙◌, arith, eq-eqb, Option, Some, None}
-use Rattle.std.proofs.lemmas.Bool.{cases_Bool, eqb-true, false≢true}
-use Rattle.std.proofs.lemmas.Option.{same_Some}
-use Rattle.std.specs.List.{Contains, slice_get}
+use Rattle.std.proofs.Common.{false, true, ◌≡◌, ◌≢◌, ◌==◌, ◌&&◌, inl, inr, ℕ, Bool, IsTrue, cond, List, [], ◌∷◌, length, slice_index, refl, ap, sym, subst, ◌∙◌, eq-eqb, Option, Some, None}
+use Rattle.std.proofs.lemmas.Bool.{eqb-true}
+use Rattle.std.specs.List.{Contains}
 use Rattle.std.specs.Option.{IsNone, option_map}
+use Rattle.atomic_table.specs.Table as atomic
 use Rattle.cx_base.specs.Codes.{root_place_of}
-use Rattle.cx_base.specs.Noted.{Note, NotesLead}
-use Rattle.cx_core.specs.declared.entry.Entry.{Entry}
 use Rattle.cx_core.specs.declared.kinds.Kind.{Kind}
 use Rattle.cx_core.specs.declared.kinds.Kind.TheVariants.{Downgrade, LoadWord, Persist, ReleaseExclusive}
 use Rattle.cx_core.specs.declared.local.HeldExclusive.{HeldExclusive}
@@ -16,7 +14,7 @@ use Rattle.cx_core.specs.Events.{Guard, new_word, next, step_word}
 use Rattle.cx_core.specs.History.{IsFull}
 use Rattle.cx_core.specs.Lawful.{Lawful}
 use Rattle.cx_core.specs.Layout.{vol_at}
-use Rattle.cx_core.specs.LockEvents.{IsClean, downgraded_to, exclusive_mark, is_fresh_on}
+use Rattle.cx_core.specs.LockEvents.{IsClean, is_fresh_on}
 use Rattle.cx_core.specs.Merge.{history_of, scene_of}
 use Rattle.cx_core.specs.Region.{place_of}
 use Rattle.cx_core.specs.RegionEvents.{CanLoad, ShowsOutdated}
@@ -27,13 +25,13 @@ use Rattle.cx_core.proofs.HistoryLemmas.{ObjectLaws}
 use Rattle.cx_core.proofs.MergeLemmas.{history_is}
 use Rattle.cx_core.proofs.HeldLists.{at_true, mapped}
 use Rattle.cx_rule.specs.declared.rule.Known.{Known}
-use Rattle.cx_rule.specs.Fitting.{Fits, IsReplayed, IsReplayedToPlace, ReplayedTo}
-use Rattle.cx_rule.specs.Learns.{LearnsAnyway}
-use Rattle.cx_rule.specs.Rule.{HasWords64, IsTraced, NotesHold}
-use Rattle.cx_rule.specs.Seats.{is_outdated, known_after, known_local, marked_load, place_noted, unseen}
+use Rattle.cx_rule.specs.Fitting.{Fits, IsReplayed, IsReplayedToPlace, ReplayedTo, TellsWord}
+use Rattle.cx_rule.specs.Learns.{LearnsBy}
+use Rattle.cx_rule.specs.Rule.{HasWords64, IsTraced, NotesHold, RuleHolds}
+use Rattle.cx_rule.specs.Steps.{IsBlind, IsLearned, Teaches}
+use Rattle.cx_rule.specs.Seats.{is_outdated, kind_found, known_after, known_local, known_of, marked_load, place_noted, unseen}
 use Rattle.cx_rule.proofs.Fitting.{chain_full, traced_fits}
-use Rattle.cx_rule.proofs.Keeps.{LearnsBy, learns_of}
-use Rattle.cx_rule.proofs.ShownLaws.{known_shown}
+use Rattle.cx_rule.proofs.Keeps.{allows, blind_teaches, learns_of}
 use Rattle.cx_rule.proofs.Words64.{entries_from}
 
 abbrev blank : HeldExclusive → HeldExclusive
@@ -57,10 +55,6 @@ dirty_on known l shows = sym (ap (λ (x : Local). held_dirty x.exclusive) shows 
 clean_on : (callers r : ℕ) (known : Known) (l : Local) → known.local ≡ shown l → IsClean callers r known.local → IsClean callers r l
 clean_on callers r known l shows clean =
     (clean.0, held_on known l shows ∙ clean.1, subst (λ (x : Local). IsNone x.downgraded) shows clean.2, dirty_on known l shows ∙ clean.3)
-
--- the accesses tell this word of a replica that has so many
-abbrev pub TellsWord : ℕ → List Note → ℕ → ℕ → Type 0
-TellsWord region accesses at word = (first now : List ℕ) → length first ≡ region → NotesLead accesses first now → slice_index now at ≡ word
 
 -- a word is persisted as the accesses tell it
 pub learns_persist : (instance : Instance) (r i : ℕ) (known : Known) (word new : ℕ) → Guard instance unseen (Persist r i) known.local → word ≡ step_word instance (Persist r i) known.local →
@@ -145,8 +139,7 @@ outdated_shows instance words r i l is =
     let a = and_true (i == 0) _ is in
     let b = and_true (is_at r (shared_on l)) _ a.1 in
     let c = and_true (is_fresh_on instance.callers r l) _ b.1 in
-    let at : i ≡ 0 = eqb-true i 0 a.0 in
-    (
+    let at : i ≡ 0 = eqb-true i 0 a.0 in (
       at,
       at_true r (shared_on l) b.0,
       c.0,
@@ -168,9 +161,12 @@ learns_load instance r i mark known word can at words _ =
     let kind : Kind = LoadWord r i refused in
     learns_of instance kind known words word found tt at (λ locals law l of_caller shows noted traced fit. (
     record {
-      guard = (can_on instance.callers (length instance.base.words) r i known l shows can, λ is. (
-          let out : is_outdated instance r i l found ≡ true = ap (λ (x : Local). is_outdated instance r i x found) (sym shows) ∙ second mark _ is in
-          outdated_shows instance words r i l (subst (λ w. is_outdated instance r i l (slice_index words w) ≡ true) at out)));
+      guard = (
+        can_on instance.callers (length instance.base.words) r i known l shows can,
+        λ is. (
+            let out : is_outdated instance r i l found ≡ true = ap (λ (x : Local). is_outdated instance r i x found) (sym shows) ∙ second mark _ is in
+            outdated_shows instance words r i l (subst (λ w. is_outdated instance r i l (slice_index words w) ≡ true) at out)),
+      );
       new_is = refl;
       shows = ap (λ (x : Local). next instance unseen kind x found) shows;
     }))
@@ -181,3 +177,23 @@ learns_load instance r i mark known word can at words _ =
 
     can_on : (callers region r i : ℕ) (known : Known) (l : Local) → known.local ≡ shown l → CanLoad callers region r i known.local → CanLoad callers region r i l
     can_on callers region r i known l shows can = (can.0, can.1, elim can.2 [ inl held ↦ inl (held_on known l shows ∙ held) | inr shared ↦ inr (ap (λ (x : Local). shared_on x) (sym shows) ∙ shared) ])
+
+-- what the table asks of a step that is learned by what was noted
+pub allows_learned : (instance : Instance) (kind : Kind) (slots id word : ℕ) (me : atomic.Me ℕ (List Known)) (f : ℕ → ℕ) → me ≡ (known_of me.0 ∷ [], []) → IsLearned instance kind (known_of me.0) word f →
+    atomic.Allows (RuleHolds instance) slots id me word f (λ found. Teaches instance (kind_found instance kind (known_of me.0).local found) (known_of me.0) found)
+allows_learned instance kind slots id word me f one learns =
+    let known = known_of me.0 in
+    let by = kind_found instance kind known.local in
+    allows instance by known slots id word me f (λ found. Teaches instance (by found) known found) one learns (λ found taught. taught)
+
+pub allows_learned_store : (instance : Instance) (kind : Kind) (slots id word : ℕ) (me : atomic.Me ℕ (List Known)) (new : ℕ) → me ≡ (known_of me.0 ∷ [], []) → IsLearned instance kind (known_of me.0) word (λ _. new) →
+    ((l : Local) (found : ℕ) → kind_found instance kind l found ≡ kind) → IsBlind instance kind (known_of me.0) →
+    atomic.Allows (RuleHolds instance) slots id me word (λ _. new) (λ _. Teaches instance kind (known_of me.0) 0)
+allows_learned_store instance kind slots id word me new one learns plain blind =
+    let known = known_of me.0 in
+    let by = kind_found instance kind known.local in
+    allows instance by known slots id word me (λ _. new) (λ _. Teaches instance kind known 0) one learns
+    (λ found taught. (
+    let same = plain known.local found in
+    subst (λ (k : Kind). Teaches instance kind known 0 (known_after instance k known found ∷ [], [])) (sym same)
+    (blind_teaches instance kind known found blind.blind blind.silent (subst (λ (k : Kind). Teaches instance k known found (known_after instance k known found ∷ [], [])) same taught))))

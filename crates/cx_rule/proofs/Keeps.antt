@@ -1,5 +1,5 @@
 -- Each event of the core keeps the rule of the table.
-use Rattle.std.proofs.Common.{length, arith, ◌≡◌, ◌≢◌, ◌^◌, ◌<◌, ⊎_elim, ℕ, Bool, zero, suc, List, [], ◌∷◌, set, slice_index, refl, ap, sym, subst, ◌∙◌, Some}
+use Rattle.std.proofs.Common.{length, arith, ◌≡◌, ◌≢◌, ◌<◌, ⊎_elim, ℕ, Bool, zero, suc, List, [], ◌∷◌, set, slice_index, refl, ap, sym, subst, ◌∙◌, Some}
 use Rattle.std.proofs.lemmas.Option.{same_Some, none-some, slice_get_within}
 use Rattle.std.specs.List.{slice_get}
 use mathlib.Core.Option.{some, some-ne-none}
@@ -18,7 +18,7 @@ use Rattle.cx_core.specs.State.{EachLocal, Instance, Scene, State}
 use Rattle.cx_core.proofs.ListLemmas.{slice_get-set_same, slice_get-set_other}
 use Rattle.cx_core.proofs.MergeLemmas.{goes_on, still_linked}
 use Rattle.cx_rule.specs.declared.rule.Known.{Known}
-use Rattle.cx_rule.specs.Learns.{LearnsAnyway}
+use Rattle.cx_rule.specs.Learns.{LearnsAnyway, LearnsBy}
 use Rattle.cx_rule.specs.Rule.{RuleHolds, HasWords64, IsBehindNotes, IsKnown, IsLawfulLocal, IsTraced, NotesHold, StandStill}
 use Rattle.cx_rule.specs.Running.{Running, instance_at}
 use Rattle.cx_rule.specs.Seats.{IsByShown, WordFits, accesses_after, known_after, known_local, known_of, noted_by, unseen}
@@ -96,7 +96,7 @@ event_held instance kind s id known after word new held at learns =
             traced = traced_longer instance law.history law'.history k.accesses was.local grows was.traced;
           }))
           (at_set s.views id seat (after ∷ []) view view_at);
-      still = subst (StandStill instance) put (still_stands instance (scene_of instance state) kind l s.words law.shape.some small learnt.guard held.still);
+      still = subst (StandStill instance) put (still_stands instance (scene_of instance state) kind l s.words law.shape.some small learnt.guard learnt.fits held.still);
       fit = EachLocal-set held.locals caller l l' (λ _ x. HasWords64 x) mine.of_caller held.fit
           (fit_next instance (scene_of instance state) kind l (found_by instance kind l s.words) (subst (λ (n : ℕ). LocalShape n l) (sym (law.shape.each caller l mine.of_caller).number) (law.shape.each caller l mine.of_caller)) learnt.guard learnt.fits
           (held.fit caller l mine.of_caller));
@@ -129,7 +129,7 @@ learns_of instance kind known words word new fits at sees locals law l of_caller
     }
 
 -- a step whose guard and word the seat's shown local state tells teaches it so, whatever else is not shown
-learns_shown : (instance : Instance) (kind : Kind) (known : Known) (words : List ℕ) (word new : ℕ) → IsByShown kind → WordFits kind → Guard instance unseen kind known.local → word ≡ step_word instance kind known.local →
+pub learns_shown : (instance : Instance) (kind : Kind) (known : Known) (words : List ℕ) (word new : ℕ) → IsByShown kind → WordFits kind → Guard instance unseen kind known.local → word ≡ step_word instance kind known.local →
     new ≡ new_word instance kind known.local (slice_index words word) → LearnsAnyway instance words kind known word new (known_after instance kind known (slice_index words word))
 learns_shown instance kind known words word new by fits may at puts =
     learns_of instance kind known words word new fits at (λ locals law l of_caller shows noted traced fit. (
@@ -163,12 +163,6 @@ view_within : (views : List (List Known)) (id : ℕ) (v : List Known) → get_el
 view_within [] id v at = absurd (some-ne-none v (sym at))
 view_within (w ∷ views) zero v at = omega arith
 view_within (w ∷ views) (suc id) v at = (let rest = view_within views id v at in omega arith)
-
--- what an event learns, by the word found, of which the kind and the word put may depend on it
-abbrev pub LearnsBy : Instance → (ℕ → Kind) → Known → ℕ → (ℕ → ℕ) → Type 0
-LearnsBy instance kind known word f =
-    (words : List ℕ) → slice_index words word < 2 ^ 64 →
-    LearnsAnyway instance words (kind (slice_index words word)) known word (f (slice_index words word)) (known_after instance (kind (slice_index words word)) known (slice_index words word))
 
 -- what the table asks of a step, from the core's law: the word is the event's, it becomes what the event puts, and the seat
 -- then knows what the event teaches

@@ -1,5 +1,5 @@
 -- The words in cells and operations have 64 bits, and the entries of the history are as their callers linked them.
-use Rattle.std.proofs.Common.{◌≡◌, ◌≢◌, ◌+◌, ◌^◌, ◌==◌, ◌<◌, ◌≤◌, ℕ, zero, suc, nat_lt, Bool, true, false, cond, List, [], ◌∷◌, length, take, drop, set, inl, inr, refl, ap, sym, subst, ◌∙◌, arith, Some, None, length-take-le, length-drop}
+use Rattle.std.proofs.Common.{◌≡◌, ◌+◌, ◌^◌, ◌==◌, ◌<◌, ◌≤◌, ℕ, zero, suc, nat_lt, Bool, true, false, cond, List, [], ◌∷◌, length, take, drop, set, inl, inr, refl, ap, sym, subst, ◌∙◌, arith, Some, None, length-take-le, length-drop}
 use Rattle.std.proofs.lemmas.Bool.{cases_eq}
 use Rattle.std.proofs.lemmas.List.Elements.{All-drop, All-set, All-take}
 use Rattle.std.proofs.lemmas.Option.{none-some, same_Some}

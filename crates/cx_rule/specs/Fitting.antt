@@ -33,6 +33,10 @@ pub record ReadFits (lines : ℕ) (lawful : List ℕ → Type 0) (base : Base) (
   pub fits : Fits lines lawful base (loads_of loaded) first now
   pub same : now ≡ first
 
+-- the accesses tell this word of a replica that has so many
+abbrev pub TellsWord : ℕ → List Note → ℕ → ℕ → Type 0
+TellsWord region accesses at word = (first now : List ℕ) → length first ≡ region → NotesLead accesses first now → slice_index now at ≡ word
+
 -- some pair fits
 abbrev pub SomeFits : ℕ → (List ℕ → Type 0) → Base → List Note → Type 0
 SomeFits lines lawful base accesses = ∥ ((first : List ℕ) × (now : List ℕ) × Fits lines lawful base accesses first now) ∥₁

@@ -1,5 +1,5 @@
 -- What an event of the core teaches the seat of its caller, whatever the state is that the seat does not show.
-use Rattle.std.specs.Prelude.{◌≡◌, ◌<◌, ℕ, List, Some, length, slice_get, slice_index}
+use Rattle.std.specs.Prelude.{◌≡◌, ◌^◌, ◌<◌, ℕ, List, Some, length, slice_get, slice_index}
 use Rattle.cx_core.specs.declared.entry.Entry.{Entry}
 use Rattle.cx_core.specs.declared.kinds.Kind.{Kind}
 use Rattle.cx_core.specs.declared.local.Local.{Local}
@@ -10,7 +10,7 @@ use Rattle.cx_core.specs.Shown.{shown}
 use Rattle.cx_core.specs.State.{EachLocal, Instance, State}
 use Rattle.cx_rule.specs.declared.rule.Known.{Known}
 use Rattle.cx_rule.specs.Rule.{HasWords64, IsTraced, NotesHold, StandStill}
-use Rattle.cx_rule.specs.Seats.{WordFits}
+use Rattle.cx_rule.specs.Seats.{WordFits, known_after}
 
 -- An event of a caller with this local state is allowed in this state, is on this word and puts that one, and what the
 -- caller's seat knows afterwards is so: it shows the local state after the event, what it notes is the history's, and its
@@ -29,3 +29,9 @@ abbrev pub LearnsAnyway : Instance → List ℕ → Kind → Known → ℕ → �
 LearnsAnyway instance words kind known word new after =
     (locals : List Local) (law : Lawful instance (record { words = words; locals = locals })) (l : Local) → slice_get locals known.local.number ≡ Some l → known.local ≡ shown l →
     NotesHold instance law.history known.noted → IsTraced instance law.history known.accesses l → StandStill instance words → 0 < length instance.base.words → EachLocal locals (λ _ x. HasWords64 x) → Learns instance (record { words = words; locals = locals }) law.history kind l word new after
+
+-- what an event teaches, by the word found, of which its kind and the word put may depend on it
+abbrev pub LearnsBy : Instance → (ℕ → Kind) → Known → ℕ → (ℕ → ℕ) → Type 0
+LearnsBy instance kind known word f =
+    (words : List ℕ) → slice_index words word < 2 ^ 64 →
+    LearnsAnyway instance words (kind (slice_index words word)) known word (f (slice_index words word)) (known_after instance (kind (slice_index words word)) known (slice_index words word))

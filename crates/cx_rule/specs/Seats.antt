@@ -6,7 +6,7 @@ use Rattle.atomic_table.specs.Seated.{TableId}
 use Rattle.cx_core.specs.declared.kinds.Kind.{Kind}
 use Rattle.cx_base.specs.Codes.{root_place_of}
 use Rattle.cx_base.specs.Noted.{Note}
-use Rattle.cx_core.specs.declared.kinds.Kind.TheVariants.{WriteCell, Link, Look, ReadCell, LoadFree, TryExclusive, TryShared, BackOff, Downgrade, ReleaseExclusive, LoadWord, StoreWord, Persist, Raise}
+use Rattle.cx_core.specs.declared.kinds.Kind.TheVariants.{WriteCell, Link, Look, ReadCell, LoadFree, TryExclusive, TryShared, BackOff, Downgrade, ReleaseExclusive, LoadWord, StoreWord, Persist, Publish, Raise}
 use Rattle.cx_core.specs.declared.local.Cell.{Cell}
 use Rattle.cx_core.specs.declared.local.Linked.{Linked}
 use Rattle.cx_core.specs.declared.local.Local.{Local}
@@ -60,10 +60,13 @@ SeenGuard instance (ReleaseExclusive r) l = IsClean instance.callers r l
 SeenGuard instance (LoadWord r i refused) l = CanLoad instance.callers (length instance.base.words) r i l
 SeenGuard instance kind l = Guard instance unseen kind l
 
--- a word that a step stores has 64 bits
+-- what the rule asks of a kind beside its guard: a word that a step stores has 64 bits, and CUR and DUR stay as they are, since no
+-- step call publishes or raises yet
 abbrev pub WordFits : Kind → Type 0
 WordFits (WriteCell j i v) = v < 2 ^ 64
 WordFits (StoreWord r i v) = v < 2 ^ 64
+WordFits Publish = ⊥
+WordFits (Raise code read) = ⊥
 WordFits _ = Unit {0}
 
 -- what a seat shows of its caller's local state after a step that found this word
@@ -128,6 +131,11 @@ is_outdated instance r i l found =
 -- the kind of a load that found this word: it is marked as a refusal where that is asked for and the word shows it
 abbrev pub marked_load : Instance → ℕ → ℕ → Bool → Local → ℕ → Kind
 marked_load instance r i mark l found = LoadWord r i (mark && is_outdated instance r i l found)
+
+-- the kind of an event that found this word
+abbrev pub kind_found : Instance → Kind → Local → ℕ → Kind
+kind_found instance (LoadWord r i mark) l found = marked_load instance r i mark l found
+kind_found instance kind l found = kind
 
 -- what contracts see of a caller's seat: its table, the number of the caller's last entry in the table's base, the words of
 -- a region, and what it knows

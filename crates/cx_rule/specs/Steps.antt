@@ -7,9 +7,10 @@ use Rattle.cx_core.specs.State.{Instance}
 use Rattle.cx_rule.specs.declared.rule.Known.{Known}
 use Rattle.cx_core.specs.declared.kinds.Kind.{Kind}
 use Rattle.cx_core.specs.declared.local.Local.{Local}
+use Rattle.cx_rule.specs.Learns.{LearnsBy}
 use Rattle.cx_rule.specs.Rule.{IsBehindNotes, IsLawfulLocal}
 use Rattle.cx_rule.specs.Running.{IsSeatOf, Running, instance_at}
-use Rattle.cx_rule.specs.Seats.{IsAtLimit, IsByShown, IsWithinLimit, Seated, WordFits, known_after, known_of, stepped, unseen}
+use Rattle.cx_rule.specs.Seats.{IsAtLimit, IsByShown, IsWithinLimit, Seated, WordFits, kind_found, known_after, known_of, stepped, unseen}
 use Rattle.cx_rule.specs.Told.{Told}
 
 -- an event of this kind is allowed for the caller of a seat of this table, and this is the word that it is on
@@ -22,9 +23,18 @@ pub record IsEventOn {O : Type 0} (r : Running O) (step : O → List ℕ → Lis
   pub place : word ≡ step_word (instance_at r step reads) kind (known_of me.0).local
   pub within : word < r.table.words
 
+-- what an event of this kind teaches the seat of its caller is known by what the caller noted
+abbrev pub IsLearned : Instance → Kind → Known → ℕ → (ℕ → ℕ) → Type 0
+IsLearned instance kind known word put = LearnsBy instance (kind_found instance kind known.local) known word put
+
 -- what the event puts, by the word found
 abbrev pub Puts : Instance → Kind → Local → (ℕ → ℕ) → Type 0
 Puts instance kind l put = (x : ℕ) → new_word instance kind l x ≡ put x
+
+-- whatever an event finds, its caller knows the same, and it is told nothing
+pub record IsBlind (instance : Instance) (kind : Kind) (known : Known) : Type 0 where
+  pub blind : (x y : ℕ) → known_after instance kind known x ≡ known_after instance kind known y
+  pub silent : Told instance kind known.local 0
 
 -- the event is a store of this word: whatever it finds, it puts this, and its caller knows the same and is told nothing
 pub record IsStore (instance : Instance) (kind : Kind) (known : Known) (new : ℕ) : Type 0 where

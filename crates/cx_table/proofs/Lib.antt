@@ -1,3 +1,7 @@
+mod CopyLaws
 mod MirrorLaws
+mod Refused
+mod Handing
+mod Marking
 mod OpeningSeats
 mod Closing

@@ -1,16 +1,17 @@
 -- The seat of a caller as it is cut from the first seat.
-use Rattle.std.proofs.Common.{◌≡◌, ◌^◌, ◌≤◌, ℕ, List, [], ◌∷◌, replicate, slice_index, refl, sym, ap, ◌∙◌, subst, arith}
+use Rattle.std.proofs.Common.{◌≡◌, ◌^◌, ◌<◌, ◌≤◌, ℕ, zero, suc, true, false, List, [], ◌∷◌, replicate, slice_index, refl, sym, ap, ◌∙◌, subst, arith, Some}
+use Rattle.std.specs.List.{slice_get}
 use Rattle.std.proofs.lemmas.List.{get_or-replicate, length-replicate}
-use Rattle.std.proofs.lemmas.Option.{slice_get_within, get_or_from_slice_get}
+use Rattle.std.proofs.lemmas.Option.{none-some, slice_get_within, get_or_from_slice_get}
 use Rattle.atomic_table.specs.Table.{Me}
+use Rattle.core_queue.proofs.Opening.{blank_shape}
 use Rattle.cx_core.specs.Lawful.{CellShape}
 use Rattle.cx_core.specs.State.{blank_cell, opening_local}
 use Rattle.cx_rule.specs.declared.rule.Known.{Known}
 use Rattle.cx_table.specs.declared.mirror.Mirror.{Mirror}
-use Rattle.core_queue.proofs.Opening.{blank_shape}
-use Rattle.cx_core.specs.Free.{HoldsNone}
+use Rattle.cx_table.specs.Copies.{Copied, IsCopied, blank_copy}
 use Rattle.cx_table.specs.Mirrors.{IsMirrored, mirror_of}
-use Rattle.cx_rule.specs.Seats.{HasCells, IsWithinLimit, opening_known}
+use Rattle.cx_rule.specs.Seats.{HasCells, IsWithinLimit, known_of, opening_known}
 use Rattle.cx_rule.proofs.Moves.{one_caller}
 
 -- a caller that made no step has its cells
@@ -38,5 +39,20 @@ opening_mirrored me mirror before callers place number limits is m most small =
       small = small;
       cells = subst HasCells (ap (λ (k : Known). k.local) (sym one.1)) (blank_cells callers place number (slice_index limits number));
       within = subst (λ (k : Known). IsWithinLimit k.local) (sym one.1) (λ few. omega arith);
-      holds = subst (λ (k : Known). HoldsNone k.local) (sym one.1) (record { exclusive = refl; shared = refl; passer = refl; downgraded = refl; won = refl });
     }
+
+-- and what it keeps in plain memory
+pub opening_copied : (me : Me ℕ (List Known)) (copy : Copied) (callers place number region : ℕ) (limits : List ℕ) → me ≡ (opening_known callers place limits number ∷ [], []) → copy ≡ blank_copy region → IsCopied (known_of me.0) copy
+opening_copied me copy callers place number region limits is blank =
+    let one = one_caller me (opening_known callers place limits number) is in
+    subst (λ (k : Known). IsCopied k copy) (sym one.1) (subst (IsCopied (opening_known callers place limits number)) (sym blank) (record {
+      long = length-replicate region false ∙ sym (length-replicate region 0);
+      place = refl;
+      marks = λ i below. (λ marked. absurd (unmarked region i marked), λ there. (let none : there.0 < 0 = there.1 in absurd (omega arith)));
+      words = λ i below there. (let none : there.0 < 0 = there.1 in absurd (omega arith));
+    }))
+  where
+    unmarked : (n i : ℕ) → slice_get (replicate n false) i ≡ Some true → ⊥
+    unmarked zero i at = none-some true at
+    unmarked (suc n) zero at = cc
+    unmarked (suc n) (suc i) at = unmarked n i at

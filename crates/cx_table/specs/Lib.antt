@@ -6,5 +6,8 @@ pub use Rattle.cx_rule.specs.Steps
 pub use Rattle.cx_rule.specs.Ending
 pub use Rattle.cx_rule.specs.Fitting
 pub mod Mirrors
+pub mod Copies
+pub mod Right
 pub mod Tokens
+pub mod Marks
 pub mod Remains

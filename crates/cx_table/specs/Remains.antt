@@ -7,6 +7,7 @@ use Rattle.cx_core.specs.Lawful.{Lawful}
 use Rattle.cx_core.specs.Layout.{vol_at, per_at}
 use Rattle.cx_core.specs.Merge.{IsHistory}
 use Rattle.cx_core.specs.Region.{slot_number}
+use Rattle.cx_core.specs.Shown.{shown}
 use Rattle.cx_core.specs.State.{Instance}
 use Rattle.cx_rule.specs.declared.rule.Known.{Known}
 use Rattle.cx_table.specs.declared.remains.Remains.{Remains}
@@ -31,7 +32,7 @@ pub record AreSeats {O : Type 0} (r : Running O) (seats : List Seated) : Type 0 
 
 -- a caller's seat as it is made
 abbrev pub opening_seat : {O : Type 0} → Running O → List ℕ → ℕ → Seated
-opening_seat r limits caller = record { table = r.table; before = slot_number caller r.base.words; known = opening_known r.callers r.base.place limits caller }
+opening_seat r limits caller = record { table = r.table; before = slot_number caller r.base.words; region = length r.base.words; known = opening_known r.callers r.base.place limits caller }
 
 -- a word of a replica is dirty: some caller holds the replica exclusively, and stored there and did not persist
 pub record IsDirty (locals : List Local) (replica at : ℕ) : Type 0 where
@@ -49,7 +50,8 @@ pub record MarksDirty (locals : List Local) (replicas region : ℕ) (marks : Lis
   pub is : (replica at : ℕ) → replica < replicas → at < region → (slice_get marks (region * replica + at) ≡ Some true) ↔ IsDirty locals replica at
 
 -- What a closed table leaves whose callers had these seats. There are words that with the callers' local states are a
--- lawful state of the core, whose history is the trail's: each caller's own entries are in it, each once and in order.
+-- lawful state of the core, whose history is the trail's: each caller's own entries are in it, each once and in order. Of the
+-- local states the seats show all but the words of replicas held exclusively.
 pub record Leaves {O : Type 0} (table : Running O) (instance : Instance) (seats : List Seated) (r : Remains) : Type 0 where
   pub callers : r.callers ≡ table.callers
   pub lines : r.lines ≡ table.lines
@@ -61,7 +63,9 @@ pub record Leaves {O : Type 0} (table : Running O) (instance : Instance) (seats 
   pub locals : r.trail.locals ≡ locals_of seats
   -- the state that was closed
   pub words : List ℕ
-  pub state : Lawful instance (record { words = words; locals = locals_of seats })
+  pub whole : List Local
+  pub shows : map shown whole ≡ locals_of seats
+  pub state : Lawful instance (record { words = words; locals = whole })
   pub history : state.history ≡ r.trail.history
   pub merged : IsHistory table.base.place r.trail.history (locals_of seats)
   pub chain : IsCodeChain words (locals_of seats) r.trail.chain

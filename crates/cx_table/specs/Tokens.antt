@@ -3,13 +3,9 @@ use Rattle.std.specs.Prelude.{◌≡◌, ◌≢◌, ◌*◌, ◌≤◌, ◌<◌,
 use Rattle.cx_core.specs.LockEvents.{exclusive_mark}
 use Rattle.cx_core.specs.Rights.{downgraded_on, exclusive_on, shared_on}
 use Rattle.cx_rule.specs.Seats.{Seated}
+use Rattle.cx_table.specs.Right.{Right}
 use Rattle.cx_table.specs.declared.tokens.SharedRight.{SharedRight}
 use Rattle.cx_table.specs.declared.tokens.SharedRight.TheVariants.{Hold, Passer, Downgraded}
-
--- what contracts see of a token
-pub record Right : Type 0 where
-  pub replica : ℕ
-  pub caller : ℕ
 
 pub record IsExclusiveOf (callers : ℕ) (seat : Seated) (held : Right) : Type 0 where
   pub few : held.replica < 2 * callers
@@ -30,6 +26,15 @@ pub record IsDowngradedOf (callers : ℕ) (seat : Seated) (held : Right) : Type 
   pub few : held.replica < 2 * callers
   pub caller : held.caller ≡ seat.known.local.number
   pub holds : downgraded_on seat.known.local ≡ Some held.replica
+
+-- the token of a caller's try of a replica, by the word found
+abbrev pub HandsExclusive : ℕ → ℕ → ℕ → Option Right → Type 0
+HandsExclusive replica caller found (Some held) = (found ≡ 0) × (held ≡ record { replica = replica; caller = caller })
+HandsExclusive replica caller found None = found ≢ 0
+
+abbrev pub HandsShared : ℕ → ℕ → ℕ → Result Right Right → Type 0
+HandsShared replica caller found (Ok held) = (found < exclusive_mark) × (held ≡ record { replica = replica; caller = caller })
+HandsShared replica caller found (Err mark) = (exclusive_mark ≤ found) × (mark ≡ record { replica = replica; caller = caller })
 
 -- an exclusive try hands a token out exactly where it found 0
 abbrev pub TriedExclusive : ℕ → ℕ → Seated → ℕ → Option Right → Type 0

@@ -1,11 +1,12 @@
 //! An event of the core as one atomic step of the table, for each kind of atomic step.
 
-ghost use Rattle.std.specs.Prelude.{◌≡◌, ◌<◌, ◌==◌, if◌then◌else◌};
+ghost use Rattle.std.specs.Prelude.{◌≡◌, ◌+◌, ◌-◌, ◌%◌, ◌^◌, ◌<◌, ◌==◌, ◌∷◌, [], ℕ, if◌then◌else◌};
 ghost use Rattle.atomic_table.specs.Table.{Allows};
 ghost use Rattle.cx_rule.specs.Rule.{RuleHolds};
 ghost use Rattle.cx_rule.specs.Running.{instance_at};
-ghost use Rattle.cx_rule.specs.Seats.{known_of};
-ghost use Rattle.cx_rule.specs.Steps.{IsEventOn, IsStore, Puts, Teaches};
+ghost use Rattle.cx_rule.specs.Seats.{kind_found, known_of};
+ghost use Rattle.cx_rule.specs.Steps.{IsBlind, IsEventOn, IsLearned, IsStore, Puts, Teaches};
+ghost use Rattle.cx_core.specs.declared.local.Local.{Local};
 
 use crate::shared::Shared;
 use atomic_table::{Play, Seat};
@@ -115,5 +116,100 @@ impl<O: Object> Shared<O> {
         self.table
             .shared
             .compare_exchange::<Does<J>>(seat, word, old, new)
+    }
+
+    /// A load that is the event of this kind as what its caller noted tells it. A load that may be marked as a refusal is
+    /// marked by the word found.
+    pub(crate) fn load_learned(&self, seat: &mut Seat<u8, View>, kind: &Kind, word: usize) -> u64
+        requires table { seat.old.table_id ≡ self.now.table }
+        requires one { seat.old.me ≡ (known_of seat.old.me.0 ∷ [], []) }
+        requires within { word < self.now.table.words }
+        requires learns { IsLearned (instance_at self.now O.step O.only_reads) kind.now (known_of seat.old.me.0) word (λ x. x) }
+        ensures table { seat.new.table_id ≡ seat.old.table_id }
+        ensures taught { Teaches (instance_at self.now O.step O.only_reads) (kind_found (instance_at self.now O.step O.only_reads) kind.now (known_of seat.old.me.0).local result) (known_of seat.old.me.0) result seat.new.me }
+    {
+        self.load_as::<Brand>(seat, kind, word)
+    }
+
+    /// A store that is the event of this kind as what its caller noted tells it.
+    pub(crate) fn store_learned(
+        &self,
+        seat: &mut Seat<u8, View>,
+        kind: &Kind,
+        word: usize,
+        new: u64,
+    )
+        requires table { seat.old.table_id ≡ self.now.table }
+        requires one { seat.old.me ≡ (known_of seat.old.me.0 ∷ [], []) }
+        requires within { word < self.now.table.words }
+        requires learns { IsLearned (instance_at self.now O.step O.only_reads) kind.now (known_of seat.old.me.0) word (λ _. new) }
+        requires plain { (l : Local) (found : ℕ) → kind_found (instance_at self.now O.step O.only_reads) kind.now l found ≡ kind.now }
+        requires blind { IsBlind (instance_at self.now O.step O.only_reads) kind.now (known_of seat.old.me.0) }
+        ensures table { seat.new.table_id ≡ seat.old.table_id }
+        ensures taught { Teaches (instance_at self.now O.step O.only_reads) kind.now (known_of seat.old.me.0) 0 seat.new.me }
+    {
+        self.store_as::<Brand>(seat, kind, word, new);
+    }
+
+    /// An addition that is the event of this kind. It gives the word found.
+    pub(crate) fn add_event(
+        &self,
+        seat: &mut Seat<u8, View>,
+        kind: &Kind,
+        word: usize,
+        k: u64,
+    ) -> u64
+        requires event { IsEventOn self.now O.step O.only_reads kind.now word seat.old.table_id seat.old.me }
+        requires adds { Puts (instance_at self.now O.step O.only_reads) kind.now (known_of seat.old.me.0).local (λ x. (x + k) % 2 ^ 64) }
+        ensures table { seat.new.table_id ≡ seat.old.table_id }
+        ensures taught { Teaches (instance_at self.now O.step O.only_reads) kind.now (known_of seat.old.me.0) result seat.new.me }
+    {
+        self.add_as::<Brand>(seat, kind, word, k)
+    }
+
+    fn add_as<J: Named>(&self, seat: &mut Seat<u8, View>, kind: &Kind, word: usize, k: u64) -> u64
+        requires table { seat.old.table_id ≡ self.now.table }
+        requires within { word < self.now.table.words }
+        requires allows { Allows (RuleHolds (instance_at self.now O.step O.only_reads)) self.now.table.slots seat.old.id seat.old.me word (λ x. (x + k) % 2 ^ 64) J.tells }
+        ensures table { seat.new.table_id ≡ seat.old.table_id }
+        ensures told { J.tells result seat.new.me }
+    {
+        let _ = kind;
+        self.table.shared.fetch_add::<Does<J>>(seat, word, k)
+    }
+
+    /// A subtraction that is the event of this kind as what its caller noted tells it. It gives the word found.
+    pub(crate) fn subtract_learned(
+        &self,
+        seat: &mut Seat<u8, View>,
+        kind: &Kind,
+        word: usize,
+        k: u64,
+    ) -> u64
+        requires table { seat.old.table_id ≡ self.now.table }
+        requires one { seat.old.me ≡ (known_of seat.old.me.0 ∷ [], []) }
+        requires within { word < self.now.table.words }
+        requires learns { IsLearned (instance_at self.now O.step O.only_reads) kind.now (known_of seat.old.me.0) word (λ x. (x + (2 ^ 64 - k)) % 2 ^ 64) }
+        ensures table { seat.new.table_id ≡ seat.old.table_id }
+        ensures taught { Teaches (instance_at self.now O.step O.only_reads) (kind_found (instance_at self.now O.step O.only_reads) kind.now (known_of seat.old.me.0).local result) (known_of seat.old.me.0) result seat.new.me }
+    {
+        self.subtract_as::<Brand>(seat, kind, word, k)
+    }
+
+    fn subtract_as<J: Named>(
+        &self,
+        seat: &mut Seat<u8, View>,
+        kind: &Kind,
+        word: usize,
+        k: u64,
+    ) -> u64
+        requires table { seat.old.table_id ≡ self.now.table }
+        requires within { word < self.now.table.words }
+        requires allows { Allows (RuleHolds (instance_at self.now O.step O.only_reads)) self.now.table.slots seat.old.id seat.old.me word (λ x. (x + (2 ^ 64 - k)) % 2 ^ 64) J.tells }
+        ensures table { seat.new.table_id ≡ seat.old.table_id }
+        ensures told { J.tells result seat.new.me }
+    {
+        let _ = kind;
+        self.table.shared.fetch_sub::<Does<J>>(seat, word, k)
     }
 }

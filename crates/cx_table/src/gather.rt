@@ -1,10 +1,11 @@
 //! Closing a table: its callers' seats are joined, and its words are handed out.
 
-ghost use Rattle.std.specs.Prelude.{◌≡◌, ◌+◌, ◌*◌, ◌<◌, ◌≤◌, ◌∷◌, ℕ, List, [], false, All, IfErr, IfOk, length, map, replicate, slice_range, vec_capacity};
+ghost use Rattle.std.specs.Prelude.{◌≡◌, ◌+◌, ◌*◌, ◌<◌, ◌≤◌, ◌∷◌, ℕ, List, [], false, All, IfErr, IfOk, length, map, replicate, slice_range, vec_capacity, vec_len};
+ghost use Rattle.cx_table.specs.Marks.{MarksMore};
 ghost use Rattle.std.specs.Slots.{IsFull, slots_items, slots_len};
-ghost use Rattle.cx_table.specs.Remains.{AreSeats, Leaves, known_by};
+ghost use Rattle.cx_table.specs.Remains.{AreSeats, Leaves, MarksDirty, known_by, locals_of};
 ghost use Rattle.cx_core.specs.Region.{region_words};
-ghost use Rattle.cx_core.specs.Free.{HoldsNone};
+ghost use Rattle.cx_core.specs.Rights.{exclusive_on, held_dirty};
 ghost use Rattle.cx_rule.specs.Running.{instance_at};
 ghost use Rattle.cx_rule.specs.Seats.{Seated};
 
@@ -85,12 +86,13 @@ impl<O: Object> Shared<O> {
     {
         let region = LINE_WORDS as usize * (HEAD_LINES as usize + self.lines as usize);
         let replicas = 2 * self.callers as usize;
-        let Ok(room) = Room::take(alloc, region * replicas) else {
+        let Ok(mut room) = Room::take(alloc, region * replicas) else {
             return Err(KeptTable {
                 shared: self,
                 seats,
             });
         };
+        mark_dirty(&seats, region, replicas, &mut room.dirty);
         let closing = self.joined(seats);
         Ok(self.closed(closing, room))
     }
@@ -100,7 +102,6 @@ impl<O: Object> Shared<O> {
         requires { AreSeats self.now seats.items }
         ensures table { result.table_id ≡ self.now.table }
         ensures me { result.me ≡ (known_by seats.items, []) }
-        ensures holds { All (λ k. HoldsNone k.local) result.me.0 }
     {
         let (_, mut closing) = self.table.shared.load_new_seat::<Enters>(0);
         while let Some(seat) = seats.pop() {
@@ -115,12 +116,12 @@ impl<O: Object> Shared<O> {
         requires seat { seat.table ≡ self.now.table }
         ensures table { closing.new.table_id ≡ closing.old.table_id }
         ensures me { closing.new.me ≡ (seat.known ∷ closing.old.me.0, []) }
-        ensures holds { HoldsNone seat.known.local }
     {
         let CallerSeat {
             seat,
             mirror: _,
             before: _,
+            copy: _,
         } = seat;
         self.table.shared.join_seat::<InFront>(closing, seat);
     }
@@ -128,12 +129,10 @@ impl<O: Object> Shared<O> {
     /// Ends the table with the seat that knows all callers, and copies its words out.
     fn closed(self, closing: Seat<u8, View>, room: Room) -> Remains
         requires table { closing.table_id ≡ self.table }
-        requires holds { All (λ k. HoldsNone k.local) closing.me.0 }
         requires published { (room.published.items ≡ []) × (1 ≤ vec_capacity room.published) }
         requires volatile { (room.volatile.items ≡ []) × (region_words self.lines * (2 * self.callers) ≤ vec_capacity room.volatile) }
         requires durable { (room.durable.items ≡ []) × (region_words self.lines * (2 * self.callers) ≤ vec_capacity room.durable) }
-        requires dirty { room.dirty.items ≡ replicate (region_words self.lines * (2 * self.callers)) false }
-        ensures { (seats : List Seated) → AreSeats self seats → closing.me ≡ (known_by seats, []) → Leaves self (instance_at self O.step O.only_reads) seats result }
+        ensures { (seats : List Seated) → AreSeats self seats → closing.me ≡ (known_by seats, []) → MarksDirty (locals_of seats) (2 * self.callers) (length self.base.words) room.dirty.items → Leaves self (instance_at self O.step O.only_reads) seats result }
     {
         let Room {
             mut published,
@@ -171,6 +170,35 @@ impl<O: Object> Shared<O> {
             durable,
             dirty,
             trail,
+        }
+    }
+}
+
+/// Marks each word of a replica that a seat's caller stored to the replica that it holds exclusively, and did not persist.
+fn mark_dirty(seats: &[CallerSeat], region: usize, replicas: usize, dirty: &mut Vec<bool>)
+    requires regions { All (λ (s : Seated). s.region ≡ region) seats.now }
+    requires none { dirty.old.items ≡ replicate (region * replicas) false }
+    ensures { MarksDirty (locals_of seats.now) replicas region dirty.new.items }
+{
+    for k in 0..seats.len() {
+        let seat = &seats[k];
+        if let Some(replica) = seat.mirror.exclusive {
+            if replica < replicas as u64 {
+                mark_replica(seat.copy.marks(), region * replica as usize, dirty);
+            }
+        }
+    }
+}
+
+/// Marks those words, from one on, that are marked.
+fn mark_replica(marks: &[bool], from: usize, dirty: &mut Vec<bool>)
+    requires { from + length marks.now ≤ vec_len dirty.old }
+    ensures len { vec_len dirty.new ≡ vec_len dirty.old }
+    ensures marked { MarksMore marks.now from (length marks.now) dirty.old.items dirty.new.items }
+{
+    for i in 0..marks.len() {
+        if marks[i] {
+            dirty[from + i] = true;
         }
     }
 }

@@ -2,15 +2,19 @@
 //! call is one event of the core, made by one atomic instruction.
 #![tactic(auto)]
 
+mod copy;
 mod events;
 mod gather;
+mod lock_steps;
 mod make;
 mod mirror;
+mod region_steps;
 mod remains;
 mod seat;
 mod shared;
 mod steps;
 mod threads;
+mod tokens;
 
 pub use cx_rule::{CoreRule, Key, Known, Noted, View};
 pub use gather::KeptTable;
@@ -18,3 +22,4 @@ pub use remains::{Remains, Trail};
 pub use seat::CallerSeat;
 pub use shared::Shared;
 pub use threads::cross_threads;
+pub use tokens::{Downgraded, Exclusive, Passer, SharedHold, SharedRight};

@@ -7,17 +7,15 @@ ghost use Rattle.cx_rule.specs.Fitting.{Fitting, IsReplayed, IsReplayedToPlace};
 ghost use Rattle.cx_rule.specs.Running.{IsSeatOf, instance_at};
 ghost use Rattle.cx_rule.specs.Seats.{SeenGuard};
 ghost use Rattle.cx_rule.specs.Steps.{Halts, Steps};
-ghost use Rattle.cx_table.specs.Tokens.{IsDowngradedOf, IsExclusiveOf, IsRightOf, TriedExclusive, TriedShared, replica_of};
+ghost use Rattle.cx_table.specs.Tokens.{HandsExclusive, HandsShared, IsDowngradedOf, IsExclusiveOf, IsRightOf, TriedExclusive, TriedShared, replica_of};
 
+use crate::mirror::EXCLUSIVE_MARK;
 use crate::seat::CallerSeat;
 use crate::shared::Shared;
 use crate::tokens::{Downgraded, Exclusive, Passer, SharedHold, SharedRight};
 use cx_base::{Halt, Object};
 use cx_core::Kind;
 use cx_core::layout::lock_at;
-
-/// What an exclusive right adds to a lock word.
-const EXCLUSIVE_MARK: u64 = 1 << 32;
 
 impl<O: Object> Shared<O> {
     /// Tries to take a replica exclusively: a compare-exchange of its lock word from 0. It gives the word found, and where
@@ -32,7 +30,16 @@ impl<O: Object> Shared<O> {
         ensures made { IfOk result (λ x. Steps self.now O.step O.only_reads (TryExclusive r) x.0 seat.old seat.new) }
         ensures token { IfOk result (λ x. TriedExclusive self.now.callers r seat.new x.0 x.1) }
         ensures fits { OnOk result (Fitting self.now.lines (O.lawful self.now.object) self.now.base seat.new.known) }
-        ensures halted { OnErr result (Halts self.now seat.old seat.new) };
+        ensures halted { OnErr result (Halts self.now seat.old seat.new) }
+    {
+        seat.mirror.check()?;
+        let kind = Kind::TryExclusive { r };
+        let word = lock_at(self.callers, r);
+        let found = self.exchange_event(&mut seat.seat, &kind, word, 0, EXCLUSIVE_MARK);
+        seat.mirror.try_exclusive(self.callers, r, found);
+        seat.copy.begin();
+        Ok((found, exclusive_token(found, r as u32, seat.mirror.number)))
+    }
 
     /// Tries to take a replica shared: adds 1 to its lock word. It gives the word found, and where that is below 2^32 a hold,
     /// else a passer, which has to be taken back.
@@ -46,7 +53,15 @@ impl<O: Object> Shared<O> {
         ensures made { IfOk result (λ x. Steps self.now O.step O.only_reads (TryShared r) x.0 seat.old seat.new) }
         ensures token { IfOk result (λ x. TriedShared self.now.callers r seat.new x.0 x.1) }
         ensures fits { OnOk result (Fitting self.now.lines (O.lawful self.now.object) self.now.base seat.new.known) }
-        ensures halted { OnErr result (Halts self.now seat.old seat.new) };
+        ensures halted { OnErr result (Halts self.now seat.old seat.new) }
+    {
+        seat.mirror.check()?;
+        let kind = Kind::TryShared { r };
+        let word = lock_at(self.callers, r);
+        let found = self.add_event(&mut seat.seat, &kind, word, 1);
+        seat.mirror.try_shared(self.callers, r, found);
+        Ok((found, shared_token(found, r as u32, seat.mirror.number)))
+    }
 
     /// Takes a shared right, a passer's mark or a downgraded right back: subtracts 1 from the lock word. It gives the word
     /// found.
@@ -54,7 +69,16 @@ impl<O: Object> Shared<O> {
         requires seat { IsSeatOf self.now seat.old }
         requires right { IsRightOf self.now.callers seat.old right }
         ensures made { IfOk result (λ found. Steps self.now O.step O.only_reads (BackOff (replica_of right)) found seat.old seat.new) }
-        ensures halted { OnErr result (Halts self.now seat.old seat.new) };
+        ensures halted { OnErr result (Halts self.now seat.old seat.new) }
+    {
+        let r = replica_in(right) as u64;
+        seat.mirror.check()?;
+        let kind = Kind::BackOff { r };
+        let word = lock_at(self.callers, r);
+        let found = self.subtract_learned(&mut seat.seat, &kind, word, 1);
+        seat.mirror.back_off(r);
+        Ok(found)
+    }
 
     /// Turns an exclusive right into a shared one, where no word is dirty and whatever fits what is noted is the image after
     /// the place noted, by noted entries. It gives the word found and the token of the shared right.
@@ -69,7 +93,17 @@ impl<O: Object> Shared<O> {
         requires replayed { IsReplayedToPlace self.now.lines (O.lawful self.now.object) self.now.base (O.step self.now.object) seat.old.known }
         ensures made { IfOk result (λ x. Steps self.now O.step O.only_reads (Downgrade held.replica) x.0 seat.old seat.new) }
         ensures token { IfOk result (λ x. (x.1.replica ≡ held.replica) × IsDowngradedOf self.now.callers seat.new x.1) }
-        ensures halted { OnErr result (Halts self.now seat.old seat.new) };
+        ensures halted { OnErr result (Halts self.now seat.old seat.new) }
+    {
+        let Exclusive { replica, caller } = held;
+        seat.mirror.check()?;
+        let r = replica as u64;
+        let kind = Kind::Downgrade { r };
+        let word = lock_at(self.callers, r);
+        let found = self.subtract_learned(&mut seat.seat, &kind, word, EXCLUSIVE_MARK - 1);
+        seat.mirror.end_exclusive();
+        Ok((found, Downgraded { replica, caller }))
+    }
 
     /// Gives an exclusive right up, where no word is dirty and whatever fits what is noted is the image after its place, by
     /// noted entries. It gives the word found.
@@ -79,5 +113,48 @@ impl<O: Object> Shared<O> {
         requires guard { SeenGuard (instance_at self.now O.step O.only_reads) (ReleaseExclusive held.replica) seat.old.known.local }
         requires replayed { IsReplayed self.now.lines (O.lawful self.now.object) self.now.base (O.step self.now.object) seat.old.known }
         ensures made { IfOk result (λ found. Steps self.now O.step O.only_reads (ReleaseExclusive held.replica) found seat.old seat.new) }
-        ensures halted { OnErr result (Halts self.now seat.old seat.new) };
+        ensures halted { OnErr result (Halts self.now seat.old seat.new) }
+    {
+        let Exclusive { replica, caller: _ } = held;
+        seat.mirror.check()?;
+        let r = replica as u64;
+        let kind = Kind::ReleaseExclusive { r };
+        let word = lock_at(self.callers, r);
+        let found = self.subtract_learned(&mut seat.seat, &kind, word, EXCLUSIVE_MARK);
+        seat.mirror.end_exclusive();
+        Ok(found)
+    }
+}
+
+/// The token of an exclusive try that found this word.
+fn exclusive_token(found: u64, replica: u32, caller: u32) -> Option<Exclusive>
+    ensures { HandsExclusive replica caller found result }
+{
+    if found == 0 {
+        Some(Exclusive { replica, caller })
+    } else {
+        None
+    }
+}
+
+/// The token of a shared try that found this word.
+fn shared_token(found: u64, replica: u32, caller: u32) -> Result<SharedHold, Passer>
+    ensures { HandsShared replica caller found result }
+{
+    if found < EXCLUSIVE_MARK {
+        Ok(SharedHold { replica, caller })
+    } else {
+        Err(Passer { replica, caller })
+    }
+}
+
+/// The replica that a right is on.
+fn replica_in(right: SharedRight) -> u32
+    ensures { result ≡ replica_of right }
+{
+    match right {
+        SharedRight::Hold(held) => held.replica,
+        SharedRight::Passer(mark) => mark.replica,
+        SharedRight::Downgraded(held) => held.replica,
+    }
 }

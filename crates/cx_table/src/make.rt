@@ -4,10 +4,12 @@ ghost use Rattle.std.specs.Prelude.{◌≡◌, ◌+◌, ◌^◌, ◌<◌, ◌≤
 ghost use Rattle.std.specs.List.{range_with_len};
 ghost use Rattle.cx_core.specs.Base.{LawfulBase};
 ghost use Rattle.cx_core.specs.State.{opening_local};
+ghost use Rattle.cx_table.specs.Copies.{blank_copy};
 ghost use Rattle.cx_table.specs.Mirrors.{mirror_of};
 ghost use Rattle.cx_table.specs.Remains.{AreSeats, opening_seat};
 ghost use Rattle.cx_rule.specs.Seats.{opening_view};
 
+use crate::copy::Copy;
 use crate::mirror::Mirror;
 use crate::seat::CallerSeat;
 use crate::shared::Shared;
@@ -70,37 +72,46 @@ impl<O: Object> Shared<O> {
             base: own,
             object,
         };
-        let seats = shared.seated(first, limits, seats);
+        let seats = shared.seated(alloc, first, limits, seats)?;
         Ok((shared, seats))
     }
 
     /// The seats of all callers, out of the first seat.
     fn seated(
         &self,
+        alloc: Global,
         mut first: Seat<u8, View>,
         limits: &[u64],
         mut seats: Vec<CallerSeat>,
-    ) -> Vec<CallerSeat>
+    ) -> Result<Vec<CallerSeat>, AllocError>
         requires table { first.table_id ≡ self.now.table }
         requires me { first.me ≡ (opening_view self.now.callers self.now.base.place limits.now, []) }
         requires limits { length limits.now ≡ self.now.callers }
         requires none { seats.items ≡ [] }
         requires room { self.now.callers ≤ vec_capacity seats }
-        ensures { result.items ≡ map (opening_seat self.now limits.now) (range_with_len 0 self.now.callers) }
+        ensures { IfOk result (λ made. made.items ≡ map (opening_seat self.now limits.now) (range_with_len 0 self.now.callers)) }
     {
         for number in 0..self.callers {
-            let seat = self.next_seat(&mut first, number, limits);
+            let copy = Copy::of(alloc, self.base.words.len())?;
+            let seat = self.next_seat(&mut first, number, limits, copy);
             seats.push_reserved(seat);
         }
-        seats
+        Ok(seats)
     }
 
     /// The seat of a caller, cut from the first seat, which has those from this caller on.
-    fn next_seat(&self, first: &mut Seat<u8, View>, number: u32, limits: &[u64]) -> CallerSeat
+    fn next_seat(
+        &self,
+        first: &mut Seat<u8, View>,
+        number: u32,
+        limits: &[u64],
+        copy: Copy,
+    ) -> CallerSeat
         requires table { first.old.table_id ≡ self.now.table }
         requires me { first.old.me ≡ (drop number (opening_view self.now.callers self.now.base.place limits.now), []) }
         requires limits { length limits.now ≡ self.now.callers }
         requires caller { number < self.now.callers }
+        requires copy { copy ≡ blank_copy (length self.now.base.words) }
         ensures table { first.new.table_id ≡ first.old.table_id }
         ensures me { first.new.me ≡ (drop (number + 1) (opening_view self.now.callers self.now.base.place limits.now), []) }
         ensures seat { result ≡ opening_seat self.now limits.now number }
@@ -117,6 +128,7 @@ impl<O: Object> Shared<O> {
             seat,
             mirror,
             before,
+            copy,
         }
     }
 }
@@ -140,6 +152,9 @@ fn opening_mirror(callers: u32, place: u64, number: u32, limit: u64) -> Mirror
         seen_low: place,
         seen_cur: code,
         fresh: false,
+        refused: [false; 16],
+        exclusive: None,
+        shared: None,
         raised: code,
         floor: place,
         steps: 0,

@@ -1,13 +1,30 @@
 //! The numbers of a local state that code reads, and how each kind of step changes them.
 
-ghost use Rattle.std.specs.Prelude.{◌≡◌, ◌+◌, ◌^◌, ◌<◌, ◌≤◌, ℕ, MatchResult, length, slice_index, Some, None};
+ghost use Rattle.std.specs.Prelude.{◌≡◌, ◌+◌, ◌*◌, ◌^◌, ◌<◌, ◌≤◌, ℕ, MatchResult, false, length, slice_index, slice_index_or, Some, None};
 ghost use Rattle.cx_core.specs.QueueEvents.{linked, lost, raised_front, seen_word};
-ghost use Rattle.cx_core.specs.declared.kinds.Kind.TheVariants.{WriteCell, Link, Look, ReadCell, LoadFree};
+ghost use Rattle.cx_core.specs.declared.kinds.Kind.TheVariants.{WriteCell, Link, Look, ReadCell, LoadFree, TryExclusive, TryShared, BackOff, Downgrade, ReleaseExclusive, LoadWord, StoreWord, Persist};
+ghost use Rattle.std.specs.List.{list_all, range_with_len};
+ghost use Rattle.cx_core.specs.LockEvents.{is_fresh_on, refused_by, taken};
+ghost use Rattle.cx_core.specs.State.{Instance};
+ghost use Rattle.cx_core.specs.Rights.{is_at};
 ghost use Rattle.cx_table.specs.Mirrors.{Follows, mirror_of};
-ghost use Rattle.cx_rule.specs.Seats.{IsAtLimit};
+ghost use Rattle.cx_rule.specs.Seats.{IsAtLimit, unseen};
 
-use cx_base::{Halt, link_ticket};
+use cx_base::{Halt, link_ticket, root_replica};
 use cx_core::SeenSlot;
+
+/// What an exclusive right adds to a lock word.
+pub const EXCLUSIVE_MARK: u64 = 1 << 32;
+
+/// Whether a right is on this replica.
+pub fn is_at(r: u64, right: Option<u64>) -> bool
+    ensures { result ≡ is_at r right }
+{
+    match right {
+        None => false,
+        Some(q) => q == r,
+    }
+}
 
 /// The numbers of a caller's local state that code reads: all but its lists and the words of its cells.
 #[derive(Clone, Copy, Debug, Drop)]
@@ -25,6 +42,11 @@ pub struct Mirror {
     pub seen_low: u64,
     pub seen_cur: u64,
     pub fresh: bool,
+    /// The replicas whose exclusive try was refused since it was last emptied.
+    pub refused: [bool; 16],
+    /// The replica that it holds exclusively, and the one that it holds shared.
+    pub exclusive: Option<u64>,
+    pub shared: Option<u64>,
     pub raised: u64,
     pub floor: u64,
     pub steps: u64,
@@ -130,6 +152,114 @@ impl Mirror {
         ensures { (callers : ℕ) → Follows callers LoadFree found self.old self.new }
     {
         self.seen_free = self.seen_free.max(found);
+        self.steps = self.steps.saturating_add(1);
+    }
+
+    /// An exclusive try of a replica found this word.
+    pub fn try_exclusive(&mut self, callers: u32, r: u64, found: u64)
+        requires some { 1 ≤ callers }
+        requires few { callers ≤ 8 }
+        requires r { r < 2 * callers }
+        ensures { Follows callers (TryExclusive r) found self.old self.new }
+    {
+        if found == 0 {
+            self.take(r);
+        } else {
+            self.refuse(callers, r);
+        }
+    }
+
+    /// A replica was taken exclusively.
+    fn take(&mut self, r: u64)
+        ensures { (instance : Instance) (l : _) → self.old ≡ mirror_of l → self.new ≡ mirror_of (taken instance unseen r l) }
+    {
+        self.exclusive = Some(r);
+        self.refused = [false; 16];
+        self.steps = self.steps.saturating_add(1);
+    }
+
+    /// An exclusive try was refused.
+    fn refuse(&mut self, callers: u32, r: u64)
+        requires few { callers ≤ 8 }
+        requires r { r < 2 * callers }
+        ensures { (l : _) (found : ℕ) → self.old ≡ mirror_of l → self.new ≡ mirror_of (refused_by callers r l found) }
+    {
+        self.refused[r as usize] = true;
+        let all = self.all_refused(callers);
+        self.steps = self.steps.saturating_add(1);
+        if all {
+            self.refused = [false; 16];
+            self.met = self.met.saturating_add(1);
+        }
+    }
+
+    /// Whether each replica was refused.
+    fn all_refused(&self, callers: u32) -> bool
+        requires { callers ≤ 8 }
+        ensures { result ≡ list_all (λ r. slice_index_or self.now.refused r false) (range_with_len 0 (2 * callers)) }
+    {
+        (0..2 * callers as usize).all(|r| self.refused[r])
+    }
+
+    /// A shared try of a replica found this word.
+    pub fn try_shared(&mut self, callers: u32, r: u64, found: u64)
+        requires some { 1 ≤ callers }
+        requires few { callers ≤ 8 }
+        ensures { Follows callers (TryShared r) found self.old self.new }
+    {
+        if found < EXCLUSIVE_MARK {
+            self.shared = Some(r);
+        } else if self.is_fresh_on(callers, r) {
+            self.met = self.met.saturating_add(1);
+            self.fresh = false;
+        }
+        self.steps = self.steps.saturating_add(1);
+    }
+
+    /// Whether the code last loaded from CUR names this replica, and nothing ended its use.
+    pub fn is_fresh_on(&self, callers: u32, r: u64) -> bool
+        requires some { 1 ≤ callers }
+        requires few { callers ≤ 8 }
+        ensures { (l : _) → self.now ≡ mirror_of l → result ≡ is_fresh_on callers r l }
+    {
+        u64::from(root_replica(callers, self.seen_cur)) == r && self.fresh
+    }
+
+    /// A shared right, a passer's mark or a downgraded right was taken back.
+    pub fn back_off(&mut self, r: u64)
+        ensures { (callers found : ℕ) → Follows callers (BackOff r) found self.old self.new }
+    {
+        if is_at(r, self.shared) {
+            self.shared = None;
+        }
+        self.steps = self.steps.saturating_add(1);
+    }
+
+    /// An exclusive right was turned into a shared one, or given up.
+    pub fn end_exclusive(&mut self)
+        ensures downgraded { (callers r found : ℕ) → Follows callers (Downgrade r) found self.old self.new }
+        ensures released { (callers r found : ℕ) → Follows callers (ReleaseExclusive r) found self.old self.new }
+    {
+        self.exclusive = None;
+        self.steps = self.steps.saturating_add(1);
+    }
+
+    /// A word of a replica was loaded, and marked as a refusal or not.
+    pub fn load_word(&mut self, refused: bool)
+        ensures { (callers r i found : ℕ) → Follows callers (LoadWord r i refused) found self.old self.new }
+    {
+        if refused {
+            self.met = self.met.saturating_add(1);
+            self.fresh = false;
+        }
+        self.steps = self.steps.saturating_add(1);
+    }
+
+    /// A word of a replica was stored or persisted.
+    pub fn write_word(&mut self)
+        ensures stored { (callers r i v found : ℕ) → Follows callers (StoreWord r i v) found self.old self.new }
+        ensures persisted { (callers r i found : ℕ) → Follows callers (Persist r i) found self.old self.new }
+    {
         self.steps = self.steps.saturating_add(1);
     }
 

@@ -1,16 +1,19 @@
 //! The step calls on words of replicas. `Halt` comes exactly where the seat's steps equal its limit, and then nothing changes.
 
-ghost use Rattle.std.specs.Prelude.{OnErr, OnOk, IfOk};
+ghost use Rattle.std.specs.Prelude.{◌≡◌, ◌&&◌, OnErr, OnOk, IfOk};
 ghost use Rattle.cx_core.specs.declared.kinds.Kind.TheVariants.{LoadWord, Persist, StoreWord};
 ghost use Rattle.cx_rule.specs.Fitting.{Fitting};
 ghost use Rattle.cx_rule.specs.Running.{IsSeatOf, instance_at};
-ghost use Rattle.cx_rule.specs.Seats.{SeenGuard, marked_load};
+ghost use Rattle.cx_rule.specs.Seats.{SeenGuard, is_outdated, marked_load};
+ghost use Rattle.cx_table.specs.Mirrors.{mirror_of};
 ghost use Rattle.cx_rule.specs.Steps.{Halts, Steps};
 
+use crate::mirror::{Mirror, is_at};
 use crate::seat::CallerSeat;
 use crate::shared::Shared;
-use cx_base::{Halt, Object};
+use cx_base::{Halt, Object, root_place};
 use cx_core::Kind;
+use cx_core::layout::{per_at, vol_at};
 
 impl<O: Object> Shared<O> {
     /// Loads a word of a replica that the caller holds exclusively or shared, and notes it. With `mark`, a place word that
@@ -20,7 +23,22 @@ impl<O: Object> Shared<O> {
         requires guard { SeenGuard (instance_at self.now O.step O.only_reads) (LoadWord r i mark) seat.old.known.local }
         ensures made { IfOk result (λ found. Steps self.now O.step O.only_reads (marked_load (instance_at self.now O.step O.only_reads) r i mark seat.old.known.local found) found seat.old seat.new) }
         ensures fits { OnOk result (Fitting self.now.lines (O.lawful self.now.object) self.now.base seat.new.known) }
-        ensures halted { OnErr result (Halts self.now seat.old seat.new) };
+        ensures halted { OnErr result (Halts self.now seat.old seat.new) }
+    {
+        seat.mirror.check()?;
+        let kind = Kind::LoadWord {
+            r,
+            i,
+            refused: mark,
+        };
+        let word = vol_at(self.callers, seat.copy.region(), r, i);
+        let found = self.load_learned(&mut seat.seat, &kind, word);
+        let held = is_at(r, seat.mirror.exclusive);
+        seat.copy.load(held, i, found);
+        let refused = self.is_refusal(&seat.mirror, r, i, mark, found);
+        seat.mirror.load_word(refused);
+        Ok(found)
+    }
 
     /// Stores a word of a replica that the caller holds exclusively, and marks it as dirty.
     pub fn store_word(&self, seat: &mut CallerSeat, r: u64, i: u64, v: u64) -> Result<(), Halt>
@@ -28,12 +46,42 @@ impl<O: Object> Shared<O> {
         requires guard { SeenGuard (instance_at self.now O.step O.only_reads) (StoreWord r i v) seat.old.known.local }
         ensures made { IfOk result (λ _. Steps self.now O.step O.only_reads (StoreWord r i v) 0 seat.old seat.new) }
         ensures fits { OnOk result (Fitting self.now.lines (O.lawful self.now.object) self.now.base seat.new.known) }
-        ensures halted { OnErr result (Halts self.now seat.old seat.new) };
+        ensures halted { OnErr result (Halts self.now seat.old seat.new) }
+    {
+        seat.mirror.check()?;
+        let kind = Kind::StoreWord { r, i, v };
+        let word = vol_at(self.callers, seat.copy.region(), r, i);
+        self.store_event(&mut seat.seat, &kind, word, v);
+        seat.copy.store(i, v);
+        seat.mirror.write_word();
+        Ok(())
+    }
 
     /// Persists a dirty word of a replica that the caller holds exclusively: the medium gets what was stored last.
     pub fn persist(&self, seat: &mut CallerSeat, r: u64, i: u64) -> Result<(), Halt>
         requires seat { IsSeatOf self.now seat.old }
         requires guard { SeenGuard (instance_at self.now O.step O.only_reads) (Persist r i) seat.old.known.local }
         ensures made { IfOk result (λ _. Steps self.now O.step O.only_reads (Persist r i) 0 seat.old seat.new) }
-        ensures halted { OnErr result (Halts self.now seat.old seat.new) };
+        ensures halted { OnErr result (Halts self.now seat.old seat.new) }
+    {
+        seat.mirror.check()?;
+        let kind = Kind::Persist { r, i };
+        let word = per_at(self.callers, seat.copy.region(), r, i);
+        let v = seat.copy.word(i);
+        self.store_learned(&mut seat.seat, &kind, word, v);
+        seat.copy.persist(i);
+        seat.mirror.write_word();
+        Ok(())
+    }
+
+    /// Whether a load is marked as a refusal: that is asked for, and the word found shows that the code last loaded from CUR
+    /// is outdated.
+    fn is_refusal(&self, mirror: &Mirror, r: u64, i: u64, mark: bool, found: u64) -> bool
+        ensures { (l : _) → mirror.now ≡ mirror_of l → result ≡ (mark && is_outdated (instance_at self.now O.step O.only_reads) r i l found) }
+    {
+        mark && i == 0
+            && is_at(r, mirror.shared)
+            && mirror.is_fresh_on(self.callers, r)
+            && found != root_place(self.callers, mirror.seen_cur)
+    }
 }

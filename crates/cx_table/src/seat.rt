@@ -1,9 +1,12 @@
 //! A caller's seat: its right to step, and the numbers of its local state that code reads.
 
-ghost use Rattle.std.specs.Prelude.{◌≡◌, ◌+◌, ◌^◌, ◌<◌, ◌≤◌, length};
+ghost use Rattle.std.specs.Prelude.{◌≡◌, ◌+◌, ◌^◌, ◌<◌, ◌≤◌, ◌↔◌, IsTrue, length};
+ghost use Rattle.std.specs.List.{Contains};
+ghost use Rattle.cx_core.specs.Rights.{held_dirty};
 ghost use Rattle.cx_core.specs.QueueEvents.{cell_of};
 ghost use Rattle.cx_rule.specs.Seats.{HasCells, IsWithinLimit, unanswered_ticket};
 
+use crate::copy::Copy;
 use crate::mirror::Mirror;
 use atomic_table::Seat;
 use cx_core::SeenSlot;
@@ -11,13 +14,15 @@ use cx_rule::View;
 use std::marker::Model;
 
 /// The seat of one caller. It has no bytes of the table, and what it knows changes only at its own steps. Contracts see
-/// its table, the number of its caller's last entry in the table's base, and what it knows.
+/// its table, the number of its caller's last entry in the table's base, the words of a region, and what it knows.
 #[derive(Drop)]
 pub struct CallerSeat {
     pub(crate) seat: Seat<u8, View>,
     pub(crate) mirror: Mirror,
     /// The number of the caller's last entry before this service.
     pub(crate) before: u64,
+    /// What is known in plain memory of the replica held exclusively.
+    pub(crate) copy: Copy,
 }
 
 impl Model for CallerSeat {
@@ -25,11 +30,13 @@ impl Model for CallerSeat {
 
     ghost Value = { Seated };
 
+    ghost use Rattle.std.specs.Prelude.{length};
+    ghost use Rattle.cx_table.specs.Copies.{IsCopied};
     ghost use Rattle.cx_table.specs.Mirrors.{IsMirrored};
 
-    ghost view = { λ s. record { table = s.seat.table_id; before = s.before; known = known_of s.seat.me.0 } };
+    ghost view = { λ s. record { table = s.seat.table_id; before = s.before; region = length s.copy.words; known = known_of s.seat.me.0 } };
 
-    ghost invariant = { λ s. IsMirrored s.seat.me s.mirror s.before };
+    ghost invariant = { λ s. IsMirrored s.seat.me s.mirror s.before × IsCopied (known_of s.seat.me.0) s.copy };
 }
 
 impl CallerSeat {
@@ -92,6 +99,14 @@ impl CallerSeat {
         ensures { result ≡ (cell_of self.now.known.local j).ticket }
     {
         self.mirror.tickets[j as usize]
+    }
+
+    /// Whether a word of the replica that the caller holds exclusively was stored and not persisted.
+    pub fn is_dirty(&self, i: u64) -> bool
+        requires { i < self.now.region }
+        ensures { IsTrue result ↔ Contains (held_dirty self.now.known.local.exclusive) i }
+    {
+        self.copy.marks()[i as usize]
     }
 
     /// The link slot last looked at, and the word found there.

@@ -13,7 +13,7 @@ pub struct Exclusive {
 }
 
 impl Model for Exclusive {
-    ghost use Rattle.cx_table.specs.Tokens.{Right};
+    ghost use Rattle.cx_table.specs.Right.{Right};
 
     ghost Value = { Right };
 
@@ -44,7 +44,7 @@ pub struct SharedHold {
 }
 
 impl Model for SharedHold {
-    ghost use Rattle.cx_table.specs.Tokens.{Right};
+    ghost use Rattle.cx_table.specs.Right.{Right};
 
     ghost Value = { Right };
 
@@ -75,7 +75,7 @@ pub struct Passer {
 }
 
 impl Model for Passer {
-    ghost use Rattle.cx_table.specs.Tokens.{Right};
+    ghost use Rattle.cx_table.specs.Right.{Right};
 
     ghost Value = { Right };
 
@@ -106,7 +106,7 @@ pub struct Downgraded {
 }
 
 impl Model for Downgraded {
-    ghost use Rattle.cx_table.specs.Tokens.{Right};
+    ghost use Rattle.cx_table.specs.Right.{Right};
 
     ghost Value = { Right };
 

@@ -42,7 +42,7 @@ notes_more caller ticket i (x ∷ ws) w =
 
 -- a seat with these steps and notes
 abbrev with_steps : Seated → ℕ → List Noted → Seated
-with_steps s steps notes = record { table = s.table; before = s.before; known = record { local = record s.known.local { steps = steps }; noted = notes } }
+with_steps s steps notes = record s { known = record s.known { local = record s.known.local { steps = steps }; noted = notes } }
 
 -- nothing was read yet
 pub none_read : (caller ticket : ℕ) (s : Seated) → s ≡ with_read caller ticket [] s

@@ -106,7 +106,7 @@ taken instance s found cur used from =
     let l = s.known.local in
     record {
       none = record {
-        same = ap (λ n. record { table = s.table; before = s.before; known = record { local = record l { front = 0; seen_slot = None; steps = 0 }; noted = n } }) (append-nil s.known.noted);
+        same = ap (λ n. record s { known = record s.known { local = record l { front = 0; seen_slot = None; steps = 0 }; noted = n } }) (append-nil s.known.noted);
         front = raised_least instance.callers l.front found;
       };
       front = omega (arith, raised_some instance.callers l.front found used);
@@ -122,7 +122,7 @@ link_won instance l j found e = ap (λ b. cond b (linked l j) (lost instance.cal
 
 -- a seat with another local state and other notes
 abbrev seat_with : Seated → Local → List Noted → Seated
-seat_with s l notes = record { table = s.table; before = s.before; known = record { local = l; noted = notes } }
+seat_with s l notes = record s { known = record s.known { local = l; noted = notes } }
 
 -- the link was lost
 pub lost_to : (instance : Instance) (s : Seated) (found found2 cell : ℕ) → let l = s.known.local in let slot = l.front % cell_count instance.callers in let s1 = stepped instance (Look slot) s found in
@@ -167,6 +167,7 @@ still_of r s t none of =
       table = ap (λ (x : Seated). x.table) none.same ∙ of.table;
       caller = subst (λ n. n < r.callers) (sym number) of.caller;
       before = ap (λ (x : Seated). x.before) none.same ∙ of.before ∙ ap (λ n. slot_number n r.base.words) (sym number);
+      region = ap (λ (x : Seated). x.region) none.same ∙ of.region;
     }
 
 pub still_idle : (s t : Seated) (cell : ℕ) → LinksNone s t → IsIdle s.known.local cell → IsIdle t.known.local cell
@@ -205,6 +206,7 @@ linked_of r cell ticket s t at of =
       table = ap (λ (x : Seated). x.table) at.same ∙ of.table;
       caller = subst (λ n. n < r.callers) (sym number) of.caller;
       before = ap (λ (x : Seated). x.before) at.same ∙ of.before ∙ ap (λ n. slot_number n r.base.words) (sym number);
+      region = ap (λ (x : Seated). x.region) at.same ∙ of.region;
     }
 
 pub linked_number : (cell ticket : ℕ) (s t : Seated) → LinksAt cell ticket s t → t.known.local.number ≡ s.known.local.number

@@ -23,7 +23,7 @@ put_next (w ∷ ws) (o ∷ os) (suc n) below same = ap (λ xs. w ∷ xs) (put_ne
 
 -- a seat whose caller's cells and steps are these, and which has nothing fresh
 abbrev pub wrote : Seated → List Cell → ℕ → List Noted → Seated
-wrote s cells steps noted = record { table = s.table; before = s.before; known = record { local = record s.known.local { cells = cells; fresh = false; steps = steps }; noted = noted } }
+wrote s cells steps noted = record s { known = record s.known { local = record s.known.local { cells = cells; fresh = false; steps = steps }; noted = noted } }
 
 -- the cell after the first words
 abbrev pub cell_with : Local → ℕ → List ℕ → ℕ → Cell
@@ -115,7 +115,7 @@ module _ (instance : Instance) (s : Seated) (j : ℕ) (ws : List ℕ) (cells : H
   pub still_of : {O : Type 0} (r : Running O) (n : ℕ) (now : Seated) → n < 145 → now ≡ written_to instance j ws (n + 1) s → IsSeatOf r s → IsSeatOf r now
   still_of r n now below is of =
       let e = is ∙ ap (λ k. written_to instance j ws k s) (add-one n) ∙ wrote_some instance s j ws there words_long n (omega (arith, long)) in
-      subst (IsSeatOf r) (sym e) (record { table = of.table; caller = of.caller; before = of.before })
+      subst (IsSeatOf r) (sym e) (record { table = of.table; caller = of.caller; before = of.before; region = of.region })
 
   -- the cell is idle after the first word
   pub still_idle : (n : ℕ) (now : Seated) → n < 145 → now ≡ written_to instance j ws (n + 1) s → IsIdle now.known.local j
@@ -142,7 +142,7 @@ module _ (instance : Instance) (s : Seated) (j : ℕ) (ws : List ℕ) (cells : H
 -- a seat as it was but for its cells, its steps and what is fresh
 of_wrote : {O : Type 0} (r : Running O) (s t : Seated) (cells : List Cell) (steps : ℕ) → t ≡ wrote s cells steps s.known.noted → IsSeatOf r s → IsSeatOf r t × (t.known.local.number ≡ s.known.local.number)
 of_wrote r s t cells steps is of =
-    (subst (IsSeatOf r) (sym is) (record { table = of.table; caller = of.caller; before = of.before }), ap (λ (x : Seated). x.known.local.number) is)
+    (subst (IsSeatOf r) (sym is) (record { table = of.table; caller = of.caller; before = of.before; region = of.region }), ap (λ (x : Seated). x.known.local.number) is)
 
 -- an announced entry may be linked, and the seat is still its caller's
 pub announced_ready : {O : Type 0} (r : Running O) (instance : Instance) (j : ℕ) (op : List ℕ) (s t : Seated) → Announces instance j (next_number r.base s.known.local ∷ op) s t → IsSeatOf r s →

@@ -20,10 +20,8 @@ steps_after (suc n) steps = one_more (steps_after n steps)
 
 -- the seat after the first words of an entry were read, one step each: they are noted, and nothing else changes
 abbrev pub with_read : ℕ → ℕ → List ℕ → Seated → Seated
-with_read caller ticket words s = record {
-  table = s.table;
-  before = s.before;
-  known = record {
+with_read caller ticket words s = record s {
+  known = record s.known {
     local = record s.known.local { steps = steps_after (length words) s.known.local.steps };
     noted = s.known.noted ++ notes_of caller ticket 0 words;
   };
@@ -31,11 +29,7 @@ with_read caller ticket words s = record {
 
 -- the seat after one look at a slot, where the front is not raised
 abbrev pub with_look : Option SeenSlot → Seated → Seated
-with_look seen s = record {
-  table = s.table;
-  before = s.before;
-  known = record { local = record s.known.local { seen_slot = seen; steps = one_more s.known.local.steps }; noted = s.known.noted };
-}
+with_look seen s = record s { known = record s.known { local = record s.known.local { seen_slot = seen; steps = one_more s.known.local.steps } } }
 
 -- the limit is come to by so many further steps; 2^64 - 1 is no limit
 abbrev pub EndsAfter : ℕ → Local → Type 0

@@ -8,11 +8,11 @@ use Rattle.mutation_queue.specs.declared.linking.LinkTried.TheVariants.{Again, L
 
 -- a seat but for its front, the slot last looked at and its steps
 abbrev pub but_front : Seated → Seated
-but_front s = record { table = s.table; before = s.before; known = record { local = record s.known.local { front = 0; seen_slot = None; steps = 0 }; noted = s.known.noted } }
+but_front s = record s { known = record s.known { local = record s.known.local { front = 0; seen_slot = None; steps = 0 } } }
 
 -- a seat but for these, its linked entries and its cells
 abbrev pub but_linked : Seated → Seated
-but_linked s = record { table = s.table; before = s.before; known = record { local = record s.known.local { front = 0; seen_slot = None; steps = 0; own = []; cells = [] }; noted = s.known.noted } }
+but_linked s = record s { known = record s.known { local = record s.known.local { front = 0; seen_slot = None; steps = 0; own = []; cells = [] } } }
 
 -- nothing was linked: only the front rose, and steps were made
 pub record LinksNone (before after : Seated) : Type 0 where

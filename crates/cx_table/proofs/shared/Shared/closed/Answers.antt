@@ -1,4 +1,4 @@
-use Rattle.std.proofs.Common.{◌≡◌, ◌+◌, ◌*◌, ◌∷◌, ◌++◌, ℕ, List, [], length, replicate, false, All, add-zero, sym, refl, ap, subst, ◌∙◌, arith}
+use Rattle.std.proofs.Common.{◌≡◌, ◌+◌, ◌*◌, ◌∷◌, ◌++◌, ℕ, List, [], length, add-zero, sym, refl, ap, subst, ◌∙◌, arith}
 use Rattle.std.specs.Slots.{slots_len}
 use mathlib.Core.Option.{some}
 use lib.ListN.{get_elem?}
@@ -8,8 +8,6 @@ use Rattle.cx_core.specs.State.{Instance}
 use Rattle.cx_core.specs.Merge.{history_of}
 use Rattle.cx_rule.specs.Ending.{locals_known}
 use Rattle.cx_rule.specs.Rule.{RuleHolds}
-use Rattle.cx_core.specs.Free.{HoldsNone}
-use Rattle.cx_rule.specs.declared.rule.Known.{Known}
 use Rattle.cx_rule.specs.Running.{instance_at}
 use Rattle.cx_table.proofs.Closing.{leaves, same_part}
 use Rattle.cx_rule.proofs.Keeps.{key_instance}
@@ -40,7 +38,7 @@ per_start : (n c m d : ℕ) → c ≡ d → n ≡ m → 4 + 10563 * c + n * (2 *
 per_start n c m d e f = ap (λ k. 4 + 10563 * k + n * (2 * k)) e ∙ ap (λ k. 4 + 10563 * d + k * (2 * d)) f ∙ no_row (4 + 10563 * d + m * (2 * d)) m
 
 pub returns : goal.returns
-returns g c = λ seats are knows.
+returns g c = λ seats are knows marked.
     let inside = c.self.inside in
     let t = c.args.self in
     let view = c.self.view_is in
@@ -59,7 +57,7 @@ returns g c = λ seats are knows.
     let from : c.replicas_at-from.result ≡ vol_at t.callers (length t.base.words) 0 0 = at ∙ ap (λ k. 4 + 10563 * k) callers ∙ no_row (4 + 10563 * t.callers) (length t.base.words) in
     let half : c.replicas_at-from.result + count ≡ vol_at t.callers (length t.base.words) (2 * t.callers) 0 = ap (λ n. n + count) at ∙ vol_end _ _ _ _ callers region in
     let code = c.word.result in
-    leaves t instance seats _ end.0 c.args.closing.id refl refl are (subst (λ (ks : List Known). All (λ (k : Known). HoldsNone k.local) ks) me c.requires.holds) held (end.1.1 ∙ ap some me) (record {
+    leaves t instance seats _ end.0 c.args.closing.id refl refl are held (end.1.1 ∙ ap some me) (record {
       callers = callers;
       lines = ap (λ s. s.lines) view;
       first = ap (λ s. s.base.place) view;
@@ -73,5 +71,5 @@ returns g c = λ seats are knows.
       history = ap (λ b. history_of b.place (locals_known c.of-end.result.value.me.0)) (c.of.ensures ∙ ap (λ s. s.base) view) ∙ ap (history_of t.base.place) (ap (λ s. locals_known s.me.0) c.of-end.ensures ∙ ap locals_known me);
       volatile = c.copy_words.ensures ∙ same_part end.0.words c.close_with-closed.result.words.items _ _ _ _ end.2 from half;
       durable = c.copy_words-2.ensures ∙ same_part end.0.words c.close_with-closed.result.words.items _ _ _ _ end.2 (ap (λ n. n + count) at ∙ per_start _ _ _ _ callers region) (ap (λ n. n + count + count) at ∙ per_end _ _ _ _ callers region);
-      dirty = c.requires.dirty ∙ ap (λ n. replicate (n * (2 * t.callers)) false) (sym lines);
+      dirty = marked;
     })

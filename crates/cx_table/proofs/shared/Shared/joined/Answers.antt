@@ -1,10 +1,9 @@
-use Rattle.std.proofs.Common.{◌≡◌, ◌∷◌, ◌++◌, [], ℕ, List, Some, length, All, sym, refl, ap, subst, ◌∙◌, arith, append_assoc}
+use Rattle.std.proofs.Common.{◌≡◌, ◌∷◌, ◌++◌, [], ℕ, List, Some, length, sym, refl, ap, ◌∙◌, arith, append_assoc}
 use Rattle.std.proofs.lemmas.List.{map-append, append-nil}
-use Rattle.std.proofs.lemmas.List.Elements.{All-cons, All-pop, All-weaker}
+use Rattle.std.proofs.lemmas.List.Elements.{All-pop, All-weaker}
 use Rattle.atomic_table.specs.Table.{Me}
 use Rattle.cx_rule.specs.declared.rule.Known.{Known}
 use Rattle.cx_table.specs.Remains.{known_by}
-use Rattle.cx_core.specs.Free.{HoldsNone}
 use Rattle.cx_rule.specs.Running.{IsSeatOf}
 use Rattle.cx_rule.specs.Seats.{Seated}
 use Rattle.cx_rule.proofs.Moves.{enters}
@@ -23,7 +22,6 @@ loop-seat-init g c =
       of = All-weaker (IsSeatOf c.args.self.now) (λ (s : Seated). s.table ≡ c.args.self.now.table) (λ s is. is.table) c.args.seats.items c.requires.of;
       whole = ap (λ m. known_by c.args.seats.items ++ m.0) me.2 ∙ append-nil (known_by c.args.seats.items);
       none = me.1;
-      holds = subst (λ (ks : List Known). All (λ (k : Known). HoldsNone k.local) ks) (sym (ap (λ m. m.0) me.2)) (λ i d below. absurd (omega arith));
     }
 
 pub take_in-requires-clause-seat : goal.take_in-requires-clause-seat
@@ -42,8 +40,6 @@ loop-seat-preserved g c =
           ∙ ap (λ (ks : List Known). ks ++ c.loop-seat.closing.me.0) (sym (map-append (λ (s : Seated). s.known) left (seat ∷ [])) ∙ ap known_by (sym c.in-Some.ensures.items))
           ∙ c.loop-seat.invariant.whole;
       none = ap (λ m. m.1) me;
-      holds = subst (λ (ks : List Known). All (λ (k : Known). HoldsNone k.local) ks) (sym (ap (λ m. m.0) me))
-          (All-cons (λ (k : Known). HoldsNone k.local) seat.known c.loop-seat.closing.me.0 c.take_in.ensures.holds c.loop-seat.invariant.holds);
     }
 
 nothing : {A : Type 0} (xs : List A) → length xs ≡ 0 → xs ≡ []
@@ -59,5 +55,4 @@ pub returns : goal.returns
 returns g c = record {
   table = c.loop-seat.invariant.table;
   me = known c.loop-seat.closing.me c.loop-seat.seats.items (known_by c.args.seats.items) (nothing c.loop-seat.seats.items (sym c.loop-seat.seats.ok.0 ∙ c.in_default.ensures.cases.0)) c.loop-seat.invariant.whole c.loop-seat.invariant.none;
-  holds = c.loop-seat.invariant.holds;
 }

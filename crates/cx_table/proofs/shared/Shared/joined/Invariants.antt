@@ -1,5 +1,4 @@
 use Rattle.std.proofs.Common.{◌≡◌, ◌++◌, [], All}
-use Rattle.cx_core.specs.Free.{HoldsNone}
 use Rattle.cx_table.specs.Remains.{known_by}
 use Rattle.cx_table.proofs.shared.Shared.joined.Given as goal
 
@@ -10,7 +9,6 @@ invariant-loop-seat g l = record {
   of : All (λ s. s.table ≡ l.self.table) l.seats.items;
   whole : known_by l.seats.items ++ l.closing.me.0 ≡ known_by l.fn.seats.items;
   none : l.closing.me.1 ≡ [];
-  holds : All (λ k. HoldsNone k.local) l.closing.me.0;
 }
 
 abbrev pub decreases-loop-seat : goal.decreases-loop-seat

@@ -1,23 +1,22 @@
-use Rattle.std.proofs.Common.{◌≡◌, ◌+◌, ◌<◌, ℕ, [], List, slice_index, drop, sym, ap, ◌∙◌, arith}
+use Rattle.std.proofs.Common.{◌≡◌, ◌+◌, ◌<◌, ℕ, [], List, length, slice_index, drop, sym, ap, ◌∙◌, arith}
 use Rattle.atomic_table.specs.Seated.{TableId}
 use Rattle.cx_core.specs.Region.{slot_number}
 use Rattle.cx_core.specs.State.{opening_local}
 use Rattle.cx_rule.specs.declared.rule.Known.{Known}
+use Rattle.std.proofs.lemmas.List.{length-replicate}
+use Rattle.cx_table.specs.Copies.{Copied}
 use Rattle.cx_table.specs.Mirrors.{mirror_of}
 use Rattle.cx_rule.specs.Seats.{Seated, opening_known, opening_view}
 use Rattle.cx_rule.proofs.Moves.{cut_rests, one_caller, splits}
-use Rattle.cx_table.proofs.OpeningSeats.{opening_mirrored}
+use Rattle.cx_table.proofs.OpeningSeats.{opening_copied, opening_mirrored}
 use Rattle.cx_table.proofs.shared.Shared.next_seat.Goals as goal
 
 -- two seats that contracts see the same of
 abbrev Same : Seated → Seated → Type 0
 Same a b = a ≡ b
 
-seated_at : (t u : TableId) (a b : ℕ) (k l : Known) → t ≡ u → a ≡ b → k ≡ l → Same (record { table = t; before = a; known = k }) (record { table = u; before = b; known = l })
-seated_at t u a b k l table before known =
-    ap (λ x. record { table = x; before = a; known = k }) table
-    ∙ ap (λ x. record { table = u; before = x; known = k }) before
-    ∙ ap (λ x. record { table = u; before = b; known = x }) known
+seated_at : (t u : TableId) (a b m n : ℕ) (k l : Known) → t ≡ u → a ≡ b → m ≡ n → k ≡ l → Same (record { table = t; before = a; region = m; known = k }) (record { table = u; before = b; region = n; known = l })
+seated_at t u a b m n k l table before region known i = record { table = table i; before = before i; region = region i; known = known i }
 
 pub split_seat-seat-requires : goal.split_seat-seat-requires
 split_seat-seat-requires g c = (
@@ -38,11 +37,14 @@ invariant_of-result g c =
     let eight : n < 8 = omega (arith, running.few, c.requires.caller, ap (λ s. s.callers) view) in
     let at = c.slot_start.result in
     let before : slice_index c.as_slice.result.now at ≡ slot_number n c.self.inside.base.words = ap (λ ws. slice_index ws at) c.as_slice.ensures ∙ ap (slice_index c.self.inside.base.words) c.slot_start.ensures in
-    opening_mirrored c.split_seat-seat.result.me c.opening_mirror-mirror.result (slice_index c.as_slice.result.now at) callers place n limits
-    (c.split_seat-seat.ensures.4 ∙ ap (λ (v : List Known). (v, [])) r.1)
-    (c.opening_mirror-mirror.ensures ∙ ap (λ s. mirror_of (record (opening_local s.callers s.base.place n) { limit = slice_index limits n })) view)
-    (omega (arith, ap (λ s. s.base.place) view, running.base.place_within))
-    (omega (arith, before, running.base.numbers n eight, running.base.place_within))
+    let me = c.split_seat-seat.ensures.4 ∙ ap (λ (v : List Known). (v, [])) r.1 in (
+      opening_mirrored c.split_seat-seat.result.me c.opening_mirror-mirror.result (slice_index c.as_slice.result.now at) callers place n limits
+          me
+          (c.opening_mirror-mirror.ensures ∙ ap (λ s. mirror_of (record (opening_local s.callers s.base.place n) { limit = slice_index limits n })) view)
+          (omega (arith, ap (λ s. s.base.place) view, running.base.place_within))
+          (omega (arith, before, running.base.numbers n eight, running.base.place_within)),
+      opening_copied c.split_seat-seat.result.me c.args.copy callers place n (length c.args.self.now.base.words) limits me c.requires.copy,
+    )
 
 pub returns-clause-me : goal.returns-clause-me
 returns-clause-me g c =
@@ -63,4 +65,5 @@ returns-clause-seat g c =
     let table = c.split_seat-seat.ensures.3 ∙ c.requires.table in
     let at = c.slot_start.result in
     let before = ap (λ ws. slice_index ws at) (c.as_slice.ensures ∙ ap (λ s. s.base.words) c.self.view_is) ∙ ap (slice_index c.args.self.now.base.words) c.slot_start.ensures in
-    seated_at (c.split_seat-seat.result.table_id) c.args.self.now.table _ _ _ _ table before one.1
+    let region = ap (λ (x : Copied). length x.words) c.requires.copy ∙ length-replicate (length c.args.self.now.base.words) 0 in
+    seated_at (c.split_seat-seat.result.table_id) c.args.self.now.table _ _ _ _ _ _ table before region one.1

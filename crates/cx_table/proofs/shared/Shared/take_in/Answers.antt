@@ -6,7 +6,7 @@ pub join_seat-requires : goal.join_seat-requires
 join_seat-requires g c = (
   c.requires.closing.0 ∙ sym (ap (λ s. s.table) c.self.view_is),
   ap (λ s. s.table) c.seat.view_is ∙ c.requires.seat ∙ sym (ap (λ s. s.table) c.self.view_is),
-  ap (λ m. m.1) c.seat.invariant.one,
+  ap (λ m. m.1) c.seat.invariant.0.one,
   omega (arith, c.self.invariant.0.words),
   λ s h me apart there. joins _ s _ c.args.closing.now.me.0 _ _ h me apart there,
 )
