@@ -131,12 +131,19 @@ fn answer_below<O: Object>(
     let Some(own) = unanswered(local) else {
         return Ok(None);
     };
-    if own.ticket >= place {
+    if !is_below(own.ticket, place) {
         return Ok(None);
     }
     let ticket = own.ticket;
     let reply = reply_after(alloc, object, base, locals, ticket, &own.entry.op)?;
     Ok(Some(Answer { ticket, reply }))
+}
+
+/// Whether a raise to a place answers the entry at a ticket.
+fn is_below(ticket: u64, place: u64) -> bool
+    ensures { IsTrue result ↔ (ticket < place) }
+{
+    place > ticket
 }
 
 /// The first entry of a caller that is not answered.

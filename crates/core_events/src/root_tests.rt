@@ -262,7 +262,6 @@ fn each_guard_on_the_root(rt: HostRuntime) -> Result<(), Fail> {
         (0, Kind::LoadCur, true),
         (0, Kind::Publish, false),
         // nothing downgraded
-        (1, Kind::Publish, false),
         (0, Kind::BackOff { r: 1 }, true),
         (0, Kind::Publish, false),
     ];
@@ -292,7 +291,7 @@ fn one_win_at_a_time(rt: HostRuntime) -> Result<(), Fail> {
     assert!(rt; ready);
     let rows = [
         (0, Kind::Publish, false),
-        // CUR's code was found by nobody else, and DUR past its own is not its own raise
+        // its own raise is to come, and that of caller 1 does not serve
         (0, Kind::Retire, false),
         (1, Kind::LoadCur, true),
         (1, raises(5), true),
