@@ -10,15 +10,15 @@ use Rattle.cx_core.specs.Lawful.{Lawful}
 use Rattle.cx_core.specs.LawfulRegions.{vol_word}
 use Rattle.cx_core.specs.Layout.{replica_words}
 use Rattle.cx_core.specs.Shown.{shown}
-use Rattle.cx_core.specs.State.{EachLocal, Instance, State}
+use Rattle.cx_core.specs.State.{Instance, State}
 use Rattle.core_runs.proofs.ImageLaws.{image_shared}
 use Rattle.cx_core.proofs.Claims.{shared_below}
 use Rattle.cx_core.proofs.ReplicaWords.{replica_at}
 use Rattle.cx_rule.specs.declared.rule.Known.{Known}
 use Rattle.cx_rule.specs.Fitting.{loads_of}
-use Rattle.cx_rule.specs.Rule.{HasWords64, IsBehindNotes, IsTraced}
+use Rattle.cx_rule.specs.Rule.{IsBehindNotes, IsTraced}
 use Rattle.cx_rule.proofs.Traced.{image_origin}
-use Rattle.cx_rule.proofs.Words64.{entries_from}
+use Rattle.cx_rule.proofs.Entries.{entries_from}
 
 -- words that were loaded and are there
 loads_lead : (region : ℕ) (word : ℕ → ℕ) (words : List ℕ) (loaded : List (ℕ × ℕ)) → ((i : ℕ) → i < region → slice_index words i ≡ word i) → All (λ (x : ℕ × ℕ). (x.0 < region) × (word x.0 ≡ x.1)) loaded → NotesLead (loads_of loaded) words words
@@ -28,14 +28,14 @@ loads_lead region word words (x ∷ xs) at all =
     let here = All-head P x xs all in
     (at x.0 here.0 ∙ here.1, loads_lead region word words xs at (All-tail P x xs all))
 
-pub behind_notes : (instance : Instance) (s : State) (law : Lawful instance s) → EachLocal s.locals (λ _ l. HasWords64 l) → 0 < length instance.base.words → (caller : ℕ) (l : Local) → slice_get s.locals caller ≡ Some l →
+pub behind_notes : (instance : Instance) (s : State) (law : Lawful instance s) → 0 < length instance.base.words → (caller : ℕ) (l : Local) → slice_get s.locals caller ≡ Some l →
     (k : Known) → k.local ≡ shown l → IsTraced instance law.history k.accesses l → IsBehindNotes instance k
-behind_notes instance s law fit some caller l at k shows traced =
+behind_notes instance s law some caller l at k shows traced =
     let region = length instance.base.words in
     record {
       history = law.history;
       small = law.tickets.below;
-      entries = entries_from instance s law fit;
+      entries = entries_from instance s law;
       first = traced.first;
       now = traced.now;
       origin = traced.origin;

@@ -20,19 +20,19 @@ use Rattle.cx_core.specs.Region.{place_of}
 use Rattle.cx_core.specs.RegionEvents.{CanLoad, ShowsOutdated}
 use Rattle.cx_core.specs.Rights.{exclusive_on, held_dirty, held_words, is_at, shared_on}
 use Rattle.cx_core.specs.Shown.{shown}
-use Rattle.cx_core.specs.State.{EachLocal, Instance, State, one_more}
+use Rattle.cx_core.specs.State.{Instance, State, one_more}
 use Rattle.cx_core.proofs.HistoryLemmas.{ObjectLaws}
 use Rattle.cx_core.proofs.MergeLemmas.{history_is}
 use Rattle.cx_core.proofs.HeldLists.{at_true, mapped}
 use Rattle.cx_rule.specs.declared.rule.Known.{Known}
 use Rattle.cx_rule.specs.Fitting.{Fits, IsReplayed, IsReplayedToPlace, ReplayedTo, TellsWord}
 use Rattle.cx_rule.specs.Learns.{LearnsBy}
-use Rattle.cx_rule.specs.Rule.{HasWords64, IsTraced, NotesHold, RuleHolds}
+use Rattle.cx_rule.specs.Rule.{IsTraced, NotesHold, RuleHolds}
 use Rattle.cx_rule.specs.Steps.{IsBlind, IsLearned, Teaches}
 use Rattle.cx_rule.specs.Seats.{is_outdated, kind_found, known_after, known_local, known_of, marked_load, place_noted, unseen}
 use Rattle.cx_rule.proofs.Fitting.{chain_full, traced_fits}
 use Rattle.cx_rule.proofs.Keeps.{allows, blind_teaches, learns_of}
-use Rattle.cx_rule.proofs.Words64.{entries_from}
+use Rattle.cx_rule.proofs.Entries.{entries_from}
 
 abbrev blank : HeldExclusive → HeldExclusive
 blank h = record h { words = [] }
@@ -60,7 +60,7 @@ clean_on callers r known l shows clean =
 pub learns_persist : (instance : Instance) (r i : ℕ) (known : Known) (word new : ℕ) → Guard instance unseen (Persist r i) known.local → word ≡ step_word instance (Persist r i) known.local →
     TellsWord (length instance.base.words) known.accesses i new → LearnsBy instance (λ _. Persist r i) known word (λ _. new)
 learns_persist instance r i known word new may at tells words _ =
-    learns_of instance (Persist r i) known words word new tt at (λ locals law l of_caller shows noted traced fit. (
+    learns_of instance (Persist r i) known words word new tt at (λ locals law l of_caller shows noted traced. (
     let on = held_on known l shows in
     let held = mapped (λ (h : HeldExclusive). h.replica) l.exclusive r (on ∙ may.0.2) in
     record {
@@ -84,29 +84,29 @@ full_now {instance = instance} s law l h has full =
 
 module _ (lines : ℕ) (lawful : List ℕ → Type 0) (instance : Instance) (laws : ObjectLaws lines lawful instance.step) (base : LawfulBase lines lawful instance.base) where
   -- where noted entries lead to whatever fits, they lead to the words of the replica that is held
-  held_full : (words : List ℕ) (locals : List Local) (law : Lawful instance (record { words = words; locals = locals })) (fit : EachLocal locals (λ _ x. HasWords64 x)) (known : Known) (l : Local) (h : HeldExclusive) →
+  held_full : (words : List ℕ) (locals : List Local) (law : Lawful instance (record { words = words; locals = locals })) (known : Known) (l : Local) (h : HeldExclusive) →
       l.exclusive ≡ Some h → NotesHold instance law.history known.noted → (traced : IsTraced instance law.history known.accesses l) → (place : ℕ) → ReplayedTo instance.step known.noted traced.first place traced.now →
       IsFull instance law.history h.words × (place_of h.words ≡ place)
-  held_full words locals law fit known l h has noted traced place chain =
-      let entries = entries_from instance (record { words = words; locals = locals }) law fit in
+  held_full words locals law known l h has noted traced place chain =
+      let entries = entries_from instance (record { words = words; locals = locals }) law in
       let full = chain_full lines lawful instance laws base law.history law.tickets.below entries known.noted noted traced.first traced.origin place traced.now chain in
       subst (λ ws. IsFull instance law.history ws × (place_of ws ≡ place)) (traced.held h has) full
 
   -- what is traced fits
-  fits_there : (words : List ℕ) (locals : List Local) (law : Lawful instance (record { words = words; locals = locals })) → EachLocal locals (λ _ x. HasWords64 x) → (known : Known) (l : Local) (traced : IsTraced instance law.history known.accesses l) →
+  fits_there : (words : List ℕ) (locals : List Local) (law : Lawful instance (record { words = words; locals = locals })) → (known : Known) (l : Local) (traced : IsTraced instance law.history known.accesses l) →
       Fits lines lawful instance.base known.accesses traced.first traced.now
-  fits_there words locals law fit known l traced =
-      traced_fits lines lawful instance laws base law.history law.tickets.below (entries_from instance (record { words = words; locals = locals }) law fit) known.accesses traced.first traced.now traced.origin traced.leads
+  fits_there words locals law known l traced =
+      traced_fits lines lawful instance laws base law.history law.tickets.below (entries_from instance (record { words = words; locals = locals }) law) known.accesses traced.first traced.now traced.origin traced.leads
 
   -- an exclusive right is given up on a full image
   pub learns_release : (r : ℕ) (known : Known) (word : ℕ) → IsClean instance.callers r known.local → word ≡ step_word instance (ReleaseExclusive r) known.local → IsReplayed lines lawful instance.base instance.step known →
       LearnsBy instance (λ _. ReleaseExclusive r) known word (λ x. new_word instance (ReleaseExclusive r) known.local x)
   learns_release r known word clean at replayed words _ =
-      learns_of instance (ReleaseExclusive r) known words word _ tt at (λ locals law l of_caller shows noted traced fit. (
+      learns_of instance (ReleaseExclusive r) known words word _ tt at (λ locals law l of_caller shows noted traced. (
       let state : State = record { words = words; locals = locals } in
       let held = mapped (λ (h : HeldExclusive). h.replica) l.exclusive r (held_on known l shows ∙ clean.1) in
-      let chain = replayed traced.first traced.now (fits_there words locals law fit known l traced) in
-      let full = held_full words locals law fit known l held.0 held.1 noted traced chain.0 chain.1 in
+      let chain = replayed traced.first traced.now (fits_there words locals law known l traced) in
+      let full = held_full words locals law known l held.0 held.1 noted traced chain.0 chain.1 in
       record {
         guard = (clean_on instance.callers r known l shows clean, full_now state law l held.0 held.1 full.0);
         new_is = refl;
@@ -117,12 +117,12 @@ module _ (lines : ℕ) (lawful : List ℕ → Type 0) (instance : Instance) (law
   pub learns_downgrade : (r : ℕ) (known : Known) (word : ℕ) → IsClean instance.callers r known.local → word ≡ step_word instance (Downgrade r) known.local → IsReplayedToPlace lines lawful instance.base instance.step known →
       LearnsBy instance (λ _. Downgrade r) known word (λ x. new_word instance (Downgrade r) known.local x)
   learns_downgrade r known word clean at replayed words _ =
-      learns_of instance (Downgrade r) known words word _ tt at (λ locals law l of_caller shows noted traced fit. (
+      learns_of instance (Downgrade r) known words word _ tt at (λ locals law l of_caller shows noted traced. (
       let state : State = record { words = words; locals = locals } in
       let held = mapped (λ (h : HeldExclusive). h.replica) l.exclusive r (held_on known l shows ∙ clean.1) in
       let place = place_noted 0 known.accesses in
-      let chain = replayed traced.first traced.now (fits_there words locals law fit known l traced) in
-      let full = held_full words locals law fit known l held.0 held.1 noted traced place chain in
+      let chain = replayed traced.first traced.now (fits_there words locals law known l traced) in
+      let full = held_full words locals law known l held.0 held.1 noted traced place chain in
       let is : place_of (held_words l.exclusive) ≡ place = ap (λ o. place_of (held_words o)) held.1 ∙ full.1 in
       record {
         guard = (clean_on instance.callers r known l shows clean, full_now state law l held.0 held.1 full.0);
@@ -159,7 +159,7 @@ learns_load instance r i mark known word can at words _ =
     let found = slice_index words word in
     let refused = mark && is_outdated instance r i known.local found in
     let kind : Kind = LoadWord r i refused in
-    learns_of instance kind known words word found tt at (λ locals law l of_caller shows noted traced fit. (
+    learns_of instance kind known words word found tt at (λ locals law l of_caller shows noted traced. (
     record {
       guard = (
         can_on instance.callers (length instance.base.words) r i known l shows can,

@@ -14,15 +14,14 @@ use Rattle.cx_core.specs.Events.{Guard, found_by, local_after, new_word, next, s
 use Rattle.cx_core.specs.Lawful.{Lawful, LocalShape, OwnTickets}
 use Rattle.cx_core.specs.Merge.{scene_of}
 use Rattle.cx_core.specs.Shown.{shown}
-use Rattle.cx_core.specs.State.{EachLocal, Instance, Scene, State}
+use Rattle.cx_core.specs.State.{Instance, Scene, State}
 use Rattle.cx_core.proofs.ListLemmas.{slice_get-set_same, slice_get-set_other}
 use Rattle.cx_core.proofs.MergeLemmas.{goes_on, still_linked}
 use Rattle.cx_rule.specs.declared.rule.Known.{Known}
 use Rattle.cx_rule.specs.Learns.{LearnsAnyway, LearnsBy}
-use Rattle.cx_rule.specs.Rule.{RuleHolds, HasWords64, IsBehindNotes, IsKnown, IsLawfulLocal, IsTraced, NotesHold, StandStill}
+use Rattle.cx_rule.specs.Rule.{RuleHolds, IsBehindNotes, IsKnown, IsLawfulLocal, IsTraced, NotesHold, StandStill}
 use Rattle.cx_rule.specs.Running.{Running, instance_at}
 use Rattle.cx_rule.specs.Seats.{IsByShown, WordFits, accesses_after, known_after, known_local, known_of, noted_by, unseen}
-use Rattle.cx_core.proofs.Locals.{EachLocal-set}
 use Rattle.core_runs.proofs.Keeps.{kind_kept}
 use Rattle.cx_rule.proofs.ShownLaws.{guard_shown, known_shown, lawful_shown, put_shown, told_shown, word_shown}
 use Rattle.cx_rule.proofs.Notes.{noted_hold, notes-append, notes_still}
@@ -32,7 +31,6 @@ use Rattle.cx_rule.proofs.Telling.{told_holds}
 use Rattle.cx_rule.proofs.Still.{still_stands}
 use Rattle.cx_rule.proofs.Behind.{behind_notes}
 use Rattle.cx_rule.proofs.Traced.{traced_longer, traced_next}
-use Rattle.cx_rule.proofs.Words64.{fit_next}
 
 -- an event is allowed, puts that word, and its caller's seat then shows the local state after it
 pub record Sees (instance : Instance) (scene : Scene) (kind : Kind) (known : Known) (l : Local) (new found : ℕ) : Type 0 where
@@ -54,7 +52,7 @@ event_held instance kind s id known after word new held at learns =
     let caller = known.local.number in
     let state : State = record { words = s.words; locals = held.locals } in
     let law = held.law in
-    let learnt = learns held.locals law l mine.of_caller mine.shows mine.notes mine.traced held.still held.some held.fit in
+    let learnt = learns held.locals law l mine.of_caller mine.shows mine.notes mine.traced held.still held.some in
     let l' = local_after instance (scene_of instance state) kind l in
     let locals' = set held.locals caller l' in
     let put : words_after instance kind l s.words ≡ set s.words word new =
@@ -97,25 +95,22 @@ event_held instance kind s id known after word new held at learns =
           }))
           (at_set s.views id seat (after ∷ []) view view_at);
       still = subst (StandStill instance) put (still_stands instance (scene_of instance state) kind l s.words law.shape.some small learnt.guard learnt.fits held.still);
-      fit = EachLocal-set held.locals caller l l' (λ _ x. HasWords64 x) mine.of_caller held.fit
-          (fit_next instance (scene_of instance state) kind l (found_by instance kind l s.words) (subst (λ (n : ℕ). LocalShape n l) (sym (law.shape.each caller l mine.of_caller).number) (law.shape.each caller l mine.of_caller)) learnt.guard learnt.fits
-          (held.fit caller l mine.of_caller));
       some = held.some;
     }
 
 -- an event whose guard and whose word put are known teaches its seat so
 pub learns_of : (instance : Instance) (kind : Kind) (known : Known) (words : List ℕ) (word new : ℕ) → WordFits kind → word ≡ step_word instance kind known.local →
     ((locals : List Local) (law : Lawful instance (record { words = words; locals = locals })) (l : Local) → slice_get locals known.local.number ≡ Some l → known.local ≡ shown l → NotesHold instance law.history known.noted →
-    IsTraced instance law.history known.accesses l → EachLocal locals (λ _ x. HasWords64 x) → Sees instance (scene_of instance (record { words = words; locals = locals })) kind known l new (slice_index words word)) →
+    IsTraced instance law.history known.accesses l → Sees instance (scene_of instance (record { words = words; locals = locals })) kind known l new (slice_index words word)) →
     LearnsAnyway instance words kind known word new (known_after instance kind known (slice_index words word))
-learns_of instance kind known words word new fits at sees locals law l of_caller shows noted traced still full fit =
+learns_of instance kind known words word new fits at sees locals law l of_caller shows noted traced still full =
     let state : State = record { words = words; locals = locals } in
     let scene = scene_of instance state in
     let caller = known.local.number in
     let here : word ≡ step_word instance kind l = at ∙ ap (step_word instance kind) shows ∙ word_shown instance kind l in
     let found = slice_index words word in
     let same : found_by instance kind l words ≡ found = ap (slice_index words) (sym here) in
-    let seen = sees locals law l of_caller shows noted traced fit in
+    let seen = sees locals law l of_caller shows noted traced in
     record {
       guard = seen.guard;
       word_is = here;
@@ -132,7 +127,7 @@ learns_of instance kind known words word new fits at sees locals law l of_caller
 pub learns_shown : (instance : Instance) (kind : Kind) (known : Known) (words : List ℕ) (word new : ℕ) → IsByShown kind → WordFits kind → Guard instance unseen kind known.local → word ≡ step_word instance kind known.local →
     new ≡ new_word instance kind known.local (slice_index words word) → LearnsAnyway instance words kind known word new (known_after instance kind known (slice_index words word))
 learns_shown instance kind known words word new by fits may at puts =
-    learns_of instance kind known words word new fits at (λ locals law l of_caller shows noted traced fit. (
+    learns_of instance kind known words word new fits at (λ locals law l of_caller shows noted traced. (
     let scene = scene_of instance (record { words = words; locals = locals }) in
     let found = slice_index words word in
     record {
@@ -182,7 +177,7 @@ allows instance kinds known slots id word me f then one learn tells =
     let there : get_elem? (set s.views id (known' ∷ [])) id ≡ some (known' ∷ []) = set_here s.views id (known' ∷ []) (view_within s.views id (known ∷ []) view) in
     let mine' = after.each id 0 (known' ∷ []) known' there refl in
     let state : State = record { words = s.words; locals = held.locals } in
-    let learnt = learns held.locals held.law l mine.of_caller mine.shows mine.notes mine.traced held.still held.some held.fit in
+    let learnt = learns held.locals held.law l mine.of_caller mine.shows mine.notes mine.traced held.still held.some in
     let told = told_holds instance kind state held.law known.local.number l mine.of_caller learnt.guard held.still in
     let here : step_word instance kind l ≡ word = sym learnt.word_is in (
       known' ∷ [],
@@ -194,7 +189,7 @@ allows instance kinds known slots id word me f then one learn tells =
         lawful = subst (IsLawfulLocal instance) (sym mine.shows) (lawful_shown instance l (own_lawful instance s.words held.locals known.local.number l held.law mine.of_caller));
         lawful_after = subst (IsLawfulLocal instance) (sym mine'.shows) (lawful_shown instance mine'.local (own_lawful instance _ after.locals known'.local.number mine'.local after.law mine'.of_caller));
         told = subst (λ (x : Local). Told instance kind x found) (sym mine.shows) (told_shown instance kind l found (subst (λ (w : ℕ). Told instance kind l (slice_index s.words w)) here told));
-        behind = behind_notes instance _ after.law after.fit after.some known'.local.number mine'.local mine'.of_caller known' mine'.shows mine'.traced;
+        behind = behind_notes instance _ after.law after.some known'.local.number mine'.local mine'.of_caller known' mine'.shows mine'.traced;
       }),
     )))
 

@@ -2,7 +2,7 @@ pub mod ShownLaws
 pub mod Telling
 pub mod Notes
 pub mod Still
-pub mod Words64
+pub mod Entries
 pub mod Traced
 pub mod Behind
 pub mod Keeps

@@ -38,7 +38,6 @@ moved_held instance s views moved held came = record {
       let old = held.each c.from c.index c.view known c.at c.here in
       record { local = old.local; of_caller = old.of_caller; shows = old.shows; only = ap moved old.only ∙ c.now; notes = old.notes; traced = old.traced });
   still = held.still;
-  fit = held.fit;
   some = held.some;
 }
 

@@ -1,24 +1,22 @@
 -- The rule holds of the table as it is opened.
-use Rattle.std.proofs.Common.{◌≡◌, ◌≢◌, ◌^◌, ◌<◌, ◌≤◌, inl, inr, ℕ, zero, suc, List, [], ◌∷◌, length, map, replicate, set, slice_index, refl, ap, sym, subst, ◌∙◌, arith, Some}
+use Rattle.std.proofs.Common.{◌≡◌, ◌≢◌, ◌^◌, ◌<◌, ◌≤◌, inl, inr, ℕ, zero, suc, List, [], ◌∷◌, length, map, set, slice_index, refl, ap, sym, subst, ◌∙◌, arith, Some}
 use Rattle.std.proofs.lemmas.List.FromFn.{length-map-range_with_len, get_or-map-range_with_len}
 use Rattle.std.proofs.lemmas.Bool.{cases_eq}
-use Rattle.std.proofs.lemmas.List.Elements.{All-replicate}
-use Rattle.std.proofs.lemmas.Option.{slice_get_within, slice_get-get_or, get_or_from_slice_get, none-some, same_Some}
-use Rattle.std.specs.List.{All, range_with_len, slice_get}
+use Rattle.std.proofs.lemmas.Option.{slice_get_within, slice_get-get_or, get_or_from_slice_get, none-some}
+use Rattle.std.specs.List.{range_with_len, slice_get}
 use mathlib.Core.Option.{some, some-injective, some-ne-none}
 use lib.ListN.{get_elem?}
 use Rattle.atomic_table.specs.Table as atomic
 use Rattle.cx_core.specs.declared.entry.Entry.{Entry}
-use Rattle.cx_core.specs.declared.local.Cell.{Cell}
 use Rattle.cx_core.specs.declared.local.Local.{Local}
 use Rattle.cx_core.specs.History.{full_image}
 use Rattle.cx_core.specs.Lawful.{Lawful}
 use Rattle.cx_core.specs.Region.{place_of}
-use Rattle.cx_core.specs.State.{Instance, blank_cell, opening_local, opening_locals, opening_words}
+use Rattle.cx_core.specs.State.{Instance, opening_local, opening_locals, opening_words}
 use Rattle.cx_core.proofs.HistoryLemmas.{begins}
 use Rattle.cx_core.proofs.ListLemmas.{slice_get-set_same, slice_get-set_other}
 use Rattle.cx_rule.specs.declared.rule.Known.{Known}
-use Rattle.cx_rule.specs.Rule.{RuleHolds, HasWords64, IsKnown, IsOrigin}
+use Rattle.cx_rule.specs.Rule.{RuleHolds, IsKnown, IsOrigin}
 use Rattle.cx_rule.specs.Seats.{opening_known, opening_view}
 use Rattle.core_runs.proofs.Keeps.{lawful_local, opening_lawful}
 
@@ -91,18 +89,6 @@ base_origin instance history at = record {
   words = λ i below. ap (λ ws. slice_index ws i) (sym (begins instance.step instance.base history)) ∙ ap (λ p. slice_index (full_image instance.step instance.base history p) i) (sym at);
 }
 
--- no cell is written at the opening, and no entry linked
-opening_fit : (l : Local) → l.cells ≡ replicate 16 blank_cell → l.own ≡ [] → HasWords64 l
-opening_fit l cells own = record {
-  cells = λ j cell at. subst (λ (c : Cell). All (λ w. w < 2 ^ 64) c.words) (sym (replicated 16 blank_cell j cell (subst (λ cs. slice_get cs j ≡ Some cell) cells at))) (All-replicate (λ w. w < 2 ^ 64) 145 0 (omega arith));
-  ops = λ i x at. absurd (none-some x (subst (λ xs. slice_get xs i ≡ Some x) own at));
-}
-  where
-    replicated : {X : Type 0} (n : ℕ) (y : X) (i : ℕ) (x : X) → slice_get (replicate n y) i ≡ Some x → x ≡ y
-    replicated zero y i x at = absurd (none-some x at)
-    replicated (suc n) y zero x at = sym (same_Some y x at)
-    replicated (suc n) y (suc i) x at = replicated n y i x at
-
 -- the rule holds at the opening, where the first seat knows all callers
 pub opening_held : (instance : Instance) (limits : List ℕ) → 1 ≤ instance.callers → instance.callers ≤ 8 → instance.base.place ≤ 2 ^ 40 → place_of instance.base.words ≡ instance.base.place → 0 < length instance.base.words →
     RuleHolds instance (atomic.opening (opening_words instance.callers instance.base) [] (opening_view instance.callers instance.base.place limits))
@@ -127,8 +113,5 @@ opening_held instance limits one few place at_place full =
           } in
           subst (IsKnown instance all.law.history all.locals (λ c. (0, c)) seat i) (sym at.1) (subst (λ n. IsKnown instance all.law.history all.locals (λ c. (0, c)) n i (f i)) (sym first.0) here));
       still = λ at off. refl;
-      fit = λ c l at. (
-          let below : c < instance.callers = omega (arith, slice_get_within all.locals c l at, all.law.shape.count) in
-          subst HasWords64 (same_Some _ l (sym (all.done c below) ∙ at)) (opening_fit (f c).local refl refl));
       some = full;
     }

@@ -1,6 +1,6 @@
 -- The rule of the table, which holds between any two steps of any callers: there is a lawful state of the core whose words
 -- are the table's and whose local states are what the seats show.
-use Rattle.std.specs.Prelude.{◌≡◌, ◌+◌, ◌^◌, ◌<◌, ◌≤◌, ◌⊎◌, ℕ, All, List, ◌∷◌, Some, length, slice_get, slice_index}
+use Rattle.std.specs.Prelude.{◌≡◌, ◌+◌, ◌^◌, ◌<◌, ◌≤◌, ◌⊎◌, ℕ, List, ◌∷◌, Some, length, slice_get, slice_index}
 use mathlib.Core.Option.{some}
 use lib.ListN.{get_elem?}
 use Rattle.atomic_table.specs.Table as atomic
@@ -8,10 +8,8 @@ use Rattle.cx_base.specs.Codes.{root_place_of}
 use Rattle.cx_base.specs.Memory.{Words}
 use Rattle.cx_base.specs.Noted.{Note, NotesLead}
 use Rattle.cx_core.specs.declared.entry.Entry.{Entry}
-use Rattle.cx_core.specs.declared.local.Cell.{Cell}
 use Rattle.cx_core.specs.declared.local.HeldExclusive.{HeldExclusive}
 use Rattle.cx_core.specs.declared.local.HeldShared.{HeldShared}
-use Rattle.cx_core.specs.declared.local.Linked.{Linked}
 use Rattle.cx_core.specs.declared.local.Local.{Local}
 use Rattle.cx_core.specs.History.{full_image}
 use Rattle.cx_core.specs.Lawful.{Lawful, LocalShape, OwnTickets}
@@ -19,7 +17,7 @@ use Rattle.cx_core.specs.Layout.{lock_at, offer_at, replicas_at}
 use Rattle.cx_core.specs.Merge.{IsLinked}
 use Rattle.cx_core.specs.Region.{place_of, slot_number}
 use Rattle.cx_core.specs.Shown.{shown}
-use Rattle.cx_core.specs.State.{EachLocal, Instance, opening_words}
+use Rattle.cx_core.specs.State.{Instance, opening_words}
 use Rattle.cx_rule.specs.declared.rule.Known.{Known}
 use Rattle.cx_rule.specs.declared.rule.Noted.{Noted}
 use Rattle.cx_rule.specs.Fitting.{loads_of}
@@ -69,11 +67,6 @@ pub record IsLawfulLocal (instance : Instance) (l : Local) : Type 0 where
   pub cur : root_place_of instance.callers l.seen_cur ≤ l.front
   pub floor_cur : l.floor ≤ root_place_of instance.callers l.seen_cur
 
--- the words in a caller's cells, and those of its operations, have 64 bits
-pub record HasWords64 (l : Local) : Type 0 where
-  pub cells : (j : ℕ) (cell : Cell) → slice_get l.cells j ≡ Some cell → All (λ w. w < 2 ^ 64) cell.words
-  pub ops : (i : ℕ) (x : Linked) → slice_get l.own i ≡ Some x → Words 144 x.entry.op
-
 -- the entries of a history, by their callers' numbers in the base
 pub record IsEntryFrom (instance : Instance) (i : ℕ) (entry : Entry) : Type 0 where
   pub caller : entry.caller < 8
@@ -106,5 +99,4 @@ pub record RuleHolds (instance : Instance) (s : atomic.State ℕ (List Known)) :
   pub law : Lawful instance (record { words = s.words; locals = locals })
   pub each : (seat i : ℕ) (view : List Known) (known : Known) → get_elem? s.views seat ≡ some view → slice_get view i ≡ Some known → IsKnown instance law.history locals place_of seat i known
   pub still : StandStill instance s.words
-  pub fit : EachLocal locals (λ _ l. HasWords64 l)
   pub some : 0 < length instance.base.words
