@@ -1,0 +1,155 @@
+//! A replica is taken, stored into and persisted in part, and handed to the closing of the table while it is held.
+
+ghost use Rattle.std.specs.Prelude.{◌≡◌, ◌<◌, ◌∷◌, [], length, IfOk, IfSome, OnOk};
+ghost use Rattle.cx_base.specs.Tally.{IsTally};
+ghost use Rattle.cx_core.specs.Base.{LawfulBase};
+ghost use Rattle.cx_core.specs.LockEvents.{CanTryExclusive};
+ghost use Rattle.cx_table.specs.Running.{IsSeatOf};
+ghost use Rattle.cx_table.specs.Tokens.{IsExclusiveOf};
+
+use cx_base::Halt;
+use cx_base::tally::Tally;
+use cx_core::{Base, CoreState, Event, Kind, apply};
+use cx_table::{CallerSeat, Exclusive, Shared};
+use std::alloc::{AllocError, Global};
+use std::test::Fail;
+
+// A table of one caller, and its seat.
+fn made(alloc: Global, limit: u64, base: &Base) -> Result<(Shared<Tally>, CallerSeat), AllocError>
+    requires { LawfulBase 64 IsTally base.now }
+    ensures of { IfOk result (λ r. IsSeatOf r.0 r.1) }
+    ensures callers { IfOk result (λ r. r.0.callers ≡ 1) }
+    ensures base { IfOk result (λ r. r.0.base ≡ base.now) }
+    ensures fresh { IfOk result (λ r. CanTryExclusive 1 1 r.1.known.local) }
+{
+    let (shared, seats) = Shared::make(alloc, Tally, 1, &[limit], base)?;
+    match only(seats) {
+        Some(seat) => Ok((shared, seat)),
+        None => Err(AllocError),
+    }
+}
+
+// The item of a list of one.
+fn only(mut seats: Vec<CallerSeat>) -> Option<CallerSeat>
+    ensures { IfSome result (λ s. seats.items ≡ s ∷ []) }
+{
+    let seat = seats.pop()?;
+    if seats.is_empty() { Some(seat) } else { None }
+}
+
+// Stores a word of the replica held.
+fn store(
+    shared: &Shared<Tally>,
+    seat: &mut CallerSeat,
+    held: &Exclusive,
+    i: u64,
+    v: u64,
+) -> Result<(), Halt>
+    requires seat { IsSeatOf shared.now seat.old }
+    requires held { IsExclusiveOf shared.now.callers seat.old held.now }
+    requires i { i < length shared.now.base.words }
+    ensures seat { IsSeatOf shared.now seat.new }
+    ensures held { OnOk result (IsExclusiveOf shared.now.callers seat.new held.now) }
+{
+    match shared.store_word(seat, u64::from(held.replica()), i, v) {
+        Ok(()) => Ok(()),
+        Err(halt) => Err(halt),
+    }
+}
+
+// Persists a word of the replica held, where it is dirty.
+fn persist(
+    shared: &Shared<Tally>,
+    seat: &mut CallerSeat,
+    held: &Exclusive,
+    i: u64,
+) -> Result<(), Halt>
+    requires seat { IsSeatOf shared.now seat.old }
+    requires held { IsExclusiveOf shared.now.callers seat.old held.now }
+    requires i { i < length shared.now.base.words }
+    ensures seat { IsSeatOf shared.now seat.new }
+    ensures held { OnOk result (IsExclusiveOf shared.now.callers seat.new held.now) }
+{
+    if !seat.is_dirty(i) {
+        return Ok(());
+    }
+    match shared.persist(seat, u64::from(held.replica()), i) {
+        Ok(()) => Ok(()),
+        Err(halt) => Err(halt),
+    }
+}
+
+// Takes replica 1, stores words 5 and 6, and persists word 5.
+fn leave_one_dirty(shared: &Shared<Tally>, seat: &mut CallerSeat) -> Result<bool, Halt>
+    requires seat { IsSeatOf shared.now seat.old }
+    requires callers { shared.now.callers ≡ 1 }
+    requires fresh { CanTryExclusive 1 1 seat.old.known.local }
+    requires size { 6 < length shared.now.base.words }
+    ensures { IsSeatOf shared.now seat.new }
+{
+    match shared.try_exclusive(seat, 1) {
+        Ok((_, Some(held))) => {
+            store(shared, seat, &held, 5, 7)?;
+            store(shared, seat, &held, 6, 8)?;
+            persist(shared, seat, &held, 5)?;
+            Ok(true)
+        }
+        Ok((_, None)) => Ok(false),
+        Err(halt) => Err(halt),
+    }
+}
+
+// The model, which opens from a lawful base.
+#[derive(Drop)]
+struct Board {
+    state: CoreState,
+    ghost lawful: { LawfulBase 64 IsTally state.base },
+}
+
+fn opened(alloc: Global, base: &Base) -> Result<Board, AllocError>
+    requires { LawfulBase 64 IsTally base.now }
+{
+    Ok(Board {
+        state: CoreState::opening(alloc, &Tally, 1, base)?,
+    })
+}
+
+// Whether the model's caller may make a step, and made it.
+fn steps(alloc: Global, board: &mut Board, kind: Kind) -> Result<bool, AllocError> {
+    apply(alloc, &Tally, &mut board.state, &Event { caller: 0, kind })
+}
+
+// The kinds of step that this makes.
+const STEPS: [Kind; 4] = [
+    Kind::TryExclusive { r: 1 },
+    Kind::StoreWord { r: 1, i: 5, v: 7 },
+    Kind::StoreWord { r: 1, i: 6, v: 8 },
+    Kind::Persist { r: 1, i: 5 },
+];
+
+// Each limit of steps from 0 up to none: the words and the marks that the closing hands out are the model's, which makes as
+// many of the steps.
+#[test]
+fn closed_while_held(rt: HostRuntime) -> Result<(), Fail> {
+    let alloc = rt.alloc();
+    let base = Base::fresh(alloc, &Tally)?;
+    for limit in 0..5 {
+        let (shared, mut seat) = made(alloc, limit, &base)?;
+        let done = leave_one_dirty(&shared, &mut seat);
+        assert_eq!(rt; done.is_ok(), limit >= 4);
+        assert_eq!(rt; seat.steps(), limit.min(4));
+        let mut model = opened(alloc, &base)?;
+        for kind in &STEPS[..limit.min(4) as usize] {
+            assert!(rt; steps(alloc, &mut model, *kind)?);
+        }
+        let Ok(left) = shared.gather(alloc, vec![in alloc; seat]?) else {
+            panic!(rt; "no memory");
+        };
+        assert!(rt; left.volatile.as_slice() == model.state.vol());
+        assert!(rt; left.durable.as_slice() == model.state.per());
+        for (at, dirty) in left.dirty.iter().enumerate() {
+            assert_eq!(rt; *dirty, left.volatile[at] != left.durable[at], "{at}");
+        }
+    }
+    Ok(())
+}
