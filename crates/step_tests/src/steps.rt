@@ -7,9 +7,10 @@ ghost use Rattle.cx_core.specs.LockEvents.{CanTryExclusive};
 ghost use Rattle.cx_table.specs.Running.{IsSeatOf};
 ghost use Rattle.cx_table.specs.Tokens.{IsExclusiveOf};
 
+use core_events::{CoreState, apply};
 use cx_base::Halt;
 use cx_base::tally::Tally;
-use cx_core::{Base, CoreState, Event, Kind, apply};
+use cx_core::{Base, Event, Kind};
 use cx_table::{CallerSeat, Exclusive, Shared};
 use std::alloc::{AllocError, Global};
 use std::test::Fail;
