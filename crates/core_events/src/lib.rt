@@ -1,7 +1,10 @@
 //! The core as a state machine, executable: its state, and one step of a caller on one word.
 #![tactic(auto)]
 
-pub mod board;
+#[cfg(test)]
+mod board;
+#[cfg(test)]
+mod crash_tests;
 #[cfg(test)]
 mod event_tests;
 mod events;
