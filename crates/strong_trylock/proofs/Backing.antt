@@ -1,0 +1,32 @@
+-- What fits is what fitted, after a right was taken back that notes nothing.
+use Rattle.std.proofs.Common.{◌≡◌, ℕ, Bool, true, false, cond, List, sym, subst, Some, None}
+use Rattle.std.proofs.lemmas.Option.{none-some}
+use Rattle.cx_core.specs.declared.entry.Base.{Base}
+use Rattle.cx_core.specs.declared.kinds.Kind.TheVariants.{BackOff}
+use Rattle.cx_core.specs.declared.local.HeldShared.{HeldShared}
+use Rattle.cx_core.specs.declared.local.Local.{Local}
+use Rattle.cx_core.specs.Rights.{is_at, shared_on}
+use Rattle.cx_core.specs.State.{Instance, one_more}
+use Rattle.cx_rule.specs.declared.rule.Known.{Known}
+use Rattle.cx_table.specs.Fitting.{Fitting}
+use Rattle.cx_table.specs.Running.{Running, instance_at}
+use Rattle.cx_table.specs.Seats.{Seated, known_after}
+use Rattle.cx_table.specs.Steps.{Steps}
+
+-- what is held shared then was held shared before
+held_before : (l : Local) (is_shared is_passer : Bool) (h : HeldShared) →
+    (cond is_shared (record l { shared = None; steps = one_more l.steps }) (cond is_passer (record l { passer = None; steps = one_more l.steps }) (record l { downgraded = None; steps = one_more l.steps }))).shared ≡ Some h → l.shared ≡ Some h
+held_before l true is_passer h e = absurd (none-some h e)
+held_before l false true h e = e
+held_before l false false h e = e
+
+known_fits : (lines : ℕ) (lawful : List ℕ → Type 0) (base : Base) (instance : Instance) (r found : ℕ) (k : Known) → Fitting lines lawful base k → Fitting lines lawful base (known_after instance (BackOff r) k found)
+known_fits lines lawful base instance r found k fits = record {
+  exclusive = fits.exclusive;
+  shared = λ h e. fits.shared h (held_before k.local (is_at r (shared_on k.local)) (is_at r k.local.passer) h e);
+}
+
+pub still_fits : {O : Type 0} (lawful : List ℕ → Type 0) (r : Running O) (step : O → List ℕ → List ℕ → List ℕ × List ℕ) (reads : O → List ℕ → Bool) (replica found : ℕ) (before after : Seated) →
+    Steps r step reads (BackOff replica) found before after → Fitting r.lines lawful r.base before.known → Fitting r.lines lawful r.base after.known
+still_fits lawful r step reads replica found before after steps fits =
+    subst (λ (s : Seated). Fitting r.lines lawful r.base s.known) (sym steps.made) (known_fits r.lines lawful r.base (instance_at r step reads) replica found before.known fits)

@@ -1,0 +1,29 @@
+-- What ends a right on a replica.
+use Rattle.std.specs.Prelude.{◌≡◌, ◌≢◌, ℕ, Bool, List, Some, None}
+use Rattle.cx_core.specs.declared.kinds.Kind.{Kind}
+use Rattle.cx_core.specs.declared.kinds.Kind.TheVariants.{Downgrade}
+use Rattle.cx_core.specs.Rights.{shared_on}
+use Rattle.cx_table.specs.Right.{Right}
+use Rattle.cx_table.specs.Running.{Running}
+use Rattle.cx_table.specs.Seats.{Seated}
+use Rattle.cx_table.specs.Steps.{Steps}
+use Rattle.cx_table.specs.Tokens.{IsDowngradedOf}
+use Rattle.strong_trylock.specs.Held.{all_rights}
+
+-- the exclusive right on a replica was made a shared one, by one event
+pub record Downgrades {O : Type 0} (r : Running O) (step : O → List ℕ → List ℕ → List ℕ × List ℕ) (reads : O → List ℕ → Bool) (replica : ℕ) (before after : Seated) (held : Right) : Type 0 where
+  pub found : ℕ
+  pub made : Steps r step reads (Downgrade replica) found before after
+  pub here : held.replica ≡ replica
+  pub token : IsDowngradedOf r.callers after held
+  pub rights : all_rights after ≡ record (all_rights before) { exclusive = None; downgraded = Some replica }
+
+-- one event of this kind was made, whatever word it found
+pub record MakesOne {O : Type 0} (r : Running O) (step : O → List ℕ → List ℕ → List ℕ × List ℕ) (reads : O → List ℕ → Bool) (kind : Kind) (before after : Seated) : Type 0 where
+  pub found : ℕ
+  pub made : Steps r step reads kind found before after
+
+-- of the rights that one step takes back, a caller has no other on this replica than a downgraded one
+pub record IsOnlyDowngraded (replica : ℕ) (seat : Seated) : Type 0 where
+  pub shared : shared_on seat.known.local ≢ Some replica
+  pub passer : seat.known.local.passer ≢ Some replica

@@ -1,0 +1,4 @@
+pub mod Held
+pub mod Tries
+pub mod Ends
+pub mod Tests
