@@ -152,6 +152,7 @@ own_lawful instance words locals caller l law at =
       floor = fronts.floor;
       cur = fronts.cur;
       floor_cur = fronts.floor_cur;
+      few = law.locks.few caller l at;
     }
 
 view_within : (views : List (List Known)) (id : ℕ) (v : List Known) → get_elem? views id ≡ some v → id < length views

@@ -16,6 +16,8 @@ use Rattle.cx_core.specs.QueueEvents.{linked, lost, seen_word}
 use Rattle.cx_core.specs.Rights.{is_at, shared_on}
 use Rattle.cx_core.specs.Shown.{shown}
 use Rattle.cx_core.specs.State.{Instance, Scene, one_more}
+use Rattle.core_replica.specs.Frames.{SameRights}
+use Rattle.core_replica.proofs.LockLaws.{few_same}
 use Rattle.cx_rule.specs.Rule.{IsLawfulLocal}
 use Rattle.cx_rule.specs.declared.rule.Known.{Known}
 use Rattle.cx_rule.specs.Seats.{IsByShown, known_local, shown_next, unseen}
@@ -206,6 +208,14 @@ told_shown instance Publish l found told = tt
 told_shown instance (Raise code read) l found told = tt
 told_shown instance Retire l found told = tt
 
+-- the rights of a local state are those of what is shown of it
+shown_rights : (l : Local) → SameRights l (shown l)
+shown_rights l = record { exclusive = on l.exclusive; shared = refl; passer = refl; downgraded = refl; won = refl }
+  where
+    on : (o : Option HeldExclusive) → option_map (λ (h : HeldExclusive). h.replica) (option_map blank o) ≡ option_map (λ (h : HeldExclusive). h.replica) o
+    on None = refl
+    on (Some h) = refl
+
 -- what the lawful state says of a local state by itself, it says of what is shown of it
 pub lawful_shown : (instance : Instance) (l : Local) → IsLawfulLocal instance l → IsLawfulLocal instance (shown l)
 lawful_shown instance l law = record {
@@ -216,6 +226,7 @@ lawful_shown instance l law = record {
   floor = law.floor;
   cur = law.cur;
   floor_cur = law.floor_cur;
+  few = few_same instance.callers l (shown l) law.few (shown_rights l);
 }
 
 -- a local state with no exclusive right is shown whole

@@ -13,6 +13,7 @@ use Rattle.cx_core.specs.declared.local.HeldShared.{HeldShared}
 use Rattle.cx_core.specs.declared.local.Local.{Local}
 use Rattle.cx_core.specs.History.{full_image}
 use Rattle.cx_core.specs.Lawful.{Lawful, LocalShape, OwnTickets}
+use Rattle.cx_core.specs.LawfulLocks.{FewRights}
 use Rattle.cx_core.specs.Layout.{lock_at, offer_at, replicas_at}
 use Rattle.cx_core.specs.Merge.{IsLinked}
 use Rattle.cx_core.specs.Region.{place_of, slot_number}
@@ -66,6 +67,7 @@ pub record IsLawfulLocal (instance : Instance) (l : Local) : Type 0 where
   pub floor : l.floor ≤ l.front
   pub cur : root_place_of instance.callers l.seen_cur ≤ l.front
   pub floor_cur : l.floor ≤ root_place_of instance.callers l.seen_cur
+  pub few : FewRights instance.callers l
 
 -- the entries of a history, by their callers' numbers in the base
 pub record IsEntryFrom (instance : Instance) (i : ℕ) (entry : Entry) : Type 0 where

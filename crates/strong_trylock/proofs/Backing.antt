@@ -1,17 +1,20 @@
--- What fits is what fitted, after a right was taken back that notes nothing.
-use Rattle.std.proofs.Common.{◌≡◌, ℕ, Bool, true, false, cond, List, sym, subst, Some, None}
+-- What stands after a right was taken back.
+use Rattle.std.proofs.Common.{◌≡◌, inl, inr, ℕ, Bool, true, false, cond, List, refl, ap, sym, subst, ◌∙◌, arith, Option, Some, None}
+use Rattle.std.proofs.lemmas.Bool.{cases_Bool, false≢true}
 use Rattle.std.proofs.lemmas.Option.{none-some}
 use Rattle.cx_core.specs.declared.entry.Base.{Base}
 use Rattle.cx_core.specs.declared.kinds.Kind.TheVariants.{BackOff}
 use Rattle.cx_core.specs.declared.local.HeldShared.{HeldShared}
 use Rattle.cx_core.specs.declared.local.Local.{Local}
-use Rattle.cx_core.specs.Rights.{is_at, shared_on}
+use Rattle.cx_core.specs.Rights.{downgraded_on, is_at, is_on, shared_on}
 use Rattle.cx_core.specs.State.{Instance, one_more}
+use Rattle.cx_core.proofs.Sums.{on_same}
 use Rattle.cx_rule.specs.declared.rule.Known.{Known}
 use Rattle.cx_table.specs.Fitting.{Fitting}
 use Rattle.cx_table.specs.Running.{Running, instance_at}
 use Rattle.cx_table.specs.Seats.{Seated, known_after}
 use Rattle.cx_table.specs.Steps.{Steps}
+use Rattle.strong_trylock.specs.Held.{all_rights, rights_in}
 
 -- what is held shared then was held shared before
 held_before : (l : Local) (is_shared is_passer : Bool) (h : HeldShared) →
@@ -30,3 +33,27 @@ pub still_fits : {O : Type 0} (lawful : List ℕ → Type 0) (r : Running O) (st
     Steps r step reads (BackOff replica) found before after → Fitting r.lines lawful r.base before.known → Fitting r.lines lawful r.base after.known
 still_fits lawful r step reads replica found before after steps fits =
     subst (λ (s : Seated). Fitting r.lines lawful r.base s.known) (sym steps.made) (known_fits r.lines lawful r.base (instance_at r step reads) replica found before.known fits)
+
+-- a caller has no other right on the replica that it has downgraded
+off : (r : ℕ) (o : Option ℕ) → is_on r o ≡ 0 → is_at r o ≡ false
+off r o zero =
+    elim (cases_Bool (is_at r o)) [
+      | inl e ↦ (let one : is_on r o ≡ 1 = ap (λ b. cond b 1 0) e in absurd (omega (arith, one, zero)))
+      | inr e ↦ e
+    ]
+
+left : (l : Local) (is_shared is_passer : Bool) → is_shared ≡ false → is_passer ≡ false →
+    rights_in (cond is_shared (record l { shared = None; steps = one_more l.steps }) (cond is_passer (record l { passer = None; steps = one_more l.steps }) (record l { downgraded = None; steps = one_more l.steps })))
+    ≡ record (rights_in l) { downgraded = None }
+left l true b e f = absurd (false≢true (sym e))
+left l false true e f = absurd (false≢true (sym f))
+left l false false e f = refl
+
+-- so that right ends, and no other
+pub downgraded_ended : {O : Type 0} (r : Running O) (step : O → List ℕ → List ℕ → List ℕ × List ℕ) (reads : O → List ℕ → Bool) (replica found : ℕ) (before after : Seated) →
+    Steps r step reads (BackOff replica) found before after → downgraded_on before.known.local ≡ Some replica → all_rights after ≡ record (all_rights before) { downgraded = None }
+downgraded_ended r step reads replica found before after steps on =
+    let l = before.known.local in
+    let few = steps.lawful.few.apart replica in
+    let one : is_on replica (downgraded_on l) ≡ 1 = ap (is_on replica) on ∙ on_same replica replica refl in
+    ap all_rights steps.made ∙ left l (is_at replica (shared_on l)) (is_at replica l.passer) (off replica (shared_on l) (omega (arith, few, one))) (off replica l.passer (omega (arith, few, one)))

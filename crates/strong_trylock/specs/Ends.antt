@@ -1,8 +1,7 @@
 -- What ends a right on a replica.
-use Rattle.std.specs.Prelude.{◌≡◌, ◌≢◌, ℕ, Bool, List, Some, None}
+use Rattle.std.specs.Prelude.{◌≡◌, ℕ, Bool, List, Some, None}
 use Rattle.cx_core.specs.declared.kinds.Kind.{Kind}
 use Rattle.cx_core.specs.declared.kinds.Kind.TheVariants.{Downgrade}
-use Rattle.cx_core.specs.Rights.{shared_on}
 use Rattle.cx_table.specs.Right.{Right}
 use Rattle.cx_table.specs.Running.{Running}
 use Rattle.cx_table.specs.Seats.{Seated}
@@ -22,8 +21,3 @@ pub record Downgrades {O : Type 0} (r : Running O) (step : O → List ℕ → Li
 pub record MakesOne {O : Type 0} (r : Running O) (step : O → List ℕ → List ℕ → List ℕ × List ℕ) (reads : O → List ℕ → Bool) (kind : Kind) (before after : Seated) : Type 0 where
   pub found : ℕ
   pub made : Steps r step reads kind found before after
-
--- of the rights that one step takes back, a caller has no other on this replica than a downgraded one
-pub record IsOnlyDowngraded (replica : ℕ) (seat : Seated) : Type 0 where
-  pub shared : shared_on seat.known.local ≢ Some replica
-  pub passer : seat.known.local.passer ≢ Some replica

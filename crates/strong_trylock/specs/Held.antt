@@ -1,5 +1,6 @@
 -- The rights that a seat's caller has, and the lock word that it last found.
 use Rattle.std.specs.Prelude.{◌≡◌, ℕ, Option, Some, None}
+use Rattle.cx_core.specs.declared.local.Local.{Local}
 use Rattle.cx_core.specs.declared.local.WonCode.{WonCode}
 use Rattle.cx_core.specs.Rights.{downgraded_on, exclusive_on, shared_on}
 use Rattle.cx_table.specs.Seats.{Seated}
@@ -12,14 +13,17 @@ pub record AllRights : Type 0 where
   pub downgraded : Option ℕ
   pub won : Option WonCode
 
-abbrev pub all_rights : Seated → AllRights
-all_rights s = record {
-  exclusive = exclusive_on s.known.local;
-  shared = shared_on s.known.local;
-  passer = s.known.local.passer;
-  downgraded = downgraded_on s.known.local;
-  won = s.known.local.won;
+abbrev pub rights_in : Local → AllRights
+rights_in l = record {
+  exclusive = exclusive_on l;
+  shared = shared_on l;
+  passer = l.passer;
+  downgraded = downgraded_on l;
+  won = l.won;
 }
+
+abbrev pub all_rights : Seated → AllRights
+all_rights s = rights_in s.known.local
 
 -- a caller without rights
 abbrev pub no_rights : AllRights
