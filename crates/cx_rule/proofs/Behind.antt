@@ -16,7 +16,7 @@ use Rattle.cx_core.proofs.Claims.{shared_below}
 use Rattle.cx_core.proofs.ReplicaWords.{replica_at}
 use Rattle.cx_rule.specs.declared.rule.Known.{Known}
 use Rattle.cx_rule.specs.Fitting.{loads_of}
-use Rattle.cx_rule.specs.Rule.{IsBehindNotes, IsTraced}
+use Rattle.cx_rule.specs.Rule.{IsBehindNotes, IsOrigin, IsTraced}
 use Rattle.cx_rule.proofs.Traced.{image_origin}
 use Rattle.cx_rule.proofs.Entries.{entries_from}
 
@@ -28,24 +28,27 @@ loads_lead region word words (x ∷ xs) at all =
     let here = All-head P x xs all in
     (at x.0 here.0 ∙ here.1, loads_lead region word words xs at (All-tail P x xs all))
 
+-- the words that a caller loaded under a shared right are those of a full image, which is there
+pub shared_there : (instance : Instance) (s : State) (law : Lawful instance s) → 0 < length instance.base.words → (caller : ℕ) (l : Local) → slice_get s.locals caller ≡ Some l → (h : HeldShared) → l.shared ≡ Some h →
+    (words : List ℕ) × IsOrigin instance law.history words × NotesLead (loads_of h.loaded) words words
+shared_there instance s law some caller l at h mine =
+    let region = length instance.base.words in
+    let words = replica_words instance.callers region s.words h.replica in
+    let small = shared_below instance.callers s.words s.locals law.locks caller l h at mine in (
+      words,
+      image_origin instance s law h.replica small some (image_shared instance s law caller h.replica l at (ap (option_map (λ (x : HeldShared). x.replica)) mine)),
+      loads_lead region (vol_word instance s.words h.replica) words h.loaded (λ i below. replica_at instance.callers region s.words h.replica i below) (law.regions.loaded caller l at h mine),
+    )
+
 pub behind_notes : (instance : Instance) (s : State) (law : Lawful instance s) → 0 < length instance.base.words → (caller : ℕ) (l : Local) → slice_get s.locals caller ≡ Some l →
     (k : Known) → k.local ≡ shown l → IsTraced instance law.history k.accesses l → IsBehindNotes instance k
-behind_notes instance s law some caller l at k shows traced =
-    let region = length instance.base.words in
-    record {
-      history = law.history;
-      small = law.tickets.below;
-      entries = entries_from instance s law;
-      first = traced.first;
-      now = traced.now;
-      origin = traced.origin;
-      leads = traced.leads;
-      shared = λ h has. (
-          let mine : l.shared ≡ Some h = ap (λ (x : Local). x.shared) (sym shows) ∙ has in
-          let words = replica_words instance.callers region s.words h.replica in
-          let small = shared_below instance.callers s.words s.locals law.locks caller l h at mine in (
-            words,
-            image_origin instance s law h.replica small some (image_shared instance s law caller h.replica l at (ap (option_map (λ (x : HeldShared). x.replica)) mine)),
-            loads_lead region (vol_word instance s.words h.replica) words h.loaded (λ i below. replica_at instance.callers region s.words h.replica i below) (law.regions.loaded caller l at h mine),
-          ));
-    }
+behind_notes instance s law some caller l at k shows traced = record {
+  history = law.history;
+  small = law.tickets.below;
+  entries = entries_from instance s law;
+  first = traced.first;
+  now = traced.now;
+  origin = traced.origin;
+  leads = traced.leads;
+  shared = λ h has. shared_there instance s law some caller l at h (ap (λ (x : Local). x.shared) (sym shows) ∙ has);
+}

@@ -25,7 +25,7 @@ use Rattle.cx_rule.specs.Seats.{IsByShown, WordFits, accesses_after, known_after
 use Rattle.core_runs.proofs.Keeps.{kind_kept}
 use Rattle.cx_rule.proofs.ShownLaws.{guard_shown, known_shown, lawful_shown, put_shown, told_shown, word_shown}
 use Rattle.cx_rule.proofs.Notes.{noted_hold, notes-append, notes_still}
-use Rattle.cx_rule.specs.Steps.{IsEventOn, IsStore, Puts, Teaches}
+use Rattle.cx_rule.specs.Steps.{IsCopyLearned, IsEventOn, IsStore, Puts, Teaches, TeachesCopied, known_copied}
 use Rattle.cx_rule.specs.Told.{Told}
 use Rattle.cx_rule.proofs.Telling.{told_holds}
 use Rattle.cx_rule.proofs.Still.{still_stands}
@@ -160,6 +160,38 @@ view_within [] id v at = absurd (some-ne-none v (sym at))
 view_within (w ∷ views) zero v at = omega arith
 view_within (w ∷ views) (suc id) v at = (let rest = view_within views id v at in omega arith)
 
+-- what an event of a seat leaves behind its notes, which then knows this
+event_leaves : (instance : Instance) (kind : Kind) (s : atomic.State ℕ (List Known)) (id : ℕ) (known after : Known) (word new : ℕ) → RuleHolds instance s → get_elem? s.views id ≡ some (known ∷ []) →
+    LearnsAnyway instance s.words kind known word new after → IsLawfulLocal instance after.local × IsBehindNotes instance after
+event_leaves instance kind s id known after word new held view learns =
+    let then = event_held instance kind s id known after word new held view learns in
+    let there : get_elem? (set s.views id (after ∷ [])) id ≡ some (after ∷ []) = set_here s.views id (after ∷ []) (view_within s.views id (known ∷ []) view) in
+    let mine = then.each id 0 (after ∷ []) after there refl in (
+      subst (IsLawfulLocal instance) (sym mine.shows) (lawful_shown instance mine.local (own_lawful instance _ then.locals after.local.number mine.local then.law mine.of_caller)),
+      behind_notes instance _ then.law then.some after.local.number mine.local mine.of_caller after mine.shows mine.traced,
+    )
+
+-- what it teaches
+pub event_teaches : (instance : Instance) (kind : Kind) (s : atomic.State ℕ (List Known)) (id : ℕ) (known : Known) (word new : ℕ) → RuleHolds instance s → get_elem? s.views id ≡ some (known ∷ []) →
+    LearnsAnyway instance s.words kind known word new (known_after instance kind known (slice_index s.words word)) →
+    Teaches instance kind known (slice_index s.words word) (known_after instance kind known (slice_index s.words word) ∷ [], [])
+event_teaches instance kind s id known word new held view learns =
+    let found = slice_index s.words word in
+    let mine = held.each id 0 (known ∷ []) known view refl in
+    let l = mine.local in
+    let leaves = event_leaves instance kind s id known (known_after instance kind known found) word new held view learns in
+    let state : State = record { words = s.words; locals = held.locals } in
+    let learnt = learns held.locals held.law l mine.of_caller mine.shows mine.notes mine.traced held.still held.some in
+    let told = told_holds instance kind state held.law known.local.number l mine.of_caller learnt.guard held.still in
+    let here : step_word instance kind l ≡ word = sym learnt.word_is in
+    record {
+      knows = refl;
+      lawful = subst (IsLawfulLocal instance) (sym mine.shows) (lawful_shown instance l (own_lawful instance s.words held.locals known.local.number l held.law mine.of_caller));
+      lawful_after = leaves.0;
+      told = subst (λ (x : Local). Told instance kind x found) (sym mine.shows) (told_shown instance kind l found (subst (λ (w : ℕ). Told instance kind l (slice_index s.words w)) here told));
+      behind = leaves.1;
+    }
+
 -- what the table asks of a step, from the core's law: the word is the event's, it becomes what the event puts, and the seat
 -- then knows what the event teaches
 pub allows : (instance : Instance) (kind : ℕ → Kind) (known : Known) (slots id word : ℕ) (me : atomic.Me ℕ (List Known)) (f : ℕ → ℕ) (then : ℕ → atomic.Me ℕ (List Known) → Type 0) →
@@ -171,27 +203,31 @@ allows instance kinds known slots id word me f then one learn tells =
     (let found = slice_index s.words word in
     let kind = kinds found in
     let known' = known_after instance kind known found in
-    let mine = held.each id 0 (known ∷ []) known view refl in
-    let l = mine.local in
-    let learns = learn s.words fits in
-    let after = event_held instance kind s id known known' word (f found) held view learns in
-    let there : get_elem? (set s.views id (known' ∷ [])) id ≡ some (known' ∷ []) = set_here s.views id (known' ∷ []) (view_within s.views id (known ∷ []) view) in
-    let mine' = after.each id 0 (known' ∷ []) known' there refl in
-    let state : State = record { words = s.words; locals = held.locals } in
-    let learnt = learns held.locals held.law l mine.of_caller mine.shows mine.notes mine.traced held.still held.some in
-    let told = told_holds instance kind state held.law known.local.number l mine.of_caller learnt.guard held.still in
-    let here : step_word instance kind l ≡ word = sym learnt.word_is in (
+    let learns = learn s.words fits in (
       known' ∷ [],
       atomic.keeps,
       tt,
-      after,
-      tells found (record {
+      event_held instance kind s id known known' word (f found) held view learns,
+      tells found (event_teaches instance kind s id known word (f found) held view learns),
+    )))
+
+-- the same of the release of a shared right whose words were copied
+pub allows_copied : (instance : Instance) (kind : Kind) (known : Known) (slots id word : ℕ) (me : atomic.Me ℕ (List Known)) (f : ℕ → ℕ) → me ≡ (known ∷ [], []) → LearnsBy instance (λ _. kind) known word f → IsCopyLearned instance kind known word f →
+    atomic.Allows (RuleHolds instance) slots id me word f (TeachesCopied instance kind known)
+allows_copied instance kind known slots id word me f one learn copied =
+    subst (λ m. atomic.Allows (RuleHolds instance) slots id m word f (TeachesCopied instance kind known)) (sym one) (λ s held homes view fits.
+    (let found = slice_index s.words word in
+    let known' = known_copied instance kind known found in
+    let learns = copied s.words fits in (
+      known' ∷ [],
+      atomic.keeps,
+      tt,
+      event_held instance kind s id known known' word (f found) held view learns,
+      record {
         knows = refl;
-        lawful = subst (IsLawfulLocal instance) (sym mine.shows) (lawful_shown instance l (own_lawful instance s.words held.locals known.local.number l held.law mine.of_caller));
-        lawful_after = subst (IsLawfulLocal instance) (sym mine'.shows) (lawful_shown instance mine'.local (own_lawful instance _ after.locals known'.local.number mine'.local after.law mine'.of_caller));
-        told = subst (λ (x : Local). Told instance kind x found) (sym mine.shows) (told_shown instance kind l found (subst (λ (w : ℕ). Told instance kind l (slice_index s.words w)) here told));
-        behind = behind_notes instance _ after.law after.some known'.local.number mine'.local mine'.of_caller known' mine'.shows mine'.traced;
-      }),
+        event = event_teaches instance kind s id known word (f found) held view (learn s.words fits);
+        behind = (event_leaves instance kind s id known known' word (f found) held view learns).1;
+      },
     )))
 
 -- what a step teaches that does not look at the word found

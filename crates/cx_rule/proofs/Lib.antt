@@ -8,5 +8,6 @@ pub mod Behind
 pub mod Keeps
 pub mod Fitting
 pub mod Giving
+pub mod Copying
 pub mod Opening
 pub mod Moves

@@ -1,6 +1,6 @@
 -- What a caller noted of the replicas that it holds tells of their words: which words they may have had first, and which they
 -- then have now.
-use Rattle.std.specs.Prelude.{false, ◌≡◌, ◌+◌, ◌<◌, ◌≤◌, ℕ, List, ◌∷◌, length, map, slice_get, slice_index, Some}
+use Rattle.std.specs.Prelude.{false, ◌≡◌, ◌+◌, ◌<◌, ◌≤◌, ◌==◌, if◌then◌else◌, ℕ, List, [], ◌∷◌, length, map, slice_get, slice_index, Option, Some, None}
 use Rattle.cx_base.specs.Noted.{Note, NotesLead}
 use Rattle.cx_core.specs.declared.entry.Base.{Base}
 use Rattle.cx_core.specs.declared.entry.Entry.{Entry}
@@ -49,6 +49,26 @@ SomeReadFits lines lawful base loaded = ∥ ((first : List ℕ) × (now : List �
 pub record Fitting (lines : ℕ) (lawful : List ℕ → Type 0) (base : Base) (known : Known) : Type 0 where
   pub exclusive : SomeFits lines lawful base known.accesses
   pub shared : (h : HeldShared) → known.local.shared ≡ Some h → SomeReadFits lines lawful base h.loaded
+
+-- the words loaded of the replica that is held shared
+abbrev pub loaded_of : Option HeldShared → List (ℕ × ℕ)
+loaded_of None = []
+loaded_of (Some h) = h.loaded
+
+-- the word at a place that accesses loaded or stored last, where this one was known before
+abbrev pub word_noted : Option ℕ → ℕ → List Note → Option ℕ
+word_noted word i [] = word
+word_noted word i ((stores, at, v) ∷ accesses) = word_noted (if at == i then Some v else word) i accesses
+
+-- Each word below n of the replica held shared was loaded, and it is the word noted last of the replica held exclusively. So
+-- the two agree below n, whatever fits the notes.
+abbrev pub AgreeTo : Known → ℕ → Type 0
+AgreeTo known n = (i : ℕ) → i < n → (word : ℕ) × (word_noted None i known.accesses ≡ Some word) × (word_noted None i (loads_of (loaded_of known.local.shared)) ≡ Some word)
+
+-- whatever fits the notes, the words of the replica held exclusively are those of the replica held shared
+abbrev pub AreEqual : ℕ → (List ℕ → Type 0) → Base → Known → Type 0
+AreEqual lines lawful base known =
+    (first now from read : List ℕ) → Fits lines lawful base known.accesses first now → ReadFits lines lawful base (loaded_of known.local.shared) from read → now ≡ read
 
 -- each word of an entry is noted with a ticket
 pub record IsNoted (noted : List Noted) (ticket : ℕ) (entry : Entry) : Type 0 where

@@ -1,13 +1,15 @@
 -- What a step leaves of its caller's seat.
-use Rattle.std.specs.Prelude.{◌≡◌, ◌<◌, ℕ, Bool, List, [], ◌∷◌}
+use Rattle.std.specs.Prelude.{◌≡◌, ◌^◌, ◌<◌, ℕ, Bool, List, [], ◌∷◌, slice_index}
 use Rattle.atomic_table.specs.Seated.{TableId}
 use Rattle.atomic_table.specs.Table.{Me}
 use Rattle.cx_core.specs.Events.{Guard, new_word, step_word}
 use Rattle.cx_core.specs.State.{Instance}
 use Rattle.cx_rule.specs.declared.rule.Known.{Known}
 use Rattle.cx_core.specs.declared.kinds.Kind.{Kind}
+use Rattle.cx_core.specs.declared.kinds.Kind.TheVariants.{BackOff}
 use Rattle.cx_core.specs.declared.local.Local.{Local}
-use Rattle.cx_rule.specs.Learns.{LearnsBy}
+use Rattle.cx_rule.specs.Fitting.{loaded_of, loads_of}
+use Rattle.cx_rule.specs.Learns.{LearnsAnyway, LearnsBy}
 use Rattle.cx_rule.specs.Rule.{IsBehindNotes, IsLawfulLocal}
 use Rattle.cx_rule.specs.Running.{IsSeatOf, Running, instance_at}
 use Rattle.cx_rule.specs.Seats.{IsAtLimit, IsByShown, IsWithinLimit, Seated, WordFits, kind_found, known_after, known_of, stepped, unseen}
@@ -60,6 +62,31 @@ pub record Steps {O : Type 0} (r : Running O) (step : O → List ℕ → List �
   pub lawful_after : IsLawfulLocal (instance_at r step reads) after.known.local
   pub told : Told (instance_at r step reads) kind before.known.local found
   pub within : IsWithinLimit after.known.local
+  pub seat : IsSeatOf r after
+
+-- What a caller knows after it released a shared right whose words it had copied: the words loaded are what is noted of the
+-- replica held exclusively, in place of what was noted of it before.
+abbrev pub known_copied : Instance → Kind → Known → ℕ → Known
+known_copied instance kind known found = record (known_after instance kind known found) { accesses = loads_of (loaded_of known.local.shared) }
+
+-- what that event teaches is known by what the caller noted
+abbrev pub IsCopyLearned : Instance → Kind → Known → ℕ → (ℕ → ℕ) → Type 0
+IsCopyLearned instance kind known word put =
+    (words : List ℕ) → slice_index words word < 2 ^ 64 →
+    LearnsAnyway instance words kind known word (put (slice_index words word)) (known_copied instance kind known (slice_index words word))
+
+-- what it teaches: what the release of a shared right does, and what is behind the words loaded as those of the replica held
+-- exclusively
+pub record TeachesCopied (instance : Instance) (kind : Kind) (known : Known) (found : ℕ) (after : Me ℕ (List Known)) : Type 0 where
+  pub knows : after ≡ (known_copied instance kind known found ∷ [], [])
+  pub event : Teaches instance kind known found (known_after instance kind known found ∷ [], [])
+  pub behind : IsBehindNotes instance (known_copied instance kind known found)
+
+-- The shared right on a replica was released, whose words had been copied: the event's step was made, and beside it the words
+-- loaded are now what is noted of the replica held exclusively.
+pub record StepsCopied {O : Type 0} (r : Running O) (step : O → List ℕ → List ℕ → List ℕ × List ℕ) (reads : O → List ℕ → Bool) (replica found : ℕ) (before after : Seated) : Type 0 where
+  pub event : Steps r step reads (BackOff replica) found before (stepped (instance_at r step reads) (BackOff replica) before found)
+  pub made : after ≡ record before { known = known_copied (instance_at r step reads) (BackOff replica) before.known found }
   pub seat : IsSeatOf r after
 
 -- No step was made, since the steps equal the limit: nothing is changed.

@@ -5,7 +5,7 @@ use Rattle.std.proofs.lemmas.List.{get_or-set_other, get_or-set_same, length-set
 use Rattle.std.proofs.lemmas.List.Elements.{Contains-append_cases, Contains-append_left, Contains-append_right, Contains-push_cases}
 use Rattle.std.specs.List.{Contains, slice_get}
 use Rattle.std.specs.Option.{option_map}
-use Rattle.cx_base.specs.Noted.{Note, NotesLead, led_by_load, led_by_store}
+use Rattle.cx_base.specs.Noted.{Note, led_by_load, led_by_store}
 use Rattle.cx_core.specs.declared.kinds.Kind.{Kind}
 use Rattle.cx_core.specs.declared.kinds.Kind.TheVariants.{WriteCell, Link, Look, ReadCell, LoadFree, TryExclusive, TryShared, BackOff, Downgrade, ReleaseExclusive, LoadWord, StoreWord, Persist, LoadCur, Publish, Raise, Retire}
 use Rattle.cx_core.specs.declared.local.HeldExclusive.{HeldExclusive}
@@ -21,6 +21,7 @@ use Rattle.cx_core.proofs.HeldLists.{Contains-filter, Contains-still, Contains-w
 use Rattle.cx_rule.specs.declared.rule.Known.{Known}
 use Rattle.cx_rule.specs.Fitting.{TellsWord}
 use Rattle.cx_rule.specs.Seats.{SeenGuard, known_after, known_local, place_noted, unseen}
+use Rattle.cx_rule.proofs.Copying.{leads_length}
 use Rattle.cx_table.specs.Copies.{Copied, IsCopied, copied_after}
 
 -- the place after one access more
@@ -31,12 +32,6 @@ place_more place ((s, a, w) ∷ accesses) stores at word = place_more (cond (a =
 -- what the accesses tell they tell after a load more, and after a store elsewhere
 tells_load : (region : ℕ) (accesses : List Note) (i v at word : ℕ) → TellsWord region accesses at word → TellsWord region (accesses ++ (false, i, v) ∷ []) at word
 tells_load region accesses i v at word tells first now long leads = tells first now long (led_by_load accesses i v first now leads).0
-
--- a list that accesses lead to is as long as the first
-leads_length : (accesses : List Note) (first now : List ℕ) → NotesLead accesses first now → length now ≡ length first
-leads_length [] first now leads = ap length leads
-leads_length ((false, at, v) ∷ accesses) first now leads = leads_length accesses first now leads.1
-leads_length ((true, at, v) ∷ accesses) first now leads = leads_length accesses (set first at v) now leads.1 ∙ length-set first at v
 
 tells_store : (region : ℕ) (accesses : List Note) (i v : ℕ) → i < region → TellsWord region (accesses ++ (true, i, v) ∷ []) i v
 tells_store region accesses i v below first now long leads =

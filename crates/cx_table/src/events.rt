@@ -2,10 +2,11 @@
 
 ghost use Rattle.std.specs.Prelude.{◌≡◌, ◌+◌, ◌-◌, ◌%◌, ◌^◌, ◌<◌, ◌==◌, ◌∷◌, [], ℕ, if◌then◌else◌};
 ghost use Rattle.atomic_table.specs.Table.{Allows};
+ghost use Rattle.cx_rule.specs.Learns.{LearnsBy};
 ghost use Rattle.cx_rule.specs.Rule.{RuleHolds};
 ghost use Rattle.cx_rule.specs.Running.{instance_at};
 ghost use Rattle.cx_rule.specs.Seats.{kind_found, known_of};
-ghost use Rattle.cx_rule.specs.Steps.{IsBlind, IsEventOn, IsLearned, IsStore, Puts, Teaches};
+ghost use Rattle.cx_rule.specs.Steps.{IsBlind, IsCopyLearned, IsEventOn, IsLearned, IsStore, Puts, Teaches, TeachesCopied};
 ghost use Rattle.cx_core.specs.declared.local.Local.{Local};
 
 use crate::shared::Shared;
@@ -192,6 +193,26 @@ impl<O: Object> Shared<O> {
         requires learns { IsLearned (instance_at self.now O.step O.only_reads) kind.now (known_of seat.old.me.0) word (λ x. (x + (2 ^ 64 - k)) % 2 ^ 64) }
         ensures table { seat.new.table_id ≡ seat.old.table_id }
         ensures taught { Teaches (instance_at self.now O.step O.only_reads) (kind_found (instance_at self.now O.step O.only_reads) kind.now (known_of seat.old.me.0).local result) (known_of seat.old.me.0) result seat.new.me }
+    {
+        self.subtract_as::<Brand>(seat, kind, word, k)
+    }
+
+    /// A subtraction that is the event of this kind, the release of a shared right whose words were copied over the replica
+    /// held exclusively. It gives the word found.
+    pub(crate) fn subtract_copied(
+        &self,
+        seat: &mut Seat<u8, View>,
+        kind: &Kind,
+        word: usize,
+        k: u64,
+    ) -> u64
+        requires table { seat.old.table_id ≡ self.now.table }
+        requires one { seat.old.me ≡ (known_of seat.old.me.0 ∷ [], []) }
+        requires within { word < self.now.table.words }
+        requires learns { LearnsBy (instance_at self.now O.step O.only_reads) (λ _. kind.now) (known_of seat.old.me.0) word (λ x. (x + (2 ^ 64 - k)) % 2 ^ 64) }
+        requires copied { IsCopyLearned (instance_at self.now O.step O.only_reads) kind.now (known_of seat.old.me.0) word (λ x. (x + (2 ^ 64 - k)) % 2 ^ 64) }
+        ensures table { seat.new.table_id ≡ seat.old.table_id }
+        ensures taught { TeachesCopied (instance_at self.now O.step O.only_reads) kind.now (known_of seat.old.me.0) result seat.new.me }
     {
         self.subtract_as::<Brand>(seat, kind, word, k)
     }

@@ -3,11 +3,11 @@
 
 ghost use Rattle.std.specs.Prelude.{◌≡◌, OnErr, OnOk, IfOk};
 ghost use Rattle.cx_core.specs.declared.kinds.Kind.TheVariants.{BackOff, Downgrade, ReleaseExclusive, TryExclusive, TryShared};
-ghost use Rattle.cx_rule.specs.Fitting.{Fitting, IsReplayed, IsReplayedToPlace};
+ghost use Rattle.cx_rule.specs.Fitting.{AgreeTo, Fitting, IsReplayed, IsReplayedToPlace};
 ghost use Rattle.cx_rule.specs.Running.{IsSeatOf, instance_at};
 ghost use Rattle.cx_rule.specs.Seats.{SeenGuard};
-ghost use Rattle.cx_rule.specs.Steps.{Halts, Steps};
-ghost use Rattle.cx_table.specs.Tokens.{HandsExclusive, HandsShared, IsDowngradedOf, IsExclusiveOf, IsRightOf, TriedExclusive, TriedShared, replica_of};
+ghost use Rattle.cx_rule.specs.Steps.{Halts, Steps, StepsCopied};
+ghost use Rattle.cx_table.specs.Tokens.{HandsExclusive, HandsShared, IsDowngradedOf, IsExclusiveOf, IsRightOf, IsSharedOf, TriedExclusive, TriedShared, replica_of};
 
 use crate::mirror::EXCLUSIVE_MARK;
 use crate::seat::CallerSeat;
@@ -76,6 +76,35 @@ impl<O: Object> Shared<O> {
         let kind = Kind::BackOff { r };
         let word = lock_at(self.callers, r);
         let found = self.subtract_learned(&mut seat.seat, &kind, word, 1);
+        seat.mirror.back_off(r);
+        Ok(found)
+    }
+
+    /// Gives a shared right back whose words were copied over the replica held exclusively: each was loaded, and it is the
+    /// word that was loaded or stored last there. The words loaded are then what is noted of the replica held exclusively, with
+    /// nothing stored since. It gives the word found.
+    pub fn release_copied(
+        &self,
+        seat: &mut CallerSeat,
+        held: &Exclusive,
+        source: SharedHold,
+    ) -> Result<u64, Halt>
+        requires seat { IsSeatOf self.now seat.old }
+        requires held { IsExclusiveOf self.now.callers seat.old held.now }
+        requires source { IsSharedOf self.now.callers seat.old source }
+        requires copied { AgreeTo seat.old.known seat.old.region }
+        ensures made { IfOk result (λ found. StepsCopied self.now O.step O.only_reads source.replica found seat.old seat.new) }
+        ensures held { OnOk result (IsExclusiveOf self.now.callers seat.new held.now) }
+        ensures fits { OnOk result (Fitting self.now.lines (O.lawful self.now.object) self.now.base seat.new.known) }
+        ensures halted { OnErr result (Halts self.now seat.old seat.new) }
+    {
+        let _ = held;
+        let SharedHold { replica, caller: _ } = source;
+        seat.mirror.check()?;
+        let r = replica as u64;
+        let kind = Kind::BackOff { r };
+        let word = lock_at(self.callers, r);
+        let found = self.subtract_copied(&mut seat.seat, &kind, word, 1);
         seat.mirror.back_off(r);
         Ok(found)
     }
