@@ -1,0 +1,2 @@
+mod Access
+mod RegionLaws
