@@ -1,2 +1,3 @@
 mod Access
+mod Reading
 mod RegionLaws

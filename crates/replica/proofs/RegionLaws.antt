@@ -1,5 +1,5 @@
 -- What an access does to the pairs that stand for a held replica.
-use Rattle.std.proofs.Common.{false, true, ◌≡◌, ◌^◌, ◌<◌, ℕ, List, [], ◌∷◌, ◌++◌, map, refl, ap, sym, subst, ◌∙◌, Result, Ok, Err, IfOk, OnOk}
+use Rattle.std.proofs.Common.{false, true, ◌≡◌, ◌^◌, ◌<◌, ℕ, List, [], ◌∷◌, ◌++◌, map, refl, ap, sym, subst, ◌∙◌, Result, Ok, Err, IfOk, OnErr, OnOk}
 use Rattle.std.proofs.lemmas.List.{map-append}
 use Rattle.cx_base.specs.Memory.{Loaded, Stored}
 use Rattle.cx_base.specs.Noted.{Note, NotesLead, shows_load, shows_store}
@@ -7,9 +7,10 @@ use Rattle.cx_core.specs.declared.entry.Base.{Base}
 use Rattle.cx_core.specs.Region.{region_words}
 use Rattle.cx_rule.specs.Fitting.{Fits, ReadFits, loads_of}
 use Rattle.cx_rule.specs.Running.{Running}
-use Rattle.cx_rule.specs.Seats.{Seated}
+use Rattle.cx_rule.specs.Seats.{IsWithinLimit, Seated}
+use Rattle.cx_rule.specs.Steps.{Halts}
 use Rattle.cx_table.specs.Right.{Right}
-use Rattle.replica.specs.Held.{Accesses, LoadsShared, loaded_of}
+use Rattle.replica.specs.Held.{Accesses, IsHeldShared, LoadsShared, loaded_of}
 use Rattle.replica.specs.Regions.{fits_shows}
 
 module _ (lines : ℕ) (lawful : List ℕ → Type 0) (base : Base) where
@@ -50,3 +51,9 @@ module _ {O E : Type 0} (lines : ℕ) (r : Running O) (lawful : List ℕ → Typ
   pub stands_read : (at : ℕ) (result : Result ℕ E) → IfOk result (λ v. LoadsShared lines r lawful held at v old new) → IfOk result (λ v. Loaded at v (ReadFits lines lawful r.base (loaded_of old.known.local.shared)) (ReadFits lines lawful r.base (loaded_of new.known.local.shared)))
   stands_read at (Ok v) made = subst (λ xs. Loaded at v (ReadFits lines lawful r.base (loaded_of old.known.local.shared)) (ReadFits lines lawful r.base xs)) (sym made.loaded) (read_load lines lawful r.base (loaded_of old.known.local.shared) at v)
   stands_read at (Err e) made = tt
+
+  -- a replica held shared still is, whether the load was made or not
+  pub shared_after : (at : ℕ) (result : Result ℕ E) → IfOk result (λ v. LoadsShared lines r lawful held at v old new) → OnErr result (Halts r old new) → IsHeldShared lines r lawful old held → IsWithinLimit old.known.local →
+      IsHeldShared lines r lawful new held × IsWithinLimit new.known.local
+  shared_after at (Ok v) made halts of within = (made.still, made.within)
+  shared_after at (Err e) made halts of within = subst (λ (s : Seated). IsHeldShared lines r lawful s held × IsWithinLimit s.known.local) (sym halts.same) (of, within)

@@ -15,6 +15,12 @@ pub record RegionFixed (Name Board : Type 0) : Type 0 where
   pub from : Seated
   pub rest : Seated
 
+-- the same of a region for loads
+pub record ReadFixed (Name Board : Type 0) : Type 0 where
+  pub name : Name
+  pub board : Board
+  pub rest : Seated
+
 -- accesses begin with these
 abbrev pub GoesOn : List Note → List Note → Type 0
 GoesOn from accesses = take (length from) accesses ≡ from

@@ -3,7 +3,11 @@
 #![tactic(auto)]
 
 mod board;
+mod outcomes;
+mod read_region;
 mod region;
 
 pub use board::Board;
+pub use outcomes::{outcome, place};
+pub use read_region::ReadRegion;
 pub use region::Region;
