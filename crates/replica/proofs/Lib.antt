@@ -1,3 +1,4 @@
 mod Access
 mod Reading
 mod RegionLaws
+mod Replaying

@@ -1,3 +1,4 @@
 pub mod Held
 pub mod Regions
 pub mod Outcomes
+pub mod Replays

@@ -1,29 +1,32 @@
 -- A held replica as a memory.
-use Rattle.std.specs.Prelude.{◌≡◌, ℕ, List, length, take}
+use Rattle.std.specs.Prelude.{◌≡◌, ℕ, Bool, List}
 use Rattle.cx_base.specs.Memory.{Words}
 use Rattle.cx_base.specs.Noted.{Note, NotesShow, shown_words}
 use Rattle.cx_core.specs.declared.entry.Base.{Base}
 use Rattle.cx_core.specs.Region.{region_words}
 use Rattle.cx_rule.specs.Fitting.{Fits, ReadFits, loads_of}
-use Rattle.cx_rule.specs.Seats.{Seated}
+use Rattle.cx_rule.specs.Seats.{Seated, place_noted}
+use Rattle.cx_table.specs.Right.{Right}
 
--- what no access of a region changes: the reference to the seat, the board, the seat as the region began, and the seat but for
--- what an access changes
+-- what no access of a region changes: the reference to the seat, the board, the token, whether the place was accessed before, and the seat
+-- but for what an access changes
 pub record RegionFixed (Name Board : Type 0) : Type 0 where
   pub name : Name
   pub board : Board
-  pub from : Seated
+  pub held : Right
+  pub placed : Bool
   pub rest : Seated
 
 -- the same of a region for loads
 pub record ReadFixed (Name Board : Type 0) : Type 0 where
   pub name : Name
   pub board : Board
+  pub held : Right
   pub rest : Seated
 
--- accesses begin with these
-abbrev pub GoesOn : List Note → List Note → Type 0
-GoesOn from accesses = take (length from) accesses ≡ from
+-- the place is among the words loaded or stored
+abbrev pub HasPlace : List Note → Type 0
+HasPlace accesses = (place : ℕ) → place_noted place accesses ≡ place_noted 0 accesses
 
 pub fits_shows : (lines : ℕ) (lawful : List ℕ → Type 0) (base : Base) (accesses : List Note) (first now : List ℕ) → Fits lines lawful base accesses first now → NotesShow (region_words lines) accesses first now
 fits_shows lines lawful base accesses first now f = record { words = f.origin.size; leads = f.leads }

@@ -6,8 +6,10 @@ mod board;
 mod outcomes;
 mod read_region;
 mod region;
+mod replay;
 
 pub use board::Board;
 pub use outcomes::{outcome, place};
 pub use read_region::ReadRegion;
 pub use region::Region;
+pub use replay::{apply, begin, replay_one};

@@ -44,7 +44,7 @@ impl<T: Board> Memory for ReadRegion<'_, T> {
 
     ghost Fixed = { ReadFixed GName T };
 
-    ghost fixed = { λ r. record { name = r.seat.ghost_name; board = r.board.now; rest = beside_shared r.held.now.replica r.seat.now } };
+    ghost fixed = { λ r. record { name = r.seat.ghost_name; board = r.board.now; held = r.held.now; rest = beside_shared r.held.now.replica r.seat.now } };
 
     // No step stores into a replica held shared. A seat whose limit is 0 makes no step at all, so that a store by it halts.
     ghost writable = { λ r. r.seat.now.known.local.limit == 0 };

@@ -1,26 +1,25 @@
 //! A replica held exclusively as a memory.
 
-ghost use Rattle.std.specs.Prelude.{◌≡◌};
+ghost use Rattle.std.specs.Prelude.{◌≡◌, IsTrue};
 ghost use Rattle.cx_rule.specs.Seats.{IsWithinLimit};
 ghost use Rattle.replica.specs.Held.{IsHeld};
-ghost use Rattle.replica.specs.Regions.{GoesOn};
+ghost use Rattle.replica.specs.Regions.{HasPlace};
 
 use crate::board::Board;
 use cx_base::{Halt, Memory};
 use cx_table::{CallerSeat, Exclusive};
-use std::snapshot::Snapshot;
 
 /// A replica held exclusively as a memory, for loads and stores. Its pairs are those that fit what the seat noted.
 #[derive(Drop)]
 pub struct Region<'a, T: Board> {
-    board: &'a T,
-    seat: &'a mut CallerSeat,
-    held: &'a Exclusive,
-    /// The seat as the region began.
-    from: Snapshot<CallerSeat>,
+    pub(crate) board: &'a T,
+    pub(crate) seat: &'a mut CallerSeat,
+    pub(crate) held: &'a Exclusive,
+    /// Whether the place was loaded or stored before the region began.
+    pub(crate) placed: bool,
     ghost of: { IsHeld (T.line_count board.now) (T.running board.now) (T.lawful board.now) seat.now held.now },
     ghost within: { IsWithinLimit seat.now.known.local },
-    ghost on: { GoesOn from.value.known.accesses seat.now.known.accesses },
+    ghost place: { IsTrue placed → HasPlace seat.now.known.accesses },
 }
 
 impl<'a, T: Board> Region<'a, T> {
@@ -30,16 +29,33 @@ impl<'a, T: Board> Region<'a, T> {
         ensures board { result.board.now ≡ board.now }
         ensures seat { result.seat.now ≡ seat.old }
         ensures held { result.held.now ≡ held.now }
-        ensures from { result.from.value ≡ seat.old }
         ensures name { result.seat.ghost_name ≡ seat.entry.ghost_name }
     {
         let _steps = seat.steps();
-        let from = Snapshot::of(&*seat);
         Region {
             board,
             seat,
             held,
-            from,
+            placed: false,
+        }
+    }
+
+    /// The same where the place was loaded or stored before. That it was is then known of the seat once the region ends.
+    pub fn placed(board: &'a T, seat: &'a mut CallerSeat, held: &'a Exclusive) -> Region<'a, T>
+        requires held { IsHeld (T.line_count board.now) (T.running board.now) (T.lawful board.now) seat.old held.now }
+        requires place { HasPlace seat.old.known.accesses }
+        ensures board { result.board.now ≡ board.now }
+        ensures seat { result.seat.now ≡ seat.old }
+        ensures held { result.held.now ≡ held.now }
+        ensures placed { IsTrue result.placed }
+        ensures name { result.seat.ghost_name ≡ seat.entry.ghost_name }
+    {
+        let _steps = seat.steps();
+        Region {
+            board,
+            seat,
+            held,
+            placed: true,
         }
     }
 }
@@ -56,7 +72,7 @@ impl<T: Board> Memory for Region<'_, T> {
 
     ghost Fixed = { RegionFixed GName T };
 
-    ghost fixed = { λ r. record { name = r.seat.ghost_name; board = r.board.now; from = r.from.value; rest = beside_held r.held.now.replica r.seat.now } };
+    ghost fixed = { λ r. record { name = r.seat.ghost_name; board = r.board.now; held = r.held.now; placed = r.placed; rest = beside_held r.held.now.replica r.seat.now } };
 
     ghost writable = { λ _. true };
 
