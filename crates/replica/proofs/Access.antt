@@ -29,7 +29,7 @@ at_itself r = eq-eqb r r refl
 -- ---- the parts of a seat
 
 -- the seat but for what an access changes, with these notes of entries, this exclusive right and this shared one
-abbrev beside : Seated → List Noted → Option HeldExclusive → Option HeldShared → Seated
+abbrev pub beside : Seated → List Noted → Option HeldExclusive → Option HeldShared → Seated
 beside s noted exclusive shared = record s { known = record { local = record s.known.local { exclusive = exclusive; shared = shared; steps = 0 }; noted = noted; accesses = [] } }
 
 unloaded : (r i found : ℕ) (o : Option HeldShared) → option_map (but_loaded r) (option_map (loaded_into r i found) o) ≡ option_map (but_loaded r) o

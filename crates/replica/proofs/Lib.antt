@@ -2,3 +2,4 @@ mod Access
 mod Reading
 mod RegionLaws
 mod Replaying
+mod Persisting

@@ -2,3 +2,4 @@ pub mod Held
 pub mod Regions
 pub mod Outcomes
 pub mod Replays
+pub mod Flushes

@@ -3,12 +3,14 @@
 #![tactic(auto)]
 
 mod board;
+mod flushing;
 mod outcomes;
 mod read_region;
 mod region;
 mod replay;
 
 pub use board::Board;
+pub use flushing::flush;
 pub use outcomes::{outcome, place};
 pub use read_region::ReadRegion;
 pub use region::Region;
