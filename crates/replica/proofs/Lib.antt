@@ -1,0 +1,5 @@
+mod Access
+mod Reading
+mod RegionLaws
+mod Replaying
+mod Persisting

@@ -1,0 +1,5 @@
+pub mod Held
+pub mod Regions
+pub mod Outcomes
+pub mod Replays
+pub mod Flushes
