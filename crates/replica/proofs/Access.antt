@@ -15,15 +15,15 @@ use Rattle.cx_core.specs.Rights.{exclusive_on, held_dirty, is_at, shared_on}
 use Rattle.cx_core.specs.State.{Instance, one_more}
 use Rattle.cx_rule.specs.declared.rule.Known.{Known}
 use Rattle.cx_rule.specs.declared.rule.Noted.{Noted}
-use Rattle.cx_rule.specs.Fitting.{Fitting, SomeFits, SomeReadFits}
+use Rattle.cx_rule.specs.Fitting.{Fitting, SomeFits, SomeReadFits, loaded_of}
 use Rattle.cx_rule.specs.Running.{IsSeatOf, Running, instance_at}
 use Rattle.cx_rule.specs.Seats.{Seated, stepped}
 use Rattle.cx_rule.specs.Steps.{Steps}
 use Rattle.cx_table.specs.Right.{Right}
 use Rattle.cx_table.specs.Tokens.{IsExclusiveOf, IsSharedOf}
-use Rattle.replica.specs.Held.{Accesses, IsHeld, IsHeldShared, LoadsShared, beside_held, beside_shared, but_loaded, but_words, loaded_of}
+use Rattle.replica.specs.Held.{Accesses, IsHeld, IsHeldShared, LoadsShared, beside_held, beside_shared, but_loaded, but_words}
 
-at_itself : (r : ℕ) → is_at r (Some r) ≡ true
+pub at_itself : (r : ℕ) → is_at r (Some r) ≡ true
 at_itself r = eq-eqb r r refl
 
 -- ---- the parts of a seat
@@ -40,12 +40,12 @@ unloaded r i found (Some h) = by (h.replica == r)
     by true = refl
     by false = refl
 
-unstored : (i v : ℕ) (o : Option HeldExclusive) → option_map but_words (option_map (stored_into i v) o) ≡ option_map but_words o
+pub unstored : (i v : ℕ) (o : Option HeldExclusive) → option_map but_words (option_map (stored_into i v) o) ≡ option_map but_words o
 unstored i v None = refl
 unstored i v (Some h) = refl
 
 -- the replica held exclusively, when all but the words is known
-replica_but_words : (o : Option HeldExclusive) → option_map (λ (h : HeldExclusive). h.replica) (option_map but_words o) ≡ option_map (λ (h : HeldExclusive). h.replica) o
+pub replica_but_words : (o : Option HeldExclusive) → option_map (λ (h : HeldExclusive). h.replica) (option_map but_words o) ≡ option_map (λ (h : HeldExclusive). h.replica) o
 replica_but_words None = refl
 replica_but_words (Some h) = refl
 
@@ -76,7 +76,7 @@ still_shared callers q before after held same of = record {
 
 -- ---- dirty words
 
-dirty_stored : (P : ℕ → Type 0) (i v : ℕ) (o : Option HeldExclusive) → P i → All P (held_dirty o) → All P (held_dirty (option_map (stored_into i v) o))
+pub dirty_stored : (P : ℕ → Type 0) (i v : ℕ) (o : Option HeldExclusive) → P i → All P (held_dirty o) → All P (held_dirty (option_map (stored_into i v) o))
 dirty_stored P i v None p all = all
 dirty_stored P i v (Some h) p all = by (is_in h.dirty i)
   where
@@ -132,7 +132,7 @@ module _ {O : Type 0} (lines : ℕ) (r : Running O) (step : O → List ℕ → L
       }
 
   -- what fits the words loaded of the replica held shared
-  shared_fits : (known : Known) → shared_on known.local ≡ Some held.replica → Fitting r.lines lawful r.base known → SomeReadFits r.lines lawful r.base (loaded_of known.local.shared)
+  pub shared_fits : (known : Known) → shared_on known.local ≡ Some held.replica → Fitting r.lines lawful r.base known → SomeReadFits r.lines lawful r.base (loaded_of known.local.shared)
   shared_fits known holds fits = by known.local.shared refl holds
     where
       by : (o : Option HeldShared) → known.local.shared ≡ o → option_map (λ (h : HeldShared). h.replica) o ≡ Some held.replica → SomeReadFits r.lines lawful r.base (loaded_of o)

@@ -5,12 +5,12 @@ use Rattle.cx_base.specs.Memory.{Loaded, Stored}
 use Rattle.cx_base.specs.Noted.{Note, NotesLead, shows_load, shows_store}
 use Rattle.cx_core.specs.declared.entry.Base.{Base}
 use Rattle.cx_core.specs.Region.{region_words}
-use Rattle.cx_rule.specs.Fitting.{Fits, ReadFits, loads_of}
+use Rattle.cx_rule.specs.Fitting.{Fits, ReadFits, loads_of, loaded_of}
 use Rattle.cx_rule.specs.Running.{Running}
 use Rattle.cx_rule.specs.Seats.{IsWithinLimit, Seated, place_noted}
 use Rattle.cx_rule.specs.Steps.{Halts}
 use Rattle.cx_table.specs.Right.{Right}
-use Rattle.replica.specs.Held.{Accesses, IsHeld, IsHeldShared, LoadsShared, loaded_of}
+use Rattle.replica.specs.Held.{Accesses, IsHeld, IsHeldShared, LoadsShared}
 use Rattle.replica.specs.Regions.{HasPlace, fits_shows}
 
 module _ (lines : ℕ) (lawful : List ℕ → Type 0) (base : Base) where

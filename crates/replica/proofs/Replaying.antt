@@ -107,18 +107,20 @@ module _ (lines : ℕ) (lawful : List ℕ → Type 0) (base : Base) (step : List
         place,
       )
 
-  -- what was not stored into is the image after the place that was loaded
+  -- what was not stored into since its place was loaded is the image after that place
+  pub unstored_image : (known : Known) → HasPlace known.accesses → StoresNone known.accesses → IsImage lines lawful base step known
+  unstored_image known begun none =
+      let same : (first now : List ℕ) → Fits lines lawful base known.accesses first now → now ≡ first = λ first now f. unchanged known.accesses first now none f.leads in
+      record {
+        begun = begun;
+        replayed = λ first now f. start (place_noted 0 known.accesses) now (sym (noted_at known.accesses begun first now f) ∙ ap place_of (same first now f)) (same first now f);
+        law = λ first now f. subst (λ ws. LawfulBase lines lawful (base_of ws)) (sym (same first now f)) f.origin;
+      }
+
   begins : (old new : Known) (place : ℕ) → StoresNone old.accesses → new.accesses ≡ old.accesses ++ (false, 0, place) ∷ [] → IsImage lines lawful base step new × (place_noted 0 new.accesses ≡ place)
   begins old new place none is =
-      let noted : (p : ℕ) → place_noted p new.accesses ≡ place = λ p. ap (place_noted p) is ∙ loaded_place old.accesses place p in
-      let begun : HasPlace new.accesses = λ p. noted p ∙ sym (noted 0) in
-      let same : (first now : List ℕ) → Fits lines lawful base new.accesses first now → now ≡ first =
-      λ first now f. unchanged new.accesses first now (subst StoresNone (sym is) (All-push (λ (note : Note). note.0 ≡ false) old.accesses (false, 0, place) none refl)) f.leads in (
-        record {
-          begun = begun;
-          replayed = λ first now f. start (place_noted 0 new.accesses) now (sym (noted_at new.accesses begun first now f) ∙ ap place_of (same first now f)) (same first now f);
-          law = λ first now f. subst (λ ws. LawfulBase lines lawful (base_of ws)) (sym (same first now f)) f.origin;
-        },
+      let noted : (p : ℕ) → place_noted p new.accesses ≡ place = λ p. ap (place_noted p) is ∙ loaded_place old.accesses place p in (
+        unstored_image new (λ p. noted p ∙ sym (noted 0)) (subst StoresNone (sym is) (All-push (λ (note : Note). note.0 ≡ false) old.accesses (false, 0, place) none refl)),
         noted 0,
       )
 

@@ -9,7 +9,7 @@ use Rattle.cx_core.specs.Layout.{max_word}
 use Rattle.cx_core.specs.Region.{region_words}
 use Rattle.cx_core.specs.Rights.{exclusive_on, held_dirty, is_at}
 use Rattle.cx_core.specs.State.{one_more}
-use Rattle.cx_rule.specs.Fitting.{SomeFits, SomeReadFits}
+use Rattle.cx_rule.specs.Fitting.{SomeFits, SomeReadFits, loaded_of}
 use Rattle.cx_rule.specs.Running.{IsSeatOf, Running}
 use Rattle.cx_rule.specs.Seats.{IsAtLimit, IsWithinLimit, Seated}
 use Rattle.cx_table.specs.Right.{Right}
@@ -18,11 +18,6 @@ use Rattle.cx_table.specs.Tokens.{IsExclusiveOf, IsSharedOf}
 -- the steps that the limit leaves, where 2^64 - 1 is none
 abbrev pub left_of : Local → Option ℕ
 left_of l = if nat_lt l.limit max_word then Some (l.limit - l.steps) else None
-
--- the words loaded of the replica held shared
-abbrev pub loaded_of : Option HeldShared → List (ℕ × ℕ)
-loaded_of None = []
-loaded_of (Some h) = h.loaded
 
 -- a table is of an object of so many lines, within the limits, and opens from a region of such an object
 pub record IsSized {O : Type 0} (lines : ℕ) (r : Running O) : Type 0 where

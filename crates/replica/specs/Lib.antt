@@ -3,3 +3,4 @@ pub mod Regions
 pub mod Outcomes
 pub mod Replays
 pub mod Flushes
+pub mod Copies

@@ -3,6 +3,7 @@
 #![tactic(auto)]
 
 mod board;
+mod copying;
 mod flushing;
 mod outcomes;
 mod read_region;
@@ -10,6 +11,7 @@ mod region;
 mod replay;
 
 pub use board::Board;
+pub use copying::{copy_from, renew_from};
 pub use flushing::flush;
 pub use outcomes::{outcome, place};
 pub use read_region::ReadRegion;

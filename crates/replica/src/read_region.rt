@@ -36,8 +36,8 @@ impl<T: Board> Memory for ReadRegion<'_, T> {
     ghost use Rattle.std.specs.Prelude.{List, ℕ, ◌==◌};
     ghost use Rattle.std.specs.Borrow.{GName};
     ghost use Rattle.cx_core.specs.Region.{region_words};
-    ghost use Rattle.cx_rule.specs.Fitting.{ReadFits};
-    ghost use Rattle.replica.specs.Held.{beside_shared, left_of, loaded_of};
+    ghost use Rattle.cx_rule.specs.Fitting.{ReadFits, loaded_of};
+    ghost use Rattle.replica.specs.Held.{beside_shared, left_of};
     ghost use Rattle.replica.specs.Regions.{ReadFixed, read_words};
 
     ghost size = { λ r. region_words (T.line_count r.board.now) };
