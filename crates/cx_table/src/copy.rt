@@ -80,6 +80,13 @@ impl Copy {
         self.words[i as usize]
     }
 
+    /// The place last loaded or stored.
+    pub(crate) fn place(&self) -> u64
+        ensures { result ≡ self.now.place }
+    {
+        self.place
+    }
+
     /// Which words are dirty.
     pub(crate) fn marks(&self) -> &[bool]
         ensures { result.now ≡ self.now.dirty }

@@ -4,7 +4,7 @@ ghost use Rattle.std.specs.Prelude.{◌≡◌, ◌+◌, ◌^◌, ◌<◌, ◌≤
 ghost use Rattle.std.specs.List.{Contains};
 ghost use Rattle.cx_core.specs.Rights.{held_dirty};
 ghost use Rattle.cx_core.specs.QueueEvents.{cell_of};
-ghost use Rattle.cx_rule.specs.Seats.{HasCells, IsWithinLimit, unanswered_ticket};
+ghost use Rattle.cx_rule.specs.Seats.{HasCells, IsWithinLimit, place_noted, unanswered_ticket};
 
 use crate::copy::Copy;
 use crate::mirror::Mirror;
@@ -107,6 +107,13 @@ impl CallerSeat {
         ensures { IsTrue result ↔ Contains (held_dirty self.now.known.local.exclusive) i }
     {
         self.copy.marks()[i as usize]
+    }
+
+    /// The place that was loaded or stored last of the replica that the caller holds exclusively, 0 where none was.
+    pub fn noted_place(&self) -> u64
+        ensures { result ≡ place_noted 0 self.now.known.accesses }
+    {
+        self.copy.place()
     }
 
     /// The link slot last looked at, and the word found there.

@@ -1,0 +1,203 @@
+-- What an access of a held replica does to the seat.
+use Rattle.std.proofs.Common.{◌≡◌, ◌⊎◌, ◌*◌, ◌<◌, ◌==◌, inl, inr, ℕ, Bool, true, false, cond, All, List, [], ◌∷◌, ◌++◌, length, refl, ap, sym, subst, ◌∙◌, arith, append-nil, eq-eqb, Option, Some, None, Result, Ok, Err, IfOk, OnOk}
+use Rattle.std.proofs.lemmas.List.Elements.{All-append, All-cons, All-nil}
+use Rattle.std.proofs.lemmas.Option.{none-some, same_Some}
+use Rattle.std.specs.Option.{option_map}
+use Rattle.cx_base.specs.Noted.{Note}
+use Rattle.cx_core.specs.declared.kinds.Kind.TheVariants.{LoadWord, StoreWord}
+use Rattle.cx_core.specs.declared.local.HeldExclusive.{HeldExclusive}
+use Rattle.cx_core.specs.declared.local.HeldShared.{HeldShared}
+use Rattle.cx_core.specs.declared.local.Local.{Local}
+use Rattle.cx_core.specs.LockEvents.{is_in, with_number}
+use Rattle.cx_core.specs.Region.{region_words}
+use Rattle.cx_core.specs.RegionEvents.{loaded_into, stored_into}
+use Rattle.cx_core.specs.Rights.{exclusive_on, held_dirty, is_at, shared_on}
+use Rattle.cx_core.specs.State.{Instance, one_more}
+use Rattle.cx_rule.specs.declared.rule.Known.{Known}
+use Rattle.cx_rule.specs.declared.rule.Noted.{Noted}
+use Rattle.cx_rule.specs.Fitting.{Fitting, SomeFits, SomeReadFits, loaded_of}
+use Rattle.cx_rule.specs.Running.{IsSeatOf, Running, instance_at}
+use Rattle.cx_rule.specs.Seats.{Seated, stepped}
+use Rattle.cx_rule.specs.Steps.{Steps}
+use Rattle.cx_table.specs.Right.{Right}
+use Rattle.cx_table.specs.Tokens.{IsExclusiveOf, IsSharedOf}
+use Rattle.replica.specs.Held.{Accesses, IsHeld, IsHeldShared, LoadsShared, beside_held, beside_shared, but_loaded, but_words}
+
+pub at_itself : (r : ℕ) → is_at r (Some r) ≡ true
+at_itself r = eq-eqb r r refl
+
+-- ---- the parts of a seat
+
+-- the seat but for what an access changes, with these notes of entries, this exclusive right and this shared one
+abbrev pub beside : Seated → List Noted → Option HeldExclusive → Option HeldShared → Seated
+beside s noted exclusive shared = record s { known = record { local = record s.known.local { exclusive = exclusive; shared = shared; steps = 0 }; noted = noted; accesses = [] } }
+
+unloaded : (r i found : ℕ) (o : Option HeldShared) → option_map (but_loaded r) (option_map (loaded_into r i found) o) ≡ option_map (but_loaded r) o
+unloaded r i found None = refl
+unloaded r i found (Some h) = by (h.replica == r)
+  where
+    by : (b : Bool) → Some (let x : HeldShared = record { replica = h.replica; loaded = cond b [] (cond b (h.loaded ++ (i, found) ∷ []) h.loaded) } in x) ≡ Some (record { replica = h.replica; loaded = cond b [] h.loaded })
+    by true = refl
+    by false = refl
+
+pub unstored : (i v : ℕ) (o : Option HeldExclusive) → option_map but_words (option_map (stored_into i v) o) ≡ option_map but_words o
+unstored i v None = refl
+unstored i v (Some h) = refl
+
+-- the replica held exclusively, when all but the words is known
+pub replica_but_words : (o : Option HeldExclusive) → option_map (λ (h : HeldExclusive). h.replica) (option_map but_words o) ≡ option_map (λ (h : HeldExclusive). h.replica) o
+replica_but_words None = refl
+replica_but_words (Some h) = refl
+
+replica_but_loaded : (r : ℕ) (o : Option HeldShared) → option_map (λ (h : HeldShared). h.replica) (option_map (but_loaded r) o) ≡ option_map (λ (h : HeldShared). h.replica) o
+replica_but_loaded r None = refl
+replica_but_loaded r (Some h) = refl
+
+-- a seat that is the same beside the words held holds the same
+pub still_exclusive : (callers q : ℕ) (before after : Seated) (held : Right) → beside_held q after ≡ beside_held q before → IsExclusiveOf callers before held → IsExclusiveOf callers after held
+still_exclusive callers q before after held same of = record {
+  few = of.few;
+  caller = of.caller ∙ sym (ap (λ (s : Seated). s.known.local.number) same);
+  holds = sym (replica_but_words after.known.local.exclusive)
+      ∙ ap (λ (s : Seated). option_map (λ (h : HeldExclusive). h.replica) s.known.local.exclusive) same
+      ∙ replica_but_words before.known.local.exclusive
+      ∙ of.holds;
+}
+
+pub still_shared : (callers q : ℕ) (before after : Seated) (held : Right) → beside_shared q after ≡ beside_shared q before → IsSharedOf callers before held → IsSharedOf callers after held
+still_shared callers q before after held same of = record {
+  few = of.few;
+  caller = of.caller ∙ sym (ap (λ (s : Seated). s.known.local.number) same);
+  holds = sym (replica_but_loaded q after.known.local.shared)
+      ∙ ap (λ (s : Seated). option_map (λ (h : HeldShared). h.replica) s.known.local.shared) same
+      ∙ replica_but_loaded q before.known.local.shared
+      ∙ of.holds;
+}
+
+-- ---- dirty words
+
+pub dirty_stored : (P : ℕ → Type 0) (i v : ℕ) (o : Option HeldExclusive) → P i → All P (held_dirty o) → All P (held_dirty (option_map (stored_into i v) o))
+dirty_stored P i v None p all = all
+dirty_stored P i v (Some h) p all = by (is_in h.dirty i)
+  where
+    by : (b : Bool) → All P (cond b h.dirty (h.dirty ++ i ∷ []))
+    by true = all
+    by false = All-append P h.dirty (i ∷ []) all (All-cons P i [] p (All-nil P))
+
+-- ---- accesses
+
+module _ {O : Type 0} (lines : ℕ) (r : Running O) (step : O → List ℕ → List ℕ → List ℕ × List ℕ) (reads : O → List ℕ → Bool) (lawful : List ℕ → Type 0) (held : Right) where
+  pub load_accesses : (at found : ℕ) (before after : Seated) → IsHeld lines r lawful before held → Steps r step reads (LoadWord held.replica at false) found before after → Fitting r.lines lawful r.base after.known → Accesses lines r lawful held (false, at, found) before after
+  load_accesses at found before after of s fits =
+      let rest : beside_held held.replica after ≡ beside_held held.replica before =
+      ap (beside_held held.replica) s.made
+      ∙ ap (λ n. beside before n (option_map but_words before.known.local.exclusive) (option_map (but_loaded held.replica) (option_map (loaded_into held.replica at found) before.known.local.shared))) (append-nil before.known.noted)
+      ∙ ap (λ o. beside before before.known.noted (option_map but_words before.known.local.exclusive) o) (unloaded held.replica at found before.known.local.shared) in
+      record {
+        allowed = s.allowed;
+        accesses = ap (λ (t : Seated). t.known.accesses) s.made
+            ∙ ap (λ o. cond (is_at held.replica o) (before.known.accesses ++ (false, at, found) ∷ []) before.known.accesses) of.right.holds
+            ∙ ap (λ b. cond b (before.known.accesses ++ (false, at, found) ∷ []) before.known.accesses) (at_itself held.replica);
+        steps = ap (λ (t : Seated). t.known.local.steps) s.made;
+        rest = rest;
+        within = s.within;
+        still = record {
+          sized = of.sized;
+          of = s.seat;
+          right = still_exclusive r.callers held.replica before after held rest of.right;
+          some = subst (λ n. SomeFits n lawful r.base after.known.accesses) of.sized.lines_are fits.exclusive;
+          dirty = subst (λ (t : Seated). All (λ i. i < region_words lines) (held_dirty t.known.local.exclusive)) (sym s.made) of.dirty;
+        };
+      }
+
+  pub store_accesses : (at v : ℕ) (before after : Seated) → at < region_words lines → IsHeld lines r lawful before held → Steps r step reads (StoreWord held.replica at v) 0 before after → Fitting r.lines lawful r.base after.known → Accesses lines r lawful held (true, at, v) before after
+  store_accesses at v before after below of s fits =
+      let rest : beside_held held.replica after ≡ beside_held held.replica before =
+      ap (beside_held held.replica) s.made
+      ∙ ap (λ n. beside before n (option_map but_words (option_map (stored_into at v) before.known.local.exclusive)) (option_map (but_loaded held.replica) before.known.local.shared)) (append-nil before.known.noted)
+      ∙ ap (λ o. beside before before.known.noted o (option_map (but_loaded held.replica) before.known.local.shared)) (unstored at v before.known.local.exclusive) in
+      record {
+        allowed = s.allowed;
+        accesses = ap (λ (t : Seated). t.known.accesses) s.made;
+        steps = ap (λ (t : Seated). t.known.local.steps) s.made;
+        rest = rest;
+        within = s.within;
+        still = record {
+          sized = of.sized;
+          of = s.seat;
+          right = still_exclusive r.callers held.replica before after held rest of.right;
+          some = subst (λ n. SomeFits n lawful r.base after.known.accesses) of.sized.lines_are fits.exclusive;
+          dirty = subst (λ (t : Seated). All (λ i. i < region_words lines) (held_dirty t.known.local.exclusive)) (sym s.made) (dirty_stored (λ i. i < region_words lines) at v before.known.local.exclusive below of.dirty);
+        };
+      }
+
+  -- what fits the words loaded of the replica held shared
+  pub shared_fits : (known : Known) → shared_on known.local ≡ Some held.replica → Fitting r.lines lawful r.base known → SomeReadFits r.lines lawful r.base (loaded_of known.local.shared)
+  shared_fits known holds fits = by known.local.shared refl holds
+    where
+      by : (o : Option HeldShared) → known.local.shared ≡ o → option_map (λ (h : HeldShared). h.replica) o ≡ Some held.replica → SomeReadFits r.lines lawful r.base (loaded_of o)
+      by None is there = absurd (none-some held.replica there)
+      by (Some h) is there = fits.shared h is
+
+  loaded_one_more : (at found : ℕ) (o : Option HeldShared) → option_map (λ (h : HeldShared). h.replica) o ≡ Some held.replica → loaded_of (option_map (loaded_into held.replica at found) o) ≡ loaded_of o ++ (at, found) ∷ []
+  loaded_one_more at found None there = absurd (none-some held.replica there)
+  loaded_one_more at found (Some h) there =
+      ap (λ b. cond b (h.loaded ++ (at, found) ∷ []) h.loaded) (eq-eqb h.replica held.replica (same_Some h.replica held.replica there))
+
+  beside_load : (b : Bool) (accesses more : List Note) → cond b [] (cond b more accesses) ≡ cond b [] accesses
+  beside_load true accesses more = refl
+  beside_load false accesses more = refl
+
+  pub load_shared_loads : (at found : ℕ) (before after : Seated) → IsHeldShared lines r lawful before held → Steps r step reads (LoadWord held.replica at false) found before after → Fitting r.lines lawful r.base after.known → LoadsShared lines r lawful held at found before after
+  load_shared_loads at found before after of s fits =
+      let with : List Noted → Option HeldShared → List Note → Seated =
+      λ noted shared accesses. record before { known = record { local = record before.known.local { shared = shared; steps = 0 }; noted = noted; accesses = accesses } } in
+      let q = held.replica in
+      let l = before.known.local in
+      let here = is_at q (exclusive_on l) in
+      let more = before.known.accesses ++ (false, at, found) ∷ [] in
+      let shared = option_map (but_loaded q) (option_map (loaded_into q at found) l.shared) in
+      let rest : beside_shared q after ≡ beside_shared q before =
+      ap (beside_shared q) s.made
+      ∙ ap (λ n. with n shared (cond here [] (cond here more before.known.accesses))) (append-nil before.known.noted)
+      ∙ ap (λ o. with before.known.noted o (cond here [] (cond here more before.known.accesses))) (unloaded q at found l.shared)
+      ∙ ap (λ xs. with before.known.noted (option_map (but_loaded q) l.shared) xs) (beside_load here before.known.accesses more) in
+      let right = still_shared r.callers q before after held rest of.right in
+      record {
+        allowed = s.allowed;
+        loaded = ap (λ (t : Seated). loaded_of t.known.local.shared) s.made ∙ loaded_one_more at found l.shared of.right.holds;
+        steps = ap (λ (t : Seated). t.known.local.steps) s.made;
+        rest = rest;
+        within = s.within;
+        still = record { sized = of.sized; of = s.seat; right = right; some = subst (λ n. SomeReadFits n lawful r.base (loaded_of after.known.local.shared)) of.sized.lines_are (shared_fits after.known right.holds fits) };
+      }
+
+-- ---- step calls
+
+module _ {O : Type 0} (lines : ℕ) (r : Running O) (lawful : List ℕ → Type 0) (held : Right) (q at : ℕ) (seat : Seated) where
+  pub store_guard : q ≡ held.replica → IsHeld lines r lawful seat held → at < region_words lines → (q < 2 * r.callers) × (at < length r.base.words) × (exclusive_on seat.known.local ≡ Some q)
+  store_guard is of below =
+      (let few = of.right.few in omega (arith, is), let long = of.sized.region in omega arith, of.right.holds ∙ ap Some (sym is))
+
+  pub load_guard : q ≡ held.replica → IsHeld lines r lawful seat held → at < region_words lines → (q < 2 * r.callers) × (at < length r.base.words) × ((exclusive_on seat.known.local ≡ Some q) ⊎ (shared_on seat.known.local ≡ Some q))
+  load_guard is of below = (let g = store_guard is of below in (g.0, g.1, inl g.2))
+
+  pub shared_guard : q ≡ held.replica → IsHeldShared lines r lawful seat held → at < region_words lines → (q < 2 * r.callers) × (at < length r.base.words) × ((exclusive_on seat.known.local ≡ Some q) ⊎ (shared_on seat.known.local ≡ Some q))
+  shared_guard is of below =
+      (let few = of.right.few in omega (arith, is), let long = of.sized.region in omega arith, inr (of.right.holds ∙ ap Some (sym is)))
+
+module _ {O E : Type 0} (lines : ℕ) (r : Running O) (step : O → List ℕ → List ℕ → List ℕ × List ℕ) (reads : O → List ℕ → Bool) (lawful : List ℕ → Type 0) (held : Right) (q at : ℕ) where
+  pub made_by_load : (before after : Seated) (result : Result ℕ E) → q ≡ held.replica → IsHeld lines r lawful before held → IfOk result (λ found. Steps r step reads (LoadWord q at false) found before after) → OnOk result (Fitting r.lines lawful r.base after.known) →
+      IfOk result (λ v. Accesses lines r lawful held (false, at, v) before after)
+  made_by_load before after (Ok v) is of made fits = load_accesses lines r step reads lawful held at v before after of (subst (λ k. Steps r step reads (LoadWord k at false) v before after) is made) fits
+  made_by_load before after (Err e) is of made fits = tt
+
+  pub made_by_shared_load : (before after : Seated) (result : Result ℕ E) → q ≡ held.replica → IsHeldShared lines r lawful before held → IfOk result (λ found. Steps r step reads (LoadWord q at false) found before after) → OnOk result (Fitting r.lines lawful r.base after.known) →
+      IfOk result (λ v. LoadsShared lines r lawful held at v before after)
+  made_by_shared_load before after (Ok v) is of made fits = load_shared_loads lines r step reads lawful held at v before after of (subst (λ k. Steps r step reads (LoadWord k at false) v before after) is made) fits
+  made_by_shared_load before after (Err e) is of made fits = tt
+
+  pub made_by_store : {A : Type 0} (v : ℕ) (before after : Seated) (result : Result A E) → q ≡ held.replica → at < region_words lines → IsHeld lines r lawful before held → IfOk result (λ _. Steps r step reads (StoreWord q at v) 0 before after) → OnOk result (Fitting r.lines lawful r.base after.known) →
+      OnOk result (Accesses lines r lawful held (true, at, v) before after)
+  made_by_store v before after (Ok x) is below of made fits = store_accesses lines r step reads lawful held at v before after below of (subst (λ k. Steps r step reads (StoreWord k at v) 0 before after) is made) fits
+  made_by_store v before after (Err e) is below of made fits = tt

@@ -1,0 +1,120 @@
+-- What a step of a copy does to the seat.
+use Rattle.std.proofs.Common.{false, ◌≡◌, ◌+◌, ◌<◌, ◌⊎◌, ◌*◌, ℕ, Bool, All, List, [], ◌++◌, length, refl, ap, sym, subst, ◌∙◌, append-nil, Option, Some, None, Result, Ok, Err, IfOk, OnErr, OnOk}
+use Rattle.std.specs.Option.{option_map}
+use Rattle.cx_base.specs.Noted.{Note}
+use Rattle.cx_core.specs.declared.kinds.Kind.TheVariants.{LoadWord, StoreWord}
+use Rattle.cx_core.specs.declared.local.HeldExclusive.{HeldExclusive}
+use Rattle.cx_core.specs.declared.local.HeldShared.{HeldShared}
+use Rattle.cx_core.specs.Region.{region_words}
+use Rattle.cx_core.specs.RegionEvents.{loaded_into, stored_into}
+use Rattle.cx_core.specs.Rights.{held_dirty}
+use Rattle.cx_rule.specs.declared.rule.Known.{Known}
+use Rattle.cx_rule.specs.declared.rule.Noted.{Noted}
+use Rattle.cx_rule.specs.Fitting.{AgreeTo, Fitting, SomeFits, SomeReadFits, loaded_of}
+use Rattle.cx_rule.specs.Running.{IsSeatOf, Running, instance_at}
+use Rattle.cx_rule.specs.Seats.{Seated, known_after}
+use Rattle.cx_rule.specs.Steps.{Halts, Steps}
+use Rattle.cx_rule.proofs.Copying.{agree_compared, agree_stored, known_compared}
+use Rattle.cx_table.specs.Right.{Right}
+use Rattle.cx_table.specs.Tokens.{IsExclusiveOf, IsSharedOf}
+use Rattle.replica.specs.Copies.{HoldsBoth, beside_copy, but_loads}
+use Rattle.replica.specs.Held.{IsHeld, IsHeldShared, but_words}
+use Rattle.replica.proofs.Access.{beside, dirty_stored, replica_but_words, shared_fits, unstored}
+
+unloaded_all : (r i found : ℕ) (o : Option HeldShared) → option_map but_loads (option_map (loaded_into r i found) o) ≡ option_map but_loads o
+unloaded_all r i found None = refl
+unloaded_all r i found (Some h) = refl
+
+replica_but_loads : (o : Option HeldShared) → option_map (λ (h : HeldShared). h.replica) (option_map but_loads o) ≡ option_map (λ (h : HeldShared). h.replica) o
+replica_but_loads None = refl
+replica_but_loads (Some h) = refl
+
+-- a seat that is the same beside a copy has the same rights
+exclusive_still : (callers : ℕ) (before after : Seated) (held : Right) → beside_copy after ≡ beside_copy before → IsExclusiveOf callers before held → IsExclusiveOf callers after held
+exclusive_still callers before after held same of = record {
+  few = of.few;
+  caller = of.caller ∙ sym (ap (λ (s : Seated). s.known.local.number) same);
+  holds = sym (replica_but_words after.known.local.exclusive)
+      ∙ ap (λ (s : Seated). option_map (λ (h : HeldExclusive). h.replica) s.known.local.exclusive) same
+      ∙ replica_but_words before.known.local.exclusive
+      ∙ of.holds;
+}
+
+shared_still : (callers : ℕ) (before after : Seated) (source : Right) → beside_copy after ≡ beside_copy before → IsSharedOf callers before source → IsSharedOf callers after source
+shared_still callers before after source same of = record {
+  few = of.few;
+  caller = of.caller ∙ sym (ap (λ (s : Seated). s.known.local.number) same);
+  holds = sym (replica_but_loads after.known.local.shared)
+      ∙ ap (λ (s : Seated). option_map (λ (h : HeldShared). h.replica) s.known.local.shared) same
+      ∙ replica_but_loads before.known.local.shared
+      ∙ of.holds;
+}
+
+module _ {O : Type 0} (lines : ℕ) (r : Running O) (step : O → List ℕ → List ℕ → List ℕ × List ℕ) (reads : O → List ℕ → Bool) (lawful : List ℕ → Type 0) (held source : Right) (before after : Seated) where
+  -- both rights stay through a step that is the same beside a copy, after which some pair fits
+  both_still : HoldsBoth lines r lawful before held source → IsSeatOf r after → beside_copy after ≡ beside_copy before → Fitting r.lines lawful r.base after.known → All (λ i. i < region_words lines) (held_dirty after.known.local.exclusive) →
+      HoldsBoth lines r lawful after held source
+  both_still both seat same fits dirty =
+      let right = shared_still r.callers before after source same both.shared.right in
+      record {
+        exclusive = record {
+          sized = both.exclusive.sized;
+          of = seat;
+          right = exclusive_still r.callers before after held same both.exclusive.right;
+          some = subst (λ n. SomeFits n lawful r.base after.known.accesses) both.exclusive.sized.lines_are fits.exclusive;
+          dirty = dirty;
+        };
+        shared = record {
+          sized = both.shared.sized;
+          of = seat;
+          right = right;
+          some = subst (λ n. SomeReadFits n lawful r.base (loaded_of after.known.local.shared)) both.shared.sized.lines_are (shared_fits lines r step reads lawful source after.known right.holds fits);
+        };
+      }
+
+  pub both_load : (q at found : ℕ) → HoldsBoth lines r lawful before held source → Steps r step reads (LoadWord q at false) found before after → Fitting r.lines lawful r.base after.known → HoldsBoth lines r lawful after held source
+  both_load q at found both s fits =
+      let exclusive = option_map but_words before.known.local.exclusive in
+      let rest : beside_copy after ≡ beside_copy before =
+      ap beside_copy s.made
+      ∙ ap (λ n. beside before n exclusive (option_map but_loads (option_map (loaded_into q at found) before.known.local.shared))) (append-nil before.known.noted)
+      ∙ ap (λ o. beside before before.known.noted exclusive o) (unloaded_all q at found before.known.local.shared) in
+      both_still both s.seat rest fits (subst (λ (t : Seated). All (λ i. i < region_words lines) (held_dirty t.known.local.exclusive)) (sym s.made) both.exclusive.dirty)
+
+  pub both_store : (q at v : ℕ) → at < region_words lines → HoldsBoth lines r lawful before held source → Steps r step reads (StoreWord q at v) 0 before after → Fitting r.lines lawful r.base after.known → HoldsBoth lines r lawful after held source
+  both_store q at v below both s fits =
+      let shared = option_map but_loads before.known.local.shared in
+      let rest : beside_copy after ≡ beside_copy before =
+      ap beside_copy s.made
+      ∙ ap (λ n. beside before n (option_map but_words (option_map (stored_into at v) before.known.local.exclusive)) shared) (append-nil before.known.noted)
+      ∙ ap (λ o. beside before before.known.noted o shared) (unstored at v before.known.local.exclusive) in
+      both_still both s.seat rest fits
+      (subst (λ (t : Seated). All (λ i. i < region_words lines) (held_dirty t.known.local.exclusive)) (sym s.made) (dirty_stored (λ i. i < region_words lines) at v before.known.local.exclusive below both.exclusive.dirty))
+
+module _ {O : Type 0} (r : Running O) (step : O → List ℕ → List ℕ → List ℕ × List ℕ) (reads : O → List ℕ → Bool) (held source : Right) (at old word : ℕ) (before mid after : Seated) (agree : AgreeTo before.known at) (right : IsExclusiveOf r.callers before held) (from : IsSharedOf r.callers before source)
+    (first : Steps r step reads (LoadWord held.replica at false) old before mid) (second : Steps r step reads (LoadWord source.replica at false) word mid after) where
+  compared : after.known ≡ known_compared (instance_at r step reads) held.replica source.replica at old word before.known
+  compared = ap (λ (s : Seated). s.known) second.made ∙ ap (λ (s : Seated). known_after (instance_at r step reads) (LoadWord source.replica at false) s.known word) first.made
+
+  -- a word that was found to be the same agrees
+  pub copied_same : old ≡ word → AgreeTo after.known (at + 1)
+  copied_same same =
+      subst (λ (k : Known). AgreeTo k (at + 1)) (sym compared) (agree_compared (instance_at r step reads) held.replica source.replica at old word before.known agree right.holds from.holds same)
+
+  -- and so does one that was stored over another
+  pub copied_over : (last : Seated) → Steps r step reads (StoreWord held.replica at word) 0 after last → AgreeTo last.known (at + 1)
+  copied_over last third =
+      subst (λ (k : Known). AgreeTo k (at + 1)) (sym (ap (λ (s : Seated). s.known) third.made ∙ ap (λ (k : Known). known_after (instance_at r step reads) (StoreWord held.replica at word) k 0) compared))
+      (agree_stored (instance_at r step reads) held.replica source.replica at old word before.known agree right.holds from.holds)
+
+module _ {O E : Type 0} (lines : ℕ) (r : Running O) (step : O → List ℕ → List ℕ → List ℕ × List ℕ) (reads : O → List ℕ → Bool) (lawful : List ℕ → Type 0) (held source : Right) (q at : ℕ) (before after : Seated) (both : HoldsBoth lines r lawful before held source) where
+  -- both rights stay after a load and after a store, whether the step was made or refused
+  pub load_both : (result : Result ℕ E) → IfOk result (λ found. Steps r step reads (LoadWord q at false) found before after) → OnOk result (Fitting r.lines lawful r.base after.known) → OnErr result (Halts r before after) →
+      HoldsBoth lines r lawful after held source
+  load_both (Ok found) made fits halted = both_load lines r step reads lawful held source before after q at found both made fits
+  load_both (Err e) made fits halted = subst (λ (s : Seated). HoldsBoth lines r lawful s held source) (sym halted.same) both
+
+  pub store_both : {A : Type 0} (v : ℕ) (result : Result A E) → at < region_words lines → IfOk result (λ _. Steps r step reads (StoreWord q at v) 0 before after) → OnOk result (Fitting r.lines lawful r.base after.known) → OnErr result (Halts r before after) →
+      HoldsBoth lines r lawful after held source
+  store_both v (Ok x) below made fits halted = both_store lines r step reads lawful held source before after q at v below both made fits
+  store_both v (Err e) below made fits halted = subst (λ (s : Seated). HoldsBoth lines r lawful s held source) (sym halted.same) both

@@ -1,0 +1,7 @@
+mod Access
+mod CopySteps
+mod Reading
+mod RegionLaws
+mod Replaying
+mod Persisting
+mod Renewing

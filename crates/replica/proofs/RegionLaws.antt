@@ -1,0 +1,81 @@
+-- What an access does to the pairs that stand for a held replica.
+use Rattle.std.proofs.Common.{Bool, IsTrue, cond, false, true, ◌==◌, ◌≡◌, ◌^◌, ◌<◌, ℕ, List, [], ◌∷◌, ◌++◌, map, refl, ap, sym, subst, ◌∙◌, Result, Ok, Err, IfOk, OnErr, OnOk}
+use Rattle.std.proofs.lemmas.List.{map-append}
+use Rattle.cx_base.specs.Memory.{Loaded, Stored}
+use Rattle.cx_base.specs.Noted.{Note, NotesLead, shows_load, shows_store}
+use Rattle.cx_core.specs.declared.entry.Base.{Base}
+use Rattle.cx_core.specs.Region.{region_words}
+use Rattle.cx_rule.specs.Fitting.{Fits, ReadFits, loads_of, loaded_of}
+use Rattle.cx_rule.specs.Running.{Running}
+use Rattle.cx_rule.specs.Seats.{IsWithinLimit, Seated, place_noted}
+use Rattle.cx_rule.specs.Steps.{Halts}
+use Rattle.cx_table.specs.Right.{Right}
+use Rattle.replica.specs.Held.{Accesses, IsHeld, IsHeldShared, LoadsShared}
+use Rattle.replica.specs.Regions.{HasPlace, fits_shows}
+
+module _ (lines : ℕ) (lawful : List ℕ → Type 0) (base : Base) where
+  fits_load : (accesses : List Note) (at v : ℕ) → Loaded at v (Fits lines lawful base accesses) (Fits lines lawful base (accesses ++ (false, at, v) ∷ []))
+  fits_load accesses at v =
+      let s = shows_load (region_words lines) accesses at v in
+      record {
+        back = λ first now f. (let p = s.back first now (fits_shows lines lawful base _ first now f) in (record { origin = f.origin; from = f.from; leads = p.0.leads }, p.1));
+        on = λ first now f e. record { origin = f.origin; from = f.from; leads = (s.on first now (fits_shows lines lawful base _ first now f) e).leads };
+      }
+
+  fits_store : (accesses : List Note) (at v : ℕ) → v < 2 ^ 64 → Stored at v (Fits lines lawful base accesses) (Fits lines lawful base (accesses ++ (true, at, v) ∷ []))
+  fits_store accesses at v small =
+      let s = shows_store (region_words lines) accesses at v small in
+      record {
+        back = λ first now f. (let p = s.back first now (fits_shows lines lawful base _ first now f) in (p.0, record { origin = f.origin; from = f.from; leads = p.1.leads }, p.2));
+        on = λ first before f. record { origin = f.origin; from = f.from; leads = (s.on first before (fits_shows lines lawful base _ first before f)).leads };
+      }
+
+  read_load : (loaded : List (ℕ × ℕ)) (at v : ℕ) → Loaded at v (ReadFits lines lawful base loaded) (ReadFits lines lawful base (loaded ++ (at, v) ∷ []))
+  read_load loaded at v =
+      let l = fits_load (loads_of loaded) at v in
+      let more : loads_of (loaded ++ (at, v) ∷ []) ≡ loads_of loaded ++ (false, at, v) ∷ [] = map-append (λ (x : ℕ × ℕ). (let n : Note = (false, x.0, x.1) in n)) loaded ((at, v) ∷ []) in
+      record {
+        back = λ first now f. (let p = l.back first now (subst (λ xs. Fits lines lawful base xs first now) more f.fits) in (record { fits = p.0; same = f.same }, p.1));
+        on = λ first now f e. record { fits = subst (λ xs. Fits lines lawful base xs first now) (sym more) (l.on first now f.fits e); same = f.same };
+      }
+
+-- the place after accesses, and more of them
+place_append : (place : ℕ) (xs ys : List Note) → place_noted place (xs ++ ys) ≡ place_noted (place_noted place xs) ys
+place_append place [] ys = refl
+place_append place ((s, a, w) ∷ xs) ys = place_append (cond (a == 0) w place) xs ys
+
+-- a place that is noted stays so
+still_placed : (xs ys : List Note) → HasPlace xs → HasPlace (xs ++ ys)
+still_placed xs ys has place = place_append place xs ys ∙ ap (λ p. place_noted p ys) (has place) ∙ sym (place_append 0 xs ys)
+
+-- a load of the place notes it
+pub loaded_place : (xs : List Note) (v place : ℕ) → place_noted place (xs ++ (false, 0, v) ∷ []) ≡ v
+loaded_place xs v place = place_append place xs ((false, 0, v) ∷ [])
+
+module _ {O E : Type 0} (lines : ℕ) (r : Running O) (lawful : List ℕ → Type 0) (held : Right) (old new : Seated) where
+  pub stands_loaded : (at : ℕ) (result : Result ℕ E) → IfOk result (λ v. Accesses lines r lawful held (false, at, v) old new) → IfOk result (λ v. Loaded at v (Fits lines lawful r.base old.known.accesses) (Fits lines lawful r.base new.known.accesses))
+  stands_loaded at (Ok v) made = subst (λ xs. Loaded at v (Fits lines lawful r.base old.known.accesses) (Fits lines lawful r.base xs)) (sym made.accesses) (fits_load lines lawful r.base old.known.accesses at v)
+  stands_loaded at (Err e) made = tt
+
+  pub stands_stored : {A : Type 0} (at v : ℕ) (result : Result A E) → v < 2 ^ 64 → OnOk result (Accesses lines r lawful held (true, at, v) old new) → IfOk result (λ _. Stored at v (Fits lines lawful r.base old.known.accesses) (Fits lines lawful r.base new.known.accesses))
+  stands_stored at v (Ok x) small made = subst (λ xs. Stored at v (Fits lines lawful r.base old.known.accesses) (Fits lines lawful r.base xs)) (sym made.accesses) (fits_store lines lawful r.base old.known.accesses at v small)
+  stands_stored at v (Err e) small made = tt
+
+  pub stands_read : (at : ℕ) (result : Result ℕ E) → IfOk result (λ v. LoadsShared lines r lawful held at v old new) → IfOk result (λ v. Loaded at v (ReadFits lines lawful r.base (loaded_of old.known.local.shared)) (ReadFits lines lawful r.base (loaded_of new.known.local.shared)))
+  stands_read at (Ok v) made = subst (λ xs. Loaded at v (ReadFits lines lawful r.base (loaded_of old.known.local.shared)) (ReadFits lines lawful r.base xs)) (sym made.loaded) (read_load lines lawful r.base (loaded_of old.known.local.shared) at v)
+  stands_read at (Err e) made = tt
+
+  -- a replica held shared still is, whether the load was made or not
+  pub shared_after : (at : ℕ) (result : Result ℕ E) → IfOk result (λ v. LoadsShared lines r lawful held at v old new) → OnErr result (Halts r old new) → IsHeldShared lines r lawful old held → IsWithinLimit old.known.local →
+      IsHeldShared lines r lawful new held × IsWithinLimit new.known.local
+  shared_after at (Ok v) made halts of within = (made.still, made.within)
+  shared_after at (Err e) made halts of within = subst (λ (s : Seated). IsHeldShared lines r lawful s held × IsWithinLimit s.known.local) (sym halts.same) (of, within)
+
+  -- so does one held exclusively, and a place that was noted still is
+  pub held_after : {A : Type 0} (note : A → Note) (placed : Bool) (result : Result A E) → IfOk result (λ x. Accesses lines r lawful held (note x) old new) → OnErr result (Halts r old new) →
+      IsHeld lines r lawful old held → IsWithinLimit old.known.local → (IsTrue placed → HasPlace old.known.accesses) →
+      IsHeld lines r lawful new held × IsWithinLimit new.known.local × (IsTrue placed → HasPlace new.known.accesses)
+  held_after note placed (Ok x) made halts of within place =
+      (made.still, made.within, λ yes. subst HasPlace (sym made.accesses) (still_placed old.known.accesses (note x ∷ []) (place yes)))
+  held_after note placed (Err e) made halts of within place =
+      subst (λ (s : Seated). IsHeld lines r lawful s held × IsWithinLimit s.known.local × (IsTrue placed → HasPlace s.known.accesses)) (sym halts.same) (of, within, place)

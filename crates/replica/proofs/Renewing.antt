@@ -1,0 +1,64 @@
+-- A replica over which another was copied, whose shared right was given back.
+use Rattle.std.proofs.Common.{false, ◌≡◌, ◌<◌, ℕ, Bool, cond, All, List, [], ◌∷◌, length, refl, ap, sym, subst, ◌∙◌, append-nil, arith, Some, None}
+use Rattle.std.proofs.lemmas.List.Elements.{All-cons, All-nil}
+use Rattle.std.proofs.lemmas.Option.{none-some}
+use Rattle.std.specs.Option.{option_map}
+use Rattle.cx_base.specs.Noted.{Note}
+use Rattle.cx_core.specs.declared.local.Local.{Local}
+use Rattle.cx_core.specs.LockEvents.{backed_off}
+use Rattle.cx_core.specs.Region.{region_words}
+use Rattle.cx_core.specs.Rights.{held_dirty, is_at}
+use Rattle.cx_core.specs.State.{one_more}
+use Rattle.cx_rule.specs.declared.rule.Noted.{Noted}
+use Rattle.cx_rule.specs.Fitting.{AgreeTo, Fitting, SomeFits, loaded_of, loads_of, word_noted}
+use Rattle.cx_rule.specs.Running.{Running}
+use Rattle.cx_rule.specs.Seats.{Seated, place_noted}
+use Rattle.cx_rule.specs.Steps.{StepsCopied}
+use Rattle.cx_rule.proofs.Copying.{noted_place}
+use Rattle.cx_table.specs.Right.{Right}
+use Rattle.cx_table.specs.Tokens.{IsExclusiveOf}
+use Rattle.replica.specs.Copies.{HoldsBoth, beside_copy, but_loads, without_shared}
+use Rattle.replica.specs.Held.{IsHeld, but_words}
+use Rattle.replica.specs.Regions.{HasPlace}
+use Rattle.replica.specs.Replays.{IsImage, StoresNone}
+use Rattle.replica.proofs.Access.{at_itself}
+use Rattle.replica.proofs.Replaying.{unstored_image}
+
+-- words loaded are no stores
+loads_store_none : (loaded : List (ℕ × ℕ)) → StoresNone (loads_of loaded)
+loads_store_none [] = All-nil (λ (note : Note). note.0 ≡ false)
+loads_store_none (x ∷ loaded) = All-cons (λ (note : Note). note.0 ≡ false) (false, x.0, x.1) (loads_of loaded) refl (loads_store_none loaded)
+
+-- a place that was noted is the one noted last, whatever was known before
+place_is : (accesses : List Note) (place v : ℕ) → word_noted None 0 accesses ≡ Some v → place_noted place accesses ≡ v
+place_is accesses place v is = noted_place accesses place v None (λ w e. absurd (none-some w e)) is
+
+module _ {O : Type 0} (lines : ℕ) (r : Running O) (step : O → List ℕ → List ℕ → List ℕ × List ℕ) (reads : O → List ℕ → Bool) (lawful : List ℕ → Type 0) (held source : Right) (found : ℕ) (before after : Seated)
+    (both : HoldsBoth lines r lawful before held source) (copied : StepsCopied r step reads source.replica found before after) where
+  abbrev old : Local
+  old = before.known.local
+
+  left : backed_off source.replica old ≡ record old { shared = None; steps = one_more old.steps }
+  left = ap (λ (b : Bool). cond b (record old { shared = None; steps = one_more old.steps }) (cond (is_at source.replica old.passer) (record old { passer = None; steps = one_more old.steps }) (record old { downgraded = None; steps = one_more old.steps })))
+      (ap (is_at source.replica) both.shared.right.holds ∙ at_itself source.replica)
+
+  pub renewed_held : IsExclusiveOf r.callers after held → Fitting r.lines lawful r.base after.known → IsHeld lines r lawful after held
+  renewed_held right fits =
+      let local : after.known.local ≡ record old { shared = None; steps = one_more old.steps } = ap (λ (s : Seated). s.known.local) copied.made ∙ left in
+      record {
+        sized = both.exclusive.sized;
+        of = copied.seat;
+        right = right;
+        some = subst (λ n. SomeFits n lawful r.base after.known.accesses) both.exclusive.sized.lines_are fits.exclusive;
+        dirty = subst (λ (l : Local). All (λ i. i < region_words lines) (held_dirty l.exclusive)) (sym local) both.exclusive.dirty;
+      }
+
+  -- the words copied are an image, at the place that was copied
+  pub renewed_image : AgreeTo before.known (region_words lines) → IsImage lines lawful r.base (step r.object) after.known × (place_noted 0 after.known.accesses ≡ place_noted 0 before.known.accesses)
+  renewed_image agree =
+      let first = agree 0 (omega arith) in
+      let accesses : after.known.accesses ≡ loads_of (loaded_of old.shared) = ap (λ (s : Seated). s.known.accesses) copied.made in
+      let noted : (p : ℕ) → place_noted p after.known.accesses ≡ first.0 = λ p. ap (place_noted p) accesses ∙ place_is (loads_of (loaded_of old.shared)) p first.0 first.2 in (
+        unstored_image lines lawful r.base (step r.object) after.known (λ p. noted p ∙ sym (noted 0)) (subst StoresNone (sym accesses) (loads_store_none (loaded_of old.shared))),
+        noted 0 ∙ sym (place_is before.known.accesses 0 first.0 first.1),
+      )

@@ -1,0 +1,138 @@
+-- What was replayed on a replica held exclusively.
+use Rattle.std.proofs.Common.{false, true, Bool, cond, ◌≡◌, ◌≢◌, ◌+◌, ◌*◌, ◌^◌, ◌<◌, ◌==◌, ℕ, All, List, [], ◌∷◌, ◌++◌, drop, eq-eqb, length, ne_eqb, refl, set, slice_index, slice_set, take, ap, sym, subst, ◌∙◌, arith, Result, Ok, Err, IfOk, OnOk, inl, inr}
+use Rattle.std.proofs.Math.Logic.{∥∥₁_elim}
+use Rattle.std.proofs.Props.{props}
+use Rattle.std.proofs.lemmas.Bool.{cases_eq, true≢false}
+use Rattle.std.proofs.lemmas.List.Elements.{All-head, All-push, All-tail}
+use Rattle.std.proofs.lemmas.List.{get_or-set_other, get_or-set_same, length-set, take-append-drop}
+use Rattle.cx_base.specs.Memory.{Becomes, Words}
+use Rattle.cx_base.specs.Noted.{Note, NotesLead}
+use Rattle.cx_core.specs.declared.entry.Base.{Base}
+use Rattle.cx_core.specs.declared.entry.Entry.{Entry}
+use Rattle.cx_core.specs.Base.{LawfulBase}
+use Rattle.cx_core.specs.History.{IsLawfulEntry}
+use Rattle.cx_core.specs.Region.{object_part, place_of, region_words}
+use Rattle.cx_core.specs.Step.{full_step_of}
+use Rattle.cx_core.proofs.HistoryLemmas.{ObjectLaws}
+use Rattle.cx_core.proofs.KeepLemmas as keep
+use Rattle.cx_rule.specs.declared.rule.Known.{Known}
+use Rattle.cx_rule.specs.declared.rule.Noted.{Noted}
+use Rattle.cx_rule.specs.Fitting.{Fits, IsNoted, ReplayedTo, SomeFits, base_of, start, with_entry}
+use Rattle.cx_rule.specs.Running.{Running}
+use Rattle.cx_rule.specs.Seats.{Seated, place_noted}
+use Rattle.cx_table.specs.Right.{Right}
+use Rattle.replica.specs.Held.{Accesses, beside_held}
+use Rattle.replica.specs.Regions.{HasPlace}
+use Rattle.replica.proofs.RegionLaws.{loaded_place}
+use Rattle.replica.specs.Replays.{IsImage, StoresNone, noted_place}
+
+-- ---- the place that was noted
+
+place_one : (at w place : ℕ) (P : ℕ → Type 0) → (at ≡ 0 → P w) → (at ≢ 0 → P place) → P (cond (at == 0) w place)
+place_one at w place P here there = elim (cases_eq at 0) [
+  | inl is ↦ subst (λ b. P (cond b w place)) (sym (eq-eqb at 0 is)) (here is)
+  | inr off ↦ subst (λ b. P (cond b w place)) (sym (ne_eqb at 0 off)) (there off)
+]
+
+-- the place of the words that accesses lead to is the one noted
+place_told : (accesses : List Note) (ws now : List ℕ) (place : ℕ) → place_of ws ≡ place → 0 < length ws → NotesLead accesses ws now → place_of now ≡ place_noted place accesses
+place_told [] ws now place at some leads = ap place_of leads ∙ at
+place_told ((false, a, w) ∷ accesses) ws now place at some leads =
+    place_told accesses ws now (cond (a == 0) w place)
+    (place_one a w place (λ p. place_of ws ≡ p) (λ is. ap (slice_index ws) (sym is) ∙ leads.0) (λ off. at))
+    some leads.1
+place_told ((true, a, w) ∷ accesses) ws now place at some leads =
+    place_told accesses (slice_set ws a w) now (cond (a == 0) w place)
+    (place_one a w place (λ p. place_of (slice_set ws a w) ≡ p) (λ is. ap (λ k. place_of (slice_set ws k w)) is ∙ get_or-set_same ws 0 w 0 some) (λ off. get_or-set_other ws a 0 w 0 (λ e. off (sym e)) ∙ at))
+    (subst (λ n. 0 < n) (sym (length-set ws a w)) some) leads.1
+
+-- what accesses without a store lead to is what was there
+unchanged : (accesses : List Note) (ws now : List ℕ) → StoresNone accesses → NotesLead accesses ws now → now ≡ ws
+unchanged [] ws now none leads = leads
+unchanged ((false, a, w) ∷ accesses) ws now none leads = unchanged accesses ws now (All-tail (λ (note : Note). note.0 ≡ false) (false, a, w) accesses none) leads.1
+unchanged ((true, a, w) ∷ accesses) ws now none leads = absurd (true≢false (All-head (λ (note : Note). note.0 ≡ false) (true, a, w) accesses none))
+
+-- ---- images
+
+module _ (lines : ℕ) (lawful : List ℕ → Type 0) (base : Base) (step : List ℕ → List ℕ → List ℕ × List ℕ) where
+  -- the region is at the place that was noted
+  noted_at : (accesses : List Note) → HasPlace accesses → (first now : List ℕ) → Fits lines lawful base accesses first now → place_of now ≡ place_noted 0 accesses
+  noted_at accesses begun first now f =
+      let some : 0 < length first = (let long = f.origin.size.long in omega arith) in
+      place_told accesses first now (place_of first) refl some f.leads ∙ begun (place_of first)
+
+  pub image_at : (known : Known) → IsImage lines lawful base step known → (first now : List ℕ) → Fits lines lawful base known.accesses first now → place_of now ≡ place_noted 0 known.accesses
+  image_at known image first now f = noted_at known.accesses image.begun first now f
+
+  pub image_below : (known : Known) (bound : ℕ) → IsImage lines lawful base step known → place_noted 0 known.accesses < bound → (first now : List ℕ) → Fits lines lawful base known.accesses first now → place_of now < bound
+  image_below known bound image small first now f = subst (λ p. p < bound) (sym (image_at known image first now f)) small
+
+  pub image_object : (known : Known) → IsImage lines lawful base step known → (first now : List ℕ) → Fits lines lawful base known.accesses first now → lawful (object_part now)
+  image_object known image first now f = (image.law first now f).object
+
+  -- a full step leads to the next image
+  steps_on : ObjectLaws lines lawful step → (old new : Known) (entry : Entry) → new.noted ≡ old.noted → IsImage lines lawful base step old → IsNoted old.noted (place_noted 0 old.accesses) entry → IsLawfulEntry (place_noted 0 old.accesses) entry → place_noted 0 old.accesses < 2 ^ 40 →
+      Becomes (Fits lines lawful base old.accesses) (Fits lines lawful base new.accesses) (λ before now. now ≡ full_step_of step entry before) →
+      (first now : List ℕ) → Fits lines lawful base new.accesses first now → ReplayedTo step new.noted first (place_noted 0 old.accesses + 1) now × LawfulBase lines lawful (base_of now) × (place_of now ≡ place_noted 0 old.accesses + 1)
+  steps_on laws old new entry same image noted is small becomes first now f =
+      let ticket = place_noted 0 old.accesses in
+      let b = becomes.from first now f in
+      let before = b.0 in
+      let law = image.law first before b.1 in
+      let at = image_at old image first before b.1 in
+      let part = object_part before in
+      let most = is.most in
+      let part_lawful = laws.keeps part entry.op law.object is.op in
+      let next : Base = record { place = place_of before + 1; words = now } in
+      let kept = keep.keeps lines lawful step (base_of before) entry next law (omega (arith, at)) is.caller is.some (omega (arith, at, most))
+      part_lawful (laws.shape (step part entry.op).0 part_lawful) (laws.replies part entry.op law.object is.op) refl b.2 in
+      let place : place_of now ≡ place_of before + 1 = kept.lawful_next.at_place in (
+        subst (λ ns. ReplayedTo step ns first (ticket + 1) now) (sym same) (with_entry (ticket + 1) now ticket before entry refl b.2 noted (image.replayed first before b.1)),
+        subst (λ q. LawfulBase lines lawful (let x : Base = record { place = q; words = now } in x)) (sym place) kept.lawful_next,
+        place ∙ ap (λ p. p + 1) at,
+      )
+
+  -- so it is the image after the next place
+  next_image : ObjectLaws lines lawful step → (old new : Known) (entry : Entry) → new.noted ≡ old.noted → HasPlace new.accesses → SomeFits lines lawful base new.accesses → IsImage lines lawful base step old → IsNoted old.noted (place_noted 0 old.accesses) entry → IsLawfulEntry (place_noted 0 old.accesses) entry → place_noted 0 old.accesses < 2 ^ 40 →
+      Becomes (Fits lines lawful base old.accesses) (Fits lines lawful base new.accesses) (λ before now. now ≡ full_step_of step entry before) → IsImage lines lawful base step new × (place_noted 0 new.accesses ≡ place_noted 0 old.accesses + 1)
+  next_image laws old new entry same begun some image noted is small becomes =
+      let on = steps_on laws old new entry same image noted is small becomes in
+      let place : place_noted 0 new.accesses ≡ place_noted 0 old.accesses + 1 =
+      ∥∥₁_elim some (hlevel props) (λ p. (let f = p.2 in sym (noted_at new.accesses begun p.0 p.1 f) ∙ (on p.0 p.1 f).2)) in (
+        record {
+          begun = begun;
+          replayed = λ first now f. subst (λ p. ReplayedTo step new.noted first p now) (sym place) (on first now f).0;
+          law = λ first now f. (on first now f).1;
+        },
+        place,
+      )
+
+  -- what was not stored into since its place was loaded is the image after that place
+  pub unstored_image : (known : Known) → HasPlace known.accesses → StoresNone known.accesses → IsImage lines lawful base step known
+  unstored_image known begun none =
+      let same : (first now : List ℕ) → Fits lines lawful base known.accesses first now → now ≡ first = λ first now f. unchanged known.accesses first now none f.leads in
+      record {
+        begun = begun;
+        replayed = λ first now f. start (place_noted 0 known.accesses) now (sym (noted_at known.accesses begun first now f) ∙ ap place_of (same first now f)) (same first now f);
+        law = λ first now f. subst (λ ws. LawfulBase lines lawful (base_of ws)) (sym (same first now f)) f.origin;
+      }
+
+  begins : (old new : Known) (place : ℕ) → StoresNone old.accesses → new.accesses ≡ old.accesses ++ (false, 0, place) ∷ [] → IsImage lines lawful base step new × (place_noted 0 new.accesses ≡ place)
+  begins old new place none is =
+      let noted : (p : ℕ) → place_noted p new.accesses ≡ place = λ p. ap (place_noted p) is ∙ loaded_place old.accesses place p in (
+        unstored_image new (λ p. noted p ∙ sym (noted 0)) (subst StoresNone (sym is) (All-push (λ (note : Note). note.0 ≡ false) old.accesses (false, 0, place) none refl)),
+        noted 0,
+      )
+
+module _ {E : Type 0} (lines : ℕ) (lawful : List ℕ → Type 0) (base : Base) (step : List ℕ → List ℕ → List ℕ × List ℕ) (old new : Known) where
+  -- whether the load was made or not
+  pub begins_after : (result : Result ℕ E) → StoresNone old.accesses → IfOk result (λ v. new.accesses ≡ old.accesses ++ (false, 0, v) ∷ []) →
+      OnOk result (IsImage lines lawful base step new) × IfOk result (λ v. place_noted 0 new.accesses ≡ v)
+  begins_after (Ok v) none made = begins lines lawful base step old new v none made
+  begins_after (Err e) none made = (tt, tt)
+
+  -- whether the full step was done or not
+  pub image_after : {X : Type 0} → ObjectLaws lines lawful step → (entry : Entry) (result : Result X E) → new.noted ≡ old.noted → HasPlace new.accesses → SomeFits lines lawful base new.accesses → IsImage lines lawful base step old → IsNoted old.noted (place_noted 0 old.accesses) entry → IsLawfulEntry (place_noted 0 old.accesses) entry → place_noted 0 old.accesses < 2 ^ 40 →
+      OnOk result (Becomes (Fits lines lawful base old.accesses) (Fits lines lawful base new.accesses) (λ before now. now ≡ full_step_of step entry before)) → OnOk result (IsImage lines lawful base step new) × OnOk result (place_noted 0 new.accesses ≡ place_noted 0 old.accesses + 1)
+  image_after laws entry (Ok x) same begun some image noted is small becomes = next_image lines lawful base step laws old new entry same begun some image noted is small becomes
+  image_after laws entry (Err e) same begun some image noted is small becomes = (tt, tt)

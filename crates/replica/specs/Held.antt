@@ -1,0 +1,84 @@
+-- A replica that a caller holds: whose it is, and what an access of it changes.
+use Rattle.std.specs.Prelude.{false, true, ◌≡◌, ◌-◌, ◌*◌, ◌<◌, ◌≤◌, ◌==◌, if◌then◌else◌, nat_lt, ℕ, Bool, All, List, [], ◌∷◌, ◌++◌, length, Option, Some, None}
+use Rattle.std.specs.Option.{option_map}
+use Rattle.cx_base.specs.Noted.{Note}
+use Rattle.cx_core.specs.declared.local.HeldExclusive.{HeldExclusive}
+use Rattle.cx_core.specs.declared.local.HeldShared.{HeldShared}
+use Rattle.cx_core.specs.declared.local.Local.{Local}
+use Rattle.cx_core.specs.Layout.{max_word}
+use Rattle.cx_core.specs.Region.{region_words}
+use Rattle.cx_core.specs.Rights.{exclusive_on, held_dirty, is_at}
+use Rattle.cx_core.specs.State.{one_more}
+use Rattle.cx_rule.specs.Fitting.{SomeFits, SomeReadFits, loaded_of}
+use Rattle.cx_rule.specs.Running.{IsSeatOf, Running}
+use Rattle.cx_rule.specs.Seats.{IsAtLimit, IsWithinLimit, Seated}
+use Rattle.cx_table.specs.Right.{Right}
+use Rattle.cx_table.specs.Tokens.{IsExclusiveOf, IsSharedOf}
+
+-- the steps that the limit leaves, where 2^64 - 1 is none
+abbrev pub left_of : Local → Option ℕ
+left_of l = if nat_lt l.limit max_word then Some (l.limit - l.steps) else None
+
+-- a table is of an object of so many lines, within the limits, and opens from a region of such an object
+pub record IsSized {O : Type 0} (lines : ℕ) (r : Running O) : Type 0 where
+  pub lines_are : r.lines ≡ lines
+  pub small : lines ≤ 16384
+  pub region : length r.base.words ≡ region_words lines
+
+-- The token is of this seat, which holds the replica exclusively. Some pair fits what is noted of it, and each dirty word is
+-- one of the region.
+pub record IsHeld {O : Type 0} (lines : ℕ) (r : Running O) (lawful : List ℕ → Type 0) (seat : Seated) (held : Right) : Type 0 where
+  pub sized : IsSized lines r
+  pub of : IsSeatOf r seat
+  pub right : IsExclusiveOf r.callers seat held
+  pub some : SomeFits lines lawful r.base seat.known.accesses
+  pub dirty : All (λ i. i < region_words lines) (held_dirty seat.known.local.exclusive)
+
+-- the same of a replica held shared
+pub record IsHeldShared {O : Type 0} (lines : ℕ) (r : Running O) (lawful : List ℕ → Type 0) (seat : Seated) (held : Right) : Type 0 where
+  pub sized : IsSized lines r
+  pub of : IsSeatOf r seat
+  pub right : IsSharedOf r.callers seat held
+  pub some : SomeReadFits lines lawful r.base (loaded_of seat.known.local.shared)
+
+-- a replica held exclusively but for its words, and which of them are dirty
+abbrev pub but_words : HeldExclusive → HeldExclusive
+but_words h = record { replica = h.replica; words = []; dirty = [] }
+
+-- one held shared, but for the words loaded of this replica
+abbrev pub but_loaded : ℕ → HeldShared → HeldShared
+but_loaded r h = record { replica = h.replica; loaded = if h.replica == r then [] else h.loaded }
+
+-- what no access of a replica held exclusively changes: the seat but for the steps, the accesses, which words are dirty, and
+-- what is loaded of the same replica held shared
+abbrev pub beside_held : ℕ → Seated → Seated
+beside_held r s = record s { known = record s.known {
+  local = record s.known.local { exclusive = option_map but_words s.known.local.exclusive; shared = option_map (but_loaded r) s.known.local.shared; steps = 0 };
+  accesses = [];
+} }
+
+-- the same of a replica held shared: the seat but for the steps, what is loaded of it, and the accesses of the same replica
+-- held exclusively
+abbrev pub beside_shared : ℕ → Seated → Seated
+beside_shared r s = record s { known = record s.known {
+  local = record s.known.local { shared = option_map (but_loaded r) s.known.local.shared; steps = 0 };
+  accesses = if is_at r (exclusive_on s.known.local) then [] else s.known.accesses;
+} }
+
+-- an access of a replica held exclusively was made: it is noted, and nothing else is changed
+pub record Accesses {O : Type 0} (lines : ℕ) (r : Running O) (lawful : List ℕ → Type 0) (held : Right) (note : Note) (before after : Seated) : Type 0 where
+  pub allowed : ¬ IsAtLimit before.known.local
+  pub accesses : after.known.accesses ≡ before.known.accesses ++ note ∷ []
+  pub steps : after.known.local.steps ≡ one_more before.known.local.steps
+  pub rest : beside_held held.replica after ≡ beside_held held.replica before
+  pub within : IsWithinLimit after.known.local
+  pub still : IsHeld lines r lawful after held
+
+-- a word of a replica held shared was loaded: it is noted, and nothing else is changed
+pub record LoadsShared {O : Type 0} (lines : ℕ) (r : Running O) (lawful : List ℕ → Type 0) (held : Right) (at word : ℕ) (before after : Seated) : Type 0 where
+  pub allowed : ¬ IsAtLimit before.known.local
+  pub loaded : loaded_of after.known.local.shared ≡ loaded_of before.known.local.shared ++ (at, word) ∷ []
+  pub steps : after.known.local.steps ≡ one_more before.known.local.steps
+  pub rest : beside_shared held.replica after ≡ beside_shared held.replica before
+  pub within : IsWithinLimit after.known.local
+  pub still : IsHeldShared lines r lawful after held

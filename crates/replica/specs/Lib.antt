@@ -1,0 +1,6 @@
+pub mod Held
+pub mod Regions
+pub mod Outcomes
+pub mod Replays
+pub mod Flushes
+pub mod Copies

@@ -1,0 +1,39 @@
+-- A held replica as a memory.
+use Rattle.std.specs.Prelude.{◌≡◌, ℕ, Bool, List}
+use Rattle.cx_base.specs.Memory.{Words}
+use Rattle.cx_base.specs.Noted.{Note, NotesShow, shown_words}
+use Rattle.cx_core.specs.declared.entry.Base.{Base}
+use Rattle.cx_core.specs.Region.{region_words}
+use Rattle.cx_rule.specs.Fitting.{Fits, ReadFits, loads_of}
+use Rattle.cx_rule.specs.Seats.{Seated, place_noted}
+use Rattle.cx_table.specs.Right.{Right}
+
+-- what no access of a region changes: the reference to the seat, the board, the token, whether the place was accessed before, and the seat
+-- but for what an access changes
+pub record RegionFixed (Name Board : Type 0) : Type 0 where
+  pub name : Name
+  pub board : Board
+  pub held : Right
+  pub placed : Bool
+  pub rest : Seated
+
+-- the same of a region for loads
+pub record ReadFixed (Name Board : Type 0) : Type 0 where
+  pub name : Name
+  pub board : Board
+  pub held : Right
+  pub rest : Seated
+
+-- the place is among the words loaded or stored
+abbrev pub HasPlace : List Note → Type 0
+HasPlace accesses = (place : ℕ) → place_noted place accesses ≡ place_noted 0 accesses
+
+pub fits_shows : (lines : ℕ) (lawful : List ℕ → Type 0) (base : Base) (accesses : List Note) (first now : List ℕ) → Fits lines lawful base accesses first now → NotesShow (region_words lines) accesses first now
+fits_shows lines lawful base accesses first now f = record { words = f.origin.size; leads = f.leads }
+
+-- the words now of a pair that fits are a region
+pub fits_words : (lines : ℕ) (lawful : List ℕ → Type 0) (base : Base) (accesses : List Note) (first now : List ℕ) → Fits lines lawful base accesses first now → Words (region_words lines) now
+fits_words lines lawful base accesses first now f = shown_words (region_words lines) accesses first now (fits_shows lines lawful base accesses first now f)
+
+pub read_words : (lines : ℕ) (lawful : List ℕ → Type 0) (base : Base) (loaded : List (ℕ × ℕ)) (first now : List ℕ) → ReadFits lines lawful base loaded first now → Words (region_words lines) now
+read_words lines lawful base loaded first now f = fits_words lines lawful base (loads_of loaded) first now f.fits

@@ -1,0 +1,69 @@
+//! A replica held shared as a memory.
+
+ghost use Rattle.std.specs.Prelude.{◌≡◌};
+ghost use Rattle.cx_rule.specs.Seats.{IsWithinLimit};
+ghost use Rattle.replica.specs.Held.{IsHeldShared};
+
+use crate::board::Board;
+use cx_base::{Halt, Memory};
+use cx_table::{CallerSeat, SharedHold};
+
+/// A replica held shared as a memory, for loads. Its pairs are those that fit what the seat loaded.
+#[derive(Drop)]
+pub struct ReadRegion<'a, T: Board> {
+    board: &'a T,
+    seat: &'a mut CallerSeat,
+    held: &'a SharedHold,
+    ghost of: { IsHeldShared (T.line_count board.now) (T.running board.now) (T.lawful board.now) seat.now held.now },
+    ghost within: { IsWithinLimit seat.now.known.local },
+}
+
+impl<'a, T: Board> ReadRegion<'a, T> {
+    /// The region of the replica that a token is of.
+    pub fn of(board: &'a T, seat: &'a mut CallerSeat, held: &'a SharedHold) -> ReadRegion<'a, T>
+        requires { IsHeldShared (T.line_count board.now) (T.running board.now) (T.lawful board.now) seat.old held.now }
+        ensures board { result.board.now ≡ board.now }
+        ensures seat { result.seat.now ≡ seat.old }
+        ensures held { result.held.now ≡ held.now }
+        ensures name { result.seat.ghost_name ≡ seat.entry.ghost_name }
+    {
+        let _steps = seat.steps();
+        ReadRegion { board, seat, held }
+    }
+}
+
+impl<T: Board> Memory for ReadRegion<'_, T> {
+    ghost use Rattle.std.specs.Prelude.{List, ℕ, ◌==◌};
+    ghost use Rattle.std.specs.Borrow.{GName};
+    ghost use Rattle.cx_core.specs.Region.{region_words};
+    ghost use Rattle.cx_rule.specs.Fitting.{ReadFits, loaded_of};
+    ghost use Rattle.replica.specs.Held.{beside_shared, left_of};
+    ghost use Rattle.replica.specs.Regions.{ReadFixed, read_words};
+
+    ghost size = { λ r. region_words (T.line_count r.board.now) };
+
+    ghost Fixed = { ReadFixed GName T };
+
+    ghost fixed = { λ r. record { name = r.seat.ghost_name; board = r.board.now; held = r.held.now; rest = beside_shared r.held.now.replica r.seat.now } };
+
+    // No step stores into a replica held shared. A seat whose limit is 0 makes no step at all, so that a store by it halts.
+    ghost writable = { λ r. r.seat.now.known.local.limit == 0 };
+
+    ghost left = { λ r. left_of r.seat.now.known.local };
+
+    ghost Key = { List ℕ };
+
+    ghost stands = { λ r. ReadFits (T.line_count r.board.now) (T.lawful r.board.now) (T.running r.board.now).base (loaded_of r.seat.now.known.local.shared) };
+
+    ghost some_stands = { λ r. r.of.some };
+
+    ghost words = { λ r. read_words (T.line_count r.board.now) (T.lawful r.board.now) (T.running r.board.now).base (loaded_of r.seat.now.known.local.shared) };
+
+    fn load(&mut self, at: u64) -> Result<u64, Halt> {
+        self.board.load_shared(self.seat, self.held, at)
+    }
+
+    fn store(&mut self, _at: u64, _v: u64) -> Result<(), Halt> {
+        Err(Halt)
+    }
+}

@@ -1,0 +1,96 @@
+//! A replica held exclusively as a memory.
+
+ghost use Rattle.std.specs.Prelude.{◌≡◌, IsTrue};
+ghost use Rattle.cx_rule.specs.Seats.{IsWithinLimit};
+ghost use Rattle.replica.specs.Held.{IsHeld};
+ghost use Rattle.replica.specs.Regions.{HasPlace};
+
+use crate::board::Board;
+use cx_base::{Halt, Memory};
+use cx_table::{CallerSeat, Exclusive};
+
+/// A replica held exclusively as a memory, for loads and stores. Its pairs are those that fit what the seat noted.
+#[derive(Drop)]
+pub struct Region<'a, T: Board> {
+    pub(crate) board: &'a T,
+    pub(crate) seat: &'a mut CallerSeat,
+    pub(crate) held: &'a Exclusive,
+    /// Whether the place was loaded or stored before the region began.
+    pub(crate) placed: bool,
+    ghost of: { IsHeld (T.line_count board.now) (T.running board.now) (T.lawful board.now) seat.now held.now },
+    ghost within: { IsWithinLimit seat.now.known.local },
+    ghost place: { IsTrue placed → HasPlace seat.now.known.accesses },
+}
+
+impl<'a, T: Board> Region<'a, T> {
+    /// The region of the replica that a token is of.
+    pub fn of(board: &'a T, seat: &'a mut CallerSeat, held: &'a Exclusive) -> Region<'a, T>
+        requires { IsHeld (T.line_count board.now) (T.running board.now) (T.lawful board.now) seat.old held.now }
+        ensures board { result.board.now ≡ board.now }
+        ensures seat { result.seat.now ≡ seat.old }
+        ensures held { result.held.now ≡ held.now }
+        ensures name { result.seat.ghost_name ≡ seat.entry.ghost_name }
+    {
+        let _steps = seat.steps();
+        Region {
+            board,
+            seat,
+            held,
+            placed: false,
+        }
+    }
+
+    /// The same where the place was loaded or stored before. That it was is then known of the seat once the region ends.
+    pub fn placed(board: &'a T, seat: &'a mut CallerSeat, held: &'a Exclusive) -> Region<'a, T>
+        requires held { IsHeld (T.line_count board.now) (T.running board.now) (T.lawful board.now) seat.old held.now }
+        requires place { HasPlace seat.old.known.accesses }
+        ensures board { result.board.now ≡ board.now }
+        ensures seat { result.seat.now ≡ seat.old }
+        ensures held { result.held.now ≡ held.now }
+        ensures placed { IsTrue result.placed }
+        ensures name { result.seat.ghost_name ≡ seat.entry.ghost_name }
+    {
+        let _steps = seat.steps();
+        Region {
+            board,
+            seat,
+            held,
+            placed: true,
+        }
+    }
+}
+
+impl<T: Board> Memory for Region<'_, T> {
+    ghost use Rattle.std.specs.Prelude.{List, ℕ, true};
+    ghost use Rattle.std.specs.Borrow.{GName};
+    ghost use Rattle.cx_core.specs.Region.{region_words};
+    ghost use Rattle.cx_rule.specs.Fitting.{Fits};
+    ghost use Rattle.replica.specs.Held.{beside_held, left_of};
+    ghost use Rattle.replica.specs.Regions.{RegionFixed, fits_words};
+
+    ghost size = { λ r. region_words (T.line_count r.board.now) };
+
+    ghost Fixed = { RegionFixed GName T };
+
+    ghost fixed = { λ r. record { name = r.seat.ghost_name; board = r.board.now; held = r.held.now; placed = r.placed; rest = beside_held r.held.now.replica r.seat.now } };
+
+    ghost writable = { λ _. true };
+
+    ghost left = { λ r. left_of r.seat.now.known.local };
+
+    ghost Key = { List ℕ };
+
+    ghost stands = { λ r. Fits (T.line_count r.board.now) (T.lawful r.board.now) (T.running r.board.now).base r.seat.now.known.accesses };
+
+    ghost some_stands = { λ r. r.of.some };
+
+    ghost words = { λ r. fits_words (T.line_count r.board.now) (T.lawful r.board.now) (T.running r.board.now).base r.seat.now.known.accesses };
+
+    fn load(&mut self, at: u64) -> Result<u64, Halt> {
+        self.board.load_held(self.seat, self.held, at)
+    }
+
+    fn store(&mut self, at: u64, v: u64) -> Result<(), Halt> {
+        self.board.store_held(self.seat, self.held, at, v)
+    }
+}
