@@ -19,10 +19,12 @@ but_loads h = record { replica = h.replica; loaded = [] }
 -- what a copy does not change: the seat but for the steps, the accesses, which words are dirty, and what is loaded of the
 -- replica held shared
 abbrev pub beside_copy : Seated → Seated
-beside_copy s = record s { known = record s.known {
-  local = record s.known.local { exclusive = option_map but_words s.known.local.exclusive; shared = option_map but_loads s.known.local.shared; steps = 0 };
-  accesses = [];
-} }
+beside_copy s = record s {
+  known = record s.known {
+    local = record s.known.local { exclusive = option_map but_words s.known.local.exclusive; shared = option_map but_loads s.known.local.shared; steps = 0 };
+    accesses = [];
+  };
+}
 
 -- the same with no replica held shared
 abbrev pub without_shared : Seated → Seated
