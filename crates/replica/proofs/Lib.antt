@@ -3,3 +3,4 @@ mod Reading
 mod RegionLaws
 mod Replaying
 mod Persisting
+mod Updating

@@ -3,3 +3,5 @@ pub mod Regions
 pub mod Outcomes
 pub mod Replays
 pub mod Flushes
+pub mod Laws
+pub mod Tests

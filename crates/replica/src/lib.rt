@@ -8,6 +8,8 @@ mod outcomes;
 mod read_region;
 mod region;
 mod replay;
+#[cfg(test)]
+mod tests;
 
 pub use board::Board;
 pub use flushing::flush;
