@@ -1,24 +1,27 @@
 -- What follows for a replica held exclusively from the steps that take it, and from those that note more of entries.
-use Rattle.std.specs.Prelude.{◌≡◌, ◌+◌, ◌<◌, ℕ, Bool, true, cond, All, List, [], ◌∷◌, ◌++◌, refl, Some}
+use Rattle.std.specs.Prelude.{◌≡◌, ◌+◌, ◌<◌, ℕ, Bool, true, cond, All, List, [], ◌∷◌, ◌++◌, refl, Option, Some, None}
 use Rattle.std.proofs.Common.{ap, sym, subst, ◌∙◌, eq-eqb}
 use Rattle.std.proofs.lemmas.List.Elements.{All-nil}
+use Rattle.std.proofs.lemmas.Option.{none-some}
+use Rattle.std.specs.Option.{option_map}
 use Rattle.cx_core.specs.declared.entry.Base.{Base}
 use Rattle.cx_core.specs.declared.entry.Entry.{Entry}
 use Rattle.cx_core.specs.declared.kinds.Kind.TheVariants.{TryExclusive}
+use Rattle.cx_core.specs.declared.local.HeldShared.{HeldShared}
 use Rattle.cx_core.specs.declared.local.Local.{Local}
 use Rattle.cx_core.specs.LockEvents.{refused_by, taken}
 use Rattle.cx_core.specs.Region.{region_words}
-use Rattle.cx_core.specs.Rights.{held_dirty}
+use Rattle.cx_core.specs.Rights.{held_dirty, shared_on}
 use Rattle.cx_core.proofs.ListLemmas.{slice_get-append_left}
 use Rattle.cx_rule.specs.declared.rule.Known.{Known}
 use Rattle.cx_rule.specs.declared.rule.Noted.{Noted}
-use Rattle.cx_rule.specs.Fitting.{Chain, Fits, Fitting, IsNoted, ReplayedTo, SomeFits, no_set, start, with_entry, with_set}
-use Rattle.cx_rule.specs.Running.{Running, instance_at}
+use Rattle.cx_rule.specs.Fitting.{Chain, Fits, Fitting, IsNoted, ReplayedTo, SomeFits, SomeReadFits, no_set, start, with_entry, with_set}
+use Rattle.cx_rule.specs.Running.{IsSeatOf, Running, instance_at}
 use Rattle.cx_rule.specs.Seats.{Seated, place_noted, unseen}
 use Rattle.cx_rule.specs.Steps.{Steps}
 use Rattle.cx_table.specs.Right.{Right}
-use Rattle.cx_table.specs.Tokens.{TriedExclusive}
-use Rattle.replica.specs.Held.{IsHeld, IsSized}
+use Rattle.cx_table.specs.Tokens.{IsSharedOf, TriedExclusive}
+use Rattle.replica.specs.Held.{IsHeld, IsHeldShared, IsSized, loaded_of}
 use Rattle.replica.specs.Regions.{HasPlace}
 use Rattle.replica.specs.Replays.{IsImage}
 
@@ -45,6 +48,23 @@ taken_held lines r step reads lawful q found before after held sized s tried fit
       none = ap (λ (t : Seated). t.known.accesses) s.made;
       clean = clean;
     }
+
+-- what fits the words loaded of the replica held shared
+pub fitting_shared : {O : Type 0} (r : Running O) (lawful : List ℕ → Type 0) (known : Known) (q : ℕ) → shared_on known.local ≡ Some q → Fitting r.lines lawful r.base known → SomeReadFits r.lines lawful r.base (loaded_of known.local.shared)
+fitting_shared r lawful known q holds fits = by known.local.shared refl holds
+  where
+    by : (o : Option HeldShared) → known.local.shared ≡ o → option_map (λ (h : HeldShared). h.replica) o ≡ Some q → SomeReadFits r.lines lawful r.base (loaded_of o)
+    by None is there = absurd (none-some q there)
+    by (Some h) is there = fits.shared h is
+
+-- so a replica whose shared right was handed out is held
+pub shared_held : {O : Type 0} (lines : ℕ) (r : Running O) (lawful : List ℕ → Type 0) (seat : Seated) (held : Right) → IsSized lines r → IsSeatOf r seat → IsSharedOf r.callers seat held → Fitting r.lines lawful r.base seat.known → IsHeldShared lines r lawful seat held
+shared_held lines r lawful seat held sized of right fits = record {
+  sized = sized;
+  of = of;
+  right = right;
+  some = subst (λ n. SomeReadFits n lawful r.base (loaded_of seat.known.local.shared)) sized.lines_are (fitting_shared r lawful seat.known held.replica right.holds fits);
+}
 
 -- an entry that is noted stays so
 noted_more : (notes more : List Noted) (ticket : ℕ) (entry : Entry) → IsNoted notes ticket entry → IsNoted (notes ++ more) ticket entry

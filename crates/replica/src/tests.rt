@@ -1,36 +1,35 @@
 //! A replica is taken, replayed with linked entries, made durable and given up.
 
-ghost use Rattle.std.specs.Prelude.{◌≡◌, ◌+◌, ◌^◌, ◌∷◌, ◌≤◌, ◌<◌, IfOk, IfSome, IsNone, IsTrue, OnOk};
+ghost use Rattle.std.specs.Prelude.{◌≡◌, ◌+◌, ◌*◌, ◌^◌, [], ◌∷◌, ◌≤◌, ◌<◌, IfOk, IfSome, IsTrue, OnOk};
 ghost use Rattle.cx_base.specs.Memory.{Words};
+ghost use Rattle.cx_core.specs.Base.{LawfulBase};
 ghost use Rattle.cx_core.specs.History.{IsLawfulEntry};
-ghost use Rattle.cx_core.specs.LockEvents.{CanTryExclusive};
 ghost use Rattle.cx_rule.specs.Fitting.{IsNoted};
-ghost use Rattle.cx_rule.specs.Running.{IsSeatOf};
 ghost use Rattle.cx_table.specs.Tokens.{IsDowngradedOf};
 ghost use Rattle.replica.specs.Held.{IsHeld, IsSized};
 ghost use Rattle.replica.specs.Laws.{IsTaken};
 ghost use Rattle.replica.specs.Replays.{IsImage, noted_place};
-ghost use Rattle.replica.specs.Tests.{IsReady};
+ghost use Rattle.replica.specs.Tests.{IsFree, IsNew, IsReady, Keeps, KnowsLinked};
 
 use crate::{Region, begin, flush, replay_one};
 use cx_base::{Halt, Object};
-use cx_core::Entry;
+use cx_core::{Base, Entry};
 use cx_table::{CallerSeat, Downgraded, Exclusive, Shared};
-use mutation_queue::entry;
+use mutation_queue::{LinkTried, announce, entry, link};
+use std::alloc::{AllocError, Global};
 
 // Takes a replica, if nobody holds it.
-fn take<O: Object>(
+pub(crate) fn take<O: Object>(
     shared: &Shared<O>,
     seat: &mut CallerSeat,
     r: u64,
 ) -> Result<Option<Exclusive>, Halt>
-    requires seat { IsSeatOf shared.now seat.old }
+    requires free { IsFree shared.now seat.old }
     requires sized { IsSized (O.line_count shared.now.object) shared.now }
-    requires free { CanTryExclusive shared.now.callers r seat.old.known.local }
+    requires few { r < 2 * shared.now.callers }
     ensures taken { IfOk result (λ o. IfSome o (λ held. IsTaken (O.line_count shared.now.object) shared.now (O.lawful shared.now.object) seat.new held)) }
     ensures of { IfOk result (λ o. IfSome o (λ held. held.replica ≡ r)) }
-    ensures front { IfOk result (λ o. IfSome o (λ _. seat.new.known.local.front ≡ seat.old.known.local.front)) }
-    ensures downgraded { IfOk result (λ o. IfSome o (λ _. seat.new.known.local.downgraded ≡ seat.old.known.local.downgraded)) }
+    ensures keeps { IfOk result (λ o. IfSome o (λ _. Keeps seat.old seat.new)) }
 {
     let (_, right) = shared.try_exclusive(seat, r)?;
     Ok(right)
@@ -77,7 +76,7 @@ fn read_next<O: Object>(
     requires linked { ticket < seat.old.known.local.front }
     requires later { shared.now.base.place ≤ ticket }
     ensures ready { OnOk result (IsReady (O.line_count shared.now.object) shared.now (O.lawful shared.now.object) (O.step shared.now.object) held.now ticket seat.new) }
-    ensures downgraded { OnOk result (seat.new.known.local.downgraded ≡ seat.old.known.local.downgraded) }
+    ensures keeps { OnOk result (Keeps seat.old seat.new) }
     ensures noted { IfOk result (λ o. IfSome o (IsNoted seat.new.known.noted ticket)) }
     ensures entry { IfOk result (λ o. IfSome o (IsLawfulEntry ticket)) }
     ensures small { IfOk result (λ o. IfSome o (λ _. ticket < 2 ^ 40)) }
@@ -105,7 +104,7 @@ fn replay_ticket<O: Object>(
     requires linked { ticket < seat.old.known.local.front }
     requires later { shared.now.base.place ≤ ticket }
     ensures ready { IfOk result (λ done. IsTrue done → IsReady (O.line_count shared.now.object) shared.now (O.lawful shared.now.object) (O.step shared.now.object) held.now (ticket + 1) seat.new) }
-    ensures downgraded { IfOk result (λ done. IsTrue done → seat.new.known.local.downgraded ≡ seat.old.known.local.downgraded) }
+    ensures keeps { IfOk result (λ done. IsTrue done → Keeps seat.old seat.new) }
 {
     match read_next(shared, seat, held, ticket)? {
         Some(next) => {
@@ -116,20 +115,41 @@ fn replay_ticket<O: Object>(
     }
 }
 
-// Takes a replica, replays the entry with a ticket on it where it has come to that place, persists what was stored, and
-// turns the right into a shared one.
+// Replays the entries from the place of a replica held exclusively up to a ticket.
+fn replay_to<O: Object>(
+    shared: &Shared<O>,
+    seat: &mut CallerSeat,
+    held: &Exclusive,
+    place: u64,
+    end: u64,
+) -> Result<bool, Halt>
+    requires ready { IsReady (O.line_count shared.now.object) shared.now (O.lawful shared.now.object) (O.step shared.now.object) held.now place seat.old }
+    requires linked { end ≤ seat.old.known.local.front }
+    requires later { shared.now.base.place ≤ place }
+    requires order { place ≤ end }
+    ensures ready { IfOk result (λ done. IsTrue done → IsReady (O.line_count shared.now.object) shared.now (O.lawful shared.now.object) (O.step shared.now.object) held.now end seat.new) }
+    ensures keeps { IfOk result (λ done. IsTrue done → Keeps seat.old seat.new) }
+{
+    for ticket in place..end {
+        if !replay_ticket(shared, seat, held, ticket)? {
+            return Ok(false);
+        }
+    }
+    Ok(true)
+}
+
+// Takes a replica, replays the entries up to a ticket on it, persists what was stored, and turns the right into a shared one.
 fn renew<O: Object>(
     shared: &Shared<O>,
     seat: &mut CallerSeat,
     r: u64,
-    ticket: u64,
+    end: u64,
 ) -> Result<Option<Downgraded>, Halt>
-    requires seat { IsSeatOf shared.now seat.old }
+    requires free { IsFree shared.now seat.old }
     requires sized { IsSized (O.line_count shared.now.object) shared.now }
-    requires free { CanTryExclusive shared.now.callers r seat.old.known.local }
-    requires none { IsNone seat.old.known.local.downgraded }
-    requires linked { ticket < seat.old.known.local.front }
-    requires later { shared.now.base.place ≤ ticket }
+    requires few { r < 2 * shared.now.callers }
+    requires base { shared.now.base.place ≡ 0 }
+    requires linked { end ≤ seat.old.known.local.front }
     ensures downgraded { IfOk result (λ o. IfSome o (λ held. IsDowngradedOf shared.now.callers seat.new held)) }
     ensures of { IfOk result (λ o. IfSome o (λ held. held.replica ≡ r)) }
 {
@@ -137,10 +157,61 @@ fn renew<O: Object>(
         return Ok(None);
     };
     let place = begin(shared, seat, &held)?;
-    if place != ticket || !replay_ticket(shared, seat, &held, ticket)? {
+    if place > end || !replay_to(shared, seat, &held, place, end)? {
         return Ok(None);
     }
     flush(shared, seat, &held)?;
     let (_, token) = shared.downgrade(seat, held)?;
     Ok(Some(token))
+}
+
+// A table of two callers and its seats.
+fn made<O: Object>(
+    alloc: Global,
+    object: O,
+    limits: &[u64; 2],
+    base: &Base,
+) -> Result<(Shared<O>, CallerSeat, CallerSeat), AllocError>
+    requires enough { 64 ≤ O.line_count object }
+    requires small { O.line_count object ≤ 16384 }
+    requires base { LawfulBase (O.line_count object) (O.lawful object) base.now }
+    ensures sized { IfOk result (λ r. IsSized (O.line_count object) r.0) }
+    ensures object { IfOk result (λ r. r.0.object ≡ object) }
+    ensures callers { IfOk result (λ r. r.0.callers ≡ 2) }
+    ensures base { IfOk result (λ r. r.0.base ≡ base.now) }
+    ensures first { IfOk result (λ r. IsNew r.0 r.1) }
+    ensures second { IfOk result (λ r. IsNew r.0 r.2) }
+{
+    let (shared, seats) = Shared::make(alloc, object, 2, limits, base)?;
+    match two(seats) {
+        Some((first, second)) => Ok((shared, first, second)),
+        None => Err(AllocError),
+    }
+}
+
+// The items of a list of two.
+fn two(mut seats: Vec<CallerSeat>) -> Option<(CallerSeat, CallerSeat)>
+    ensures { IfSome result (λ r. seats.items ≡ r.0 ∷ r.1 ∷ []) }
+{
+    let second = seats.pop()?;
+    let first = seats.pop()?;
+    if seats.is_empty() {
+        Some((first, second))
+    } else {
+        None
+    }
+}
+
+// A caller without entries announces an operation in its cell 0 and tries to link it.
+fn update<O: Object>(
+    shared: &Shared<O>,
+    seat: &mut CallerSeat,
+    op: &[u64; 144],
+) -> Result<LinkTried, Halt>
+    requires { IsNew shared.now seat.old }
+    ensures free { OnOk result (IsFree shared.now seat.new) }
+    ensures linked { IfOk result (KnowsLinked seat.new) }
+{
+    announce(shared, seat, 0, op)?;
+    link(shared, seat, 0, 4)
 }
