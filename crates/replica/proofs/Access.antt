@@ -21,6 +21,7 @@ use Rattle.cx_rule.specs.Seats.{Seated, stepped}
 use Rattle.cx_rule.specs.Steps.{Steps}
 use Rattle.cx_table.specs.Right.{Right}
 use Rattle.cx_table.specs.Tokens.{IsExclusiveOf, IsSharedOf}
+use Rattle.replica.specs.Laws.{fitting_shared}
 use Rattle.replica.specs.Held.{Accesses, IsHeld, IsHeldShared, LoadsShared, beside_held, beside_shared, but_loaded, but_words}
 
 pub at_itself : (r : ℕ) → is_at r (Some r) ≡ true
@@ -131,14 +132,6 @@ module _ {O : Type 0} (lines : ℕ) (r : Running O) (step : O → List ℕ → L
         };
       }
 
-  -- what fits the words loaded of the replica held shared
-  pub shared_fits : (known : Known) → shared_on known.local ≡ Some held.replica → Fitting r.lines lawful r.base known → SomeReadFits r.lines lawful r.base (loaded_of known.local.shared)
-  shared_fits known holds fits = by known.local.shared refl holds
-    where
-      by : (o : Option HeldShared) → known.local.shared ≡ o → option_map (λ (h : HeldShared). h.replica) o ≡ Some held.replica → SomeReadFits r.lines lawful r.base (loaded_of o)
-      by None is there = absurd (none-some held.replica there)
-      by (Some h) is there = fits.shared h is
-
   loaded_one_more : (at found : ℕ) (o : Option HeldShared) → option_map (λ (h : HeldShared). h.replica) o ≡ Some held.replica → loaded_of (option_map (loaded_into held.replica at found) o) ≡ loaded_of o ++ (at, found) ∷ []
   loaded_one_more at found None there = absurd (none-some held.replica there)
   loaded_one_more at found (Some h) there =
@@ -169,7 +162,7 @@ module _ {O : Type 0} (lines : ℕ) (r : Running O) (step : O → List ℕ → L
         steps = ap (λ (t : Seated). t.known.local.steps) s.made;
         rest = rest;
         within = s.within;
-        still = record { sized = of.sized; of = s.seat; right = right; some = subst (λ n. SomeReadFits n lawful r.base (loaded_of after.known.local.shared)) of.sized.lines_are (shared_fits after.known right.holds fits) };
+        still = record { sized = of.sized; of = s.seat; right = right; some = subst (λ n. SomeReadFits n lawful r.base (loaded_of after.known.local.shared)) of.sized.lines_are (fitting_shared r lawful after.known held.replica right.holds fits) };
       }
 
 -- ---- step calls

@@ -1,10 +1,13 @@
 -- What a step of a copy does to the seat.
-use Rattle.std.proofs.Common.{false, ◌≡◌, ◌+◌, ◌<◌, ◌⊎◌, ◌*◌, ℕ, Bool, All, List, [], ◌++◌, length, refl, ap, sym, subst, ◌∙◌, append-nil, Option, Some, None, Result, Ok, Err, IfOk, OnErr, OnOk}
+use Rattle.std.proofs.Common.{false, true, cond, nat_lt, IfSome, ◌≡◌, ◌+◌, ◌<◌, ◌⊎◌, ◌*◌, ℕ, Bool, All, List, [], ◌++◌, length, refl, ap, sym, subst, ◌∙◌, append-nil, Option, Some, None, Result, Ok, Err, IfOk, OnErr, OnOk}
 use Rattle.std.specs.Option.{option_map}
+use Rattle.std.specs.Result.{result_ok}
 use Rattle.cx_base.specs.Noted.{Note}
-use Rattle.cx_core.specs.declared.kinds.Kind.TheVariants.{LoadWord, StoreWord}
+use Rattle.cx_core.specs.declared.kinds.Kind.TheVariants.{LoadWord, StoreWord, TryShared}
 use Rattle.cx_core.specs.declared.local.HeldExclusive.{HeldExclusive}
 use Rattle.cx_core.specs.declared.local.HeldShared.{HeldShared}
+use Rattle.cx_core.specs.declared.local.Local.{Local}
+use Rattle.cx_core.specs.LockEvents.{exclusive_mark, passing, shared_by}
 use Rattle.cx_core.specs.Region.{region_words}
 use Rattle.cx_core.specs.RegionEvents.{loaded_into, stored_into}
 use Rattle.cx_core.specs.Rights.{held_dirty}
@@ -16,10 +19,11 @@ use Rattle.cx_rule.specs.Seats.{Seated, known_after}
 use Rattle.cx_rule.specs.Steps.{Halts, Steps}
 use Rattle.cx_rule.proofs.Copying.{agree_compared, agree_stored, known_compared}
 use Rattle.cx_table.specs.Right.{Right}
-use Rattle.cx_table.specs.Tokens.{IsExclusiveOf, IsSharedOf}
+use Rattle.cx_table.specs.Tokens.{IsExclusiveOf, IsSharedOf, TriedShared}
 use Rattle.replica.specs.Copies.{HoldsBoth, beside_copy, but_loads}
 use Rattle.replica.specs.Held.{IsHeld, IsHeldShared, but_words}
-use Rattle.replica.proofs.Access.{beside, dirty_stored, replica_but_words, shared_fits, unstored}
+use Rattle.replica.specs.Laws.{shared_held}
+use Rattle.replica.proofs.Access.{beside, dirty_stored, replica_but_words, unstored}
 
 unloaded_all : (r i found : ℕ) (o : Option HeldShared) → option_map but_loads (option_map (loaded_into r i found) o) ≡ option_map but_loads o
 unloaded_all r i found None = refl
@@ -55,7 +59,6 @@ module _ {O : Type 0} (lines : ℕ) (r : Running O) (step : O → List ℕ → L
   both_still : HoldsBoth lines r lawful before held source → IsSeatOf r after → beside_copy after ≡ beside_copy before → Fitting r.lines lawful r.base after.known → All (λ i. i < region_words lines) (held_dirty after.known.local.exclusive) →
       HoldsBoth lines r lawful after held source
   both_still both seat same fits dirty =
-      let right = shared_still r.callers before after source same both.shared.right in
       record {
         exclusive = record {
           sized = both.exclusive.sized;
@@ -64,12 +67,7 @@ module _ {O : Type 0} (lines : ℕ) (r : Running O) (step : O → List ℕ → L
           some = subst (λ n. SomeFits n lawful r.base after.known.accesses) both.exclusive.sized.lines_are fits.exclusive;
           dirty = dirty;
         };
-        shared = record {
-          sized = both.shared.sized;
-          of = seat;
-          right = right;
-          some = subst (λ n. SomeReadFits n lawful r.base (loaded_of after.known.local.shared)) both.shared.sized.lines_are (shared_fits lines r step reads lawful source after.known right.holds fits);
-        };
+        shared = shared_held lines r lawful after source both.shared.sized seat (shared_still r.callers before after source same both.shared.right) fits;
       }
 
   pub both_load : (q at found : ℕ) → HoldsBoth lines r lawful before held source → Steps r step reads (LoadWord q at false) found before after → Fitting r.lines lawful r.base after.known → HoldsBoth lines r lawful after held source
@@ -118,3 +116,30 @@ module _ {O E : Type 0} (lines : ℕ) (r : Running O) (step : O → List ℕ →
       HoldsBoth lines r lawful after held source
   store_both v (Ok x) below made fits halted = both_store lines r step reads lawful held source before after q at v below both made fits
   store_both v (Err e) below made fits halted = subst (λ (s : Seated). HoldsBoth lines r lawful s held source) (sym halted.same) both
+
+-- a replica held exclusively stays so when another is tried shared
+module _ {O : Type 0} (lines : ℕ) (r : Running O) (step : O → List ℕ → List ℕ → List ℕ × List ℕ) (reads : O → List ℕ → Bool) (lawful : List ℕ → Type 0) (q found : ℕ) (before after : Seated) (held : Right) where
+  tried_still : (b : Bool) (l : Local) → (let l' : Local = cond b (shared_by q l found) (passing r.callers q l found) in (l'.number ≡ l.number) × (l'.exclusive ≡ l.exclusive))
+  tried_still true l = (refl, refl)
+  tried_still false l = (refl, refl)
+
+  pub both_tried : (o : Result Right Right) → IsHeld lines r lawful before held → Steps r step reads (TryShared q) found before after → TriedShared r.callers q after found o → Fitting r.lines lawful r.base after.known → IfSome (result_ok o) (HoldsBoth lines r lawful after held)
+  both_tried (Err mark) was s tried fits = tt
+  both_tried (Ok source) was s tried fits =
+      let l = before.known.local in
+      let same = tried_still (nat_lt found exclusive_mark) l in
+      let exclusive : after.known.local.exclusive ≡ l.exclusive = ap (λ (t : Seated). t.known.local.exclusive) s.made ∙ same.1 in
+      record {
+        exclusive = record {
+          sized = was.sized;
+          of = s.seat;
+          right = record {
+            few = was.right.few;
+            caller = was.right.caller ∙ sym (ap (λ (t : Seated). t.known.local.number) s.made ∙ same.0);
+            holds = ap (option_map (λ (h : HeldExclusive). h.replica)) exclusive ∙ was.right.holds;
+          };
+          some = subst (λ n. SomeFits n lawful r.base after.known.accesses) was.sized.lines_are fits.exclusive;
+          dirty = subst (λ (x : Option HeldExclusive). All (λ i. i < region_words lines) (held_dirty x)) (sym exclusive) was.dirty;
+        };
+        shared = shared_held lines r lawful after source was.sized s.seat tried.2 fits;
+      }

@@ -5,3 +5,4 @@ mod RegionLaws
 mod Replaying
 mod Persisting
 mod Renewing
+mod Updating

@@ -36,14 +36,6 @@ left_off xs at from =
     from_next (filter p xs) at (All-filter p (λ x. at ≤ x) xs from)
     (λ k d below e. false≢true (ap (λ b. cond b false true) (sym (eq-eqb _ at e)) ∙ filter_passes p xs k d below))
 
--- numbers from one on and below it are none
-pub none_left : (xs : List ℕ) (n : ℕ) → All (λ x. x < n) xs → All (λ x. n ≤ x) xs → xs ≡ []
-none_left [] n below from = refl
-none_left (x ∷ xs) n below from =
-    let a = All-head (λ x. x < n) x xs below in
-    let b = All-head (λ x. n ≤ x) x xs from in
-    absurd (omega arith)
-
 dirty_persisted : (P Q : List ℕ → Type 0) (at : ℕ) (o : Option HeldExclusive) → P [] → ((xs : List ℕ) → Q xs → P (filter (λ x. cond (x == at) false true) xs)) → Q (held_dirty o) → P (held_dirty (option_map (persisted at) o))
 dirty_persisted P Q at None none step q = none
 dirty_persisted P Q at (Some h) none step q = step h.dirty q
@@ -51,12 +43,6 @@ dirty_persisted P Q at (Some h) none step q = step h.dirty q
 unpersisted : (at : ℕ) (o : Option HeldExclusive) → option_map but_words (option_map (persisted at) o) ≡ option_map but_words o
 unpersisted at None = refl
 unpersisted at (Some h) = refl
-
-pub same_seat : (q : ℕ) (seat : Seated) → Persists q seat seat
-same_seat q seat = record { accesses = refl; rest = refl }
-
-pub then_more : (q : ℕ) (a b c : Seated) → Persists q a b → Persists q b c → Persists q a c
-then_more q a b c x y = record { accesses = y.accesses ∙ x.accesses; rest = y.rest ∙ x.rest }
 
 module _ {O : Type 0} (lines : ℕ) (r : Running O) (step : O → List ℕ → List ℕ → List ℕ × List ℕ) (reads : O → List ℕ → Bool) (lawful : List ℕ → Type 0) (held : Right) (at : ℕ) (before after : Seated) where
   pub persists : Steps r step reads (Persist held.replica at) 0 before after → Persists held.replica before after
@@ -84,14 +70,3 @@ module _ {O : Type 0} (lines : ℕ) (r : Running O) (step : O → List ℕ → L
 
   pub clean_persisted : Steps r step reads (Persist held.replica at) 0 before after → CleanBelow at before → CleanBelow (at + 1) after
   clean_persisted s clean = dirty_after (All (λ i. at + 1 ≤ i)) (All (λ i. at ≤ i)) s (All-nil (λ i. at + 1 ≤ i)) (λ xs from. left_off xs at from) clean
-
--- what was replayed stays so
-pub image_stays : (lines : ℕ) (lawful : List ℕ → Type 0) (base : Base) (step : List ℕ → List ℕ → List ℕ × List ℕ) (q : ℕ) (before after : Seated) → Persists q before after → IsImage lines lawful base step before.known → IsImage lines lawful base step after.known
-image_stays lines lawful base step q before after p image =
-    let noted : after.known.noted ≡ before.known.noted = ap (λ (t : Seated). t.known.noted) p.rest in
-    let there : (first now : List ℕ) → Fits lines lawful base after.known.accesses first now → Fits lines lawful base before.known.accesses first now = λ first now f. subst (λ xs. Fits lines lawful base xs first now) p.accesses f in
-    record {
-      begun = subst HasPlace (sym p.accesses) image.begun;
-      replayed = λ first now f. subst (λ ns. ReplayedTo step ns first (place_noted 0 after.known.accesses) now) (sym noted) (subst (λ xs. ReplayedTo step before.known.noted first (place_noted 0 xs) now) (sym p.accesses) (image.replayed first now (there first now f)));
-      law = λ first now f. image.law first now (there first now f);
-    }

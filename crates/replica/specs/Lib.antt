@@ -4,3 +4,5 @@ pub mod Outcomes
 pub mod Replays
 pub mod Flushes
 pub mod Copies
+pub mod Laws
+pub mod Tests

@@ -9,6 +9,10 @@ mod outcomes;
 mod read_region;
 mod region;
 mod replay;
+#[cfg(test)]
+mod tests;
+#[cfg(test)]
+mod copying_tests;
 
 pub use board::Board;
 pub use copying::{copy_from, renew_from};

@@ -1,0 +1,49 @@
+-- What the tests speak of.
+use Rattle.std.specs.Prelude.{◌≡◌, ◌<◌, ℕ, List, [], None}
+use Rattle.cx_core.specs.declared.local.Local.{Local}
+use Rattle.cx_core.specs.QueueEvents.{IsIdle}
+use Rattle.cx_rule.specs.Running.{IsSeatOf, Running}
+use Rattle.cx_rule.specs.Seats.{Seated}
+use Rattle.cx_table.specs.Right.{Right}
+use Rattle.replica.specs.Held.{IsHeld}
+use Rattle.mutation_queue.specs.declared.linking.LinkTried.{LinkTried}
+use Rattle.mutation_queue.specs.declared.linking.LinkTried.TheVariants.{Again, Linked, Worn}
+use Rattle.replica.specs.Replays.{IsImage, noted_place}
+
+-- a replica is held exclusively that is the image after this place
+pub record IsReady {O : Type 0} (lines : ℕ) (r : Running O) (lawful : List ℕ → Type 0) (step : List ℕ → List ℕ → List ℕ × List ℕ) (held : Right) (at : ℕ) (seat : Seated) : Type 0 where
+  pub is_held : IsHeld lines r lawful seat held
+  pub image : IsImage lines lawful r.base step seat.known
+  pub place : noted_place seat ≡ at
+
+-- a caller has no right on a replica
+pub record HasNoRight (l : Local) : Type 0 where
+  pub exclusive : l.exclusive ≡ None
+  pub shared : l.shared ≡ None
+  pub passer : l.passer ≡ None
+  pub downgraded : l.downgraded ≡ None
+  pub won : l.won ≡ None
+
+-- a caller without entries or rights, whose cell 0 is idle
+pub record IsNew {O : Type 0} (r : Running O) (seat : Seated) : Type 0 where
+  pub of : IsSeatOf r seat
+  pub idle : IsIdle seat.known.local 0
+  pub own : seat.known.local.own ≡ []
+  pub answered : seat.known.local.answered ≡ []
+  pub free : HasNoRight seat.known.local
+
+-- a caller without rights
+pub record IsFree {O : Type 0} (r : Running O) (seat : Seated) : Type 0 where
+  pub of : IsSeatOf r seat
+  pub free : HasNoRight seat.known.local
+
+-- where an entry was linked, the caller knows that it is
+abbrev pub KnowsLinked : Seated → LinkTried → Type 0
+KnowsLinked seat (Linked ticket) = ticket < seat.known.local.front
+KnowsLinked seat Again = Unit {0}
+KnowsLinked seat Worn = Unit {0}
+
+-- the tickets that are known to be linked, and what is downgraded, are the same
+pub record Keeps (before after : Seated) : Type 0 where
+  pub front : after.known.local.front ≡ before.known.local.front
+  pub downgraded : after.known.local.downgraded ≡ before.known.local.downgraded
