@@ -4,3 +4,4 @@ mod RegionLaws
 mod Replaying
 mod Persisting
 mod Updating
+mod Running
