@@ -335,9 +335,10 @@ fn own_entry_is_replayed(rt: HostRuntime) -> Result<(), Fail> {
 fn each_limit_halts_a_replay_or_not(rt: HostRuntime) -> Result<(), Fail> {
     let alloc = rt.alloc();
     let base = Base::fresh(alloc, &Tally)?;
-    // 145 words and 2 steps of a link, 1 try, 1 load of the place, 146 steps for the entry, 1 + 2 + 145 + 4 accesses of
-    // the full step, 4 words to persist, 1 downgrade
-    let all = 147 + 2 + 146 + 152 + 5 + 1;
+    // 145 words and 2 steps to link; a try and the load of the place; 146 steps for the entry; for the full step the place
+    // loaded, Tally's load and store, the number loaded and stored, the reply loaded and its first word stored, the place
+    // stored; 4 words to persist; a downgrade
+    let all = 147 + 2 + 146 + (1 + 2 + 2 + 145 + 1) + 4 + 1;
     for limit in 0..=all {
         let (shared, mut first, second) = made(alloc, Tally, &[limit, NO_LIMIT], &base)?;
         let _other = second;
