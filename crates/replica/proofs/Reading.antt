@@ -1,9 +1,8 @@
 -- What the loads of a reply tell of a region.
-use Rattle.std.proofs.Common.{◌≡◌, ◌+◌, ◌≤◌, ◌<◌, ℕ, List, [], ◌∷◌, ◌++◌, drop, length, refl, set, slice_index, take, ap, sym, subst, ◌∙◌, arith, length-drop}
+use Rattle.std.proofs.Common.{◌≡◌, ◌+◌, ◌≤◌, ◌<◌, ℕ, List, [], ◌∷◌, ◌++◌, drop, length, set, slice_index, take, ap, sym, ◌∙◌, arith, length-drop}
 use Rattle.std.proofs.lemmas.List.{get_or-drop, take_all, take_more, take_more_set}
 use Rattle.cx_base.specs.Memory.{Loaded, Reads}
-use Rattle.cx_base.proofs.ReadLemmas.{Reads-load, Reads-then}
-use Rattle.cx_core.specs.Region.{slot_number, slot_reply, slot_start}
+use Rattle.cx_core.specs.Region.{slot_reply, slot_start}
 use Rattle.replica.specs.Outcomes.{IsOutcome, ReplyFrom}
 
 -- the first words of a region from a place on are those of a reply
@@ -16,9 +15,9 @@ one_more_read from i v reply region below long so_far is =
     let here : i < length (drop from region) = (let l = length-drop from region in omega arith) in (
       enough,
       take_more (drop from region) i 0 here
-      ∙ ap (λ xs. xs ++ slice_index (drop from region) i ∷ []) so_far.1
-      ∙ ap (λ w. take i reply ++ w ∷ []) (get_or-drop from region i 0 ∙ is)
-      ∙ sym (take_more_set reply i v (omega arith)),
+          ∙ ap (λ xs. xs ++ slice_index (drop from region) i ∷ []) so_far.1
+          ∙ ap (λ w. take i reply ++ w ∷ []) (get_or-drop from region i 0 ∙ is)
+          ∙ sym (take_more_set reply i v (omega arith)),
     )
 
 pub all_read : (from i : ℕ) (reply region : List ℕ) → i ≡ 144 → length reply ≡ 144 → ReadUpTo from i reply region → ReplyFrom from reply region
@@ -31,9 +30,11 @@ module _ {Key : Type 0} where
   outcome_read caller slot number reply at loaded read = record {
     from = λ first now s. (
         let r = read.from first now s in
-        let l = loaded.back first now r.0 in
-        (l.0, record {
-          number_is = ap (slice_index now) (sym at) ∙ l.1;
-          reply_is = ap (λ n. take 144 (drop (n + 1) now)) (sym at) ∙ r.1;
-        }));
+        let l = loaded.back first now r.0 in (
+          l.0,
+          record {
+            number_is = ap (slice_index now) (sym at) ∙ l.1;
+            reply_is = ap (λ n. take 144 (drop (n + 1) now)) (sym at) ∙ r.1;
+          },
+        ));
   }

@@ -1,5 +1,5 @@
 -- Full steps on any memory of a region, one after another.
-use Rattle.std.proofs.Common.{◌≡◌, ◌+◌, ◌*◌, ◌<◌, ◌≤◌, ℕ, List, length, sym, subst, arith}
+use Rattle.std.proofs.Common.{◌≡◌, ◌+◌, ◌<◌, ◌≤◌, ℕ, List, length, sym, subst, arith}
 use Rattle.cx_base.specs.Memory.{Always, Becomes, Words}
 use Rattle.cx_core.specs.declared.entry.Entry.{Entry}
 use Rattle.cx_core.specs.Region.{object_part, place_of, region_words}

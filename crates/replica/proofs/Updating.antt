@@ -1,5 +1,5 @@
 -- What the tests' callers know.
-use Rattle.std.proofs.Common.{All, Bool, zero-add, ◌≡◌, ◌+◌, ◌^◌, ◌<◌, ℕ, zero, suc, List, [], ◌∷◌, ◌++◌, length, drop, slice_get, slice_index, take, refl, ap, sym, subst, ◌∙◌, arith, add-one, drop-cons, Option, Some, None, IfSome, Result, Ok, Err}
+use Rattle.std.proofs.Common.{All, Bool, zero-add, ◌≡◌, ◌+◌, ◌^◌, ◌<◌, ℕ, zero, suc, List, [], ◌∷◌, ◌++◌, length, drop, slice_get, slice_index, take, ap, sym, subst, ◌∙◌, arith, Option, Some, None, IfSome, Result, Ok, Err}
 use Rattle.std.proofs.lemmas.List.{take_all}
 use Rattle.std.proofs.lemmas.List.Elements.{All-drop, All-from_get_or, All-same, All-take}
 use Rattle.cx_base.specs.Memory.{Words}

@@ -1,5 +1,5 @@
 -- A replica that a caller holds: whose it is, and what an access of it changes.
-use Rattle.std.specs.Prelude.{false, true, ◌≡◌, ◌-◌, ◌*◌, ◌<◌, ◌≤◌, ◌==◌, if◌then◌else◌, nat_lt, ℕ, Bool, All, List, [], ◌∷◌, ◌++◌, length, Option, Some, None}
+use Rattle.std.specs.Prelude.{◌≡◌, ◌-◌, ◌<◌, ◌≤◌, ◌==◌, if◌then◌else◌, nat_lt, ℕ, All, List, [], ◌∷◌, ◌++◌, length, Option, Some, None}
 use Rattle.std.specs.Option.{option_map}
 use Rattle.cx_base.specs.Noted.{Note}
 use Rattle.cx_core.specs.declared.local.HeldExclusive.{HeldExclusive}
@@ -57,18 +57,22 @@ but_loaded r h = record { replica = h.replica; loaded = if h.replica == r then [
 -- what no access of a replica held exclusively changes: the seat but for the steps, the accesses, which words are dirty, and
 -- what is loaded of the same replica held shared
 abbrev pub beside_held : ℕ → Seated → Seated
-beside_held r s = record s { known = record s.known {
-  local = record s.known.local { exclusive = option_map but_words s.known.local.exclusive; shared = option_map (but_loaded r) s.known.local.shared; steps = 0 };
-  accesses = [];
-} }
+beside_held r s = record s {
+  known = record s.known {
+    local = record s.known.local { exclusive = option_map but_words s.known.local.exclusive; shared = option_map (but_loaded r) s.known.local.shared; steps = 0 };
+    accesses = [];
+  };
+}
 
 -- the same of a replica held shared: the seat but for the steps, what is loaded of it, and the accesses of the same replica
 -- held exclusively
 abbrev pub beside_shared : ℕ → Seated → Seated
-beside_shared r s = record s { known = record s.known {
-  local = record s.known.local { shared = option_map (but_loaded r) s.known.local.shared; steps = 0 };
-  accesses = if is_at r (exclusive_on s.known.local) then [] else s.known.accesses;
-} }
+beside_shared r s = record s {
+  known = record s.known {
+    local = record s.known.local { shared = option_map (but_loaded r) s.known.local.shared; steps = 0 };
+    accesses = if is_at r (exclusive_on s.known.local) then [] else s.known.accesses;
+  };
+}
 
 -- an access of a replica held exclusively was made: it is noted, and nothing else is changed
 pub record Accesses {O : Type 0} (lines : ℕ) (r : Running O) (lawful : List ℕ → Type 0) (held : Right) (note : Note) (before after : Seated) : Type 0 where

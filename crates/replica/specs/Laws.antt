@@ -1,5 +1,5 @@
 -- What follows for a replica held exclusively from the steps that take it, and from those that note more of entries.
-use Rattle.std.specs.Prelude.{◌≡◌, ◌+◌, ◌<◌, ℕ, Bool, true, cond, All, List, [], ◌∷◌, ◌++◌, refl, Option, Some, None}
+use Rattle.std.specs.Prelude.{◌≡◌, ◌<◌, ℕ, Bool, cond, All, List, [], ◌++◌, refl, Option, Some, None}
 use Rattle.std.proofs.Common.{ap, sym, subst, ◌∙◌, eq-eqb}
 use Rattle.std.proofs.lemmas.List.Elements.{All-nil}
 use Rattle.std.proofs.lemmas.Option.{none-some}
@@ -15,7 +15,7 @@ use Rattle.cx_core.specs.Rights.{held_dirty, shared_on}
 use Rattle.cx_core.proofs.ListLemmas.{slice_get-append_left}
 use Rattle.cx_rule.specs.declared.rule.Known.{Known}
 use Rattle.cx_rule.specs.declared.rule.Noted.{Noted}
-use Rattle.cx_rule.specs.Fitting.{Chain, Fits, Fitting, IsNoted, ReplayedTo, SomeFits, SomeReadFits, no_set, start, with_entry, with_set}
+use Rattle.cx_rule.specs.Fitting.{Fits, Fitting, IsNoted, ReplayedTo, SomeFits, SomeReadFits, start, with_entry, with_set}
 use Rattle.cx_rule.specs.Running.{IsSeatOf, Running, instance_at}
 use Rattle.cx_rule.specs.Seats.{Seated, place_noted, unseen}
 use Rattle.cx_rule.specs.Steps.{Steps}

@@ -7,7 +7,7 @@ ghost use Rattle.cx_rule.specs.Steps.{Halts};
 ghost use Rattle.replica.specs.Held.{Accesses, IsHeld, IsHeldShared, LoadsShared};
 
 use cx_base::{Halt, Object};
-use cx_table::{CallerSeat, Exclusive, SharedHold, Shared};
+use cx_table::{CallerSeat, Exclusive, Shared, SharedHold};
 
 /// The accesses of a replica held, on a running table of some object.
 pub trait Board {

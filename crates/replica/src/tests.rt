@@ -59,7 +59,11 @@ fn may_come(entry: &Entry, place: u64) -> bool
     ensures entry { IsTrue result → IsLawfulEntry place entry.now }
     ensures small { IsTrue result → place < 2 ^ 40 }
 {
-    let Entry { caller, number, op: _ } = entry;
+    let Entry {
+        caller,
+        number,
+        op: _,
+    } = entry;
     if *caller >= 8 || *number == 0 || place >= 1 << 40 {
         return false;
     }
@@ -343,7 +347,11 @@ fn each_limit_halts_a_replay_or_not(rt: HostRuntime) -> Result<(), Fail> {
         let (shared, mut first, second) = made(alloc, Tally, &[limit, NO_LIMIT], &base)?;
         let _other = second;
         let done = update_and_renew(&shared, &mut first, &adds(5), 1);
-        assert_eq!(rt; (done, first.steps()), (limit >= all, limit.min(all)), "at {limit}");
+        assert_eq!(rt;
+            (done, first.steps()),
+            (limit >= all, limit.min(all)),
+            "at {limit}"
+        );
     }
     Ok(())
 }

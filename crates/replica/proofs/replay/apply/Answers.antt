@@ -1,7 +1,6 @@
-use Rattle.std.proofs.Common.{◌≡◌, ◌+◌, ◌^◌, OnOk, ap}
+use Rattle.std.proofs.Common.{◌^◌, ap}
 use Rattle.cx_core.proofs.HistoryLemmas.{ObjectLaws}
 use Rattle.cx_rule.specs.Seats.{Seated}
-use Rattle.replica.specs.Replays.{IsImage, noted_place}
 use Rattle.replica.proofs.Replaying.{image_after, image_below}
 use Rattle.replica.proofs.replay.apply.Goals as goal
 

@@ -1,6 +1,5 @@
-use Rattle.std.proofs.Common.{false, ◌≡◌, ◌∷◌, ◌++◌, [], ℕ}
+use Rattle.std.proofs.Common.{false, ◌≡◌, ◌∷◌, ◌++◌, []}
 use Rattle.std.proofs.lemmas.Result.{IfOk-weaker}
-use Rattle.replica.specs.Held.{Accesses}
 use Rattle.replica.proofs.Replaying.{begins_after}
 use Rattle.replica.proofs.replay.begin.Goals as goal
 
