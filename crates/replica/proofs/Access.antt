@@ -7,8 +7,7 @@ use Rattle.cx_base.specs.Noted.{Note}
 use Rattle.cx_core.specs.declared.kinds.Kind.TheVariants.{LoadWord, StoreWord}
 use Rattle.cx_core.specs.declared.local.HeldExclusive.{HeldExclusive}
 use Rattle.cx_core.specs.declared.local.HeldShared.{HeldShared}
-use Rattle.cx_core.specs.declared.local.Local.{Local}
-use Rattle.cx_core.specs.LockEvents.{is_in, with_number}
+use Rattle.cx_core.specs.LockEvents.{is_in}
 use Rattle.cx_core.specs.Region.{region_words}
 use Rattle.cx_core.specs.RegionEvents.{loaded_into, stored_into}
 use Rattle.cx_core.specs.Rights.{exclusive_on, held_dirty, is_at, shared_on}

@@ -6,3 +6,4 @@ mod Replaying
 mod Persisting
 mod Renewing
 mod Updating
+mod Running

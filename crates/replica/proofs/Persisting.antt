@@ -1,25 +1,21 @@
 -- What a persisted word does to a replica held exclusively.
-use Rattle.std.proofs.Common.{◌≡◌, ◌≢◌, ◌+◌, ◌*◌, ◌<◌, ◌≤◌, ◌==◌, ℕ, Bool, true, false, cond, All, List, [], ◌∷◌, ◌++◌, filter, refl, ap, sym, subst, ◌∙◌, arith, append-nil, eq-eqb, Option, Some, None}
+use Rattle.std.proofs.Common.{◌≡◌, ◌≢◌, ◌+◌, ◌<◌, ◌≤◌, ◌==◌, ℕ, Bool, true, false, cond, All, List, [], filter, refl, ap, sym, subst, ◌∙◌, arith, append-nil, eq-eqb, Option, Some, None}
 use Rattle.std.proofs.lemmas.Bool.{false≢true}
-use Rattle.std.proofs.lemmas.List.Elements.{All-contains_itself, All-filter, All-head, All-nil, filter_passes}
+use Rattle.std.proofs.lemmas.List.Elements.{All-contains_itself, All-filter, All-nil, filter_passes}
 use Rattle.std.specs.List.{Contains}
 use Rattle.std.specs.Option.{option_map}
-use Rattle.cx_core.specs.declared.entry.Base.{Base}
 use Rattle.cx_core.specs.declared.kinds.Kind.TheVariants.{Persist}
 use Rattle.cx_core.specs.declared.local.HeldExclusive.{HeldExclusive}
 use Rattle.cx_core.specs.Region.{region_words}
 use Rattle.cx_core.specs.RegionEvents.{persisted}
-use Rattle.cx_core.specs.Rights.{exclusive_on, held_dirty}
-use Rattle.cx_rule.specs.declared.rule.Known.{Known}
-use Rattle.cx_rule.specs.Fitting.{Fits, ReplayedTo, SomeFits}
+use Rattle.cx_core.specs.Rights.{held_dirty}
+use Rattle.cx_rule.specs.Fitting.{SomeFits}
 use Rattle.cx_rule.specs.Running.{Running}
-use Rattle.cx_rule.specs.Seats.{Seated, place_noted}
+use Rattle.cx_rule.specs.Seats.{Seated}
 use Rattle.cx_rule.specs.Steps.{Steps}
 use Rattle.cx_table.specs.Right.{Right}
-use Rattle.replica.specs.Flushes.{CleanBelow, IsFlushed, Persists}
+use Rattle.replica.specs.Flushes.{CleanBelow, Persists}
 use Rattle.replica.specs.Held.{IsHeld, beside_held, but_loaded, but_words}
-use Rattle.replica.specs.Regions.{HasPlace}
-use Rattle.replica.specs.Replays.{IsImage}
 use Rattle.replica.proofs.Access.{beside, still_exclusive}
 
 -- among numbers from one on without that one, all are from the next on

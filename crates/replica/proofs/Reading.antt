@@ -1,9 +1,8 @@
 -- What the loads of a reply tell of a region.
-use Rattle.std.proofs.Common.{◌≡◌, ◌+◌, ◌≤◌, ◌<◌, ℕ, List, [], ◌∷◌, ◌++◌, drop, length, refl, set, slice_index, take, ap, sym, subst, ◌∙◌, arith, length-drop}
+use Rattle.std.proofs.Common.{◌≡◌, ◌+◌, ◌≤◌, ◌<◌, ℕ, List, [], ◌∷◌, ◌++◌, drop, length, set, slice_index, take, ap, sym, ◌∙◌, arith, length-drop}
 use Rattle.std.proofs.lemmas.List.{get_or-drop, take_all, take_more, take_more_set}
 use Rattle.cx_base.specs.Memory.{Loaded, Reads}
-use Rattle.cx_base.proofs.ReadLemmas.{Reads-load, Reads-then}
-use Rattle.cx_core.specs.Region.{slot_number, slot_reply, slot_start}
+use Rattle.cx_core.specs.Region.{slot_reply, slot_start}
 use Rattle.replica.specs.Outcomes.{IsOutcome, ReplyFrom}
 
 -- the first words of a region from a place on are those of a reply

@@ -1,8 +1,8 @@
 -- What an access does to the pairs that stand for a held replica.
-use Rattle.std.proofs.Common.{Bool, IsTrue, cond, false, true, ◌==◌, ◌≡◌, ◌^◌, ◌<◌, ℕ, List, [], ◌∷◌, ◌++◌, map, refl, ap, sym, subst, ◌∙◌, Result, Ok, Err, IfOk, OnErr, OnOk}
+use Rattle.std.proofs.Common.{Bool, IsTrue, cond, false, true, ◌==◌, ◌≡◌, ◌^◌, ◌<◌, ℕ, List, [], ◌∷◌, ◌++◌, refl, ap, sym, subst, ◌∙◌, Result, Ok, Err, IfOk, OnErr, OnOk}
 use Rattle.std.proofs.lemmas.List.{map-append}
 use Rattle.cx_base.specs.Memory.{Loaded, Stored}
-use Rattle.cx_base.specs.Noted.{Note, NotesLead, shows_load, shows_store}
+use Rattle.cx_base.specs.Noted.{Note, shows_load, shows_store}
 use Rattle.cx_core.specs.declared.entry.Base.{Base}
 use Rattle.cx_core.specs.Region.{region_words}
 use Rattle.cx_rule.specs.Fitting.{Fits, ReadFits, loads_of, loaded_of}

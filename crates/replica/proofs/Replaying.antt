@@ -1,30 +1,26 @@
 -- What was replayed on a replica held exclusively.
-use Rattle.std.proofs.Common.{false, true, Bool, cond, ◌≡◌, ◌≢◌, ◌+◌, ◌*◌, ◌^◌, ◌<◌, ◌==◌, ℕ, All, List, [], ◌∷◌, ◌++◌, drop, eq-eqb, length, ne_eqb, refl, set, slice_index, slice_set, take, ap, sym, subst, ◌∙◌, arith, Result, Ok, Err, IfOk, OnOk, inl, inr}
+use Rattle.std.proofs.Common.{false, true, cond, ◌≡◌, ◌≢◌, ◌+◌, ◌^◌, ◌<◌, ◌==◌, ℕ, List, [], ◌∷◌, ◌++◌, eq-eqb, length, ne_eqb, refl, slice_index, slice_set, ap, sym, subst, ◌∙◌, arith, Result, Ok, Err, IfOk, OnOk, inl, inr}
 use Rattle.std.proofs.Math.Logic.{∥∥₁_elim}
 use Rattle.std.proofs.Props.{props}
 use Rattle.std.proofs.lemmas.Bool.{cases_eq, true≢false}
 use Rattle.std.proofs.lemmas.List.Elements.{All-head, All-push, All-tail}
-use Rattle.std.proofs.lemmas.List.{get_or-set_other, get_or-set_same, length-set, take-append-drop}
-use Rattle.cx_base.specs.Memory.{Becomes, Words}
+use Rattle.std.proofs.lemmas.List.{get_or-set_other, get_or-set_same, length-set}
+use Rattle.cx_base.specs.Memory.{Becomes}
 use Rattle.cx_base.specs.Noted.{Note, NotesLead}
 use Rattle.cx_core.specs.declared.entry.Base.{Base}
 use Rattle.cx_core.specs.declared.entry.Entry.{Entry}
 use Rattle.cx_core.specs.Base.{LawfulBase}
 use Rattle.cx_core.specs.History.{IsLawfulEntry}
-use Rattle.cx_core.specs.Region.{object_part, place_of, region_words}
+use Rattle.cx_core.specs.Region.{object_part, place_of}
 use Rattle.cx_core.specs.Step.{full_step_of}
 use Rattle.cx_core.proofs.HistoryLemmas.{ObjectLaws}
 use Rattle.cx_core.proofs.KeepLemmas as keep
 use Rattle.cx_rule.specs.declared.rule.Known.{Known}
-use Rattle.cx_rule.specs.declared.rule.Noted.{Noted}
 use Rattle.cx_rule.specs.Fitting.{Fits, IsNoted, ReplayedTo, SomeFits, base_of, start, with_entry}
-use Rattle.cx_rule.specs.Running.{Running}
-use Rattle.cx_rule.specs.Seats.{Seated, place_noted}
-use Rattle.cx_table.specs.Right.{Right}
-use Rattle.replica.specs.Held.{Accesses, beside_held}
+use Rattle.cx_rule.specs.Seats.{place_noted}
 use Rattle.replica.specs.Regions.{HasPlace}
 use Rattle.replica.proofs.RegionLaws.{loaded_place}
-use Rattle.replica.specs.Replays.{IsImage, StoresNone, noted_place}
+use Rattle.replica.specs.Replays.{IsImage, StoresNone}
 
 -- ---- the place that was noted
 

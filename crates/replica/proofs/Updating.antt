@@ -1,8 +1,9 @@
 -- What the tests' callers know.
-use Rattle.std.proofs.Common.{All, Bool, zero-add, ◌≡◌, ◌+◌, ◌^◌, ◌<◌, ℕ, zero, suc, List, [], ◌∷◌, ◌++◌, length, drop, slice_get, slice_index, take, refl, ap, sym, subst, ◌∙◌, arith, add-one, drop-cons, Option, Some, None, IfSome}
+use Rattle.std.proofs.Common.{All, Bool, zero-add, ◌≡◌, ◌+◌, ◌^◌, ◌<◌, ℕ, zero, suc, List, [], ◌∷◌, ◌++◌, length, drop, slice_get, slice_index, take, ap, sym, subst, ◌∙◌, arith, Option, Some, None, IfSome, Result, Ok, Err}
 use Rattle.std.proofs.lemmas.List.{take_all}
 use Rattle.std.proofs.lemmas.List.Elements.{All-drop, All-from_get_or, All-same, All-take}
 use Rattle.cx_base.specs.Memory.{Words}
+use Rattle.std.specs.Result.{result_ok}
 use Rattle.cx_core.specs.declared.entry.Entry.{Entry}
 use Rattle.cx_core.specs.declared.kinds.Kind.TheVariants.{TryExclusive}
 use Rattle.cx_core.specs.Region.{region_words}
@@ -13,17 +14,21 @@ use Rattle.cx_rule.specs.Running.{IsSeatOf, Running}
 use Rattle.cx_rule.specs.Seats.{Seated}
 use Rattle.cx_rule.specs.Steps.{Steps}
 use Rattle.cx_table.specs.Right.{Right}
-use Rattle.cx_table.specs.Tokens.{IsExclusiveOf, TriedExclusive}
+use Rattle.cx_table.specs.Tokens.{IsExclusiveOf, TriedExclusive, TriedShared}
 use Rattle.mutation_queue.specs.Entries.{ReadsEntry, notes_of, with_look, with_read}
-use Rattle.replica.specs.Held.{IsHeld, IsSized}
+use Rattle.replica.specs.Held.{IsHeld, IsHeldShared, IsSized}
 use Rattle.replica.specs.Replays.{IsImage, noted_place}
 use Rattle.replica.specs.Tests.{IsReady}
-use Rattle.replica.specs.Laws.{IsTaken, image_more, taken_held}
+use Rattle.replica.specs.Laws.{IsTaken, image_more, shared_held, taken_held}
 
 module _ {O : Type 0} (lines : ℕ) (r : Running O) (step : O → List ℕ → List ℕ → List ℕ × List ℕ) (reads : O → List ℕ → Bool) (lawful : List ℕ → Type 0) where
   pub taken_tried : (q found : ℕ) (before after : Seated) (o : Option Right) → IsSized lines r → Steps r step reads (TryExclusive q) found before after → TriedExclusive r.callers q after found o → Fitting r.lines lawful r.base after.known → IfSome o (IsTaken lines r lawful after)
   taken_tried q found before after (Some held) sized s tried fits = taken_held lines r step reads lawful q found before after held sized s tried fits
   taken_tried q found before after None sized s tried fits = tt
+
+  pub shared_tried : (q found : ℕ) (after : Seated) (o : Result Right Right) → IsSized lines r → IsSeatOf r after → TriedShared r.callers q after found o → Fitting r.lines lawful r.base after.known → IfSome (result_ok o) (IsHeldShared lines r lawful after)
+  shared_tried q found after (Ok held) sized of tried fits = shared_held lines r lawful after held sized of tried.2 fits
+  shared_tried q found after (Err mark) sized of tried fits = tt
 
 -- a replica that is held still is, once an entry was read
 held_read : {O : Type 0} (lines : ℕ) (r : Running O) (lawful : List ℕ → Type 0) (caller ticket : ℕ) (words : List ℕ) (before after : Seated) (held : Right) → IsSeatOf r after → ReadsEntry caller ticket words before after → IsHeld lines r lawful before held → IsHeld lines r lawful after held

@@ -1,5 +1,5 @@
 -- A replica that a caller holds: whose it is, and what an access of it changes.
-use Rattle.std.specs.Prelude.{false, true, ◌≡◌, ◌-◌, ◌*◌, ◌<◌, ◌≤◌, ◌==◌, if◌then◌else◌, nat_lt, ℕ, Bool, All, List, [], ◌∷◌, ◌++◌, length, Option, Some, None}
+use Rattle.std.specs.Prelude.{◌≡◌, ◌-◌, ◌<◌, ◌≤◌, ◌==◌, if◌then◌else◌, nat_lt, ℕ, All, List, [], ◌∷◌, ◌++◌, length, Option, Some, None}
 use Rattle.std.specs.Option.{option_map}
 use Rattle.cx_base.specs.Noted.{Note}
 use Rattle.cx_core.specs.declared.local.HeldExclusive.{HeldExclusive}

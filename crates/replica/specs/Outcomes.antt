@@ -1,5 +1,5 @@
 -- What stands in a region for a caller.
-use Rattle.std.specs.Prelude.{◌≡◌, ◌+◌, ◌<◌, ℕ, List, drop, slice_index, take}
+use Rattle.std.specs.Prelude.{◌≡◌, ℕ, List, drop, take}
 use Rattle.cx_core.specs.Region.{slot_number, slot_reply}
 
 -- the 144 words of a region from a place on

@@ -1,5 +1,5 @@
 -- A replica held exclusively that is the image after its place, by noted entries.
-use Rattle.std.specs.Prelude.{false, ◌≡◌, ◌+◌, ℕ, All, List}
+use Rattle.std.specs.Prelude.{false, ◌≡◌, ℕ, All, List}
 use Rattle.cx_base.specs.Noted.{Note}
 use Rattle.cx_core.specs.declared.entry.Base.{Base}
 use Rattle.cx_core.specs.Base.{LawfulBase}

@@ -1,22 +1,25 @@
 //! A replica is taken, replayed with linked entries, made durable and given up.
 
-ghost use Rattle.std.specs.Prelude.{◌≡◌, ◌+◌, ◌*◌, ◌^◌, [], ◌∷◌, ◌≤◌, ◌<◌, IfOk, IfSome, IsTrue, OnOk};
-ghost use Rattle.cx_base.specs.Memory.{Words};
+ghost use Rattle.std.specs.Prelude.{◌≡◌, ◌+◌, ◌*◌, ◌^◌, [], ◌∷◌, ◌≤◌, ◌<◌, IfOk, IfSome, IsTrue, OnOk, length};
+ghost use Rattle.cx_base.specs.Memory.{Always, Framed, Words};
 ghost use Rattle.cx_core.specs.Base.{LawfulBase};
 ghost use Rattle.cx_core.specs.History.{IsLawfulEntry};
-ghost use Rattle.cx_rule.specs.Fitting.{IsNoted};
+ghost use Rattle.cx_core.specs.Region.{object_part, place_of, region_words};
+ghost use Rattle.cx_rule.specs.Fitting.{IsNoted, base_of};
 ghost use Rattle.cx_table.specs.Tokens.{IsDowngradedOf};
-ghost use Rattle.replica.specs.Held.{IsHeld, IsSized};
+ghost use Rattle.replica.specs.Held.{IsHeld, IsHeldShared, IsSized};
 ghost use Rattle.replica.specs.Laws.{IsTaken};
 ghost use Rattle.replica.specs.Replays.{IsImage, noted_place};
 ghost use Rattle.replica.specs.Tests.{IsFree, IsNew, IsReady, Keeps, KnowsLinked};
 
-use crate::{Region, begin, flush, replay_one};
-use cx_base::{Halt, Object};
-use cx_core::{Base, Entry};
-use cx_table::{CallerSeat, Downgraded, Exclusive, Shared};
+use crate::{ReadRegion, Region, begin, flush, outcome, place, replay_one};
+use cx_base::tally::Tally;
+use cx_base::{Halt, Memory, Object, VecMemory};
+use cx_core::{Base, Entry, full_step};
+use cx_table::{CallerSeat, Downgraded, Exclusive, Shared, SharedHold};
 use mutation_queue::{LinkTried, announce, entry, link};
 use std::alloc::{AllocError, Global};
+use std::test::Fail;
 
 // Takes a replica, if nobody holds it.
 pub(crate) fn take<O: Object>(
@@ -56,7 +59,11 @@ fn may_come(entry: &Entry, place: u64) -> bool
     ensures entry { IsTrue result → IsLawfulEntry place entry.now }
     ensures small { IsTrue result → place < 2 ^ 40 }
 {
-    let Entry { caller, number, op: _ } = entry;
+    let Entry {
+        caller,
+        number,
+        op: _,
+    } = entry;
     if *caller >= 8 || *number == 0 || place >= 1 << 40 {
         return false;
     }
@@ -214,4 +221,252 @@ fn update<O: Object>(
 {
     announce(shared, seat, 0, op)?;
     link(shared, seat, 0, 4)
+}
+
+// What a caller sees of a replica: its place, the number and the reply of caller 0, and whether its words are these.
+#[derive(Debug, PartialEq, Eq, Drop)]
+struct Seen {
+    place: u64,
+    number: u64,
+    reply: [u64; 144],
+    same: bool,
+}
+
+// Looks at a replica that can be shared.
+fn look<O: Object>(
+    shared: &Shared<O>,
+    seat: &mut CallerSeat,
+    r: u64,
+    words: &[u64],
+) -> Result<Option<Seen>, Halt>
+    requires free { IsFree shared.now seat.old }
+    requires sized { IsSized (O.line_count shared.now.object) shared.now }
+    requires few { r < 2 * shared.now.callers }
+    requires words { length words.now ≤ region_words (O.line_count shared.now.object) }
+{
+    match share(shared, seat, r)? {
+        Some(held) => look_at(shared, seat, &held, words),
+        None => Ok(None),
+    }
+}
+
+// Takes a replica shared, if nobody holds it exclusively.
+fn share<O: Object>(
+    shared: &Shared<O>,
+    seat: &mut CallerSeat,
+    r: u64,
+) -> Result<Option<SharedHold>, Halt>
+    requires free { IsFree shared.now seat.old }
+    requires sized { IsSized (O.line_count shared.now.object) shared.now }
+    requires few { r < 2 * shared.now.callers }
+    ensures { IfOk result (λ o. IfSome o (IsHeldShared (O.line_count shared.now.object) shared.now (O.lawful shared.now.object) seat.new)) }
+{
+    let (_, right) = shared.try_shared(seat, r)?;
+    Ok(right.ok())
+}
+
+// Looks at a replica that is held shared.
+fn look_at<O: Object>(
+    shared: &Shared<O>,
+    seat: &mut CallerSeat,
+    held: &SharedHold,
+    words: &[u64],
+) -> Result<Option<Seen>, Halt>
+    requires held { IsHeldShared (O.line_count shared.now.object) shared.now (O.lawful shared.now.object) seat.old held.now }
+    requires words { length words.now ≤ region_words (O.line_count shared.now.object) }
+{
+    let mut region = ReadRegion::of(shared, seat, held);
+    let place = place(&mut region)?;
+    let (number, reply) = outcome(&mut region, 0)?;
+    let same = has_words(&mut region, words)?;
+    Ok(Some(Seen {
+        place,
+        number,
+        reply,
+        same,
+    }))
+}
+
+// Whether a memory begins with these words.
+fn has_words<M: Memory>(mem: &mut M, words: &[u64]) -> Result<bool, Halt>
+    requires { length words.now ≤ M.size mem.old }
+{
+    for i in 0..words.len() {
+        if mem.load(i as u64)? != words[i] {
+            return Ok(false);
+        }
+    }
+    Ok(true)
+}
+
+const NO_LIMIT: u64 = u64::MAX;
+
+// An operation of Tally that adds.
+fn adds(n: u64) -> [u64; 144] {
+    let mut op = [0; 144];
+    op[0] = n;
+    op
+}
+
+// The reply of Tally with this sum.
+fn sum(n: u64) -> [u64; 144] {
+    adds(n)
+}
+
+#[test]
+fn own_entry_is_replayed(rt: HostRuntime) -> Result<(), Fail> {
+    let alloc = rt.alloc();
+    let base = Base::fresh(alloc, &Tally)?;
+    let (shared, mut first, mut second) = made(alloc, Tally, &[NO_LIMIT, NO_LIMIT], &base)?;
+    let Ok(LinkTried::Linked { ticket: 0 }) = update(&shared, &mut first, &adds(5)) else {
+        panic!(rt; "the entry was not linked");
+    };
+    let Ok(Some(token)) = renew(&shared, &mut first, 1, 1) else {
+        panic!(rt; "the replica was not renewed");
+    };
+    assert_eq!(rt; (token.replica(), token.caller()), (1, 0));
+    let want = Seen {
+        place: 1,
+        number: 1,
+        reply: sum(5),
+        same: true,
+    };
+    assert!(rt; look(&shared, &mut second, 1, &[1, 0]) == Ok(Some(want)));
+    Ok(())
+}
+
+#[test]
+fn each_limit_halts_a_replay_or_not(rt: HostRuntime) -> Result<(), Fail> {
+    let alloc = rt.alloc();
+    let base = Base::fresh(alloc, &Tally)?;
+    // 145 words and 2 steps to link; a try and the load of the place; 146 steps for the entry; for the full step the place
+    // loaded, Tally's load and store, the number loaded and stored, the reply loaded and its first word stored, the place
+    // stored; 4 words to persist; a downgrade
+    let all = 147 + 2 + 146 + (1 + 2 + 2 + 145 + 1) + 4 + 1;
+    for limit in 0..=all {
+        let (shared, mut first, second) = made(alloc, Tally, &[limit, NO_LIMIT], &base)?;
+        let _other = second;
+        let done = update_and_renew(&shared, &mut first, &adds(5), 1);
+        assert_eq!(rt;
+            (done, first.steps()),
+            (limit >= all, limit.min(all)),
+            "at {limit}"
+        );
+    }
+    Ok(())
+}
+
+// A caller without entries links one and renews a replica with it. A halted caller did not.
+fn update_and_renew<O: Object>(
+    shared: &Shared<O>,
+    seat: &mut CallerSeat,
+    op: &[u64; 144],
+    r: u64,
+) -> bool
+    requires new { IsNew shared.now seat.old }
+    requires sized { IsSized (O.line_count shared.now.object) shared.now }
+    requires few { r < 2 * shared.now.callers }
+    requires base { shared.now.base.place ≡ 0 }
+{
+    match update(shared, seat, op) {
+        Ok(LinkTried::Linked { ticket: _ }) => {
+            let end = seat.front();
+            renew(shared, seat, r, end).is_ok_and(|token| token.is_some())
+        }
+        Ok(_) | Err(_) => false,
+    }
+}
+
+// An entry for a test, one of many. Of Tally, two of three add.
+fn mixed(k: u64) -> Entry
+    ensures caller { result.caller < 8 }
+    ensures op { Words 144 result.op }
+{
+    let mut words = [k; 145];
+    words[0] = k / 8 + 1;
+    words[2] = k % 3;
+    entry_of((k % 8) as u32, &words)
+}
+
+// Does the full steps of so many entries on any memory of a region.
+fn replay_all<O: Object, M: Memory>(object: &O, mem: &mut M, count: u64) -> Result<(), Halt>
+    requires size { M.size mem.old ≡ region_words (O.line_count object.now) }
+    requires small { region_words (O.line_count object.now) < 2 ^ 64 }
+    requires writable { IsTrue (M.writable mem.old) }
+    requires place { Always (M.stands mem.old) (λ region. place_of region + count ≤ 2 ^ 40) }
+    requires lawful { Always (M.stands mem.old) (λ region. O.lawful object.now (object_part region)) }
+    ensures framed { Framed M.size M.fixed M.writable M.left mem.old mem.new }
+{
+    for k in 0..count {
+        full_step(object, mem, &mixed(k))?;
+    }
+    Ok(())
+}
+
+// The words of a region after the full steps of so many entries, over a plain memory.
+fn plain_words<O: Object>(object: &O, words: Vec<u64>, count: u64) -> Option<Vec<u64>>
+    requires base { LawfulBase (O.line_count object.now) (O.lawful object.now) (base_of words.items) }
+    requires small { O.line_count object.now ≤ 16384 }
+    requires place { place_of words.items + count ≤ 2 ^ 40 }
+{
+    let mut plain = VecMemory::of(words, None);
+    replay_all(object, &mut plain, count).ok()?;
+    Some(plain.into_words())
+}
+
+// Whether a replica that is taken has these words after the full steps of so many entries.
+fn replays_to<O: Object>(
+    shared: &Shared<O>,
+    seat: &mut CallerSeat,
+    r: u64,
+    count: u64,
+    words: &[u64],
+) -> Result<bool, Halt>
+    requires free { IsFree shared.now seat.old }
+    requires sized { IsSized (O.line_count shared.now.object) shared.now }
+    requires few { r < 2 * shared.now.callers }
+    requires words { length words.now ≤ region_words (O.line_count shared.now.object) }
+    requires count { count ≤ 1000 }
+{
+    let Some(held) = take(shared, seat, r)? else {
+        return Ok(false);
+    };
+    if begin(shared, seat, &held)? > 1 << 20 {
+        return Ok(false);
+    }
+    replayed_on(shared, seat, &held, count, words)
+}
+
+// The same on a replica that is held exclusively.
+fn replayed_on<O: Object>(
+    shared: &Shared<O>,
+    seat: &mut CallerSeat,
+    held: &Exclusive,
+    count: u64,
+    words: &[u64],
+) -> Result<bool, Halt>
+    requires held { IsHeld (O.line_count shared.now.object) shared.now (O.lawful shared.now.object) seat.old held.now }
+    requires image { IsImage (O.line_count shared.now.object) (O.lawful shared.now.object) shared.now.base (O.step shared.now.object) seat.old.known }
+    requires place { noted_place seat.old + count ≤ 2 ^ 40 }
+    requires words { length words.now ≤ region_words (O.line_count shared.now.object) }
+{
+    let object = shared.object();
+    let mut region = Region::of(shared, seat, held);
+    replay_all(object, &mut region, count)?;
+    has_words(&mut region, words)
+}
+
+#[test]
+fn many_entries_are_replayed(rt: HostRuntime) -> Result<(), Fail> {
+    let alloc = rt.alloc();
+    let base = Base::fresh(alloc, &Tally)?;
+    let (shared, mut first, second) = made(alloc, Tally, &[NO_LIMIT, NO_LIMIT], &base)?;
+    let _other = second;
+    let words = Vec::from_slice(alloc, base.words.as_slice())?;
+    let Some(plain) = plain_words(&Tally, words, 1000) else {
+        panic!(rt; "a plain memory halted");
+    };
+    assert!(rt; plain.len() == 1680 && plain[0] == 1000);
+    assert!(rt; replays_to(&shared, &mut first, 2, 1000, &plain) == Ok(true));
+    Ok(())
 }

@@ -1,4 +1,4 @@
-use Rattle.std.proofs.Common.{◌≡◌, rules, subst}
+use Rattle.std.proofs.Common.{subst}
 use Rattle.std.proofs.lemmas.Bool.{both_ways}
 use Rattle.cx_core.specs.declared.kinds.Kind.TheVariants.{Persist}
 use Rattle.cx_rule.specs.Steps.{Steps}

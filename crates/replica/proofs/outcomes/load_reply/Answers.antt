@@ -1,4 +1,4 @@
-use Rattle.std.proofs.Common.{◌≡◌, refl, arith, ◌∙◌, rules}
+use Rattle.std.proofs.Common.{◌≡◌, refl, arith, ◌∙◌}
 use Rattle.std.proofs.lemmas.List.{length-set}
 use Rattle.cx_base.proofs.MemoryLemmas.{Framed-access, Framed-same, Framed-then}
 use Rattle.cx_base.proofs.ReadLemmas.{Reads-load, Reads-none, Reads-weaker}

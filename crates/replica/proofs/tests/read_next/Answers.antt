@@ -1,4 +1,4 @@
-use Rattle.std.proofs.Common.{ap, sym, subst}
+use Rattle.std.proofs.Common.{sym, subst}
 use Rattle.mutation_queue.specs.Entries.{ReadsEntry}
 use Rattle.replica.proofs.Updating.{read_noted, ready_read}
 use Rattle.replica.proofs.tests.read_next.Goals as goal

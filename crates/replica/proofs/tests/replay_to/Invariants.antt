@@ -1,4 +1,3 @@
-use Rattle.std.proofs.Common.{◌≤◌}
 use Rattle.replica.specs.Tests.{IsReady, Keeps}
 use Rattle.replica.proofs.tests.replay_to.Given as goal
 
