@@ -1,15 +1,13 @@
 -- A replica over which another was copied, whose shared right was given back.
-use Rattle.std.proofs.Common.{false, ◌≡◌, ◌<◌, ℕ, Bool, cond, All, List, [], ◌∷◌, length, refl, ap, sym, subst, ◌∙◌, append-nil, arith, Some, None}
+use Rattle.std.proofs.Common.{false, ◌≡◌, ◌<◌, ℕ, Bool, cond, All, List, [], ◌∷◌, refl, ap, sym, subst, ◌∙◌, arith, Some, None}
 use Rattle.std.proofs.lemmas.List.Elements.{All-cons, All-nil}
 use Rattle.std.proofs.lemmas.Option.{none-some}
-use Rattle.std.specs.Option.{option_map}
 use Rattle.cx_base.specs.Noted.{Note}
 use Rattle.cx_core.specs.declared.local.Local.{Local}
 use Rattle.cx_core.specs.LockEvents.{backed_off}
 use Rattle.cx_core.specs.Region.{region_words}
 use Rattle.cx_core.specs.Rights.{held_dirty, is_at}
 use Rattle.cx_core.specs.State.{one_more}
-use Rattle.cx_rule.specs.declared.rule.Noted.{Noted}
 use Rattle.cx_rule.specs.Fitting.{AgreeTo, Fitting, SomeFits, loaded_of, loads_of, word_noted}
 use Rattle.cx_rule.specs.Running.{Running}
 use Rattle.cx_rule.specs.Seats.{Seated, place_noted}
@@ -17,9 +15,8 @@ use Rattle.cx_rule.specs.Steps.{StepsCopied}
 use Rattle.cx_rule.proofs.Copying.{noted_place}
 use Rattle.cx_table.specs.Right.{Right}
 use Rattle.cx_table.specs.Tokens.{IsExclusiveOf}
-use Rattle.replica.specs.Copies.{HoldsBoth, beside_copy, but_loads, without_shared}
-use Rattle.replica.specs.Held.{IsHeld, but_words}
-use Rattle.replica.specs.Regions.{HasPlace}
+use Rattle.replica.specs.Copies.{HoldsBoth}
+use Rattle.replica.specs.Held.{IsHeld}
 use Rattle.replica.specs.Replays.{IsImage, StoresNone}
 use Rattle.replica.proofs.Access.{at_itself}
 use Rattle.replica.proofs.Replaying.{unstored_image}

@@ -15,7 +15,7 @@ use Rattle.cx_core.specs.Rights.{held_dirty, shared_on}
 use Rattle.cx_core.proofs.ListLemmas.{slice_get-append_left}
 use Rattle.cx_rule.specs.declared.rule.Known.{Known}
 use Rattle.cx_rule.specs.declared.rule.Noted.{Noted}
-use Rattle.cx_rule.specs.Fitting.{Chain, Fits, Fitting, IsNoted, ReplayedTo, SomeFits, SomeReadFits, no_set, start, with_entry, with_set, loaded_of}
+use Rattle.cx_rule.specs.Fitting.{Fits, Fitting, IsNoted, ReplayedTo, SomeFits, SomeReadFits, start, with_entry, with_set, loaded_of}
 use Rattle.cx_rule.specs.Running.{IsSeatOf, Running, instance_at}
 use Rattle.cx_rule.specs.Seats.{Seated, place_noted, unseen}
 use Rattle.cx_rule.specs.Steps.{Steps}

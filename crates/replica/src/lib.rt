@@ -4,6 +4,8 @@
 
 mod board;
 mod copying;
+#[cfg(test)]
+mod copying_tests;
 mod flushing;
 mod outcomes;
 mod read_region;
@@ -11,8 +13,6 @@ mod region;
 mod replay;
 #[cfg(test)]
 mod tests;
-#[cfg(test)]
-mod copying_tests;
 
 pub use board::Board;
 pub use copying::{copy_from, renew_from};

@@ -1,4 +1,4 @@
-use Rattle.std.proofs.Common.{◌≡◌, ap, refl, subst, sym, ◌∙◌, arith}
+use Rattle.std.proofs.Common.{◌≡◌, refl, subst, ◌∙◌, arith}
 use Rattle.cx_core.specs.Region.{region_words}
 use Rattle.cx_rule.specs.Fitting.{AgreeTo}
 use Rattle.cx_rule.proofs.Copying.{agree_equal}

@@ -1,4 +1,4 @@
-use Rattle.std.proofs.Common.{arith, false, ◌≡◌, ◌+◌, ap, subst, sym, ◌∙◌}
+use Rattle.std.proofs.Common.{arith, false, subst}
 use Rattle.cx_core.specs.declared.kinds.Kind.TheVariants.{LoadWord, StoreWord}
 use Rattle.cx_rule.specs.Steps.{Steps}
 use Rattle.replica.proofs.CopySteps.{copied_over, copied_same, load_both, store_both}

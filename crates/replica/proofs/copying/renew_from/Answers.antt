@@ -1,4 +1,4 @@
-use Rattle.std.proofs.Common.{◌≡◌, sym, subst, ◌∙◌}
+use Rattle.std.proofs.Common.{◌∙◌}
 use Rattle.replica.proofs.Renewing.{renewed_held, renewed_image}
 use Rattle.replica.proofs.copying.renew_from.Goals as goal
 
