@@ -8,6 +8,7 @@ ghost use Rattle.cx_core.specs.Region.{object_part, place_of};
 ghost use Rattle.cx_core.specs.Step.{full_step_of};
 ghost use Rattle.cx_rule.specs.Fitting.{Fits, IsNoted};
 ghost use Rattle.cx_rule.specs.Seats.{IsWithinLimit};
+ghost use Rattle.cx_rule.specs.Steps.{Halts};
 ghost use Rattle.replica.specs.Held.{IsHeld, beside_held, left_of};
 ghost use Rattle.replica.specs.Regions.{HasPlace};
 ghost use Rattle.replica.specs.Replays.{IsImage, StoresNone, noted_place};
@@ -34,6 +35,7 @@ pub fn begin<O: Object>(
     ensures image { OnOk result (IsImage (O.line_count shared.now.object) (O.lawful shared.now.object) shared.now.base (O.step shared.now.object) seat.new.known) }
     ensures place { IfOk result (λ place. noted_place seat.new ≡ place) }
     ensures rest { beside_held held.now.replica seat.new ≡ beside_held held.now.replica seat.old }
+    ensures halted { OnErr result (Halts shared.now seat.old seat.new) }
 {
     shared.load_held(seat, held, PLACE_AT)
 }
