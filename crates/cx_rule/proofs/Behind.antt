@@ -16,7 +16,7 @@ use Rattle.cx_core.proofs.Claims.{shared_below}
 use Rattle.cx_core.proofs.ReplicaWords.{replica_at}
 use Rattle.cx_rule.specs.declared.rule.Known.{Known}
 use Rattle.cx_rule.specs.Fitting.{loads_of}
-use Rattle.cx_rule.specs.Rule.{IsBehindNotes, IsOrigin, IsTraced}
+use Rattle.cx_rule.specs.Rule.{IsBehindNotes, IsOrigin, IsTraced, NotesHold}
 use Rattle.cx_rule.proofs.Traced.{image_origin}
 use Rattle.cx_rule.proofs.Entries.{entries_from}
 
@@ -41,11 +41,12 @@ shared_there instance s law some caller l at h mine =
     )
 
 pub behind_notes : (instance : Instance) (s : State) (law : Lawful instance s) → 0 < length instance.base.words → (caller : ℕ) (l : Local) → slice_get s.locals caller ≡ Some l →
-    (k : Known) → k.local ≡ shown l → IsTraced instance law.history k.accesses l → IsBehindNotes instance k
-behind_notes instance s law some caller l at k shows traced = record {
+    (k : Known) → k.local ≡ shown l → NotesHold instance law.history k.noted → IsTraced instance law.history k.accesses l → IsBehindNotes instance k
+behind_notes instance s law some caller l at k shows noted traced = record {
   history = law.history;
   small = law.tickets.below;
   entries = entries_from instance s law;
+  noted = noted;
   first = traced.first;
   now = traced.now;
   origin = traced.origin;

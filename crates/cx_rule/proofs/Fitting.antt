@@ -8,7 +8,7 @@ use Rattle.cx_base.specs.Noted.{Note, NotesLead}
 use Rattle.cx_core.specs.declared.entry.Base.{Base}
 use Rattle.cx_core.specs.declared.entry.Entry.{Entry}
 use Rattle.cx_core.specs.Base.{LawfulBase}
-use Rattle.cx_core.specs.History.{AreLawful, IsFull, full_image}
+use Rattle.cx_core.specs.History.{AreLawful, IsFull, IsLawfulEntry, full_image}
 use Rattle.cx_core.specs.Merge.{IsLinked}
 use Rattle.cx_core.specs.Region.{place_of}
 use Rattle.cx_core.specs.State.{Instance}
@@ -37,7 +37,7 @@ module _ (lines : ℕ) (lawful : List ℕ → Type 0) (instance : Instance) (law
   full_at place from to = full_lawful lines lawful instance laws history base are_lawful small place from to
 
   -- the words of a full image are the full image
-  origin_full : (region : List ℕ) → IsOrigin instance history region → IsFull instance history region
+  pub origin_full : (region : List ℕ) → IsOrigin instance history region → IsFull instance history region
   origin_full region o =
       let place = place_of region in
       let long = (full_at place o.from o.to).size.long ∙ sym base.size.long in
@@ -70,6 +70,13 @@ module _ (lines : ℕ) (lawful : List ℕ → Type 0) (instance : Instance) (law
       ∙ ap (λ ws. (let y : Entry = record { caller = e.caller; number = e.number; op = ws } in y)) ops in
       subst (λ y. IsLinked instance.base.place history ticket y) all is.linked
 
+  -- so it is lawful at its ticket
+  pub noted_lawful : (notes : List Noted) (ticket : ℕ) (e : Entry) → NotesHold instance history notes → instance.base.place ≤ ticket → IsNoted notes ticket e → IsLawfulEntry ticket e
+  noted_lawful notes ticket e hold from noted =
+      let linked = noted_linked notes ticket e hold from noted in
+      let there : instance.base.place + (ticket - instance.base.place) ≡ ticket = omega arith in
+      subst (λ t. IsLawfulEntry t e) there (are_lawful (ticket - instance.base.place) e linked.at)
+
   -- noted entries in order lead from a full image to full images
   chain_on : (notes : List Noted) → NotesHold instance history notes → (first : List ℕ) → IsFull instance history first → (place : ℕ) (now : List ℕ) → ReplayedTo instance.step notes first place now →
       (instance.base.place ≤ place) × (place ≤ instance.base.place + length history) × (now ≡ full_image instance.step instance.base history place)
@@ -99,11 +106,12 @@ module _ (lines : ℕ) (lawful : List ℕ → Type 0) (instance : Instance) (law
         at,
       )
 
--- some pair fits what a caller noted
+-- some pair fits what a caller noted, and each entry that is noted whole is lawful
 pub fitting : (lines : ℕ) (lawful : List ℕ → Type 0) (instance : Instance) → ObjectLaws lines lawful instance.step → LawfulBase lines lawful instance.base → (known : Known) → IsBehindNotes instance known → Fitting lines lawful instance.base known
 fitting lines lawful instance laws base known behind = record {
   exclusive = ∣ (behind.first, behind.now, traced_fits lines lawful instance laws base behind.history behind.small behind.entries known.accesses behind.first behind.now behind.origin behind.leads) ∣₁;
   shared = λ h has. (
       let s = behind.shared h has in
       ∣ (s.0, s.0, record { fits = traced_fits lines lawful instance laws base behind.history behind.small behind.entries _ s.0 s.0 s.1 s.2; same = refl }) ∣₁);
+  entries = λ ticket entry from noted. noted_lawful lines lawful instance laws base behind.history behind.small behind.entries known.noted ticket entry behind.noted from noted;
 }

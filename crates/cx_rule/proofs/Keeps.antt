@@ -22,7 +22,7 @@ use Rattle.cx_rule.specs.Learns.{LearnsAnyway, LearnsBy}
 use Rattle.cx_rule.specs.Rule.{RuleHolds, IsBehindNotes, IsKnown, IsLawfulLocal, IsTraced, NotesHold, StandStill}
 use Rattle.cx_rule.specs.Running.{Running, instance_at}
 use Rattle.cx_rule.specs.Seats.{IsByShown, WordFits, accesses_after, known_after, known_local, known_of, noted_by, unseen}
-use Rattle.core_runs.proofs.Keeps.{kind_kept}
+use Rattle.core_runs.proofs.Keeps.{bounds_of, kind_kept}
 use Rattle.cx_rule.proofs.ShownLaws.{guard_shown, known_shown, lawful_shown, put_shown, told_shown, word_shown}
 use Rattle.cx_rule.proofs.Notes.{noted_hold, notes-append, notes_still}
 use Rattle.cx_rule.specs.Steps.{IsCopyLearned, IsEventOn, IsStore, Puts, Teaches, TeachesCopied, known_copied}
@@ -139,8 +139,11 @@ learns_shown instance kind known words word new by fits may at puts =
 -- what the lawful state says of a caller's local state by itself
 own_lawful : (instance : Instance) (words : List ℕ) (locals : List Local) (caller : ℕ) (l : Local) → Lawful instance (record { words = words; locals = locals }) → slice_get locals caller ≡ Some l → IsLawfulLocal instance l
 own_lawful instance words locals caller l law at =
+    let state : State = record { words = words; locals = locals } in
     let fronts = law.fronts.each caller l at in
     let shape = law.shape.each caller l at in
+    let root = (bounds_of instance state law).each caller l at in
+    let answers = law.answers.each caller l at in
     let to = fronts.to in
     let below = law.tickets.below in
     let number = sym shape.number in
@@ -153,6 +156,9 @@ own_lawful instance words locals caller l law at =
       cur = fronts.cur;
       floor_cur = fronts.floor_cur;
       few = law.locks.few caller l at;
+      downgraded = λ h has. record { replica = root.replica h has; place = (let within = root.place h has in omega (arith, within, below)) };
+      answered = λ i x there. (answers.entries i x there).told;
+      reads = λ i x there. (answers.reads i x there).told;
     }
 
 view_within : (views : List (List Known)) (id : ℕ) (v : List Known) → get_elem? views id ≡ some v → id < length views
@@ -160,15 +166,21 @@ view_within [] id v at = absurd (some-ne-none v (sym at))
 view_within (w ∷ views) zero v at = omega arith
 view_within (w ∷ views) (suc id) v at = (let rest = view_within views id v at in omega arith)
 
+-- what the rule says of a seat's caller by its local state
+pub seat_lawful : (instance : Instance) (s : atomic.State ℕ (List Known)) (id : ℕ) (known : Known) → RuleHolds instance s → get_elem? s.views id ≡ some (known ∷ []) → IsLawfulLocal instance known.local
+seat_lawful instance s id known held view =
+    let mine = held.each id 0 (known ∷ []) known view refl in
+    subst (IsLawfulLocal instance) (sym mine.shows) (lawful_shown instance mine.local (own_lawful instance s.words held.locals known.local.number mine.local held.law mine.of_caller))
+
 -- what an event of a seat leaves behind its notes, which then knows this
-event_leaves : (instance : Instance) (kind : Kind) (s : atomic.State ℕ (List Known)) (id : ℕ) (known after : Known) (word new : ℕ) → RuleHolds instance s → get_elem? s.views id ≡ some (known ∷ []) →
+pub event_leaves : (instance : Instance) (kind : Kind) (s : atomic.State ℕ (List Known)) (id : ℕ) (known after : Known) (word new : ℕ) → RuleHolds instance s → get_elem? s.views id ≡ some (known ∷ []) →
     LearnsAnyway instance s.words kind known word new after → IsLawfulLocal instance after.local × IsBehindNotes instance after
 event_leaves instance kind s id known after word new held view learns =
     let then = event_held instance kind s id known after word new held view learns in
     let there : get_elem? (set s.views id (after ∷ [])) id ≡ some (after ∷ []) = set_here s.views id (after ∷ []) (view_within s.views id (known ∷ []) view) in
     let mine = then.each id 0 (after ∷ []) after there refl in (
       subst (IsLawfulLocal instance) (sym mine.shows) (lawful_shown instance mine.local (own_lawful instance _ then.locals after.local.number mine.local then.law mine.of_caller)),
-      behind_notes instance _ then.law then.some after.local.number mine.local mine.of_caller after mine.shows mine.traced,
+      behind_notes instance _ then.law then.some after.local.number mine.local mine.of_caller after mine.shows mine.notes mine.traced,
     )
 
 -- what it teaches
@@ -186,7 +198,7 @@ event_teaches instance kind s id known word new held view learns =
     let here : step_word instance kind l ≡ word = sym learnt.word_is in
     record {
       knows = refl;
-      lawful = subst (IsLawfulLocal instance) (sym mine.shows) (lawful_shown instance l (own_lawful instance s.words held.locals known.local.number l held.law mine.of_caller));
+      lawful = seat_lawful instance s id known held view;
       lawful_after = leaves.0;
       told = subst (λ (x : Local). Told instance kind x found) (sym mine.shows) (told_shown instance kind l found (subst (λ (w : ℕ). Told instance kind l (slice_index s.words w)) here told));
       behind = leaves.1;

@@ -11,3 +11,5 @@ pub mod Giving
 pub mod Copying
 pub mod Opening
 pub mod Moves
+pub mod Replies
+pub mod Raising

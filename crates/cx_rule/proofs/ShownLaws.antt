@@ -194,7 +194,7 @@ told_shown instance (Link j) l found told = record { names = told.names; later =
 told_shown instance (Look s) l found told = record { names = told.names; live = told.live }
 told_shown instance (WriteCell j i v) l found told = tt
 told_shown instance (ReadCell t k i) l found told = tt
-told_shown instance LoadFree l found told = tt
+told_shown instance LoadFree l found told = told
 told_shown instance (TryExclusive r) l found told = tt
 told_shown instance (TryShared r) l found told = tt
 told_shown instance (BackOff r) l found told = tt
@@ -203,8 +203,8 @@ told_shown instance (ReleaseExclusive r) l found told = tt
 told_shown instance (LoadWord r i refused) l found told = tt
 told_shown instance (StoreWord r i v) l found told = tt
 told_shown instance (Persist r i) l found told = tt
-told_shown instance LoadCur l found told = tt
-told_shown instance Publish l found told = tt
+told_shown instance LoadCur l found told = told
+told_shown instance Publish l found told = told
 told_shown instance (Raise code read) l found told = tt
 told_shown instance Retire l found told = tt
 
@@ -227,6 +227,9 @@ lawful_shown instance l law = record {
   cur = law.cur;
   floor_cur = law.floor_cur;
   few = few_same instance.callers l (shown l) law.few (shown_rights l);
+  downgraded = law.downgraded;
+  answered = law.answered;
+  reads = law.reads;
 }
 
 -- a local state with no exclusive right is shown whole

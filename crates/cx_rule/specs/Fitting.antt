@@ -6,6 +6,7 @@ use Rattle.cx_core.specs.declared.entry.Base.{Base}
 use Rattle.cx_core.specs.declared.entry.Entry.{Entry}
 use Rattle.cx_core.specs.declared.local.HeldShared.{HeldShared}
 use Rattle.cx_core.specs.Base.{LawfulBase}
+use Rattle.cx_core.specs.History.{IsLawfulEntry}
 use Rattle.cx_core.specs.Region.{place_of}
 use Rattle.cx_core.specs.Step.{full_step_of}
 use Rattle.cx_core.specs.WriteSet.{stored}
@@ -44,11 +45,17 @@ SomeFits lines lawful base accesses = ∥ ((first : List ℕ) × (now : List ℕ
 abbrev pub SomeReadFits : ℕ → (List ℕ → Type 0) → Base → List (ℕ × ℕ) → Type 0
 SomeReadFits lines lawful base loaded = ∥ ((first : List ℕ) × (now : List ℕ) × ReadFits lines lawful base loaded first now) ∥₁
 
--- some pair fits what a caller noted: of the replica that it holds exclusively or held so last, and of one that it holds
--- shared. What is really there does.
+-- each word of an entry is noted with a ticket
+pub record IsNoted (noted : List Noted) (ticket : ℕ) (entry : Entry) : Type 0 where
+  pub long : length entry.op ≡ 144
+  pub each : (i : ℕ) → i < 145 → (n : ℕ) × (slice_get noted n ≡ Some (record { ticket = ticket; caller = entry.caller; index = i; word = slice_index (entry.number ∷ entry.op) i }))
+
+-- Some pair fits what a caller noted: of the replica that it holds exclusively or held so last, and of one that it holds
+-- shared. What is really there does. And each entry that it noted whole is lawful at its ticket.
 pub record Fitting (lines : ℕ) (lawful : List ℕ → Type 0) (base : Base) (known : Known) : Type 0 where
   pub exclusive : SomeFits lines lawful base known.accesses
   pub shared : (h : HeldShared) → known.local.shared ≡ Some h → SomeReadFits lines lawful base h.loaded
+  pub entries : (ticket : ℕ) (entry : Entry) → base.place ≤ ticket → IsNoted known.noted ticket entry → IsLawfulEntry ticket entry
 
 -- the words loaded of the replica that is held shared
 abbrev pub loaded_of : Option HeldShared → List (ℕ × ℕ)
@@ -69,11 +76,6 @@ AgreeTo known n = (i : ℕ) → i < n → (word : ℕ) × (word_noted None i kno
 abbrev pub AreEqual : ℕ → (List ℕ → Type 0) → Base → Known → Type 0
 AreEqual lines lawful base known =
     (first now from read : List ℕ) → Fits lines lawful base known.accesses first now → ReadFits lines lawful base (loaded_of known.local.shared) from read → now ≡ read
-
--- each word of an entry is noted with a ticket
-pub record IsNoted (noted : List Noted) (ticket : ℕ) (entry : Entry) : Type 0 where
-  pub long : length entry.op ≡ 144
-  pub each : (i : ℕ) → i < 145 → (n : ℕ) × (slice_get noted n ≡ Some (record { ticket = ticket; caller = entry.caller; index = i; word = slice_index (entry.number ∷ entry.op) i }))
 
 -- no write set is noted yet
 abbrev pub no_set : ℕ → List ℕ → Type 0

@@ -5,4 +5,5 @@ pub mod Fitting
 pub mod Rule
 pub mod Learns
 pub mod Steps
+pub mod Raises
 pub mod Ending

@@ -1,6 +1,6 @@
 -- The rule of the table, which holds between any two steps of any callers: there is a lawful state of the core whose words
 -- are the table's and whose local states are what the seats show.
-use Rattle.std.specs.Prelude.{◌≡◌, ◌+◌, ◌^◌, ◌<◌, ◌≤◌, ◌⊎◌, ℕ, List, ◌∷◌, Some, length, slice_get, slice_index}
+use Rattle.std.specs.Prelude.{◌≡◌, ◌+◌, ◌*◌, ◌^◌, ◌<◌, ◌≤◌, ◌⊎◌, ℕ, List, ◌∷◌, Some, length, slice_get, slice_index}
 use mathlib.Core.Option.{some}
 use lib.ListN.{get_elem?}
 use Rattle.atomic_table.specs.Table as atomic
@@ -8,13 +8,16 @@ use Rattle.cx_base.specs.Codes.{root_place_of}
 use Rattle.cx_base.specs.Memory.{Words}
 use Rattle.cx_base.specs.Noted.{Note, NotesLead}
 use Rattle.cx_core.specs.declared.entry.Entry.{Entry}
+use Rattle.cx_core.specs.declared.local.Answer.{Answer}
+use Rattle.cx_core.specs.declared.local.HeldDowngraded.{HeldDowngraded}
 use Rattle.cx_core.specs.declared.local.HeldExclusive.{HeldExclusive}
 use Rattle.cx_core.specs.declared.local.HeldShared.{HeldShared}
 use Rattle.cx_core.specs.declared.local.Local.{Local}
+use Rattle.cx_core.specs.declared.local.SeenRead.{SeenRead}
 use Rattle.cx_core.specs.History.{full_image}
 use Rattle.cx_core.specs.Lawful.{Lawful, LocalShape, OwnTickets}
 use Rattle.cx_core.specs.LawfulLocks.{FewRights}
-use Rattle.cx_core.specs.Layout.{lock_at, offer_at, replicas_at}
+use Rattle.cx_core.specs.Layout.{lock_at, low_at, offer_at, replicas_at}
 use Rattle.cx_core.specs.Merge.{IsLinked}
 use Rattle.cx_core.specs.Region.{place_of, slot_number}
 use Rattle.cx_core.specs.Shown.{shown}
@@ -58,7 +61,13 @@ pub record IsKnown (instance : Instance) (history : List Entry) (locals : List L
   pub notes : NotesHold instance history known.noted
   pub traced : IsTraced instance history known.accesses local
 
--- what the lawful state says of a caller's local state by itself
+-- what is downgraded is a replica that there is, at a place that histories reach
+pub record IsPlacedRight (instance : Instance) (h : HeldDowngraded) : Type 0 where
+  pub replica : h.replica < 2 * instance.callers
+  pub place : h.place ≤ 2 ^ 40
+
+-- What the lawful state says of a caller's local state by itself. Each answer has a ticket below the floor, and each read that was
+-- answered a place at most the floor.
 pub record IsLawfulLocal (instance : Instance) (l : Local) : Type 0 where
   pub shape : LocalShape l.number l
   pub tickets : OwnTickets instance l.number l
@@ -68,6 +77,9 @@ pub record IsLawfulLocal (instance : Instance) (l : Local) : Type 0 where
   pub cur : root_place_of instance.callers l.seen_cur ≤ l.front
   pub floor_cur : l.floor ≤ root_place_of instance.callers l.seen_cur
   pub few : FewRights instance.callers l
+  pub downgraded : (h : HeldDowngraded) → l.downgraded ≡ Some h → IsPlacedRight instance h
+  pub answered : (i : ℕ) (x : Answer) → slice_get l.answered i ≡ Some x → x.ticket < l.floor
+  pub reads : (i : ℕ) (x : SeenRead) → slice_get l.seen_reads i ≡ Some x → x.place ≤ l.floor
 
 -- the entries of a history, by their callers' numbers in the base
 pub record IsEntryFrom (instance : Instance) (i : ℕ) (entry : Entry) : Type 0 where
@@ -76,22 +88,24 @@ pub record IsEntryFrom (instance : Instance) (i : ℕ) (entry : Entry) : Type 0 
   pub most : entry.number ≤ slot_number entry.caller instance.base.words + i + 1
   pub op : Words 144 entry.op
 
--- what really is there, where a caller noted this: a history, the full image that the caller's accesses lead on from, and the
--- one that was loaded under a shared right
+-- what really is there, where a caller noted this: a history that has the noted words, the full image that the caller's accesses
+-- lead on from, and the one that was loaded under a shared right
 pub record IsBehindNotes (instance : Instance) (known : Known) : Type 0 where
   pub history : List Entry
   pub small : instance.base.place + length history ≤ 2 ^ 40
   pub entries : (i : ℕ) (entry : Entry) → slice_get history i ≡ Some entry → IsEntryFrom instance i entry
+  pub noted : NotesHold instance history known.noted
   pub first : List ℕ
   pub now : List ℕ
   pub origin : IsOrigin instance history first
   pub leads : NotesLead known.accesses first now
   pub shared : (h : HeldShared) → known.local.shared ≡ Some h → (words : List ℕ) × IsOrigin instance history words × NotesLead (loads_of h.loaded) words words
 
--- the words that no step call changes yet stay as they were opened: those in front of the locks, and those of offers and sets
+-- the words that no step call changes yet stay as they were opened: those from LOW on in front of the locks, and those of offers
+-- and sets
 abbrev pub StandStill : Instance → List ℕ → Type 0
 StandStill instance words =
-    (at : ℕ) → (at < lock_at instance.callers 0) ⊎ ((offer_at instance.callers 0 ≤ at) × (at < replicas_at instance.callers)) →
+    (at : ℕ) → ((low_at ≤ at) × (at < lock_at instance.callers 0)) ⊎ ((offer_at instance.callers 0 ≤ at) × (at < replicas_at instance.callers)) →
     slice_index words at ≡ slice_index (opening_words instance.callers instance.base) at
 
 pub record RuleHolds (instance : Instance) (s : atomic.State ℕ (List Known)) : Type 0 where

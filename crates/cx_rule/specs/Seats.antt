@@ -6,7 +6,7 @@ use Rattle.atomic_table.specs.Seated.{TableId}
 use Rattle.cx_core.specs.declared.kinds.Kind.{Kind}
 use Rattle.cx_base.specs.Codes.{root_place_of}
 use Rattle.cx_base.specs.Noted.{Note}
-use Rattle.cx_core.specs.declared.kinds.Kind.TheVariants.{WriteCell, Link, Look, ReadCell, LoadFree, TryExclusive, TryShared, BackOff, Downgrade, ReleaseExclusive, LoadWord, StoreWord, Persist, Publish, Raise}
+use Rattle.cx_core.specs.declared.kinds.Kind.TheVariants.{WriteCell, ReadCell, TryExclusive, Downgrade, ReleaseExclusive, LoadWord, StoreWord, Persist, Raise}
 use Rattle.cx_core.specs.declared.local.Cell.{Cell}
 use Rattle.cx_core.specs.declared.local.Linked.{Linked}
 use Rattle.cx_core.specs.declared.local.Local.{Local}
@@ -36,23 +36,6 @@ IsByShown (LoadWord r i true) = ⊥
 IsByShown (Raise code read) = ⊥
 IsByShown _ = Unit {0}
 
--- the kinds that have a step call
-abbrev pub HasCall : Kind → Type 0
-HasCall (WriteCell j i v) = Unit {0}
-HasCall (Link j) = Unit {0}
-HasCall (Look s) = Unit {0}
-HasCall (ReadCell t k i) = Unit {0}
-HasCall LoadFree = Unit {0}
-HasCall (TryExclusive r) = Unit {0}
-HasCall (TryShared r) = Unit {0}
-HasCall (BackOff r) = Unit {0}
-HasCall (Downgrade r) = Unit {0}
-HasCall (ReleaseExclusive r) = Unit {0}
-HasCall (LoadWord r i refused) = Unit {0}
-HasCall (StoreWord r i v) = Unit {0}
-HasCall (Persist r i) = Unit {0}
-HasCall _ = ⊥
-
 -- the guard as far as a seat sees it: not that words are a full image, nor what a load will find
 abbrev pub SeenGuard : Instance → Kind → Local → Type 0
 SeenGuard instance (Downgrade r) l = IsClean instance.callers r l
@@ -60,13 +43,10 @@ SeenGuard instance (ReleaseExclusive r) l = IsClean instance.callers r l
 SeenGuard instance (LoadWord r i refused) l = CanLoad instance.callers (length instance.base.words) r i l
 SeenGuard instance kind l = Guard instance unseen kind l
 
--- what the rule asks of a kind beside its guard: a word that a step stores has 64 bits, and CUR and DUR stay as they are, since no
--- step call publishes or raises yet
+-- what the rule asks of a kind beside its guard: a word that a step stores has 64 bits
 abbrev pub WordFits : Kind → Type 0
 WordFits (WriteCell j i v) = v < 2 ^ 64
 WordFits (StoreWord r i v) = v < 2 ^ 64
-WordFits Publish = ⊥
-WordFits (Raise code read) = ⊥
 WordFits _ = Unit {0}
 
 -- what a seat shows of its caller's local state after a step that found this word

@@ -2,7 +2,7 @@
 use Rattle.std.specs.Prelude.{◌≡◌, ◌≢◌, ◌%◌, ◌<◌, ◌≤◌, ℕ}
 use Rattle.cx_base.specs.Codes.{link_cell_of, link_ticket_of}
 use Rattle.cx_core.specs.declared.kinds.Kind.{Kind}
-use Rattle.cx_core.specs.declared.kinds.Kind.TheVariants.{Link, Look}
+use Rattle.cx_core.specs.declared.kinds.Kind.TheVariants.{Link, Look, LoadFree, LoadCur, Publish}
 use Rattle.cx_core.specs.declared.local.Local.{Local}
 use Rattle.cx_core.specs.QueueEvents.{seen_word}
 use Rattle.cx_core.specs.Layout.{cell_count}
@@ -26,7 +26,11 @@ pub record LinkTold (instance : Instance) (l : Local) (found : ℕ) : Type 0 whe
   pub later : 0 < seen_word l.seen_slot → instance.base.place ≤ link_ticket_of instance.callers (seen_word l.seen_slot) → found ≢ seen_word l.seen_slot →
       (0 < found) × (link_ticket_of instance.callers (seen_word l.seen_slot) < link_ticket_of instance.callers found)
 
+-- FREE is still the base's place, and CUR never falls
 abbrev pub Told : Instance → Kind → Local → ℕ → Type 0
 Told instance (Link j) l found = LinkTold instance l found
 Told instance (Look s) l found = LookTold instance s l found
+Told instance LoadFree l found = found ≡ instance.base.place
+Told instance LoadCur l found = l.seen_cur ≤ found
+Told instance Publish l found = l.seen_cur ≤ found
 Told instance _ l found = Unit {0}

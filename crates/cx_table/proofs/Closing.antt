@@ -1,5 +1,5 @@
 -- What a table that was closed leaves.
-use Rattle.std.proofs.Common.{◌≡◌, ◌*◌, ◌<◌, ℕ, zero, suc, List, [], ◌∷◌, ◌++◌, length, map, slice_index, refl, sym, ap, subst, ◌∙◌, inl, arith, Some, All, get_or, zero-add}
+use Rattle.std.proofs.Common.{◌≡◌, ◌*◌, ◌<◌, ◌≤◌, ℕ, zero, suc, List, [], ◌∷◌, ◌++◌, length, map, slice_index, refl, sym, ap, subst, ◌∙◌, arith, Some, All, get_or, zero-add}
 use Rattle.std.proofs.lemmas.List.{length-map, get_or-map}
 use Rattle.std.proofs.lemmas.List.Elements.{All-map}
 use Rattle.std.proofs.lemmas.List.FromFn.{length-range_with_len, get_or-range_with_len}
@@ -16,13 +16,16 @@ use Rattle.std.specs.Option.{option_map}
 use Rattle.cx_core.specs.declared.local.Linked.{Linked}
 use Rattle.cx_core.specs.Merge.{IsHistory, all_own, history_of, in_order}
 use Rattle.cx_core.specs.Shown.{shown}
-use Rattle.cx_core.specs.State.{Instance, opening_words}
+use Rattle.cx_core.specs.State.{Instance}
 use Rattle.cx_rule.specs.declared.rule.Known.{Known}
 use Rattle.cx_core.specs.Layout.{vol_at, per_at}
 use Rattle.cx_table.specs.declared.remains.Remains.{Remains}
-use Rattle.cx_core.specs.Chain.{IsCodeChain}
+use Rattle.cx_core.specs.Chain.{IsCodeChain, Leads}
+use Rattle.cx_core.specs.LawfulRoot.{Root}
+use Rattle.cx_table.specs.Wins.{IsWayBy, wins_of}
+use Rattle.cx_table.proofs.Chaining.{leads_shown, way_up, wins_shown}
 use Rattle.cx_table.specs.Remains.{AreSeats, Leaves, MarksDirty, known_by, locals_of, opening_seat}
-use Rattle.cx_rule.specs.Rule.{RuleHolds, NotesHold, StandStill}
+use Rattle.cx_rule.specs.Rule.{RuleHolds, NotesHold}
 use Rattle.cx_rule.specs.Running.{IsSeatOf, Running}
 use Rattle.cx_rule.specs.Seats.{Seated}
 use Rattle.cx_core.proofs.MergeLemmas.{history_is}
@@ -64,7 +67,7 @@ numbered callers seats numbers i k at =
     ∙ ap (λ (ns : List ℕ). get_or ns i 0) numbers
     ∙ get_or-range_with_len 0 callers i 0 below ∙ zero-add i
 
-seats_count : {O : Type 0} (t : Running O) (seats : List Seated) → AreSeats t seats → length seats ≡ t.callers
+pub seats_count : {O : Type 0} (t : Running O) (seats : List Seated) → AreSeats t seats → length seats ≡ t.callers
 seats_count t seats are = sym (length-map seats (λ (s : Seated). s.known.local.number)) ∙ ap length are.numbers ∙ length-range_with_len 0 t.callers
 
 -- the local states that the rule knows are shown by the seats
@@ -113,14 +116,17 @@ read_is [] i x at = absurd (some-ne-none x (sym at))
 read_is (y ∷ ys) zero x at = some-injective y x at
 read_is (y ∷ ys) (suc i) x at = read_is ys i x at
 
--- no code was published since the table was opened
-pub one_code : (instance : Instance) (words : List ℕ) (locals : List Local) (code : ℕ) (codes : List ℕ) → StandStill instance words → get_elem? words 0 ≡ some code → codes ≡ code ∷ [] → IsCodeChain words locals codes
-unfolding opening_words
-one_code instance words locals code codes still at is =
-    let dur : slice_index words 1 ≡ slice_index (opening_words instance.callers instance.base) 1 = still 1 (inl (omega arith)) in
-    let cur : slice_index words 0 ≡ slice_index (opening_words instance.callers instance.base) 0 = still 0 (inl (omega arith)) in
-    let here = read_is words 0 code at in
-    subst (IsCodeChain words locals) (sym is) (dur ∙ sym cur ∙ here, sym here)
+-- the chain that was read off the wins is the one from DUR to CUR
+pub chain_read : (instance : Instance) (words : List ℕ) (whole locals : List Local) (dur : ℕ) (codes : List ℕ) → 1 ≤ instance.callers → Root instance words whole → map shown whole ≡ locals → get_elem? words 1 ≡ some dur →
+    ((above : List ℕ) (to : ℕ) → IsWayBy (wins_of locals) dur above to → codes ≡ dur ∷ above) → IsCodeChain words locals codes
+chain_read instance words whole locals dur codes least root shows at read =
+    let here : slice_index words 1 ≡ dur = read_is words 1 dur at in
+    let above = root.above in
+    let cur = slice_index words 0 in
+    let same : wins_of whole ≡ wins_of locals = sym (wins_shown whole) ∙ ap wins_of shows in
+    let way = subst (λ (n : ℕ). IsWayBy (wins_of locals) n above cur) here (subst (λ ws. IsWayBy ws (slice_index words 1) above cur) same (way_up instance words whole least root)) in
+    let leads = subst (λ (n : ℕ). Leads locals n above cur) here (subst (λ ls. Leads ls (slice_index words 1) above cur) shows (leads_shown whole (slice_index words 1) above cur root.leads)) in
+    subst (IsCodeChain words locals) (sym (read above cur way)) (here, leads)
 
 -- a part of the words that were handed out, at the same places
 pub same_part : (words ws : List ℕ) (a b c d : ℕ) → words ≡ ws → a ≡ c → b ≡ d → slice_range ws a b ≡ slice_range words c d
@@ -133,9 +139,9 @@ pub record Handed {O : Type 0} (t : Running O) (seats : List Seated) (words : Li
   pub lines : r.lines ≡ t.lines
   pub first : r.first ≡ t.base.place
   pub published : r.published.items ≡ r.trail.chain
-  pub code : ℕ
-  pub chain : r.trail.chain ≡ code ∷ []
-  pub cur : get_elem? words 0 ≡ some code
+  pub dur : ℕ
+  pub read : get_elem? words 1 ≡ some dur
+  pub chain : (above : List ℕ) (to : ℕ) → IsWayBy (wins_of (locals_of seats)) dur above to → r.trail.chain ≡ dur ∷ above
   pub of : r.trail.table ≡ t.table
   pub base : r.trail.base ≡ t.base
   pub locals : r.trail.locals ≡ locals_of seats
@@ -168,7 +174,7 @@ leaves t instance seats r s id callers base are held me h =
       history = is;
       merged = subst (λ (p : ℕ). IsHistory p r.trail.history (locals_of seats)) place (subst (λ (es : List Entry). IsHistory instance.base.place es (locals_of seats)) is
           (subst (IsHistory instance.base.place law.history) locals (merged_shown instance.base.place law.history held.locals law.tickets.merged)));
-      chain = one_code instance s.words (locals_of seats) h.code r.trail.chain held.still h.cur h.chain;
+      chain = chain_read instance s.words held.locals (locals_of seats) h.dur r.trail.chain law.shape.some law.root locals h.read h.chain;
       volatile = h.volatile;
       durable = h.durable;
       dirty = h.dirty;

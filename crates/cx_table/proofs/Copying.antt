@@ -35,6 +35,7 @@ copy_moved instance r found k c long some agree behind is =
       long = is.long;
       place = is.place ∙ noted_place k.accesses 0 first.0 None none first.1 ∙ sym (noted_place (loads_of (loaded_of k.local.shared)) 0 first.0 None none first.2);
       marks = is.marks;
+      cells = is.cells;
       words = λ i below there. (
           let a = agree i below in
           let n = length c.words in
@@ -57,7 +58,7 @@ module _ {O : Type 0} (r : Running O) (step : O → List ℕ → List ℕ → Li
       let m = made.0.0 in
       let at = made.1.seat in
       let long : length copy.words ≡ length r.base.words = ap (λ (s : Seated). s.region) view ∙ of.region in
-      let mirrored : IsMirrored now mirror' before = record { one = refl; is = m.is; linked = m.linked; front = m.front; few = m.few; small = m.small; cells = m.cells; within = m.within } in
+      let mirrored : IsMirrored now mirror' before = record { one = refl; is = m.is; linked = m.linked; front = m.front; few = m.few; small = m.small; place = m.place; cells = m.cells; within = m.within } in
       let copied = copy_moved instance replica found k copy long (subst (λ n. 0 < n) (sym long) some) (subst (λ (s : Seated). AgreeTo s.known s.region) (sym view) agree) taught.event.behind made.0.1 in
       let stands : IsSeatOf r (seated table' now before copy) = record { table = at.table; caller = at.caller; before = at.before; region = at.region } in
       let whole : seated table' now before copy ≡ record old { known = known_copied instance (BackOff replica) old.known found } =

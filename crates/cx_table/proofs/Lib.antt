@@ -3,6 +3,9 @@ mod MirrorLaws
 mod Refused
 mod Handing
 mod Copying
+mod Raising
 mod Marking
+mod Counting
 mod OpeningSeats
+mod Chaining
 mod Closing

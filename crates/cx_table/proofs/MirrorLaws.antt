@@ -129,7 +129,7 @@ goes_on instance (Raise code read) k found guard small shape = quiet k.local _ s
 goes_on instance Retire k found guard small shape = quiet k.local _ small shape refl refl refl refl refl refl
 
 -- one step more within the limit
-one_step : (l : Local) → IsWithinLimit l → ¬ IsAtLimit l → l.limit < max_word → one_more l.steps ≤ l.limit
+pub one_step : (l : Local) → IsWithinLimit l → ¬ IsAtLimit l → l.limit < max_word → one_more l.steps ≤ l.limit
 one_step l within allowed few =
     let most = within few in
     let apart : l.steps ≢ l.limit = λ e. allowed (e, few) in
@@ -166,6 +166,7 @@ mirrored instance kind found me me' mirror mirror' before old allowed guard taug
       front = omega arith;
       few = omega arith;
       small = old.small;
+      place = λ h is. (taught.lawful_after.downgraded h is).place;
       cells = record { count = goes.shape.cells; each = goes.shape.each };
       within = within_after l l' goes old.within allowed;
     })
@@ -187,7 +188,7 @@ module _ {O : Type 0} (r : Running O) (step : O → List ℕ → List ℕ → Li
       let l = (known_of me.0).local in
       let known : known_of me'.0 ≡ known_after instance kind (known_of me.0) found = ap (λ (m : Me ℕ (List Known)). known_of m.0) taught.knows in
       let new = mirrored instance kind found me me' mirror mirror' before old.0 allowed may taught numbers in
-      let kept = copy_kept instance kind (known_of me.0) found copy may of.region old.1 in
+      let kept = copy_kept instance kind (known_of me.0) found copy may old.0.cells of.region old.1 in
       let number : (known_of me'.0).local.number ≡ l.number = ap (λ (k : Known). k.local.number) known ∙ (goes_on instance kind (known_of me.0) found may (numbers_small old.0) (record { number = refl; cells = old.0.cells.count; each = old.0.cells.each })).shape.number in
       let region : length copy'.words ≡ length copy.words = ap (λ (c : Copied). length c.words) copied ∙ kept.0 in (
         (new, subst (IsCopied (known_of me'.0)) (sym copied) (subst (λ (k : Known). IsCopied k (copied_after kind (known_of me.0) found copy)) (sym known) kept.1)),
@@ -214,6 +215,16 @@ module _ {O : Type 0} (r : Running O) (step : O → List ℕ → List ℕ → Li
           let a = old.linked in
           let b = old.few in
           (omega arith, omega arith)
+
+  -- the same where the numbers afterwards are the caller's
+  pub step_made_at : (old : Seated) → IsSeat me mirror before copy → seated table me before copy ≡ old → ((l : Local) → mirror ≡ mirror_of l → ¬ IsAtLimit l) → IsSeatOf r old →
+      SeenGuard (instance_at r step reads) kind old.known.local → table' ≡ table → Teaches (instance_at r step reads) kind (known_of me.0) found me' → mirror' ≡ mirror_of (known_local (instance_at r step reads) kind (known_of me.0) found) →
+      copy' ≡ copied_after kind (known_of me.0) found copy → IsSeat me' mirror' before copy' × Steps r step reads kind found old (seated table' me' before copy')
+  step_made_at old is view allowed of guard same_table taught numbers copied =
+      let instance = instance_at r step reads in
+      let may = subst (λ (s : Seated). SeenGuard instance kind s.known.local) (sym view) guard in
+      subst (λ (s : Seated). IsSeat me' mirror' before copy' × Steps r step reads kind found s (seated table' me' before copy')) view
+      (made_inside is (allowed (known_of me.0).local is.0.is) (subst (IsSeatOf r) (sym view) of) may same_table taught numbers copied)
 
   pub step_made : (callers : ℕ) (old : Seated) → IsSeat me mirror before copy → seated table me before copy ≡ old → ((l : Local) → mirror ≡ mirror_of l → ¬ IsAtLimit l) → IsSeatOf r old →
       SeenGuard (instance_at r step reads) kind old.known.local → table' ≡ table → Teaches (instance_at r step reads) kind (known_of me.0) found me' → callers ≡ r.callers → Follows callers kind found mirror mirror' →

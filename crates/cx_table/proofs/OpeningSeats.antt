@@ -1,15 +1,17 @@
 -- The seat of a caller as it is cut from the first seat.
-use Rattle.std.proofs.Common.{◌≡◌, ◌^◌, ◌<◌, ◌≤◌, ℕ, zero, suc, true, false, List, [], ◌∷◌, replicate, slice_index, refl, sym, ap, ◌∙◌, subst, arith, Some}
+use Rattle.std.proofs.Common.{◌≡◌, ◌+◌, ◌*◌, ◌^◌, ◌<◌, ◌≤◌, ℕ, zero, suc, true, false, List, [], ◌∷◌, get_or, replicate, slice_index, refl, sym, ap, ◌∙◌, subst, arith, None, Some}
 use Rattle.std.specs.List.{slice_get}
 use Rattle.std.proofs.lemmas.List.{get_or-replicate, length-replicate}
 use Rattle.std.proofs.lemmas.Option.{none-some, slice_get_within, get_or_from_slice_get}
 use Rattle.atomic_table.specs.Table.{Me}
 use Rattle.core_queue.proofs.Opening.{blank_shape}
+use Rattle.cx_core.specs.declared.local.Cell.{Cell}
+use Rattle.cx_core.specs.declared.local.Local.{Local}
 use Rattle.cx_core.specs.Lawful.{CellShape}
 use Rattle.cx_core.specs.State.{blank_cell, opening_local}
 use Rattle.cx_rule.specs.declared.rule.Known.{Known}
 use Rattle.cx_table.specs.declared.mirror.Mirror.{Mirror}
-use Rattle.cx_table.specs.Copies.{Copied, IsCopied, blank_copy}
+use Rattle.cx_table.specs.Copies.{Copied, HasCellWords, IsCopied, blank_copy}
 use Rattle.cx_table.specs.Mirrors.{IsMirrored, mirror_of}
 use Rattle.cx_rule.specs.Seats.{HasCells, IsWithinLimit, known_of, opening_known}
 use Rattle.cx_rule.proofs.Moves.{one_caller}
@@ -37,9 +39,23 @@ opening_mirrored me mirror before callers place number limits is m most small =
       front = omega (arith, ap (λ (x : Mirror). x.front) m);
       few = omega arith;
       small = small;
+      place = λ h is. absurd (none-some h (sym (ap (λ (k : Known). k.local.downgraded) one.1) ∙ is));
       cells = subst HasCells (ap (λ (k : Known). k.local) (sym one.1)) (blank_cells callers place number (slice_index limits number));
       within = subst (λ (k : Known). IsWithinLimit k.local) (sym one.1) (λ few. omega arith);
     }
+
+abbrev no_cell : Cell
+no_cell = record { words = []; ticket = None; set = []; offer = 0 }
+
+-- no word was written
+blank_words : (l : Local) → l.cells ≡ replicate 16 blank_cell → HasCellWords l (replicate 2320 0)
+blank_words l is = record {
+  long = length-replicate {A = ℕ} 2320 0;
+  each = λ j i small below.
+      get_or-replicate 2320 (145 * j + i) 0 0 (omega arith)
+      ∙ sym (get_or-replicate 145 i 0 0 below)
+      ∙ ap (λ (c : Cell). get_or c.words i 0) (sym (ap (λ (cs : List Cell). get_or cs j no_cell) is ∙ get_or-replicate 16 j blank_cell no_cell small));
+}
 
 -- and what it keeps in plain memory
 pub opening_copied : (me : Me ℕ (List Known)) (copy : Copied) (callers place number region : ℕ) (limits : List ℕ) → me ≡ (opening_known callers place limits number ∷ [], []) → copy ≡ blank_copy region → IsCopied (known_of me.0) copy
@@ -50,6 +66,7 @@ opening_copied me copy callers place number region limits is blank =
       place = refl;
       marks = λ i below. (λ marked. absurd (unmarked region i marked), λ there. (let none : there.0 < 0 = there.1 in absurd (omega arith)));
       words = λ i below there. (let none : there.0 < 0 = there.1 in absurd (omega arith));
+      cells = blank_words (opening_known callers place limits number).local refl;
     }))
   where
     unmarked : (n i : ℕ) → slice_get (replicate n false) i ≡ Some true → ⊥

@@ -1,34 +1,46 @@
--- What a seat keeps in plain memory of the replica that its caller holds exclusively.
-use Rattle.std.specs.Prelude.{◌≡◌, ◌<◌, ◌==◌, ◌↔◌, if◌then◌else◌, true, false, ℕ, Bool, List, length, replicate, slice_get, slice_index, slice_set, Some}
+-- What a seat keeps in plain memory of the replica that its caller holds exclusively, and of its caller's cells.
+use Rattle.std.specs.Prelude.{◌≡◌, ◌+◌, ◌*◌, ◌<◌, ◌==◌, ◌↔◌, if◌then◌else◌, true, false, ℕ, Bool, List, length, replicate, slice_get, slice_index, slice_set, Some}
 use Rattle.std.specs.List.{Contains}
 use Rattle.cx_core.specs.declared.kinds.Kind.{Kind}
-use Rattle.cx_core.specs.declared.kinds.Kind.TheVariants.{TryExclusive, LoadWord, StoreWord, Persist}
+use Rattle.cx_core.specs.declared.kinds.Kind.TheVariants.{WriteCell, TryExclusive, LoadWord, StoreWord, Persist}
+use Rattle.cx_core.specs.declared.local.Local.{Local}
+use Rattle.cx_core.specs.QueueEvents.{cell_of}
 use Rattle.cx_core.specs.Rights.{exclusive_on, held_dirty, is_at}
 use Rattle.cx_rule.specs.declared.rule.Known.{Known}
 use Rattle.cx_rule.specs.Fitting.{TellsWord}
 use Rattle.cx_rule.specs.Seats.{place_noted}
 
--- the words stored, by address, which of them are dirty, and the place last loaded or stored
+-- the words stored, by address, which of them are dirty, the place last loaded or stored, and the words of the cells, one
+-- cell after another
 pub record Copied : Type 0 where
   pub words : List ℕ
   pub dirty : List Bool
   pub place : ℕ
+  pub cells : List ℕ
 
--- of so many words none is dirty
+-- of so many words none is dirty, and no cell was written
 abbrev pub blank_copy : ℕ → Copied
-blank_copy region = record { words = replicate region 0; dirty = replicate region false; place = 0 }
+blank_copy region = record { words = replicate region 0; dirty = replicate region false; place = 0; cells = replicate 2320 0 }
 
 -- after a step of this kind that found this word
 abbrev pub copied_after : Kind → Known → ℕ → Copied → Copied
+copied_after (WriteCell j i v) k found c = record c { cells = slice_set c.cells (145 * j + i) v }
 copied_after (TryExclusive r) k found c = record c { place = 0 }
 copied_after (LoadWord r i refused) k found c = if is_at r (exclusive_on k.local) then record c { place = if i == 0 then found else c.place } else c
-copied_after (StoreWord r i v) k found c = record { words = slice_set c.words i v; dirty = slice_set c.dirty i true; place = if i == 0 then v else c.place }
+copied_after (StoreWord r i v) k found c = record { words = slice_set c.words i v; dirty = slice_set c.dirty i true; place = if i == 0 then v else c.place; cells = c.cells }
 copied_after (Persist r i) k found c = record c { dirty = slice_set c.dirty i false }
 copied_after _ k found c = c
 
+-- a list has the words of a caller's 16 cells, one cell after another
+pub record HasCellWords (l : Local) (cells : List ℕ) : Type 0 where
+  pub long : length cells ≡ 2320
+  pub each : (j i : ℕ) → j < 16 → i < 145 → slice_index cells (145 * j + i) ≡ slice_index (cell_of l j).words i
+
 -- The marks say which words are dirty, and of those the words are what the accesses tell. The place is the one noted.
+-- The words of the cells are those that the caller wrote.
 pub record IsCopied (known : Known) (c : Copied) : Type 0 where
   pub long : length c.dirty ≡ length c.words
   pub place : c.place ≡ place_noted 0 known.accesses
   pub marks : (i : ℕ) → i < length c.words → (slice_get c.dirty i ≡ Some true) ↔ Contains (held_dirty known.local.exclusive) i
   pub words : (i : ℕ) → i < length c.words → Contains (held_dirty known.local.exclusive) i → TellsWord (length c.words) known.accesses i (slice_index c.words i)
+  pub cells : HasCellWords known.local c.cells

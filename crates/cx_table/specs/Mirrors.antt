@@ -1,9 +1,10 @@
 -- The numbers of a local state that code reads.
-use Rattle.std.specs.Prelude.{◌≡◌, ◌^◌, ◌≤◌, ℕ, List, [], ◌∷◌, length, map}
+use Rattle.std.specs.Prelude.{◌≡◌, ◌^◌, ◌≤◌, ℕ, List, [], ◌∷◌, length, map, Some}
 use Rattle.std.specs.List.{range_with_len}
 use Rattle.atomic_table.specs.Table.{Me}
 use Rattle.cx_core.specs.declared.kinds.Kind.{Kind}
 use Rattle.cx_core.specs.declared.local.Cell.{Cell}
+use Rattle.cx_core.specs.declared.local.HeldDowngraded.{HeldDowngraded}
 use Rattle.cx_core.specs.declared.local.Local.{Local}
 use Rattle.cx_core.specs.LockEvents.{is_in}
 use Rattle.cx_core.specs.Rights.{exclusive_on, shared_on}
@@ -27,6 +28,9 @@ mirror_of l = record {
   refused = map (is_in l.refused) (range_with_len 0 16);
   exclusive = exclusive_on l;
   shared = shared_on l;
+  passer = l.passer;
+  downgraded = l.downgraded;
+  won = l.won;
   raised = l.raised;
   floor = l.floor;
   steps = l.steps;
@@ -50,5 +54,6 @@ pub record IsMirrored (me : Me ℕ (List Known)) (mirror : Mirror) (before : ℕ
   pub front : mirror.front ≤ 2 ^ 40
   pub few : mirror.linked ≤ 2 ^ 40
   pub small : before ≤ 2 ^ 40
+  pub place : (h : HeldDowngraded) → (known_of me.0).local.downgraded ≡ Some h → h.place ≤ 2 ^ 40
   pub cells : HasCells (known_of me.0).local
   pub within : IsWithinLimit (known_of me.0).local

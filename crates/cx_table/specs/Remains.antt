@@ -30,6 +30,16 @@ pub record AreSeats {O : Type 0} (r : Running O) (seats : List Seated) : Type 0 
   pub of : All (IsSeatOf r) seats
   pub numbers : map (λ (s : Seated). s.known.local.number) seats ≡ range_with_len 0 r.callers
 
+-- for how many callers the room for what a closing hands out is, and for how many lines
+pub record RoomFor : Type 0 where
+  pub callers : ℕ
+  pub lines : ℕ
+
+-- it is for this table
+pub record IsRoomOf {O : Type 0} (r : Running O) (room : RoomFor) : Type 0 where
+  pub callers : room.callers ≡ r.callers
+  pub lines : room.lines ≡ r.lines
+
 -- a caller's seat as it is made
 abbrev pub opening_seat : {O : Type 0} → Running O → List ℕ → ℕ → Seated
 opening_seat r limits caller = record { table = r.table; before = slot_number caller r.base.words; region = length r.base.words; known = opening_known r.callers r.base.place limits caller }

@@ -4,3 +4,9 @@ use Rattle.std.specs.Prelude.{ℕ}
 pub record Right : Type 0 where
   pub replica : ℕ
   pub caller : ℕ
+
+-- What they see of the token of a win: the code that won, the code before it, and the caller that has it.
+pub record WonRight : Type 0 where
+  pub code : ℕ
+  pub before : ℕ
+  pub caller : ℕ

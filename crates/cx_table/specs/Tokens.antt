@@ -1,9 +1,11 @@
 -- Whose a token is: the seat whose caller it was handed to still has that right on that replica.
 use Rattle.std.specs.Prelude.{◌≡◌, ◌≢◌, ◌*◌, ◌≤◌, ◌<◌, ℕ, Option, Some, None, Result, Ok, Err}
+use Rattle.cx_base.specs.Codes.{root_replica_of}
 use Rattle.cx_core.specs.LockEvents.{exclusive_mark}
+use Rattle.cx_core.specs.RootEvents.{code_in}
 use Rattle.cx_core.specs.Rights.{downgraded_on, exclusive_on, shared_on}
 use Rattle.cx_rule.specs.Seats.{Seated}
-use Rattle.cx_table.specs.Right.{Right}
+use Rattle.cx_table.specs.Right.{Right, WonRight}
 use Rattle.cx_table.specs.declared.tokens.SharedRight.{SharedRight}
 use Rattle.cx_table.specs.declared.tokens.SharedRight.TheVariants.{Hold, Passer, Downgraded}
 
@@ -27,6 +29,12 @@ pub record IsDowngradedOf (callers : ℕ) (seat : Seated) (held : Right) : Type 
   pub caller : held.caller ≡ seat.known.local.number
   pub holds : downgraded_on seat.known.local ≡ Some held.replica
 
+-- the seat whose caller won still has the win, which is a right on the replica of the code before
+pub record IsWonOf (callers : ℕ) (seat : Seated) (won : WonRight) : Type 0 where
+  pub few : root_replica_of callers won.before < 2 * callers
+  pub caller : won.caller ≡ seat.known.local.number
+  pub holds : seat.known.local.won ≡ Some (record { code = won.code; before = won.before })
+
 -- the token of a caller's try of a replica, by the word found
 abbrev pub HandsExclusive : ℕ → ℕ → ℕ → Option Right → Type 0
 HandsExclusive replica caller found (Some held) = (found ≡ 0) × (held ≡ record { replica = replica; caller = caller })
@@ -40,6 +48,17 @@ HandsShared replica caller found (Err mark) = (exclusive_mark ≤ found) × (mar
 abbrev pub TriedExclusive : ℕ → ℕ → Seated → ℕ → Option Right → Type 0
 TriedExclusive callers replica seat found (Some held) = (found ≡ 0) × (held.replica ≡ replica) × IsExclusiveOf callers seat held
 TriedExclusive callers replica seat found None = found ≢ 0
+
+-- the token of a publication of a code over the one last seen, by the code found: the win, or the right that is given back
+abbrev pub HandsWon : ℕ → ℕ → Right → ℕ → Result WonRight Right → Type 0
+HandsWon code seen held found (Ok won) = (found ≡ seen) × (won ≡ record { code = code; before = seen; caller = held.caller })
+HandsWon code seen held found (Err given) = (found ≢ seen) × (given ≡ held)
+
+-- a publication hands a win out exactly where it found the code last seen, and else gives the downgraded right back
+abbrev pub TriedPublish : ℕ → Seated → Right → Seated → ℕ → Result WonRight Right → Type 0
+TriedPublish callers before held after found (Ok won) =
+    (found ≡ before.known.local.seen_cur) × (won.before ≡ found) × (won.code ≡ code_in callers before.known.local.downgraded) × IsWonOf callers after won
+TriedPublish callers before held after found (Err given) = (found ≢ before.known.local.seen_cur) × (given ≡ held) × IsDowngradedOf callers after given
 
 -- a shared try hands out a hold exactly where it found no exclusive mark, and else a passer
 abbrev pub TriedShared : ℕ → ℕ → Seated → ℕ → Result Right Right → Type 0

@@ -1,18 +1,25 @@
-//! What a seat keeps in plain memory of the replica that its caller holds exclusively: one event stores one word, so the words
-//! that are to be persisted have to be known without a load.
+//! What a seat keeps in plain memory of words that its caller alone writes: one event stores one word, so the words of the
+//! replica held exclusively that are to be persisted have to be known without a load, and so have those of the caller's
+//! cells, of which only the words that differ are written.
 
-ghost use Rattle.std.specs.Prelude.{◌≡◌, ◌<◌, ◌==◌, IfOk, false, true, if◌then◌else◌, length, replicate, slice_get, slice_index, slice_set, Some, None};
+ghost use Rattle.std.specs.Prelude.{◌≡◌, ◌+◌, ◌*◌, ◌<◌, ◌==◌, ◌↔◌, ℕ, IfOk, IsTrue, false, true, if◌then◌else◌, length, replicate, slice_get, slice_index, slice_set, Some, None};
 ghost use Rattle.cx_table.specs.Copies.{blank_copy};
 
+use crate::marks::Marks;
 use std::alloc::{AllocError, Global};
 use std::marker::Model;
 
-/// The words stored, by address, which of them are dirty, and the place last loaded or stored.
+/// The words of a caller's 16 cells, each of 145.
+const CELL_WORDS: usize = 16 * 145;
+
+/// The words stored, by address, which of them are dirty, the place last loaded or stored, and the words of the cells, one
+/// cell after another.
 #[derive(Debug, Drop)]
 pub(crate) struct Copy {
     words: Vec<u64>,
-    dirty: Vec<bool>,
+    dirty: Marks,
     place: u64,
+    cells: Vec<u64>,
 }
 
 impl Model for Copy {
@@ -20,18 +27,19 @@ impl Model for Copy {
 
     ghost Value = { Copied };
 
-    ghost view = { λ c. record { words = c.words.items; dirty = c.dirty.items; place = c.place } };
+    ghost view = { λ c. record { words = c.words.items; dirty = c.dirty; place = c.place; cells = c.cells.items } };
 }
 
 impl Copy {
-    /// Room for so many words, none of which is dirty.
+    /// Room for so many words, none of which is dirty, and for cells that were never written.
     pub(crate) fn of(alloc: Global, region: usize) -> Result<Copy, AllocError>
         ensures { IfOk result (λ c. c ≡ blank_copy region) }
     {
         Ok(Copy {
             words: Vec::from_elem(alloc, 0, region)?,
-            dirty: Vec::from_elem(alloc, false, region)?,
+            dirty: Marks::none(alloc, region)?,
             place: 0,
+            cells: Vec::from_elem(alloc, 0, CELL_WORDS)?,
         })
     }
 
@@ -55,10 +63,10 @@ impl Copy {
     pub(crate) fn store(&mut self, i: u64, v: u64)
         requires word { i < length self.old.words }
         requires mark { i < length self.old.dirty }
-        ensures { self.new ≡ record { words = slice_set self.old.words i v; dirty = slice_set self.old.dirty i true; place = if i == 0 then v else self.old.place } }
+        ensures { self.new ≡ record { words = slice_set self.old.words i v; dirty = slice_set self.old.dirty i true; place = if i == 0 then v else self.old.place; cells = self.old.cells } }
     {
         self.words[i as usize] = v;
-        self.dirty[i as usize] = true;
+        self.dirty.mark(i);
         if i == 0 {
             self.place = v;
         }
@@ -69,7 +77,23 @@ impl Copy {
         requires { i < length self.old.dirty }
         ensures { self.new ≡ record self.old { dirty = slice_set self.old.dirty i false } }
     {
-        self.dirty[i as usize] = false;
+        self.dirty.clear(i);
+    }
+
+    /// A word was written into a cell.
+    pub(crate) fn write_cell(&mut self, j: u64, i: u64, v: u64)
+        requires { 145 * j + i < length self.old.cells }
+        ensures { self.new ≡ record self.old { cells = slice_set self.old.cells (145 * j + i) v } }
+    {
+        self.cells[(145 * j + i) as usize] = v;
+    }
+
+    /// A word of a cell.
+    pub(crate) fn cell_word(&self, j: u64, i: u64) -> u64
+        requires { 145 * j + i < length self.now.cells }
+        ensures { result ≡ slice_index self.now.cells (145 * j + i) }
+    {
+        self.cells[(145 * j + i) as usize]
     }
 
     /// The word last stored.
@@ -91,7 +115,15 @@ impl Copy {
     pub(crate) fn marks(&self) -> &[bool]
         ensures { result.now ≡ self.now.dirty }
     {
-        &self.dirty
+        self.dirty.as_slice()
+    }
+
+    /// Whether a word of a group of 64 is dirty.
+    pub(crate) fn has_dirty(&self, group: u64) -> bool
+        requires { 64 * group < length self.now.dirty }
+        ensures { IsTrue result ↔ ((i : ℕ) × (i < 64) × (slice_get self.now.dirty (64 * group + i) ≡ Some true)) }
+    {
+        self.dirty.has_any(group)
     }
 
     /// The words of a region.

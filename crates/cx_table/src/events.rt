@@ -1,7 +1,10 @@
 //! An event of the core as one atomic step of the table, for each kind of atomic step.
 
-ghost use Rattle.std.specs.Prelude.{◌≡◌, ◌+◌, ◌-◌, ◌%◌, ◌^◌, ◌<◌, ◌==◌, ◌∷◌, [], ℕ, if◌then◌else◌};
+ghost use Rattle.std.specs.Prelude.{◌≡◌, ◌+◌, ◌-◌, ◌%◌, ◌^◌, ◌<◌, ◌==◌, ◌∷◌, [], ℕ, max, List, if◌then◌else◌};
+ghost use Rattle.std.specs.Option.{option_copied};
 ghost use Rattle.atomic_table.specs.Table.{Allows};
+ghost use Rattle.cx_core.specs.declared.local.Answer.{Answer};
+ghost use Rattle.cx_rule.specs.Raises.{IsRaiseLearned, TeachesRaised};
 ghost use Rattle.cx_rule.specs.Learns.{LearnsBy};
 ghost use Rattle.cx_rule.specs.Rule.{RuleHolds};
 ghost use Rattle.cx_rule.specs.Running.{instance_at};
@@ -232,5 +235,41 @@ impl<O: Object> Shared<O> {
     {
         let _ = kind;
         self.table.shared.fetch_sub::<Does<J>>(seat, word, k)
+    }
+
+    /// A raise of DUR by a code as what its caller noted tells what it answers, with a read that is answered or without. It
+    /// gives the word found.
+    pub(crate) fn raise_learned(
+        &self,
+        seat: &mut Seat<u8, View>,
+        word: usize,
+        code: u64,
+        read: Option<&([u64; 144], [u64; 144])>,
+    ) -> u64
+        requires table { seat.old.table_id ≡ self.now.table }
+        requires one { seat.old.me ≡ (known_of seat.old.me.0 ∷ [], []) }
+        requires within { word < self.now.table.words }
+        requires learns { (answers : List Answer) × IsRaiseLearned (instance_at self.now O.step O.only_reads) code answers (option_copied read) (known_of seat.old.me.0) word }
+        ensures table { seat.new.table_id ≡ seat.old.table_id }
+        ensures taught { (answers : List Answer) → IsRaiseLearned (instance_at self.now O.step O.only_reads) code answers (option_copied read.entry) (known_of seat.old.me.0) word → TeachesRaised (instance_at self.now O.step O.only_reads) code answers (option_copied read.entry) (known_of seat.old.me.0) seat.new.me }
+    {
+        self.max_as::<Brand>(seat, word, code, read)
+    }
+
+    fn max_as<J: Named>(
+        &self,
+        seat: &mut Seat<u8, View>,
+        word: usize,
+        code: u64,
+        read: Option<&([u64; 144], [u64; 144])>,
+    ) -> u64
+        requires table { seat.old.table_id ≡ self.now.table }
+        requires within { word < self.now.table.words }
+        requires allows { Allows (RuleHolds (instance_at self.now O.step O.only_reads)) self.now.table.slots seat.old.id seat.old.me word (λ x. max x code) J.tells }
+        ensures table { seat.new.table_id ≡ seat.old.table_id }
+        ensures told { J.tells result seat.new.me }
+    {
+        let _ = read;
+        self.table.shared.fetch_max::<Does<J>>(seat, word, code)
     }
 }

@@ -3,7 +3,8 @@
 ghost use Rattle.std.specs.Prelude.{◌≡◌, ◌+◌, ◌*◌, ◌<◌, ◌≤◌, ◌∷◌, ℕ, List, [], false, All, IfErr, IfOk, length, map, replicate, slice_range, vec_capacity, vec_len};
 ghost use Rattle.cx_table.specs.Marks.{MarksMore};
 ghost use Rattle.std.specs.Slots.{IsFull, slots_items, slots_len};
-ghost use Rattle.cx_table.specs.Remains.{AreSeats, Leaves, MarksDirty, known_by, locals_of};
+ghost use Rattle.cx_table.specs.Remains.{AreSeats, IsRoomOf, Leaves, MarksDirty, known_by, locals_of};
+ghost use Rattle.cx_table.specs.Wins.{IsWayBy, TakesOver, wins_of};
 ghost use Rattle.cx_core.specs.Region.{region_words};
 ghost use Rattle.cx_core.specs.Rights.{exclusive_on, held_dirty};
 ghost use Rattle.cx_rule.specs.Running.{instance_at};
@@ -14,10 +15,11 @@ use crate::seat::CallerSeat;
 use crate::shared::Shared;
 use atomic_table::{Closed, Join, Play, Seat};
 use cx_base::Object;
-use cx_core::layout::replicas_at;
-use cx_core::{HEAD_LINES, LINE_WORDS};
+use cx_core::layout::{DUR_AT, replicas_at};
+use cx_core::{HEAD_LINES, LINE_WORDS, WonCode};
 use cx_rule::View;
 use std::alloc::{AllocError, Global};
+use std::marker::Model;
 use std::snapshot::Snapshot;
 
 /// A table that was not closed for want of memory, and its seats: all as it was.
@@ -47,28 +49,55 @@ impl Join<View> for InFront {
     ghost spent = { [] };
 }
 
-/// Room for what is handed out.
-struct Room {
+/// Room for what the closing of a table hands out. Contracts see for how many callers it is, and for how many lines of the
+/// object.
+#[derive(Drop)]
+pub struct Room {
+    callers: u32,
+    lines: u64,
+    space: Space,
+}
+
+impl Model for Room {
+    ghost use Rattle.std.specs.Prelude.{◌≡◌, ◌+◌, ◌*◌, ◌≤◌, [], false, replicate, vec_capacity};
+    ghost use Rattle.cx_core.specs.Region.{region_words};
+    ghost use Rattle.cx_table.specs.Remains.{RoomFor};
+
+    ghost Value = { RoomFor };
+
+    ghost view = { λ r. record { callers = r.callers; lines = r.lines } };
+
+    ghost invariant = { λ r. (r.space.published.items ≡ []) × (r.callers + 1 ≤ vec_capacity r.space.published) × (r.space.wins.items ≡ []) × (r.callers ≤ vec_capacity r.space.wins) × (r.space.volatile.items ≡ []) × (region_words r.lines * (2 * r.callers) ≤ vec_capacity r.space.volatile) × (r.space.durable.items ≡ []) × (region_words r.lines * (2 * r.callers) ≤ vec_capacity r.space.durable) × (r.space.dirty.items ≡ replicate (region_words r.lines * (2 * r.callers)) false) };
+}
+
+/// The codes, the wins that they are read off, and the words of the replicas.
+#[derive(Drop)]
+struct Space {
     published: Vec<u64>,
+    wins: Vec<WonCode>,
     volatile: Vec<u64>,
     durable: Vec<u64>,
     dirty: Vec<bool>,
 }
 
-impl Room {
-    /// Room for so many words of the replicas, of which none is dirty.
-    fn take(alloc: Global, count: usize) -> Result<Room, AllocError>
-        ensures published { IfOk result (λ r. (r.published.items ≡ []) × (1 ≤ vec_capacity r.published)) }
+impl Space {
+    /// Room for so many callers and so many words of the replicas, of which none is dirty.
+    fn take(alloc: Global, callers: usize, count: usize) -> Result<Space, AllocError>
+        requires { callers ≤ 8 }
+        ensures published { IfOk result (λ r. (r.published.items ≡ []) × (callers + 1 ≤ vec_capacity r.published)) }
+        ensures wins { IfOk result (λ r. (r.wins.items ≡ []) × (callers ≤ vec_capacity r.wins)) }
         ensures volatile { IfOk result (λ r. (r.volatile.items ≡ []) × (count ≤ vec_capacity r.volatile)) }
         ensures durable { IfOk result (λ r. (r.durable.items ≡ []) × (count ≤ vec_capacity r.durable)) }
         ensures dirty { IfOk result (λ r. r.dirty.items ≡ replicate count false) }
     {
-        let published = Vec::with_capacity(alloc, 1)?;
+        let published = Vec::with_capacity(alloc, callers + 1)?;
+        let wins = Vec::with_capacity(alloc, callers)?;
         let volatile = Vec::with_capacity(alloc, count)?;
         let durable = Vec::with_capacity(alloc, count)?;
         let dirty = Vec::from_elem(alloc, false, count)?;
-        Ok(Room {
+        Ok(Space {
             published,
+            wins,
             volatile,
             durable,
             dirty,
@@ -84,17 +113,46 @@ impl<O: Object> Shared<O> {
         ensures remains { IfOk result (λ r. Leaves self (instance_at self O.step O.only_reads) seats.items r) }
         ensures kept { IfErr result (λ k. (k.shared ≡ self) × (k.seats ≡ seats)) }
     {
-        let region = LINE_WORDS as usize * (HEAD_LINES as usize + self.lines as usize);
-        let replicas = 2 * self.callers as usize;
-        let Ok(mut room) = Room::take(alloc, region * replicas) else {
+        let Ok(room) = self.room(alloc) else {
             return Err(KeptTable {
                 shared: self,
                 seats,
             });
         };
-        mark_dirty(&seats, region, replicas, &mut room.dirty);
+        Ok(self.gather_in(room, seats))
+    }
+
+    /// Room for what the closing hands out.
+    pub fn room(&self, alloc: Global) -> Result<Room, AllocError>
+        ensures { IfOk result (IsRoomOf self.now) }
+    {
+        let region = LINE_WORDS as usize * (HEAD_LINES as usize + self.lines as usize);
+        let replicas = 2 * self.callers as usize;
+        let space = Space::take(alloc, self.callers as usize, region * replicas)?;
+        Ok(Room {
+            callers: self.callers,
+            lines: self.lines,
+            space,
+        })
+    }
+
+    /// Closes the table, whose callers' seats are handed in, of caller 0 first, each at whatever step its caller stopped.
+    pub fn gather_in(self, room: Room, seats: Vec<CallerSeat>) -> Remains
+        requires seats { AreSeats self seats.items }
+        requires room { IsRoomOf self room }
+        ensures { Leaves self (instance_at self O.step O.only_reads) seats.items result }
+    {
+        let region = LINE_WORDS as usize * (HEAD_LINES as usize + self.lines as usize);
+        let replicas = 2 * self.callers as usize;
+        let Room {
+            callers: _,
+            lines: _,
+            mut space,
+        } = room;
+        mark_dirty(&seats, region, replicas, &mut space.dirty);
+        note_wins(&seats, &mut space.wins);
         let closing = self.joined(seats);
-        Ok(self.closed(closing, room))
+        self.closed(closing, space)
     }
 
     /// A seat that knows all callers, whose seats are spent.
@@ -127,19 +185,20 @@ impl<O: Object> Shared<O> {
     }
 
     /// Ends the table with the seat that knows all callers, and copies its words out.
-    fn closed(self, closing: Seat<u8, View>, room: Room) -> Remains
+    fn closed(self, closing: Seat<u8, View>, space: Space) -> Remains
         requires table { closing.table_id ≡ self.table }
-        requires published { (room.published.items ≡ []) × (1 ≤ vec_capacity room.published) }
-        requires volatile { (room.volatile.items ≡ []) × (region_words self.lines * (2 * self.callers) ≤ vec_capacity room.volatile) }
-        requires durable { (room.durable.items ≡ []) × (region_words self.lines * (2 * self.callers) ≤ vec_capacity room.durable) }
-        ensures { (seats : List Seated) → AreSeats self seats → closing.me ≡ (known_by seats, []) → MarksDirty (locals_of seats) (2 * self.callers) (length self.base.words) room.dirty.items → Leaves self (instance_at self O.step O.only_reads) seats result }
+        requires published { (space.published.items ≡ []) × (vec_len space.wins + 1 ≤ vec_capacity space.published) }
+        requires volatile { (space.volatile.items ≡ []) × (region_words self.lines * (2 * self.callers) ≤ vec_capacity space.volatile) }
+        requires durable { (space.durable.items ≡ []) × (region_words self.lines * (2 * self.callers) ≤ vec_capacity space.durable) }
+        ensures { (seats : List Seated) → AreSeats self seats → closing.me ≡ (known_by seats, []) → MarksDirty (locals_of seats) (2 * self.callers) (length self.base.words) space.dirty.items → space.wins.items ≡ wins_of (locals_of seats) → Leaves self (instance_at self O.step O.only_reads) seats result }
     {
-        let Room {
+        let Space {
             mut published,
+            wins,
             mut volatile,
             mut durable,
             dirty,
-        } = room;
+        } = space;
         let Shared {
             table,
             callers,
@@ -152,7 +211,7 @@ impl<O: Object> Shared<O> {
         let from = replicas_at(callers);
         let end = Snapshot::of(&closing);
         let closed = table.close_with(closing);
-        published.push_reserved(closed.word(0));
+        lead_on(wins, closed.word(DUR_AT), &mut published);
         copy_words(&closed, &mut volatile, from, count);
         copy_words(&closed, &mut durable, from + count, count);
         closed.free();
@@ -201,6 +260,47 @@ fn mark_replica(marks: &[bool], from: usize, dirty: &mut Vec<bool>)
             dirty[from + i] = true;
         }
     }
+}
+
+/// Adds the wins of the seats' callers that are not retired.
+fn note_wins(seats: &[CallerSeat], wins: &mut Vec<WonCode>)
+    requires none { wins.old.items ≡ [] }
+    requires room { length seats.now ≤ vec_capacity wins.old }
+    ensures wins { wins.new.items ≡ wins_of (locals_of seats.now) }
+    ensures few { vec_len wins.new ≤ length seats.now }
+{
+    for k in 0..seats.len() {
+        let seat = &seats[k];
+        if let Some(won) = seat.mirror.won {
+            wins.push_reserved(won);
+        }
+    }
+}
+
+/// Adds a code, and each code that a win leads on to, one over the other.
+fn lead_on(mut wins: Vec<WonCode>, from: u64, codes: &mut Vec<u64>)
+    requires none { codes.old.items ≡ [] }
+    requires room { vec_len wins + 1 ≤ vec_capacity codes.old }
+    ensures { (above : List ℕ) (to : ℕ) → IsWayBy wins.items from above to → codes.new.items ≡ from ∷ above }
+{
+    codes.push_reserved(from);
+    let mut code = from;
+    while let Some(next) = take_over(&mut wins, code) {
+        codes.push_reserved(next);
+        code = next;
+    }
+}
+
+/// Takes a win over this code out, and gives the code that won.
+fn take_over(wins: &mut Vec<WonCode>, before: u64) -> Option<u64>
+    ensures { TakesOver before wins.old.items wins.new.items result }
+{
+    for i in 0..wins.len() {
+        if wins[i].before == before {
+            return Some(wins.remove(i).code);
+        }
+    }
+    None
 }
 
 /// Adds so many words of a closed table, from one on.

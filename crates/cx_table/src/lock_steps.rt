@@ -130,7 +130,7 @@ impl<O: Object> Shared<O> {
         let kind = Kind::Downgrade { r };
         let word = lock_at(self.callers, r);
         let found = self.subtract_learned(&mut seat.seat, &kind, word, EXCLUSIVE_MARK - 1);
-        seat.mirror.end_exclusive();
+        seat.mirror.downgrade(r, seat.copy.place());
         Ok((found, Downgraded { replica, caller }))
     }
 
@@ -150,7 +150,7 @@ impl<O: Object> Shared<O> {
         let kind = Kind::ReleaseExclusive { r };
         let word = lock_at(self.callers, r);
         let found = self.subtract_learned(&mut seat.seat, &kind, word, EXCLUSIVE_MARK);
-        seat.mirror.end_exclusive();
+        seat.mirror.release_exclusive();
         Ok(found)
     }
 }

@@ -1,17 +1,22 @@
 //! The numbers of a local state that code reads, and how each kind of step changes them.
 
-ghost use Rattle.std.specs.Prelude.{◌≡◌, ◌+◌, ◌*◌, ◌^◌, ◌<◌, ◌≤◌, ℕ, MatchResult, false, length, slice_index, slice_index_or, Some, None};
+ghost use Rattle.std.specs.Prelude.{◌≡◌, ◌+◌, ◌*◌, ◌^◌, ◌<◌, ◌≤◌, ℕ, MatchResult, false, length, max, slice_index, slice_index_or, Some, None};
 ghost use Rattle.cx_core.specs.QueueEvents.{linked, lost, raised_front, seen_word};
-ghost use Rattle.cx_core.specs.declared.kinds.Kind.TheVariants.{WriteCell, Link, Look, ReadCell, LoadFree, TryExclusive, TryShared, BackOff, Downgrade, ReleaseExclusive, LoadWord, StoreWord, Persist};
+ghost use Rattle.cx_base.specs.Codes.{root_place_of};
+ghost use Rattle.cx_core.specs.declared.local.HeldDowngraded.{HeldDowngraded};
+ghost use Rattle.cx_core.specs.RootEvents.{code_in, outrun, published};
+ghost use Rattle.cx_core.specs.declared.kinds.Kind.TheVariants.{WriteCell, Link, Look, ReadCell, LoadFree, TryExclusive, TryShared, BackOff, Downgrade, ReleaseExclusive, LoadWord, StoreWord, Persist, LoadCur, Publish, Retire};
 ghost use Rattle.std.specs.List.{list_all, range_with_len};
 ghost use Rattle.cx_core.specs.LockEvents.{is_fresh_on, refused_by, taken};
 ghost use Rattle.cx_core.specs.State.{Instance};
 ghost use Rattle.cx_core.specs.Rights.{is_at};
 ghost use Rattle.cx_table.specs.Mirrors.{Follows, mirror_of};
-ghost use Rattle.cx_rule.specs.Seats.{IsAtLimit, unseen};
+ghost use Rattle.cx_table.specs.Raised.{is_below, raised_mirror};
+ghost use Rattle.cx_rule.specs.declared.rule.Known.{Known};
+ghost use Rattle.cx_rule.specs.Seats.{IsAtLimit, known_local, place_noted, unseen};
 
-use cx_base::{Halt, link_ticket, root_replica};
-use cx_core::SeenSlot;
+use cx_base::{Halt, link_ticket, root_code, root_place, root_replica};
+use cx_core::{HeldDowngraded, SeenSlot, WonCode};
 
 /// What an exclusive right adds to a lock word.
 pub const EXCLUSIVE_MARK: u64 = 1 << 32;
@@ -23,6 +28,16 @@ pub fn is_at(r: u64, right: Option<u64>) -> bool
     match right {
         None => false,
         Some(q) => q == r,
+    }
+}
+
+/// Whether a ticket is below a place, where there is one.
+fn is_below(place: u64, ticket: Option<u64>) -> bool
+    ensures { result ≡ is_below place ticket }
+{
+    match ticket {
+        None => false,
+        Some(ticket) => ticket < place,
     }
 }
 
@@ -47,6 +62,12 @@ pub struct Mirror {
     /// The replica that it holds exclusively, and the one that it holds shared.
     pub exclusive: Option<u64>,
     pub shared: Option<u64>,
+    /// The replica on which it left a passer's mark.
+    pub passer: Option<u64>,
+    /// The replica that it downgraded, and the place noted of it.
+    pub downgraded: Option<HeldDowngraded>,
+    /// The code with which it won and that it did not retire, and the code before it.
+    pub won: Option<WonCode>,
     pub raised: u64,
     pub floor: u64,
     pub steps: u64,
@@ -209,9 +230,13 @@ impl Mirror {
     {
         if found < EXCLUSIVE_MARK {
             self.shared = Some(r);
-        } else if self.is_fresh_on(callers, r) {
-            self.met = self.met.saturating_add(1);
-            self.fresh = false;
+        } else {
+            let fresh = self.is_fresh_on(callers, r);
+            self.passer = Some(r);
+            if fresh {
+                self.met = self.met.saturating_add(1);
+                self.fresh = false;
+            }
         }
         self.steps = self.steps.saturating_add(1);
     }
@@ -231,16 +256,105 @@ impl Mirror {
     {
         if is_at(r, self.shared) {
             self.shared = None;
+        } else if is_at(r, self.passer) {
+            self.passer = None;
+        } else {
+            self.downgraded = None;
         }
         self.steps = self.steps.saturating_add(1);
     }
 
-    /// An exclusive right was turned into a shared one, or given up.
-    pub fn end_exclusive(&mut self)
-        ensures downgraded { (callers r found : ℕ) → Follows callers (Downgrade r) found self.old self.new }
-        ensures released { (callers r found : ℕ) → Follows callers (ReleaseExclusive r) found self.old self.new }
+    /// An exclusive right was turned into a shared one, at the place noted.
+    pub fn downgrade(&mut self, r: u64, place: u64)
+        ensures { (instance : Instance) (k : Known) (found : ℕ) → place ≡ place_noted 0 k.accesses → self.old ≡ mirror_of k.local → self.new ≡ mirror_of (known_local instance (Downgrade r) k found) }
     {
         self.exclusive = None;
+        self.downgraded = Some(HeldDowngraded { replica: r, place });
+        self.steps = self.steps.saturating_add(1);
+    }
+
+    /// An exclusive right was given up.
+    pub fn release_exclusive(&mut self)
+        ensures { (callers r found : ℕ) → Follows callers (ReleaseExclusive r) found self.old self.new }
+    {
+        self.exclusive = None;
+        self.steps = self.steps.saturating_add(1);
+    }
+
+    /// CUR was found.
+    pub fn load_cur(&mut self, callers: u32, found: u64)
+        requires some { 1 ≤ callers }
+        requires few { callers ≤ 8 }
+        ensures { Follows callers LoadCur found self.old self.new }
+    {
+        self.see_cur(callers, found);
+        self.fresh = true;
+        self.steps = self.steps.saturating_add(1);
+    }
+
+    /// The root code of the replica that was downgraded, 0 where there is none.
+    pub fn downgraded_code(&self, callers: u32) -> u64
+        requires some { 1 ≤ callers }
+        requires few { callers ≤ 8 }
+        requires placed { (h : HeldDowngraded) → self.now.downgraded ≡ Some h → (h.replica < 2 * callers) × (h.place ≤ 2 ^ 40) }
+        ensures { result ≡ code_in callers self.now.downgraded }
+    {
+        match self.downgraded {
+            None => 0,
+            Some(held) => root_code(callers, held.place, held.replica as u32),
+        }
+    }
+
+    /// A publication of this code found this word in CUR.
+    pub fn publish(&mut self, callers: u32, code: u64, found: u64)
+        requires some { 1 ≤ callers }
+        requires few { callers ≤ 8 }
+        requires code { code ≡ code_in callers self.old.downgraded }
+        ensures { Follows callers Publish found self.old self.new }
+    {
+        if found == self.seen_cur {
+            self.win_cur(callers, code);
+        } else {
+            self.lose_cur(callers, found);
+        }
+    }
+
+    /// A publication of this code won.
+    fn win_cur(&mut self, callers: u32, code: u64)
+        requires some { 1 ≤ callers }
+        requires few { callers ≤ 8 }
+        requires code { code ≡ code_in callers self.old.downgraded }
+        ensures { (l : _) → self.old ≡ mirror_of l → self.new ≡ mirror_of (published callers l) }
+    {
+        self.won = Some(WonCode {
+            code,
+            before: self.seen_cur,
+        });
+        self.downgraded = None;
+        self.see_cur(callers, code);
+        self.fresh = false;
+        self.steps = self.steps.saturating_add(1);
+    }
+
+    /// A publication was lost to the code found.
+    fn lose_cur(&mut self, callers: u32, found: u64)
+        requires some { 1 ≤ callers }
+        requires few { callers ≤ 8 }
+        ensures { (l : _) → self.old ≡ mirror_of l → self.new ≡ mirror_of (outrun callers l found) }
+    {
+        if self.fresh {
+            self.met = self.met.saturating_add(1);
+        }
+        self.see_cur(callers, found);
+        self.fresh = false;
+        self.steps = self.steps.saturating_add(1);
+    }
+
+    /// A win was retired.
+    pub fn retire(&mut self)
+        ensures { (callers found : ℕ) → Follows callers Retire found self.old self.new }
+    {
+        self.won = None;
         self.steps = self.steps.saturating_add(1);
     }
 
@@ -261,6 +375,35 @@ impl Mirror {
         ensures persisted { (callers r i found : ℕ) → Follows callers (Persist r i) found self.old self.new }
     {
         self.steps = self.steps.saturating_add(1);
+    }
+
+    /// DUR was raised by a code, with a read that is answered or without.
+    pub fn raise(&mut self, callers: u32, code: u64, read: bool)
+        requires some { 1 ≤ callers }
+        requires few { callers ≤ 8 }
+        ensures { self.new ≡ raised_mirror callers code read self.old }
+    {
+        let place = root_place(callers, code);
+        let answers = is_below(place, self.unanswered);
+        if answers {
+            self.unanswered = None;
+        }
+        if answers || read {
+            self.floor = self.floor.max(place);
+        }
+        self.raised = self.raised.max(code);
+        self.fresh = false;
+        self.steps = self.steps.saturating_add(1);
+    }
+
+    /// This code was found in CUR, or put there.
+    fn see_cur(&mut self, callers: u32, code: u64)
+        requires some { 1 ≤ callers }
+        requires few { callers ≤ 8 }
+        ensures { self.new ≡ record self.old { seen_cur = code; front = max self.old.front (root_place_of callers code) } }
+    {
+        self.seen_cur = code;
+        self.front = self.front.max(root_place(callers, code));
     }
 
     /// The ticket in a link word is linked, and so is each one before it.

@@ -1,15 +1,16 @@
 //! A caller's seat: its right to step, and the numbers of its local state that code reads.
 
-ghost use Rattle.std.specs.Prelude.{◌≡◌, ◌+◌, ◌^◌, ◌<◌, ◌≤◌, ◌↔◌, IsTrue, length};
+ghost use Rattle.std.specs.Prelude.{◌≡◌, ◌+◌, ◌*◌, ◌^◌, ◌<◌, ◌≤◌, ◌↔◌, IsTrue, length, slice_index};
 ghost use Rattle.std.specs.List.{Contains};
 ghost use Rattle.cx_core.specs.Rights.{held_dirty};
 ghost use Rattle.cx_core.specs.QueueEvents.{cell_of};
+ghost use Rattle.cx_table.specs.Marks.{HasDirtyIn};
 ghost use Rattle.cx_rule.specs.Seats.{HasCells, IsWithinLimit, place_noted, unanswered_ticket};
 
 use crate::copy::Copy;
 use crate::mirror::Mirror;
 use atomic_table::Seat;
-use cx_core::SeenSlot;
+use cx_core::{HeldDowngraded, SeenSlot, WonCode};
 use cx_rule::View;
 use std::marker::Model;
 
@@ -21,7 +22,7 @@ pub struct CallerSeat {
     pub(crate) mirror: Mirror,
     /// The number of the caller's last entry before this service.
     pub(crate) before: u64,
-    /// What is known in plain memory of the replica held exclusively.
+    /// What is known in plain memory of the replica held exclusively and of the caller's cells.
     pub(crate) copy: Copy,
 }
 
@@ -101,12 +102,30 @@ impl CallerSeat {
         self.mirror.tickets[j as usize]
     }
 
+    /// A word of a cell of the caller, as it was last written.
+    pub fn cell_word(&self, j: u64, i: u64) -> u64
+        requires j { j < 16 }
+        requires i { i < 145 }
+        ensures { result ≡ slice_index (cell_of self.now.known.local j).words i }
+    {
+        self.copy.cell_word(j, i)
+    }
+
     /// Whether a word of the replica that the caller holds exclusively was stored and not persisted.
     pub fn is_dirty(&self, i: u64) -> bool
         requires { i < self.now.region }
         ensures { IsTrue result ↔ Contains (held_dirty self.now.known.local.exclusive) i }
     {
         self.copy.marks()[i as usize]
+    }
+
+    /// Whether one of the 64 words from `64 * group` on was stored and not persisted, of the replica that the caller holds
+    /// exclusively.
+    pub fn has_dirty(&self, group: u64) -> bool
+        requires { 64 * group < self.now.region }
+        ensures { IsTrue result ↔ HasDirtyIn self.now.region group (held_dirty self.now.known.local.exclusive) }
+    {
+        self.copy.has_dirty(group)
     }
 
     /// The place that was loaded or stored last of the replica that the caller holds exclusively, 0 where none was.
@@ -149,6 +168,21 @@ impl CallerSeat {
         ensures { result ≡ self.now.known.local.fresh }
     {
         self.mirror.fresh
+    }
+
+    /// The replica whose exclusive right was turned into a shared one, and its place.
+    /// The replica that the caller has downgraded, and its place.
+    pub fn downgraded(&self) -> Option<HeldDowngraded>
+        ensures { result ≡ self.now.known.local.downgraded }
+    {
+        self.mirror.downgraded
+    }
+
+    /// The code with which the caller won and that it did not retire, and the code before it.
+    pub fn won(&self) -> Option<WonCode>
+        ensures { result ≡ self.now.known.local.won }
+    {
+        self.mirror.won
     }
 
     /// The greatest code with which the caller raised DUR.

@@ -1,6 +1,7 @@
 //! The running table of an object.
 
 ghost use Rattle.std.specs.Prelude.{◌≡◌, ◌≤◌};
+ghost use Rattle.cx_rule.specs.Running.{IsRunning};
 
 use atomic_table::Table;
 use cx_base::Object;
@@ -41,9 +42,10 @@ impl<O: Object> Shared<O> {
         self.callers
     }
 
-    /// The lines of the object.
+    /// The lines of the object. A running table is within its limits.
     pub fn lines(&self) -> u64
-        ensures { result ≡ self.now.lines }
+        ensures value { result ≡ self.now.lines }
+        ensures running { IsRunning O.line_count O.lawful self.now }
     {
         self.lines
     }

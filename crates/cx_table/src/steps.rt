@@ -1,9 +1,10 @@
 //! The step calls: each is one event of the core, of the seat's caller, on the words and local states that the table
 //! shows. `Halt` comes exactly where the seat's steps equal its limit, and then nothing changes.
 
-ghost use Rattle.std.specs.Prelude.{OnErr, IfOk};
+ghost use Rattle.std.specs.Prelude.{OnErr, OnOk, IfOk};
 ghost use Rattle.cx_core.specs.Events.{Guard};
 ghost use Rattle.cx_core.specs.declared.kinds.Kind.TheVariants.{WriteCell, Link, Look, ReadCell, LoadFree};
+ghost use Rattle.cx_rule.specs.Fitting.{Fitting};
 ghost use Rattle.cx_rule.specs.Running.{IsSeatOf, instance_at};
 ghost use Rattle.cx_rule.specs.Seats.{unseen};
 ghost use Rattle.cx_rule.specs.Steps.{Halts, Steps};
@@ -27,6 +28,7 @@ impl<O: Object> Shared<O> {
         let cell = CELLS * u64::from(seat.mirror.number) + j;
         let word = cell_at(self.callers, cell, i);
         self.store_event(&mut seat.seat, &kind, word, v);
+        seat.copy.write_cell(j, i, v);
         seat.mirror.write_cell(j);
         Ok(())
     }
@@ -72,6 +74,7 @@ impl<O: Object> Shared<O> {
         requires seat { IsSeatOf self.now seat.old }
         requires guard { Guard (instance_at self.now O.step O.only_reads) unseen (ReadCell t k i) seat.old.known.local }
         ensures made { IfOk result (λ found. Steps self.now O.step O.only_reads (ReadCell t k i) found seat.old seat.new) }
+        ensures fits { OnOk result (Fitting self.now.lines (O.lawful self.now.object) self.now.base seat.new.known) }
         ensures halted { OnErr result (Halts self.now seat.old seat.new) }
     {
         seat.mirror.check()?;

@@ -129,6 +129,46 @@ impl Downgraded {
     }
 }
 
+/// A root code that won and is not retired: a right on the replica of the code before it. Contracts see both codes, and
+/// whose it is.
+#[derive(Debug, Drop)]
+pub struct Won {
+    pub(crate) code: u64,
+    pub(crate) before: u64,
+    pub(crate) caller: u32,
+}
+
+impl Model for Won {
+    ghost use Rattle.cx_table.specs.Right.{WonRight};
+
+    ghost Value = { WonRight };
+
+    ghost view = { λ e. record { code = e.code; before = e.before; caller = e.caller } };
+}
+
+impl Won {
+    /// The code that won.
+    pub fn code(&self) -> u64
+        ensures { result ≡ self.now.code }
+    {
+        self.code
+    }
+
+    /// The code before it.
+    pub fn old(&self) -> u64
+        ensures { result ≡ self.now.before }
+    {
+        self.before
+    }
+
+    /// The caller, from 0.
+    pub fn caller(&self) -> u32
+        ensures { result ≡ self.now.caller }
+    {
+        self.caller
+    }
+}
+
 /// A right that one step takes back.
 #[derive(Debug, Drop)]
 pub enum SharedRight {

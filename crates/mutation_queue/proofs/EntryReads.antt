@@ -1,14 +1,17 @@
 -- Reading the words of an entry, one step each.
-use Rattle.std.proofs.Common.{◌≡◌, ◌+◌, ◌/◌, ◌<◌, ℕ, zero, suc, List, [], ◌∷◌, ◌++◌, length, take, set, refl, sym, ap, subst, ◌∙◌, arith, append-nil, add-one, inr}
+use Rattle.std.proofs.Common.{◌≡◌, ◌+◌, ◌/◌, ◌^◌, ◌<◌, ◌≤◌, ℕ, zero, suc, List, [], ◌∷◌, ◌++◌, length, slice_get, slice_index, take, set, refl, sym, ap, subst, ◌∙◌, arith, append-nil, add-one, zero-add, inr, Some}
 use Rattle.std.proofs.lemmas.List.{append_assoc, length-append}
+use Rattle.cx_core.specs.declared.entry.Base.{Base}
+use Rattle.cx_core.specs.declared.entry.Entry.{Entry}
 use Rattle.cx_core.specs.declared.kinds.Kind.TheVariants.{ReadCell}
 use Rattle.cx_core.specs.declared.local.Local.{Local}
 use Rattle.cx_core.specs.State.{Instance, one_more}
 use Rattle.cx_core.specs.Layout.{max_word}
 use borrow.Author.Count.{below_more}
 use Rattle.cx_rule.specs.declared.rule.Noted.{Noted}
+use Rattle.cx_rule.specs.Fitting.{Fitting, IsNoted}
 use Rattle.cx_table.specs.Seats.{IsAtLimit, Seated, stepped}
-use Rattle.mutation_queue.specs.Entries.{EndsAfter, HaltsAmong, HaltsReading, Looked, ReadsEntry, notes_of, steps_after, with_look, with_read}
+use Rattle.mutation_queue.specs.Entries.{EndsAfter, HaltsAmong, HaltsReading, Looked, NotesEntry, ReadsEntry, notes_of, steps_after, with_look, with_read}
 
 -- ---- steps
 
@@ -79,6 +82,10 @@ halts_among caller ticket ws s now after fewer is same limit = record {
   limit = ends (length ws) s.known.local (subst (λ (x : Seated). IsAtLimit x.known.local) is limit);
 }
 
+-- it was come to then
+pub at_limit : (caller ticket : ℕ) (before after : Seated) → HaltsAmong caller ticket before after → IsAtLimit after.known.local
+at_limit caller ticket before after h = subst (λ (x : Seated). IsAtLimit x.known.local) (sym h.seat) (at_end (length h.words) before.known.local h.limit)
+
 -- no step so far came to the limit, and neither did this one
 pub none_ends : (caller ticket : ℕ) (ws : List ℕ) (i : ℕ) (s now : Seated) → now ≡ with_read caller ticket ws s → i ≡ length ws → ((n : ℕ) → n < i → EndsAfter n s.known.local → ⊥) → (IsAtLimit now.known.local → ⊥) →
     (n : ℕ) → n < i + 1 → EndsAfter n s.known.local → ⊥
@@ -130,3 +137,35 @@ halts_reading callers caller ticket cell s looked after l h =
       limit = ends_before_look s looked (length h.words) l.seat h.limit;
       seat = inr (caller, h.words, read_after_look caller ticket h.words s looked after l.seat h.seat);
     }
+
+-- the words of an entry are noted one by one
+noted_at : (caller ticket from i : ℕ) (words : List ℕ) → i < length words → slice_get (notes_of caller ticket from words) i ≡ Some (record { ticket = ticket; caller = caller; index = from + i; word = slice_index words i })
+noted_at caller ticket from i [] below = absurd (omega arith)
+noted_at caller ticket from zero (w ∷ words) below = ap (λ k. Some (let n : Noted = record { ticket = ticket; caller = caller; index = k; word = w } in n)) (omega arith)
+noted_at caller ticket from (suc i) (w ∷ words) below =
+    noted_at caller ticket (from + 1) i words (omega arith)
+    ∙ ap (λ k. Some (let n : Noted = record { ticket = ticket; caller = caller; index = k; word = slice_index words i } in n)) (omega arith)
+
+behind : {X : Type 0} (xs ys : List X) (i : ℕ) (x : X) → slice_get ys i ≡ Some x → slice_get (xs ++ ys) (length xs + i) ≡ Some x
+behind [] ys i x is = ap (slice_get ys) (zero-add i) ∙ is
+behind (y ∷ xs) ys i x is = (let next : suc (length xs) + i ≡ suc (length xs + i) = omega arith in ap (slice_get (y ∷ (xs ++ ys))) next ∙ behind xs ys i x is)
+
+pub read_noted : (ticket : ℕ) (words : List ℕ) (before after : Seated) (entry : Entry) → ReadsEntry entry.caller ticket words before after → entry.number ∷ entry.op ≡ words → IsNoted after.known.noted ticket entry
+read_noted ticket words before after entry read is =
+    let all : after.known.noted ≡ before.known.noted ++ notes_of entry.caller ticket 0 words = ap (λ (s : Seated). s.known.noted) read.seat in
+    record {
+      long = (let l = read.long in let same : suc (length entry.op) ≡ length words = ap length is in omega arith);
+      each = λ i below. (
+          let here : slice_get (notes_of entry.caller ticket 0 words) i ≡ Some (record { ticket = ticket; caller = entry.caller; index = i; word = slice_index (entry.number ∷ entry.op) i }) =
+          noted_at entry.caller ticket 0 i words (let l = read.long in omega arith)
+          ∙ ap (λ k. Some (let n : Noted = record { ticket = ticket; caller = entry.caller; index = k; word = slice_index words i } in n)) (zero-add i)
+          ∙ ap (λ ws. Some (let n : Noted = record { ticket = ticket; caller = entry.caller; index = i; word = slice_index ws i } in n)) (sym is) in
+          (length before.known.noted + i, ap (λ ns. slice_get ns (length before.known.noted + i)) all ∙ behind before.known.noted (notes_of entry.caller ticket 0 words) i _ here));
+    }
+
+-- what really is there tells that an entry that was read may come at its ticket
+pub notes_entry : {lines : ℕ} {lawful : List ℕ → Type 0} {base : Base} (caller ticket : ℕ) (words : List ℕ) (before after : Seated) → Fitting lines lawful base after.known → base.place ≤ ticket → ticket < 2 ^ 40 → ReadsEntry caller ticket words before after →
+    NotesEntry caller ticket words after
+notes_entry caller ticket words before after fits from below read entry of is =
+    let noted = read_noted ticket words before after entry (subst (λ k. ReadsEntry k ticket words before after) (sym of) read) is in
+    record { noted = noted; lawful = fits.entries ticket entry from noted; small = below }

@@ -1,4 +1,4 @@
-mod EntryReads
+pub mod EntryReads
 mod OneOfEach
 mod Results
 mod Tries

@@ -4,7 +4,6 @@ use Rattle.cx_core.specs.declared.local.Cell.{Cell}
 use Rattle.cx_core.specs.declared.local.Linked.{Linked}
 use Rattle.cx_core.specs.QueueEvents.{cell_of, entry_in, next_number}
 use Rattle.cx_core.specs.Region.{slot_number}
-use Rattle.cx_core.specs.State.{Instance}
 use Rattle.cx_table.specs.Running.{IsSeatOf, Running}
 use Rattle.cx_table.specs.Seats.{Seated}
 use Rattle.mutation_queue.specs.declared.linking.LinkTried.{LinkTried}
@@ -14,8 +13,8 @@ use Rattle.mutation_queue.specs.Links.{LinksAt, LinksNone, Tried}
 use Rattle.mutation_queue.specs.Tests.{HasLinked, HasTried}
 use Rattle.mutation_queue.proofs.Tries.{linked_number}
 
-module _ {O : Type 0} (r : Running O) (instance : Instance) (op : List ℕ) (s t u : Seated) (of : IsSeatOf r s) (none : s.known.local.own ≡ []) (long : length op ≡ 144)
-    (done : Announces instance 0 (next_number r.base s.known.local ∷ op) s t) where
+module _ {O : Type 0} (r : Running O) (op : List ℕ) (s t u : Seated) (of : IsSeatOf r s) (none : s.known.local.own ≡ []) (long : length op ≡ 144)
+    (done : Announces 0 (next_number r.base s.known.local ∷ op) s t) where
   still_none : t.known.local.own ≡ []
   still_none = ap (λ (x : Seated). x.known.local.own) done.rest ∙ none
 

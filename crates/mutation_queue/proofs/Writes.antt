@@ -1,18 +1,19 @@
--- Writing a list of words into a cell, one step each.
-use Rattle.std.proofs.Common.{◌≡◌, ◌+◌, ◌<◌, ℕ, zero, suc, min, false, List, [], ◌∷◌, ◌++◌, length, get_or, set, take, drop, slice_index, refl, sym, ap, subst, ◌∙◌, arith, None, add-one}
-use Rattle.std.proofs.lemmas.List.{append-nil, drop_all, get_or-set_other, get_or-set_same, set-set, take_all}
+-- Having a list of words in a cell: the first is written, and each other that differs.
+use Rattle.std.proofs.Common.{◌≡◌, ◌≢◌, ◌+◌, ◌-◌, ◌<◌, ◌≤◌, ◌⊎◌, ◌==◌, inl, inr, ℕ, zero, suc, min, Bool, true, false, cond, List, [], ◌∷◌, ◌++◌, length, get_or, set, take, drop, slice_index, refl, sym, ap, subst, ◌∙◌, arith, None}
+use Rattle.std.proofs.lemmas.Bool.{eq-eqb, ne_eqb}
+use Rattle.std.proofs.lemmas.List.{append-nil, drop_all, get_or-set_other, get_or-set_same, length-drop, set-set, take_all}
 use Rattle.std.proofs.lemmas.Option.{slice_get-get_or}
 use Rattle.cx_core.specs.declared.kinds.Kind.TheVariants.{WriteCell}
 use Rattle.cx_core.specs.declared.local.Cell.{Cell}
 use Rattle.cx_core.specs.declared.local.Local.{Local}
 use Rattle.cx_core.specs.QueueEvents.{IsIdle, IsIdleAt, cell_of, next_number, written}
 use Rattle.cx_core.specs.State.{Instance, one_more}
-use borrow.Author.Count.{below_more}
-use Rattle.cx_table.specs.Running.{IsSeatOf, Running}
+use Rattle.cx_table.specs.Running.{IsSeatOf, Running, instance_at}
 use Rattle.cx_core.specs.Layout.{max_word}
 use Rattle.cx_rule.specs.declared.rule.Noted.{Noted}
-use Rattle.cx_table.specs.Seats.{HasCells, IsAtLimit, Seated, stepped}
-use Rattle.mutation_queue.specs.Cells.{Announces, HaltsIn, IsAnnounced, written_to}
+use Rattle.cx_table.specs.Seats.{HasCells, IsAtLimit, IsWithinLimit, Seated, stepped}
+use Rattle.cx_table.specs.Steps.{Steps}
+use Rattle.mutation_queue.specs.Cells.{Announces, HaltsIn, IsAnnounced, WritesDiffering, differing}
 
 -- one word more put over a list
 put_next : (ws old : List ℕ) (n : ℕ) → n < length ws → length old ≡ length ws → set (take n ws ++ drop n old) n (get_or ws n 0) ≡ take (suc n) ws ++ drop (suc n) old
@@ -20,6 +21,66 @@ put_next [] old n below same = absurd (omega arith)
 put_next (w ∷ ws) [] n below same = absurd (omega arith)
 put_next (w ∷ ws) (o ∷ os) zero below same = refl
 put_next (w ∷ ws) (o ∷ os) (suc n) below same = ap (λ xs. w ∷ xs) (put_next ws os n (omega arith) (omega arith))
+
+-- one word more is the same already
+keep_next : (ws old : List ℕ) (n : ℕ) → n < length ws → length old ≡ length ws → get_or old n 0 ≡ get_or ws n 0 → take n ws ++ drop n old ≡ take (suc n) ws ++ drop (suc n) old
+keep_next [] old n below long same = absurd (omega arith)
+keep_next (w ∷ ws) [] n below long same = absurd (omega arith)
+keep_next (w ∷ ws) (o ∷ os) zero below long same = ap (λ x. x ∷ os) same
+keep_next (w ∷ ws) (o ∷ os) (suc n) below long same = ap (λ xs. w ∷ xs) (keep_next ws os n (omega arith) (omega arith) same)
+
+-- the next word is still the old one
+at_next : (ws old : List ℕ) (n : ℕ) → n < length ws → length old ≡ length ws → get_or (take n ws ++ drop n old) n 0 ≡ get_or old n 0
+at_next [] old n below long = absurd (omega arith)
+at_next (w ∷ ws) [] n below long = absurd (omega arith)
+at_next (w ∷ ws) (o ∷ os) zero below long = refl
+at_next (w ∷ ws) (o ∷ os) (suc n) below long = at_next ws os n (omega arith) (omega arith)
+
+-- each word is an old or a new one
+old_or_new : (ws old : List ℕ) (n k : ℕ) → length old ≡ length ws → (get_or (take n ws ++ drop n old) k 0 ≡ get_or old k 0) ⊎ (get_or (take n ws ++ drop n old) k 0 ≡ get_or ws k 0)
+old_or_new [] [] zero k long = inl refl
+old_or_new [] [] (suc n) k long = inl refl
+old_or_new [] (o ∷ os) n k long = absurd (omega arith)
+old_or_new (w ∷ ws) [] n k long = absurd (omega arith)
+old_or_new (w ∷ ws) (o ∷ os) zero k long = inl refl
+old_or_new (w ∷ ws) (o ∷ os) (suc n) zero long = inr refl
+old_or_new (w ∷ ws) (o ∷ os) (suc n) (suc k) long = old_or_new ws os n k (omega arith)
+
+-- how many places of the first differ, and one place more
+differ_more : (xs ys : List ℕ) (n : ℕ) → n < length xs → length xs ≡ length ys → get_or xs n 0 ≢ get_or ys n 0 → differing (take (suc n) xs) (take (suc n) ys) ≡ differing (take n xs) (take n ys) + 1
+unfolding differing
+differ_more [] ys n below long ne = absurd (omega arith)
+differ_more (x ∷ xs) [] n below long ne = absurd (omega arith)
+differ_more (x ∷ xs) (y ∷ ys) zero below long ne = ap (λ b. cond b 0 1 + 0) (ne_eqb x y ne)
+differ_more (x ∷ xs) (y ∷ ys) (suc n) below long ne = (let rest = differ_more xs ys n (omega arith) (omega arith) ne in omega (arith, rest))
+
+same_more : (xs ys : List ℕ) (n : ℕ) → n < length xs → length xs ≡ length ys → get_or xs n 0 ≡ get_or ys n 0 → differing (take (suc n) xs) (take (suc n) ys) ≡ differing (take n xs) (take n ys)
+unfolding differing
+same_more [] ys n below long e = absurd (omega arith)
+same_more (x ∷ xs) [] n below long e = absurd (omega arith)
+same_more (x ∷ xs) (y ∷ ys) zero below long e = ap (λ b. cond b 0 1 + 0) (eq-eqb x y e)
+same_more (x ∷ xs) (y ∷ ys) (suc n) below long e = (let rest = same_more xs ys n (omega arith) (omega arith) e in omega (arith, rest))
+
+differ_first : (xs ys : List ℕ) (n : ℕ) → differing (take n xs) (take n ys) ≤ differing xs ys
+unfolding differing
+differ_first [] ys zero = omega arith
+differ_first [] ys (suc n) = omega arith
+differ_first (x ∷ xs) [] zero = omega arith
+differ_first (x ∷ xs) [] (suc n) = omega arith
+differ_first (x ∷ xs) (y ∷ ys) zero = omega arith
+differ_first (x ∷ xs) (y ∷ ys) (suc n) = (let rest = differ_first xs ys n in omega (arith, rest))
+
+differ_none : (xs ys : List ℕ) → differing (take 0 xs) (take 0 ys) ≡ 0
+unfolding differing
+differ_none xs ys = refl
+
+differ_most : (xs ys : List ℕ) → differing xs ys ≤ length ys
+unfolding differing
+differ_most [] ys = omega arith
+differ_most (x ∷ xs) [] = omega arith
+differ_most (x ∷ xs) (y ∷ ys) =
+    let rest = differ_most xs ys in
+    elim (x == y) as (λ b. cond b 0 1 + differing xs ys ≤ length (y ∷ ys)) [ true ↦ omega (arith, rest) | false ↦ omega (arith, rest) ]
 
 -- a seat whose caller's cells and steps are these, and which has nothing fresh
 abbrev pub wrote : Seated → List Cell → ℕ → List Noted → Seated
@@ -33,12 +94,11 @@ abbrev default : Cell
 default = record { words = []; ticket = None; set = []; offer = 0 }
 
 -- a step of writing, from what the seat is
-write_one : (instance : Instance) (s : Seated) (j n v : ℕ) (cells cells' : List Cell) (steps steps' : ℕ) → written (wrote s cells steps s.known.noted).known.local j n v ≡ cells' → one_more steps ≡ steps' →
-    stepped instance (WriteCell j n v) (wrote s cells steps s.known.noted) 0 ≡ wrote s cells' steps' s.known.noted
-write_one instance s j n v cells cells' steps steps' c e =
+write_one : (instance : Instance) (s : Seated) (j n v : ℕ) (cells cells' : List Cell) (steps : ℕ) → written (wrote s cells steps s.known.noted).known.local j n v ≡ cells' →
+    stepped instance (WriteCell j n v) (wrote s cells steps s.known.noted) 0 ≡ wrote s cells' (one_more steps) s.known.noted
+write_one instance s j n v cells cells' steps c =
     ap (λ x. wrote s x (one_more steps) (s.known.noted ++ [])) c
-    ∙ ap (λ x. wrote s cells' x (s.known.noted ++ [])) e
-    ∙ ap (wrote s cells' steps') (append-nil s.known.noted)
+    ∙ ap (wrote s cells' (one_more steps)) (append-nil s.known.noted)
 
 first_one : (instance : Instance) (s : Seated) (j v : ℕ) (cells' : List Cell) → written s.known.local j 0 v ≡ cells' →
     stepped instance (WriteCell j 0 v) s 0 ≡ wrote s cells' (one_more s.known.local.steps) s.known.noted
@@ -46,125 +106,177 @@ first_one instance s j v cells' c =
     ap (λ x. wrote s x (one_more s.known.local.steps) (s.known.noted ++ [])) c
     ∙ ap (wrote s cells' (one_more s.known.local.steps)) (append-nil s.known.noted)
 
-module _ (instance : Instance) (s : Seated) (j : ℕ) (ws : List ℕ) (small : j < length s.known.local.cells) (long : length (cell_of s.known.local j).words ≡ length ws) where
-  -- what the seat is after one word and more
-  pub wrote_some : (n : ℕ) → n < length ws → written_to instance j ws (suc n) s ≡ wrote s (set s.known.local.cells j (cell_with s.known.local j ws (suc n))) (min (s.known.local.steps + suc n) max_word) s.known.noted
-  unfolding written_to
-  wrote_some zero below =
-      let l = s.known.local in
-      let words : set (cell_of l j).words 0 (get_or ws 0 0) ≡ take 1 ws ++ drop 1 (cell_of l j).words = put_next ws (cell_of l j).words 0 below long in
-      first_one instance s j (get_or ws 0 0) (set l.cells j (cell_with l j ws 1)) (ap (λ x. set l.cells j (record (cell_of l j) { words = x; ticket = None })) words)
-  wrote_some (suc n) below =
-      let l = s.known.local in
-      let cell = cell_with l j ws (suc n) in
-      let cells = set l.cells j cell in
-      let steps = min (l.steps + suc n) max_word in
-      let here : cell_of (wrote s cells steps s.known.noted).known.local j ≡ cell = get_or-set_same l.cells j cell default small in
-      let v = get_or ws (suc n) 0 in
-      let words : set (take (suc n) ws ++ drop (suc n) (cell_of l j).words) (suc n) v ≡ take (suc (suc n)) ws ++ drop (suc (suc n)) (cell_of l j).words = put_next ws (cell_of l j).words (suc n) below long in
-      let to : written (wrote s cells steps s.known.noted).known.local j (suc n) v ≡ set l.cells j (cell_with l j ws (suc (suc n))) =
-      ap (λ (x : Cell). set cells j (record x { words = set x.words (suc n) v; ticket = None })) here
-      ∙ set-set l.cells j cell (record cell { words = set cell.words (suc n) v; ticket = None })
-      ∙ ap (λ x. set l.cells j (record (cell_of l j) { words = x; ticket = None })) words in
-      ap (λ x. stepped instance (WriteCell j (suc n) v) x 0) (wrote_some n (omega arith))
-      ∙ write_one instance s j (suc n) v cells (set l.cells j (cell_with l j ws (suc (suc n)))) steps (min (l.steps + suc (suc n)) max_word) to (omega arith)
+-- the first word and so many others are in the cell
+pub record HasTo (j : ℕ) (ws : List ℕ) (n : ℕ) (s t : Seated) : Type 0 where
+  pub is : t ≡ wrote s (set s.known.local.cells j (cell_with s.known.local j ws (suc n))) t.known.local.steps s.known.noted
+  pub count : t.known.local.steps ≡ min (s.known.local.steps + (1 + differing (take n (drop 1 (cell_of s.known.local j).words)) (take n (drop 1 ws)))) max_word
+  pub allowed : ¬ IsAtLimit s.known.local
+  pub within : IsWithinLimit t.known.local
 
-  -- the cell may be written again at each step
-  pub idle_then : (n : ℕ) → n < length ws → (cell_of (written_to instance j ws (suc n) s).known.local j).ticket ≡ None
-  idle_then n below =
-      ap (λ (x : Seated). (cell_of x.known.local j).ticket) (wrote_some n below)
-      ∙ ap (λ (x : Cell). x.ticket) (get_or-set_same s.known.local.cells j (cell_with s.known.local j ws (suc n)) default small)
-
--- one word more was written
-pub then_one : (instance : Instance) (j : ℕ) (ws : List ℕ) (n v : ℕ) (s now after : Seated) → now ≡ written_to instance j ws n s → after ≡ stepped instance (WriteCell j n v) now 0 → v ≡ slice_index ws n →
-    after ≡ written_to instance j ws (n + 1) s
-unfolding written_to
-then_one instance j ws n v s now after is step value =
-    step
-    ∙ ap (λ x. stepped instance (WriteCell j n v) x 0) is
-    ∙ ap (λ w. stepped instance (WriteCell j n w) (written_to instance j ws n s) 0) value
-    ∙ ap (λ k. written_to instance j ws k s) (sym (add-one n))
-
--- nothing was written yet
-pub nothing : (instance : Instance) (j : ℕ) (ws : List ℕ) (s : Seated) → s ≡ written_to instance j ws 0 s
-unfolding written_to
-nothing instance j ws s = refl
-
--- no step so far came to the limit, and neither did this one
-pub not_yet : (instance : Instance) (j : ℕ) (ws : List ℕ) (n : ℕ) (s now : Seated) → now ≡ written_to instance j ws n s → ((k : ℕ) → k < n → ¬ IsAtLimit (written_to instance j ws k s).known.local) → ¬ IsAtLimit now.known.local →
-    (k : ℕ) → k < n + 1 → ¬ IsAtLimit (written_to instance j ws k s).known.local
-not_yet instance j ws n s now is before here =
-    below_more (λ k. ¬ IsAtLimit (written_to instance j ws k s).known.local) n before (subst (λ (x : Seated). ¬ IsAtLimit x.known.local) is here)
-
-pub halts : (instance : Instance) (j : ℕ) (ws : List ℕ) (n : ℕ) (s now after : Seated) → n < 145 → now ≡ written_to instance j ws n s → after ≡ now → IsAtLimit now.known.local → HaltsIn instance j ws s after
-halts instance j ws n s now after below is same limit = record {
-  made = n;
-  fewer = below;
-  seat = same ∙ is;
-  limit = subst (λ (x : Seated). IsAtLimit x.known.local) (sym same) limit;
-}
-
-module _ (instance : Instance) (s : Seated) (j : ℕ) (ws : List ℕ) (cells : HasCells s.known.local) (small : j < 16) (long : length ws ≡ 145) where
+module _ (s : Seated) (j : ℕ) (ws : List ℕ) (cells : HasCells s.known.local) (small : j < 16) (long : length ws ≡ 145) where
   there : j < length s.known.local.cells
   there = omega (arith, cells.count)
 
   words_long : length (cell_of s.known.local j).words ≡ length ws
   words_long = (cells.each j (cell_of s.known.local j) (slice_get-get_or s.known.local.cells j default there)).words ∙ sym long
 
-  -- it is still the seat of its caller
-  pub still_of : {O : Type 0} (r : Running O) (n : ℕ) (now : Seated) → n < 145 → now ≡ written_to instance j ws (n + 1) s → IsSeatOf r s → IsSeatOf r now
-  still_of r n now below is of =
-      let e = is ∙ ap (λ k. written_to instance j ws k s) (add-one n) ∙ wrote_some instance s j ws there words_long n (omega (arith, long)) in
-      subst (IsSeatOf r) (sym e) (record { table = of.table; caller = of.caller; before = of.before; region = of.region })
+  -- what the seat's caller has in the cell
+  cell_is : (n : ℕ) (t : Seated) → HasTo j ws n s t → cell_of t.known.local j ≡ cell_with s.known.local j ws (suc n)
+  cell_is n t to = ap (λ (x : Seated). cell_of x.known.local j) to.is ∙ get_or-set_same s.known.local.cells j (cell_with s.known.local j ws (suc n)) default there
 
-  -- the cell is idle after the first word
-  pub still_idle : (n : ℕ) (now : Seated) → n < 145 → now ≡ written_to instance j ws (n + 1) s → IsIdle now.known.local j
-  still_idle n now below is =
-      let e = is ∙ ap (λ k. written_to instance j ws k s) (add-one n) in
-      let none_is = ap (λ (x : Seated). (cell_of x.known.local j).ticket) e ∙ idle_then instance s j ws there words_long n (omega (arith, long)) in
-      subst (IsIdleAt now.known.local.seen_free) (sym none_is) tt
+  next_is : (n : ℕ) (t : Seated) → n < 144 → HasTo j ws n s t → get_or (cell_of t.known.local j).words (suc n) 0 ≡ get_or (cell_of s.known.local j).words (suc n) 0
+  next_is n t below to = ap (λ (x : Cell). get_or x.words (suc n) 0) (cell_is n t to) ∙ at_next ws (cell_of s.known.local j).words (suc n) (omega (arith, long)) words_long
 
-  pub announces : (after : Seated) → after ≡ written_to instance j ws 145 s → ((k : ℕ) → k < 145 → ¬ IsAtLimit (written_to instance j ws k s).known.local) → Announces instance j ws s after
-  announces after is steps =
+  -- the old words and the new ones behind the first
+  rest_long : length (drop 1 (cell_of s.known.local j).words) ≡ length (drop 1 ws)
+  rest_long = length-drop 1 (cell_of s.known.local j).words ∙ ap (λ n. n - 1) words_long ∙ sym (length-drop 1 ws)
+
+  rest_count : length (drop 1 ws) ≡ 144
+  rest_count = omega (arith, length-drop 1 ws, long)
+
+  behind : (xs : List ℕ) (n : ℕ) → get_or (drop 1 xs) n 0 ≡ get_or xs (suc n) 0
+  behind [] n = refl
+  behind (x ∷ xs) n = refl
+
+  -- the first word was written
+  pub has_first : {O : Type 0} (r : Running O) (step : O → List ℕ → List ℕ → List ℕ × List ℕ) (reads : O → List ℕ → Bool) (v : ℕ) (t : Seated) → v ≡ slice_index ws 0 → Steps r step reads (WriteCell j 0 v) 0 s t → HasTo j ws 0 s t
+  has_first r step reads v t value made =
       let l = s.known.local in
-      let cell = cell_with l j ws 145 in
-      let e : after ≡ wrote s (set l.cells j cell) (min (l.steps + 145) max_word) s.known.noted = is ∙ wrote_some instance s j ws there words_long 144 (omega (arith, long)) in
-      let words : take 145 ws ++ drop 145 (cell_of l j).words ≡ ws = ap (λ xs. xs ++ drop 145 (cell_of l j).words) (take_all 145 ws (omega (arith, long))) ∙ ap (λ xs. ws ++ xs) (drop_all 145 (cell_of l j).words (omega (arith, words_long, long))) ∙ append-nil ws in
+      let words : set (cell_of l j).words 0 v ≡ take 1 ws ++ drop 1 (cell_of l j).words = ap (set (cell_of l j).words 0) value ∙ put_next ws (cell_of l j).words 0 (omega (arith, long)) words_long in
+      let e = made.made ∙ first_one (instance_at r step reads) s j v (set l.cells j (cell_with l j ws 1)) (ap (λ x. set l.cells j (record (cell_of l j) { words = x; ticket = None })) words) in
+      let steps : t.known.local.steps ≡ one_more l.steps = ap (λ (x : Seated). x.known.local.steps) e in
       record {
-        steps = steps;
-        seat = is;
-        cell = ap (λ (x : Seated). cell_of x.known.local j) e ∙ get_or-set_same l.cells j cell default there ∙ ap (λ x. record (cell_of l j) { words = x; ticket = None }) words;
-        others = λ k ne. ap (λ (x : Seated). cell_of x.known.local k) e ∙ get_or-set_other l.cells j k cell default ne;
-        rest = e ∙ ap (λ (x : Seated). wrote s x.known.local.cells x.known.local.steps s.known.noted) (sym e);
-        count = ap (λ (x : Seated). x.known.local.steps) e;
+        is = e ∙ ap (λ n. wrote s (set l.cells j (cell_with l j ws 1)) n s.known.noted) (sym steps);
+        count = steps ∙ ap (λ n. min (l.steps + (1 + n)) max_word) (sym (differ_none (drop 1 (cell_of l j).words) (drop 1 ws)));
+        allowed = made.allowed;
+        within = made.within;
       }
 
--- a seat as it was but for its cells, its steps and what is fresh
-of_wrote : {O : Type 0} (r : Running O) (s t : Seated) (cells : List Cell) (steps : ℕ) → t ≡ wrote s cells steps s.known.noted → IsSeatOf r s → IsSeatOf r t × (t.known.local.number ≡ s.known.local.number)
-of_wrote r s t cells steps is of =
-    (subst (IsSeatOf r) (sym is) (record { table = of.table; caller = of.caller; before = of.before; region = of.region }), ap (λ (x : Seated). x.known.local.number) is)
+  -- one word more was written, or stood there already
+  pub has_more : {O : Type 0} (r : Running O) (step : O → List ℕ → List ℕ → List ℕ × List ℕ) (reads : O → List ℕ → Bool) (n v : ℕ) (t u : Seated) → n < 144 → v ≡ slice_index ws (suc n) → HasTo j ws n s t →
+      WritesDiffering r step reads j (suc n) v t u → HasTo j ws (suc n) s u
+  has_more r step reads n v t u below value to (inl same) =
+      let l = s.known.local in
+      let old = (cell_of l j).words in
+      let e : get_or old (suc n) 0 ≡ get_or ws (suc n) 0 = sym (next_is n t below to) ∙ same.0 ∙ value in
+      let words = keep_next ws old (suc n) (omega (arith, long)) words_long e in
+      let of_t : HasTo j ws (suc n) s t = record {
+        is = to.is ∙ ap (λ x. wrote s (set l.cells j (record (cell_of l j) { words = x; ticket = None })) t.known.local.steps s.known.noted) words;
+        count = to.count ∙ ap (λ m. min (l.steps + (1 + m)) max_word) (sym (same_more (drop 1 old) (drop 1 ws) n (omega (arith, rest_long, rest_count)) rest_long (behind old n ∙ e ∙ sym (behind ws n))));
+        allowed = to.allowed;
+        within = to.within;
+      } in
+      subst (HasTo j ws (suc n) s) (sym same.1) of_t
+  has_more r step reads n v t u below value to (inr new) =
+      let l = s.known.local in
+      let old = (cell_of l j).words in
+      let made = new.1 in
+      let cell = cell_with l j ws (suc n) in
+      let cells' = set l.cells j cell in
+      let steps = t.known.local.steps in
+      let here : cell_of (wrote s cells' steps s.known.noted).known.local j ≡ cell = get_or-set_same l.cells j cell default there in
+      let words : set (take (suc n) ws ++ drop (suc n) old) (suc n) v ≡ take (suc (suc n)) ws ++ drop (suc (suc n)) old =
+      ap (set (take (suc n) ws ++ drop (suc n) old) (suc n)) value ∙ put_next ws old (suc n) (omega (arith, long)) words_long in
+      let to_cells : written (wrote s cells' steps s.known.noted).known.local j (suc n) v ≡ set l.cells j (cell_with l j ws (suc (suc n))) =
+      ap (λ (x : Cell). set cells' j (record x { words = set x.words (suc n) v; ticket = None })) here
+      ∙ set-set l.cells j cell (record cell { words = set cell.words (suc n) v; ticket = None })
+      ∙ ap (λ x. set l.cells j (record (cell_of l j) { words = x; ticket = None })) words in
+      let e = made.made
+      ∙ ap (λ x. stepped (instance_at r step reads) (WriteCell j (suc n) v) x 0) to.is
+      ∙ write_one (instance_at r step reads) s j (suc n) v cells' (set l.cells j (cell_with l j ws (suc (suc n)))) steps to_cells in
+      let steps' : u.known.local.steps ≡ one_more steps = ap (λ (x : Seated). x.known.local.steps) e in
+      let ne : get_or (drop 1 old) n 0 ≢ get_or (drop 1 ws) n 0 = λ same. new.0 (next_is n t below to ∙ sym (behind old n) ∙ same ∙ behind ws n ∙ sym value) in
+      let more = differ_more (drop 1 old) (drop 1 ws) n (omega (arith, rest_long, rest_count)) rest_long ne in
+      let count = to.count in
+      record {
+        is = e ∙ ap (λ m. wrote s (set l.cells j (cell_with l j ws (suc (suc n)))) m s.known.noted) (sym steps');
+        count = omega (arith, steps', count, more);
+        allowed = to.allowed;
+        within = made.within;
+      }
+
+  -- it is still the seat of its caller
+  pub still_of : {O : Type 0} (r : Running O) (n : ℕ) (t : Seated) → HasTo j ws n s t → IsSeatOf r s → IsSeatOf r t
+  still_of r n t to of = subst (IsSeatOf r) (sym to.is) (record { table = of.table; caller = of.caller; before = of.before; region = of.region })
+
+  pub still_number : (n : ℕ) (t : Seated) → HasTo j ws n s t → t.known.local.number ≡ s.known.local.number
+  still_number n t to = ap (λ (x : Seated). x.known.local.number) to.is
+
+  -- the cell is idle after the first word
+  pub still_idle : (n : ℕ) (t : Seated) → HasTo j ws n s t → IsIdle t.known.local j
+  still_idle n t to = subst (IsIdleAt t.known.local.seen_free) (sym (ap (λ (x : Cell). x.ticket) (cell_is n t to))) tt
+
+  -- the next word differs, and the seat is at its limit
+  pub halts_at : (n : ℕ) (t u : Seated) (v : ℕ) → n < 144 → v ≡ slice_index ws (suc n) → HasTo j ws n s t → slice_index (cell_of t.known.local j).words (suc n) ≢ v → u ≡ t → IsAtLimit t.known.local → HaltsIn j ws s u
+  halts_at n t u v below value to differs same limit = subst (HaltsIn j ws s) (sym same) (record {
+    limit = limit;
+    short = (
+        let ne : get_or (drop 1 old) n 0 ≢ get_or (drop 1 ws) n 0 = λ e. differs (next_is n t below to ∙ sym (behind old n) ∙ e ∙ behind ws n ∙ sym value) in
+        let more = differ_more (drop 1 old) (drop 1 ws) n (omega (arith, rest_long, rest_count)) rest_long ne in
+        let first = differ_first (drop 1 old) (drop 1 ws) (suc n) in
+        let kept : t.known.local.limit ≡ l.limit = ap (λ (x : Seated). x.known.local.limit) to.is in
+        let count = to.count in
+        let at = limit.0 in
+        let few = limit.1 in
+        omega (arith, more, first, kept, count, at, few));
+    none = λ at. absurd (to.allowed at);
+    idle = still_idle n t to;
+    cell = λ i. (
+        let words = ap (λ (x : Cell). get_or x.words i 0) (cell_is n t to) in
+        elim (old_or_new ws old (suc n) i words_long) [ inl e ↦ inl (words ∙ e) | inr e ↦ inr (words ∙ e) ]);
+    others = λ k ne. ap (λ (x : Seated). cell_of x.known.local k) to.is ∙ get_or-set_other l.cells j k (cell_with l j ws (suc n)) default ne;
+    rest = to.is
+        ∙ ap (λ (x : Seated). record s { known = record s.known { local = record s.known.local { cells = x.known.local.cells; fresh = x.known.local.fresh; steps = t.known.local.steps } } }) (sym to.is);
+  })
+    where
+      l : Local
+      l = s.known.local
+
+      old : List ℕ
+      old = (cell_of s.known.local j).words
+
+  pub announces : (t : Seated) → HasTo j ws 144 s t → Announces j ws s t
+  announces t to =
+      let l = s.known.local in
+      let old = (cell_of l j).words in
+      let cell = cell_with l j ws 145 in
+      let words : take 145 ws ++ drop 145 old ≡ ws = ap (λ xs. xs ++ drop 145 old) (take_all 145 ws (omega (arith, long))) ∙ ap (λ xs. ws ++ xs) (drop_all 145 old (omega (arith, words_long, long))) ∙ append-nil ws in
+      let all : differing (take 144 (drop 1 old)) (take 144 (drop 1 ws)) ≡ differing (drop 1 old) (drop 1 ws) =
+      ap (λ xs. differing xs (take 144 (drop 1 ws))) (take_all 144 (drop 1 old) (omega (arith, rest_long, rest_count))) ∙ ap (differing (drop 1 old)) (take_all 144 (drop 1 ws) (omega (arith, rest_count))) in
+      let count = to.count ∙ ap (λ n. min (l.steps + (1 + n)) max_word) all in
+      let most = differ_most (drop 1 old) (drop 1 ws) in
+      record {
+        allowed = to.allowed;
+        within = to.within;
+        cell = cell_is 144 t to ∙ ap (λ x. record (cell_of l j) { words = x; ticket = None }) words;
+        others = λ k ne. ap (λ (x : Seated). cell_of x.known.local k) to.is ∙ get_or-set_other l.cells j k cell default ne;
+        rest = to.is ∙ ap (λ (x : Seated). wrote s x.known.local.cells t.known.local.steps s.known.noted) (sym to.is);
+        count = count;
+        most = omega (arith, count, most, rest_count);
+      }
+
+-- no word was written
+pub halts_before : (s t : Seated) (j : ℕ) (ws : List ℕ) → IsIdle s.known.local j → t ≡ s → IsAtLimit s.known.local → HaltsIn j ws s t
+halts_before s t j ws idle same limit = subst (HaltsIn j ws s) (sym same) (record {
+  limit = limit;
+  short = (let at = limit.0 in omega arith);
+  none = λ at. refl;
+  idle = idle;
+  cell = λ i. inl refl;
+  others = λ k ne. refl;
+  rest = refl;
+})
 
 -- an announced entry may be linked, and the seat is still its caller's
-pub announced_ready : {O : Type 0} (r : Running O) (instance : Instance) (j : ℕ) (op : List ℕ) (s t : Seated) → Announces instance j (next_number r.base s.known.local ∷ op) s t → IsSeatOf r s →
+pub announced_ready : {O : Type 0} (r : Running O) (j : ℕ) (op : List ℕ) (s t : Seated) → Announces j (next_number r.base s.known.local ∷ op) s t → IsSeatOf r s →
     IsAnnounced r.base j t × IsSeatOf r t × (t.known.local.number ≡ s.known.local.number)
-announced_ready r instance j op s t done of =
+announced_ready r j op s t done of =
     let e : t ≡ wrote s t.known.local.cells t.known.local.steps s.known.noted = done.rest in
-    let seat = of_wrote r s t t.known.local.cells t.known.local.steps e of in
     let ticket : (cell_of t.known.local j).ticket ≡ None = ap (λ (x : Cell). x.ticket) done.cell in (
       record {
         idle = subst (IsIdleAt t.known.local.seen_free) (sym ticket) tt;
         number = ap (λ (x : Cell). slice_index x.words 0) done.cell ∙ sym (ap (λ (x : Seated). next_number r.base x.known.local) e);
       },
-      seat.0,
-      seat.1,
+      subst (IsSeatOf r) (sym e) (record { table = of.table; caller = of.caller; before = of.before; region = of.region }),
+      ap (λ (x : Seated). x.known.local.number) e,
     )
-
--- a seat that halted in writing is still its caller's
-pub halted_of : {O : Type 0} (r : Running O) (instance : Instance) (j : ℕ) (ws : List ℕ) (s t : Seated) → HasCells s.known.local → j < 16 → length ws ≡ 145 → (made : ℕ) → made < 145 → t ≡ written_to instance j ws made s → IsSeatOf r s →
-    IsSeatOf r t × (t.known.local.number ≡ s.known.local.number)
-unfolding written_to
-halted_of r instance j ws s t cells small long zero fewer is of = (subst (IsSeatOf r) (sym is) of, ap (λ (x : Seated). x.known.local.number) is)
-halted_of r instance j ws s t cells small long (suc n) fewer is of =
-    let there : j < length s.known.local.cells = omega (arith, cells.count) in
-    let words : length (cell_of s.known.local j).words ≡ length ws = (cells.each j (cell_of s.known.local j) (slice_get-get_or s.known.local.cells j default there)).words ∙ sym long in
-    of_wrote r s t (set s.known.local.cells j (cell_with s.known.local j ws (suc n))) (min (s.known.local.steps + suc n) max_word) (is ∙ wrote_some instance s j ws there words n (omega (arith, long))) of

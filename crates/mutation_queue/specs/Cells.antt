@@ -1,12 +1,13 @@
 -- Cells of a caller, and what is announced in one.
-use Rattle.std.specs.Prelude.{◌≡◌, ◌≢◌, ◌+◌, ◌<◌, ◌≤◌, ℕ, zero, suc, min, false, List, slice_index, Option, Some, None}
+use Rattle.std.specs.Prelude.{◌≡◌, ◌≢◌, ◌+◌, ◌<◌, ◌≤◌, ◌⊎◌, ◌==◌, ℕ, min, Bool, false, if◌then◌else◌, List, [], ◌∷◌, drop, slice_index, Option, Some, None}
 use Rattle.cx_core.specs.declared.entry.Base.{Base}
 use Rattle.cx_core.specs.declared.kinds.Kind.TheVariants.{WriteCell}
 use Rattle.cx_core.specs.declared.local.Local.{Local}
 use Rattle.cx_core.specs.QueueEvents.{IsIdle, cell_of, next_number}
 use Rattle.cx_core.specs.Layout.{max_word}
-use Rattle.cx_core.specs.State.{Instance}
-use Rattle.cx_table.specs.Seats.{IsAtLimit, Seated, stepped}
+use Rattle.cx_table.specs.Running.{Running}
+use Rattle.cx_table.specs.Seats.{IsAtLimit, IsWithinLimit, Seated}
+use Rattle.cx_table.specs.Steps.{Steps}
 
 -- a cell holds a ticket at or above the greatest FREE found
 abbrev pub IsInUseAt : ℕ → Option ℕ → Type 0
@@ -16,27 +17,46 @@ IsInUseAt free (Some ticket) = free ≤ ticket
 abbrev pub IsInUse : Local → ℕ → Type 0
 IsInUse l j = IsInUseAt l.seen_free (cell_of l j).ticket
 
--- the seat after the first words of a list were written into its caller's cell, one step each
-unfoldable pub written_to : Instance → ℕ → List ℕ → ℕ → Seated → Seated
-written_to instance j words zero seat = seat
-written_to instance j words (suc n) seat = stepped instance (WriteCell j n (slice_index words n)) (written_to instance j words n seat) 0
+-- at how many places two lists differ
+unfoldable pub differing : List ℕ → List ℕ → ℕ
+differing [] ys = 0
+differing (x ∷ xs) [] = 0
+differing (x ∷ xs) (y ∷ ys) = (if x == y then 0 else 1) + differing xs ys
 
--- after so many steps of writing the words the seat is at its limit, and a further one was to be made
-pub record HaltsIn (instance : Instance) (j : ℕ) (words : List ℕ) (before after : Seated) : Type 0 where
-  pub made : ℕ
-  pub fewer : made < 145
-  pub seat : after ≡ written_to instance j words made before
+-- the steps that it takes to have the words in the cell: the first is always written, and of the others each that differs
+-- from the one there
+abbrev pub writes : Local → ℕ → List ℕ → ℕ
+writes l j words = 1 + differing (drop 1 (cell_of l j).words) (drop 1 words)
+
+-- a word that differed from the one in the cell was written by a step, and for one that did not nothing was done
+abbrev pub WritesDiffering : {O : Type 0} → Running O → (O → List ℕ → List ℕ → List ℕ × List ℕ) → (O → List ℕ → Bool) → ℕ → ℕ → ℕ → Seated → Seated → Type 0
+WritesDiffering r step reads j i v before after =
+    ((slice_index (cell_of before.known.local j).words i ≡ v) × (after ≡ before))
+    ⊎ ((slice_index (cell_of before.known.local j).words i ≢ v) × Steps r step reads (WriteCell j i v) 0 before after)
+
+-- The seat is at its limit, which is less than what all the steps need. Some words were written into the cell, which stays
+-- idle, and nothing else is changed but that what was loaded from CUR is then not fresh any more.
+pub record HaltsIn (j : ℕ) (words : List ℕ) (before after : Seated) : Type 0 where
   pub limit : IsAtLimit after.known.local
+  pub short : before.known.local.limit < before.known.local.steps + writes before.known.local j words
+  pub none : IsAtLimit before.known.local → after ≡ before
+  pub idle : IsIdle after.known.local j
+  pub cell : (i : ℕ) →
+      (slice_index (cell_of after.known.local j).words i ≡ slice_index (cell_of before.known.local j).words i)
+      ⊎ (slice_index (cell_of after.known.local j).words i ≡ slice_index words i)
+  pub others : (k : ℕ) → k ≢ j → cell_of after.known.local k ≡ cell_of before.known.local k
+  pub rest : after ≡ record before { known = record before.known { local = record before.known.local { cells = after.known.local.cells; fresh = after.known.local.fresh; steps = after.known.local.steps } } }
 
--- all words were written: the steps that did it were within the limit, the cell has them and no ticket, and nothing else is
--- changed but that what was loaded from CUR is not fresh any more
-pub record Announces (instance : Instance) (j : ℕ) (words : List ℕ) (before after : Seated) : Type 0 where
-  pub steps : (n : ℕ) → n < 145 → ¬ IsAtLimit (written_to instance j words n before).known.local
-  pub seat : after ≡ written_to instance j words 145 before
+-- All words are in the cell: the steps that did it were within the limit, and there was at least one. The cell has the words
+-- and no ticket, and nothing else is changed but that what was loaded from CUR is not fresh any more.
+pub record Announces (j : ℕ) (words : List ℕ) (before after : Seated) : Type 0 where
+  pub allowed : ¬ IsAtLimit before.known.local
+  pub within : IsWithinLimit after.known.local
   pub cell : cell_of after.known.local j ≡ record (cell_of before.known.local j) { words = words; ticket = None }
   pub others : (k : ℕ) → k ≢ j → cell_of after.known.local k ≡ cell_of before.known.local k
   pub rest : after ≡ record before { known = record before.known { local = record before.known.local { cells = after.known.local.cells; fresh = false; steps = after.known.local.steps } } }
-  pub count : after.known.local.steps ≡ min (before.known.local.steps + 145) max_word
+  pub count : after.known.local.steps ≡ min (before.known.local.steps + writes before.known.local j words) max_word
+  pub most : after.known.local.steps ≤ before.known.local.steps + 145
 
 -- an entry that was announced in a cell may be linked: the cell is idle and has the caller's next number
 pub record IsAnnounced (base : Base) (cell : ℕ) (seat : Seated) : Type 0 where

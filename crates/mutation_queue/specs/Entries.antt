@@ -1,11 +1,14 @@
 -- An entry that is read, word after word.
-use Rattle.std.specs.Prelude.{◌≡◌, ◌+◌, ◌<◌, ◌⊎◌, ℕ, zero, suc, List, [], ◌∷◌, ◌++◌, length, Option}
+use Rattle.std.specs.Prelude.{◌≡◌, ◌+◌, ◌<◌, ◌^◌, ◌⊎◌, ℕ, zero, suc, List, [], ◌∷◌, ◌++◌, length, Option}
+use Rattle.cx_core.specs.declared.entry.Entry.{Entry}
 use Rattle.cx_core.specs.declared.local.Local.{Local}
 use Rattle.cx_core.specs.declared.local.SeenSlot.{SeenSlot}
+use Rattle.cx_core.specs.History.{IsLawfulEntry}
 use Rattle.cx_core.specs.QueueEvents.{ShowsTicket}
 use Rattle.cx_core.specs.State.{one_more}
 use Rattle.cx_core.specs.Layout.{max_word}
 use Rattle.cx_rule.specs.declared.rule.Noted.{Noted}
+use Rattle.cx_rule.specs.Fitting.{IsNoted}
 use Rattle.cx_table.specs.Seats.{Seated}
 
 -- the notes of words of the entry with a ticket, from an index on
@@ -53,6 +56,16 @@ pub record ReadsEntry (caller ticket : ℕ) (words : List ℕ) (before after : S
   pub seat : after ≡ with_read caller ticket words (with_look after.known.local.seen_slot before)
   pub long : length words ≡ 145
   pub within : (n : ℕ) → n < 146 → EndsAfter n before.known.local → ⊥
+
+-- an entry is noted whole with a ticket, and it is one that may come there
+pub record IsNotedEntry (ticket : ℕ) (seat : Seated) (entry : Entry) : Type 0 where
+  pub noted : IsNoted seat.known.noted ticket entry
+  pub lawful : IsLawfulEntry ticket entry
+  pub small : ticket < 2 ^ 40
+
+-- so is the entry of this caller with these words, its number first
+abbrev pub NotesEntry : ℕ → ℕ → List ℕ → Seated → Type 0
+NotesEntry caller ticket words seat = (entry : Entry) → entry.caller ≡ caller → entry.number ∷ entry.op ≡ words → IsNotedEntry ticket seat entry
 
 -- The limit was come to before the entry was read: at the look, or among the words, of which those read are noted.
 pub record HaltsReading (ticket : ℕ) (before after : Seated) : Type 0 where

@@ -1,15 +1,20 @@
 //! An entry is written into a cell before it is linked.
 
-ghost use Rattle.std.specs.Prelude.{◌≡◌, ◌+◌, ◌<◌, ◌∷◌, ℕ, OnErr, OnOk};
-ghost use Rattle.cx_core.specs.QueueEvents.{IsIdle, next_number};
+ghost use Rattle.std.specs.Prelude.{◌≡◌, ◌≢◌, ◌+◌, ◌<◌, ◌∷◌, ℕ, OnErr, OnOk, slice_index};
+ghost use Rattle.cx_core.specs.Events.{Guard};
+ghost use Rattle.cx_core.specs.QueueEvents.{IsIdle, cell_of, next_number};
+ghost use Rattle.cx_core.specs.declared.kinds.Kind.TheVariants.{WriteCell};
 ghost use Rattle.cx_table.specs.Running.{IsSeatOf, instance_at};
-ghost use Rattle.mutation_queue.specs.Cells.{Announces, HaltsIn, IsAnnounced};
+ghost use Rattle.cx_table.specs.Seats.{unseen};
+ghost use Rattle.cx_table.specs.Steps.{Halts};
+ghost use Rattle.mutation_queue.specs.Cells.{Announces, HaltsIn, IsAnnounced, WritesDiffering};
 
 use cx_base::{Halt, Object};
 use cx_table::{CallerSeat, Shared};
 
-/// Writes the caller's next number and the operation into an idle cell of the caller, in 145 steps. `Halt` comes exactly
-/// where a further step is to be made and the seat's steps equal its limit.
+/// Writes the caller's next number and the operation into an idle cell of the caller: the number, by which the cell's ticket
+/// is forgotten, and each word of the operation that differs from the one there, one step each. `Halt` comes exactly where a
+/// further step is to be made and the seat's steps equal its limit.
 pub fn announce<O: Object>(
     shared: &Shared<O>,
     seat: &mut CallerSeat,
@@ -18,17 +23,37 @@ pub fn announce<O: Object>(
 ) -> Result<(), Halt>
     requires seat { IsSeatOf shared.now seat.old }
     requires cell { (cell < 16) × IsIdle seat.old.known.local cell }
-    ensures announced { OnOk result (Announces (instance_at shared.now O.step O.only_reads) cell (next_number shared.now.base seat.old.known.local ∷ op.now) seat.old seat.new) }
+    ensures announced { OnOk result (Announces cell (next_number shared.now.base seat.old.known.local ∷ op.now) seat.old seat.new) }
     ensures ready { OnOk result (IsAnnounced shared.now.base cell seat.new) }
     ensures seat { IsSeatOf shared.now seat.new }
     ensures number { seat.new.known.local.number ≡ seat.old.known.local.number }
-    ensures halted { OnErr result (HaltsIn (instance_at shared.now O.step O.only_reads) cell (next_number shared.now.base seat.old.known.local ∷ op.now) seat.old seat.new) }
+    ensures halted { OnErr result (HaltsIn cell (next_number shared.now.base seat.old.known.local ∷ op.now) seat.old seat.new) }
 {
     let j = u64::from(cell);
     let number = seat.next_number();
     shared.write_cell(seat, j, 0, number)?;
     for i in 0..144 {
-        shared.write_cell(seat, j, i + 1, op[i as usize])?;
+        write_differing(shared, seat, j, i + 1, op[i as usize])?;
     }
     Ok(())
+}
+
+/// Writes a word into a cell of the caller where it differs from the one there.
+fn write_differing<O: Object>(
+    shared: &Shared<O>,
+    seat: &mut CallerSeat,
+    j: u64,
+    i: u64,
+    v: u64,
+) -> Result<(), Halt>
+    requires seat { IsSeatOf shared.now seat.old }
+    requires guard { Guard (instance_at shared.now O.step O.only_reads) unseen (WriteCell j i v) seat.old.known.local }
+    ensures made { OnOk result (WritesDiffering shared.now O.step O.only_reads j i v seat.old seat.new) }
+    ensures differs { OnErr result (slice_index (cell_of seat.old.known.local j).words i ≢ v) }
+    ensures halted { OnErr result (Halts shared.now seat.old seat.new) }
+{
+    if seat.cell_word(j, i) == v {
+        return Ok(());
+    }
+    shared.write_cell(seat, j, i, v)
 }

@@ -1,18 +1,19 @@
 //! An entry is read from the cell that it was announced in.
 
-ghost use Rattle.std.specs.Prelude.{◌≡◌, ◌<◌, ◌≤◌, ◌/◌, ℕ, IfOk, IsErr, OnErr, OnOk, length};
+ghost use Rattle.std.specs.Prelude.{◌≡◌, ◌<◌, ◌≤◌, ◌/◌, ◌^◌, ℕ, IfOk, IsErr, OnErr, OnOk, length};
 ghost use Rattle.cx_core.specs.QueueEvents.{ShowsTicket};
+ghost use Rattle.cx_table.specs.Fitting.{Fitting};
 ghost use Rattle.cx_table.specs.Running.{IsSeatOf};
 ghost use Rattle.cx_table.specs.Seats.{IsAtLimit};
-ghost use Rattle.mutation_queue.specs.Entries.{EndsAfter, HaltsAmong, HaltsReading, Looked, ReadsEntry, with_read};
+ghost use Rattle.mutation_queue.specs.Entries.{EndsAfter, HaltsAmong, HaltsReading, Looked, NotesEntry, ReadsEntry, with_read};
 
 use cx_base::{Halt, Object, link_cell};
 use cx_core::layout::cell_count;
 use cx_table::{CallerSeat, Shared};
 
 /// Reads the entry with a ticket, which is linked: its number and its operation, in 146 steps. It gives the entry's
-/// caller. Each word is noted with the ticket, and a noted word is the history's. `Halt` comes exactly where a further
-/// step is to be made and the seat's steps equal its limit.
+/// caller. Each word is noted with the ticket, and a noted word is the history's: so the entry is one that may come there. `Halt`
+/// comes exactly where a further step is to be made and the seat's steps equal its limit.
 pub fn entry<O: Object>(
     shared: &Shared<O>,
     seat: &mut CallerSeat,
@@ -23,7 +24,9 @@ pub fn entry<O: Object>(
     requires linked { ticket < seat.old.known.local.front }
     requires later { shared.now.base.place ≤ ticket }
     ensures read { IfOk result (λ caller. ReadsEntry caller ticket into.new seat.old seat.new) }
+    ensures entry { IfOk result (λ caller. NotesEntry caller ticket into.new seat.new) }
     ensures halted { OnErr result (HaltsReading ticket seat.old seat.new) }
+    ensures limit { OnErr result (IsAtLimit seat.new.known.local) }
     ensures seat { IsSeatOf shared.now seat.new }
 {
     let cell = find_cell(shared, seat, ticket)?;
@@ -38,6 +41,7 @@ fn find_cell<O: Object>(shared: &Shared<O>, seat: &mut CallerSeat, ticket: u64) 
     requires later { shared.now.base.place ≤ ticket }
     ensures found { IfOk result (λ cell. Looked shared.now.callers ticket cell seat.old seat.new) }
     ensures small { IfOk result (λ cell. cell < 128) }
+    ensures below { OnOk result (ticket < 2 ^ 40) }
     ensures halted { OnErr result (seat.new ≡ seat.old) }
     ensures halts { IsErr result → IsAtLimit seat.old.known.local }
     ensures within { OnOk result (IsAtLimit seat.old.known.local → ⊥) }
@@ -61,6 +65,7 @@ fn read_words<O: Object>(
     requires linked { ticket < seat.old.known.local.front }
     requires shows { ShowsTicket shared.now.callers seat.old.known.local.seen_slot ticket cell }
     ensures read { OnOk result (seat.new ≡ with_read (cell / 16) ticket into.new seat.old) }
+    ensures fits { OnOk result (Fitting shared.now.lines (O.lawful shared.now.object) shared.now.base seat.new.known) }
     ensures within { OnOk result ((n : ℕ) → n < 145 → EndsAfter n seat.old.known.local → ⊥) }
     ensures halted { OnErr result (HaltsAmong (cell / 16) ticket seat.old seat.new) }
     ensures seat { IsSeatOf shared.now seat.new }

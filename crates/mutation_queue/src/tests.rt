@@ -38,6 +38,26 @@ pub(crate) fn update(
     (seat, tried)
 }
 
+// A caller without entries announces one operation in its cell 0, and then another: the steps made by then.
+fn announced_twice(
+    shared: &Shared<Tally>,
+    mut seat: CallerSeat,
+    one: &[u64; 144],
+    other: &[u64; 144],
+) -> (CallerSeat, Result<u64, Halt>)
+    requires seat { IsSeatOf shared.now seat }
+    requires new { IsNew seat.known.local }
+    ensures seat { IsSeatOf shared.now result.0 }
+    ensures number { result.0.known.local.number ≡ seat.known.local.number }
+{
+    if let Err(halt) = announce(shared, &mut seat, 0, one) {
+        return (seat, Err(halt));
+    }
+    let done = announce(shared, &mut seat, 0, other);
+    let steps = seat.steps();
+    (seat, done.map(|_| steps))
+}
+
 // Closes a table of two callers.
 fn closed(
     alloc: Global,
@@ -162,6 +182,28 @@ fn each_limit_halts_until_the_link(rt: HostRuntime) -> Result<(), Fail> {
         assert_eq!(rt; first.front(), u64::from(tried.is_ok()));
         closed(alloc, shared, first, second)?;
     }
+    Ok(())
+}
+
+#[test]
+fn words_that_stand_there_are_not_written(rt: HostRuntime) -> Result<(), Fail> {
+    let alloc = rt.alloc();
+    let base = Base::fresh(alloc, &Tally)?;
+    let mut other = [5; 144];
+    other[0] = 6;
+    other[143] = 6;
+    let (shared, first, second) = made(alloc, &[NO_LIMIT, 147], &base)?;
+    let (first, same) = announced_twice(&shared, first, &[5; 144], &[5; 144]);
+    assert!(rt; same == Ok(146));
+    let (second, halted) = announced_twice(&shared, second, &[5; 144], &other);
+    assert!(rt; halted == Err(Halt));
+    closed(alloc, shared, first, second)?;
+    let (shared, first, second) = made(alloc, &[148, NO_LIMIT], &base)?;
+    let (first, changed) = announced_twice(&shared, first, &[5; 144], &other);
+    assert!(rt; changed == Ok(148));
+    let (second, few) = announced_twice(&shared, second, &[0; 144], &[0; 144]);
+    assert!(rt; few == Ok(2));
+    closed(alloc, shared, first, second)?;
     Ok(())
 }
 

@@ -1,9 +1,9 @@
-mod Access
+pub mod Access
 mod CopySteps
 mod Reading
 mod RegionLaws
-mod Replaying
+pub mod Replaying
 mod Persisting
 mod Renewing
-mod Updating
+pub mod Updating
 mod Running

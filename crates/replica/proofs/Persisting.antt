@@ -1,5 +1,5 @@
 -- What a persisted word does to a replica held exclusively.
-use Rattle.std.proofs.Common.{◌≡◌, ◌≢◌, ◌+◌, ◌<◌, ◌≤◌, ◌==◌, ℕ, Bool, true, false, cond, All, List, [], filter, refl, ap, sym, subst, ◌∙◌, arith, append-nil, eq-eqb, Option, Some, None}
+use Rattle.std.proofs.Common.{◌≡◌, ◌≢◌, ◌+◌, ◌<◌, ◌≤◌, ◌==◌, ℕ, Bool, true, false, cond, All, List, [], ◌∷◌, filter, refl, ap, sym, subst, ◌∙◌, arith, append-nil, eq-eqb, Option, Some, None}
 use Rattle.std.proofs.lemmas.Bool.{false≢true}
 use Rattle.std.proofs.lemmas.List.Elements.{All-contains_itself, All-filter, All-nil, filter_passes}
 use Rattle.std.specs.List.{Contains}
@@ -66,3 +66,14 @@ module _ {O : Type 0} (lines : ℕ) (r : Running O) (step : O → List ℕ → L
 
   pub clean_persisted : Steps r step reads (Persist held.replica at) 0 before after → CleanBelow at before → CleanBelow (at + 1) after
   clean_persisted s clean = dirty_after (All (λ i. at + 1 ≤ i)) (All (λ i. at ≤ i)) s (All-nil (λ i. at + 1 ≤ i)) (λ xs from. left_off xs at from) clean
+
+-- where each dirty word is one of the region and none is among the first so many, which are all, none is dirty
+pub none_left : (from words : ℕ) (o : Option HeldExclusive) → words ≤ from → All (λ i. from ≤ i) (held_dirty o) → All (λ i. i < words) (held_dirty o) → held_dirty o ≡ []
+none_left from words o all above below = by (held_dirty o) above below
+  where
+    by : (xs : List ℕ) → All (λ i. from ≤ i) xs → All (λ i. i < words) xs → xs ≡ []
+    by [] above below = refl
+    by (x ∷ xs) above below = (
+        let least : from ≤ x = above 0 0 (omega arith) in
+        let most : x < words = below 0 0 (omega arith) in
+        absurd (omega arith))

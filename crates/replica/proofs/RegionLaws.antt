@@ -1,6 +1,8 @@
 -- What an access does to the pairs that stand for a held replica.
-use Rattle.std.proofs.Common.{Bool, IsTrue, cond, false, true, ◌==◌, ◌≡◌, ◌^◌, ◌<◌, ℕ, List, [], ◌∷◌, ◌++◌, refl, ap, sym, subst, ◌∙◌, Result, Ok, Err, IfOk, OnErr, OnOk}
+use Rattle.std.proofs.Common.{Bool, IsTrue, ◌||◌, cond, false, true, ◌==◌, ◌≡◌, ◌^◌, ◌<◌, ℕ, List, [], ◌∷◌, ◌++◌, refl, ap, sym, subst, ◌∙◌, Result, Ok, Err, IfOk, OnErr, OnOk, Option, Some, None}
 use Rattle.std.proofs.lemmas.List.{map-append}
+use Rattle.std.proofs.lemmas.List.Folds.{list_any-append}
+use Rattle.std.specs.List.{list_any}
 use Rattle.cx_base.specs.Memory.{Loaded, Stored}
 use Rattle.cx_base.specs.Noted.{Note, shows_load, shows_store}
 use Rattle.cx_core.specs.declared.entry.Base.{Base}
@@ -11,7 +13,7 @@ use Rattle.cx_rule.specs.Seats.{IsWithinLimit, Seated, place_noted}
 use Rattle.cx_rule.specs.Steps.{Halts}
 use Rattle.cx_table.specs.Right.{Right}
 use Rattle.replica.specs.Held.{Accesses, IsHeld, IsHeldShared, LoadsShared}
-use Rattle.replica.specs.Regions.{HasPlace, fits_shows}
+use Rattle.replica.specs.Regions.{HasPlace, fits_shows, has_loaded, is_same}
 
 module _ (lines : ℕ) (lawful : List ℕ → Type 0) (base : Base) where
   fits_load : (accesses : List Note) (at v : ℕ) → Loaded at v (Fits lines lawful base accesses) (Fits lines lawful base (accesses ++ (false, at, v) ∷ []))
@@ -48,6 +50,11 @@ place_append place ((s, a, w) ∷ xs) ys = place_append (cond (a == 0) w place) 
 still_placed : (xs ys : List Note) → HasPlace xs → HasPlace (xs ++ ys)
 still_placed xs ys has place = place_append place xs ys ∙ ap (λ p. place_noted p ys) (has place) ∙ sym (place_append 0 xs ys)
 
+-- one that was loaded stays so
+still_loaded : (placed : Option ℕ) (xs ys : List (ℕ × ℕ)) → IsTrue (has_loaded placed xs) → IsTrue (has_loaded placed (xs ++ ys))
+still_loaded None xs ys has = has
+still_loaded (Some place) xs ys has = list_any-append (is_same (0, place)) xs ys ∙ ap (λ b. b || list_any (is_same (0, place)) ys) has
+
 -- a load of the place notes it
 pub loaded_place : (xs : List Note) (v place : ℕ) → place_noted place (xs ++ (false, 0, v) ∷ []) ≡ v
 loaded_place xs v place = place_append place xs ((false, 0, v) ∷ [])
@@ -65,11 +72,14 @@ module _ {O E : Type 0} (lines : ℕ) (r : Running O) (lawful : List ℕ → Typ
   stands_read at (Ok v) made = subst (λ xs. Loaded at v (ReadFits lines lawful r.base (loaded_of old.known.local.shared)) (ReadFits lines lawful r.base xs)) (sym made.loaded) (read_load lines lawful r.base (loaded_of old.known.local.shared) at v)
   stands_read at (Err e) made = tt
 
-  -- a replica held shared still is, whether the load was made or not
-  pub shared_after : (at : ℕ) (result : Result ℕ E) → IfOk result (λ v. LoadsShared lines r lawful held at v old new) → OnErr result (Halts r old new) → IsHeldShared lines r lawful old held → IsWithinLimit old.known.local →
-      IsHeldShared lines r lawful new held × IsWithinLimit new.known.local
-  shared_after at (Ok v) made halts of within = (made.still, made.within)
-  shared_after at (Err e) made halts of within = subst (λ (s : Seated). IsHeldShared lines r lawful s held × IsWithinLimit s.known.local) (sym halts.same) (of, within)
+  -- a replica held shared still is, whether the load was made or not, and a place that was loaded still is
+  pub shared_after : (at : ℕ) (placed : Option ℕ) (result : Result ℕ E) → IfOk result (λ v. LoadsShared lines r lawful held at v old new) → OnErr result (Halts r old new) →
+      IsHeldShared lines r lawful old held → IsWithinLimit old.known.local → IsTrue (has_loaded placed (loaded_of old.known.local.shared)) →
+      IsHeldShared lines r lawful new held × IsWithinLimit new.known.local × IsTrue (has_loaded placed (loaded_of new.known.local.shared))
+  shared_after at placed (Ok v) made halts of within place =
+      (made.still, made.within, subst (λ xs. IsTrue (has_loaded placed xs)) (sym made.loaded) (still_loaded placed (loaded_of old.known.local.shared) ((at, v) ∷ []) place))
+  shared_after at placed (Err e) made halts of within place =
+      subst (λ (s : Seated). IsHeldShared lines r lawful s held × IsWithinLimit s.known.local × IsTrue (has_loaded placed (loaded_of s.known.local.shared))) (sym halts.same) (of, within, place)
 
   -- so does one held exclusively, and a place that was noted still is
   pub held_after : {A : Type 0} (note : A → Note) (placed : Bool) (result : Result A E) → IfOk result (λ x. Accesses lines r lawful held (note x) old new) → OnErr result (Halts r old new) →

@@ -1,5 +1,6 @@
 -- What was replayed on a replica held exclusively.
-use Rattle.std.proofs.Common.{false, true, cond, ◌≡◌, ◌≢◌, ◌+◌, ◌^◌, ◌<◌, ◌==◌, ℕ, List, [], ◌∷◌, ◌++◌, eq-eqb, length, ne_eqb, refl, slice_index, slice_set, ap, sym, subst, ◌∙◌, arith, Result, Ok, Err, IfOk, OnOk, inl, inr}
+use Rattle.std.proofs.Common.{false, true, cond, ◌≡◌, ◌≢◌, ◌+◌, ◌^◌, ◌<◌, ◌≤◌, ◌==◌, ℕ, List, [], ◌∷◌, ◌++◌, eq-eqb, length, ne_eqb, refl, slice_index, slice_set, ap, sym, subst, ◌∙◌, arith, Result, Ok, Err, IfOk, OnOk, inl, inr}
+use Rattle.std.proofs.Math.Bridge.{le_prop}
 use Rattle.std.proofs.Math.Logic.{∥∥₁_elim}
 use Rattle.std.proofs.Props.{props}
 use Rattle.std.proofs.lemmas.Bool.{cases_eq, true≢false}
@@ -16,7 +17,8 @@ use Rattle.cx_core.specs.Step.{full_step_of}
 use Rattle.cx_core.proofs.HistoryLemmas.{ObjectLaws}
 use Rattle.cx_core.proofs.KeepLemmas as keep
 use Rattle.cx_rule.specs.declared.rule.Known.{Known}
-use Rattle.cx_rule.specs.Fitting.{Fits, IsNoted, ReplayedTo, SomeFits, base_of, start, with_entry}
+use Rattle.cx_rule.specs.declared.rule.Noted.{Noted}
+use Rattle.cx_rule.specs.Fitting.{Fits, IsNoted, ReplayedTo, SomeFits, base_of, start, with_entry, with_set}
 use Rattle.cx_rule.specs.Seats.{place_noted}
 use Rattle.replica.specs.Regions.{HasPlace}
 use Rattle.replica.proofs.RegionLaws.{loaded_place}
@@ -102,6 +104,32 @@ module _ (lines : ℕ) (lawful : List ℕ → Type 0) (base : Base) (step : List
         },
         place,
       )
+
+  -- what was only loaded from stays the image after the same place
+  pub loaded_image : (old new : Known) → new.noted ≡ old.noted → HasPlace new.accesses → SomeFits lines lawful base new.accesses → IsImage lines lawful base step old →
+      Becomes (Fits lines lawful base old.accesses) (Fits lines lawful base new.accesses) ◌≡◌ → IsImage lines lawful base step new × (place_noted 0 new.accesses ≡ place_noted 0 old.accesses)
+  loaded_image old new same begun some image becomes =
+      let place : place_noted 0 new.accesses ≡ place_noted 0 old.accesses =
+      ∥∥₁_elim some (hlevel props) (λ p. (let b = becomes.from p.0 p.1 p.2 in sym (noted_at new.accesses begun p.0 p.1 p.2) ∙ ap place_of (sym b.2) ∙ image_at old image p.0 b.0 b.1)) in (
+        record {
+          begun = begun;
+          replayed = λ first now f. (
+              let b = becomes.from first now f in
+              subst (λ p. ReplayedTo step new.noted first p now) (sym place) (subst (λ ns. ReplayedTo step ns first (place_noted 0 old.accesses) now) (sym same)
+              (subst (ReplayedTo step old.noted first (place_noted 0 old.accesses)) b.2 (image.replayed first b.0 b.1))));
+          law = λ first now f. (let b = becomes.from first now f in subst (λ ws. LawfulBase lines lawful (base_of ws)) b.2 (image.law first b.0 b.1));
+        },
+        place,
+      )
+
+  -- an image is at a place from the base's on
+  chain_from : (notes : List Noted) (first : List ℕ) (place : ℕ) (now : List ℕ) → ReplayedTo step notes first place now → place_of first ≤ place
+  chain_from notes first place now (start _ _ at is) = omega arith
+  chain_from notes first place now (with_entry _ _ t before e at is noted rest) = (let below = chain_from notes first t before rest in omega arith)
+  chain_from notes first place now (with_set _ _ t before set at is noted rest) = absurd noted
+
+  pub image_from : (known : Known) → SomeFits lines lawful base known.accesses → IsImage lines lawful base step known → base.place ≤ place_noted 0 known.accesses
+  image_from known some image = ∥∥₁_elim some le_prop (λ p. (let f = p.2 in let from = f.from in let on = chain_from known.noted p.0 (place_noted 0 known.accesses) p.1 (image.replayed p.0 p.1 f) in omega arith))
 
   -- what was not stored into since its place was loaded is the image after that place
   pub unstored_image : (known : Known) → HasPlace known.accesses → StoresNone known.accesses → IsImage lines lawful base step known

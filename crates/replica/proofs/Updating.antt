@@ -1,15 +1,13 @@
--- What the tests' callers know.
-use Rattle.std.proofs.Common.{All, Bool, zero-add, ◌≡◌, ◌+◌, ◌^◌, ◌<◌, ℕ, zero, suc, List, [], ◌∷◌, ◌++◌, length, drop, slice_get, slice_index, take, ap, sym, subst, ◌∙◌, arith, Option, Some, None, IfSome, Result, Ok, Err}
+-- What tries and entries that are read tell of a replica.
+use Rattle.std.proofs.Common.{All, Bool, ◌≡◌, ◌^◌, ◌<◌, ℕ, List, [], ◌∷◌, length, drop, slice_index, take, ap, sym, subst, ◌∙◌, arith, Option, Some, None, IfSome, Result, Ok, Err}
 use Rattle.std.proofs.lemmas.List.{take_all}
 use Rattle.std.proofs.lemmas.List.Elements.{All-drop, All-from_get_or, All-same, All-take}
 use Rattle.cx_base.specs.Memory.{Words}
 use Rattle.std.specs.Result.{result_ok}
-use Rattle.cx_core.specs.declared.entry.Entry.{Entry}
 use Rattle.cx_core.specs.declared.kinds.Kind.TheVariants.{TryExclusive}
 use Rattle.cx_core.specs.Region.{region_words}
 use Rattle.cx_core.specs.Rights.{held_dirty}
-use Rattle.cx_rule.specs.declared.rule.Noted.{Noted}
-use Rattle.cx_rule.specs.Fitting.{Fitting, IsNoted, SomeFits}
+use Rattle.cx_rule.specs.Fitting.{Fitting, SomeFits}
 use Rattle.cx_rule.specs.Running.{IsSeatOf, Running}
 use Rattle.cx_rule.specs.Seats.{Seated}
 use Rattle.cx_rule.specs.Steps.{Steps}
@@ -31,7 +29,7 @@ module _ {O : Type 0} (lines : ℕ) (r : Running O) (step : O → List ℕ → L
   shared_tried q found after (Err mark) sized of tried fits = tt
 
 -- a replica that is held still is, once an entry was read
-held_read : {O : Type 0} (lines : ℕ) (r : Running O) (lawful : List ℕ → Type 0) (caller ticket : ℕ) (words : List ℕ) (before after : Seated) (held : Right) → IsSeatOf r after → ReadsEntry caller ticket words before after → IsHeld lines r lawful before held → IsHeld lines r lawful after held
+pub held_read : {O : Type 0} (lines : ℕ) (r : Running O) (lawful : List ℕ → Type 0) (caller ticket : ℕ) (words : List ℕ) (before after : Seated) (held : Right) → IsSeatOf r after → ReadsEntry caller ticket words before after → IsHeld lines r lawful before held → IsHeld lines r lawful after held
 held_read lines r lawful caller ticket words before after held of read was =
     let now = with_read caller ticket words (with_look after.known.local.seen_slot before) in
     record {
@@ -40,31 +38,6 @@ held_read lines r lawful caller ticket words before after held of read was =
       right = subst (λ s. IsExclusiveOf r.callers s held) (sym read.seat) (let right : IsExclusiveOf r.callers now held = record { few = was.right.few; caller = was.right.caller; holds = was.right.holds } in right);
       some = subst (λ (s : Seated). SomeFits lines lawful r.base s.known.accesses) (sym read.seat) was.some;
       dirty = subst (λ (s : Seated). All (λ i. i < region_words lines) (held_dirty s.known.local.exclusive)) (sym read.seat) was.dirty;
-    }
-
--- the words of an entry are noted one by one
-noted_at : (caller ticket from i : ℕ) (words : List ℕ) → i < length words → slice_get (notes_of caller ticket from words) i ≡ Some (record { ticket = ticket; caller = caller; index = from + i; word = slice_index words i })
-noted_at caller ticket from i [] below = absurd (omega arith)
-noted_at caller ticket from zero (w ∷ words) below = ap (λ k. Some (let n : Noted = record { ticket = ticket; caller = caller; index = k; word = w } in n)) (omega arith)
-noted_at caller ticket from (suc i) (w ∷ words) below =
-    noted_at caller ticket (from + 1) i words (omega arith)
-    ∙ ap (λ k. Some (let n : Noted = record { ticket = ticket; caller = caller; index = k; word = slice_index words i } in n)) (omega arith)
-
-behind : {X : Type 0} (xs ys : List X) (i : ℕ) (x : X) → slice_get ys i ≡ Some x → slice_get (xs ++ ys) (length xs + i) ≡ Some x
-behind [] ys i x is = ap (slice_get ys) (zero-add i) ∙ is
-behind (y ∷ xs) ys i x is = (let next : suc (length xs) + i ≡ suc (length xs + i) = omega arith in ap (slice_get (y ∷ (xs ++ ys))) next ∙ behind xs ys i x is)
-
-pub read_noted : (ticket : ℕ) (words : List ℕ) (before after : Seated) (entry : Entry) → ReadsEntry entry.caller ticket words before after → entry.number ∷ entry.op ≡ words → IsNoted after.known.noted ticket entry
-read_noted ticket words before after entry read is =
-    let all : after.known.noted ≡ before.known.noted ++ notes_of entry.caller ticket 0 words = ap (λ (s : Seated). s.known.noted) read.seat in
-    record {
-      long = (let l = read.long in let same : suc (length entry.op) ≡ length words = ap length is in omega arith);
-      each = λ i below. (
-          let here : slice_get (notes_of entry.caller ticket 0 words) i ≡ Some (record { ticket = ticket; caller = entry.caller; index = i; word = slice_index (entry.number ∷ entry.op) i }) =
-          noted_at entry.caller ticket 0 i words (let l = read.long in omega arith)
-          ∙ ap (λ k. Some (let n : Noted = record { ticket = ticket; caller = entry.caller; index = k; word = slice_index words i } in n)) (zero-add i)
-          ∙ ap (λ ws. Some (let n : Noted = record { ticket = ticket; caller = entry.caller; index = i; word = slice_index ws i } in n)) (sym is) in
-          (length before.known.noted + i, ap (λ ns. slice_get ns (length before.known.noted + i)) all ∙ behind before.known.noted (notes_of entry.caller ticket 0 words) i _ here));
     }
 
 -- a replica that is the image after its place still is, once an entry was read

@@ -1,5 +1,6 @@
 -- A held replica as a memory.
-use Rattle.std.specs.Prelude.{◌≡◌, ℕ, Bool, List}
+use Rattle.std.specs.Prelude.{◌≡◌, ◌==◌, ◌&&◌, ℕ, Bool, true, List, Option, Some, None}
+use Rattle.std.specs.List.{list_any}
 use Rattle.cx_base.specs.Memory.{Words}
 use Rattle.cx_base.specs.Noted.{Note, NotesShow, shown_words}
 use Rattle.cx_core.specs.declared.entry.Base.{Base}
@@ -17,16 +18,26 @@ pub record RegionFixed (Name Board : Type 0) : Type 0 where
   pub placed : Bool
   pub rest : Seated
 
--- the same of a region for loads
+-- the same of a region for loads, where the place may have been loaded before
 pub record ReadFixed (Name Board : Type 0) : Type 0 where
   pub name : Name
   pub board : Board
   pub held : Right
+  pub placed : Option ℕ
   pub rest : Seated
 
 -- the place is among the words loaded or stored
 abbrev pub HasPlace : List Note → Type 0
 HasPlace accesses = (place : ℕ) → place_noted place accesses ≡ place_noted 0 accesses
+
+-- whether two words with their addresses are the same
+abbrev pub is_same : ℕ × ℕ → ℕ × ℕ → Bool
+is_same x y = (x.0 == y.0) && (x.1 == y.1)
+
+-- where a place is known to have been loaded, whether it is among the words loaded
+abbrev pub has_loaded : Option ℕ → List (ℕ × ℕ) → Bool
+has_loaded None loaded = true
+has_loaded (Some place) loaded = list_any (is_same (0, place)) loaded
 
 pub fits_shows : (lines : ℕ) (lawful : List ℕ → Type 0) (base : Base) (accesses : List Note) (first now : List ℕ) → Fits lines lawful base accesses first now → NotesShow (region_words lines) accesses first now
 fits_shows lines lawful base accesses first now f = record { words = f.origin.size; leads = f.leads }

@@ -1,10 +1,11 @@
 -- What the tests speak of.
-use Rattle.std.specs.Prelude.{◌≡◌, ◌<◌, ℕ, List, [], None}
+use Rattle.std.specs.Prelude.{◌≡◌, ◌<◌, ℕ, List, [], None, Result, Ok, Err}
 use Rattle.cx_core.specs.declared.local.Local.{Local}
 use Rattle.cx_core.specs.QueueEvents.{IsIdle}
 use Rattle.cx_rule.specs.Running.{IsSeatOf, Running}
 use Rattle.cx_rule.specs.Seats.{Seated}
-use Rattle.cx_table.specs.Right.{Right}
+use Rattle.cx_table.specs.Right.{Right, WonRight}
+use Rattle.cx_table.specs.Tokens.{IsDowngradedOf}
 use Rattle.replica.specs.Held.{IsHeld}
 use Rattle.mutation_queue.specs.declared.linking.LinkTried.{LinkTried}
 use Rattle.mutation_queue.specs.declared.linking.LinkTried.TheVariants.{Again, Linked, Worn}
@@ -47,3 +48,8 @@ KnowsLinked seat Worn = Unit {0}
 pub record Keeps (before after : Seated) : Type 0 where
   pub front : after.known.local.front ≡ before.known.local.front
   pub downgraded : after.known.local.downgraded ≡ before.known.local.downgraded
+
+-- where a publication did not win, its right was given back
+abbrev pub GivenBack : ℕ → Seated → Result WonRight Right → Type 0
+GivenBack callers seat (Ok won) = Unit {0}
+GivenBack callers seat (Err held) = IsDowngradedOf callers seat held

@@ -1,6 +1,6 @@
 //! What was stored into a replica held exclusively is persisted.
 
-ghost use Rattle.std.specs.Prelude.{◌≡◌, ◌+◌, ◌<◌, OnErr, OnOk};
+ghost use Rattle.std.specs.Prelude.{◌≡◌, ◌+◌, ◌*◌, ◌<◌, OnErr, OnOk};
 ghost use Rattle.cx_core.specs.Region.{region_words};
 ghost use Rattle.cx_rule.specs.Seats.{IsAtLimit};
 ghost use Rattle.replica.specs.Flushes.{CleanBelow, IsFlushed, Persists};
@@ -9,7 +9,7 @@ ghost use Rattle.replica.specs.Replays.{IsImage};
 
 use cx_base::{Halt, Object};
 use cx_core::{HEAD_LINES, LINE_WORDS};
-use cx_table::{CallerSeat, Exclusive, Shared};
+use cx_table::{CallerSeat, Exclusive, GROUP, Shared};
 
 /// Persists every dirty word of a replica held exclusively, one step each. Then none is dirty. It loads and stores none, so
 /// that what was replayed stays so. `Halt` comes only where a word is dirty and the seat's steps equal its limit.
@@ -26,7 +26,33 @@ pub fn flush<O: Object>(
     ensures halts { OnErr result (IsAtLimit seat.new.known.local) }
 {
     let words = LINE_WORDS * (HEAD_LINES + shared.lines());
-    for at in 0..words {
+    for group in 0..words.div_ceil(GROUP) {
+        flush_group(shared, seat, held, group)?;
+    }
+    Ok(())
+}
+
+/// Persists the dirty words of a group, and passes over one that has none.
+fn flush_group<O: Object>(
+    shared: &Shared<O>,
+    seat: &mut CallerSeat,
+    held: &Exclusive,
+    group: u64,
+) -> Result<(), Halt>
+    requires held { IsHeld (O.line_count shared.now.object) shared.now (O.lawful shared.now.object) seat.old held.now }
+    requires group { 64 * group < region_words (O.line_count shared.now.object) }
+    requires clean { CleanBelow (64 * group) seat.old }
+    ensures held { IsHeld (O.line_count shared.now.object) shared.now (O.lawful shared.now.object) seat.new held.now }
+    ensures clean { OnOk result (CleanBelow (64 * group + 64) seat.new) }
+    ensures persists { Persists held.now.replica seat.old seat.new }
+    ensures halts { OnErr result (IsAtLimit seat.new.known.local) }
+{
+    if !seat.has_dirty(group) {
+        return Ok(());
+    }
+    let from = GROUP * group;
+    let words = LINE_WORDS * (HEAD_LINES + shared.lines());
+    for at in from..words.min(from + GROUP) {
         persist_dirty(shared, seat, held, at)?;
     }
     Ok(())

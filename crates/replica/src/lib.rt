@@ -8,6 +8,8 @@ mod copying;
 mod copying_tests;
 mod flushing;
 mod outcomes;
+#[cfg(test)]
+mod publish_tests;
 mod read_region;
 mod region;
 mod replay;

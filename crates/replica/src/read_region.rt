@@ -1,8 +1,10 @@
 //! A replica held shared as a memory.
 
-ghost use Rattle.std.specs.Prelude.{◌≡◌};
+ghost use Rattle.std.specs.Prelude.{◌≡◌, IsTrue, Some};
+ghost use Rattle.cx_rule.specs.Fitting.{loaded_of};
 ghost use Rattle.cx_rule.specs.Seats.{IsWithinLimit};
 ghost use Rattle.replica.specs.Held.{IsHeldShared};
+ghost use Rattle.replica.specs.Regions.{has_loaded};
 
 use crate::board::Board;
 use cx_base::{Halt, Memory};
@@ -14,8 +16,11 @@ pub struct ReadRegion<'a, T: Board> {
     board: &'a T,
     seat: &'a mut CallerSeat,
     held: &'a SharedHold,
+    /// The place, where it was loaded before the region began.
+    placed: Option<u64>,
     ghost of: { IsHeldShared (T.line_count board.now) (T.running board.now) (T.lawful board.now) seat.now held.now },
     ghost within: { IsWithinLimit seat.now.known.local },
+    ghost place: { IsTrue (has_loaded placed (loaded_of seat.now.known.local.shared)) },
 }
 
 impl<'a, T: Board> ReadRegion<'a, T> {
@@ -28,7 +33,36 @@ impl<'a, T: Board> ReadRegion<'a, T> {
         ensures name { result.seat.ghost_name ≡ seat.entry.ghost_name }
     {
         let _steps = seat.steps();
-        ReadRegion { board, seat, held }
+        ReadRegion {
+            board,
+            seat,
+            held,
+            placed: None,
+        }
+    }
+
+    /// The same where this place was loaded before. That it was is then known of the seat once the region ends.
+    pub fn placed(
+        board: &'a T,
+        seat: &'a mut CallerSeat,
+        held: &'a SharedHold,
+        place: u64,
+    ) -> ReadRegion<'a, T>
+        requires held { IsHeldShared (T.line_count board.now) (T.running board.now) (T.lawful board.now) seat.old held.now }
+        requires place { IsTrue (has_loaded (Some place) (loaded_of seat.old.known.local.shared)) }
+        ensures board { result.board.now ≡ board.now }
+        ensures seat { result.seat.now ≡ seat.old }
+        ensures held { result.held.now ≡ held.now }
+        ensures placed { result.placed ≡ Some place }
+        ensures name { result.seat.ghost_name ≡ seat.entry.ghost_name }
+    {
+        let _steps = seat.steps();
+        ReadRegion {
+            board,
+            seat,
+            held,
+            placed: Some(place),
+        }
     }
 }
 
@@ -36,7 +70,7 @@ impl<T: Board> Memory for ReadRegion<'_, T> {
     ghost use Rattle.std.specs.Prelude.{List, ℕ, ◌==◌};
     ghost use Rattle.std.specs.Borrow.{GName};
     ghost use Rattle.cx_core.specs.Region.{region_words};
-    ghost use Rattle.cx_rule.specs.Fitting.{ReadFits, loaded_of};
+    ghost use Rattle.cx_rule.specs.Fitting.{ReadFits};
     ghost use Rattle.replica.specs.Held.{beside_shared, left_of};
     ghost use Rattle.replica.specs.Regions.{ReadFixed, read_words};
 
@@ -44,7 +78,7 @@ impl<T: Board> Memory for ReadRegion<'_, T> {
 
     ghost Fixed = { ReadFixed GName T };
 
-    ghost fixed = { λ r. record { name = r.seat.ghost_name; board = r.board.now; held = r.held.now; rest = beside_shared r.held.now.replica r.seat.now } };
+    ghost fixed = { λ r. record { name = r.seat.ghost_name; board = r.board.now; held = r.held.now; placed = r.placed; rest = beside_shared r.held.now.replica r.seat.now } };
 
     // No step stores into a replica held shared. A seat whose limit is 0 makes no step at all, so that a store by it halts.
     ghost writable = { λ r. r.seat.now.known.local.limit == 0 };

@@ -3,10 +3,11 @@
 ghost use Rattle.std.specs.Prelude.{◌≡◌, ◌+◌, ◌*◌, ◌^◌, [], ◌∷◌, ◌≤◌, ◌<◌, IfOk, IfSome, IsTrue, OnOk, length};
 ghost use Rattle.cx_base.specs.Memory.{Always, Framed, Words};
 ghost use Rattle.cx_core.specs.Base.{LawfulBase};
-ghost use Rattle.cx_core.specs.History.{IsLawfulEntry};
 ghost use Rattle.cx_core.specs.Region.{object_part, place_of, region_words};
 ghost use Rattle.cx_rule.specs.Fitting.{IsNoted, base_of};
+ghost use Rattle.cx_rule.specs.Running.{IsSeatOf};
 ghost use Rattle.cx_table.specs.Tokens.{IsDowngradedOf};
+ghost use Rattle.mutation_queue.specs.Entries.{IsNotedEntry};
 ghost use Rattle.replica.specs.Held.{IsHeld, IsHeldShared, IsSized};
 ghost use Rattle.replica.specs.Laws.{IsTaken};
 ghost use Rattle.replica.specs.Replays.{IsImage, noted_place};
@@ -53,30 +54,13 @@ fn entry_of(caller: u32, words: &[u64; 145]) -> Entry
     }
 }
 
-// Whether an entry is one that may come at a place. The table rules out that it is not, and does not tell.
-fn may_come(entry: &Entry, place: u64) -> bool
-    requires { Words 144 entry.now.op }
-    ensures entry { IsTrue result → IsLawfulEntry place entry.now }
-    ensures small { IsTrue result → place < 2 ^ 40 }
-{
-    let Entry {
-        caller,
-        number,
-        op: _,
-    } = entry;
-    if *caller >= 8 || *number == 0 || place >= 1 << 40 {
-        return false;
-    }
-    *number <= place + 1
-}
-
 // Reads the entry of the place of a replica held exclusively that is the image after that place.
 fn read_next<O: Object>(
     shared: &Shared<O>,
     seat: &mut CallerSeat,
     held: &Exclusive,
     ticket: u64,
-) -> Result<Option<Entry>, Halt>
+) -> Result<Entry, Halt>
     requires held { IsHeld (O.line_count shared.now.object) shared.now (O.lawful shared.now.object) seat.old held.now }
     requires image { IsImage (O.line_count shared.now.object) (O.lawful shared.now.object) shared.now.base (O.step shared.now.object) seat.old.known }
     requires place { noted_place seat.old ≡ ticket }
@@ -84,42 +68,30 @@ fn read_next<O: Object>(
     requires later { shared.now.base.place ≤ ticket }
     ensures ready { OnOk result (IsReady (O.line_count shared.now.object) shared.now (O.lawful shared.now.object) (O.step shared.now.object) held.now ticket seat.new) }
     ensures keeps { OnOk result (Keeps seat.old seat.new) }
-    ensures noted { IfOk result (λ o. IfSome o (IsNoted seat.new.known.noted ticket)) }
-    ensures entry { IfOk result (λ o. IfSome o (IsLawfulEntry ticket)) }
-    ensures small { IfOk result (λ o. IfSome o (λ _. ticket < 2 ^ 40)) }
+    ensures entry { IfOk result (IsNotedEntry ticket seat.new) }
 {
     let mut words = [0; 145];
     let caller = entry(shared, seat, ticket, &mut words)?;
-    let next = entry_of(caller, &words);
-    if may_come(&next, ticket) {
-        Ok(Some(next))
-    } else {
-        Ok(None)
-    }
+    Ok(entry_of(caller, &words))
 }
 
-// Replays the entry with a ticket on a replica held exclusively that is the image after that place, if it is read.
+// Replays the entry with a ticket on a replica held exclusively that is the image after that place.
 fn replay_ticket<O: Object>(
     shared: &Shared<O>,
     seat: &mut CallerSeat,
     held: &Exclusive,
     ticket: u64,
-) -> Result<bool, Halt>
+) -> Result<(), Halt>
     requires held { IsHeld (O.line_count shared.now.object) shared.now (O.lawful shared.now.object) seat.old held.now }
     requires image { IsImage (O.line_count shared.now.object) (O.lawful shared.now.object) shared.now.base (O.step shared.now.object) seat.old.known }
     requires place { noted_place seat.old ≡ ticket }
     requires linked { ticket < seat.old.known.local.front }
     requires later { shared.now.base.place ≤ ticket }
-    ensures ready { IfOk result (λ done. IsTrue done → IsReady (O.line_count shared.now.object) shared.now (O.lawful shared.now.object) (O.step shared.now.object) held.now (ticket + 1) seat.new) }
-    ensures keeps { IfOk result (λ done. IsTrue done → Keeps seat.old seat.new) }
+    ensures ready { OnOk result (IsReady (O.line_count shared.now.object) shared.now (O.lawful shared.now.object) (O.step shared.now.object) held.now (ticket + 1) seat.new) }
+    ensures keeps { OnOk result (Keeps seat.old seat.new) }
 {
-    match read_next(shared, seat, held, ticket)? {
-        Some(next) => {
-            replay_one(&mut Region::of(shared, seat, held), &next)?;
-            Ok(true)
-        }
-        None => Ok(false),
-    }
+    let next = read_next(shared, seat, held, ticket)?;
+    replay_one(&mut Region::of(shared, seat, held), &next)
 }
 
 // Replays the entries from the place of a replica held exclusively up to a ticket.
@@ -129,24 +101,22 @@ fn replay_to<O: Object>(
     held: &Exclusive,
     place: u64,
     end: u64,
-) -> Result<bool, Halt>
+) -> Result<(), Halt>
     requires ready { IsReady (O.line_count shared.now.object) shared.now (O.lawful shared.now.object) (O.step shared.now.object) held.now place seat.old }
     requires linked { end ≤ seat.old.known.local.front }
     requires later { shared.now.base.place ≤ place }
     requires order { place ≤ end }
-    ensures ready { IfOk result (λ done. IsTrue done → IsReady (O.line_count shared.now.object) shared.now (O.lawful shared.now.object) (O.step shared.now.object) held.now end seat.new) }
-    ensures keeps { IfOk result (λ done. IsTrue done → Keeps seat.old seat.new) }
+    ensures ready { OnOk result (IsReady (O.line_count shared.now.object) shared.now (O.lawful shared.now.object) (O.step shared.now.object) held.now end seat.new) }
+    ensures keeps { OnOk result (Keeps seat.old seat.new) }
 {
     for ticket in place..end {
-        if !replay_ticket(shared, seat, held, ticket)? {
-            return Ok(false);
-        }
+        replay_ticket(shared, seat, held, ticket)?;
     }
-    Ok(true)
+    Ok(())
 }
 
 // Takes a replica, replays the entries up to a ticket on it, persists what was stored, and turns the right into a shared one.
-fn renew<O: Object>(
+pub(crate) fn renew<O: Object>(
     shared: &Shared<O>,
     seat: &mut CallerSeat,
     r: u64,
@@ -159,21 +129,23 @@ fn renew<O: Object>(
     requires linked { end ≤ seat.old.known.local.front }
     ensures downgraded { IfOk result (λ o. IfSome o (λ held. IsDowngradedOf shared.now.callers seat.new held)) }
     ensures of { IfOk result (λ o. IfSome o (λ held. held.replica ≡ r)) }
+    ensures seat { IfOk result (λ o. IfSome o (λ _. IsSeatOf shared.now seat.new)) }
 {
     let Some(held) = take(shared, seat, r)? else {
         return Ok(None);
     };
     let place = begin(shared, seat, &held)?;
-    if place > end || !replay_to(shared, seat, &held, place, end)? {
+    if place > end {
         return Ok(None);
     }
+    replay_to(shared, seat, &held, place, end)?;
     flush(shared, seat, &held)?;
     let (_, token) = shared.downgrade(seat, held)?;
     Ok(Some(token))
 }
 
 // A table of two callers and its seats.
-fn made<O: Object>(
+pub(crate) fn made<O: Object>(
     alloc: Global,
     object: O,
     limits: &[u64; 2],
@@ -210,7 +182,7 @@ fn two(mut seats: Vec<CallerSeat>) -> Option<(CallerSeat, CallerSeat)>
 }
 
 // A caller without entries announces an operation in its cell 0 and tries to link it.
-fn update<O: Object>(
+pub(crate) fn update<O: Object>(
     shared: &Shared<O>,
     seat: &mut CallerSeat,
     op: &[u64; 144],
@@ -299,10 +271,10 @@ fn has_words<M: Memory>(mem: &mut M, words: &[u64]) -> Result<bool, Halt>
     Ok(true)
 }
 
-const NO_LIMIT: u64 = u64::MAX;
+pub(crate) const NO_LIMIT: u64 = u64::MAX;
 
 // An operation of Tally that adds.
-fn adds(n: u64) -> [u64; 144] {
+pub(crate) fn adds(n: u64) -> [u64; 144] {
     let mut op = [0; 144];
     op[0] = n;
     op
@@ -339,10 +311,10 @@ fn own_entry_is_replayed(rt: HostRuntime) -> Result<(), Fail> {
 fn each_limit_halts_a_replay_or_not(rt: HostRuntime) -> Result<(), Fail> {
     let alloc = rt.alloc();
     let base = Base::fresh(alloc, &Tally)?;
-    // 145 words and 2 steps to link; a try and the load of the place; 146 steps for the entry; for the full step the place
-    // loaded, Tally's load and store, the number loaded and stored, the reply loaded and its first word stored, the place
-    // stored; 4 words to persist; a downgrade
-    let all = 147 + 2 + 146 + (1 + 2 + 2 + 145 + 1) + 4 + 1;
+    // the number and a word of the operation, which the cell does not have yet, and 2 steps to link; a try and the load of
+    // the place; 146 steps for the entry; for the full step the place loaded, Tally's load and store, the number loaded and
+    // stored, the reply loaded and its first word stored, the place stored; 4 words to persist; a downgrade
+    let all = 4 + 2 + 146 + (1 + 2 + 2 + 145 + 1) + 4 + 1;
     for limit in 0..=all {
         let (shared, mut first, second) = made(alloc, Tally, &[limit, NO_LIMIT], &base)?;
         let _other = second;

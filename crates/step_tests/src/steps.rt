@@ -1,9 +1,10 @@
 //! A replica is taken, stored into and persisted in part, and handed to the closing of the table while it is held.
 
-ghost use Rattle.std.specs.Prelude.{◌≡◌, ◌<◌, ◌∷◌, [], length, IfOk, IfSome, OnOk};
+ghost use Rattle.std.specs.Prelude.{◌≡◌, ◌<◌, ◌∷◌, [], length, None, IfOk, IfSome, OnOk};
 ghost use Rattle.cx_base.specs.Tally.{IsTally};
 ghost use Rattle.cx_core.specs.Base.{LawfulBase};
 ghost use Rattle.cx_core.specs.LockEvents.{CanTryExclusive};
+ghost use Rattle.cx_core.specs.RootEvents.{unanswered};
 ghost use Rattle.cx_table.specs.Running.{IsSeatOf};
 ghost use Rattle.cx_table.specs.Tokens.{IsExclusiveOf};
 
@@ -22,6 +23,7 @@ fn made(alloc: Global, limit: u64, base: &Base) -> Result<(Shared<Tally>, Caller
     ensures callers { IfOk result (λ r. r.0.callers ≡ 1) }
     ensures base { IfOk result (λ r. r.0.base ≡ base.now) }
     ensures fresh { IfOk result (λ r. CanTryExclusive 1 1 r.1.known.local) }
+    ensures unanswered { IfOk result (λ r. unanswered r.1.known.local ≡ None) }
 {
     let (shared, seats) = Shared::make(alloc, Tally, 1, &[limit], base)?;
     match only(seats) {
@@ -152,5 +154,33 @@ fn closed_while_held(rt: HostRuntime) -> Result<(), Fail> {
             assert_eq!(rt; *dirty, left.volatile[at] != left.durable[at], "{at}");
         }
     }
+    Ok(())
+}
+
+// Raises DUR by the code with which CUR opened, which answers nothing.
+fn raise_opening(shared: &Shared<Tally>, seat: &mut CallerSeat) -> Result<u64, Halt>
+    requires seat { IsSeatOf shared.now seat.old }
+    requires unanswered { unanswered seat.old.known.local ≡ None }
+{
+    let code = seat.seen_cur();
+    shared.raise(seat, code, None)
+}
+
+// A raise finds the word that it raises, and its seat's numbers are as the model says; it is allowed by the model.
+#[test]
+fn raised_by_the_opening_code(rt: HostRuntime) -> Result<(), Fail> {
+    let alloc = rt.alloc();
+    let base = Base::fresh(alloc, &Tally)?;
+    let (shared, mut seat) = made(alloc, u64::MAX, &base)?;
+    let code = seat.seen_cur();
+    let Ok(found) = raise_opening(&shared, &mut seat) else {
+        panic!(rt; "halted");
+    };
+    assert_eq!(rt; found, code);
+    assert_eq!(rt; seat.raised(), code);
+    assert_eq!(rt; seat.steps(), 1);
+    assert_eq!(rt; seat.unanswered(), None);
+    let mut model = opened(alloc, &base)?;
+    assert!(rt; steps(alloc, &mut model, Kind::Raise { code, read: None })?);
     Ok(())
 }

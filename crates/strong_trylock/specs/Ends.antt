@@ -21,3 +21,7 @@ pub record Downgrades {O : Type 0} (r : Running O) (step : O → List ℕ → Li
 pub record MakesOne {O : Type 0} (r : Running O) (step : O → List ℕ → List ℕ → List ℕ × List ℕ) (reads : O → List ℕ → Bool) (kind : Kind) (before after : Seated) : Type 0 where
   pub found : ℕ
   pub made : Steps r step reads kind found before after
+
+-- a seat but for what is downgraded and the steps
+abbrev pub but_downgraded : Seated → Seated
+but_downgraded s = record s { known = record s.known { local = record s.known.local { downgraded = None; steps = 0 } } }

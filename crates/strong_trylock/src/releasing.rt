@@ -8,7 +8,7 @@ ghost use Rattle.cx_table.specs.Fitting.{IsReplayed, IsReplayedToPlace};
 ghost use Rattle.cx_table.specs.Running.{IsSeatOf};
 ghost use Rattle.cx_table.specs.Steps.{Halts};
 ghost use Rattle.cx_table.specs.Tokens.{IsDowngradedOf, IsExclusiveOf, IsSharedOf};
-ghost use Rattle.strong_trylock.specs.Ends.{Downgrades, MakesOne};
+ghost use Rattle.strong_trylock.specs.Ends.{Downgrades, MakesOne, but_downgraded};
 ghost use Rattle.strong_trylock.specs.Held.{all_rights};
 
 use cx_base::{Halt, Object};
@@ -77,6 +77,7 @@ pub fn release_downgraded<O: Object>(
     requires held { IsDowngradedOf shared.now.callers seat.old held }
     ensures released { OnOk result (MakesOne shared.now O.step O.only_reads (BackOff held.replica) seat.old seat.new) }
     ensures rights { OnOk result (all_rights seat.new ≡ record (all_rights seat.old) { downgraded = None }) }
+    ensures rest { OnOk result (but_downgraded seat.new ≡ but_downgraded seat.old) }
     ensures halted { OnErr result (Halts shared.now seat.old seat.new) }
 {
     shared.back_off(seat, SharedRight::Downgraded(held))?;

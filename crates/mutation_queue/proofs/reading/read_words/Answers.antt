@@ -16,6 +16,7 @@ loop-i-init g c = record {
   long = c.told-into;
   within = λ n below e. absurd (omega arith);
   of = c.requires.seat;
+  fits = λ some. absurd (omega arith);
 }
 
 pub returns-in_err-into-clause-halted : goal.returns-in_err-into-clause-halted
@@ -41,6 +42,7 @@ loop-i-preserved g c =
       long = length-set c.loop-i.into i v ∙ c.loop-i.invariant.long;
       within = none_ends (c.args.cell / 16) c.args.ticket ws i c.args.seat.now c.loop-i.seat c.loop-i.invariant.seat at c.loop-i.invariant.within ok.allowed;
       of = ok.seat;
+      fits = λ some. c.in_ok-into.ensures.fits;
     }
 
 pub returns-clause-read : goal.returns-clause-read
@@ -53,3 +55,6 @@ pub returns-clause-within : goal.returns-clause-within
 returns-clause-within g c =
     let end : c.loop-i.i ≡ 145 = omega (arith, c.loop-i-test.false, c.loop-i.auto) in
     λ n below e. c.loop-i.invariant.within n (omega arith) e
+
+pub returns-clause-fits : goal.returns-clause-fits
+returns-clause-fits g c = c.loop-i.invariant.fits (omega (arith, c.loop-i-test.false, c.loop-i.auto))

@@ -1,4 +1,5 @@
 use Rattle.std.proofs.Common.{◌≡◌, ◌<◌, ◌/◌, ℕ, length, take}
+use Rattle.cx_table.specs.Fitting.{Fitting}
 use Rattle.cx_table.specs.Running.{IsSeatOf}
 use Rattle.mutation_queue.specs.Entries.{EndsAfter, with_read}
 use Rattle.mutation_queue.proofs.reading.read_words.Given as goal
@@ -10,4 +11,5 @@ invariant-loop-i g l = record {
   long : length l.into ≡ 145;
   within : (n : ℕ) → n < l.i → EndsAfter n l.fn.seat.known.local → ⊥;
   of : IsSeatOf l.shared l.seat;
+  fits : 0 < l.i → Fitting l.shared.lines (g.O.Object.lawful l.shared.object) l.shared.base l.seat.known;
 }

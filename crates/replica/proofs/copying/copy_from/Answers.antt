@@ -10,6 +10,6 @@ returns-clause-equal g c =
     let lines = g.O.Object.line_count t.object in
     let most = c.loop-at.auto.at-end in
     let least = c.loop-at-test.false in
-    let count = c.lines.ensures ∙ c.requires.exclusive.sized.lines_are in
+    let count = c.lines.ensures.value ∙ c.requires.exclusive.sized.lines_are in
     let all : c.loop-at.at ≡ region_words lines = omega (arith, most, least, count) in
     agree_equal lines (g.O.Object.lawful t.object) t.base c.loop-at.seat.known (region_words lines) refl (subst (AgreeTo c.loop-at.seat.known) all c.loop-at.invariant.agree)

@@ -1,4 +1,4 @@
-use Rattle.std.proofs.Common.{Some, subst, sym}
+use Rattle.std.proofs.Common.{subst, sym}
 use Rattle.cx_base.specs.Tally.{IsTally}
 use Rattle.cx_table.specs.Tokens.{TriedExclusive}
 use Rattle.replica.specs.Held.{IsHeld}

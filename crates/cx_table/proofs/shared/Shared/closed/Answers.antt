@@ -1,4 +1,4 @@
-use Rattle.std.proofs.Common.{◌≡◌, ◌+◌, ◌*◌, ◌∷◌, ◌++◌, ℕ, List, [], length, add-zero, sym, refl, ap, subst, ◌∙◌, arith}
+use Rattle.std.proofs.Common.{◌≡◌, ◌+◌, ◌*◌, ℕ, List, length, add-zero, sym, refl, ap, subst, ◌∙◌, arith}
 use Rattle.std.specs.Slots.{slots_len}
 use mathlib.Core.Option.{some}
 use lib.ListN.{get_elem?}
@@ -9,6 +9,7 @@ use Rattle.cx_core.specs.Merge.{history_of}
 use Rattle.cx_rule.specs.Ending.{locals_known}
 use Rattle.cx_rule.specs.Rule.{RuleHolds}
 use Rattle.cx_rule.specs.Running.{instance_at}
+use Rattle.cx_table.specs.Wins.{IsWayBy}
 use Rattle.cx_table.proofs.Closing.{leaves, same_part}
 use Rattle.cx_rule.proofs.Keeps.{key_instance}
 use Rattle.cx_table.proofs.shared.Shared.closed.Goals as goal
@@ -38,7 +39,7 @@ per_start : (n c m d : ℕ) → c ≡ d → n ≡ m → 4 + 10563 * c + n * (2 *
 per_start n c m d e f = ap (λ k. 4 + 10563 * k + n * (2 * k)) e ∙ ap (λ k. 4 + 10563 * d + k * (2 * d)) f ∙ no_row (4 + 10563 * d + m * (2 * d)) m
 
 pub returns : goal.returns
-returns g c = λ seats are knows marked.
+returns g c = λ seats are knows marked won.
     let inside = c.self.inside in
     let t = c.args.self in
     let view = c.self.view_is in
@@ -56,15 +57,14 @@ returns g c = λ seats are knows marked.
     let count = 8 * (146 + inside.lines) * (2 * inside.callers) in
     let from : c.replicas_at-from.result ≡ vol_at t.callers (length t.base.words) 0 0 = at ∙ ap (λ k. 4 + 10563 * k) callers ∙ no_row (4 + 10563 * t.callers) (length t.base.words) in
     let half : c.replicas_at-from.result + count ≡ vol_at t.callers (length t.base.words) (2 * t.callers) 0 = ap (λ n. n + count) at ∙ vol_end _ _ _ _ callers region in
-    let code = c.word.result in
     leaves t instance seats _ end.0 c.args.closing.id refl refl are held (end.1.1 ∙ ap some me) (record {
       callers = callers;
       lines = ap (λ s. s.lines) view;
       first = ap (λ s. s.base.place) view;
       published = sym (ap (λ v. v.items) c.of-2.ensures);
-      code = code;
-      chain = ap (λ v. v.items) c.of-2.ensures ∙ c.push_reserved.ensures.items ∙ ap (λ (xs : List ℕ). xs ++ code ∷ []) c.requires.published.0;
-      cur = ap (λ (ws : List ℕ). get_elem? ws 0) end.2 ∙ c.word.ensures;
+      dur = c.word.result;
+      read = ap (λ (ws : List ℕ). get_elem? ws 1) end.2 ∙ c.word.ensures;
+      chain = λ above to way. ap (λ v. v.items) c.of-2.ensures ∙ c.lead_on.ensures above to (subst (λ ws. IsWayBy ws c.word.result above to) (sym won) way);
       of = ap (λ s. s.table_id) c.of-end.ensures ∙ c.requires.table;
       base = c.of.ensures ∙ ap (λ s. s.base) view;
       locals = ap (λ s. locals_known s.me.0) c.of-end.ensures ∙ ap locals_known me;

@@ -8,7 +8,7 @@ use Rattle.cx_rule.specs.Seats.{Seated, known_of}
 use Rattle.cx_rule.proofs.Giving.{learns_downgrade}
 use Rattle.cx_table.proofs.Handing.{downgraded_now, laws_at, steps_same}
 use Rattle.cx_table.specs.Right.{Right}
-use Rattle.cx_table.proofs.MirrorLaws.{step_made}
+use Rattle.cx_table.proofs.MirrorLaws.{step_made_at}
 use Rattle.cx_table.proofs.shared.Shared.downgrade.Goals as goal
 
 pub subtract_learned-found-requires-clause-learns : goal.subtract_learned-found-requires-clause-learns
@@ -24,19 +24,19 @@ subtract_learned-found-requires-clause-learns g c =
 
 pub invariant_of-seat : goal.invariant_of-seat
 invariant_of-seat g c =
-    (step_made c.args.self.now g.O.Object.step g.O.Object.only_reads (Downgrade c.held.inside.replica) c.subtract_learned-found.result _ _ _ _ _ _ _ _ _ _ _ c.seat.invariant c.seat.view_is c.in_ok-check.ensures c.requires.seat (subst (λ (n : ℕ). IsClean c.args.self.now.callers n c.args.seat.now.known.local) (sym (ap (λ (x : Right). x.replica) c.held.view_is)) c.requires.guard)
-    c.subtract_learned-found.ensures.table c.subtract_learned-found.ensures.taught (ap (λ (r : Running _). r.callers) c.self.view_is) (c.end_exclusive.ensures.downgraded _ c.held.inside.replica c.subtract_learned-found.result) refl).0
+    (step_made_at c.args.self.now g.O.Object.step g.O.Object.only_reads (Downgrade c.held.inside.replica) c.subtract_learned-found.result _ _ _ _ _ _ _ _ _ _ c.seat.invariant c.seat.view_is c.in_ok-check.ensures c.requires.seat (subst (λ (n : ℕ). IsClean c.args.self.now.callers n c.args.seat.now.known.local) (sym (ap (λ (x : Right). x.replica) c.held.view_is)) c.requires.guard)
+    c.subtract_learned-found.ensures.table c.subtract_learned-found.ensures.taught (c.downgrade.ensures (instance_at c.args.self.now g.O.Object.step g.O.Object.only_reads) (known_of c.seat.inside.seat.me.0) c.subtract_learned-found.result (c.place.ensures ∙ c.seat.invariant.1.place) c.seat.invariant.0.is) refl).0
 
 pub returns-clause-made : goal.returns-clause-made
 returns-clause-made g c =
     steps_same (Downgrade c.held.inside.replica) (Downgrade c.args.held.replica) (ap (λ (n : ℕ). Downgrade n) (ap (λ (x : Right). x.replica) c.held.view_is))
-    (step_made c.args.self.now g.O.Object.step g.O.Object.only_reads (Downgrade c.held.inside.replica) c.subtract_learned-found.result _ _ _ _ _ _ _ _ _ _ _ c.seat.invariant c.seat.view_is c.in_ok-check.ensures c.requires.seat (subst (λ (n : ℕ). IsClean c.args.self.now.callers n c.args.seat.now.known.local) (sym (ap (λ (x : Right). x.replica) c.held.view_is)) c.requires.guard)
-    c.subtract_learned-found.ensures.table c.subtract_learned-found.ensures.taught (ap (λ (r : Running _). r.callers) c.self.view_is) (c.end_exclusive.ensures.downgraded _ c.held.inside.replica c.subtract_learned-found.result) refl).1
+    (step_made_at c.args.self.now g.O.Object.step g.O.Object.only_reads (Downgrade c.held.inside.replica) c.subtract_learned-found.result _ _ _ _ _ _ _ _ _ _ c.seat.invariant c.seat.view_is c.in_ok-check.ensures c.requires.seat (subst (λ (n : ℕ). IsClean c.args.self.now.callers n c.args.seat.now.known.local) (sym (ap (λ (x : Right). x.replica) c.held.view_is)) c.requires.guard)
+    c.subtract_learned-found.ensures.table c.subtract_learned-found.ensures.taught (c.downgrade.ensures (instance_at c.args.self.now g.O.Object.step g.O.Object.only_reads) (known_of c.seat.inside.seat.me.0) c.subtract_learned-found.result (c.place.ensures ∙ c.seat.invariant.1.place) c.seat.invariant.0.is) refl).1
 
 pub returns-clause-token : goal.returns-clause-token
 returns-clause-token g c =
-    let made = (step_made c.args.self.now g.O.Object.step g.O.Object.only_reads (Downgrade c.held.inside.replica) c.subtract_learned-found.result _ _ _ _ _ _ _ _ _ _ _ c.seat.invariant c.seat.view_is c.in_ok-check.ensures c.requires.seat (subst (λ (n : ℕ). IsClean c.args.self.now.callers n c.args.seat.now.known.local) (sym (ap (λ (x : Right). x.replica) c.held.view_is)) c.requires.guard)
-    c.subtract_learned-found.ensures.table c.subtract_learned-found.ensures.taught (ap (λ (r : Running _). r.callers) c.self.view_is) (c.end_exclusive.ensures.downgraded _ c.held.inside.replica c.subtract_learned-found.result) refl) in
+    let made = (step_made_at c.args.self.now g.O.Object.step g.O.Object.only_reads (Downgrade c.held.inside.replica) c.subtract_learned-found.result _ _ _ _ _ _ _ _ _ _ c.seat.invariant c.seat.view_is c.in_ok-check.ensures c.requires.seat (subst (λ (n : ℕ). IsClean c.args.self.now.callers n c.args.seat.now.known.local) (sym (ap (λ (x : Right). x.replica) c.held.view_is)) c.requires.guard)
+    c.subtract_learned-found.ensures.table c.subtract_learned-found.ensures.taught (c.downgrade.ensures (instance_at c.args.self.now g.O.Object.step g.O.Object.only_reads) (known_of c.seat.inside.seat.me.0) c.subtract_learned-found.result (c.place.ensures ∙ c.seat.invariant.1.place) c.seat.invariant.0.is) refl) in
     let same = (ap (λ (x : Right). x.replica) c.held.view_is) in
     let handed = downgraded_now c.args.self.now g.O.Object.step g.O.Object.only_reads c.held.inside.replica c.held.inside.caller c.subtract_learned-found.result c.args.seat.now _
     (subst (λ (n : ℕ). n < 2 * c.args.self.now.callers) (sym same) c.requires.held.few)

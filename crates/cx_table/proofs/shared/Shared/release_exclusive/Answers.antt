@@ -25,10 +25,10 @@ subtract_learned-found-requires-clause-learns g c =
 pub invariant_of-seat : goal.invariant_of-seat
 invariant_of-seat g c =
     (step_made c.args.self.now g.O.Object.step g.O.Object.only_reads (ReleaseExclusive c.held.inside.replica) c.subtract_learned-found.result _ _ _ _ _ _ _ _ _ _ _ c.seat.invariant c.seat.view_is c.in_ok-check.ensures c.requires.seat (subst (λ (n : ℕ). IsClean c.args.self.now.callers n c.args.seat.now.known.local) (sym (ap (λ (x : Right). x.replica) c.held.view_is)) c.requires.guard)
-    c.subtract_learned-found.ensures.table c.subtract_learned-found.ensures.taught (ap (λ (r : Running _). r.callers) c.self.view_is) (c.end_exclusive.ensures.released _ c.held.inside.replica c.subtract_learned-found.result) refl).0
+    c.subtract_learned-found.ensures.table c.subtract_learned-found.ensures.taught (ap (λ (r : Running _). r.callers) c.self.view_is) (c.release_exclusive.ensures _ c.held.inside.replica c.subtract_learned-found.result) refl).0
 
 pub returns-clause-made : goal.returns-clause-made
 returns-clause-made g c =
     steps_same (ReleaseExclusive c.held.inside.replica) (ReleaseExclusive c.args.held.replica) (ap (λ (n : ℕ). ReleaseExclusive n) (ap (λ (x : Right). x.replica) c.held.view_is))
     (step_made c.args.self.now g.O.Object.step g.O.Object.only_reads (ReleaseExclusive c.held.inside.replica) c.subtract_learned-found.result _ _ _ _ _ _ _ _ _ _ _ c.seat.invariant c.seat.view_is c.in_ok-check.ensures c.requires.seat (subst (λ (n : ℕ). IsClean c.args.self.now.callers n c.args.seat.now.known.local) (sym (ap (λ (x : Right). x.replica) c.held.view_is)) c.requires.guard)
-    c.subtract_learned-found.ensures.table c.subtract_learned-found.ensures.taught (ap (λ (r : Running _). r.callers) c.self.view_is) (c.end_exclusive.ensures.released _ c.held.inside.replica c.subtract_learned-found.result) refl).1
+    c.subtract_learned-found.ensures.table c.subtract_learned-found.ensures.taught (ap (λ (r : Running _). r.callers) c.self.view_is) (c.release_exclusive.ensures _ c.held.inside.replica c.subtract_learned-found.result) refl).1

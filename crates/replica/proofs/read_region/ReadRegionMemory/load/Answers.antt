@@ -3,10 +3,11 @@ use Rattle.replica.proofs.read_region.ReadRegionMemory.load.Goals as goal
 
 pub invariant_of-self : goal.invariant_of-self
 invariant_of-self g c =
-    let board = c.args.self.now.board.now in
+    let region = c.args.self.now in
+    let board = region.board.now in
     let e = c.load_shared.ensures in
-    let after = shared_after (g.T.Board.line_count board) (g.T.Board.running board) (g.T.Board.lawful board) c.args.self.now.held.now c.args.self.now.seat.now c.load_shared.new.seat c.args.at c.load_shared.result e.made e.halted c.args.self.now.of c.args.self.now.within in
-    record { of = after.0; within = after.1 }
+    let after = shared_after (g.T.Board.line_count board) (g.T.Board.running board) (g.T.Board.lawful board) region.held.now region.seat.now c.load_shared.new.seat c.args.at region.placed c.load_shared.result e.made e.halted region.of region.within region.place in
+    record { of = after.0; within = after.1; place = after.2 }
 
 pub returns-clause-stands : goal.returns-clause-stands
 returns-clause-stands g c =

@@ -1,0 +1,44 @@
+//! The step call that raises DUR, which answers the caller's entry and a read. `Halt` comes exactly where the seat's steps
+//! equal its limit, and then nothing changes.
+
+ghost use Rattle.std.specs.Prelude.{List, OnErr, OnOk, IfOk};
+ghost use Rattle.std.specs.Option.{option_copied};
+ghost use Rattle.cx_base.specs.Codes.{root_place_of};
+ghost use Rattle.cx_core.specs.declared.local.Answer.{Answer};
+ghost use Rattle.cx_core.specs.RootEvents.{CanRaise};
+ghost use Rattle.cx_rule.specs.Fitting.{Fitting};
+ghost use Rattle.cx_rule.specs.Raises.{Raises, TellsAnswers, TellsReads, op_in};
+ghost use Rattle.cx_rule.specs.Running.{IsSeatOf, instance_at};
+ghost use Rattle.cx_rule.specs.Steps.{Halts};
+
+use crate::seat::CallerSeat;
+use crate::shared::Shared;
+use cx_base::{Halt, Object};
+use cx_core::layout::DUR_AT;
+
+impl<O: Object> Shared<O> {
+    /// Raises DUR to a code, which is the one last found in CUR or the one that the caller won with. The caller's unanswered
+    /// entry is answered where its ticket is below the code's place: its reply was read in the replica that was held
+    /// exclusively, above that ticket. A read, an operation and its reply, is answered at the code's place: the reply was read in
+    /// the replica that is held shared. It gives the word found.
+    pub fn raise(
+        &self,
+        seat: &mut CallerSeat,
+        code: u64,
+        read: Option<&([u64; 144], [u64; 144])>,
+    ) -> Result<u64, Halt>
+        requires seat { IsSeatOf self.now seat.old }
+        requires guard { CanRaise (instance_at self.now O.step O.only_reads) code (op_in (option_copied read)) seat.old.known.local }
+        requires told { (answers : List Answer) × TellsAnswers self.now.lines (O.lawful self.now.object) self.now.base (O.step self.now.object) seat.old.known (root_place_of self.now.callers code) answers }
+        requires reads { TellsReads self.now.lines (O.lawful self.now.object) self.now.base (O.step self.now.object) seat.old.known (option_copied read) }
+        ensures made { IfOk result (λ _. (answers : List Answer) → TellsAnswers self.now.lines (O.lawful self.now.object) self.now.base (O.step self.now.object) seat.old.known (root_place_of self.now.callers code) answers → Raises self.now O.step O.only_reads code answers (option_copied read.entry) seat.old seat.new) }
+        ensures fits { OnOk result (Fitting self.now.lines (O.lawful self.now.object) self.now.base seat.new.known) }
+        ensures halted { OnErr result (Halts self.now seat.old seat.new) }
+    {
+        let callers = self.callers;
+        seat.mirror.check()?;
+        let found = self.raise_learned(&mut seat.seat, DUR_AT, code, read);
+        seat.mirror.raise(callers, code, read.is_some());
+        Ok(found)
+    }
+}

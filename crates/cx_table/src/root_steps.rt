@@ -1,0 +1,95 @@
+//! The step calls on the root: CUR, which names the replica that was published last, and the pins that its codes leave. A
+//! publication that wins hands out the token of the win, and the call that retires it takes that. `Halt` comes exactly where
+//! the seat's steps equal its limit, and then nothing changes.
+
+ghost use Rattle.std.specs.Prelude.{◌≡◌, OnErr, OnOk, IfOk};
+ghost use Rattle.cx_core.specs.declared.kinds.Kind.TheVariants.{LoadCur, Publish, Retire};
+ghost use Rattle.cx_rule.specs.Fitting.{Fitting};
+ghost use Rattle.cx_rule.specs.Running.{IsSeatOf, instance_at};
+ghost use Rattle.cx_rule.specs.Seats.{SeenGuard};
+ghost use Rattle.cx_rule.specs.Steps.{Halts, Steps};
+ghost use Rattle.cx_table.specs.Tokens.{HandsWon, IsDowngradedOf, IsWonOf, TriedPublish};
+
+use crate::seat::CallerSeat;
+use crate::shared::Shared;
+use crate::tokens::{Downgraded, Won};
+use cx_base::{Halt, Object, root_replica};
+use cx_core::Kind;
+use cx_core::layout::{CUR_AT, lock_at};
+
+impl<O: Object> Shared<O> {
+    /// Loads CUR: the code of the replica that was published last, and of its place.
+    pub fn load_cur(&self, seat: &mut CallerSeat) -> Result<u64, Halt>
+        requires seat { IsSeatOf self.now seat.old }
+        ensures made { IfOk result (λ found. Steps self.now O.step O.only_reads LoadCur found seat.old seat.new) }
+        ensures fits { OnOk result (Fitting self.now.lines (O.lawful self.now.object) self.now.base seat.new.known) }
+        ensures halted { OnErr result (Halts self.now seat.old seat.new) }
+    {
+        let _ = &self.table;
+        seat.mirror.check()?;
+        let found = self.load_event(&mut seat.seat, &Kind::LoadCur, CUR_AT);
+        seat.mirror.load_cur(self.callers, found);
+        Ok(found)
+    }
+
+    /// Publishes the replica that the caller has downgraded, at a place above that of the code last found in CUR, where each win
+    /// of its own is retired: a compare-exchange of CUR from that code to the replica's. It gives the code found, and where that
+    /// is the one last found before, the win, else the downgraded right back.
+    pub fn publish(
+        &self,
+        seat: &mut CallerSeat,
+        held: Downgraded,
+    ) -> Result<(u64, Result<Won, Downgraded>), Halt>
+        requires seat { IsSeatOf self.now seat.old }
+        requires held { IsDowngradedOf self.now.callers seat.old held }
+        requires guard { SeenGuard (instance_at self.now O.step O.only_reads) Publish seat.old.known.local }
+        ensures made { IfOk result (λ x. Steps self.now O.step O.only_reads Publish x.0 seat.old seat.new) }
+        ensures token { IfOk result (λ x. TriedPublish self.now.callers seat.old held seat.new x.0 x.1) }
+        ensures fits { OnOk result (Fitting self.now.lines (O.lawful self.now.object) self.now.base seat.new.known) }
+        ensures halted { OnErr result (Halts self.now seat.old seat.new) }
+    {
+        seat.mirror.check()?;
+        let seen = seat.mirror.seen_cur;
+        let code = seat.mirror.downgraded_code(self.callers);
+        let found = self.exchange_event(&mut seat.seat, &Kind::Publish, CUR_AT, seen, code);
+        seat.mirror.publish(self.callers, code, found);
+        Ok((found, won_token(code, seen, held, found)))
+    }
+
+    /// Retires a win by whose code the caller raised DUR: subtracts 1 from the lock word of the replica of the code before.
+    /// It gives the word found.
+    pub fn retire(&self, seat: &mut CallerSeat, won: Won) -> Result<u64, Halt>
+        requires seat { IsSeatOf self.now seat.old }
+        requires won { IsWonOf self.now.callers seat.old won }
+        requires guard { SeenGuard (instance_at self.now O.step O.only_reads) Retire seat.old.known.local }
+        ensures made { IfOk result (λ found. Steps self.now O.step O.only_reads Retire found seat.old seat.new) }
+        ensures halted { OnErr result (Halts self.now seat.old seat.new) }
+    {
+        let Won {
+            code: _,
+            before,
+            caller: _,
+        } = won;
+        seat.mirror.check()?;
+        let r = u64::from(root_replica(self.callers, before));
+        let word = lock_at(self.callers, r);
+        let found = self.subtract_learned(&mut seat.seat, &Kind::Retire, word, 1);
+        seat.mirror.retire();
+        Ok(found)
+    }
+}
+
+/// The token of a publication of this code that found this one.
+fn won_token(code: u64, seen: u64, held: Downgraded, found: u64) -> Result<Won, Downgraded>
+    ensures { HandsWon code seen held found result }
+{
+    if found == seen {
+        Ok(Won {
+            code,
+            before: seen,
+            caller: held.caller,
+        })
+    } else {
+        Err(held)
+    }
+}
