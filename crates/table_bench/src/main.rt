@@ -1,11 +1,12 @@
 //! Nanoseconds of the calls of the running table, on one thread and on two, and a table to be weighed from outside. With
 //! no words it does nothing. `look N T`, `announce N T` and `link N T` do a call N times on each of T threads and print
-//! the nanoseconds that it took; `table` makes a table of 8 callers and 16,384 lines, and waits for a line of input.
+//! the nanoseconds that it took. `repeat N` announces entries N times that differ by one word, and `flush N` makes a dozen words
+//! of a large replica durable N times, each on one thread; `table` makes a table of 8 callers and 16,384 lines, and waits for a line of input.
 #![tactic(auto)]
 
 mod works;
 
-use crate::works::{announces, links, looks, table};
+use crate::works::{announces, flushes, links, looks, repeats, table};
 use std::alloc::Global;
 use std::process::ExitCode;
 use std::rt::Runtime;
@@ -39,6 +40,8 @@ fn run<R: Runtime + Threads + Sync>(rt: &R, alloc: Global, words: &[String]) -> 
         "look" => looks(rt, alloc, count, two)?,
         "announce" => announces(rt, alloc, count, two)?,
         "link" => links(rt, alloc, count, two)?,
+        "repeat" => repeats(rt, alloc, count)?,
+        "flush" => flushes(rt, alloc, count)?,
         _ => return table(rt, alloc),
     };
     println!(rt; "{nanoseconds}")?;

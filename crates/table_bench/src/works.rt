@@ -2,14 +2,17 @@
 
 ghost use Rattle.std.specs.Prelude.{◌≡◌, ◌<◌, ◌≤◌, IfOk, IfSome, length};
 ghost use Rattle.cx_core.specs.QueueEvents.{IsIdle};
+ghost use Rattle.cx_core.specs.LockEvents.{CanTryExclusive};
 ghost use Rattle.cx_table.specs.Running.{IsSeatOf};
+ghost use Rattle.replica.specs.Held.{IsHeld, IsSized};
 
-use cx_base::Object;
+use cx_base::{Halt, Object};
 use cx_core::Base;
 use cx_core::layout::cell_count;
-use cx_table::{CallerSeat, Shared};
+use cx_table::{CallerSeat, Exclusive, Shared};
 use doc_store::DocStore;
 use mutation_queue::{announce, link};
+use replica::{Board, flush};
 use std::alloc::{AllocError, Global};
 use std::io;
 use std::rt::Runtime;
@@ -110,6 +113,99 @@ fn since(rt: &impl Clock, begun: Instant) -> io::Result<u64> {
             .wrapping_mul(1_000_000_000)
             .wrapping_add(u64::from(time.subsec_nanos())),
     )
+}
+
+/// Announces entries that differ by one word of their operation, so many times.
+pub fn repeats(rt: &impl Clock, alloc: Global, count: u64) -> io::Result<u64> {
+    let Ok((shared, first, _)) = made(alloc) else {
+        return Ok(0);
+    };
+    let begun = Instant::now(rt)?;
+    announce_alike(&shared, first, count);
+    since(rt, begun)
+}
+
+// Announces entries in cell 0 that differ by one word.
+fn announce_alike(shared: &Shared<DocStore>, mut seat: CallerSeat, count: u64)
+    requires seat { IsSeatOf shared.now seat }
+    requires idle { IsIdle seat.known.local 0 }
+{
+    let mut op = [7; 144];
+    for i in 0..count {
+        op[0] = i;
+        if announce(shared, &mut seat, 0, &op).is_err() {
+            return;
+        }
+    }
+}
+
+/// Stores a dozen words into a replica of 16,384 lines and makes them durable, so many times, and adds up the time of the
+/// latter alone.
+pub fn flushes(rt: &impl Clock, alloc: Global, count: u64) -> io::Result<u64> {
+    match large(alloc) {
+        Ok((shared, seat)) => flush_again(rt, &shared, seat, count),
+        Err(_) => Ok(0),
+    }
+}
+
+// Takes a replica, and makes a dozen words of it durable so many times.
+fn flush_again<O: Object>(
+    rt: &impl Clock,
+    shared: &Shared<O>,
+    mut seat: CallerSeat,
+    count: u64,
+) -> io::Result<u64>
+    requires seat { IsSeatOf shared.now seat × CanTryExclusive shared.now.callers 1 seat.known.local }
+    requires lines { O.line_count shared.now.object ≡ 16384 }
+    requires sized { IsSized (O.line_count shared.now.object) shared.now }
+{
+    let Ok((_, Some(held))) = shared.try_exclusive(&mut seat, 1) else {
+        return Ok(0);
+    };
+    let mut all = 0u64;
+    for i in 0..count {
+        if store_dozen(shared, &mut seat, &held, i).is_err() {
+            return Ok(0);
+        }
+        let begun = Instant::now(rt)?;
+        if flush(shared, &mut seat, &held).is_err() {
+            return Ok(0);
+        }
+        all = all.wrapping_add(since(rt, begun)?);
+    }
+    Ok(all)
+}
+
+// Stores a word into a dozen places of a replica held.
+fn store_dozen<O: Object>(
+    shared: &Shared<O>,
+    seat: &mut CallerSeat,
+    held: &Exclusive,
+    word: u64,
+) -> Result<(), Halt>
+    requires lines { O.line_count shared.now.object ≡ 16384 }
+    requires held { IsHeld (O.line_count shared.now.object) shared.now (O.lawful shared.now.object) seat.old held.now }
+    ensures { IsHeld (O.line_count shared.now.object) shared.now (O.lawful shared.now.object) seat.new held.now }
+{
+    for k in 0..12 {
+        shared.store_held(seat, held, 1168 + 10_007 * k, word)?;
+    }
+    Ok(())
+}
+
+// A table of one caller over a store of 16,384 lines, and its seat.
+fn large(alloc: Global) -> Result<(Shared<DocStore>, CallerSeat), AllocError>
+    ensures seat { IfOk result (λ r. IsSeatOf r.0 r.1 × CanTryExclusive r.0.callers 1 r.1.known.local) }
+    ensures lines { IfOk result (λ r. r.0.object.lines ≡ 16384) }
+    ensures sized { IfOk result (λ r. IsSized 16384 r.0) }
+{
+    let store = DocStore::of(16_384);
+    let base = Base::fresh(alloc, &store)?;
+    let (shared, mut seats) = Shared::make(alloc, store, 1, &[u64::MAX], &base)?;
+    match seats.pop() {
+        Some(seat) => Ok((shared, seat)),
+        None => Err(AllocError),
+    }
 }
 
 /// Makes a table of 8 callers and 16,384 lines, and waits for a line of input.

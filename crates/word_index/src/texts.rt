@@ -28,9 +28,10 @@ pub fn key_order(left: &Key, right: &Key) -> Ordering
     ensures { result
         ≡ key_cmp (unpacked left.now.len left.now.words) (unpacked right.now.len right.now.words) }
 {
+    // only so many bytes are unpacked as there are, since most keys are short
     let mut left_bytes = [0; 64];
     let mut right_bytes = [0; 64];
-    unpack(&left.words, &mut left_bytes);
-    unpack(&right.words, &mut right_bytes);
+    unpack(&left.words, &mut left_bytes[..left.len as usize]);
+    unpack(&right.words, &mut right_bytes[..right.len as usize]);
     left_bytes[..left.len as usize].cmp(&right_bytes[..right.len as usize])
 }
