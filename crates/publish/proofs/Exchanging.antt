@@ -1,0 +1,96 @@
+-- What an exchange of CUR, and the release of a downgraded right, leave of the seat.
+use Rattle.std.proofs.Common.{◌≡◌, ◌≢◌, ◌==◌, ◌<◌, ◌≤◌, ◌*◌, inl, inr, ℕ, Bool, true, false, cond, ap, sym, subst, ◌∙◌, refl, arith, eq-eqb, List, ◌++◌, [], append-nil, Option, Some, None, Result, Ok, Err}
+use Rattle.std.proofs.lemmas.Bool.{cases_Bool, eqb-true}
+use Rattle.std.proofs.Math.Nat.{div-lt_iff_lt-mul, le-max_left}
+use Rattle.std.proofs.lemmas.Option.{none-some}
+use Rattle.std.specs.Option.{option_map}
+use Rattle.cx_base.specs.Codes.{root_place_of}
+use Rattle.cx_core.specs.declared.kinds.Kind.TheVariants.{Publish}
+use Rattle.cx_core.specs.declared.local.HeldDowngraded.{HeldDowngraded}
+use Rattle.cx_core.specs.RootEvents.{IsAbove, outrun, published}
+use Rattle.cx_rule.specs.Running.{Running}
+use Rattle.cx_rule.specs.Seats.{Seated}
+use Rattle.cx_rule.specs.Steps.{Steps}
+use Rattle.cx_table.specs.Right.{Right, WonRight}
+use Rattle.cx_table.specs.Tokens.{TriedPublish}
+use Rattle.strong_trylock.specs.Ends.{but_downgraded}
+use Rattle.strong_trylock.specs.Held.{AllRights, all_rights}
+use Rattle.publish.specs.Publishing.{Exchanges, PassedBy, beside_publish, place_in}
+
+-- what is downgraded at a place above a code may be published
+pub may_publish : (callers code : ℕ) (o : Option HeldDowngraded) → root_place_of callers code < place_in o → IsAbove callers code o
+may_publish callers code None below = absurd (omega (arith, below))
+may_publish callers code (Some h) below = below
+
+-- a code that is below a place is below the first code of that place
+pub below_place : (callers code place : ℕ) → 1 ≤ callers → root_place_of callers code < place → code < place * (2 * callers)
+below_place callers code place some below = (div-lt_iff_lt-mul {k = 2 * callers} {x = code} {y = place} (omega (arith, some))).0 below
+
+module _ {O : Type 0} (r : Running O) (step : O → List ℕ → List ℕ → List ℕ × List ℕ) (reads : O → List ℕ → Bool) (found : ℕ) (before after : Seated) (s : Steps r step reads Publish found before after) where
+  -- the seat after the exchange, by whether it was won
+  abbrev by : Bool → Seated
+  by won = record before {
+    known = record before.known { local = cond won (published r.callers before.known.local) (outrun r.callers before.known.local found); noted = before.known.noted ++ [] };
+  }
+
+  is_by : (won : Bool) → (found == before.known.local.seen_cur) ≡ won → after ≡ by won
+  is_by won e = s.made ∙ ap by e
+
+  rest_by : (won : Bool) → beside_publish (by won) ≡ beside_publish before
+  rest_by true = ap (λ ns. (let b : Seated = record (beside_publish before) { known = record (beside_publish before).known { noted = ns } } in b)) (append-nil before.known.noted)
+  rest_by false = ap (λ ns. (let b : Seated = record (beside_publish before) { known = record (beside_publish before).known { noted = ns } } in b)) (append-nil before.known.noted)
+
+  pub exchange_rest : beside_publish after ≡ beside_publish before
+  exchange_rest = ap beside_publish s.made ∙ rest_by (found == before.known.local.seen_cur)
+
+  front_by : (won : Bool) → before.known.local.front ≤ (by won).known.local.front
+  front_by true = le-max_left before.known.local.front _
+  front_by false = le-max_left before.known.local.front _
+
+  pub exchange_front : before.known.local.front ≤ after.known.local.front
+  exchange_front = subst (λ (t : Seated). before.known.local.front ≤ t.known.local.front) (sym s.made) (front_by (found == before.known.local.seen_cur))
+
+  pub exchanged : (held : Right) (x : Result WonRight Right) → before.known.local.won ≡ None → TriedPublish r.callers before held after found x → Exchanges r.callers before after x
+  exchanged held (Ok won) none tried =
+      let is = is_by true (eq-eqb found before.known.local.seen_cur tried.0) in
+      record {
+        code = tried.2;
+        token = tried.3;
+        ended = ap (λ (t : Seated). t.known.local.downgraded) is;
+        seen = ap (λ (t : Seated). t.known.local.seen_cur) is ∙ sym tried.2;
+        stale = ap (λ (t : Seated). t.known.local.fresh) is;
+      }
+  exchanged held (Err given) none tried =
+      let lost : (found == before.known.local.seen_cur) ≡ false =
+      elim (cases_Bool (found == before.known.local.seen_cur)) [ inl e ↦ absurd (tried.0 (eqb-true found before.known.local.seen_cur e)) | inr e ↦ e ] in
+      let is = is_by false lost in
+      let seen : after.known.local.seen_cur ≡ found = ap (λ (t : Seated). t.known.local.seen_cur) is in
+      let told = s.told in
+      record {
+        token = tried.2;
+        held = ap (λ (t : Seated). t.known.local.downgraded) is;
+        none = ap (λ (t : Seated). t.known.local.won) is ∙ none;
+        later = subst (λ n. before.known.local.seen_cur < n) (sym seen) (rises found before.known.local.seen_cur told tried.0);
+        stale = ap (λ (t : Seated). t.known.local.fresh) is;
+      }
+    where
+      rises : (x y : ℕ) → y ≤ x → x ≢ y → y < x
+      rises x y least apart = elim (cases_Bool (y == x)) [ inl e ↦ absurd (apart (sym (eqb-true y x e))) | inr e ↦ omega (arith, least, e) ]
+
+-- the right was given up
+pub passed : (callers found : ℕ) (before after : Seated) → but_downgraded after ≡ but_downgraded before → all_rights after ≡ record (all_rights before) { downgraded = None } → before.known.local.won ≡ None →
+    before.known.local.seen_cur ≡ found → place_in before.known.local.downgraded ≤ root_place_of callers before.known.local.seen_cur → PassedBy callers found before after
+passed callers found before after rest rights none seen above = record {
+  seen = ap (λ (s : Seated). s.known.local.seen_cur) rest ∙ seen;
+  above = subst (λ n. place_in before.known.local.downgraded ≤ root_place_of callers n) seen above;
+  ended = no_right after.known.local.downgraded (ap (λ (a : AllRights). a.downgraded) rights);
+  none = ap (λ (s : Seated). s.known.local.won) rest ∙ none;
+  stale = λ was. ap (λ (s : Seated). s.known.local.fresh) rest ∙ was;
+}
+  where
+    no_right : (o : Option HeldDowngraded) → option_map (λ (h : HeldDowngraded). h.replica) o ≡ None → o ≡ None
+    no_right None e = refl
+    no_right (Some h) e = absurd (none-some h.replica (sym e))
+
+pub passed_rest : (before after : Seated) → but_downgraded after ≡ but_downgraded before → beside_publish after ≡ beside_publish before
+passed_rest before after rest = ap beside_publish rest

@@ -1,0 +1,67 @@
+-- What a publication comes to.
+use Rattle.std.specs.Prelude.{◌≡◌, ◌<◌, ◌≤◌, ℕ, false, Option, Some, None, Result, Ok, Err}
+use Rattle.cx_base.specs.Codes.{root_place_of}
+use Rattle.cx_core.specs.declared.local.HeldDowngraded.{HeldDowngraded}
+use Rattle.cx_core.specs.RootEvents.{code_in}
+use Rattle.cx_rule.specs.Running.{IsSeatOf, Running}
+use Rattle.cx_rule.specs.Seats.{Seated}
+use Rattle.cx_table.specs.Right.{Right, WonRight}
+use Rattle.cx_table.specs.Tokens.{IsDowngradedOf, IsWonOf}
+use Rattle.publish.specs.declared.publishing.Published.{Published}
+use Rattle.publish.specs.declared.publishing.Published.TheVariants.{Won, Passed}
+
+-- the seat but for the front, what was seen of CUR, the right that is published, the win, and the counts
+abbrev pub beside_publish : Seated → Seated
+beside_publish s = record s {
+  known = record s.known {
+    local = record s.known.local { front = 0; seen_cur = 0; fresh = false; downgraded = None; won = None; steps = 0; met = 0 };
+  };
+}
+
+-- the place of what is downgraded
+abbrev pub place_in : Option HeldDowngraded → ℕ
+place_in None = 0
+place_in (Some h) = h.place
+
+-- The caller's code was put into CUR: the pin on the replica of the code before is the win's now.
+pub record WinsCur (callers : ℕ) (before after : Seated) (won : WonRight) : Type 0 where
+  pub code : won.code ≡ code_in callers before.known.local.downgraded
+  pub token : IsWonOf callers after won
+  pub ended : after.known.local.downgraded ≡ None
+  pub seen : after.known.local.seen_cur ≡ won.code
+  pub stale : after.known.local.fresh ≡ false
+
+-- The exchange was lost to a later code: the right stands.
+pub record LosesCur (callers : ℕ) (before after : Seated) (given : Right) : Type 0 where
+  pub token : IsDowngradedOf callers after given
+  pub held : after.known.local.downgraded ≡ before.known.local.downgraded
+  pub none : after.known.local.won ≡ None
+  pub later : before.known.local.seen_cur < after.known.local.seen_cur
+  pub stale : after.known.local.fresh ≡ false
+
+-- one exchange of CUR
+abbrev pub Exchanges : ℕ → Seated → Seated → Result WonRight Right → Type 0
+Exchanges callers before after (Ok won) = WinsCur callers before after won
+Exchanges callers before after (Err given) = LosesCur callers before after given
+
+-- each exchange so far was lost
+pub record Turns {O : Type 0} (r : Running O) (first seat : Seated) (right : Right) : Type 0 where
+  pub of : IsSeatOf r seat
+  pub token : IsDowngradedOf r.callers seat right
+  pub held : seat.known.local.downgraded ≡ first.known.local.downgraded
+  pub none : seat.known.local.won ≡ None
+  pub front : first.known.local.front ≤ seat.known.local.front
+  pub rest : beside_publish seat ≡ beside_publish first
+  pub stale : first.known.local.fresh ≡ false → seat.known.local.fresh ≡ false
+
+-- a code was found in CUR whose place is not below the caller's own: the caller gave its right up
+pub record PassedBy (callers found : ℕ) (before after : Seated) : Type 0 where
+  pub seen : after.known.local.seen_cur ≡ found
+  pub above : place_in before.known.local.downgraded ≤ root_place_of callers found
+  pub ended : after.known.local.downgraded ≡ None
+  pub none : after.known.local.won ≡ None
+  pub stale : before.known.local.fresh ≡ false → after.known.local.fresh ≡ false
+
+abbrev pub Publishes : ℕ → Seated → Seated → Published → Type 0
+Publishes callers before after (Won won) = WinsCur callers before after won
+Publishes callers before after (Passed found) = PassedBy callers found before after

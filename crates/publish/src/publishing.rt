@@ -1,0 +1,101 @@
+//! A downgraded replica is put into CUR, where its place is above that of the code found there.
+
+ghost use Rattle.std.specs.Prelude.{◌≡◌, ◌<◌, ◌≤◌, None, IfOk, OnErr};
+ghost use Rattle.cx_base.specs.Codes.{root_place_of};
+ghost use Rattle.cx_rule.specs.Running.{IsSeatOf};
+ghost use Rattle.cx_rule.specs.Seats.{IsAtLimit};
+ghost use Rattle.cx_table.specs.Tokens.{IsDowngradedOf};
+ghost use Rattle.publish.specs.Publishing.{Exchanges, Publishes, beside_publish, place_in};
+
+use cx_base::{Halt, Object, root_place};
+use cx_table::{CallerSeat, Downgraded, Shared, Won};
+use strong_trylock::release_downgraded;
+
+/// What a publication came to.
+#[derive(Debug, Drop)]
+pub enum Published {
+    /// The replica is the current one. The one before stays pinned until the win is retired.
+    Won(Won),
+    /// Another published a place that is not below the caller's own: the code found.
+    Passed { found: u64 },
+}
+
+/// Publishes a replica that the caller has downgraded: a compare-exchange of CUR, which turns again where it was lost to a smaller
+/// place. `Passed` comes exactly where a code found in CUR has a place not below the replica's; then the right was given up.
+/// `Halt` comes only where the seat's steps equal its limit.
+pub fn publish<O: Object>(
+    shared: &Shared<O>,
+    seat: &mut CallerSeat,
+    held: Downgraded,
+) -> Result<Published, Halt>
+    requires seat { IsSeatOf shared.now seat.old }
+    requires held { IsDowngradedOf shared.now.callers seat.old held }
+    requires retired { seat.old.known.local.won ≡ None }
+    ensures published { IfOk result (Publishes shared.now.callers seat.old seat.new) }
+    ensures seat { IsSeatOf shared.now seat.new }
+    ensures front { seat.old.known.local.front ≤ seat.new.known.local.front }
+    ensures rest { beside_publish seat.new ≡ beside_publish seat.old }
+    ensures halts { OnErr result (IsAtLimit seat.new.known.local) }
+{
+    let callers = shared.callers();
+    let place = held_place(seat);
+    let mut held = held;
+    while root_place(callers, seat.seen_cur()) < place {
+        match exchange(shared, seat, held)? {
+            Ok(won) => return Ok(Published::Won(won)),
+            Err(given) => held = given,
+        }
+    }
+    pass(shared, seat, held)
+}
+
+/// Gives the right up where the code last found in CUR has a place not below the caller's own.
+fn pass<O: Object>(
+    shared: &Shared<O>,
+    seat: &mut CallerSeat,
+    held: Downgraded,
+) -> Result<Published, Halt>
+    requires seat { IsSeatOf shared.now seat.old }
+    requires held { IsDowngradedOf shared.now.callers seat.old held }
+    requires retired { seat.old.known.local.won ≡ None }
+    requires above { place_in seat.old.known.local.downgraded ≤ root_place_of shared.now.callers seat.old.known.local.seen_cur }
+    ensures published { IfOk result (Publishes shared.now.callers seat.old seat.new) }
+    ensures seat { IsSeatOf shared.now seat.new }
+    ensures front { seat.old.known.local.front ≤ seat.new.known.local.front }
+    ensures rest { beside_publish seat.new ≡ beside_publish seat.old }
+    ensures halts { OnErr result (IsAtLimit seat.new.known.local) }
+{
+    let found = seat.seen_cur();
+    release_downgraded(shared, seat, held)?;
+    Ok(Published::Passed { found })
+}
+
+/// One compare-exchange of CUR, by which the right is handed over, or which was lost to a later code.
+fn exchange<O: Object>(
+    shared: &Shared<O>,
+    seat: &mut CallerSeat,
+    held: Downgraded,
+) -> Result<Result<Won, Downgraded>, Halt>
+    requires seat { IsSeatOf shared.now seat.old }
+    requires held { IsDowngradedOf shared.now.callers seat.old held }
+    requires retired { seat.old.known.local.won ≡ None }
+    requires below { root_place_of shared.now.callers seat.old.known.local.seen_cur < place_in seat.old.known.local.downgraded }
+    ensures exchanged { IfOk result (Exchanges shared.now.callers seat.old seat.new) }
+    ensures seat { IsSeatOf shared.now seat.new }
+    ensures front { seat.old.known.local.front ≤ seat.new.known.local.front }
+    ensures rest { beside_publish seat.new ≡ beside_publish seat.old }
+    ensures halts { OnErr result (IsAtLimit seat.new.known.local) }
+{
+    let (_found, exchanged) = shared.publish(seat, held)?;
+    Ok(exchanged)
+}
+
+/// The place of the replica that a seat's caller has downgraded, 0 where it has none.
+fn held_place(seat: &CallerSeat) -> u64
+    ensures { result ≡ place_in seat.now.known.local.downgraded }
+{
+    match seat.downgraded() {
+        None => 0,
+        Some(held) => held.place,
+    }
+}
