@@ -1,0 +1,12 @@
+use Rattle.std.proofs.Common.{◌≡◌}
+use Rattle.cx_rule.specs.Running.{IsSeatOf}
+use Rattle.cx_turns.specs.Taking.{beside_tries}
+use Rattle.cx_turns.proofs.Refusals.{IsRefusing}
+use Rattle.cx_turns.proofs.taking.take_any.Given as goal
+
+abbrev pub invariant-loop-tried : goal.invariant-loop-tried
+invariant-loop-tried g l = record {
+  of : IsSeatOf l.shared l.seat;
+  rest : beside_tries l.seat ≡ beside_tries l.fn.seat;
+  refusing : IsRefusing l.shared.callers l.first l.tried l.fn.seat l.seat;
+}

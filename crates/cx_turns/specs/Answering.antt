@@ -1,0 +1,161 @@
+-- What a turn comes to that answers its caller's entry, and one that answers a read.
+use Rattle.std.specs.Prelude.{◌≡◌, ◌<◌, ◌≤◌, ◌⊎◌, true, false, ℕ, Bool, List, [], ◌∷◌, ◌++◌, length, slice_get, Option, Some, None}
+use Rattle.cx_base.specs.Codes.{root_place_of}
+use Rattle.cx_core.specs.declared.local.Answer.{Answer}
+use Rattle.cx_core.specs.declared.local.SeenRead.{SeenRead}
+use Rattle.cx_core.specs.RootEvents.{ShowsPlace}
+use Rattle.cx_core.specs.State.{one_more}
+use Rattle.cx_rule.specs.Raises.{TellsRead, TellsReply, known_answered}
+use Rattle.cx_rule.specs.Rule.{IsLawfulLocal}
+use Rattle.cx_rule.specs.Running.{IsSeatOf, Running, instance_at}
+use Rattle.cx_rule.specs.Seats.{IsAtLimit, Seated, unanswered_ticket}
+use Rattle.cx_turns.specs.declared.reading.Queried.{Queried}
+use Rattle.cx_turns.specs.declared.lookup.Seen.{Seen}
+use Rattle.cx_turns.specs.Turns.{IsAtRest}
+use Rattle.publish.specs.Publishing.{beside_publish, place_in}
+use Rattle.replica.specs.Held.{IsHeldShared}
+
+-- what a turn for an entry leaves as it was: what no step of a turn changes but the answered entries, the greatest code that DUR was
+-- raised by, and the floor
+abbrev pub beside_update : Seated → Seated
+beside_update s = record s {
+  known = record s.known {
+    local = record s.known.local {
+      front = 0;
+      answered = [];
+      seen_slot = None;
+      seen_cur = 0;
+      fresh = false;
+      refused = [];
+      seen_lock = None;
+      exclusive = None;
+      shared = None;
+      passer = None;
+      downgraded = None;
+      won = None;
+      raised = 0;
+      floor = 0;
+      steps = 0;
+      met = 0;
+    };
+    noted = [];
+    accesses = [];
+  };
+}
+
+-- what a turn for a read leaves as it was: the same with the answered reads in place of the answered entries
+abbrev pub beside_lookup : Seated → Seated
+beside_lookup s = record s {
+  known = record s.known {
+    local = record s.known.local {
+      front = 0;
+      seen_reads = [];
+      seen_slot = None;
+      seen_cur = 0;
+      fresh = false;
+      refused = [];
+      seen_lock = None;
+      exclusive = None;
+      shared = None;
+      passer = None;
+      downgraded = None;
+      won = None;
+      raised = 0;
+      floor = 0;
+      steps = 0;
+      met = 0;
+    };
+    noted = [];
+    accesses = [];
+  };
+}
+
+-- answers with one more, to an entry with a ticket
+abbrev pub with_answer : ℕ → List ℕ → List Answer → List Answer
+with_answer ticket reply answers = answers ++ record { ticket = ticket; reply = reply } ∷ []
+
+-- The replica that the caller has downgraded may be published for its entry with a ticket: its place is above the ticket, the reply
+-- is told, and beside it the caller is at rest.
+pub record IsReadyFor {O : Type 0} (r : Running O) (lawful : List ℕ → Type 0) (step : List ℕ → List ℕ → List ℕ × List ℕ) (ticket : ℕ) (reply : List ℕ) (seat : Seated) : Type 0 where
+  pub rest : IsAtRest (beside_publish seat).known.local
+  pub none : seat.known.local.won ≡ None
+  pub stale : seat.known.local.fresh ≡ false
+  pub above : ticket < place_in seat.known.local.downgraded
+  pub tells : TellsReply r.lines lawful r.base step seat.known ticket reply
+  pub last : unanswered_ticket seat.known.local ≡ Some ticket
+
+-- A code was published, by the caller or by another, at a place above the ticket.
+pub record IsPublishedFor {O : Type 0} (r : Running O) (lawful : List ℕ → Type 0) (step : List ℕ → List ℕ → List ℕ × List ℕ) (code ticket : ℕ) (reply : List ℕ) (seat : Seated) : Type 0 where
+  pub rest : IsAtRest (beside_publish seat).known.local
+  pub ended : seat.known.local.downgraded ≡ None
+  pub seen : code ≡ seat.known.local.seen_cur
+  pub above : ticket < root_place_of r.callers code
+  pub tells : TellsReply r.lines lawful r.base step seat.known ticket reply
+  pub last : unanswered_ticket seat.known.local ≡ Some ticket
+
+-- DUR was raised by the code, which answers the entry and nothing else.
+pub record AnswersBy {O : Type 0} (r : Running O) (step : O → List ℕ → List ℕ → List ℕ × List ℕ) (reads : O → List ℕ → Bool) (code ticket : ℕ) (reply : List ℕ) (before after : Seated) : Type 0 where
+  pub made : after ≡ record before { known = known_answered (instance_at r step reads) code (record { ticket = ticket; reply = reply } ∷ []) None before.known }
+  pub seat : IsSeatOf r after
+
+-- The caller's unanswered entry is answered with this reply, and the caller is at rest.
+pub record AnswersEntry (ticket : ℕ) (reply : List ℕ) (before after : Seated) : Type 0 where
+  pub rest : IsAtRest after.known.local
+  pub answered : after.known.local.answered ≡ with_answer ticket reply before.known.local.answered
+
+-- A refusal was met: nothing is answered, and the caller is at rest.
+pub record MeetsRefusal (before after : Seated) : Type 0 where
+  pub rest : IsAtRest after.known.local
+  pub met : after.known.local.met ≡ one_more before.known.local.met
+  pub answered : after.known.local.answered ≡ before.known.local.answered
+  pub reads : after.known.local.seen_reads ≡ before.known.local.seen_reads
+
+-- what a turn for an entry with a ticket comes to
+abbrev pub TurnsFor : ℕ → Seated → Seated → Option (List ℕ) → Type 0
+TurnsFor ticket before after (Some reply) = AnswersEntry ticket reply before after
+TurnsFor ticket before after None = MeetsRefusal before after
+
+-- The limit was come to: before the raise nothing is answered, and behind it the entry is.
+pub record HaltsFor (ticket : ℕ) (before after : Seated) : Type 0 where
+  pub limit : IsAtLimit after.known.local
+  pub answered : (after.known.local.answered ≡ before.known.local.answered) ⊎ ((reply : List ℕ) × (after.known.local.answered ≡ with_answer ticket reply before.known.local.answered))
+
+-- reads with one more, of an operation at a place, where so many entries of its caller are answered
+abbrev pub with_read : ℕ → List ℕ → List ℕ → ℕ → List SeenRead → List SeenRead
+with_read place op reply answered reads = reads ++ record { place = place; op = op; reply = reply; before = answered } ∷ []
+
+-- A read is answered at a place that is not below the floor, which rises to it, and so above each ticket and not below any place
+-- that the caller was answered before. The caller is at rest.
+pub record AnswersRead (op : List ℕ) (place : ℕ) (reply : List ℕ) (before after : Seated) : Type 0 where
+  pub rest : IsAtRest after.known.local
+  pub reads : after.known.local.seen_reads ≡ with_read place op reply (length before.known.local.answered) before.known.local.seen_reads
+  pub floor : before.known.local.floor ≤ place
+  pub above : (i : ℕ) (x : Answer) → slice_get before.known.local.answered i ≡ Some x → x.ticket < place
+  pub from : (i : ℕ) (x : SeenRead) → slice_get before.known.local.seen_reads i ≡ Some x → x.place ≤ place
+
+-- what a turn for a read comes to
+abbrev pub LooksUp : List ℕ → Seated → Seated → Option Seen → Type 0
+LooksUp op before after (Some found) = AnswersRead op found.place found.reply before after
+LooksUp op before after None = MeetsRefusal before after
+
+-- The limit was come to: before the raise no read is answered, and behind it this one is.
+pub record HaltsLookup (op : List ℕ) (before after : Seated) : Type 0 where
+  pub limit : IsAtLimit after.known.local
+  pub reads : (after.known.local.seen_reads ≡ before.known.local.seen_reads)
+      ⊎ ((place : ℕ) × (reply : List ℕ) × (after.known.local.seen_reads ≡ with_read place op reply (length before.known.local.answered) before.known.local.seen_reads))
+
+-- DUR was raised by the code last loaded from CUR, which answers the read and nothing else.
+pub record AnswersReadBy {O : Type 0} (r : Running O) (step : O → List ℕ → List ℕ → List ℕ × List ℕ) (reads : O → List ℕ → Bool) (code : ℕ) (op reply : List ℕ) (before after : Seated) : Type 0 where
+  pub made : after ≡ record before { known = known_answered (instance_at r step reads) code [] (Some (op, reply)) before.known }
+  pub lawful : IsLawfulLocal (instance_at r step reads) before.known.local
+  pub seat : IsSeatOf r after
+
+-- A read was found on the replica that the code last loaded from CUR names, and beside the shared right on it the caller is at rest,
+-- with each of its entries answered.
+pub record IsLookedUp {O : Type 0} (lines : ℕ) (r : Running O) (lawful : List ℕ → Type 0) (step : List ℕ → List ℕ → List ℕ × List ℕ) (op : List ℕ) (seat : Seated) (queried : Queried) : Type 0 where
+  pub held : IsHeldShared lines r lawful seat queried.hold
+  pub rest : IsAtRest (record seat.known.local { shared = None; fresh = false })
+  pub answered : unanswered_ticket seat.known.local ≡ None
+  pub fresh : seat.known.local.fresh ≡ true
+  pub shows : ShowsPlace r.callers seat.known.local.seen_cur seat.known.local.shared
+  pub reply : TellsRead lines lawful r.base step seat.known op queried.reply

@@ -1,0 +1,6 @@
+pub mod Turns
+pub mod Taking
+pub mod Replaying
+pub mod Preparing
+pub mod Reads
+pub mod Answering

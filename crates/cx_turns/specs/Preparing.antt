@@ -1,0 +1,34 @@
+-- A replica that is ready to be published.
+use Rattle.std.specs.Prelude.{◌≡◌, ◌<◌, ℕ, List, [], Option, Some, None}
+use Rattle.cx_core.specs.State.{one_more}
+use Rattle.cx_rule.specs.Fitting.{IsReplayedToPlace, SomeFits}
+use Rattle.cx_rule.specs.Running.{Running}
+use Rattle.cx_rule.specs.Seats.{Seated}
+use Rattle.cx_table.specs.Tokens.{IsDowngradedOf}
+use Rattle.cx_turns.specs.declared.preparing.Prepared.{Prepared}
+use Rattle.cx_turns.specs.Replaying.{ShowsReply}
+use Rattle.cx_turns.specs.Turns.{IsAtRest}
+use Rattle.replica.specs.Replays.{noted_place}
+use Rattle.strong_trylock.specs.Held.{all_rights, no_rights}
+
+-- The caller's only right is a downgraded one, on a replica that it brought up to a place above a ticket and made durable. What
+-- is noted of the replica stays noted: whatever fits it is the image after that place, with this reply to the caller.
+pub record Prepares {O : Type 0} (r : Running O) (lawful : List ℕ → Type 0) (step : List ℕ → List ℕ → List ℕ × List ℕ) (ticket : ℕ) (before after : Seated) (prepared : Prepared) : Type 0 where
+  pub token : IsDowngradedOf r.callers after prepared.held
+  pub downgraded : after.known.local.downgraded ≡ Some (record { replica = prepared.held.replica; place = noted_place after })
+  pub place : ticket < noted_place after
+  pub rights : all_rights after ≡ record no_rights { downgraded = Some prepared.held.replica }
+  pub replayed : IsReplayedToPlace r.lines lawful r.base step after.known
+  pub reply : ShowsReply r.lines lawful r.base after.known.accesses after.known.local.number prepared.reply
+  pub some : SomeFits r.lines lawful r.base after.known.accesses
+  pub refused : after.known.local.refused ≡ []
+  pub met : after.known.local.met ≡ before.known.local.met
+
+-- each replica was refused: the caller is at rest again, and a refusal was met
+pub record PreparesNone (before after : Seated) : Type 0 where
+  pub rest : IsAtRest after.known.local
+  pub met : after.known.local.met ≡ one_more before.known.local.met
+
+abbrev pub TriesPrepare : {O : Type 0} → Running O → (List ℕ → Type 0) → (List ℕ → List ℕ → List ℕ × List ℕ) → ℕ → Seated → Seated → Option Prepared → Type 0
+TriesPrepare r lawful step ticket before after (Some prepared) = Prepares r lawful step ticket before after prepared
+TriesPrepare r lawful step ticket before after None = PreparesNone before after

@@ -1,0 +1,43 @@
+-- A caller between its calls, and what no step of a turn changes before its raise.
+use Rattle.std.specs.Prelude.{◌≡◌, false, [], None}
+use Rattle.cx_core.specs.declared.local.Local.{Local}
+use Rattle.cx_core.specs.declared.local.Protection.TheVariants.{Unprotected}
+use Rattle.cx_rule.specs.Seats.{Seated}
+
+-- a caller that is in no call: it has no right, no protection and no scan, no replica is refused to it, and what it saw of CUR is
+-- not fresh
+pub record IsAtRest (l : Local) : Type 0 where
+  pub exclusive : l.exclusive ≡ None
+  pub shared : l.shared ≡ None
+  pub passer : l.passer ≡ None
+  pub downgraded : l.downgraded ≡ None
+  pub won : l.won ≡ None
+  pub protection : l.protection ≡ Unprotected
+  pub scan : l.scan ≡ None
+  pub refused : l.refused ≡ []
+  pub fresh : l.fresh ≡ false
+
+-- what no step of a turn changes before its raise: the seat but for the front, the slot last looked at, what was seen of CUR, the
+-- rights and what was tried and noted of them, and the counts of steps and refusals
+abbrev pub beside_turn : Seated → Seated
+beside_turn s = record s {
+  known = record s.known {
+    local = record s.known.local {
+      front = 0;
+      seen_slot = None;
+      seen_cur = 0;
+      fresh = false;
+      refused = [];
+      seen_lock = None;
+      exclusive = None;
+      shared = None;
+      passer = None;
+      downgraded = None;
+      won = None;
+      steps = 0;
+      met = 0;
+    };
+    noted = [];
+    accesses = [];
+  };
+}

@@ -1,0 +1,70 @@
+//! A replica is made ready to be published.
+
+ghost use Rattle.std.specs.Prelude.{◌≡◌, ◌<◌, ◌≤◌, [], IfOk, OnErr, Some};
+ghost use Rattle.cx_rule.specs.Running.{IsSeatOf};
+ghost use Rattle.cx_rule.specs.Seats.{IsAtLimit};
+ghost use Rattle.cx_turns.specs.Preparing.{Prepares, TriesPrepare};
+ghost use Rattle.cx_turns.specs.Taking.{KeepsSeen};
+ghost use Rattle.cx_turns.specs.Turns.{IsAtRest, beside_turn};
+ghost use Rattle.replica.specs.Laws.{IsTaken};
+ghost use Rattle.strong_trylock.specs.Held.{all_rights, no_rights};
+
+use crate::replaying::bring_up;
+use crate::taking::take_any;
+use cx_base::{Halt, Object};
+use cx_table::{CallerSeat, Downgraded, Exclusive, Shared};
+use strong_trylock::downgrade;
+
+/// A replica that is ready to be published.
+#[derive(Debug, Drop)]
+pub struct Prepared {
+    /// The right on it.
+    pub held: Downgraded,
+    /// The reply to the caller's last entry there.
+    pub reply: [u64; 144],
+}
+
+/// Takes a replica, whichever nobody holds, applies the queue's entries on it up to a ticket, makes it durable, and turns the
+/// right into a shared one. It gives `None` where each replica was refused. `Halt` comes only where the seat's steps equal its
+/// limit.
+pub fn prepare<O: Object>(
+    shared: &Shared<O>,
+    seat: &mut CallerSeat,
+    ticket: u64,
+) -> Result<Option<Prepared>, Halt>
+    requires seat { IsSeatOf shared.now seat.old }
+    requires rest { IsAtRest seat.old.known.local }
+    requires linked { ticket < seat.old.known.local.front }
+    ensures prepared { IfOk result (TriesPrepare shared.now (O.lawful shared.now.object) (O.step shared.now.object) ticket seat.old seat.new) }
+    ensures halted { OnErr result (IsAtLimit seat.new.known.local) }
+    ensures rest { beside_turn seat.new ≡ beside_turn seat.old }
+    ensures seen { KeepsSeen seat.old seat.new }
+    ensures seat { IsSeatOf shared.now seat.new }
+{
+    match take_any(shared, seat)? {
+        Some(held) => Ok(Some(renew(shared, seat, held, ticket)?)),
+        None => Ok(None),
+    }
+}
+
+/// Brings a replica that was just taken up to a ticket, and turns the right into a shared one.
+fn renew<O: Object>(
+    shared: &Shared<O>,
+    seat: &mut CallerSeat,
+    held: Exclusive,
+    ticket: u64,
+) -> Result<Prepared, Halt>
+    requires taken { IsTaken (O.line_count shared.now.object) shared.now (O.lawful shared.now.object) seat.old held }
+    requires free { all_rights seat.old ≡ record no_rights { exclusive = Some held.replica } }
+    requires refused { seat.old.known.local.refused ≡ [] }
+    requires linked { ticket < seat.old.known.local.front }
+    ensures prepared { IfOk result (Prepares shared.now (O.lawful shared.now.object) (O.step shared.now.object) ticket seat.old seat.new) }
+    ensures halted { OnErr result (IsAtLimit seat.new.known.local) }
+    ensures rest { beside_turn seat.new ≡ beside_turn seat.old }
+    ensures seen { KeepsSeen seat.old seat.new }
+    ensures seat { IsSeatOf shared.now seat.new }
+{
+    let reply = bring_up(shared, seat, &held, ticket)?;
+    let held = downgrade(shared, seat, held)?;
+    Ok(Prepared { held, reply })
+}

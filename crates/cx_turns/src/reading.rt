@@ -1,0 +1,134 @@
+//! The current replica is read beside the queue. `Halt` comes only where no access is left.
+
+ghost use Rattle.std.specs.Prelude.{◌≡◌, ◌^◌, ◌<◌, true, IfOk, IsTrue, OnErr, Some};
+ghost use Rattle.std.specs.List.{Contains};
+ghost use Rattle.cx_base.specs.Codes.{root_replica_of};
+ghost use Rattle.cx_base.specs.Memory.{Always, Becomes, Framed, Reads};
+ghost use Rattle.cx_core.specs.Region.{object_part, region_words};
+ghost use Rattle.cx_rule.specs.Fitting.{loaded_of};
+ghost use Rattle.cx_rule.specs.Running.{IsSeatOf};
+ghost use Rattle.cx_rule.specs.Seats.{IsAtLimit};
+ghost use Rattle.cx_rule.specs.Raises.{TellsRead};
+ghost use Rattle.cx_turns.specs.Reads.{ReadsCurrent, beside_read};
+ghost use Rattle.cx_turns.specs.Turns.{beside_turn};
+ghost use Rattle.replica.specs.Held.{IsHeldShared, beside_shared};
+ghost use Rattle.strong_trylock.specs.Held.{all_rights, no_rights};
+
+use cx_base::{Halt, Memory, Object, root_place, root_replica};
+use cx_core::{LINE_WORDS, OBJECT_START, Part};
+use cx_table::{CallerSeat, Shared, SharedHold};
+use replica::ReadRegion;
+use strong_trylock::{SharedTried, release_shared, try_shared};
+
+/// The word of a region that has the place.
+const PLACE_AT: u64 = 0;
+
+/// The answer to an operation that only reads, and the shared right under which it was found.
+#[derive(Drop)]
+pub struct Queried {
+    pub hold: SharedHold,
+    pub reply: [u64; 144],
+}
+
+/// Gives the object's reply to an operation that only reads, on the object part of a region, and stores nothing.
+pub fn query_part<O: Object, M: Memory>(
+    object: &O,
+    mem: &mut M,
+    op: &[u64; 144],
+) -> Result<[u64; 144], Halt>
+    requires size { M.size mem.old ≡ region_words (O.line_count object.now) }
+    requires small { region_words (O.line_count object.now) < 2 ^ 64 }
+    requires lawful { Always (M.stands mem.old) (λ region. O.lawful object.now (object_part region)) }
+    requires reads { IsTrue (O.only_reads object.now op.now) }
+    ensures read { IfOk result (λ reply. Reads (M.stands mem.old) (M.stands mem.new) (λ region. (O.step object.now (object_part region) op.now).1 ≡ reply)) }
+    ensures unchanged { Becomes (M.stands mem.old) (M.stands mem.new) ◌≡◌ }
+    ensures halts { OnErr result (M.left mem.new ≡ Some 0) }
+    ensures framed { Framed M.size M.fixed M.writable M.left mem.old mem.new }
+{
+    let len = LINE_WORDS * object.lines();
+    let mut part = Part {
+        inner: mem,
+        from: OBJECT_START,
+        len,
+    };
+    object.query(&mut part, op)
+}
+
+/// Gives the object's reply to an operation that only reads, on a replica held shared whose place was loaded. That the place was
+/// loaded stays known.
+pub fn query_held<O: Object>(
+    shared: &Shared<O>,
+    seat: &mut CallerSeat,
+    held: &SharedHold,
+    place: u64,
+    op: &[u64; 144],
+) -> Result<[u64; 144], Halt>
+    requires held { IsHeldShared (O.line_count shared.now.object) shared.now (O.lawful shared.now.object) seat.old held.now }
+    requires place { Contains (loaded_of seat.old.known.local.shared) (0, place) }
+    requires reads { IsTrue (O.only_reads shared.now.object op.now) }
+    ensures held { IsHeldShared (O.line_count shared.now.object) shared.now (O.lawful shared.now.object) seat.new held.now }
+    ensures place { Contains (loaded_of seat.new.known.local.shared) (0, place) }
+    ensures reply { IfOk result (λ reply. TellsRead (O.line_count shared.now.object) (O.lawful shared.now.object) shared.now.base (O.step shared.now.object) seat.new.known op.now reply) }
+    ensures rest { beside_shared held.now.replica seat.new ≡ beside_shared held.now.replica seat.old }
+    ensures halts { OnErr result (IsAtLimit seat.new.known.local) }
+{
+    let object = shared.object();
+    query_part(
+        object,
+        &mut ReadRegion::placed(shared, seat, held, place),
+        op,
+    )
+}
+
+/// Reads the replica that the code last loaded from CUR names, where nothing ended that code's use since. It takes the replica
+/// shared, loads its place, and where that is the code's place answers an operation that only reads. `None` comes exactly where
+/// another holds the replica exclusively or its place is another one. Then a refusal is met, and the caller has no right.
+pub fn read_current<O: Object>(
+    shared: &Shared<O>,
+    seat: &mut CallerSeat,
+    op: &[u64; 144],
+) -> Result<Option<Queried>, Halt>
+    requires seat { IsSeatOf shared.now seat.old }
+    requires free { all_rights seat.old ≡ no_rights }
+    requires fresh { seat.old.known.local.fresh ≡ true }
+    requires reads { IsTrue (O.only_reads shared.now.object op.now) }
+    ensures read { IfOk result (ReadsCurrent (O.line_count shared.now.object) shared.now (O.lawful shared.now.object) (O.step shared.now.object) op.now seat.old seat.new) }
+    ensures seat { IsSeatOf shared.now seat.new }
+    ensures rest { beside_turn seat.new ≡ beside_turn seat.old }
+    ensures unread { beside_read seat.new ≡ beside_read seat.old }
+    ensures halts { OnErr result (IsAtLimit seat.new.known.local) }
+{
+    let _lines = shared.lines();
+    let replica = root_replica(shared.callers(), seat.seen_cur());
+    match try_shared(shared, seat, replica)? {
+        SharedTried::Got(hold) => read_taken(shared, seat, hold, op),
+        SharedTried::Held { found: _ } => Ok(None),
+    }
+}
+
+/// The same once the replica is held shared.
+fn read_taken<O: Object>(
+    shared: &Shared<O>,
+    seat: &mut CallerSeat,
+    hold: SharedHold,
+    op: &[u64; 144],
+) -> Result<Option<Queried>, Halt>
+    requires held { IsHeldShared (O.line_count shared.now.object) shared.now (O.lawful shared.now.object) seat.old hold }
+    requires here { hold.replica ≡ root_replica_of shared.now.callers seat.old.known.local.seen_cur }
+    requires rights { all_rights seat.old ≡ record no_rights { shared = Some hold.replica } }
+    requires fresh { seat.old.known.local.fresh ≡ true }
+    requires reads { IsTrue (O.only_reads shared.now.object op.now) }
+    ensures read { IfOk result (ReadsCurrent (O.line_count shared.now.object) shared.now (O.lawful shared.now.object) (O.step shared.now.object) op.now seat.old seat.new) }
+    ensures seat { IsSeatOf shared.now seat.new }
+    ensures unread { beside_read seat.new ≡ beside_read seat.old }
+    ensures halts { OnErr result (IsAtLimit seat.new.known.local) }
+{
+    let place = root_place(shared.callers(), seat.seen_cur());
+    let found = shared.load_word(seat, hold.replica() as u64, PLACE_AT, true)?;
+    if found != place {
+        release_shared(shared, seat, hold)?;
+        return Ok(None);
+    }
+    let reply = query_held(shared, seat, &hold, place, op)?;
+    Ok(Some(Queried { hold, reply }))
+}

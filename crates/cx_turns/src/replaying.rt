@@ -1,0 +1,164 @@
+//! A replica held exclusively is brought up to a ticket by the entries of the queue.
+
+ghost use Rattle.std.specs.Prelude.{◌≡◌, ◌+◌, ◌<◌, ◌≤◌, ◌∷◌, OnErr, OnOk, IfOk, Some};
+ghost use Rattle.cx_base.specs.Memory.{Becomes, Reads};
+ghost use Rattle.cx_core.specs.Region.{slot_reply};
+ghost use Rattle.cx_rule.specs.Fitting.{Fits};
+ghost use Rattle.cx_rule.specs.Running.{IsSeatOf};
+ghost use Rattle.cx_rule.specs.Seats.{IsAtLimit, IsWithinLimit};
+ghost use Rattle.cx_turns.specs.Replaying.{IsBroughtUp, ReadsNext, ShowsReply, beside_work};
+ghost use Rattle.replica.specs.Held.{IsHeld, beside_held, left_of};
+ghost use Rattle.replica.specs.Laws.{IsTaken};
+ghost use Rattle.replica.specs.Regions.{HasPlace};
+ghost use Rattle.replica.specs.Replays.{IsImage, noted_place};
+ghost use Rattle.replica.specs.Tests.{IsReady};
+
+use cx_base::{Halt, Object};
+use cx_core::Entry;
+use cx_table::{CallerSeat, Exclusive, Shared};
+use mutation_queue::entry;
+use replica::{Region, apply, begin, flush, outcome};
+
+/// Brings a replica that was just taken up to a ticket, reads the reply to the caller's last entry there, and makes it durable.
+/// `Halt` comes only where the seat's steps equal its limit.
+pub(crate) fn bring_up<O: Object>(
+    shared: &Shared<O>,
+    seat: &mut CallerSeat,
+    held: &Exclusive,
+    ticket: u64,
+) -> Result<[u64; 144], Halt>
+    requires taken { IsTaken (O.line_count shared.now.object) shared.now (O.lawful shared.now.object) seat.old held.now }
+    requires linked { ticket < seat.old.known.local.front }
+    ensures brought { IfOk result (IsBroughtUp (O.line_count shared.now.object) shared.now (O.lawful shared.now.object) (O.step shared.now.object) held.now ticket seat.new) }
+    ensures halted { OnErr result (IsAtLimit seat.new.known.local) }
+    ensures work { beside_work seat.new ≡ beside_work seat.old }
+    ensures seat { IsSeatOf shared.now seat.new }
+{
+    begin(shared, seat, held)?;
+    replay_to(shared, seat, held, ticket)?;
+    let reply = own_outcome(shared, seat, held)?;
+    flush(shared, seat, held)?;
+    Ok(reply)
+}
+
+/// Applies the entries from the place of a replica held exclusively up to a ticket, in order, each read from the queue: where
+/// the place is above the ticket, none. The replica is the image after its place before and afterwards, and then its place is
+/// above the ticket. `Halt` comes only where the seat's steps equal its limit.
+pub fn replay_to<O: Object>(
+    shared: &Shared<O>,
+    seat: &mut CallerSeat,
+    held: &Exclusive,
+    ticket: u64,
+) -> Result<(), Halt>
+    requires held { IsHeld (O.line_count shared.now.object) shared.now (O.lawful shared.now.object) seat.old held.now }
+    requires image { IsImage (O.line_count shared.now.object) (O.lawful shared.now.object) shared.now.base (O.step shared.now.object) seat.old.known }
+    requires linked { ticket < seat.old.known.local.front }
+    ensures held { OnOk result (IsHeld (O.line_count shared.now.object) shared.now (O.lawful shared.now.object) seat.new held.now) }
+    ensures image { OnOk result (IsImage (O.line_count shared.now.object) (O.lawful shared.now.object) shared.now.base (O.step shared.now.object) seat.new.known) }
+    ensures place { OnOk result (ticket < noted_place seat.new) }
+    ensures halted { OnErr result (IsAtLimit seat.new.known.local) }
+    ensures work { beside_work seat.new ≡ beside_work seat.old }
+    ensures seat { IsSeatOf shared.now seat.new }
+{
+    // tickets are few
+    let _front = seat.front();
+    let place = seat.noted_place();
+    for at in place..ticket + 1 {
+        replay_next(shared, seat, held, at)?;
+    }
+    Ok(())
+}
+
+/// Applies the entry of the place of a replica held exclusively.
+fn replay_next<O: Object>(
+    shared: &Shared<O>,
+    seat: &mut CallerSeat,
+    held: &Exclusive,
+    at: u64,
+) -> Result<(), Halt>
+    requires ready { IsReady (O.line_count shared.now.object) shared.now (O.lawful shared.now.object) (O.step shared.now.object) held.now at seat.old }
+    requires linked { at < seat.old.known.local.front }
+    requires later { shared.now.base.place ≤ at }
+    ensures ready { OnOk result (IsReady (O.line_count shared.now.object) shared.now (O.lawful shared.now.object) (O.step shared.now.object) held.now (at + 1) seat.new) }
+    ensures halted { OnErr result (IsAtLimit seat.new.known.local) }
+    ensures work { beside_work seat.new ≡ beside_work seat.old }
+    ensures seat { IsSeatOf shared.now seat.new }
+{
+    let next = read_next(shared, seat, at)?;
+    apply(shared, seat, held, &next)
+}
+
+/// Reads the entry with a ticket, which is linked.
+fn read_next<O: Object>(
+    shared: &Shared<O>,
+    seat: &mut CallerSeat,
+    ticket: u64,
+) -> Result<Entry, Halt>
+    requires seat { IsSeatOf shared.now seat.old }
+    requires linked { ticket < seat.old.known.local.front }
+    requires later { shared.now.base.place ≤ ticket }
+    ensures read { IfOk result (λ next. ReadsNext ticket next seat.old seat.new) }
+    ensures halted { OnErr result (IsAtLimit seat.new.known.local) }
+    ensures work { beside_work seat.new ≡ beside_work seat.old }
+    ensures seat { IsSeatOf shared.now seat.new }
+{
+    let mut words = [0; 145];
+    let caller = entry(shared, seat, ticket, &mut words)?;
+    Ok(entry_of(caller, &words))
+}
+
+/// The entry of a caller, of these words.
+fn entry_of(caller: u32, words: &[u64; 145]) -> Entry
+    ensures caller { result.caller ≡ caller }
+    ensures words { result.number ∷ result.op ≡ words.now }
+{
+    let mut op = [0; 144];
+    op.copy_from_slice(&words[1..]);
+    Entry {
+        caller,
+        number: words[0],
+        op,
+    }
+}
+
+/// The reply to the caller's own last entry in a replica held exclusively, which is the image after its place. `Halt` comes
+/// only where the seat's steps equal its limit.
+pub fn own_outcome<O: Object>(
+    shared: &Shared<O>,
+    seat: &mut CallerSeat,
+    held: &Exclusive,
+) -> Result<[u64; 144], Halt>
+    requires held { IsHeld (O.line_count shared.now.object) shared.now (O.lawful shared.now.object) seat.old held.now }
+    requires image { IsImage (O.line_count shared.now.object) (O.lawful shared.now.object) shared.now.base (O.step shared.now.object) seat.old.known }
+    ensures reply { IfOk result (ShowsReply (O.line_count shared.now.object) (O.lawful shared.now.object) shared.now.base seat.new.known.accesses seat.new.known.local.number) }
+    ensures held { IsHeld (O.line_count shared.now.object) shared.now (O.lawful shared.now.object) seat.new held.now }
+    ensures image { IsImage (O.line_count shared.now.object) (O.lawful shared.now.object) shared.now.base (O.step shared.now.object) seat.new.known }
+    ensures place { noted_place seat.new ≡ noted_place seat.old }
+    ensures halted { OnErr result (IsAtLimit seat.new.known.local) }
+    ensures rest { beside_held held.now.replica seat.new ≡ beside_held held.now.replica seat.old }
+{
+    load_own(shared, seat, held)
+}
+
+/// Loads the reply to the caller's own last entry in a replica held exclusively.
+fn load_own<O: Object>(
+    shared: &Shared<O>,
+    seat: &mut CallerSeat,
+    held: &Exclusive,
+) -> Result<[u64; 144], Halt>
+    requires held { IsHeld (O.line_count shared.now.object) shared.now (O.lawful shared.now.object) seat.old held.now }
+    requires begun { HasPlace seat.old.known.accesses }
+    ensures read { IfOk result (λ reply. Reads (Fits (O.line_count shared.now.object) (O.lawful shared.now.object) shared.now.base seat.old.known.accesses) (Fits (O.line_count shared.now.object) (O.lawful shared.now.object) shared.now.base seat.new.known.accesses) (λ region. slot_reply seat.old.known.local.number region ≡ reply)) }
+    ensures unchanged { Becomes (Fits (O.line_count shared.now.object) (O.lawful shared.now.object) shared.now.base seat.old.known.accesses) (Fits (O.line_count shared.now.object) (O.lawful shared.now.object) shared.now.base seat.new.known.accesses) ◌≡◌ }
+    ensures held { IsHeld (O.line_count shared.now.object) shared.now (O.lawful shared.now.object) seat.new held.now }
+    ensures begun { HasPlace seat.new.known.accesses }
+    ensures halts { OnErr result (left_of seat.new.known.local ≡ Some 0) }
+    ensures within { IsWithinLimit seat.new.known.local }
+    ensures rest { beside_held held.now.replica seat.new ≡ beside_held held.now.replica seat.old }
+{
+    // callers are few
+    let _callers = shared.callers();
+    let caller = seat.number();
+    let (_number, reply) = outcome(&mut Region::placed(shared, seat, held), caller)?;
+    Ok(reply)
+}

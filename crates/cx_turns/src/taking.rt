@@ -1,0 +1,70 @@
+//! A caller takes a replica exclusively, whichever nobody holds.
+
+ghost use Rattle.std.specs.Prelude.{◌≡◌, ◌+◌, ◌*◌, ◌<◌, ◌≤◌, [], IfOk, OnErr};
+ghost use Rattle.cx_rule.specs.Running.{IsSeatOf};
+ghost use Rattle.cx_rule.specs.Seats.{IsAtLimit};
+ghost use Rattle.cx_turns.specs.Taking.{KeepsSeen, TakesAny, TriesOne, beside_tries};
+ghost use Rattle.cx_turns.specs.Turns.{beside_turn};
+ghost use Rattle.strong_trylock.specs.Held.{all_rights, no_rights};
+
+use cx_base::{Halt, Object};
+use cx_table::{CallerSeat, Exclusive, Shared};
+use strong_trylock::{ExclusiveTried, try_exclusive};
+
+/// Tries the replicas exclusively, one step each, from the caller's first on, rising with wrap-around, so that callers begin
+/// apart. It gives the first that nobody held, or `None` where each was refused in turn; then a refusal is met. `Halt` comes
+/// only where the seat's steps equal its limit.
+pub fn take_any<O: Object>(
+    shared: &Shared<O>,
+    seat: &mut CallerSeat,
+) -> Result<Option<Exclusive>, Halt>
+    requires seat { IsSeatOf shared.now seat.old }
+    requires free { all_rights seat.old ≡ no_rights }
+    requires refused { seat.old.known.local.refused ≡ [] }
+    ensures taken { IfOk result (λ taken. TakesAny (O.line_count shared.now.object) shared.now (O.lawful shared.now.object) seat.old seat.new taken) }
+    ensures halted { OnErr result (IsAtLimit seat.new.known.local) }
+    ensures rest { beside_turn seat.new ≡ beside_turn seat.old }
+    ensures seen { KeepsSeen seat.old seat.new }
+    ensures seat { IsSeatOf shared.now seat.new }
+{
+    let count = 2 * shared.callers();
+    let first = 2 * seat.number();
+    for tried in 0..count {
+        let r = wrapped(first + tried, count);
+        if let Some(held) = try_one(shared, seat, r)? {
+            return Ok(Some(held));
+        }
+    }
+    Ok(None)
+}
+
+/// A number below twice a count, less the count where it is not below that.
+fn wrapped(at: u32, count: u32) -> u32
+    requires { at < 2 * count }
+    ensures below { at < count → result ≡ at }
+    ensures above { count ≤ at → result + count ≡ at }
+{
+    if at < count { at } else { at - count }
+}
+
+/// Tries a replica exclusively.
+fn try_one<O: Object>(
+    shared: &Shared<O>,
+    seat: &mut CallerSeat,
+    r: u32,
+) -> Result<Option<Exclusive>, Halt>
+    requires seat { IsSeatOf shared.now seat.old }
+    requires free { all_rights seat.old ≡ no_rights }
+    requires few { r < 2 * shared.now.callers }
+    ensures tried { IfOk result (λ tried. TriesOne (O.line_count shared.now.object) shared.now (O.lawful shared.now.object) r seat.old seat.new tried) }
+    ensures halted { OnErr result (IsAtLimit seat.new.known.local) }
+    ensures rest { beside_tries seat.new ≡ beside_tries seat.old }
+    ensures seat { IsSeatOf shared.now seat.new }
+{
+    // a running table is within its limits
+    let _lines = shared.lines();
+    match try_exclusive(shared, seat, r)? {
+        ExclusiveTried::Got(held) => Ok(Some(held)),
+        ExclusiveTried::Held { found: _ } => Ok(None),
+    }
+}

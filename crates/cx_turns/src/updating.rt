@@ -1,0 +1,121 @@
+//! A turn for the caller's linked entry: a replica is prepared, published and made durable, by which the entry is answered.
+
+ghost use Rattle.std.specs.Prelude.{◌≡◌, ◌<◌, ◌≤◌, None, Some, IfOk, OnErr, OnOk};
+ghost use Rattle.cx_rule.specs.Running.{IsSeatOf};
+ghost use Rattle.cx_rule.specs.Seats.{unanswered_ticket};
+ghost use Rattle.cx_rule.specs.Steps.{Halts};
+ghost use Rattle.cx_table.specs.Tokens.{IsDowngradedOf, IsWonOf};
+ghost use Rattle.cx_turns.specs.Answering.{AnswersBy, AnswersEntry, HaltsFor, IsPublishedFor, IsReadyFor, TurnsFor, beside_update};
+ghost use Rattle.cx_turns.specs.Turns.{IsAtRest};
+
+use crate::preparing::{Prepared, prepare};
+use cx_base::{Halt, Object};
+use cx_table::{CallerSeat, Downgraded, Shared, Won};
+use publish::{Published, make_durable, publish, retire};
+
+/// One turn for the caller's entry with a ticket, which is linked and not answered. A replica that nobody holds is brought up to the
+/// ticket, made durable and published, DUR is raised by the code that won or that was found in CUR, and where it won the replica before
+/// is given up. It gives the reply, or `None` where each replica was refused. `Halt` comes only where the seat's steps equal its
+/// limit.
+pub fn update_turn<O: Object>(
+    shared: &Shared<O>,
+    seat: &mut CallerSeat,
+    ticket: u64,
+) -> Result<Option<[u64; 144]>, Halt>
+    requires seat { IsSeatOf shared.now seat.old }
+    requires rest { IsAtRest seat.old.known.local }
+    requires linked { ticket < seat.old.known.local.front }
+    requires last { unanswered_ticket seat.old.known.local ≡ Some ticket }
+    ensures turned { IfOk result (TurnsFor ticket seat.old seat.new) }
+    ensures halted { OnErr result (HaltsFor ticket seat.old seat.new) }
+    ensures rest { beside_update seat.new ≡ beside_update seat.old }
+    ensures front { seat.old.known.local.front ≤ seat.new.known.local.front }
+    ensures seat { IsSeatOf shared.now seat.new }
+{
+    let Some(prepared) = prepare(shared, seat, ticket)? else {
+        return Ok(None);
+    };
+    let Prepared { held, reply } = prepared;
+    hand_over(shared, seat, held, ticket, &reply)?;
+    Ok(Some(reply))
+}
+
+/// Publishes a replica that is ready for the caller's entry, and answers the entry.
+fn hand_over<O: Object>(
+    shared: &Shared<O>,
+    seat: &mut CallerSeat,
+    held: Downgraded,
+    ticket: u64,
+    reply: &[u64; 144],
+) -> Result<(), Halt>
+    requires seat { IsSeatOf shared.now seat.old }
+    requires held { IsDowngradedOf shared.now.callers seat.old held }
+    requires ready { IsReadyFor shared.now (O.lawful shared.now.object) (O.step shared.now.object) ticket reply.now seat.old }
+    ensures answered { OnOk result (AnswersEntry ticket reply.now seat.old seat.new) }
+    ensures halted { OnErr result (HaltsFor ticket seat.old seat.new) }
+    ensures rest { beside_update seat.new ≡ beside_update seat.old }
+    ensures front { seat.old.known.local.front ≤ seat.new.known.local.front }
+    ensures seat { IsSeatOf shared.now seat.new }
+{
+    match publish(shared, seat, held)? {
+        Published::Won(won) => settle_won(shared, seat, won, ticket, reply),
+        Published::Passed { found } => settle_passed(shared, seat, found, ticket, reply),
+    }
+}
+
+/// Answers the entry by the code that the caller won with, and gives the replica before up.
+fn settle_won<O: Object>(
+    shared: &Shared<O>,
+    seat: &mut CallerSeat,
+    won: Won,
+    ticket: u64,
+    reply: &[u64; 144],
+) -> Result<(), Halt>
+    requires seat { IsSeatOf shared.now seat.old }
+    requires won { IsWonOf shared.now.callers seat.old won }
+    requires published { IsPublishedFor shared.now (O.lawful shared.now.object) (O.step shared.now.object) won.code ticket reply.now seat.old }
+    ensures answered { OnOk result (AnswersEntry ticket reply.now seat.old seat.new) }
+    ensures halted { OnErr result (HaltsFor ticket seat.old seat.new) }
+    ensures rest { beside_update seat.new ≡ beside_update seat.old }
+    ensures front { seat.old.known.local.front ≤ seat.new.known.local.front }
+    ensures seat { IsSeatOf shared.now seat.new }
+{
+    answer(shared, seat, won.code(), ticket, reply)?;
+    retire(shared, seat, won)
+}
+
+/// Answers the entry by the code that was found in CUR.
+fn settle_passed<O: Object>(
+    shared: &Shared<O>,
+    seat: &mut CallerSeat,
+    found: u64,
+    ticket: u64,
+    reply: &[u64; 144],
+) -> Result<(), Halt>
+    requires seat { IsSeatOf shared.now seat.old }
+    requires none { seat.old.known.local.won ≡ None }
+    requires published { IsPublishedFor shared.now (O.lawful shared.now.object) (O.step shared.now.object) found ticket reply.now seat.old }
+    ensures answered { OnOk result (AnswersEntry ticket reply.now seat.old seat.new) }
+    ensures halted { OnErr result (HaltsFor ticket seat.old seat.new) }
+    ensures rest { beside_update seat.new ≡ beside_update seat.old }
+    ensures front { seat.old.known.local.front ≤ seat.new.known.local.front }
+    ensures seat { IsSeatOf shared.now seat.new }
+{
+    answer(shared, seat, found, ticket, reply)
+}
+
+/// Raises DUR by a code whose place is above the entry's ticket, which answers it.
+fn answer<O: Object>(
+    shared: &Shared<O>,
+    seat: &mut CallerSeat,
+    code: u64,
+    _ticket: u64,
+    _reply: &[u64; 144],
+) -> Result<(), Halt>
+    requires seat { IsSeatOf shared.now seat.old }
+    requires published { IsPublishedFor shared.now (O.lawful shared.now.object) (O.step shared.now.object) code _ticket _reply.now seat.old }
+    ensures answered { OnOk result (AnswersBy shared.now O.step O.only_reads code _ticket _reply.now seat.old seat.new) }
+    ensures halted { OnErr result (Halts shared.now seat.old seat.new) }
+{
+    make_durable(shared, seat, code, None)
+}
