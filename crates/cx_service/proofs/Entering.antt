@@ -1,0 +1,229 @@
+-- A caller announces an operation in the cell of its next entry, and tries to link it.
+use Rattle.std.proofs.Common.{◌≡◌, ◌≢◌, ◌+◌, ◌<◌, ◌≤◌, ℕ, false, List, [], ◌∷◌, ◌++◌, length, get_or, slice_index, slice_range, take_all, sym, ap, subst, ◌∙◌, inl, inr, arith, Some, None, length-append}
+use Rattle.std.specs.List.{slice_get}
+use Rattle.std.specs.Option.{option_map}
+use Rattle.std.proofs.Math.ListN.{get_or-eq_default}
+use Rattle.std.proofs.lemmas.Bool.{cases_eq, cases_lt}
+use Rattle.std.proofs.lemmas.List.{get_or-set_other, get_or-set_same}
+use Rattle.std.proofs.lemmas.Option.{slice_get_past}
+use Rattle.cx_base.specs.Codes.{root_place_of}
+use Rattle.cx_core.specs.declared.local.Cell.{Cell}
+use Rattle.cx_core.specs.declared.local.Linked.{Linked}
+use Rattle.cx_core.specs.QueueEvents.{cell_of, entry_in, next_number}
+use Rattle.cx_core.specs.Region.{slot_number}
+use Rattle.cx_core.proofs.Locals.{slice_get-last}
+use Rattle.cx_rule.specs.Running.{IsSeatOf, Running}
+use Rattle.cx_rule.specs.Seats.{IsAtLimit, Seated, unanswered_ticket}
+use Rattle.mutation_queue.specs.Links.{LinksAgain, LinksAt, LinksNone, IsWorn}
+use Rattle.cx_service.specs.Callers.{HasCellsInOrder, IsBetweenCalls, IsCallerOf, IsLinkedOf}
+use Rattle.cx_service.specs.Submits.{SubmitAgain, SubmitHalted, SubmitKeeps, SubmitLinked, SubmitWorn, entry_at}
+use Rattle.cx_service.proofs.Cells.{default, order_kept, order_more}
+
+-- what no step of a submit changes: the seat but for its entries, cells and steps, its front, the slot last looked at, and what was
+-- loaded from CUR
+abbrev pub beside_submit : Seated → Seated
+beside_submit s = record s { known = record s.known { local = record s.known.local { own = []; cells = []; front = 0; seen_slot = None; seen_cur = 0; fresh = false; steps = 0 } } }
+
+module _ {O : Type 0} (r : Running O) (s v : Seated) (kept : beside_submit v ≡ beside_submit s) where
+  number_kept : v.known.local.number ≡ s.known.local.number
+  number_kept = ap (λ (x : Seated). x.known.local.number) kept
+
+  pub keeps : (most : ℕ) → s.known.local.front ≤ v.known.local.front → v.known.local.steps ≤ s.known.local.steps + most → SubmitKeeps most s v
+  keeps most front steps = record {
+    number = number_kept;
+    limit = ap (λ (x : Seated). x.known.local.limit) kept;
+    answered = ap (λ (x : Seated). x.known.local.answered) kept;
+    reads = ap (λ (x : Seated). x.known.local.seen_reads) kept;
+    met = ap (λ (x : Seated). x.known.local.met) kept;
+    front = front;
+    steps = steps;
+  }
+
+  -- it is still the seat of its caller
+  pub of_kept : IsSeatOf r s → IsSeatOf r v
+  of_kept of = record {
+    table = ap (λ (x : Seated). x.table) kept ∙ of.table;
+    caller = subst (λ n. n < r.callers) (sym number_kept) of.caller;
+    before = ap (λ (x : Seated). x.before) kept ∙ of.before ∙ ap (λ n. slot_number n r.base.words) (sym number_kept);
+    region = ap (λ (x : Seated). x.region) kept ∙ of.region;
+  }
+
+  -- and its caller is in no call
+  pub between : (unanswered : ℕ) → IsCallerOf r s → v.known.local.fresh ≡ false → length v.known.local.own ≡ length s.known.local.own + unanswered → s.known.local.front ≤ v.known.local.front →
+      HasCellsInOrder r.base.place v.known.local → IsBetweenCalls unanswered r v
+  between unanswered caller fresh count front order = record {
+    of = of_kept caller.of;
+    rest = record {
+      exclusive = ap (λ (x : Seated). x.known.local.exclusive) kept ∙ caller.rest.exclusive;
+      shared = ap (λ (x : Seated). x.known.local.shared) kept ∙ caller.rest.shared;
+      passer = ap (λ (x : Seated). x.known.local.passer) kept ∙ caller.rest.passer;
+      downgraded = ap (λ (x : Seated). x.known.local.downgraded) kept ∙ caller.rest.downgraded;
+      won = ap (λ (x : Seated). x.known.local.won) kept ∙ caller.rest.won;
+      protection = ap (λ (x : Seated). x.known.local.protection) kept ∙ caller.rest.protection;
+      scan = ap (λ (x : Seated). x.known.local.scan) kept ∙ caller.rest.scan;
+      refused = ap (λ (x : Seated). x.known.local.refused) kept ∙ caller.rest.refused;
+      fresh = fresh;
+    };
+    count = (let long = ap (λ (x : Seated). length x.known.local.answered) kept in omega (arith, count, long, caller.count));
+    free = ap (λ (x : Seated). x.known.local.seen_free) kept ∙ caller.free;
+    front = omega (arith, caller.front, front);
+    cells = order;
+  }
+
+  -- a caller whose entries are all answered has none that is not
+  none_unanswered : (xs : List Linked) (n : ℕ) → length xs ≤ n → option_map (λ (x : Linked). x.ticket) (slice_get xs n) ≡ None
+  none_unanswered xs n past = ap (option_map (λ (x : Linked). x.ticket)) (slice_get_past xs n past)
+
+  pub halts : (most : ℕ) → IsCallerOf r s → v.known.local.own ≡ s.known.local.own → s.known.local.front ≤ v.known.local.front → v.known.local.steps ≤ s.known.local.steps + most → IsAtLimit v.known.local → SubmitHalted r most s v
+  halts most caller own front steps limit = record {
+    caller = record { of = of_kept caller.of; limit = limit };
+    keeps = keeps most front steps;
+    own = own;
+    none = none_unanswered v.known.local.own (length v.known.local.answered)
+        (let long = ap (λ (x : Seated). length x.known.local.answered) kept in let same = ap (λ (xs : List Linked). length xs) own in omega (arith, long, same, caller.count));
+  }
+
+-- an operation was announced in a cell
+module _ {O : Type 0} (r : Running O) (j : ℕ) (op : List ℕ) (s t : Seated) (caller : IsCallerOf r s) (next : j ≡ length s.known.local.own) (room : j < 16) (long : length op ≡ 144)
+    (cell : cell_of t.known.local j ≡ record (cell_of s.known.local j) { words = next_number r.base s.known.local ∷ op; ticket = None })
+    (others : (k : ℕ) → k ≢ j → cell_of t.known.local k ≡ cell_of s.known.local k)
+    (rest : t ≡ record s { known = record s.known { local = record s.known.local { cells = t.known.local.cells; fresh = false; steps = t.known.local.steps } } }) where
+  announced_kept : beside_submit t ≡ beside_submit s
+  announced_kept = ap beside_submit rest
+
+  -- no ticket is changed by it
+  same_tickets : (k : ℕ) → (cell_of t.known.local k).ticket ≡ (cell_of s.known.local k).ticket
+  same_tickets k =
+      elim (cases_eq k j) [
+        | inl e ↦
+            ap (λ i. (cell_of t.known.local i).ticket) e
+            ∙ ap (λ (x : Cell). x.ticket) cell
+            ∙ sym (caller.cells.further j (omega (arith, next)))
+            ∙ ap (λ i. (cell_of s.known.local i).ticket) (sym e)
+        | inr ne ↦ ap (λ (x : Cell). x.ticket) (others k ne)
+      ]
+
+  same_own : t.known.local.own ≡ s.known.local.own
+  same_own = ap (λ (x : Seated). x.known.local.own) rest
+
+  same_front : t.known.local.front ≡ s.known.local.front
+  same_front = ap (λ (x : Seated). x.known.local.front) rest
+
+  same_fresh : t.known.local.fresh ≡ false
+  same_fresh = ap (λ (x : Seated). x.known.local.fresh) rest
+
+  -- nothing was linked
+  module _ (v : Seated) (none : LinksNone t v) where
+    none_kept : beside_submit v ≡ beside_submit s
+    none_kept = ap beside_submit none.same ∙ announced_kept
+
+    none_own : v.known.local.own ≡ s.known.local.own
+    none_own = ap (λ (x : Seated). x.known.local.own) none.same ∙ same_own
+
+    none_caller : IsCallerOf r v
+    none_caller =
+        between r s v none_kept 0 caller (ap (λ (x : Seated). x.known.local.fresh) none.same ∙ same_fresh)
+        (let e = ap (λ (xs : List Linked). length xs) none_own in omega (arith, e))
+        (omega (arith, none.front, same_front))
+        (order_kept r.base.place s.known.local v.known.local caller.cells none_own (omega (arith, none.front, same_front))
+        (λ k. ap (λ (x : Seated). (cell_of x.known.local k).ticket) none.same ∙ same_tickets k))
+
+    pub halts_linking : (most : ℕ) → v.known.local.steps ≤ s.known.local.steps + most → IsAtLimit v.known.local → SubmitHalted r most s v
+    halts_linking most steps limit = halts r s v none_kept most caller none_own (omega (arith, none.front, same_front)) steps limit
+
+  pub again : (tries most : ℕ) (v : Seated) → LinksAgain r.callers tries t v → ¬ IsAtLimit s.known.local → v.known.local.steps ≤ s.known.local.steps + most → SubmitAgain r tries most s v
+  again tries most v links allowed steps = record {
+    caller = none_caller v links.none;
+    keeps = keeps r s v (none_kept v links.none) most (omega (arith, links.none.front, same_front)) steps;
+    allowed = allowed;
+    room = omega (arith, next, room);
+    own = none_own v links.none;
+    front = omega (arith, links.front, same_front);
+    cur = (let e = ap (λ (x : Seated). root_place_of r.callers x.known.local.seen_cur) links.none.same in omega (arith, e, links.cur));
+    left = links.left;
+  }
+
+  pub worn : (most : ℕ) (v : Seated) → IsWorn t v → ¬ IsAtLimit s.known.local → v.known.local.steps ≤ s.known.local.steps + most → SubmitWorn r most s v
+  worn most v links allowed steps = record {
+    caller = none_caller v links.none;
+    keeps = keeps r s v (none_kept v links.none) most (omega (arith, links.none.front, same_front)) steps;
+    allowed = allowed;
+    room = omega (arith, next, room);
+    own = none_own v links.none;
+    front = links.front;
+  }
+
+  -- the entry was linked
+  module _ (ticket : ℕ) (v : Seated) (at : LinksAt j ticket t v) where
+    at_kept : beside_submit v ≡ beside_submit s
+    at_kept = ap beside_submit at.same ∙ announced_kept
+
+    entry_is : entry_in t.known.local j ≡ (entry_at r s.known.local op ticket).entry
+    entry_is =
+        let words : (cell_of t.known.local j).words ≡ next_number r.base s.known.local ∷ op = ap (λ (x : Cell). x.words) cell in
+        let e = λ (c n : ℕ) (o : List ℕ). (let x : Linked = record { ticket = ticket; entry = record { caller = c; number = n; op = o } } in x.entry) in
+        ap (λ c. e c (slice_index (cell_of t.known.local j).words 0) (slice_range (cell_of t.known.local j).words 1 145)) (ap (λ (x : Seated). x.known.local.number) rest)
+        ∙ ap (λ ws. e s.known.local.number (slice_index ws 0) (slice_range ws 1 145)) words
+        ∙ ap (λ o. e s.known.local.number (next_number r.base s.known.local) o) (take_all 144 op (omega (arith, long)))
+
+    at_own : v.known.local.own ≡ s.known.local.own ++ entry_at r s.known.local op ticket ∷ []
+    at_own =
+        at.own
+        ∙ ap (λ (xs : List Linked). xs ++ record { ticket = ticket; entry = entry_in t.known.local j } ∷ []) same_own
+        ∙ ap (λ x. s.known.local.own ++ (let y : Linked = record { ticket = ticket; entry = x } in y) ∷ []) entry_is
+
+    -- the cell is there, since it has words
+    there : j < length t.known.local.cells
+    there =
+        elim (cases_lt j (length t.known.local.cells)) [
+          | inl within ↦ within
+          | inr past ↦ (
+              let no : cell_of t.known.local j ≡ default = get_or-eq_default t.known.local.cells default past in
+              let words : [] ≡ next_number r.base s.known.local ∷ op = ap (λ (x : Cell). x.words) (sym no ∙ cell) in
+              let e = ap (λ (xs : List ℕ). length xs) words in
+              absurd (omega (arith, e)))
+        ]
+
+    at_here : (cell_of v.known.local j).ticket ≡ Some ticket
+    at_here =
+        ap (λ cells. (get_or cells j default).ticket) at.cells
+        ∙ ap (λ (x : Cell). x.ticket) (get_or-set_same t.known.local.cells j (record (cell_of t.known.local j) { ticket = Some ticket }) default there)
+
+    at_others : (k : ℕ) → k ≢ j → (cell_of v.known.local k).ticket ≡ (cell_of s.known.local k).ticket
+    at_others k ne =
+        ap (λ cells. (get_or cells k default).ticket) at.cells
+        ∙ ap (λ (x : Cell). x.ticket) (get_or-set_other t.known.local.cells j k (record (cell_of t.known.local j) { ticket = Some ticket }) default ne)
+        ∙ same_tickets k
+
+    at_order : HasCellsInOrder r.base.place v.known.local
+    at_order =
+        order_more r.base.place s.known.local v.known.local (entry_at r s.known.local op ticket) caller.cells caller.front (omega (arith, next, room)) at_own (omega (arith, at.from, same_front)) at.front
+        (λ k ne. at_others k (λ e. ne (e ∙ next)))
+        (ap (λ i. (cell_of v.known.local i).ticket) (sym next) ∙ at_here)
+
+    at_caller : IsLinkedOf r v
+    at_caller =
+        between r s v at_kept 1 caller (ap (λ (x : Seated). x.known.local.fresh) at.same ∙ same_fresh)
+        (ap (λ (xs : List Linked). length xs) at_own ∙ length-append s.known.local.own (entry_at r s.known.local op ticket ∷ []))
+        (omega (arith, at.from, at.front, same_front))
+        at_order
+
+    at_lends : unanswered_ticket v.known.local ≡ Some ticket
+    at_lends =
+        let e : length v.known.local.answered ≡ length s.known.local.own = (let same = ap (λ (x : Seated). length x.known.local.answered) at_kept in omega (arith, same, caller.count)) in
+        ap (λ n. option_map (λ (x : Linked). x.ticket) (slice_get v.known.local.own n)) e
+        ∙ ap (λ (xs : List Linked). option_map (λ (x : Linked). x.ticket) (slice_get xs (length s.known.local.own))) at_own
+        ∙ ap (option_map (λ (x : Linked). x.ticket)) (slice_get-last s.known.local.own (entry_at r s.known.local op ticket))
+
+  pub linked_at : (ticket most : ℕ) (v : Seated) → LinksAt j ticket t v → ¬ IsAtLimit s.known.local → v.known.local.steps ≤ s.known.local.steps + most → SubmitLinked r op most s v
+  linked_at ticket most v at allowed steps = record {
+    caller = at_caller ticket v at;
+    keeps = keeps r s v (at_kept ticket v at) most (omega (arith, at.from, at.front, same_front)) steps;
+    allowed = allowed;
+    room = omega (arith, next, room);
+    ticket = ticket;
+    lends = at_lends ticket v at;
+    own = at_own ticket v at;
+    from = omega (arith, at.from, same_front);
+    front = at.front;
+  }

@@ -1,0 +1,7 @@
+pub mod Announced
+pub mod Cells
+pub mod Entering
+pub mod Looking
+pub mod Starting
+pub mod Turning
+pub mod Updating

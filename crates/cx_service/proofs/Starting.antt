@@ -1,0 +1,59 @@
+-- Callers as they are made.
+use Rattle.std.proofs.Common.{◌≡◌, ◌<◌, ℕ, List, length, get_or, map, replicate, refl, sym, ap, subst, ◌∙◌, inl, inr, arith, All, None}
+use Rattle.std.specs.List.{range_with_len}
+use Rattle.std.proofs.Math.ListN.{get_or-eq_default}
+use Rattle.std.proofs.lemmas.Bool.{cases_lt}
+use Rattle.std.proofs.lemmas.List.{get_or-replicate, length-replicate}
+use Rattle.std.proofs.lemmas.List.FromFn.{get_or-map-range_with_len, length-map-range_with_len}
+use Rattle.std.proofs.lemmas.Option.{none-some}
+use Rattle.cx_core.specs.declared.local.Cell.{Cell}
+use Rattle.cx_core.specs.State.{blank_cell}
+use Rattle.cx_rule.specs.Running.{IsSeatOf, Running}
+use Rattle.cx_rule.specs.Seats.{Seated}
+use Rattle.cx_table.specs.Remains.{opening_seat}
+use Rattle.cx_service.specs.Callers.{IsCallerOf}
+use Rattle.cx_service.proofs.Cells.{default}
+
+-- a cell never written has no ticket
+blank_ticket : (j : ℕ) → (get_or (replicate 16 blank_cell) j default).ticket ≡ None
+blank_ticket j =
+    elim (cases_lt j 16) [
+      | inl within ↦ ap (λ (x : Cell). x.ticket) (get_or-replicate 16 j blank_cell default within)
+      | inr past ↦ ap (λ (x : Cell). x.ticket) (get_or-eq_default (replicate 16 blank_cell) default (omega (arith, length-replicate 16 blank_cell)))
+    ]
+
+opened : {O : Type 0} (r : Running O) (limits : List ℕ) (k : ℕ) → IsSeatOf r (opening_seat r limits k) → IsCallerOf r (opening_seat r limits k)
+opened r limits k of = record {
+  of = of;
+  rest = record {
+    exclusive = refl;
+    shared = refl;
+    passer = refl;
+    downgraded = refl;
+    won = refl;
+    protection = refl;
+    scan = refl;
+    refused = refl;
+    fresh = refl;
+  };
+  count = refl;
+  free = refl;
+  front = omega arith;
+  cells = record {
+    few = omega arith;
+    held = λ i x there. absurd (none-some x there);
+    further = λ j past. blank_ticket j;
+    from = λ i x there. absurd (none-some x there);
+    to = λ i x there. absurd (none-some x there);
+    rise = λ i j x y a b less. absurd (none-some x a);
+  };
+}
+
+-- each caller of a new service has no call under way
+pub each_opened : {O : Type 0} (r : Running O) (limits : List ℕ) (seats : List Seated) → seats ≡ map (opening_seat r limits) (range_with_len 0 r.callers) → All (IsSeatOf r) seats → All (IsCallerOf r) seats
+each_opened r limits seats is of =
+    λ k d below. (
+    let f = opening_seat r limits in
+    let within : k < r.callers = omega (arith, below, ap length is, length-map-range_with_len f 0 r.callers) in
+    let at : get_or seats k d ≡ f k = ap (λ (xs : List Seated). get_or xs k d) is ∙ get_or-map-range_with_len f 0 r.callers k k d within (omega arith) in
+    subst (IsCallerOf r) (sym at) (opened r limits k (subst (IsSeatOf r) at (of k d below))))

@@ -1,0 +1,115 @@
+-- What submits and drives come to one after another.
+use Rattle.std.proofs.Common.{◌≡◌, ◌+◌, inl, inr, ℕ, List, [], ◌∷◌, ◌++◌, length, refl, ap, sym, ◌∙◌}
+use Rattle.std.proofs.lemmas.Option.{same_Some}
+use Rattle.std.specs.List.{slice_get}
+use Rattle.cx_core.specs.declared.local.Answer.{Answer}
+use Rattle.cx_core.specs.declared.local.Linked.{Linked as OwnEntry}
+use Rattle.cx_core.specs.Region.{slot_number}
+use Rattle.cx_rule.specs.Running.{Running}
+use Rattle.cx_rule.specs.Seats.{Seated}
+use Rattle.cx_service.specs.declared.submit.FullNote.{FullNote}
+use Rattle.cx_service.specs.Drives.{DriveDone, DriveHalted}
+use Rattle.cx_service.specs.Submits.{IsLeastTicket, SubmitAgain, SubmitFull, SubmitHalted, SubmitLinked, SubmitWorn, entry_at}
+use Rattle.cx_service.specs.Lookups.{ReadHalted, ReadPending}
+use Rattle.cx_service.specs.declared.update.ReadDone.{ReadDone}
+use Rattle.cx_service.specs.declared.update.ReadDone.TheVariants.{Read, Queued, Full as FullRead, Worn as WornRead, Halted as HaltedRead}
+use Rattle.cx_service.specs.Updates.{KeepsLists, LinksEntry, QueuesRead, ReadStops, ReadsInAll, UpdateDone, UpdateFull, UpdateHalted, UpdateWorn}
+use Rattle.cx_turns.specs.Answering.{with_answer}
+
+pub keeps_all : (s : Seated) → KeepsLists s s
+keeps_all s = record { number = refl; limit = refl; own = refl; answered = refl; reads = refl }
+
+module _ {O : Type 0} (r : Running O) (op : List ℕ) (s u : Seated) (same : KeepsLists s u) where
+  -- the caller's next entry is the same
+  same_entry : (ticket : ℕ) → entry_at r u.known.local op ticket ≡ entry_at r s.known.local op ticket
+  same_entry ticket =
+      ap (λ (n : ℕ). (let e : OwnEntry = record { ticket = ticket; entry = record { caller = n; number = slot_number n r.base.words + length u.known.local.own + 1; op = op } } in e)) same.number
+      ∙ ap (λ (xs : List OwnEntry). (let e : OwnEntry = record { ticket = ticket; entry = record { caller = s.known.local.number; number = slot_number s.known.local.number r.base.words + length xs + 1; op = op } } in e)) same.own
+
+  pub again_keeps : (tries most : ℕ) (v : Seated) → SubmitAgain r tries most u v → KeepsLists s v
+  again_keeps tries most v a = record {
+    number = a.keeps.number ∙ same.number;
+    limit = a.keeps.limit ∙ same.limit;
+    own = a.own ∙ same.own;
+    answered = a.keeps.answered ∙ same.answered;
+    reads = a.keeps.reads ∙ same.reads;
+  }
+
+  least_kept : (ticket : ℕ) → IsLeastTicket u.known.local ticket → IsLeastTicket s.known.local ticket
+  least_kept ticket l = record {
+    index = l.index;
+    entry = l.entry;
+    here = ap (λ (xs : List OwnEntry). slice_get xs l.index) (sym same.own) ∙ l.here;
+    is = l.is;
+    least = λ i x at. l.least i x (ap (λ (xs : List OwnEntry). slice_get xs i) same.own ∙ at);
+  }
+
+  pub update_full : (most : ℕ) (v : Seated) (note : FullNote) → SubmitFull r most u v note → UpdateFull r s v note
+  update_full most v note f = record {
+    caller = f.caller;
+    keeps = record { number = f.keeps.number ∙ same.number; limit = f.keeps.limit ∙ same.limit; own = f.own ∙ same.own; answered = f.keeps.answered ∙ same.answered; reads = f.keeps.reads ∙ same.reads };
+    full = ap (λ (xs : List OwnEntry). length xs) (sym same.own) ∙ f.full;
+    names = record { holder = f.names.holder ∙ same.number; need = f.names.need; ticket = least_kept note.ticket f.names.ticket };
+  }
+
+  pub update_worn : (most : ℕ) (v : Seated) → SubmitWorn r most u v → UpdateWorn r s v
+  update_worn most v w = record {
+    caller = w.caller;
+    keeps = record { number = w.keeps.number ∙ same.number; limit = w.keeps.limit ∙ same.limit; own = w.own ∙ same.own; answered = w.keeps.answered ∙ same.answered; reads = w.keeps.reads ∙ same.reads };
+    front = w.front;
+  }
+
+  pub update_halted : (most : ℕ) (v : Seated) → SubmitHalted r most u v → UpdateHalted r op s v
+  update_halted most v h = record {
+    caller = h.caller;
+    number = h.keeps.number ∙ same.number;
+    lists = inl (record { number = h.keeps.number ∙ same.number; limit = h.keeps.limit ∙ same.limit; own = h.own ∙ same.own; answered = h.keeps.answered ∙ same.answered; reads = h.keeps.reads ∙ same.reads });
+  }
+
+  -- an entry that was linked, and driven on
+  module _ (most : ℕ) (l v : Seated) (linked : SubmitLinked r op most u l) where
+    links : (ticket : ℕ) → ticket ≡ linked.ticket → v.known.local.number ≡ l.known.local.number → v.known.local.limit ≡ l.known.local.limit → v.known.local.own ≡ l.known.local.own → v.known.local.seen_reads ≡ l.known.local.seen_reads →
+        LinksEntry r op ticket s v
+    links ticket is number limit own reads = record {
+      number = number ∙ linked.keeps.number ∙ same.number;
+      limit = limit ∙ linked.keeps.limit ∙ same.limit;
+      own = own ∙ linked.own ∙ ap (λ (xs : List OwnEntry). xs ++ entry_at r u.known.local op linked.ticket ∷ []) same.own
+          ∙ ap (λ (x : OwnEntry). s.known.local.own ++ x ∷ []) (same_entry linked.ticket ∙ ap (entry_at r s.known.local op) (sym is));
+      reads = reads ∙ linked.keeps.reads ∙ same.reads;
+    }
+
+    before_answered : l.known.local.answered ≡ s.known.local.answered
+    before_answered = linked.keeps.answered ∙ same.answered
+
+    pub update_done : (answer : Answer) → DriveDone r l v answer → UpdateDone r op s v answer
+    update_done answer d = record {
+      caller = d.caller;
+      links = links answer.ticket (same_Some answer.ticket linked.ticket (sym d.ticket ∙ linked.lends)) d.keeps.number d.keeps.limit d.keeps.own d.keeps.reads;
+      answered = d.answered ∙ ap (with_answer answer.ticket answer.reply) before_answered;
+    }
+
+    pub drive_halted : DriveHalted r l v → UpdateHalted r op s v
+    drive_halted h = record {
+      caller = h.caller;
+      number = h.keeps.number ∙ linked.keeps.number ∙ same.number;
+      lists = inr (record {
+        ticket = h.ticket;
+        links = links h.ticket (same_Some h.ticket linked.ticket (sym h.is ∙ linked.lends)) h.keeps.number h.keeps.limit h.keeps.own h.keeps.reads;
+        answered = elim h.answered [
+          | inl none ↦ inl (none ∙ before_answered)
+          | inr one ↦ inr (one.0, one.1 ∙ ap (with_answer h.ticket one.0) before_answered)
+        ];
+      });
+    }
+
+-- a read that was refused beside the queue, and entered it
+pub queued : {O : Type 0} (r : Running O) (op : List ℕ) (s u : Seated) (d : ReadDone) → ReadPending r 8 s u → QueuesRead r op u d → ReadsInAll r op s d
+queued r op s u (Read v seen) refused entered = absurd entered
+queued r op s u (Queued v answer) refused entered = record { refused = u; pending = refused; entered = entered }
+queued r op s u (FullRead v note) refused entered = record { refused = u; pending = refused; entered = entered }
+queued r op s u (WornRead v) refused entered = record { refused = u; pending = refused; entered = entered }
+queued r op s u (HaltedRead v) refused entered =
+    record { caller = entered.caller; number = entered.number ∙ refused.keeps.number; lists = inr (record { refused = u; pending = refused; entered = entered }) }
+
+pub read_stops : {O : Type 0} (r : Running O) (op : List ℕ) (s v : Seated) → ReadHalted r op s v → ReadStops r op s v
+read_stops r op s v h = record { caller = h.caller; number = h.keeps.number; lists = inl h }

@@ -1,0 +1,7 @@
+use Rattle.cx_service.specs.Callers.{IsCallerOf}
+use Rattle.cx_service.specs.Updates.{KeepsLists}
+use Rattle.cx_service.proofs.service.Service.update.Given as goal
+
+-- the caller is in no call, and its lists are as they were
+abbrev pub invariant-loop : goal.invariant-loop
+invariant-loop g l = record { caller : IsCallerOf l.self l.caller; keeps : KeepsLists l.fn.caller l.caller }

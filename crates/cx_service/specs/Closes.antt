@@ -1,0 +1,15 @@
+-- The callers that are handed to the closing of a service.
+use Rattle.std.specs.Prelude.{List, map}
+use Rattle.cx_rule.specs.Seats.{Seated}
+use Rattle.cx_service.specs.declared.close.Handed.{Handed}
+use Rattle.cx_service.specs.declared.close.Handed.TheVariants.{Idle, Linked, Stopped}
+
+-- the seat of a caller, in whatever state it is
+abbrev pub seat_of : Handed → Seated
+seat_of (Idle seat) = seat
+seat_of (Linked seat) = seat
+seat_of (Stopped seat) = seat
+
+-- the seats of callers
+abbrev pub seats_of : List Handed → List Seated
+seats_of callers = map seat_of callers

@@ -1,0 +1,49 @@
+-- What driving a linked entry comes to.
+use Rattle.std.specs.Prelude.{◌≡◌, ◌+◌, ◌≤◌, ◌⊎◌, ℕ, List, Some}
+use Rattle.cx_core.specs.declared.local.Answer.{Answer}
+use Rattle.cx_core.specs.Layout.{max_word}
+use Rattle.cx_rule.specs.Running.{Running}
+use Rattle.cx_rule.specs.Seats.{Seated, unanswered_ticket}
+use Rattle.cx_service.specs.declared.drive.Driven.{Driven}
+use Rattle.cx_service.specs.declared.drive.Driven.TheVariants.{Done, Pending, Halted}
+use Rattle.cx_service.specs.Callers.{IsCallerOf, IsLinkedOf, IsStoppedOf}
+use Rattle.cx_turns.specs.Answering.{with_answer}
+
+-- at least so many refusals were met, where the count is not at its end
+abbrev pub MeetsMore : ℕ → Seated → Seated → Type 0
+MeetsMore tries before after = (before.known.local.met + tries ≤ after.known.local.met) ⊎ (max_word ≤ after.known.local.met)
+
+-- what each answer of a drive leaves as it was
+pub record DriveKeeps (before after : Seated) : Type 0 where
+  pub number : after.known.local.number ≡ before.known.local.number
+  pub limit : after.known.local.limit ≡ before.known.local.limit
+  pub own : after.known.local.own ≡ before.known.local.own
+  pub reads : after.known.local.seen_reads ≡ before.known.local.seen_reads
+
+-- The entry is answered, and nothing else: the caller has one answer more, at the entry's ticket.
+pub record DriveDone {O : Type 0} (r : Running O) (before after : Seated) (answer : Answer) : Type 0 where
+  pub caller : IsCallerOf r after
+  pub keeps : DriveKeeps before after
+  pub ticket : unanswered_ticket before.known.local ≡ Some answer.ticket
+  pub answered : after.known.local.answered ≡ with_answer answer.ticket answer.reply before.known.local.answered
+
+-- In each of so many turns a refusal was met. The entry stands, unanswered.
+pub record DrivePending {O : Type 0} (r : Running O) (tries : ℕ) (before after : Seated) : Type 0 where
+  pub caller : IsLinkedOf r after
+  pub keeps : DriveKeeps before after
+  pub answered : after.known.local.answered ≡ before.known.local.answered
+  pub met : MeetsMore tries before after
+
+-- A further step was to be made and the steps equal the limit. The entry stands, unanswered, or it was answered before.
+pub record DriveHalted {O : Type 0} (r : Running O) (before after : Seated) : Type 0 where
+  pub caller : IsStoppedOf r after
+  pub keeps : DriveKeeps before after
+  pub ticket : ℕ
+  pub is : unanswered_ticket before.known.local ≡ Some ticket
+  pub answered : (after.known.local.answered ≡ before.known.local.answered) ⊎ ((reply : List ℕ) × (after.known.local.answered ≡ with_answer ticket reply before.known.local.answered))
+
+-- what a drive of a linked entry in so many turns comes to
+abbrev pub Drives : {O : Type 0} → Running O → ℕ → Seated → Driven → Type 0
+Drives r tries before (Done after answer) = DriveDone r before after answer
+Drives r tries before (Pending after) = DrivePending r tries before after
+Drives r tries before (Halted after) = DriveHalted r before after

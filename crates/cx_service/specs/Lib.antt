@@ -1,0 +1,8 @@
+pub mod Callers
+pub mod Closes
+pub mod Starts
+pub mod Submits
+pub mod Drives
+pub mod Lookups
+pub mod Updates
+pub mod Tests

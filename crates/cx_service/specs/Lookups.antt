@@ -1,0 +1,48 @@
+-- What a read beside the queue comes to.
+use Rattle.std.specs.Prelude.{◌≡◌, ◌<◌, ◌≤◌, ◌⊎◌, ℕ, List, length, slice_get, Some}
+use Rattle.cx_core.specs.declared.local.Answer.{Answer}
+use Rattle.cx_core.specs.declared.local.SeenRead.{SeenRead}
+use Rattle.cx_rule.specs.Running.{Running}
+use Rattle.cx_rule.specs.Seats.{Seated}
+use Rattle.cx_service.specs.declared.lookup.ReadTried.{ReadTried}
+use Rattle.cx_service.specs.declared.lookup.ReadTried.TheVariants.{Read, Pending, Halted}
+use Rattle.cx_service.specs.Callers.{IsCallerOf, IsStoppedOf}
+use Rattle.cx_service.specs.Drives.{MeetsMore}
+use Rattle.cx_turns.specs.declared.lookup.Seen.{Seen}
+use Rattle.cx_turns.specs.Answering.{with_read}
+
+-- what each answer of a read leaves as it was
+pub record ReadKeeps (before after : Seated) : Type 0 where
+  pub number : after.known.local.number ≡ before.known.local.number
+  pub limit : after.known.local.limit ≡ before.known.local.limit
+  pub own : after.known.local.own ≡ before.known.local.own
+  pub answered : after.known.local.answered ≡ before.known.local.answered
+
+-- The read is answered, and nothing else: the caller has one read more, of this operation. Its place is above each ticket and not below
+-- any place that the caller was answered before.
+pub record ReadAnswered {O : Type 0} (r : Running O) (op : List ℕ) (before after : Seated) (seen : Seen) : Type 0 where
+  pub caller : IsCallerOf r after
+  pub keeps : ReadKeeps before after
+  pub reads : after.known.local.seen_reads ≡ with_read seen.place op seen.reply (length before.known.local.answered) before.known.local.seen_reads
+  pub above : (i : ℕ) (x : Answer) → slice_get before.known.local.answered i ≡ Some x → x.ticket < seen.place
+  pub from : (i : ℕ) (x : SeenRead) → slice_get before.known.local.seen_reads i ≡ Some x → x.place ≤ seen.place
+
+-- In each of so many turns a refusal was met.
+pub record ReadPending {O : Type 0} (r : Running O) (tries : ℕ) (before after : Seated) : Type 0 where
+  pub caller : IsCallerOf r after
+  pub keeps : ReadKeeps before after
+  pub reads : after.known.local.seen_reads ≡ before.known.local.seen_reads
+  pub met : MeetsMore tries before after
+
+-- A further step was to be made and the steps equal the limit. No read was answered, or this one was before.
+pub record ReadHalted {O : Type 0} (r : Running O) (op : List ℕ) (before after : Seated) : Type 0 where
+  pub caller : IsStoppedOf r after
+  pub keeps : ReadKeeps before after
+  pub reads : (after.known.local.seen_reads ≡ before.known.local.seen_reads)
+      ⊎ ((place : ℕ) × (reply : List ℕ) × (after.known.local.seen_reads ≡ with_read place op reply (length before.known.local.answered) before.known.local.seen_reads))
+
+-- what a read of this operation in so many turns comes to
+abbrev pub Looks : {O : Type 0} → Running O → List ℕ → ℕ → Seated → ReadTried → Type 0
+Looks r op tries before (Read after seen) = ReadAnswered r op before after seen
+Looks r op tries before (Pending after) = ReadPending r tries before after
+Looks r op tries before (Halted after) = ReadHalted r op before after

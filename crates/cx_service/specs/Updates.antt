@@ -1,0 +1,103 @@
+-- What an update comes to, and a read that may enter the queue.
+use Rattle.std.specs.Prelude.{◌≡◌, ◌^◌, ◌⊎◌, ℕ, List, [], ◌∷◌, ◌++◌, length}
+use Rattle.cx_core.specs.declared.local.Answer.{Answer}
+use Rattle.cx_rule.specs.Running.{Running}
+use Rattle.cx_rule.specs.Seats.{Seated}
+use Rattle.cx_service.specs.declared.submit.FullNote.{FullNote}
+use Rattle.cx_service.specs.declared.update.ReadDone.{ReadDone}
+use Rattle.cx_service.specs.declared.update.ReadDone.TheVariants.{Read, Queued, Full as FullRead, Worn as WornRead, Halted as HaltedRead}
+use Rattle.cx_service.specs.declared.update.Updated.{Updated}
+use Rattle.cx_service.specs.declared.update.Updated.TheVariants.{Done, Full, Worn, Halted}
+use Rattle.cx_service.specs.Callers.{IsCallerOf, IsStoppedOf}
+use Rattle.cx_service.specs.Drives.{DriveDone, DriveHalted}
+use Rattle.cx_service.specs.Lookups.{ReadAnswered, ReadHalted, ReadPending}
+use Rattle.cx_service.specs.Submits.{IsOwnNote, entry_at}
+use Rattle.cx_turns.specs.Answering.{with_answer}
+
+-- the caller's number, its limit and its lists are as they were
+pub record KeepsLists (before after : Seated) : Type 0 where
+  pub number : after.known.local.number ≡ before.known.local.number
+  pub limit : after.known.local.limit ≡ before.known.local.limit
+  pub own : after.known.local.own ≡ before.known.local.own
+  pub answered : after.known.local.answered ≡ before.known.local.answered
+  pub reads : after.known.local.seen_reads ≡ before.known.local.seen_reads
+
+-- an entry of this operation was linked at a ticket, and no other
+pub record LinksEntry {O : Type 0} (r : Running O) (op : List ℕ) (ticket : ℕ) (before after : Seated) : Type 0 where
+  pub number : after.known.local.number ≡ before.known.local.number
+  pub limit : after.known.local.limit ≡ before.known.local.limit
+  pub own : after.known.local.own ≡ before.known.local.own ++ entry_at r before.known.local op ticket ∷ []
+  pub reads : after.known.local.seen_reads ≡ before.known.local.seen_reads
+
+-- The entry is linked and answered, and nothing else: the caller has one entry more and one answer more, at the answer's ticket.
+pub record UpdateDone {O : Type 0} (r : Running O) (op : List ℕ) (before after : Seated) (answer : Answer) : Type 0 where
+  pub caller : IsCallerOf r after
+  pub links : LinksEntry r op answer.ticket before after
+  pub answered : after.known.local.answered ≡ with_answer answer.ticket answer.reply before.known.local.answered
+
+-- The caller linked 16 entries in this service.
+pub record UpdateFull {O : Type 0} (r : Running O) (before after : Seated) (note : FullNote) : Type 0 where
+  pub caller : IsCallerOf r after
+  pub keeps : KeepsLists before after
+  pub full : length before.known.local.own ≡ 16
+  pub names : IsOwnNote r before note
+
+-- There is no further ticket.
+pub record UpdateWorn {O : Type 0} (r : Running O) (before after : Seated) : Type 0 where
+  pub caller : IsCallerOf r after
+  pub keeps : KeepsLists before after
+  pub front : after.known.local.front ≡ 2 ^ 40
+
+-- the entry was linked before the limit was come to, and is not answered, or is
+pub record HaltsLinked {O : Type 0} (r : Running O) (op : List ℕ) (before after : Seated) : Type 0 where
+  pub ticket : ℕ
+  pub links : LinksEntry r op ticket before after
+  pub answered : (after.known.local.answered ≡ before.known.local.answered) ⊎ ((reply : List ℕ) × (after.known.local.answered ≡ with_answer ticket reply before.known.local.answered))
+
+-- A further step was to be made and the steps equal the limit.
+pub record UpdateHalted {O : Type 0} (r : Running O) (op : List ℕ) (before after : Seated) : Type 0 where
+  pub caller : IsStoppedOf r after
+  pub number : after.known.local.number ≡ before.known.local.number
+  pub lists : KeepsLists before after ⊎ HaltsLinked r op before after
+
+-- what an update of this operation comes to
+abbrev pub Updates : {O : Type 0} → Running O → List ℕ → Seated → Updated → Type 0
+Updates r op before (Done after answer) = UpdateDone r op before after answer
+Updates r op before (Full after note) = UpdateFull r before after note
+Updates r op before (Worn after) = UpdateWorn r before after
+Updates r op before (Halted after) = UpdateHalted r op before after
+
+-- what driving a linked entry to its end comes to
+abbrev pub Finishes : {O : Type 0} → Running O → Seated → Updated → Type 0
+Finishes r before (Done after answer) = DriveDone r before after answer
+Finishes r before (Full after note) = ⊥
+Finishes r before (Worn after) = ⊥
+Finishes r before (Halted after) = DriveHalted r before after
+
+-- A read was refused in each of 8 turns beside the queue, so that as many refusals more are met, and then it entered the queue.
+pub record ReadQueues {O : Type 0} (r : Running O) (op : List ℕ) (before : Seated) (updated : Updated) : Type 0 where
+  pub refused : Seated
+  pub pending : ReadPending r 8 before refused
+  pub entered : Updates r op refused updated
+
+-- A further step was to be made and the steps equal the limit, beside the queue or once the read had entered it.
+pub record ReadStops {O : Type 0} (r : Running O) (op : List ℕ) (before after : Seated) : Type 0 where
+  pub caller : IsStoppedOf r after
+  pub number : after.known.local.number ≡ before.known.local.number
+  pub lists : ReadHalted r op before after ⊎ ReadQueues r op before (Halted after)
+
+-- what a read of this operation comes to
+abbrev pub ReadsInAll : {O : Type 0} → Running O → List ℕ → Seated → ReadDone → Type 0
+ReadsInAll r op before (Read after seen) = ReadAnswered r op before after seen
+ReadsInAll r op before (Queued after answer) = ReadQueues r op before (Done after answer)
+ReadsInAll r op before (FullRead after note) = ReadQueues r op before (Full after note)
+ReadsInAll r op before (WornRead after) = ReadQueues r op before (Worn after)
+ReadsInAll r op before (HaltedRead after) = ReadStops r op before after
+
+-- what a read that enters the queue comes to
+abbrev pub QueuesRead : {O : Type 0} → Running O → List ℕ → Seated → ReadDone → Type 0
+QueuesRead r op before (Read after seen) = ⊥
+QueuesRead r op before (Queued after answer) = Updates r op before (Done after answer)
+QueuesRead r op before (FullRead after note) = Updates r op before (Full after note)
+QueuesRead r op before (WornRead after) = Updates r op before (Worn after)
+QueuesRead r op before (HaltedRead after) = Updates r op before (Halted after)

@@ -1,0 +1,75 @@
+//! Closing a service.
+
+ghost use Rattle.std.specs.Prelude.{◌≡◌, ◌≤◌, [], IfErr, IfOk, map, vec_capacity, vec_len};
+ghost use Rattle.cx_rule.specs.Running.{instance_at};
+ghost use Rattle.cx_table.specs.Remains.{AreSeats, Leaves};
+ghost use Rattle.cx_service.specs.Closes.{seat_of, seats_of};
+
+use crate::callers::{Caller, Linked, Stopped};
+use crate::service::Service;
+use cx_base::Object;
+use cx_table::{CallerSeat, Remains};
+use std::alloc::Global;
+
+/// A caller that is handed in, in whatever state it is.
+#[derive(Drop)]
+pub enum Handed {
+    Idle(Caller),
+    Linked(Linked),
+    Stopped(Stopped),
+}
+
+/// A service that was not closed for want of memory, and its callers: all as it was.
+#[derive(Drop)]
+pub struct Kept<O: Object> {
+    pub service: Service<O>,
+    pub callers: Vec<Handed>,
+}
+
+impl<O: Object> Service<O> {
+    /// Closes the service, whose callers are handed in, of caller 0 first. `Err` is want of memory alone, and hands all back
+    /// as it was.
+    pub fn close(self, alloc: Global, callers: Vec<Handed>) -> Result<Remains, Kept<O>>
+        requires { AreSeats self (seats_of callers.items) }
+        ensures remains { IfOk result (λ r. Leaves self (instance_at self O.step O.only_reads) (seats_of callers.items) r) }
+        ensures kept { IfErr result (λ k. (k.service ≡ self) × (k.callers ≡ callers)) }
+    {
+        let Ok(room) = self.shared.room(alloc) else {
+            return Err(Kept {
+                service: self,
+                callers,
+            });
+        };
+        let Ok(seats) = Vec::with_capacity(alloc, callers.len()) else {
+            return Err(Kept {
+                service: self,
+                callers,
+            });
+        };
+        let Service { shared } = self;
+        Ok(shared.gather_in(room, as_seats(callers, seats)))
+    }
+}
+
+/// The seats of callers.
+fn as_seats(callers: Vec<Handed>, mut seats: Vec<CallerSeat>) -> Vec<CallerSeat>
+    requires none { seats.items ≡ [] }
+    requires room { vec_len callers ≤ vec_capacity seats }
+    ensures { result.items ≡ seats_of callers.items }
+{
+    for handed in callers {
+        seats.push_reserved(as_seat(handed));
+    }
+    seats
+}
+
+/// The seat of a caller.
+fn as_seat(handed: Handed) -> CallerSeat
+    ensures { result ≡ seat_of handed }
+{
+    match handed {
+        Handed::Idle(Caller { seat }) => seat,
+        Handed::Linked(Linked { seat }) => seat,
+        Handed::Stopped(Stopped { seat }) => seat,
+    }
+}

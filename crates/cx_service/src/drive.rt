@@ -1,0 +1,57 @@
+//! A linked entry is driven to its answer.
+
+ghost use Rattle.std.specs.Prelude.{◌≤◌};
+ghost use Rattle.cx_service.specs.Callers.{IsLinkedOf};
+ghost use Rattle.cx_service.specs.Drives.{Drives};
+
+use crate::callers::{Caller, Linked, Stopped};
+use crate::service::Service;
+use cx_base::{Halt, Object};
+use cx_core::Answer;
+use cx_turns::update_turn;
+
+/// What driving an entry comes to.
+#[derive(Drop)]
+pub enum Driven {
+    /// The entry is applied and durable: its ticket, and the reply.
+    Done(Caller, Answer),
+    /// In each turn a refusal was met.
+    Pending(Linked),
+    /// The step limit was reached.
+    Halted(Stopped),
+}
+
+impl<O: Object> Service<O> {
+    /// Drives a caller's linked entry to its answer, in at most so many turns. `Done` is answered by a raise of the durable root
+    /// alone: the reply is the object's after the entries before the ticket, and a loss of power keeps the entry. `Pending` comes
+    /// only where the count of refusals rose in each turn. `Halted` comes only where the steps equal the limit.
+    pub fn drive(&self, linked: Linked, tries: u64) -> Driven
+        requires linked { IsLinkedOf self.now linked }
+        requires tries { 1 ≤ tries }
+        ensures { Drives self.now tries linked result }
+    {
+        let mut linked = linked;
+        for _turn in 0..tries {
+            match self.drive_once(linked) {
+                Driven::Pending(back) => linked = back,
+                Driven::Done(caller, answer) => return Driven::Done(caller, answer),
+                Driven::Halted(stopped) => return Driven::Halted(stopped),
+            }
+        }
+        Driven::Pending(linked)
+    }
+
+    /// One turn of it.
+    fn drive_once(&self, linked: Linked) -> Driven
+        requires { IsLinkedOf self.now linked }
+        ensures { Drives self.now 1 linked result }
+    {
+        let ticket = linked.ticket();
+        let Linked { mut seat } = linked;
+        match update_turn(&self.shared, &mut seat, ticket) {
+            Ok(Some(reply)) => Driven::Done(Caller { seat }, Answer { ticket, reply }),
+            Ok(None) => Driven::Pending(Linked { seat }),
+            Err(Halt) => Driven::Halted(Stopped { seat }),
+        }
+    }
+}

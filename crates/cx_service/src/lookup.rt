@@ -1,0 +1,58 @@
+//! A read is answered beside the queue.
+
+ghost use Rattle.std.specs.Prelude.{◌≤◌, IsTrue};
+ghost use Rattle.cx_service.specs.Callers.{IsCallerOf};
+ghost use Rattle.cx_service.specs.Lookups.{Looks};
+
+use crate::callers::{Caller, Stopped};
+use crate::service::Service;
+use cx_base::{Halt, Object};
+use cx_turns::{Seen, read_turn};
+
+/// What a read beside the queue comes to.
+#[derive(Drop)]
+pub enum ReadTried {
+    /// The read is answered: its place, and the reply there.
+    Read(Caller, Seen),
+    /// In each turn a refusal was met.
+    Pending(Caller),
+    /// The step limit was reached.
+    Halted(Stopped),
+}
+
+impl<O: Object> Service<O> {
+    /// Answers an operation that only reads on the current replica, in at most so many turns, and does not enter the queue. `Read` is
+    /// answered by a raise of the durable root alone: the reply is the object's after the entries below the place, all of which a loss
+    /// of power keeps. `Pending` comes only where the count of refusals rose in each turn. `Halted` comes only where the steps equal
+    /// the limit.
+    pub fn try_read(&self, caller: Caller, op: &[u64; 144], tries: u64) -> ReadTried
+        requires caller { IsCallerOf self.now caller }
+        requires reads { IsTrue (O.only_reads self.now.object op.now) }
+        requires tries { 1 ≤ tries }
+        ensures { Looks self.now op.now tries caller result }
+    {
+        let mut caller = caller;
+        for _turn in 0..tries {
+            match self.read_once(caller, op) {
+                ReadTried::Pending(back) => caller = back,
+                ReadTried::Read(back, seen) => return ReadTried::Read(back, seen),
+                ReadTried::Halted(stopped) => return ReadTried::Halted(stopped),
+            }
+        }
+        ReadTried::Pending(caller)
+    }
+
+    /// One turn of it.
+    fn read_once(&self, caller: Caller, op: &[u64; 144]) -> ReadTried
+        requires caller { IsCallerOf self.now caller }
+        requires reads { IsTrue (O.only_reads self.now.object op.now) }
+        ensures { Looks self.now op.now 1 caller result }
+    {
+        let Caller { mut seat } = caller;
+        match read_turn(&self.shared, &mut seat, op) {
+            Ok(Some(seen)) => ReadTried::Read(Caller { seat }, seen),
+            Ok(None) => ReadTried::Pending(Caller { seat }),
+            Err(Halt) => ReadTried::Halted(Stopped { seat }),
+        }
+    }
+}

@@ -1,0 +1,31 @@
+//! A service of an object.
+
+ghost use Rattle.std.specs.Prelude.{◌≡◌};
+
+use cx_base::Object;
+use cx_table::Shared;
+use std::marker::Model;
+
+/// An object that 1 to 8 callers share. Contracts see which table it is, its number of callers, the lines of the object, the
+/// base from which it opened, and the object.
+#[derive(Drop)]
+pub struct Service<O: Object> {
+    pub(crate) shared: Shared<O>,
+}
+
+impl<O: Object> Model for Service<O> {
+    ghost use Rattle.cx_rule.specs.Running.{Running};
+
+    ghost Value = { Running O };
+
+    ghost view = { λ s. s.shared };
+}
+
+impl<O: Object> Service<O> {
+    /// The object.
+    pub fn object(&self) -> &O
+        ensures { result.now ≡ self.now.object }
+    {
+        self.shared.object()
+    }
+}

@@ -1,0 +1,128 @@
+//! An operation is entered into the queue.
+
+ghost use Rattle.std.specs.Prelude.{◌≡◌, ◌+◌, ◌*◌, ◌<◌, ◌≤◌, IfOk, OnErr, length};
+ghost use Rattle.cx_rule.specs.Running.{IsSeatOf};
+ghost use Rattle.cx_rule.specs.Seats.{IsAtLimit};
+ghost use Rattle.cx_service.specs.Callers.{IsCallerOf};
+ghost use Rattle.cx_service.specs.Submits.{IsNextCell, IsOwnNote, LooksForCell, Submits, SubmitsIn, stale};
+
+use crate::callers::{Caller, Linked, Stopped};
+use crate::service::Service;
+use cx_base::{Halt, Object};
+use cx_table::{CallerSeat, Shared};
+use mutation_queue::{LinkTried, announce, idle_cell, link};
+
+/// Why no cell of a caller is idle: another's need, or its own entries, keep its cells from being given again.
+#[derive(Clone, Copy, Debug, PartialEq, Eq, Drop)]
+pub struct FullNote {
+    /// The caller that keeps them.
+    pub holder: u32,
+    /// The place from which on entries are kept.
+    pub need: u64,
+    /// The least ticket of the caller's cells.
+    pub ticket: u64,
+}
+
+/// What a submit comes to. It hands the caller back in each case.
+#[derive(Drop)]
+pub enum Submitted {
+    /// The entry is linked.
+    Linked(Linked),
+    /// Each try found another's link.
+    Again(Caller),
+    /// No cell of the caller is idle.
+    Full(Caller, FullNote),
+    /// There is no further ticket.
+    Worn(Caller),
+    /// The step limit was reached, and nothing is linked.
+    Halted(Stopped),
+}
+
+impl<O: Object> Service<O> {
+    /// Enters an operation into the queue, with so many tries to link it. `Full` comes exactly where the caller linked 16
+    /// entries in this service, before any other answer. `Worn` comes exactly where a cell was idle and the front is then
+    /// 2^40; else `Again` exactly where each of the tries found another's link. `Halted` comes exactly where a further step is
+    /// to be made and the steps equal the limit. It makes at most `200 + callers + 3 * tries` steps.
+    pub fn submit(&self, caller: Caller, op: &[u64; 144], tries: u64) -> Submitted
+        requires caller { IsCallerOf self.now caller }
+        requires tries { 1 ≤ tries }
+        ensures { Submits self.now op.now tries caller result }
+    {
+        let Caller { mut seat } = caller;
+        let Ok(idle) = find_idle(&self.shared, &mut seat) else {
+            return Submitted::Halted(Stopped { seat });
+        };
+        let Some(cell) = idle else {
+            let note = full_note(&self.shared, &seat);
+            return Submitted::Full(Caller { seat }, note);
+        };
+        self.enter(seat, cell, op, tries)
+    }
+
+    /// Enters an operation in the cell of the caller's next entry. CUR is loaded first, so that the front is at least the
+    /// current place.
+    fn enter(&self, mut seat: CallerSeat, cell: u32, op: &[u64; 144], tries: u64) -> Submitted
+        requires caller { IsCallerOf self.now seat }
+        requires cell { (cell ≡ length seat.known.local.own) × (cell < 16) }
+        requires tries { 1 ≤ tries }
+        ensures { SubmitsIn (146 + 2 * tries) self.now op.now tries seat result }
+    {
+        if self.shared.load_cur(&mut seat).is_err() {
+            return Submitted::Halted(Stopped { seat });
+        }
+        self.announce_and_link(seat, cell, op, tries)
+    }
+
+    /// Announces an operation in the cell of the caller's next entry, and tries to link it.
+    fn announce_and_link(
+        &self,
+        mut seat: CallerSeat,
+        cell: u32,
+        op: &[u64; 144],
+        tries: u64,
+    ) -> Submitted
+        requires seat { IsSeatOf self.now seat }
+        requires caller { IsCallerOf self.now (stale seat) }
+        requires cell { (cell ≡ length seat.known.local.own) × (cell < 16) }
+        requires tries { 1 ≤ tries }
+        ensures { SubmitsIn (145 + 2 * tries) self.now op.now tries (stale seat) result }
+    {
+        if announce(&self.shared, &mut seat, cell, op).is_err() {
+            return Submitted::Halted(Stopped { seat });
+        }
+        match link(&self.shared, &mut seat, cell, tries) {
+            Ok(LinkTried::Linked { ticket: _ }) => Submitted::Linked(Linked { seat }),
+            Ok(LinkTried::Again) => Submitted::Again(Caller { seat }),
+            Ok(LinkTried::Worn) => Submitted::Worn(Caller { seat }),
+            Err(Halt) => Submitted::Halted(Stopped { seat }),
+        }
+    }
+}
+
+/// The cell of the caller's next entry. Where none is idle, FREE is loaded and the cells are looked through again.
+fn find_idle<O: Object>(shared: &Shared<O>, seat: &mut CallerSeat) -> Result<Option<u32>, Halt>
+    requires { IsCallerOf shared.now seat.old }
+    ensures looked { LooksForCell seat.old seat.new }
+    ensures found { IfOk result (IsNextCell seat.old.known.local) }
+    ensures halted { OnErr result (IsAtLimit seat.new.known.local) }
+{
+    if let Some(cell) = idle_cell(seat) {
+        return Ok(Some(cell));
+    }
+    let _free = shared.load_free(seat)?;
+    Ok(idle_cell(seat))
+}
+
+/// The note of a caller whose own entries stand in all its cells.
+fn full_note<O: Object>(shared: &Shared<O>, seat: &CallerSeat) -> FullNote
+    requires caller { IsCallerOf shared.now seat.now }
+    requires full { length seat.now.known.local.own ≡ 16 }
+    ensures { IsOwnNote shared.now seat.now result }
+{
+    let _ = shared;
+    FullNote {
+        holder: seat.number(),
+        need: seat.seen_free(),
+        ticket: seat.cell_ticket(0).unwrap(),
+    }
+}

@@ -1,0 +1,113 @@
+//! Calls that try again until they are answered.
+
+ghost use Rattle.std.specs.Prelude.{IsTrue};
+ghost use Rattle.cx_service.specs.Callers.{IsCallerOf, IsLinkedOf};
+ghost use Rattle.cx_service.specs.Updates.{Finishes, QueuesRead, ReadsInAll, Updates};
+
+use crate::callers::{Caller, Linked, Stopped};
+use crate::drive::Driven;
+use crate::lookup::ReadTried;
+use crate::service::Service;
+use crate::submit::{FullNote, Submitted};
+use cx_base::Object;
+use cx_core::Answer;
+use cx_turns::Seen;
+use std::sync::Wait;
+
+/// The tries of one submit, and the turns of one drive, before they are begun again.
+const TRIES: u64 = 16;
+
+/// The turns of a read beside the queue before it enters the queue.
+const READ_TRIES: u64 = 8;
+
+/// What an update comes to.
+#[derive(Drop)]
+pub enum Updated {
+    /// The entry is applied and durable: its ticket, and the reply.
+    Done(Caller, Answer),
+    /// No cell of the caller is idle.
+    Full(Caller, FullNote),
+    /// There is no further ticket.
+    Worn(Caller),
+    /// The step limit was reached.
+    Halted(Stopped),
+}
+
+/// What a read comes to.
+#[derive(Drop)]
+pub enum ReadDone {
+    /// The read is answered beside the queue: its place, and the reply there.
+    Read(Caller, Seen),
+    /// The read is answered as an entry of the queue: its ticket, and the reply.
+    Queued(Caller, Answer),
+    /// No cell of the caller is idle.
+    Full(Caller, FullNote),
+    /// There is no further ticket.
+    Worn(Caller),
+    /// The step limit was reached.
+    Halted(Stopped),
+}
+
+impl<O: Object> Service<O> {
+    /// Enters an operation into the queue and drives it to its answer. It tries again as long as others link before it, or hold all
+    /// replicas, and so it may wait for them.
+    pub fn update<R: Wait>(&self, rt: &R, caller: Caller, op: &[u64; 144]) -> Updated
+        requires { IsCallerOf self.now caller }
+        ensures { Updates self.now op.now caller result }
+    {
+        let mut caller = caller;
+        for _ in rt.forever() {
+            match self.submit(caller, op, TRIES) {
+                Submitted::Linked(linked) => return self.finish(rt, linked),
+                Submitted::Again(back) => caller = back,
+                Submitted::Full(back, note) => return Updated::Full(back, note),
+                Submitted::Worn(back) => return Updated::Worn(back),
+                Submitted::Halted(stopped) => return Updated::Halted(stopped),
+            }
+        }
+        unreachable!()
+    }
+
+    /// Drives a linked entry to its answer.
+    fn finish<R: Wait>(&self, rt: &R, linked: Linked) -> Updated
+        requires { IsLinkedOf self.now linked }
+        ensures { Finishes self.now linked result }
+    {
+        let mut linked = linked;
+        for _ in rt.forever() {
+            match self.drive(linked, TRIES) {
+                Driven::Done(caller, answer) => return Updated::Done(caller, answer),
+                Driven::Pending(back) => linked = back,
+                Driven::Halted(stopped) => return Updated::Halted(stopped),
+            }
+        }
+        unreachable!()
+    }
+
+    /// Answers an operation that only reads: beside the queue where the current replica can be read in 8 turns, and else as an entry
+    /// of the queue, which it may wait for as an update does. So no read is kept out for good by those who publish.
+    pub fn read<R: Wait>(&self, rt: &R, caller: Caller, op: &[u64; 144]) -> ReadDone
+        requires caller { IsCallerOf self.now caller }
+        requires reads { IsTrue (O.only_reads self.now.object op.now) }
+        ensures { ReadsInAll self.now op.now caller result }
+    {
+        match self.try_read(caller, op, READ_TRIES) {
+            ReadTried::Read(back, seen) => ReadDone::Read(back, seen),
+            ReadTried::Pending(back) => self.queue(rt, back, op),
+            ReadTried::Halted(stopped) => ReadDone::Halted(stopped),
+        }
+    }
+
+    /// Enters a read into the queue.
+    fn queue<R: Wait>(&self, rt: &R, caller: Caller, op: &[u64; 144]) -> ReadDone
+        requires { IsCallerOf self.now caller }
+        ensures { QueuesRead self.now op.now caller result }
+    {
+        match self.update(rt, caller, op) {
+            Updated::Done(back, answer) => ReadDone::Queued(back, answer),
+            Updated::Full(back, note) => ReadDone::Full(back, note),
+            Updated::Worn(back) => ReadDone::Worn(back),
+            Updated::Halted(stopped) => ReadDone::Halted(stopped),
+        }
+    }
+}
