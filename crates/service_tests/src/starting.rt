@@ -1,0 +1,126 @@
+//! Services that are started for the tests, and closed.
+
+ghost use Rattle.std.specs.Prelude.{◌≡◌, ◌≤◌, [], ◌∷◌, All, IfOk, IfSome, length};
+ghost use Rattle.cx_base.specs.Tally.{IsTally};
+ghost use Rattle.cx_core.specs.Base.{LawfulBase};
+ghost use Rattle.cx_table.specs.Remains.{AreSeats};
+ghost use Rattle.cx_service.specs.Callers.{IsCallerOf};
+ghost use Rattle.cx_service.specs.Closes.{seat_of, seats_of};
+ghost use Rattle.mutation_queue.specs.Tests.{IsPairOf};
+
+use cx_base::Object;
+use cx_base::tally::Tally;
+use cx_core::Base;
+use cx_service::{Caller, Handed, Service};
+use cx_table::Remains;
+use std::alloc::{AllocError, Global};
+
+pub(crate) const NO_LIMIT: u64 = u64::MAX;
+
+/// A service of one caller.
+pub(crate) fn one_started(
+    alloc: Global,
+    limit: u64,
+    base: &Base,
+) -> Result<(Service<Tally>, Caller), AllocError>
+    requires { LawfulBase 64 IsTally base.now }
+    ensures { IfOk result (λ r. IsCallerOf r.0 r.1) }
+{
+    let Ok((service, callers)) = Service::start(alloc, Tally, 1, &[limit], base) else {
+        return Err(AllocError);
+    };
+    match one(callers) {
+        Some(caller) => Ok((service, caller)),
+        None => Err(AllocError),
+    }
+}
+
+// The item of a list of one.
+fn one(mut callers: Vec<Caller>) -> Option<Caller>
+    ensures { IfSome result (λ c. callers.items ≡ c ∷ []) }
+{
+    let caller = callers.pop()?;
+    if callers.is_empty() {
+        Some(caller)
+    } else {
+        None
+    }
+}
+
+/// A service of two callers.
+pub(crate) fn two_started(
+    alloc: Global,
+    limits: &[u64; 2],
+    base: &Base,
+) -> Result<(Service<Tally>, Caller, Caller), AllocError>
+    requires { LawfulBase 64 IsTally base.now }
+    ensures pair { IfOk result (λ r. IsPairOf r.0 r.1 r.2) }
+    ensures first { IfOk result (λ r. IsCallerOf r.0 r.1) }
+    ensures second { IfOk result (λ r. IsCallerOf r.0 r.2) }
+{
+    let Ok((service, callers)) = Service::start(alloc, Tally, 2, limits, base) else {
+        return Err(AllocError);
+    };
+    match two(callers) {
+        Some((first, second)) => Ok((service, first, second)),
+        None => Err(AllocError),
+    }
+}
+
+// The items of a list of two.
+fn two(mut callers: Vec<Caller>) -> Option<(Caller, Caller)>
+    ensures { IfSome result (λ r. callers.items ≡ r.0 ∷ r.1 ∷ []) }
+{
+    let second = callers.pop()?;
+    let first = callers.pop()?;
+    if callers.is_empty() {
+        Some((first, second))
+    } else {
+        None
+    }
+}
+
+/// A service of callers without limits that opens from the object's fresh base.
+pub(crate) fn all_started<O: Object>(
+    alloc: Global,
+    object: O,
+    callers: u32,
+) -> Result<(Service<O>, Vec<Caller>), AllocError>
+    requires { callers ≤ 8 }
+    ensures each { IfOk result (λ r. All (IsCallerOf r.0) r.1.items) }
+    ensures all { IfOk result (λ r. AreSeats r.0 r.1.items) }
+{
+    let base = Base::fresh(alloc, &object)?;
+    let limits = Vec::from_elem(alloc, NO_LIMIT, callers as usize)?;
+    Service::start(alloc, object, callers, &limits, &base).map_err(|_| AllocError)
+}
+
+/// Closes a service of two callers.
+pub(crate) fn two_closed(
+    alloc: Global,
+    service: Service<Tally>,
+    first: Handed,
+    second: Handed,
+) -> Result<Remains, AllocError>
+    requires { IsPairOf service (seat_of first) (seat_of second) }
+{
+    let callers = vec![in alloc; first, second]?;
+    service.close(alloc, callers).map_err(|_| AllocError)
+}
+
+/// Closes a service.
+pub(crate) fn all_closed<O: Object>(
+    alloc: Global,
+    service: Service<O>,
+    callers: Vec<Handed>,
+) -> Result<Remains, AllocError>
+    requires { AreSeats service (seats_of callers.items) }
+{
+    service.close(alloc, callers).map_err(|_| AllocError)
+}
+
+/// Whether a closed service has published codes, and they rise.
+pub(crate) fn has_rising_codes(remains: &Remains) -> bool {
+    let codes = remains.published.as_slice();
+    !codes.is_empty() && codes.is_sorted_by(|a, b| a < b)
+}
