@@ -36,5 +36,7 @@ if __name__ == "__main__":
         sys.exit(__doc__)
     time_of("look", 20_000_000)
     time_of("announce", 300_000)
+    time_of("repeat", 300_000)
     time_of("link", 3_000)
+    time_of("flush", 100)
     memory()

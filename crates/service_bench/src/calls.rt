@@ -1,0 +1,204 @@
+//! Callers that call.
+
+ghost use Rattle.std.specs.Prelude.{◌≡◌, ◌+◌, ◌≤◌, All, IfOk, IfSome};
+ghost use Rattle.cx_core.specs.Base.{LawfulBase};
+ghost use Rattle.cx_service.specs.Callers.{IsCallerOf};
+ghost use Rattle.doc_store.specs.ExactStep.{IsImage};
+
+use crate::base::filled;
+use crate::operations::{Operations, Reading};
+use crate::tally::{Tally, since, thread_time};
+use cx_core::Base;
+use cx_service::{Caller, Driven, ReadTried, Service, Submitted};
+use doc_store::DocStore;
+use std::alloc::{AllocError, Global};
+use std::io;
+use std::rt::Runtime;
+use std::thread::{Threads, map_vec};
+use std::time::{Clock, CpuClock, Instant};
+
+/// The lines of the store.
+const LINES: u64 = 1024;
+
+/// The most calls of a caller in a service.
+const CALLS: u64 = 256;
+
+/// Makes so many services, one after another, and lets their callers call.
+pub fn services<R: Runtime + Threads + CpuClock + Sync>(
+    rt: &R,
+    alloc: Global,
+    threads: u64,
+    count: u64,
+    reads: u64,
+) -> io::Result<Tally> {
+    let mut all = Tally::none();
+    let callers = u32::try_from(threads).unwrap_or(0);
+    if callers < 1 || callers > 8 {
+        return Ok(all);
+    }
+    let base = filled_store(alloc)?;
+    for n in 0..count {
+        let (service, callers) = started(alloc, callers, &base)?;
+        let operations = Operations::of(alloc, service.object(), n)?;
+        let tallies = each_calls(rt, &service, callers, &operations, reads)?;
+        for tally in tallies.iter() {
+            all.add(tally);
+        }
+    }
+    Ok(all)
+}
+
+// The base of a store that has a document at each key.
+fn filled_store(alloc: Global) -> Result<Base, AllocError>
+    ensures { IfOk result (LawfulBase 1024 (IsImage 1024)) }
+{
+    let store = DocStore::of(LINES);
+    filled(alloc, &store)
+}
+
+// A service of so many callers that opens from this base.
+fn started(
+    alloc: Global,
+    callers: u32,
+    base: &Base,
+) -> Result<(Service<DocStore>, Vec<Caller>), AllocError>
+    requires { LawfulBase 1024 (IsImage 1024) base.now }
+    ensures { IfOk result (λ r. All (IsCallerOf r.0) r.1.items) }
+{
+    let store = DocStore::of(LINES);
+    let limits = Vec::from_elem(alloc, u64::MAX, callers as usize)?;
+    match Service::start(alloc, store, callers, &limits, base) {
+        Ok(started) => Ok(started),
+        Err(_) => Err(AllocError),
+    }
+}
+
+// Lets each caller call, on a thread of its own.
+fn each_calls<R: Threads + Clock + CpuClock + Sync>(
+    rt: &R,
+    service: &Service<DocStore>,
+    callers: Vec<Caller>,
+    operations: &Operations,
+    reads: u64,
+) -> Result<Vec<Tally>, AllocError>
+    requires { All (IsCallerOf service.now) callers.items }
+{
+    map_vec(
+        rt,
+        callers,
+        &|caller: Caller|
+            requires { IsCallerOf service.now caller }
+        { timed(rt, service, caller, operations, reads) },
+    )
+}
+
+// Lets a caller call, and tells what that took.
+fn timed<R: Clock + CpuClock>(
+    rt: &R,
+    service: &Service<DocStore>,
+    caller: Caller,
+    operations: &Operations,
+    reads: u64,
+) -> Tally
+    requires { IsCallerOf service.now caller }
+{
+    let mut tally = Tally::none();
+    let Ok(begun) = Instant::now(rt) else {
+        return tally;
+    };
+    let used = thread_time(rt).unwrap_or(0);
+    call_in_turn(service, caller, operations, reads, &mut tally);
+    tally.cpu = thread_time(rt).unwrap_or(0).wrapping_sub(used);
+    tally.wall = since(rt, begun).unwrap_or(0);
+    tally
+}
+
+// Calls in turn.
+fn call_in_turn(
+    service: &Service<DocStore>,
+    caller: Caller,
+    operations: &Operations,
+    reads: u64,
+    tally: &mut Tally,
+)
+    requires { IsCallerOf service.now caller }
+{
+    let mut caller = caller;
+    for i in 0..CALLS {
+        match call(service, caller, operations, i * 37 % 100 < reads, tally) {
+            Some(back) => caller = back,
+            None => return,
+        }
+    }
+}
+
+// One call.
+fn call(
+    service: &Service<DocStore>,
+    caller: Caller,
+    operations: &Operations,
+    read: bool,
+    tally: &mut Tally,
+) -> Option<Caller>
+    requires { IsCallerOf service.now caller }
+    ensures { IfSome result (IsCallerOf service.now) }
+{
+    if read {
+        let reading = operations.reads.get((tally.reads % 16) as usize)?;
+        read_once(service, caller, reading, tally)
+    } else {
+        let op = operations.updates.get((tally.updates % 32) as usize)?;
+        update_once(service, caller, op, tally)
+    }
+}
+
+// A read.
+fn read_once(
+    service: &Service<DocStore>,
+    caller: Caller,
+    reading: &Reading,
+    tally: &mut Tally,
+) -> Option<Caller>
+    requires { IsCallerOf service.now caller }
+    ensures { IfSome result (IsCallerOf service.now) }
+{
+    let before = caller.steps();
+    let ReadTried::Read(caller, seen) = service.try_read(caller, &reading.op, 1024) else {
+        return None;
+    };
+    tally.reads = tally.reads.wrapping_add(1);
+    tally.read_steps = tally
+        .read_steps
+        .wrapping_add(caller.steps().wrapping_sub(before));
+    tally.sum = tally.sum.wrapping_add(seen.reply[0]);
+    Some(caller)
+}
+
+// An update.
+fn update_once(
+    service: &Service<DocStore>,
+    caller: Caller,
+    op: &[u64; 144],
+    tally: &mut Tally,
+) -> Option<Caller>
+    requires { IsCallerOf service.now caller }
+    ensures { IfSome result (IsCallerOf service.now) }
+{
+    let before = caller.steps();
+    let Submitted::Linked(linked) = service.submit(caller, op, 64) else {
+        return None;
+    };
+    let between = linked.steps();
+    let Driven::Done(caller, answer) = service.drive(linked, 1024) else {
+        return None;
+    };
+    tally.updates = tally.updates.wrapping_add(1);
+    tally.submit_steps = tally
+        .submit_steps
+        .wrapping_add(between.wrapping_sub(before));
+    tally.drive_steps = tally
+        .drive_steps
+        .wrapping_add(caller.steps().wrapping_sub(between));
+    tally.sum = tally.sum.wrapping_add(answer.reply[0]);
+    Some(caller)
+}

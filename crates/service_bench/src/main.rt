@@ -1,0 +1,59 @@
+//! Nanoseconds and steps of a service's calls. With no words it does nothing. `calls T N R` makes N services of T callers, one after
+//! another, and in each lets every caller, on a thread of its own, make calls until it has linked 16 updates, or 256 calls. So many
+//! calls in 100 are reads. It prints the calls of all, and what they took.
+#![tactic(auto)]
+
+mod base;
+mod calls;
+mod operations;
+mod tally;
+
+use crate::calls::services;
+use std::alloc::Global;
+use std::process::ExitCode;
+use std::rt::Runtime;
+use std::thread::Threads;
+use std::time::CpuClock;
+use std::{env, io};
+
+fn main(rt: HostRuntime) -> ExitCode {
+    let done = match words(&rt) {
+        Ok(words) => run(&rt, rt.alloc(), &words),
+        Err(fault) => Err(fault),
+    };
+    match done {
+        Ok(()) => ExitCode::SUCCESS,
+        Err(_) => ExitCode::FAILURE,
+    }
+}
+
+// The words behind the program's name.
+fn words(rt: &HostRuntime) -> io::Result<Vec<String>> {
+    Ok(env::args(rt)?.skip(1).collect(rt.alloc())?)
+}
+
+// Does what the words say.
+fn run<R: Runtime + Threads + CpuClock + Sync>(
+    rt: &R,
+    alloc: Global,
+    words: &[String],
+) -> io::Result<()> {
+    let Some(work) = words.first() else {
+        return Ok(());
+    };
+    let threads = number(words.get(1));
+    let count = number(words.get(2));
+    let reads = number(words.get(3));
+    match work.as_str() {
+        "calls" => services(rt, alloc, threads, count, reads)?.print(rt),
+        _ => Ok(()),
+    }
+}
+
+// The number that a word is, 0 where it is none.
+fn number(word: Option<&String>) -> u64 {
+    match word {
+        Some(word) => word.parse().unwrap_or(0),
+        None => 0,
+    }
+}
