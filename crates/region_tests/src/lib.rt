@@ -1,0 +1,17 @@
+//! Replicas of the document store, against plain memories. It has tests alone.
+#![tactic(auto)]
+
+#[cfg(test)]
+mod commands;
+#[cfg(test)]
+mod limit_tests;
+#[cfg(test)]
+mod marking;
+#[cfg(test)]
+mod region_tests;
+#[cfg(test)]
+mod tables;
+#[cfg(test)]
+mod thread_tests;
+#[cfg(test)]
+mod turns;
