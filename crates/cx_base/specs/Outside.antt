@@ -1,5 +1,5 @@
 -- What sources and sinks do.
-use Rattle.std.specs.Prelude.{◌≡◌, ◌⊎◌, ◌-◌, ◌^◌, ◌<◌, ◌≤◌, ℕ, List, [], ◌++◌, length, take, drop, Option, Some, IfSome}
+use Rattle.std.specs.Prelude.{◌≡◌, ◌⊎◌, ◌+◌, ◌-◌, ◌^◌, ◌<◌, ◌≤◌, ℕ, min, List, [], ◌++◌, length, take, drop, Option, Some, IfSome}
 
 -- A count of faults rose. It stands still at its type's end, where it counts as having risen.
 abbrev pub Rose : ℕ → ℕ → Type 0
@@ -25,3 +25,27 @@ pub record Holding : Type 0 where
   pub written : List ℕ
   pub room : ℕ
   pub faults : ℕ
+
+-- what a source in memory has left, or a sink in memory holds; how many bytes go at most in a call; the numbers of the calls that
+-- fail; how many calls were made; how often it has failed
+pub record Telling : Type 0 where
+  pub bytes : List ℕ
+  pub chunk : ℕ
+  pub fails : List ℕ
+  pub calls : ℕ
+  pub faults : ℕ
+
+-- the same of a sink, and its room
+pub record Filling : Type 0 where
+  pub told : Telling
+  pub room : ℕ
+
+-- the number of the next call; a count stays at 2^64 - 1 once there
+abbrev pub next_call : ℕ → ℕ
+next_call made = min (made + 1) (2 ^ 64 - 1)
+
+-- a call leaves what was chosen, and is counted
+pub record Tells (old new : Telling) : Type 0 where
+  pub chunk : new.chunk ≡ old.chunk
+  pub fails : new.fails ≡ old.fails
+  pub calls : new.calls ≡ next_call old.calls

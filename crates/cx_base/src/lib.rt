@@ -16,6 +16,7 @@ mod steps;
 pub mod tally;
 #[cfg(test)]
 mod tests;
+mod vec_ends;
 
 pub use accesses::{load_below, store_word, store_words};
 pub use codes::{
@@ -29,3 +30,4 @@ pub use object::Object;
 pub use outside::{Failed, Gate, OpenGate, Sink, Source};
 pub use packing::{pack, packed_unpacks, unpack, unpacked_packs};
 pub use steps::Steps;
+pub use vec_ends::{VecSink, VecSource};

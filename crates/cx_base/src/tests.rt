@@ -9,8 +9,10 @@ use crate::codes::{link_cell, link_code, link_ticket, root_code, root_place, roo
 use crate::memory::{Halt, Memory, VecMemory};
 use crate::noted::Noted;
 use crate::object::Object;
+use crate::outside::{Sink, Source};
 use crate::packing::{pack, unpack};
 use crate::tally::Tally;
+use crate::vec_ends::{VecSink, VecSource};
 use std::alloc::{AllocError, Global};
 use std::process::Abort;
 use std::test::Fail;
@@ -259,6 +261,84 @@ fn words_over_a_memory(rt: HostRuntime) -> Result<(), Fail> {
         }
         let all = Vec::from_slice(rt.alloc(), &words)?;
         assert_eq!(rt; over_words(all, Some(accesses))?, 5);
+    }
+    Ok(())
+}
+
+// The text that goes through.
+const TEXT: &[u8; 8] = b"abcdefgh";
+
+// What a call answers: so many bytes, or that it failed.
+const FAILED: usize = usize::MAX;
+
+#[test]
+fn a_source_by_chunks(rt: HostRuntime) -> Result<(), Fail> {
+    let alloc = rt.alloc();
+    // Bytes a call, calls that fail, room of the buffer, and what the calls answer.
+    let rows: [(usize, &[u64], usize, &[usize]); 5] = [
+        (3, &[2], 8, &[3, FAILED, 3, 2, 0, 0]),
+        (8, &[], 8, &[8, 0]),
+        (8, &[], 5, &[5, 3, 0]),
+        (
+            1,
+            &[1, 2, 9],
+            4,
+            &[FAILED, FAILED, 1, 1, 1, 1, 1, 1, FAILED, 1, 1, 0],
+        ),
+        (100, &[2], 100, &[8, FAILED, 0]),
+    ];
+    for (chunk, fails, room, answers) in rows {
+        assert!(rt; 1 <= chunk && 1 <= room && room <= 100);
+        let bytes = Vec::from_slice(alloc, TEXT)?;
+        let mut source = VecSource::new(bytes, chunk, Vec::from_slice(alloc, fails)?);
+        let mut buffer = [0; 100];
+        let mut at = 0;
+        for &answer in answers {
+            match source.read(&mut buffer[..room]) {
+                Ok(n) => {
+                    assert_eq!(rt; n, answer);
+                    assert!(rt; at <= 8 && n <= 8 - at && n <= 100);
+                    let text = &TEXT[..];
+                    assert_eq!(rt; &buffer[..n], &text[at..at + n]);
+                    at += n;
+                }
+                Err(_) => assert_eq!(rt; FAILED, answer),
+            }
+        }
+        assert_eq!(rt; at, 8);
+    }
+    Ok(())
+}
+
+#[test]
+fn a_sink_by_chunks(rt: HostRuntime) -> Result<(), Fail> {
+    let alloc = rt.alloc();
+    // Bytes a call, calls that fail, room, and what the calls answer; the text is written on from where it stands.
+    let rows: [(usize, &[u64], usize, &[usize]); 4] = [
+        (3, &[2], 8, &[3, FAILED, 3, 2]),
+        (8, &[], 5, &[5, FAILED, FAILED]),
+        (1, &[1, 3], 2, &[FAILED, 1, FAILED, 1, FAILED]),
+        (100, &[], 8, &[8]),
+    ];
+    for (chunk, fails, room, answers) in rows {
+        assert!(rt; 1 <= chunk);
+        let bytes = Vec::with_capacity(alloc, room)?;
+        let mut sink = VecSink::new(bytes, chunk, Vec::from_slice(alloc, fails)?);
+        let mut at = 0;
+        for &answer in answers {
+            assert!(rt; at < 8);
+            let text = &TEXT[..];
+            match sink.write(&text[at..]) {
+                Ok(n) => {
+                    assert_eq!(rt; n, answer);
+                    assert!(rt; at <= 8 && n <= 8 - at);
+                    at += n;
+                }
+                Err(_) => assert_eq!(rt; FAILED, answer),
+            }
+            let text = &TEXT[..];
+            assert_eq!(rt; sink.written(), &text[..at]);
+        }
     }
     Ok(())
 }

@@ -16,3 +16,15 @@ pub struct Base {
     pub place: u64,
     pub words: Items<u64>,
 }
+
+/// What a loss of power leaves of a service, as numbers: its callers, the lines of its object, how many words its replicas have in
+/// all, the root, and address and value of each word given, by rising addresses. The word at an address is the value of its pair, and 0
+/// where it has none.
+#[derive(Drop)]
+pub struct Image {
+    pub callers: u32,
+    pub lines: u64,
+    pub count: u64,
+    pub root: u64,
+    pub pairs: Items<(u64, u64)>,
+}

@@ -14,7 +14,7 @@ mod step;
 #[cfg(test)]
 mod tests;
 
-pub use entry::{Base, Entry};
+pub use entry::{Base, Entry, Image};
 pub use history::{
     full_image_begins, full_image_goes_on, full_images_are_lawful, full_images_stay,
     full_regions_go_on, full_step_keeps,
@@ -22,8 +22,8 @@ pub use history::{
 pub use kinds::{Event, Kind};
 pub use layout::EXCLUSIVE_MARK;
 pub use local::{
-    Answer, Cell, HeldDowngraded, HeldExclusive, HeldShared, Linked, Local, Protection, Scan,
-    SeenLock, SeenNeed, SeenOffer, SeenRead, SeenSlot, WonCode,
+    Answer, Cell, FullNote, HeldDowngraded, HeldExclusive, HeldShared, Linked, Local, Protection,
+    Scan, SeenLock, SeenNeed, SeenOffer, SeenRead, SeenSlot, WonCode,
 };
 pub use part::Part;
 pub use region::{HEAD_LINES, LINE_WORDS, OBJECT_START, slot_start};

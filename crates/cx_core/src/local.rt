@@ -103,6 +103,17 @@ pub struct WonCode {
     pub before: u64,
 }
 
+/// Why no cell of a caller is idle: another's need, or its own entries, keep its cells from being given again.
+#[derive(Clone, Copy, Debug, PartialEq, Eq, Drop)]
+pub struct FullNote {
+    /// The caller that keeps them.
+    pub holder: u32,
+    /// The place from which on entries are kept.
+    pub need: u64,
+    /// The least ticket of the caller's cells.
+    pub ticket: u64,
+}
+
 /// What keeps the cells from a ticket on from being given again.
 #[derive(Clone, Copy, Debug, PartialEq, Eq, Drop)]
 pub enum Protection {

@@ -10,7 +10,7 @@ use Rattle.std.specs.List.{slice_get}
 use Rattle.cx_core.specs.QueueEvents.{IsIdle, cell_of}
 use Rattle.cx_rule.specs.Running.{Running}
 use Rattle.cx_rule.specs.Seats.{IsAtLimit, Seated, stepped}
-use Rattle.cx_service.specs.declared.submit.FullNote.{FullNote}
+use Rattle.cx_core.specs.declared.local.FullNote.{FullNote}
 use Rattle.cx_service.specs.declared.submit.Submitted.{Submitted}
 use Rattle.cx_service.specs.declared.submit.Submitted.TheVariants.{Linked as LinkedIs, Again, Full, Worn, Halted}
 use Rattle.cx_service.specs.Callers.{HasCellsInOrder, IsCallerOf}

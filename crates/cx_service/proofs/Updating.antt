@@ -7,7 +7,7 @@ use Rattle.cx_core.specs.declared.local.Linked.{Linked as OwnEntry}
 use Rattle.cx_core.specs.Region.{slot_number}
 use Rattle.cx_rule.specs.Running.{Running}
 use Rattle.cx_rule.specs.Seats.{Seated}
-use Rattle.cx_service.specs.declared.submit.FullNote.{FullNote}
+use Rattle.cx_core.specs.declared.local.FullNote.{FullNote}
 use Rattle.cx_service.specs.Drives.{DriveDone, DriveHalted}
 use Rattle.cx_service.specs.Submits.{IsLeastTicket, SubmitAgain, SubmitFull, SubmitHalted, SubmitLinked, SubmitWorn, entry_at}
 use Rattle.cx_service.specs.Lookups.{ReadHalted, ReadPending}

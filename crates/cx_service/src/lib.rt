@@ -22,6 +22,6 @@ pub use drive::Driven;
 pub use lookup::ReadTried;
 pub use service::Service;
 pub use start::StartFault;
-pub use submit::{FullNote, Submitted};
+pub use submit::Submitted;
 pub use threads::cross_threads;
 pub use update::{ReadDone, Updated};

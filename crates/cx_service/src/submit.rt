@@ -9,19 +9,9 @@ ghost use Rattle.cx_service.specs.Submits.{IsNextCell, IsOwnNote, LooksForCell, 
 use crate::callers::{Caller, Linked, Stopped};
 use crate::service::Service;
 use cx_base::{Halt, Object};
+use cx_core::FullNote;
 use cx_table::{CallerSeat, Shared};
 use mutation_queue::{LinkTried, announce, idle_cell, link};
-
-/// Why no cell of a caller is idle: another's need, or its own entries, keep its cells from being given again.
-#[derive(Clone, Copy, Debug, PartialEq, Eq, Drop)]
-pub struct FullNote {
-    /// The caller that keeps them.
-    pub holder: u32,
-    /// The place from which on entries are kept.
-    pub need: u64,
-    /// The least ticket of the caller's cells.
-    pub ticket: u64,
-}
 
 /// What a submit comes to. It hands the caller back in each case.
 #[derive(Drop)]

@@ -11,10 +11,10 @@ ghost use Rattle.cx_service.specs.Callers.{IsCallerOf};
 ghost use Rattle.cx_service.specs.Closes.{seat_of};
 ghost use Rattle.cx_service.specs.Tests.{seat_in};
 
-use crate::{Caller, FullNote, Handed, Service, StartFault, Submitted};
+use crate::{Caller, Handed, Service, StartFault, Submitted};
 use cx_base::Items;
 use cx_base::tally::Tally;
-use cx_core::Base;
+use cx_core::{Base, FullNote};
 use cx_table::Remains;
 use std::alloc::{AllocError, Global};
 use std::test::Fail;

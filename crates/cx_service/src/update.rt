@@ -8,9 +8,9 @@ use crate::callers::{Caller, Linked, Stopped};
 use crate::drive::Driven;
 use crate::lookup::ReadTried;
 use crate::service::Service;
-use crate::submit::{FullNote, Submitted};
+use crate::submit::Submitted;
 use cx_base::Object;
-use cx_core::Answer;
+use cx_core::{Answer, FullNote};
 use cx_turns::Seen;
 use std::sync::Wait;
 

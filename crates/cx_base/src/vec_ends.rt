@@ -1,0 +1,196 @@
+//! A source and a sink in memory that take so many bytes a call, and fail at chosen calls.
+
+ghost use Rattle.std.specs.Prelude.{◌≡◌, ◌↔◌, ◌⊎◌, ◌<◌, ◌≤◌, [], length, vec_capacity, Contains, IfOk, IsErr, IsTrue, OnErr, Some};
+ghost use Rattle.cx_base.specs.Outside.{Gave, Took, Rose, Tells, next_call};
+
+use crate::outside::{Failed, Sink, Source};
+use std::marker::Model;
+
+// The calls of a source or a sink: how many were made, and which of them fail. The counts stay at 2^64 - 1 once there.
+#[derive(Drop)]
+struct Calls {
+    fails: Vec<u64>,
+    made: u64,
+    faults: u64,
+}
+
+impl Calls {
+    // Before the first call.
+    fn new(fails: Vec<u64>) -> Self
+        ensures fails { result.fails ≡ fails }
+        ensures made { result.made ≡ 0 }
+        ensures faults { result.faults ≡ 0 }
+    {
+        Calls {
+            fails,
+            made: 0,
+            faults: 0,
+        }
+    }
+
+    // Counts a call, and answers whether it is one that fails.
+    fn begin(&mut self) -> bool
+        ensures fails { self.new.fails ≡ self.old.fails }
+        ensures made { self.new.made ≡ next_call self.old.made }
+        ensures faults { self.new.faults ≡ self.old.faults }
+        ensures chosen { IsTrue result ↔ Contains self.old.fails.items (next_call self.old.made) }
+    {
+        self.made = self.made.saturating_add(1);
+        self.fails.contains(&self.made)
+    }
+
+    // Counts a failure.
+    fn fail(&mut self) -> Failed
+        ensures fails { self.new.fails ≡ self.old.fails }
+        ensures made { self.new.made ≡ self.old.made }
+        ensures faults { self.new.faults ≡ next_call self.old.faults }
+    {
+        self.faults = self.faults.saturating_add(1);
+        Failed
+    }
+}
+
+/// A source over bytes in memory that gives at most so many bytes a call and fails at the calls chosen, counted from 1. Contracts
+/// see the bytes that it has left, and its calls.
+#[derive(Drop)]
+pub struct VecSource {
+    bytes: Vec<u8>,
+    at: usize,
+    chunk: usize,
+    calls: Calls,
+}
+
+impl Model for VecSource {
+    ghost use Rattle.std.specs.Prelude.{◌≤◌, drop, vec_len};
+    ghost use Rattle.cx_base.specs.Outside.{Telling};
+
+    ghost Value = { Telling };
+
+    ghost view = { λ s. record { bytes = drop s.at s.bytes.items; chunk = s.chunk; fails = s.calls.fails.items; calls = s.calls.made; faults = s.calls.faults } };
+
+    ghost invariant = { λ s. (1 ≤ s.chunk) × (s.at ≤ vec_len s.bytes) };
+}
+
+impl VecSource {
+    /// A source that gives at most `chunk` bytes a call. Exactly the calls whose numbers stand in `fails` fail.
+    pub fn new(bytes: Vec<u8>, chunk: usize, fails: Vec<u64>) -> Self
+        requires { 1 ≤ chunk }
+        ensures { result ≡ record { bytes = bytes.items; chunk = chunk; fails = fails.items; calls = 0; faults = 0 } }
+    {
+        VecSource {
+            bytes,
+            at: 0,
+            chunk,
+            calls: Calls::new(fails),
+        }
+    }
+}
+
+impl Source for VecSource {
+    ghost use Rattle.std.specs.Prelude.{Some};
+
+    ghost left = { λ s. Some s.bytes };
+
+    ghost faults = { λ s. s.faults };
+
+    fn read(&mut self, into: &mut [u8]) -> Result<usize, Failed>
+        requires { 0 < length into.old }
+        ensures ok { IfOk result (λ n. Gave n (Some self.old.bytes) into.new (Some self.new.bytes)) }
+        ensures within { IfOk result (λ n. n ≤ length into.old) }
+        ensures failed { OnErr result (Rose self.old.faults self.new.faults) }
+        ensures untouched { OnErr result (Some self.new.bytes ≡ Some self.old.bytes) }
+        ensures count { self.old.faults ≤ self.new.faults }
+        // It gives at most so many bytes, and fails exactly at the calls chosen.
+        ensures chunk { IfOk result (λ n. n ≤ self.old.chunk) }
+        ensures chosen { IsErr result ↔ Contains self.old.fails (next_call self.old.calls) }
+        ensures kept { Tells self.old self.new }
+    {
+        if self.calls.begin() {
+            return Err(self.calls.fail());
+        }
+        let n = into.len().min(self.chunk).min(self.bytes.len() - self.at);
+        into[..n].copy_from_slice(&self.bytes[self.at..self.at + n]);
+        self.at += n;
+        Ok(n)
+    }
+}
+
+/// A sink that appends at most so many bytes a call to a vector, up to the room reserved in it, and takes no memory. It fails at
+/// the calls chosen, counted from 1, and past that room.
+#[derive(Drop)]
+pub struct VecSink {
+    bytes: Vec<u8>,
+    room: usize,
+    chunk: usize,
+    calls: Calls,
+}
+
+impl Model for VecSink {
+    ghost use Rattle.std.specs.Prelude.{◌≤◌, vec_len, vec_capacity};
+    ghost use Rattle.cx_base.specs.Outside.{Filling};
+
+    ghost Value = { Filling };
+
+    ghost view = { λ s. record { told = record { bytes = s.bytes.items; chunk = s.chunk; fails = s.calls.fails.items; calls = s.calls.made; faults = s.calls.faults }; room = s.room } };
+
+    ghost invariant = { λ s. (1 ≤ s.chunk) × (vec_len s.bytes ≤ s.room) × (s.room ≤ vec_capacity s.bytes) };
+}
+
+impl VecSink {
+    /// A sink with the room that the vector has reserved, behind what it holds already, which takes at most `chunk` bytes a call.
+    /// The calls whose numbers stand in `fails` fail.
+    pub fn new(room: Vec<u8>, chunk: usize, fails: Vec<u64>) -> Self
+        requires { 1 ≤ chunk }
+        ensures { result ≡ record { told = record { bytes = room.items; chunk = chunk; fails = fails.items; calls = 0; faults = 0 }; room = vec_capacity room } }
+    {
+        let reserved = room.capacity();
+        VecSink {
+            bytes: room,
+            room: reserved,
+            chunk,
+            calls: Calls::new(fails),
+        }
+    }
+
+    /// The bytes that the vector held at first and those written since.
+    pub fn written(&self) -> &[u8]
+        ensures { result.now ≡ self.now.told.bytes }
+    {
+        &self.bytes
+    }
+}
+
+impl Sink for VecSink {
+    ghost use Rattle.std.specs.Prelude.{Some};
+
+    ghost written = { λ s. Some s.told.bytes };
+
+    ghost faults = { λ s. s.told.faults };
+
+    fn write(&mut self, piece: &[u8]) -> Result<usize, Failed>
+        requires { 0 < length piece.now }
+        ensures ok { IfOk result (λ n. Took n piece.now (Some self.old.told.bytes) (Some self.new.told.bytes)) }
+        ensures some { IfOk result (λ n. 0 < n) }
+        ensures within { IfOk result (λ n. n ≤ length piece.now) }
+        ensures failed { OnErr result (Rose self.old.told.faults self.new.told.faults) }
+        ensures untouched { OnErr result (Some self.new.told.bytes ≡ Some self.old.told.bytes) }
+        ensures count { self.old.told.faults ≤ self.new.told.faults }
+        // It takes at most so many bytes, and fails exactly at the calls chosen and where no room is left.
+        ensures chunk { IfOk result (λ n. n ≤ self.old.told.chunk) }
+        ensures chosen { IsErr result ↔ (Contains self.old.told.fails (next_call self.old.told.calls) ⊎ (self.old.room ≤ length self.old.told.bytes)) }
+        ensures kept { Tells self.old.told self.new.told }
+        ensures room { self.new.room ≡ self.old.room }
+    {
+        if self.calls.begin() {
+            return Err(self.calls.fail());
+        }
+        let n = piece
+            .len()
+            .min(self.chunk)
+            .min(self.room - self.bytes.len());
+        if n == 0 || self.bytes.extend_from_slice(&piece[..n]).is_err() {
+            return Err(self.calls.fail());
+        }
+        Ok(n)
+    }
+}
