@@ -1,10 +1,11 @@
 //! What is recorded of a life.
 
 use cx_base::Items;
+use cx_core::FullNote;
 use doc_model::Reply;
 
-/// A life as it went: the entries of its history by ticket, the reads that were answered beside it, and how many of
-/// the entries the loss of power kept.
+/// A life as it went: the entries of its history by ticket; the reads that were answered beside it, the clients that were
+/// stopped and those that gave up, each by client; and how many of the entries the loss of power kept.
 #[derive(Drop)]
 pub struct LifeRecord {
     pub clients: u32,
@@ -12,6 +13,8 @@ pub struct LifeRecord {
     pub from: u64,
     pub journal: Items<JournalLine>,
     pub reads: Items<ReadLine>,
+    pub stops: Items<StopLine>,
+    pub fulls: Items<FullLine>,
     pub choice: u64,
     /// The first so many entries outlive the loss of power.
     pub kept: u64,
@@ -36,4 +39,21 @@ pub struct ReadLine {
     pub command: u64,
     pub place: u64,
     pub reply: Reply,
+}
+
+/// A client that was stopped in a command, at its limit of steps, and whether the command's entry outlives the loss of power.
+#[derive(Clone, Copy, Debug, PartialEq, Eq, Drop)]
+pub struct StopLine {
+    pub client: u32,
+    pub command: u64,
+    pub steps: u64,
+    pub kept: bool,
+}
+
+/// A client that gave up in a command, since another that was stopped kept its cells.
+#[derive(Clone, Copy, Debug, PartialEq, Eq, Drop)]
+pub struct FullLine {
+    pub client: u32,
+    pub command: u64,
+    pub note: FullNote,
 }

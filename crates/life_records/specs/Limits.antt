@@ -1,0 +1,38 @@
+-- The limits of a script that is run.
+use Rattle.std.specs.Prelude.{◌≡◌, ◌<◌, ◌≤◌, ◌^◌, All, AllPairs, length}
+use Rattle.doc_model.specs.Meaning.{IsOp}
+use Rattle.life_records.specs.Scripts.{command_count}
+use Rattle.life_records.specs.declared.script.Command.{Command}
+use Rattle.life_records.specs.declared.script.Cut.{Cut}
+use Rattle.life_records.specs.declared.script.Life.{Life}
+use Rattle.life_records.specs.declared.script.Script.{Script}
+
+-- a command of a client of the life, with a key and a document within the limits
+pub record IsCommandOf (life : Life) (c : Command) : Type 0 where
+  pub client : c.client < life.clients
+  pub op : IsOp c.op
+
+-- a cut of a client of the life
+pub record IsCutOf (life : Life) (cut : Cut) : Type 0 where
+  pub client : cut.client < life.clients
+  pub steps : cut.steps < 2 ^ 64
+
+-- no client has two cuts
+abbrev pub AreOfTwo : Cut → Cut → Type 0
+AreOfTwo a b = a.client ≡ b.client → ⊥
+
+-- 1 to 8 clients, whose cuts and commands are theirs, one cut a client at the most
+pub record IsLifeInLimits (life : Life) : Type 0 where
+  pub some : 1 ≤ life.clients
+  pub few : life.clients ≤ 8
+  pub choice : life.choice < 2 ^ 64
+  pub commands : All (IsCommandOf life) life.commands
+  pub cuts : All (IsCutOf life) life.cuts
+  pub apart : AllPairs AreOfTwo life.cuts
+
+-- 64 to 16,384 lines where there is a life, 1,000 lives and 100,000 commands at the most, and lives within their limits
+pub record KeepsLimits (script : Script) : Type 0 where
+  pub lines : 0 < length script.lives → (64 ≤ script.lines) × (script.lines ≤ 16384)
+  pub lives : length script.lives ≤ 1000
+  pub commands : command_count script.lives ≤ 100000
+  pub each : All IsLifeInLimits script.lives

@@ -1,0 +1,241 @@
+-- What may happen: a history that interleaves the clients' commands, a legal life, and legal lives.
+use Rattle.std.specs.Prelude.{◌≡◌, ◌≢◌, ◌↔◌, ◌+◌, ◌-◌, ◌^◌, ◌<◌, ◌≤◌, ◌⊎◌, ℕ, Bool, true, ◌&&◌, ◌==◌, nat_le, List, [], ◌∷◌, ◌++◌, length, take, map, filter, count_by, All, AllPairs, Contains, slice_get, Option, None, Some, IsSome, IfSome, is_some}
+use Rattle.std.specs.List.{filter_map, list_any}
+use Rattle.std.specs.Option.{option_map}
+use Rattle.std.specs.List.Sorted.{IsStrictlyIncreasing}
+use Rattle.cx_base.specs.Store.{Store}
+use Rattle.doc_model.specs.Meaning.{reply_to, store_after, only_reads}
+use Rattle.doc_model.specs.declared.operations.Op.{Op}
+use Rattle.doc_model.specs.declared.operations.Reply.{Reply}
+use Rattle.life_records.specs.Scripts.{limit_in, named_op, own_ops}
+use Rattle.life_records.specs.declared.script.Life.{Life}
+use Rattle.life_records.specs.declared.script.Script.{Script}
+use Rattle.life_records.specs.declared.record.FullLine.{FullLine}
+use Rattle.life_records.specs.declared.record.JournalLine.{JournalLine}
+use Rattle.life_records.specs.declared.record.ReadLine.{ReadLine}
+use Rattle.life_records.specs.declared.record.StopLine.{StopLine}
+pub use Rattle.life_records.specs.declared.record.LifeRecord.{LifeRecord}
+
+-- the life has this command of this client
+pub record Names (life : Life) (client command : ℕ) : Type 0 where
+  pub takes_part : client < life.clients
+  pub there : IsSome (named_op life client command)
+
+-- the operations of entries, in order
+abbrev pub ops_of : Life → List JournalLine → List Op
+ops_of life journal = filter_map (λ line. named_op life line.client line.command) journal
+
+-- the store after operations
+abbrev pub store_after_all : ℕ → Store → List Op → Store
+store_after_all lines store [] = store
+store_after_all lines store (op ∷ ops) = store_after_all lines (store_after lines store op) ops
+
+-- the store after the first n entries
+abbrev pub store_at : ℕ → Store → Life → List JournalLine → ℕ → Store
+store_at lines store life journal n = store_after_all lines store (ops_of life (take n journal))
+
+-- the numbers of a client's commands among the entries, in order
+abbrev pub numbers_of : ℕ → List JournalLine → List ℕ
+numbers_of client journal = map (λ line. line.command) (filter (λ line. line.client == client) journal)
+
+-- the history interleaves the clients' linked commands: of each client, those that stand in it stand in script order,
+-- each once
+pub record Interleaves (life : Life) (journal : List JournalLine) : Type 0 where
+  pub named : All (λ line. Names life line.client line.command) journal
+  pub in_order : (client : ℕ) → IsStrictlyIncreasing (numbers_of client journal)
+
+-- An answer that a client was given: to which command, the place where it holds, and the place that no later answer to
+-- this client may lie below.
+pub record Answer : Type 0 where
+  pub client : ℕ
+  pub command : ℕ
+  pub at : ℕ
+  pub next : ℕ
+
+-- the answers in the history, and those beside it
+abbrev pub journal_answer : JournalLine → Option Answer
+journal_answer line =
+    option_map (λ _. record { client = line.client; command = line.command; at = line.ticket; next = line.ticket + 1 }) line.reply
+
+abbrev pub read_answer : ReadLine → Answer
+read_answer line = record { client = line.client; command = line.command; at = line.place; next = line.place }
+
+abbrev pub answers_of : List JournalLine → List ReadLine → List Answer
+answers_of journal reads = filter_map journal_answer journal ++ map read_answer reads
+
+-- the answers to one command
+abbrev pub count_to : ℕ → ℕ → List Answer → ℕ
+count_to client command answers = count_by (λ a. (a.client == client) && (a.command == command)) answers
+
+-- reads stand by client, and those of one client by command
+abbrev pub IsReadBefore : ReadLine → ReadLine → Type 0
+IsReadBefore a b = (a.client < b.client) ⊎ ((a.client ≡ b.client) × (a.command < b.command))
+
+-- stop lines and full lines stand by client, one a client at the most
+abbrev pub IsStopBefore : StopLine → StopLine → Type 0
+IsStopBefore a b = a.client < b.client
+
+abbrev pub IsFullBefore : FullLine → FullLine → Type 0
+IsFullBefore a b = a.client < b.client
+
+-- whether a client was stopped in a command, or gave up in it
+abbrev pub is_stop_in : ℕ → ℕ → StopLine → Bool
+is_stop_in client command line = (line.client == client) && (line.command == command)
+
+abbrev pub is_full_in : ℕ → ℕ → FullLine → Bool
+is_full_in client command line = (line.client == client) && (line.command == command)
+
+abbrev pub has_stop : ℕ → ℕ → List StopLine → Bool
+has_stop client command stops = list_any (is_stop_in client command) stops
+
+abbrev pub has_full : ℕ → ℕ → List FullLine → Bool
+has_full client command fulls = list_any (is_full_in client command) fulls
+
+-- a client was stopped
+abbrev pub is_stopped : ℕ → List StopLine → Bool
+is_stopped client stops = list_any (λ line. line.client == client) stops
+
+-- the reply that an operation has in a store
+abbrev pub HasReply : ℕ → Store → Option Op → Reply → Type 0
+HasReply lines store op reply = IfSome op (λ o. reply ≡ reply_to lines store o)
+
+-- a read beside a history that began at a place with a store: its place is in the history, and its reply is that of the
+-- store after the entries below its place
+pub record IsLegalRead (lines place : ℕ) (store : Store) (life : Life) (journal : List JournalLine) (line : ReadLine) : Type 0 where
+  pub named : Names life line.client line.command
+  pub reads : IfSome (named_op life line.client line.command) (λ op. only_reads op ≡ true)
+  pub from : place ≤ line.place
+  pub to : line.place ≤ place + length journal
+  pub reply : HasReply lines (store_at lines store life journal (line.place - place)) (named_op life line.client line.command) line.reply
+
+-- an entry of a client that was answered so many commands: it is one of them and has a reply; or it is the next one, which was
+-- stopped, and has none
+abbrev pub IsEndedEntry : ℕ → ℕ → List StopLine → JournalLine → Type 0
+IsEndedEntry client answered stops line =
+    ((1 ≤ line.command) × (line.command ≤ answered) × IsSome line.reply)
+    ⊎ ((line.command ≡ answered + 1) × (line.reply ≡ None) × (has_stop client (answered + 1) stops ≡ true))
+
+-- What a client came to. Each of its commands up to a number has exactly one answer, in the history or beside it. They are all
+-- that it has, or it was stopped in the next one or gave up in it. No other command has a line.
+pub record HasEnded (life : Life) (told : LifeRecord) (client : ℕ) : Type 0 where
+  pub answered : ℕ
+  pub within : answered ≤ length (own_ops client life.commands)
+  pub once : (command : ℕ) → 1 ≤ command → command ≤ answered → count_to client command (answers_of told.journal told.reads) ≡ 1
+  pub entries : All (λ line. line.client ≡ client → IsEndedEntry client answered told.stops line) told.journal
+  pub reads : All (λ line. line.client ≡ client → (1 ≤ line.command) × (line.command ≤ answered)) told.reads
+  pub stops : All (λ line. line.client ≡ client → line.command ≡ answered + 1) told.stops
+  pub fulls : All (λ line. line.client ≡ client → line.command ≡ answered + 1) told.fulls
+  pub over : (answered ≡ length (own_ops client life.commands)) ⊎ ((has_stop client (answered + 1) told.stops ≡ true) ⊎ (has_full client (answered + 1) told.fulls ≡ true))
+
+-- A client was stopped in a command that it has, at the limit that its cut line gives it.
+pub record IsLegalStop (life : Life) (line : StopLine) : Type 0 where
+  pub named : Names life line.client line.command
+  pub steps : line.steps ≡ limit_in line.client life.cuts
+  pub limit : line.steps < 2 ^ 64 - 1
+
+-- an answered entry of a client, from a ticket on
+abbrev pub is_answered_from : ℕ → ℕ → JournalLine → Bool
+is_answered_from client ticket line = (line.client == client) && (is_some line.reply && nat_le ticket line.ticket)
+
+-- A client gave up in a command that it has. Another client, which was stopped, needs a ticket at or below the one named, and all 16
+-- cells of the client hold answered entries from that ticket on, one of them at it.
+pub record IsLegalFull (life : Life) (told : LifeRecord) (line : FullLine) : Type 0 where
+  pub named : Names life line.client line.command
+  pub other : line.note.holder ≢ line.client
+  pub stopped : is_stopped line.note.holder told.stops ≡ true
+  pub need : line.note.need ≤ line.note.ticket
+  pub cells : 16 ≤ count_by (is_answered_from line.client line.note.ticket) told.journal
+  pub least : JournalLine
+  pub there : Contains told.journal least
+  pub own : least.client ≡ line.client
+  pub at : least.ticket ≡ line.note.ticket
+  pub answered : IsSome least.reply
+
+-- What happened in a life that began at a place with a store.
+pub record IsLegal (lines place : ℕ) (store : Store) (life : Life) (told : LifeRecord) : Type 0 where
+  -- one history, that interleaves the clients' commands
+  pub tickets : (i : ℕ) (line : JournalLine) → slice_get told.journal i ≡ Some line → line.ticket ≡ place + i
+  pub interleaved : Interleaves life told.journal
+  -- the other lines stand in their order
+  pub reads_in_order : AllPairs IsReadBefore told.reads
+  pub stops_in_order : AllPairs IsStopBefore told.stops
+  pub fulls_in_order : AllPairs IsFullBefore told.fulls
+  -- each command is answered once, up to the client's end
+  pub ended : (client : ℕ) → client < life.clients → HasEnded life told client
+  pub stops : All (IsLegalStop life) told.stops
+  pub fulls : All (IsLegalFull life told) told.fulls
+  -- each reply is the one-thread store's at its place
+  pub replies : (i : ℕ) (line : JournalLine) → slice_get told.journal i ≡ Some line →
+      IfSome line.reply (HasReply lines (store_at lines store life told.journal i) (named_op life line.client line.command))
+  pub legal_reads : All (IsLegalRead lines place store life told.journal) told.reads
+  -- no answer to a client lies below what the client was told before
+  pub in_turn : (a b : Answer) → Contains (answers_of told.journal told.reads) a → Contains (answers_of told.journal told.reads) b →
+      a.client ≡ b.client → a.command < b.command → a.next ≤ b.at
+
+-- the command in which a client was stopped has an entry that is kept
+pub record IsKeptStop (place kept : ℕ) (journal : List JournalLine) (line : StopLine) : Type 0 where
+  pub entry : JournalLine
+  pub there : Contains journal entry
+  pub client : entry.client ≡ line.client
+  pub command : entry.command ≡ line.command
+  pub below : entry.ticket < place + kept
+
+-- What outlives the loss of power: a prefix of the history that holds everything answered.
+pub record IsKept (lines place : ℕ) (store : Store) (life : Life) (told : LifeRecord) : Type 0 where
+  pub prefix : told.kept ≤ length told.journal
+  pub answered : All (λ a. a.next ≤ place + told.kept) (answers_of told.journal told.reads)
+  pub stops : All (λ line. (line.kept ≡ true) ↔ IsKeptStop place told.kept told.journal line) told.stops
+  pub documents : told.documents ≡ length (store_at lines store life told.journal told.kept)
+
+-- a record of a life that begins at a place with a store
+pub record IsLegalLife (lines place : ℕ) (store : Store) (life : Life) (told : LifeRecord) : Type 0 where
+  pub clients : told.clients ≡ life.clients
+  pub choice : told.choice ≡ life.choice
+  pub from : told.from ≡ place
+  pub legal : IsLegal lines place store life told
+  pub kept : IsKept lines place store life told
+
+-- records of lives, the first of which begins at a place with a store, and each next one with what was kept
+abbrev pub AreLivesFrom : ℕ → ℕ → Store → List Life → List LifeRecord → Type 0
+AreLivesFrom lines place store [] [] = Unit {0}
+AreLivesFrom lines place store (life ∷ lives) (told ∷ records) =
+    IsLegalLife lines place store life told
+    × AreLivesFrom lines (place + told.kept) (store_at lines store life told.journal told.kept) lives records
+AreLivesFrom lines place store [] (told ∷ records) = ⊥
+AreLivesFrom lines place store (life ∷ lives) [] = ⊥
+
+-- the records are legal lives of the script, from place 0 and the empty store on
+abbrev pub AreLegalLives : Script → List LifeRecord → Type 0
+AreLegalLives script records = AreLivesFrom script.lines 0 [] script.lives records
+
+-- the lines of a record name commands of the life
+pub record NamesCommands (life : Life) (told : LifeRecord) : Type 0 where
+  pub journal : All (λ line. Names life line.client line.command) told.journal
+  pub reads : All (λ line. Names life line.client line.command) told.reads
+
+-- there is a record for each life, and its lines name commands of the life
+abbrev pub NameCommands : List Life → List LifeRecord → Type 0
+NameCommands [] [] = Unit {0}
+NameCommands (life ∷ lives) (told ∷ records) = NamesCommands life told × NameCommands lives records
+NameCommands [] (told ∷ records) = ⊥
+NameCommands (life ∷ lives) [] = ⊥
+
+-- a number of 64 bits, as each is in a value of the type
+abbrev pub Fits : ℕ → Type 0
+Fits n = n < 2 ^ 64
+
+-- the numbers of a record are within 64 bits, as they are in each value of the type
+pub record HasNumbers (told : LifeRecord) : Type 0 where
+  pub clients : Fits told.clients
+  pub from : Fits told.from
+  pub choice : Fits told.choice
+  pub kept : Fits told.kept
+  pub documents : Fits told.documents
+  pub entries : Fits (length told.journal)
+  pub journal : All (λ line. Fits line.ticket × Fits line.client × Fits line.command) told.journal
+  pub reads : All (λ line. Fits line.client × Fits line.command × Fits line.place) told.reads
+  pub stops : All (λ line. Fits line.client × Fits line.command × Fits line.steps) told.stops
+  pub fulls : All (λ line. Fits line.client × Fits line.command × Fits line.note.holder × Fits line.note.need × Fits line.note.ticket) told.fulls
+
+abbrev pub AreNumbers : List LifeRecord → Type 0
+AreNumbers records = All HasNumbers records
