@@ -278,6 +278,10 @@ pub pairs_rise : {X : Type 0} (key : X → ℕ) (xs : List X) → AllPairs (λ a
 pairs_rise key [] a = tt
 pairs_rise key (x ∷ xs) a = (pairs_head (λ a b. key a < key b) x xs a, pairs_rise key xs (pairs_tail (λ a b. key a < key b) x xs a))
 
+pub rises_pairs : {X : Type 0} (key : X → ℕ) (xs : List X) → Rises key xs → AllPairs (λ a b. key a < key b) xs
+rises_pairs key [] r = λ i j d up within. absurd (omega arith)
+rises_pairs key (x ∷ xs) r = pairs_cons (λ a b. key a < key b) x xs r.0 (rises_pairs key xs r.1)
+
 -- two lists in order stand in order, the first before the second
 pub pairs_append : {X : Type 0} (R : X → X → Type 0) (xs ys : List X) → AllPairs R xs → AllPairs R ys → ((x y : X) → Has xs x → Has ys y → R x y) → AllPairs R (xs ++ ys)
 pairs_append R [] ys a b c = b
