@@ -21,7 +21,7 @@ use Rattle.life_records.specs.Lives.{HasEnded, IsEndedEntry, IsLegalFull, IsLega
 use Rattle.life_records.specs.Scripts.{limit_in, own_ops}
 use Rattle.journals.specs.Ended.{IsEnded, IsSameButKept, IsSameStop}
 use Rattle.journals.specs.Told.{IsTold, IsToldFull, IsToldStop}
-use Rattle.journals.specs.Works.{AreReadLines, IsLineOf, IsLineReply, IsReadLine, IsStoppedRead, by_read, stop_of, stops_in}
+use Rattle.journals.specs.Works.{AreReadLines, HasWords, IsLineOf, IsLineReply, IsReadLine, IsStoppedRead, by_read, stop_of, stops_in}
 use Rattle.journals.proofs.Lists.{Each, all_each, each_all, pairs_rise, rises_pairs, zip_each, zip_rises}
 
 -- another flag is all that differs
@@ -82,7 +82,9 @@ line_flagged life client answered a b x line same is = record {
 stopped_flagged : (life : Life) (client : ℕ) (a b : Option StopLine) (x : SeenRead) → SameStopOf a b → IsStoppedRead life client a x → IsStoppedRead life client b x
 stopped_flagged life client None b x same is = absurd (none-some is.line is.is)
 stopped_flagged life client (Some a) None x same is = absurd same
-stopped_flagged life client (Some a) (Some b) x same is = record { line = b; is = refl; op = is.op }
+stopped_flagged life client (Some a) (Some b) x same is =
+    let command : is.line.command ≡ b.command = ap (λ (s : StopLine). s.command) (sym (same_Some a is.line is.is)) ∙ sym same.command in
+    record { line = b; is = refl; op = subst (λ k. HasWords life client k x.op) command is.op }
 
 reads_flagged : (life : Life) (client : ℕ) (a b : Option StopLine) (seen : List SeenRead) (lines : List ReadLine) → SameStopOf a b → AreReadLines life client a seen lines → AreReadLines life client b seen lines
 reads_flagged life client a b seen lines same are = record {
@@ -117,7 +119,7 @@ module _ (life : Life) (told flagged : LifeRecord) (same : IsSameButKept told fl
     stops = stops_flagged (IsToldStop locals)
         (λ a b s t. record { local = t.local; of_client = ap (slice_get locals) s.client ∙ t.of_client; steps = t.steps })
         told.stops flagged.stops same.stops is.stops;
-    fulls = rw same.fulls (All-weaker (IsToldFull locals told.stops) (IsToldFull locals flagged.stops)
+    fulls = subst (All (IsToldFull locals flagged.stops)) (sym same.fulls) (All-weaker (IsToldFull locals told.stops) (IsToldFull locals flagged.stops)
         (λ line t. record {
           local = t.local;
           of_client = t.of_client;
@@ -191,5 +193,5 @@ module _ (life : Life) (told flagged : LifeRecord) (same : IsSameButKept told fl
           limit = rw s.steps was.limit;
         })
         told.stops flagged.stops same.stops e.stops;
-    fulls = rw same.fulls (All-weaker (IsLegalFull life told) (IsLegalFull life flagged) full_flagged told.fulls e.fulls);
+    fulls = subst (All (IsLegalFull life flagged)) (sym same.fulls) (All-weaker (IsLegalFull life told) (IsLegalFull life flagged) full_flagged told.fulls e.fulls);
   }

@@ -2,4 +2,7 @@
 //! are the record that the history tells.
 #![tactic(auto)]
 
+mod kept;
 pub mod laws;
+
+pub use kept::is_kept;
