@@ -1,5 +1,7 @@
+pub mod Keeping
 pub mod Lists
 pub mod Recording
 pub mod ReplyWords
+pub mod Slots
 pub mod Steps
 pub mod Turns
