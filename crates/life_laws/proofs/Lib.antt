@@ -1,3 +1,4 @@
+pub mod Fresh
 pub mod Keeping
 pub mod Lists
 pub mod Recording
