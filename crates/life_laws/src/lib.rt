@@ -6,8 +6,10 @@ mod begins;
 mod kept;
 mod meanings;
 mod replies;
+mod values;
 
 pub use begins::{fresh_bases_begin_with_nothing, kept_bases_begin_the_next_life};
 pub use kept::kept_lives_go_on;
 pub use meanings::{histories_mean_stores, words_tell_replies};
 pub use replies::replies_are_the_stores;
+pub use values::{amounts_have_64_bits, replies_are_values};
