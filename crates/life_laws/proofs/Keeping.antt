@@ -1,13 +1,11 @@
 -- The base that was kept of a life goes on behind it.
-use Rattle.std.proofs.Common.{◌≡◌, ◌+◌, ◌-◌, ◌^◌, ◌<◌, ◌≤◌, ◌⊎◌, inl, inr, ℕ, List, length, take, Some, refl, sym, ap, subst, ◌∙◌, arith}
-use Rattle.std.specs.List.{All, Contains, slice_get}
+use Rattle.std.proofs.Common.{◌≡◌, ◌+◌, ◌-◌, ◌≤◌, inl, inr, ℕ, List, length, take, refl, sym, ap, subst, ◌∙◌, arith}
+use Rattle.std.specs.List.{Contains, slice_get}
 use Rattle.std.proofs.lemmas.List.Elements.{Contains-get_or}
-use Rattle.cx_base.specs.Memory.{Words}
 use Rattle.cx_base.specs.Store.{Store}
 use Rattle.cx_core.specs.Base.{LawfulBase}
 use Rattle.cx_core.specs.History.{full_image, image_from}
 use Rattle.cx_core.specs.Lawful.{Lawful}
-use Rattle.cx_core.specs.Merge.{own_of}
 use Rattle.cx_core.specs.Region.{object_part, slot_number, slot_reply}
 use Rattle.cx_core.specs.State.{State}
 use Rattle.cx_core.specs.declared.entry.Base.{Base}
@@ -26,7 +24,7 @@ use Rattle.life_laws.specs.Meanings.{store_instance}
 use Rattle.life_laws.specs.Recorded.{GoesOn, IsKeptIn, IsRecorded}
 use Rattle.life_laws.proofs.Recording.{answered_line, client_is, lines_are, read_client, read_of_line}
 use Rattle.life_laws.proofs.Slots.{Numbered, goes_on}
-use Rattle.life_laws.proofs.Turns.{OfEntry, OfRead, line_behind}
+use Rattle.life_laws.proofs.Turns.{line_behind}
 use Rattle.life_records.specs.Lives.{Answer, answers_of, store_at}
 use Rattle.life_records.specs.declared.record.LifeRecord.{LifeRecord}
 use Rattle.life_records.specs.declared.script.Life.{Life}

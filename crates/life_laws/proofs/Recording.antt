@@ -1,6 +1,6 @@
 -- What a record says of the state that tells it: the answer and the read behind each line.
-use Rattle.std.proofs.Common.{◌≡◌, ◌+◌, ◌-◌, ◌<◌, ◌≤◌, ◌==◌, ℕ, Bool, true, false, List, length, map, filter, Option, None, Some, IfSome, IsSome, refl, sym, ap, subst, ◌∙◌, arith}
-use Rattle.std.specs.List.{All, AllZip, Contains, slice_get}
+use Rattle.std.proofs.Common.{◌≡◌, ◌+◌, ◌-◌, ◌<◌, ◌≤◌, ℕ, Bool, true, false, List, length, filter, Option, None, Some, IfSome, IsSome, refl, sym, ap, subst, ◌∙◌, arith}
+use Rattle.std.specs.List.{All, Contains, slice_get}
 use Rattle.std.specs.Option.{option_map}
 use Rattle.std.proofs.lemmas.Bool.{and_parts, eq-eqb}
 use Rattle.std.proofs.lemmas.List.{length-map}
@@ -24,7 +24,7 @@ use Rattle.cx_core.proofs.ListLemmas.{item_below, slice_get-append_left}
 use Rattle.core_answers.proofs.Places.{durable_within}
 use Rattle.core_runs.proofs.Keeps.{bounds_of}
 use Rattle.doc_model.specs.Meaning.{only_reads, reply_to}
-use Rattle.doc_model.specs.Words.{IsOpOf, op_words, reply_words}
+use Rattle.doc_model.specs.Words.{IsOpOf, reply_words}
 use Rattle.doc_model.specs.declared.operations.Op.{Op}
 use Rattle.doc_model.specs.declared.operations.Reply.{Reply}
 use Rattle.doc_store.specs.ExactStep.{IsImage, is_op_in, op_in, reads_in, store_step}
@@ -33,9 +33,9 @@ use Rattle.journals.specs.Works.{HasWords, IsLineOf, IsLineReply, IsReadLine, Is
 use Rattle.life_laws.specs.Meanings.{AreLinesOf, MeanStores, store_instance}
 use Rattle.life_laws.specs.Recorded.{IsRecorded}
 use Rattle.life_laws.specs.Replies.{IsReplyValue}
-use Rattle.life_laws.proofs.Lists.{All-item, Contains-item, filter_item, zip_item, zip_items}
+use Rattle.life_laws.proofs.Lists.{All-item, Contains-item, filter_item, zip_item}
 use Rattle.life_laws.proofs.ReplyWords.{told_by_words}
-use Rattle.life_laws.proofs.Steps.{image_stands, mean_stores, op_amount, op_is, op_limits, reply_fits}
+use Rattle.life_laws.proofs.Steps.{image_stands, mean_stores, op_is, reply_fits}
 use Rattle.life_records.specs.Lives.{HasReply, IsLegalRead, store_at}
 use Rattle.life_records.specs.Scripts.{named_op}
 use Rattle.life_records.specs.declared.record.JournalLine.{JournalLine}

@@ -1,5 +1,5 @@
 -- The words of a reply tell it among all replies within the limits.
-use Rattle.std.proofs.Common.{◌≡◌, ◌≤◌, ◌<◌, ℕ, List, All, length, get_or, refl, sym, ap, subst, ◌∙◌, arith}
+use Rattle.std.proofs.Common.{◌≡◌, ◌≤◌, length, get_or, refl, sym, ap, ◌∙◌, arith}
 use Rattle.doc_model.specs.Words.{HasWordNumber, IsReply, reply_words}
 use Rattle.doc_model.specs.WordParts.{IsShortText, reply_with}
 use Rattle.doc_model.specs.declared.operations.Reply.{Reply}

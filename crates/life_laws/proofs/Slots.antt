@@ -1,8 +1,7 @@
 -- A base goes on entry by entry: its store, and of each client the number of its entries and the reply to the last.
-use Rattle.std.proofs.Common.{◌≡◌, ◌≢◌, ◌+◌, ◌-◌, ◌*◌, ◌^◌, ◌<◌, ◌≤◌, ◌⊎◌, inl, inr, ℕ, zero, suc, Bool, cond, ◌==◌, List, [], ◌∷◌, length, take, Option, None, Some, refl, sym, ap, subst, ◌∙◌, arith}
+use Rattle.std.proofs.Common.{◌≡◌, ◌≢◌, ◌+◌, ◌^◌, ◌<◌, ◌≤◌, inl, inr, ℕ, zero, suc, cond, List, [], ◌∷◌, length, take, Option, None, Some, refl, sym, ap, subst, ◌∙◌, arith}
 use Rattle.std.specs.List.{cons_option, slice_get}
 use Rattle.std.proofs.lemmas.Bool.{cases_eq, cases_order, eq-eqb, ne_eqb}
-use Rattle.cx_base.specs.Memory.{Words}
 use Rattle.cx_base.specs.Store.{Store}
 use Rattle.cx_core.specs.Base.{LawfulBase}
 use Rattle.cx_core.specs.History.{AreLawful, IsLawfulEntry, image_from}
@@ -25,7 +24,7 @@ use Rattle.life_laws.specs.Meanings.{AreLinesOf}
 use Rattle.life_laws.specs.Replies.{HasAmounts}
 use Rattle.life_laws.proofs.Steps.{Stepped, op_is, rest_of, stepped, store_next}
 use Rattle.life_records.specs.Limits.{IsLifeInLimits}
-use Rattle.life_records.specs.Lives.{ops_of, store_after_all, store_at}
+use Rattle.life_records.specs.Lives.{ops_of, store_after_all}
 use Rattle.life_records.specs.Scripts.{named_op}
 use Rattle.life_records.specs.declared.record.JournalLine.{JournalLine}
 use Rattle.life_records.specs.declared.script.Life.{Life}

@@ -1,17 +1,15 @@
 -- The answers to one client, by rising numbers of their commands, have rising places.
-use Rattle.std.proofs.Common.{◌≡◌, ◌+◌, ◌<◌, ◌≤◌, ◌⊎◌, inl, inr, ℕ, List, length, map, filter, Option, Some, refl, sym, ap, subst, ◌∙◌, arith}
-use Rattle.std.specs.List.{All, Contains, filter_map, slice_get}
-use Rattle.std.proofs.lemmas.Bool.{cases_lt, cases_order, eq-eqb}
+use Rattle.std.proofs.Common.{◌≡◌, ◌+◌, ◌<◌, ◌≤◌, ◌⊎◌, inl, inr, ℕ, List, map, filter, Some, refl, sym, ap, ◌∙◌, arith}
+use Rattle.std.specs.List.{Contains, filter_map, slice_get}
+use Rattle.std.proofs.lemmas.Bool.{cases_lt, cases_order}
 use Rattle.std.proofs.lemmas.Option.{same_Some}
 use Rattle.cx_base.specs.Store.{Store}
 use Rattle.cx_core.specs.Base.{LawfulBase}
 use Rattle.cx_core.specs.Lawful.{Lawful}
-use Rattle.cx_core.specs.LawfulAnswers.{IsRead, durable_place}
 use Rattle.cx_core.specs.Shown.{shown}
 use Rattle.cx_core.specs.State.{State}
 use Rattle.cx_core.specs.declared.entry.Base.{Base}
 use Rattle.cx_core.specs.declared.local.Linked.{Linked}
-use Rattle.cx_core.specs.declared.local.SeenRead.{SeenRead}
 use Rattle.core_answers.proofs.OwnLaws.{own_rises}
 use Rattle.doc_model.specs.declared.operations.Reply.{Reply}
 use Rattle.doc_store.specs.ExactStep.{IsImage}

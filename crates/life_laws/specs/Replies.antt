@@ -1,5 +1,5 @@
 -- Replies as each value of the type is.
-use Rattle.std.specs.Prelude.{◌^◌, ◌<◌, ℕ, List, All, FitsSigned, IfSome}
+use Rattle.std.specs.Prelude.{◌^◌, ◌<◌, All, FitsSigned, IfSome}
 use Rattle.std.specs.Int.{w64}
 use Rattle.doc_model.specs.Words.{HasIntegerAmount}
 use Rattle.doc_model.specs.declared.operations.Reply.{Reply}

@@ -1,4 +1,4 @@
-use Rattle.std.proofs.Common.{IfSome, sym, subst, arith}
+use Rattle.std.proofs.Common.{sym, subst, arith}
 use Rattle.std.proofs.lemmas.List.{take_all}
 use Rattle.std.proofs.lemmas.List.Elements.{All-more, All-same}
 use Rattle.doc_model.specs.Words.{HasIntegerAmount}

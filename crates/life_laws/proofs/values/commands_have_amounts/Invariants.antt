@@ -1,4 +1,4 @@
-use Rattle.std.proofs.Common.{All, IfSome, take}
+use Rattle.std.proofs.Common.{All, take}
 use Rattle.doc_model.specs.Words.{HasIntegerAmount}
 use Rattle.life_records.specs.declared.script.Command.{Command}
 use Rattle.life_laws.proofs.values.commands_have_amounts.Given as goal

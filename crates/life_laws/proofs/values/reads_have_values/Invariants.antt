@@ -1,4 +1,4 @@
-use Rattle.std.proofs.Common.{All, IfSome, take}
+use Rattle.std.proofs.Common.{All, take}
 use Rattle.life_laws.specs.Replies.{IsReplyValue}
 use Rattle.life_records.specs.declared.record.ReadLine.{ReadLine}
 use Rattle.life_laws.proofs.values.reads_have_values.Given as goal
