@@ -25,7 +25,8 @@ use Rattle.life_records.specs.declared.script.Life.{Life}
 
 -- The record of a life is told by a state of the service with this history, whose base stands for a store. Its lines are those of the
 -- callers' lists, whichever stop lines these were made with: a stop line says later whether its entry was kept.
-pub record IsRecorded (instance : Instance) (s : State) (history : List Entry) (store : Store) (life : Life) (told : LifeRecord) : Type 0 where
+pub record IsRecorded (instance : Instance) (s : State) (history : List Entry) (store : Store) (life : Life) (told : LifeRecord) :
+    Type 0 where
   pub locals : List Local
   pub seats : map shown s.locals ≡ locals
   pub stops : List StopLine

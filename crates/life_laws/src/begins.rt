@@ -26,7 +26,9 @@ pub fn fresh_bases_begin_with_nothing(object: &DocStore, base: &Base)
 /// and of each client with the count of its entries and the reply to the last of them.
 pub fn kept_bases_begin_the_next_life(object: &DocStore, base: &Base)
     requires { LawfulBase object.now.lines (IsImage object.now.lines) base.now }
-    ensures { (callers : ℕ) (s : State) (begun : Begun) (life : Life) (told : LifeRecord) (next : entry_base.Base) (law : Lawful (store_instance object.now.lines callers base.now) s) →
+    ensures { (callers : ℕ) (s : State) (begun : Begun) (life : Life) (told : LifeRecord) (next : entry_base.Base)
+        (law : Lawful (store_instance object.now.lines callers base.now) s) →
         IsBaseOf base.now begun → IsRecorded (store_instance object.now.lines callers base.now) s law.history begun.store life told →
-        IsKeptIn (store_instance object.now.lines callers base.now) s law.history told next → IsBaseOf next (begun_after object.now.lines begun life told.journal told.kept) }
+        IsKeptIn (store_instance object.now.lines callers base.now) s law.history told next →
+        IsBaseOf next (begun_after object.now.lines begun life told.journal told.kept) }
 {}

@@ -19,7 +19,9 @@ use doc_store::DocStore;
 /// of the history that holds everything answered, and stands for the store after it.
 pub fn kept_lives_go_on(object: &DocStore, base: &Base)
     requires { LawfulBase object.now.lines (IsImage object.now.lines) base.now }
-    ensures { (callers : ℕ) (s : State) (store : Store) (life : Life) (told : LifeRecord) (next : entry_base.Base) (law : Lawful (store_instance object.now.lines callers base.now) s) →
-        IsRecorded (store_instance object.now.lines callers base.now) s law.history store life told → IsKeptIn (store_instance object.now.lines callers base.now) s law.history told next →
+    ensures { (callers : ℕ) (s : State) (store : Store) (life : Life) (told : LifeRecord) (next : entry_base.Base)
+        (law : Lawful (store_instance object.now.lines callers base.now) s) →
+        IsRecorded (store_instance object.now.lines callers base.now) s law.history store life told →
+        IsKeptIn (store_instance object.now.lines callers base.now) s law.history told next →
         GoesOn object.now.lines base.now.place store life told next }
 {}

@@ -29,5 +29,6 @@ pub fn histories_mean_stores(object: &DocStore, base: &Base)
 
 /// A reply is told by its words among all replies within the limits, where its texts are of bytes and its number has 64 bits.
 pub fn words_tell_replies()
-    ensures { (one other : Reply) → IsReplyValue one → IsReply other → HasWordNumber other → reply_words one ≡ reply_words other → one ≡ other }
+    ensures { (one other : Reply) → IsReplyValue one → IsReply other → HasWordNumber other →
+        reply_words one ≡ reply_words other → one ≡ other }
 {}

@@ -18,6 +18,8 @@ use doc_store::DocStore;
 /// no answer to a client lies below what the client was told before.
 pub fn replies_are_the_stores(object: &DocStore, base: &Base)
     requires { LawfulBase object.now.lines (IsImage object.now.lines) base.now }
-    ensures { (callers : ℕ) (s : State) (store : Store) (life : Life) (told : LifeRecord) (law : Lawful (store_instance object.now.lines callers base.now) s) →
-        IsRecorded (store_instance object.now.lines callers base.now) s law.history store life told → HasReplies object.now.lines base.now.place store life told }
+    ensures { (callers : ℕ) (s : State) (store : Store) (life : Life) (told : LifeRecord)
+        (law : Lawful (store_instance object.now.lines callers base.now) s) →
+        IsRecorded (store_instance object.now.lines callers base.now) s law.history store life told →
+        HasReplies object.now.lines base.now.place store life told }
 {}
