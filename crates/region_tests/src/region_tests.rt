@@ -8,7 +8,7 @@ ghost use Rattle.cx_rule.specs.Fitting.{base_of};
 ghost use Rattle.replica.specs.Held.{IsHeld, IsSized};
 ghost use Rattle.replica.specs.Replays.{IsImage, noted_place};
 ghost use Rattle.replica.specs.Tests.{IsFree};
-ghost use Rattle.region_tests.specs.Stepping.{IsSteppable};
+ghost use Rattle.replica.specs.Stepping.{IsSteppable};
 
 use crate::commands::{Numbers, next_entry};
 use crate::tables::{NO_LIMIT, made, take};
