@@ -18,21 +18,19 @@ def nanoseconds(work, count, threads):
     return int(subprocess.run(words, check=True, capture_output=True).stdout)
 
 
-def time_of(work, count):
-    one, two = (min(nanoseconds(work, count, threads) for _ in range(3)) for threads in (1, 2))
-    print(f"{work}: {one / count:.1f} ns on one thread, {two / count:.1f} ns on each of two at once, best of 3 runs")
+def time_of(work, count, runs=3):
+    one, two = (min(nanoseconds(work, count, threads) for _ in range(runs)) for threads in (1, 2))
+    print(f"{work}: {one / count:.1f} ns on one thread, {two / count:.1f} ns on each of two at once, best of {runs} runs")
 
 
 def ratio_of(work, count):
-    """The run of the least ratio, and the range of the ratios."""
+    """The least time of each of both of 20 short runs, since others load the machine."""
     runs = []
-    for _ in range(5):
+    for _ in range(20):
         words = [TABLE, work, str(count)]
-        held, plain = map(int, subprocess.run(words, check=True, capture_output=True, text=True).stdout.split())
-        runs.append((held / plain, held / count, plain / count))
-    runs.sort()
-    ratio, held, plain = runs[0]
-    print(f"{work}: {held:.0f} ns on a replica held, {plain:.0f} ns over plain words, ratio {ratio:.2f} (to {runs[-1][0]:.2f} in 5 runs)")
+        runs.append([int(word) for word in subprocess.run(words, check=True, capture_output=True).stdout.split()])
+    held, plain = (min(run[i] for run in runs) / count for i in range(2))
+    print(f"{work}: {held:.0f} ns on a replica held, {plain:.0f} ns over plain words, ratio {held / plain:.2f}, best of 20 runs")
 
 
 def memory():
@@ -54,7 +52,7 @@ if __name__ == "__main__":
     time_of("link", 3_000)
     time_of("flush", 100)
     for work in ("load", "store", "persist"):
-        time_of(work, 20_000_000)
+        time_of(work, 1_000_000, runs=40)
     for work in ("add", "put"):
-        ratio_of(work, 100_000)
+        ratio_of(work, 5_000)
     memory()

@@ -179,7 +179,7 @@ fn each_limit_leaves_a_copy_begun(rt: HostRuntime) -> Result<(), Fail> {
     let differ = differing(base.words.as_slice(), source.volatile.as_slice());
     let copy = differ.saturating_add(2 * 1680 + 1);
     assert_eq!(rt; whole.steps, before.saturating_add(copy));
-    assert!(rt; differ > 20);
+    assert!(rt; differ >= 12, "{differ} words differ");
     for steps in 0..=copy {
         let limit = before.saturating_add(steps);
         let outcome = at_limit(alloc, &base, &entry.op, limit)?;
