@@ -160,31 +160,96 @@ fn is_copied(
     Ok(is_left(left, [&other, source, &target, &other]))
 }
 
-// The copy loads each word of both replicas, stores those that differ, and gives the shared right back. It gives the place of the
-// replica copied.
-#[test]
-fn each_limit_leaves_a_copy_begun(rt: HostRuntime) -> Result<(), Fail> {
-    let alloc = rt.alloc();
-    let base = Base::fresh(alloc, &DocStore::of(64))?;
-    let entry = Entry {
+// The entry that makes the replicas differ.
+fn entry() -> Entry
+    ensures { result.caller ≡ 0 }
+{
+    Entry {
         caller: 0,
         number: 1,
         op: put(b"key", 40),
-    };
+    }
+}
+
+// The copy loads each word of both replicas, stores those that differ, and gives the shared right back. It gives the place of the
+// replica copied.
+#[test]
+fn a_whole_copy_gives_the_place(rt: HostRuntime) -> Result<(), Fail> {
+    let alloc = rt.alloc();
+    let base = Base::fresh(alloc, &DocStore::of(64))?;
+    let entry = entry();
     let source = modelled(alloc, &DocStore::of(64), &base, &entry, 1 << 20)?;
     let whole = at_limit(alloc, &base, &entry.op, NO_LIMIT)?;
-    let Some((before, 1)) = whole.copied else {
+    let differ = differing(base.words.as_slice(), source.volatile.as_slice());
+    let Some((before, place)) = whole.copied else {
         panic!(rt; "not copied");
     };
-    let differ = differing(base.words.as_slice(), source.volatile.as_slice());
-    let copy = differ.saturating_add(2 * 1680 + 1);
-    assert_eq!(rt; whole.steps, before.saturating_add(copy));
+    assert_eq!(rt; place, 1);
     assert!(rt; differ >= 12, "{differ} words differ");
-    for steps in 0..=copy {
+    assert_eq!(rt;
+        whole.steps,
+        before
+            .saturating_add(2 * 1680)
+            .saturating_add(differ)
+            .saturating_add(1)
+    );
+    Ok(())
+}
+
+// How many limits of steps within a copy were tried, each fourth from one on, until all were or one left something else.
+fn limits_tried(alloc: Global, from: u64) -> Result<Option<u64>, AllocError> {
+    let base = Base::fresh(alloc, &DocStore::of(64))?;
+    let entry = entry();
+    let source = modelled(alloc, &DocStore::of(64), &base, &entry, 1 << 20)?;
+    let whole = at_limit(alloc, &base, &entry.op, NO_LIMIT)?;
+    let Some((before, _)) = whole.copied else {
+        return Ok(None);
+    };
+    let copy = whole.steps.saturating_sub(before);
+    let mut tried = 0u64;
+    for k in 0..=copy / 4 {
+        let steps = k.saturating_mul(4).saturating_add(from);
+        if steps > copy {
+            return Ok(Some(tried));
+        }
         let limit = before.saturating_add(steps);
         let outcome = at_limit(alloc, &base, &entry.op, limit)?;
-        assert_eq!(rt; (outcome.steps, outcome.copied.is_some()), (limit, steps == copy));
-        assert!(rt; is_copied(alloc, &base, &source, &outcome.left, steps)?, "after {steps}");
+        if outcome.steps != limit
+            || outcome.copied.is_some() != (steps == copy)
+            || !is_copied(alloc, &base, &source, &outcome.left, steps)?
+        {
+            return Ok(None);
+        }
+        tried = tried.saturating_add(1);
     }
+    Ok(Some(tried))
+}
+
+// Each limit from that at which the copy begins to that with which it ends, in four parts.
+#[test]
+fn limits_leave_a_copy_begun(rt: HostRuntime) -> Result<(), Fail> {
+    let tried = limits_tried(rt.alloc(), 0)?;
+    assert!(rt; tried.is_some_and(|tried| tried >= 840));
+    Ok(())
+}
+
+#[test]
+fn limits_past_one_step_leave_a_copy_begun(rt: HostRuntime) -> Result<(), Fail> {
+    let tried = limits_tried(rt.alloc(), 1)?;
+    assert!(rt; tried.is_some_and(|tried| tried >= 840));
+    Ok(())
+}
+
+#[test]
+fn limits_past_two_steps_leave_a_copy_begun(rt: HostRuntime) -> Result<(), Fail> {
+    let tried = limits_tried(rt.alloc(), 2)?;
+    assert!(rt; tried.is_some_and(|tried| tried >= 840));
+    Ok(())
+}
+
+#[test]
+fn limits_past_three_steps_leave_a_copy_begun(rt: HostRuntime) -> Result<(), Fail> {
+    let tried = limits_tried(rt.alloc(), 3)?;
+    assert!(rt; tried.is_some_and(|tried| tried >= 840));
     Ok(())
 }
