@@ -99,12 +99,7 @@ fn store_again<M: Memory>(mem: &mut M, count: u64)
 }
 
 // Stores and persists words in turn.
-fn persist_again<O: Object>(
-    shared: &Shared<O>,
-    seat: &mut CallerSeat,
-    held: &Exclusive,
-    count: u64,
-)
+fn persist_again<O: Object>(shared: &Shared<O>, seat: &mut CallerSeat, held: &Exclusive, count: u64)
     requires lines { 64 ≤ O.line_count shared.now.object }
     requires held { IsHeld (O.line_count shared.now.object) shared.now (O.lawful shared.now.object) seat.old held.now }
 {
