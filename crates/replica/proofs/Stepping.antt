@@ -14,7 +14,7 @@ use Rattle.cx_rule.specs.Fitting.{Fits, base_of}
 use Rattle.cx_rule.specs.Seats.{place_noted}
 use Rattle.replica.specs.Replays.{IsImage}
 use Rattle.replica.proofs.Replaying.{image_at}
-use Rattle.region_tests.specs.Stepping.{IsSteppable}
+use Rattle.replica.specs.Stepping.{IsSteppable}
 
 kept : (lines : ℕ) (lawful : List ℕ → Type 0) (step : List ℕ → List ℕ → List ℕ × List ℕ) → ObjectLaws lines lawful step → (entry : Entry) → entry.caller < 8 → Words 144 entry.op → (before : List ℕ) → length before ≡ region_words lines → lawful (object_part before) →
     (place_of (full_step_of step entry before) ≡ place_of before + 1) × lawful (object_part (full_step_of step entry before))
