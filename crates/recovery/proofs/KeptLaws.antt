@@ -1,5 +1,5 @@
 -- What is recovered from what a loss of power leaves of a closed table.
-use Rattle.std.proofs.Common.{◌≡◌, ◌≢◌, ◌+◌, ◌*◌, ◌^◌, ◌<◌, ◌≤◌, ℕ, List, drop, length, map, take, slice_index, refl, sym, ap, subst, ◌∙◌, arith, Bool, Some, Result, Ok, Err, MatchResult, add-zero}
+use Rattle.std.proofs.Common.{◌≡◌, ◌+◌, ◌*◌, ◌<◌, ◌≤◌, ℕ, List, drop, length, take, slice_index, refl, sym, ap, subst, ◌∙◌, arith, Bool, Result, Ok, Err, MatchResult, add-zero}
 use Rattle.std.proofs.lemmas.List.{ext_get_or, get_or-drop, get_or-take, length-drop, length-take-le}
 use Rattle.std.proofs.lemmas.List.FromFn.{get_or-map-range_with_len, length-map-range_with_len}
 use Rattle.std.proofs.lemmas.Nat.{mod_below}
@@ -8,26 +8,23 @@ use Rattle.cx_base.specs.Codes.{root_place_of, root_replica_of}
 use Rattle.cx_core.specs.declared.entry.Base.{Base}
 use Rattle.cx_core.specs.declared.entry.Entry.{Entry}
 use Rattle.cx_core.specs.declared.entry.Image.{Image}
-use Rattle.cx_core.specs.declared.local.Answer.{Answer}
 use Rattle.cx_core.specs.declared.local.Local.{Local}
-use Rattle.cx_core.specs.declared.local.SeenRead.{SeenRead}
 use Rattle.cx_core.specs.Base.{LawfulBase}
 use Rattle.cx_core.specs.Crash.{IsKept, image_at, recovered}
 use Rattle.cx_core.specs.History.{full_image}
 use Rattle.cx_core.specs.Region.{object_part, region_words}
-use Rattle.cx_core.specs.Shown.{shown}
-use Rattle.cx_core.specs.State.{EachLocal, Instance, State}
+use Rattle.cx_core.specs.State.{Instance, State}
 use Rattle.cx_core.proofs.HistoryLemmas.{ObjectLaws}
 use Rattle.cx_core.proofs.LayoutLemmas.{replica_within}
 use Rattle.cx_rule.specs.Running.{Running, instance_at}
 use Rattle.cx_rule.specs.Seats.{Seated}
 use Rattle.cx_table.specs.declared.remains.Remains.{Remains}
-use Rattle.cx_table.specs.Remains.{Leaves, locals_of}
+use Rattle.cx_table.specs.Remains.{Leaves}
 use Rattle.core_answers.proofs.BaseLaws.{kept_lawful}
 use Rattle.core_runs.proofs.WholeLaws.{crash_kept, entries_of}
 use Rattle.recovery.specs.declared.recovering.ImageFault.{ImageFault}
 use Rattle.recovery.specs.declared.recovering.ImageFault.TheVariants.{Size, Root, Version, Place, Body, Memory}
-use Rattle.recovery.specs.Crashes.{IsLeftOf, left_root}
+use Rattle.recovery.specs.Crashes.{IsLeftOf}
 use Rattle.recovery.specs.Images.{image_size, image_word, region_of, region_start, words_from}
 use Rattle.recovery.specs.Kept.{IsKeptBy, IsOpened, crash_of}
 use Rattle.recovery.specs.Recovery.{IsAccepted, IsFaultOf, IsRecovered, recovered_from}
@@ -41,11 +38,11 @@ part_from pairs count from n within =
     let long : length all ≡ count = length-map-range_with_len (image_word pairs) 0 count in
     let part : length (take n (drop from all)) ≡ n = length-take-le n (drop from all) (omega (arith, length-drop from all, long, within)) in
     ext_get_or 0 (take n (drop from all)) (words_from pairs from n) (part ∙ sym (length-map-range_with_len (image_word pairs) from n)) (λ i below. (
-        let inside : i < n = omega (arith, below, part) in
-        get_or-take n (drop from all) i 0 inside
-        ∙ get_or-drop from all i 0
-        ∙ get_or-map-range_with_len (image_word pairs) 0 count (from + i) (from + i) 0 (omega (arith, inside, within)) (omega arith)
-        ∙ sym (get_or-map-range_with_len (image_word pairs) from n i (from + i) 0 inside refl)))
+    let inside : i < n = omega (arith, below, part) in
+    get_or-take n (drop from all) i 0 inside
+    ∙ get_or-drop from all i 0
+    ∙ get_or-map-range_with_len (image_word pairs) 0 count (from + i) (from + i) 0 (omega (arith, inside, within)) (omega arith)
+    ∙ sym (get_or-map-range_with_len (image_word pairs) from n i (from + i) 0 inside refl)))
 
 -- an image that is accepted has no fault
 no_fault : (version : ℕ) (lawful : List ℕ → Type 0) (image : Image) (fault : ImageFault) → IsAccepted version lawful image → IsFaultOf version lawful image fault → fault ≡ Memory

@@ -1,7 +1,7 @@
 -- What is left of a closed table by choice is a crash image of the state that was closed.
-use Rattle.std.proofs.Common.{◌≡◌, ◌+◌, ◌-◌, ◌*◌, ◌%◌, ◌<◌, ◌≤◌, ℕ, Bool, true, false, List, [], ◌∷◌, drop, length, map, take, get_or, slice_index, slice_index_or, refl, sym, ap, subst, ◌∙◌, arith, inl, inr, Some, if◌then◌else◌}
+use Rattle.std.proofs.Common.{◌≡◌, ◌+◌, ◌-◌, ◌*◌, ◌%◌, ◌<◌, ℕ, Bool, true, false, List, [], ◌∷◌, drop, length, slice_index, slice_index_or, sym, ap, subst, ◌∙◌, arith, inl, inr, Some, if◌then◌else◌}
 use Rattle.std.proofs.lemmas.Bool.{cases_Bool}
-use Rattle.std.proofs.lemmas.List.{get_or-drop, get_or-take, get_or_default}
+use Rattle.std.proofs.lemmas.List.{get_or-drop, get_or-take}
 use Rattle.std.proofs.lemmas.List.Elements.{Contains-get_or}
 use Rattle.std.proofs.lemmas.List.FromFn.{get_or-map-range_with_len, length-map-range_with_len}
 use Rattle.std.proofs.lemmas.Nat.{mod_below}
@@ -10,20 +10,19 @@ use Rattle.std.specs.List.{Contains, slice_get, slice_range}
 use Rattle.cx_core.specs.declared.entry.Image.{Image}
 use Rattle.cx_core.specs.declared.local.Local.{Local}
 use Rattle.cx_core.specs.Chain.{IsCodeChain}
-use Rattle.cx_core.specs.Crash.{IsCrashImage, IsDirtyIn, image_at}
+use Rattle.cx_core.specs.Crash.{IsCrashImage, IsDirtyIn}
 use Rattle.cx_core.specs.LawfulRegions.{per_word}
 use Rattle.cx_core.specs.Layout.{per_at}
-use Rattle.cx_core.specs.Shown.{shown}
 use Rattle.cx_core.specs.State.{Instance}
 use Rattle.cx_core.proofs.LayoutLemmas.{replica_within}
 use Rattle.cx_rule.specs.Running.{Running, instance_at}
 use Rattle.cx_rule.specs.Seats.{Seated}
 use Rattle.cx_table.specs.declared.remains.Remains.{Remains}
-use Rattle.cx_table.specs.Remains.{IsDirty, Leaves, locals_of}
+use Rattle.cx_table.specs.Remains.{IsDirty, Leaves}
 use Rattle.pmem_model.specs.Medium.{any_value}
 use Rattle.pmem_model.specs.declared.medium.Mark.TheVariants.{Dirty}
-use Rattle.recovery.specs.Crashes.{IsLeftOf, left_root, left_word}
-use Rattle.recovery.specs.Images.{image_size, image_word, words_from}
+use Rattle.recovery.specs.Crashes.{IsLeftOf, left_word}
+use Rattle.recovery.specs.Images.{image_size, image_word}
 use Rattle.recovery.specs.Kept.{IsOpened, crash_of}
 use Rattle.recovery.proofs.Shown.{chain_behind, dirty_behind}
 

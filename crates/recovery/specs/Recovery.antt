@@ -67,7 +67,8 @@ abbrev pub IsFaultOf : ℕ → (List ℕ → Type 0) → Image → ImageFault �
 IsFaultOf version lawful image (Size found) = (found ≡ image.count) × (¬ HasSize image)
 IsFaultOf version lawful image (Root found) = (found ≡ image.root) × HasSize image × (¬ HasRoot image)
 IsFaultOf version lawful image Memory = Unit {0}
-IsFaultOf version lawful image fault = HasSize image × HasRoot image × IsRegionFault version lawful (place_in_root image) (region_of image) fault
+IsFaultOf version lawful image fault =
+    HasSize image × HasRoot image × IsRegionFault version lawful (place_in_root image) (region_of image) fault
 
 -- no number of a result slot is above the place, as in each base that a service leaves
 abbrev pub NumbersWithin : Base → Type 0

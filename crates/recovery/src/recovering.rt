@@ -6,7 +6,7 @@ ghost use Rattle.cx_core.specs.Base.{LawfulBase};
 ghost use Rattle.recovery.specs.Images.{IsReadable};
 ghost use Rattle.recovery.specs.Recovery.{HasRegion, IsFaultOf, IsRecovered, IsRegionFault, NumbersWithin};
 
-use crate::region::{image_len, has_lawful_results, object_words, read_region};
+use crate::region::{has_lawful_results, image_len, object_words, read_region};
 use cx_base::{Items, Object, root_place};
 use cx_core::{Base, Image};
 use std::alloc::Global;
@@ -36,7 +36,9 @@ pub enum ImageFault {
 /// number of its results is above its place, as it is in what services leave.
 pub fn recover<O: Object>(alloc: Global, object: &O, image: &Image) -> Result<Base, ImageFault>
     requires { IsReadable (O.line_count object.now) image.now }
-    ensures recovers { MatchResult result (IsRecovered (O.version_number object.now) (O.lawful object.now) image.now) (IsFaultOf (O.version_number object.now) (O.lawful object.now) image.now) }
+    ensures recovers { MatchResult result
+        (IsRecovered (O.version_number object.now) (O.lawful object.now) image.now)
+        (IsFaultOf (O.version_number object.now) (O.lawful object.now) image.now) }
     ensures lawful { IfOk result (λ base. NumbersWithin base → LawfulBase (O.line_count object.now) (O.lawful object.now) base) }
 {
     if image.count != image_len(image.callers, image.lines) {
@@ -65,7 +67,9 @@ fn check_region<O: Object>(
 ) -> Result<(), ImageFault>
     requires { 1169 ≤ length words.now }
     ensures words { Words (length words.now) words.now }
-    ensures checks { MatchResult result (λ _. HasRegion (O.version_number object.now) (O.lawful object.now) place words.now) (IsRegionFault (O.version_number object.now) (O.lawful object.now) place words.now) }
+    ensures checks { MatchResult result
+        (λ _. HasRegion (O.version_number object.now) (O.lawful object.now) place words.now)
+        (IsRegionFault (O.version_number object.now) (O.lawful object.now) place words.now) }
 {
     let part = object_words(words);
     let version = part[0];

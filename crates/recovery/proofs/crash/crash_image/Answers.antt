@@ -1,4 +1,4 @@
-use Rattle.std.proofs.Common.{◌≡◌, ℕ, List, ap, sym, subst, ◌∙◌}
+use Rattle.std.proofs.Common.{ℕ, List, ap, sym, subst, ◌∙◌}
 use Rattle.recovery.specs.Crashes.{left_word}
 use Rattle.recovery.specs.Images.{Gives}
 use Rattle.recovery.proofs.Pairs.{gives_none, gives_word, gives_zero}
@@ -15,6 +15,8 @@ loop-at-preserved c =
     let word = left_word c.args.remains.now c.args.choice in
     let is = c.word_left-word.ensures in
     elim c.if-word-ne0.branch [
-      | then-word-ne0+in_ok-push w ↦ gives_word word c.loop-at.at c.loop-at.pairs.items c.loop-at.invariant c.word_left-word.result c.if-word-ne0.pairs.items is w.if-word-ne0.true (ap (λ v. v.items) w.pairs-is ∙ w.in_ok-push.ensures.items)
-      | else-word-ne0 w ↦ gives_zero word c.loop-at.at c.loop-at.pairs.items c.loop-at.invariant c.word_left-word.result c.if-word-ne0.pairs.items is w.if-word-ne0.false (ap (λ v. v.items) w.pairs-is)
+      | then-word-ne0+in_ok-push w ↦ gives_word word c.loop-at.at c.loop-at.pairs.items c.loop-at.invariant c.word_left-word.result c.if-word-ne0.pairs.items is
+          w.if-word-ne0.true (ap (λ v. v.items) w.pairs-is ∙ w.in_ok-push.ensures.items)
+      | else-word-ne0 w ↦ gives_zero word c.loop-at.at c.loop-at.pairs.items c.loop-at.invariant c.word_left-word.result c.if-word-ne0.pairs.items is
+          w.if-word-ne0.false (ap (λ v. v.items) w.pairs-is)
     ]

@@ -1,5 +1,5 @@
 use Rattle.std.proofs.Common.{arith}
-use Rattle.recovery.proofs.Slots.{zeros_are, zeros_there}
+use Rattle.recovery.proofs.Slots.{zeros_there}
 use Rattle.recovery.proofs.region.has_lawful_results.Goals as goal
 
 pub returns-then-not-is_blank : goal.returns-then-not-is_blank

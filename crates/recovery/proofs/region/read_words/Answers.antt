@@ -1,4 +1,4 @@
-use Rattle.std.proofs.Common.{◌≡◌, ◌-◌, ◌<◌, ◌≤◌, ◌⊎◌, get_or, inl, inr, ap, sym, subst, ◌∙◌, arith}
+use Rattle.std.proofs.Common.{◌-◌, ◌<◌, ◌≤◌, ◌⊎◌, get_or, inl, inr, ap, sym, subst, arith}
 use Rattle.recovery.proofs.Pairs.{HasRead, read_all, read_none, read_put, read_skip}
 use Rattle.recovery.proofs.region.read_words.Goals as goal
 use Rattle.recovery.proofs.region.read_words.Goals.{then-at-from+then-at-from-2, else-at-from, else-at-from-via-then-at-from+else-at-from-2, else-at-from-via-else-at-from}
