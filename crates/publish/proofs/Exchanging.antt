@@ -8,6 +8,7 @@ use Rattle.cx_base.specs.Codes.{root_place_of}
 use Rattle.cx_core.specs.declared.kinds.Kind.TheVariants.{Publish}
 use Rattle.cx_core.specs.declared.local.HeldDowngraded.{HeldDowngraded}
 use Rattle.cx_core.specs.RootEvents.{IsAbove, outrun, published}
+use Rattle.cx_core.specs.State.{one_more}
 use Rattle.cx_rule.specs.Running.{Running}
 use Rattle.cx_rule.specs.Seats.{Seated}
 use Rattle.cx_rule.specs.Steps.{Steps}
@@ -15,7 +16,7 @@ use Rattle.cx_table.specs.Right.{Right, WonRight}
 use Rattle.cx_table.specs.Tokens.{TriedPublish}
 use Rattle.strong_trylock.specs.Ends.{but_downgraded}
 use Rattle.strong_trylock.specs.Held.{AllRights, all_rights}
-use Rattle.publish.specs.Publishing.{Exchanges, PassedBy, beside_publish, place_in}
+use Rattle.publish.specs.Publishing.{Exchanges, KeepsMet, PassedBy, beside_publish, place_in}
 
 -- what is downgraded at a place above a code may be published
 pub may_publish : (callers code : ℕ) (o : Option HeldDowngraded) → root_place_of callers code < place_in o → IsAbove callers code o
@@ -49,6 +50,13 @@ module _ {O : Type 0} (r : Running O) (step : O → List ℕ → List ℕ → Li
 
   pub exchange_front : before.known.local.front ≤ after.known.local.front
   exchange_front = subst (λ (t : Seated). before.known.local.front ≤ t.known.local.front) (sym s.made) (front_by (found == before.known.local.seen_cur))
+
+  met_by : (won : Bool) → KeepsMet before (by won)
+  met_by true was = refl
+  met_by false was = ap (λ b. cond b (one_more before.known.local.met) before.known.local.met) was
+
+  pub exchange_met : KeepsMet before after
+  exchange_met = subst (KeepsMet before) (sym s.made) (met_by (found == before.known.local.seen_cur))
 
   pub exchanged : (held : Right) (x : Result WonRight Right) → before.known.local.won ≡ None → TriedPublish r.callers before held after found x → Exchanges r.callers before after x
   exchanged held (Ok won) none tried =
@@ -94,3 +102,6 @@ passed callers found before after rest rights none seen above = record {
 
 pub passed_rest : (before after : Seated) → but_downgraded after ≡ but_downgraded before → beside_publish after ≡ beside_publish before
 passed_rest before after rest = ap beside_publish rest
+
+pub passed_met : (before after : Seated) → but_downgraded after ≡ but_downgraded before → KeepsMet before after
+passed_met before after rest was = ap (λ (s : Seated). s.known.local.met) rest
