@@ -98,9 +98,10 @@ pub record AnswersBy {O : Type 0} (r : Running O) (step : O → List ℕ → Lis
   pub made : after ≡ record before { known = known_answered (instance_at r step reads) code (record { ticket = ticket; reply = reply } ∷ []) None before.known }
   pub seat : IsSeatOf r after
 
--- The caller's unanswered entry is answered with this reply, and the caller is at rest.
+-- The caller's unanswered entry is answered with this reply, no refusal is met, and the caller is at rest.
 pub record AnswersEntry (ticket : ℕ) (reply : List ℕ) (before after : Seated) : Type 0 where
   pub rest : IsAtRest after.known.local
+  pub met : after.known.local.met ≡ before.known.local.met
   pub answered : after.known.local.answered ≡ with_answer ticket reply before.known.local.answered
 
 -- A refusal was met: nothing is answered, and the caller is at rest.
@@ -125,9 +126,10 @@ abbrev pub with_read : ℕ → List ℕ → List ℕ → ℕ → List SeenRead �
 with_read place op reply answered reads = reads ++ record { place = place; op = op; reply = reply; before = answered } ∷ []
 
 -- A read is answered at a place that is not below the floor, which rises to it, and so above each ticket and not below any place
--- that the caller was answered before. The caller is at rest.
+-- that the caller was answered before. No refusal is met, and the caller is at rest.
 pub record AnswersRead (op : List ℕ) (place : ℕ) (reply : List ℕ) (before after : Seated) : Type 0 where
   pub rest : IsAtRest after.known.local
+  pub met : after.known.local.met ≡ before.known.local.met
   pub reads : after.known.local.seen_reads ≡ with_read place op reply (length before.known.local.answered) before.known.local.seen_reads
   pub floor : before.known.local.floor ≤ place
   pub above : (i : ℕ) (x : Answer) → slice_get before.known.local.answered i ≡ Some x → x.ticket < place
