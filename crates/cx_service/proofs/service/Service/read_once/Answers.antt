@@ -1,4 +1,4 @@
-use Rattle.std.proofs.Common.{subst, sym}
+use Rattle.std.proofs.Common.{arith, subst, sym}
 use Rattle.cx_rule.specs.Running.{IsSeatOf, Running}
 use Rattle.cx_rule.specs.Seats.{Seated}
 use Rattle.cx_service.specs.Callers.{IsCallerOf}
@@ -13,7 +13,7 @@ returns-in-Ok-Some g c =
     let v = c.read_turn.new.seat in
     subst (λ (x : Seated). ReadAnswered c.args.self.now c.args.op.now x v c.in-Ok-Some.seen) c.caller.view_is
     (read_done c.args.self.now c.args.op.now s v (subst (IsCallerOf c.args.self.now) (sym c.caller.view_is) c.requires.caller) c.read_turn.ensures.rest c.read_turn.ensures.front (subst (λ (t : Running _). IsSeatOf t v) c.self.view_is c.read_turn.ensures.seat)
-    c.in-Ok-Some.seen (subst (LooksUp c.args.op.now s v) c.in-Ok-Some.field-0-is c.in-Ok-Some.ensures.turned))
+    c.in-Ok-Some.seen c.in-Ok-Some.ensures.allowed (subst (LooksUp c.args.op.now s v) c.in-Ok-Some.field-0-is c.in-Ok-Some.ensures.turned))
 
 pub returns-in-Ok-None : goal.returns-in-Ok-None
 returns-in-Ok-None g c =
@@ -21,7 +21,7 @@ returns-in-Ok-None g c =
     let v = c.read_turn.new.seat in
     subst (λ (x : Seated). ReadPending c.args.self.now 1 x v) c.caller.view_is
     (read_refused c.args.self.now c.args.op.now s v (subst (IsCallerOf c.args.self.now) (sym c.caller.view_is) c.requires.caller) c.read_turn.ensures.rest c.read_turn.ensures.front (subst (λ (t : Running _). IsSeatOf t v) c.self.view_is c.read_turn.ensures.seat)
-    (subst (LooksUp c.args.op.now s v) c.in-Ok-None.field-0-is c.in-Ok-None.ensures.turned))
+    c.in-Ok-None.ensures.allowed (omega (arith, c.met-met.ensures)) (subst (LooksUp c.args.op.now s v) c.in-Ok-None.field-0-is c.in-Ok-None.ensures.turned))
 
 pub read_turn-requires-clause-answered : goal.read_turn-requires-clause-answered
 read_turn-requires-clause-answered g c =
