@@ -49,9 +49,10 @@ impl<O: Object> Service<O> {
     {
         let ticket = linked.ticket();
         let Linked { mut seat } = linked;
+        let at = &mut *seat;
         // refusals are counted in a word
-        let _met = seat.met();
-        match update_turn(&self.shared, &mut seat, ticket) {
+        let _met = at.met();
+        match update_turn(&self.shared, at, ticket) {
             Ok(Some(reply)) => Driven::Done(Caller { seat }, Answer { ticket, reply }),
             Ok(None) => Driven::Pending(Linked { seat }),
             Err(Halt) => Driven::Halted(Stopped { seat }),

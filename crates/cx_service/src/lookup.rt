@@ -49,9 +49,10 @@ impl<O: Object> Service<O> {
         ensures { Looks self.now op.now 1 caller result }
     {
         let Caller { mut seat } = caller;
+        let at = &mut *seat;
         // refusals are counted in a word
-        let _met = seat.met();
-        match read_turn(&self.shared, &mut seat, op) {
+        let _met = at.met();
+        match read_turn(&self.shared, at, op) {
             Ok(Some(seen)) => ReadTried::Read(Caller { seat }, seen),
             Ok(None) => ReadTried::Pending(Caller { seat }),
             Err(Halt) => ReadTried::Halted(Stopped { seat }),
