@@ -2,8 +2,6 @@
 use Rattle.std.proofs.Common.{◌≡◌, ◌≢◌, ◌==◌, ◌<◌, ◌≤◌, ◌*◌, inl, inr, ℕ, Bool, true, false, cond, ap, sym, subst, ◌∙◌, refl, arith, eq-eqb, List, ◌++◌, [], append-nil, Option, Some, None, Result, Ok, Err}
 use Rattle.std.proofs.lemmas.Bool.{cases_Bool, eqb-true}
 use Rattle.std.proofs.Math.Nat.{div-lt_iff_lt-mul, le-max_left}
-use Rattle.std.proofs.lemmas.Option.{none-some}
-use Rattle.std.specs.Option.{option_map}
 use Rattle.cx_base.specs.Codes.{root_place_of}
 use Rattle.cx_core.specs.declared.kinds.Kind.TheVariants.{Publish}
 use Rattle.cx_core.specs.declared.local.HeldDowngraded.{HeldDowngraded}
@@ -16,6 +14,7 @@ use Rattle.cx_table.specs.Right.{Right, WonRight}
 use Rattle.cx_table.specs.Tokens.{TriedPublish}
 use Rattle.strong_trylock.specs.Ends.{but_downgraded}
 use Rattle.strong_trylock.specs.Held.{AllRights, all_rights}
+use Rattle.publish.proofs.Options.{none_of}
 use Rattle.publish.specs.Publishing.{Exchanges, KeepsMet, PassedBy, beside_publish, place_in}
 
 -- what is downgraded at a place above a code may be published
@@ -91,14 +90,10 @@ pub passed : (callers found : ℕ) (before after : Seated) → but_downgraded af
 passed callers found before after rest rights none seen above = record {
   seen = ap (λ (s : Seated). s.known.local.seen_cur) rest ∙ seen;
   above = subst (λ n. place_in before.known.local.downgraded ≤ root_place_of callers n) seen above;
-  ended = no_right after.known.local.downgraded (ap (λ (a : AllRights). a.downgraded) rights);
+  ended = none_of _ after.known.local.downgraded (ap (λ (a : AllRights). a.downgraded) rights);
   none = ap (λ (s : Seated). s.known.local.won) rest ∙ none;
   stale = λ was. ap (λ (s : Seated). s.known.local.fresh) rest ∙ was;
 }
-  where
-    no_right : (o : Option HeldDowngraded) → option_map (λ (h : HeldDowngraded). h.replica) o ≡ None → o ≡ None
-    no_right None e = refl
-    no_right (Some h) e = absurd (none-some h.replica (sym e))
 
 pub passed_rest : (before after : Seated) → but_downgraded after ≡ but_downgraded before → beside_publish after ≡ beside_publish before
 passed_rest before after rest = ap beside_publish rest
