@@ -9,9 +9,10 @@ use Rattle.doc_model.specs.Meaning.{reply_to, store_after}
 use Rattle.doc_model.specs.declared.operations.Op.{Op}
 use Rattle.doc_model.specs.declared.operations.Reply.{Reply}
 use Rattle.doc_text.specs.Grammar.{Life}
-use Rattle.doc_text.specs.Lives.{named_op, Names, store_at, HasReply}
+use Rattle.life_records.specs.Lives.{Names, store_at, HasReply}
+use Rattle.life_records.specs.Scripts.{named_op}
 use Rattle.doc_text.specs.Report.{journal_text, exchange_text, reply_text}
-use Rattle.doc_text.specs.declared.lives.JournalLine.{JournalLine}
+use Rattle.life_records.specs.declared.record.JournalLine.{JournalLine}
 use Rattle.doc_text.proofs.Decimals.{BeginsOutside, same_numbers, number_outside}
 
 -- the numbers of a line are within 64 bits

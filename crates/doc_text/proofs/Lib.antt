@@ -4,7 +4,7 @@ pub mod Decimals
 pub mod Documents
 pub mod JournalTexts
 pub mod JsonLoops
-pub mod LifeTexts
+pub mod LastLives
 pub mod LineCompleteness
 pub mod LineSoundness
 pub mod Measures

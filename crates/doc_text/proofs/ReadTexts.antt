@@ -8,10 +8,11 @@ use Rattle.doc_model.specs.Meaning.{reply_to}
 use Rattle.doc_model.specs.declared.operations.Op.{Op}
 use Rattle.doc_model.specs.declared.operations.Reply.{Reply}
 use Rattle.doc_text.specs.Grammar.{Life}
-use Rattle.doc_text.specs.Lives.{named_op, store_at, IsLegalRead}
+use Rattle.life_records.specs.Lives.{store_at, IsLegalRead}
+use Rattle.life_records.specs.Scripts.{named_op}
 use Rattle.doc_text.specs.Report.{read_text, exchange_text, reply_text}
-use Rattle.doc_text.specs.declared.lives.JournalLine.{JournalLine}
-use Rattle.doc_text.specs.declared.lives.ReadLine.{ReadLine}
+use Rattle.life_records.specs.declared.record.JournalLine.{JournalLine}
+use Rattle.life_records.specs.declared.record.ReadLine.{ReadLine}
 use Rattle.doc_text.proofs.Decimals.{same_numbers}
 use Rattle.doc_text.proofs.JournalTexts.{value_of}
 

@@ -6,12 +6,12 @@ use Rattle.doc_model.specs.declared.operations.Op.{Op}
 use Rattle.doc_model.specs.declared.operations.Reply.{Reply}
 use Rattle.doc_model.specs.declared.operations.Reply.TheVariants.{New, Replaced, Deleted, Absent, Doc, Sum, NotNumber, Overflow, NoRoom, Key, Number}
 use Rattle.doc_text.specs.Grammar.{command_text}
-use Rattle.doc_text.specs.Lives.{named_op}
-use Rattle.doc_text.specs.declared.script_parts.Life.{Life}
-use Rattle.doc_text.specs.declared.script_parts.Script.{Script}
-use Rattle.doc_text.specs.declared.lives.JournalLine.{JournalLine}
-use Rattle.doc_text.specs.declared.lives.ReadLine.{ReadLine}
-use Rattle.doc_text.specs.declared.lives.LifeRecord.{LifeRecord}
+use Rattle.life_records.specs.Scripts.{named_op}
+use Rattle.life_records.specs.declared.script.Life.{Life}
+use Rattle.life_records.specs.declared.script.Script.{Script}
+use Rattle.life_records.specs.declared.record.JournalLine.{JournalLine}
+use Rattle.life_records.specs.declared.record.ReadLine.{ReadLine}
+use Rattle.life_records.specs.declared.record.LifeRecord.{LifeRecord}
 
 abbrev pub reply_text : Reply → List ℕ
 reply_text New = codes "new"

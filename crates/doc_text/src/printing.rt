@@ -4,14 +4,13 @@ ghost use Rattle.std.specs.Prelude.{◌≡◌, ◌++◌, ◌<◌, [], IfOk, OnOk
 ghost use Rattle.std.specs.Fmt.{decimal, signed_decimal};
 ghost use Rattle.std.specs.Option.{option_map_or, option_copied};
 ghost use Rattle.doc_text.specs.Grammar.{command_text};
-ghost use Rattle.doc_text.specs.Lives.{NameCommands, NamesCommands, Names};
+ghost use Rattle.life_records.specs.Lives.{NameCommands, NamesCommands, Names};
 ghost use Rattle.doc_text.specs.Report.{report_of, record_text, life_text, journal_text, read_text, power_text, name_text, exchange_text, reply_text};
 
 use crate::indexed_life::IndexedLife;
-use crate::lives::{JournalLine, LifeRecord, ReadLine};
-use crate::script_parts::Script;
 use doc_model::{Op, Reply};
 use itoa::Buffer;
+use life_records::{JournalLine, LifeRecord, ReadLine, Script};
 use std::alloc::{AllocError, Global};
 
 /// The report of a script's lives. `Err` is want of memory.

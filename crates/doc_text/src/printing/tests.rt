@@ -1,14 +1,13 @@
 //! The texts of worked lives.
 
 ghost use Rattle.std.specs.Prelude.{◌≡◌, IsTrue, IfOk, All};
-ghost use Rattle.doc_text.specs.Lives.{NameCommands, NamesCommands, Names};
+ghost use Rattle.life_records.specs.Lives.{NameCommands, NamesCommands, Names};
 
 use super::report;
 use crate::indexed_life::IndexedLife;
-use crate::lives::{JournalLine, LifeRecord, ReadLine};
-use crate::script_parts::{Command, Life, Script};
 use cx_base::{Bytes, Items};
 use doc_model::{Op, Reply};
+use life_records::{Command, JournalLine, Life, LifeRecord, ReadLine, Script};
 use std::alloc::{AllocError, Global};
 use std::process::Abort;
 use std::test::Fail;
@@ -353,6 +352,8 @@ fn records_of(alloc: Global, worked: &[Worked]) -> Result<Vec<LifeRecord>, Alloc
             from: life.from,
             journal,
             reads,
+            stops: Items::new(alloc),
+            fulls: Items::new(alloc),
             choice: life.choice,
             kept: life.journal.len() as u64,
             documents: life.documents,
