@@ -3,6 +3,7 @@
 
 mod document;
 mod indexed_life;
+mod laws;
 mod line;
 mod measure;
 mod measured_members;
@@ -11,6 +12,7 @@ mod reading;
 mod script_parts;
 mod words;
 
+pub use laws::different_lives_have_different_reports;
 pub use life_records::{
     Command, Cut, FullLine, JournalLine, Life, LifeRecord, ReadLine, Script, StopLine,
 };
