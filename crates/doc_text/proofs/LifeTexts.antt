@@ -1,5 +1,5 @@
 -- Lives are read off their report.
-use Rattle.std.proofs.Common.{◌≡◌, ◌≢◌, ℕ, zero, suc, ◌+◌, ◌-◌, ◌≤◌, ◌<◌, ◌==◌, ◌&&◌, Bool, true, false, not, eqb, List, [], ◌∷◌, ◌++◌, length, take, map, get_or, All, flat_map, codes, Option, None, Some, IsSome, is_some, sym, ap, ◌∙◌, subst, refl, inl, inr, arith, lit≤, append_assoc}
+use Rattle.std.proofs.Common.{◌≡◌, ◌≢◌, ℕ, zero, suc, ◌+◌, ◌-◌, ◌≤◌, Bool, true, false, not, eqb, List, [], ◌∷◌, ◌++◌, length, take, map, get_or, All, flat_map, codes, Option, None, Some, IsSome, is_some, sym, ap, ◌∙◌, subst, refl, inl, inr, arith, lit≤, append_assoc}
 use Rattle.std.specs.Fmt.{decimal}
 use Rattle.std.specs.List.{cons_option}
 use Rattle.std.proofs.lemmas.Bool.{cases_Bool, eqb-true, ne_eqb}
@@ -11,7 +11,7 @@ use Rattle.doc_model.specs.Meaning.{IsOp, store_after}
 use Rattle.doc_model.specs.declared.operations.Op.{Op}
 use Rattle.doc_model.proofs.Stores.{IsStore-after}
 use Rattle.life_records.specs.Limits.{KeepsLimits}
-use Rattle.life_records.specs.Lives.{IsLegal, IsLegalLife, IsLegalRead, IsEndedEntry, HasReply, HasEnded, AreLivesFrom, AreLegalLives, HasNumbers, AreNumbers, has_stop, ops_of, store_after_all, store_at}
+use Rattle.life_records.specs.Lives.{IsLegal, IsLegalLife, IsLegalRead, IsEndedEntry, HasReply, AreLivesFrom, AreLegalLives, HasNumbers, AreNumbers, has_stop, ops_of, store_after_all, store_at}
 use Rattle.life_records.specs.Scripts.{named_op}
 use Rattle.life_records.specs.declared.record.FullLine.{FullLine}
 use Rattle.life_records.specs.declared.record.JournalLine.{JournalLine}

@@ -1,5 +1,5 @@
 -- What a reply's text may be: no text of a document goes over the end of its line.
-use Rattle.std.proofs.Common.{◌≡◌, ℕ, ◌≤◌, ◌<◌, Bool, true, false, cond, eqb, List, [], ◌∷◌, ◌++◌, All, codes, Option, None, Some, is_some, ℤ, refl, sym, ap, ◌∙◌, arith, ◌⊎◌, inl, inr}
+use Rattle.std.proofs.Common.{◌≡◌, ℕ, ◌≤◌, ◌<◌, Bool, true, false, cond, eqb, List, [], ◌∷◌, ◌++◌, All, codes, Option, None, Some, is_some, ℤ, refl, sym, ◌∙◌, arith, ◌⊎◌, inl, inr}
 use Rattle.std.specs.Fmt.{decimal, signed_decimal}
 use Rattle.std.specs.List.{find}
 use Rattle.std.specs.Option.{option_map, option_map_or}
@@ -7,8 +7,7 @@ use Rattle.std.specs.Ordering.{is_eq}
 use Rattle.std.proofs.lemmas.Bool.{ne_eqb, eq-eqb, true≢false}
 use Rattle.std.proofs.lemmas.List.Elements.{All-head, All-tail}
 use Rattle.cx_base.specs.Store.{Store, IsStore, IsDocument, key_cmp}
-use Rattle.doc_model.specs.Meaning.{document_at, number_at, has_room, with_pair, add_reply, sum_reply, least_key, pairs_above, reply_to}
-use Rattle.doc_model.specs.Number.{is_i64}
+use Rattle.doc_model.specs.Meaning.{document_at, number_at, has_room, with_pair, add_reply, least_key, pairs_above, reply_to}
 use Rattle.doc_model.specs.declared.operations.Op.{Op}
 use Rattle.doc_model.specs.declared.operations.Op.TheVariants.{Put, Del, Add, Get, Next, Count}
 use Rattle.doc_model.specs.declared.operations.Reply.{Reply}

@@ -1,8 +1,7 @@
 -- The reads of a life are read off their text.
-use Rattle.std.proofs.Common.{◌≡◌, ℕ, ◌-◌, ◌^◌, ◌<◌, List, [], ◌∷◌, ◌++◌, All, flat_map, codes, Some, sym, ap, ◌∙◌, refl, arith, lit≤, append_assoc}
+use Rattle.std.proofs.Common.{◌≡◌, ℕ, ◌-◌, ◌^◌, ◌<◌, List, [], ◌∷◌, ◌++◌, codes, Some, sym, ap, ◌∙◌, refl, lit≤, append_assoc}
 use Rattle.std.specs.Fmt.{decimal}
 use Rattle.std.proofs.lemmas.List.{append_cancel_left}
-use Rattle.std.proofs.lemmas.List.Elements.{All-head, All-tail}
 use Rattle.cx_base.specs.Store.{Store}
 use Rattle.doc_model.specs.Meaning.{reply_to}
 use Rattle.doc_model.specs.declared.operations.Op.{Op}

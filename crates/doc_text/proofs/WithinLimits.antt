@@ -1,14 +1,13 @@
 -- Each script keeps the limits.
-use Rattle.std.proofs.Common.{◌≡◌, refl, sym, ap, subst, ◌∙◌, ◌⊎◌, inl, inr, ⊎_elim, ℕ, ◌+◌, ◌<◌, ◌≤◌, ◌^◌, true, false, eqb, ltb, ◌==◌, List, [], ◌∷◌, ◌++◌, length, get_or, arith, Some}
+use Rattle.std.proofs.Common.{◌≡◌, refl, sym, subst, ◌∙◌, ◌⊎◌, inl, inr, ℕ, ◌+◌, ◌<◌, ◌≤◌, ◌^◌, true, false, ◌==◌, List, [], ◌∷◌, ◌++◌, length, get_or, arith, Some}
 use Rattle.std.specs.Prelude.{All, AllPairs}
-use Rattle.std.specs.Option.{option_map_or}
-use Rattle.std.proofs.lemmas.Bool.{cases_Bool, eqb-true, eq-eqb, ltb-true, true≢false}
-use Rattle.std.proofs.lemmas.List.{length-append, nil_from_length}
-use Rattle.std.proofs.lemmas.List.Elements.{All-nil, All-cons, All-push}
+use Rattle.std.proofs.lemmas.Bool.{eqb-true, eq-eqb, ltb-true, true≢false}
+use Rattle.std.proofs.lemmas.List.{length-append}
+use Rattle.std.proofs.lemmas.List.Elements.{All-nil, All-push}
 use Rattle.std.proofs.lemmas.List.Folds.{list_any_at}
 use Rattle.std.proofs.lemmas.List.Quantifiers.{all_pairs_push}
 use Rattle.doc_model.specs.Meaning.{IsOp}
-use Rattle.life_records.specs.Limits.{IsCommandOf, IsCutOf, AreOfTwo, IsLifeInLimits, KeepsLimits}
+use Rattle.life_records.specs.Limits.{IsCutOf, AreOfTwo, KeepsLimits}
 use Rattle.life_records.specs.Scripts.{command_count, has_cut, own_ops}
 use Rattle.life_records.specs.declared.script.Command.{Command}
 use Rattle.life_records.specs.declared.script.Cut.{Cut}
@@ -16,7 +15,7 @@ use Rattle.life_records.specs.declared.script.Life.{Life}
 use Rattle.life_records.specs.declared.script.Script.{Script}
 use Rattle.doc_text.specs.declared.script_parts.ScriptLine.{ScriptLine}
 use Rattle.doc_text.specs.declared.script_parts.ScriptLine.TheVariants as forms
-use Rattle.doc_text.specs.Grammar.{Says, MayStand, is_built, has_few, last_life, with_last, with_command, with_cut, with_said, Adds, AddsAll, no_script, text_lines, IsScript}
+use Rattle.doc_text.specs.Grammar.{Says, MayStand, is_built, has_few, last_life, with_command, with_cut, with_said, Adds, AddsAll, no_script, text_lines, IsScript}
 use Rattle.doc_text.specs.Limits.{AsksWithinLimits, AskWithinLimits, AreFew, IsBuilt}
 use Rattle.doc_text.proofs.LastLives.{All-with_last, length-with_last, command_count-with_command, command_count-with_cut, command_count-begun}
 use Rattle.doc_text.proofs.OwnOps.{few_with_one_more}

@@ -1,5 +1,5 @@
 use Rattle.std.proofs.lemmas.Result.{err_from_is_err_and}
-use Rattle.std.proofs.Common.{◌≡◌, ◌∙◌, sym, ap, subst, Some}
+use Rattle.std.proofs.Common.{◌∙◌, sym, ap, subst, Some}
 use Rattle.doc_text.specs.Grammar.{IsScript, no_script, text_lines}
 use Rattle.doc_text.specs.Limits.{AskWithinLimits}
 use Rattle.doc_text.proofs.WithinLimits.{limits-script, built-script}
