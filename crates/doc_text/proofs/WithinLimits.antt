@@ -1,7 +1,7 @@
 -- Each script keeps the limits.
 use Rattle.std.proofs.Common.{◌≡◌, refl, sym, subst, ◌∙◌, ◌⊎◌, inl, inr, ℕ, ◌+◌, ◌<◌, ◌≤◌, ◌^◌, true, false, ◌==◌, List, [], ◌∷◌, ◌++◌, length, get_or, arith, Some}
 use Rattle.std.specs.Prelude.{All, AllPairs}
-use Rattle.std.proofs.lemmas.Bool.{eqb-true, eq-eqb, ltb-true, true≢false}
+use Rattle.std.proofs.lemmas.Bool.{eq-eqb, ltb-true, true≢false}
 use Rattle.std.proofs.lemmas.List.{length-append}
 use Rattle.std.proofs.lemmas.List.Elements.{All-nil, All-push}
 use Rattle.std.proofs.lemmas.List.Folds.{list_any_at}
@@ -181,36 +181,25 @@ said_asks script (forms.Command command) asks ops =
 
 -- ---- the forms that are read today
 
--- a life begins where there is none
-life-built : (script : Script) (clients choice : ℕ) → IsBuilt script → is_built script (forms.Life clients choice) ≡ true
-    → IsBuilt (with_said script (forms.Life clients choice))
-life-built script clients choice built is =
+-- a life begins without commands
+life-built : (script : Script) (clients choice : ℕ) → IsBuilt script → IsBuilt (with_said script (forms.Life clients choice))
+life-built script clients choice built =
     let begun : Life = record { clients = clients; choice = choice; cuts = []; commands = [] } in
-    let none : length script.lives ≡ 0 = eqb-true (length script.lives) 0 is in
-    let longer : length (script.lives ++ begun ∷ []) ≡ length script.lives + 1 = length-append script.lives (begun ∷ []) in
-    record {
-      lives = omega (arith, longer, none);
-      cuts = All-push (λ (life : Life). life.cuts ≡ []) script.lives begun built.cuts refl;
-      few = All-push AreFew script.lives begun built.few (λ client. omega arith);
-    }
+    record { few = All-push AreFew script.lives begun built.few (λ client. omega arith) }
 
 -- a command comes where its client has fewer than 16
 command-built : (script : Script) (command : Command) → IsBuilt script → is_built script (forms.Command command) ≡ true
     → IsBuilt (with_said script (forms.Command command))
-command-built script command built is =
-    let longer = length-with_last (with_command command) script.lives in
-    record {
-      lives = omega (arith, longer, built.lives);
-      cuts = All-with_last (λ (life : Life). life.cuts ≡ []) (with_command command) script.lives (λ life last none. none) built.cuts;
-      few = All-with_last AreFew (with_command command) script.lives (λ life last few.
-        let room : has_few command.client life ≡ true = rw last at is in
-        few_with_one_more life.commands command (ltb-true (length (own_ops command.client life.commands)) 16 room) few) built.few;
-    }
+command-built script command built is = record {
+    few = All-with_last AreFew (with_command command) script.lives (λ life last few.
+      let room : has_few command.client life ≡ true = rw last at is in
+      few_with_one_more life.commands command (ltb-true (length (own_ops command.client life.commands)) 16 room) few) built.few;
+  }
 
 said-built : (script : Script) (says : ScriptLine) → IsBuilt script → is_built script says ≡ true → IsBuilt (with_said script says)
-said-built script (forms.Lines lines) built is = record { lives = built.lives; cuts = built.cuts; few = built.few }
-said-built script (forms.Life clients choice) built is = life-built script clients choice built is
-said-built script (forms.Cut cut) built is = absurd (true≢false (sym is))
+said-built script (forms.Lines lines) built is = record { few = built.few }
+said-built script (forms.Life clients choice) built is = life-built script clients choice built
+said-built script (forms.Cut cut) built is = record { few = All-with_last AreFew (with_cut cut) script.lives (λ life last few. few) built.few }
 said-built script (forms.Command command) built is = command-built script command built is
 
 lines-built : (lines : List (List ℕ)) (script after : Script) → IsBuilt script → AddsAll script lines after → IsBuilt after
@@ -222,7 +211,5 @@ lines-built (line ∷ lines) script after built (between, inr (says, is, form, s
 pub built-script : (text : List ℕ) (script : Script) → IsScript text script → IsBuilt script
 built-script text script is =
     lines-built (text_lines text) no_script script (record {
-      lives = omega arith;
-      cuts = All-nil (λ (life : Life). life.cuts ≡ []);
       few = All-nil AreFew;
     }) is

@@ -97,11 +97,11 @@ pub record IsAccepted (before : Script) (line : List ℕ) (says : ScriptLine) : 
 abbrev pub has_few : ℕ → Life → Bool
 has_few client life = nat_lt (length (own_ops client life.commands)) 16
 
--- The forms that are read today: one life, no cut line, and up to 16 commands a client.
+-- The forms that are read today: all but a client's 17th command of a life.
 abbrev pub is_built : Script → ScriptLine → Bool
 is_built script (forms.Lines lines) = true
-is_built script (forms.Life clients choice) = length script.lives == 0
-is_built script (forms.Cut cut) = false
+is_built script (forms.Life clients choice) = true
+is_built script (forms.Cut cut) = true
 is_built script (forms.Command command) = option_map_or (has_few command.client) (last_life script.lives) true
 
 -- the lives with a change to the last

@@ -1,5 +1,5 @@
 -- The limits that each script that is read keeps, beside those of all scripts.
-use Rattle.std.specs.Prelude.{◌≡◌, ◌≤◌, ℕ, [], length, All}
+use Rattle.std.specs.Prelude.{◌≤◌, ℕ, length, All}
 use Rattle.doc_model.specs.Meaning.{IsOp}
 use Rattle.life_records.specs.Scripts.{own_ops}
 use Rattle.life_records.specs.declared.script.Life.{Life}
@@ -22,8 +22,6 @@ AskWithinLimits script = All (λ life. All (λ c. IsOp c.op) life.commands) scri
 abbrev pub AreFew : Life → Type 0
 AreFew life = (client : ℕ) → length (own_ops client life.commands) ≤ 16
 
--- what the forms that are read today make: one life at the most, no cuts, and 16 commands a client at the most
+-- what the forms that are read today make: 16 commands a client of a life at the most
 pub record IsBuilt (script : Script) : Type 0 where
-  pub lives : length script.lives ≤ 1
-  pub cuts : All (λ life. life.cuts ≡ []) script.lives
   pub few : All AreFew script.lives

@@ -179,14 +179,12 @@ impl Draft {
         self.lives.last()
     }
 
-    /// Whether the form of a line is read already: one life, no cut line, and up to 16 commands a client.
+    /// Whether the form of a line is read already: all but a client's 17th command of a life.
     fn is_built(&self, says: &ScriptLine) -> bool
         ensures { result ≡ is_built self.now says.now }
     {
         match says {
-            ScriptLine::Lines(_) => true,
-            ScriptLine::Life { .. } => self.lives.is_empty(),
-            ScriptLine::Cut(_) => false,
+            ScriptLine::Lines(_) | ScriptLine::Life { .. } | ScriptLine::Cut(_) => true,
             ScriptLine::Command(command) => match self.last_life() {
                 Some(life) => has_few(command.client, life),
                 None => true,
