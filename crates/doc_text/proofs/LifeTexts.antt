@@ -107,12 +107,12 @@ no_stop_before : (client command answered : ℕ) (stops : List StopLine) → All
     → command ≤ answered → has_stop client command stops ≡ false
 no_stop_before client command answered stops are before =
     list_any_none _ stops (λ k d below.
-      elim (cases_Bool (eqb (get_or stops k d).client client)) [
-        | inl hit ↦
-            let at : (get_or stops k d).command ≡ answered + 1 = are k d below (eqb-true (get_or stops k d).client client hit) in
-            rw (hit, ne_eqb (get_or stops k d).command command (λ same. omega (arith, same, at, before))) refl
-        | inr miss ↦ rw miss refl
-      ])
+    elim (cases_Bool (eqb (get_or stops k d).client client)) [
+      | inl hit ↦
+          let at : (get_or stops k d).command ≡ answered + 1 = are k d below (eqb-true (get_or stops k d).client client hit) in
+          rw (hit, ne_eqb (get_or stops k d).command command (λ same. omega (arith, same, at, before))) refl
+      | inr miss ↦ rw miss refl
+    ])
 
 -- whether a client was answered in a command
 abbrev is_answered : List StopLine → JournalLine → Bool
@@ -149,13 +149,13 @@ ops_of-bare life (line ∷ journal) (suc n) = ap (cons_option (named_op life lin
 bare_read : (lines place : ℕ) (store : Store) (life : Life) (journal : List JournalLine) (line : ReadLine)
     → IsLegalRead lines place store life journal line → IsLegalRead lines place store life (map bare journal) line
 bare_read lines place store life journal line legal = record {
-    named = legal.named;
-    reads = legal.reads;
-    from = legal.from;
-    to = let long = length-map journal bare in omega (arith, long, legal.to);
-    reply = subst (λ ops. HasReply lines (store_after_all lines store ops) (named_op life line.client line.command) line.reply)
-        (sym (ops_of-bare life journal (line.place - place))) legal.reply;
-  }
+  named = legal.named;
+  reads = legal.reads;
+  from = legal.from;
+  to = let long = length-map journal bare in omega (arith, long, legal.to);
+  reply = subst (λ ops. HasReply lines (store_after_all lines store ops) (named_op life line.client line.command) line.reply)
+      (sym (ops_of-bare life journal (line.place - place))) legal.reply;
+}
 
 reads_read_off : (lines place : ℕ) (store : Store) (life : Life) (told : LifeRecord) → IsLegal lines place store life told → HasNumbers told
     → All (IsReadOff lines place store life (map bare told.journal)) told.reads
@@ -195,16 +195,16 @@ same_power a b x y fits others_fit e =
 
 abbrev made_record : ℕ → ℕ → List JournalLine → List ReadLine → List StopLine → List FullLine → ℕ → ℕ → ℕ → LifeRecord
 made_record clients from journal reads stops fulls choice kept documents = record {
-    clients = clients;
-    from = from;
-    journal = journal;
-    reads = reads;
-    stops = stops;
-    fulls = fulls;
-    choice = choice;
-    kept = kept;
-    documents = documents;
-  }
+  clients = clients;
+  from = from;
+  journal = journal;
+  reads = reads;
+  stops = stops;
+  fulls = fulls;
+  choice = choice;
+  kept = kept;
+  documents = documents;
+}
 
 same_parts : (a b : LifeRecord) → a.clients ≡ b.clients → a.from ≡ b.from → a.journal ≡ b.journal → a.reads ≡ b.reads → a.stops ≡ b.stops → a.fulls ≡ b.fulls
     → a.choice ≡ b.choice → a.kept ≡ b.kept → a.documents ≡ b.documents → a ≡ b

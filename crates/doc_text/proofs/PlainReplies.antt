@@ -58,7 +58,7 @@ add_plain lines store key amount (Some before) = sum_plain _ _ _
 
 -- the reply to an operation
 pub reply_plain : (lines : ℕ) (store : Store) (op : Op) → IsStore store → IsPlain (reply_to lines store op)
-reply_plain lines store (Put key document) s = 
+reply_plain lines store (Put key document) s =
     either_plain (has_room lines (with_pair key document store)) (cond (is_some (document_at key store)) Replaced New) NoRoom
     (either_plain (is_some (document_at key store)) Replaced New tt tt) tt
 reply_plain lines store (Del key) s = either_plain (is_some (document_at key store)) Deleted Absent tt tt

@@ -89,6 +89,6 @@ pub record IsReadOff (lines place : ℕ) (store : Store) (life : Life) (journal 
 pub reads_read : (lines place : ℕ) (store : Store) (life : Life) (journal : List JournalLine)
     → AreReadOff (read_text life) 114 (IsReadOff lines place store life journal)
 reads_read lines place store life journal = record {
-    begins = λ line. (_, refl);
-    same = λ a b x y is other e. same_first lines place store life journal a b x y is.legal other.legal is.numbers other.numbers e;
-  }
+  begins = λ line. (_, refl);
+  same = λ a b x y is other e. same_first lines place store life journal a b x y is.legal other.legal is.numbers other.numbers e;
+}

@@ -82,16 +82,16 @@ command-within script command within some last is below few =
       lives = omega (arith, longer, within.lives);
       commands = omega (arith, counted, few);
       each = All-with_last IsFit (with_command command) script.lives (λ life is_last fit.
-        let same : last ≡ life = cc in
-        let own : command.client < life.clients = subst (λ (l : Life). command.client < l.clients) same below in
-        record {
-          some = fit.some;
-          few = fit.few;
-          choice = fit.choice;
-          own = All-push (λ (c : Command). c.client < life.clients) life.commands command fit.own own;
-          cuts = cuts_of life (with_command command life) life.cuts refl fit.cuts;
-          apart = fit.apart;
-        }) within.each;
+          let same : last ≡ life = cc in
+          let own : command.client < life.clients = subst (λ (l : Life). command.client < l.clients) same below in
+          record {
+            some = fit.some;
+            few = fit.few;
+            choice = fit.choice;
+            own = All-push (λ (c : Command). c.client < life.clients) life.commands command fit.own own;
+            cuts = cuts_of life (with_command command life) life.cuts refl fit.cuts;
+            apart = fit.apart;
+          }) within.each;
     }
 
 -- a client without a cut is none of those that have one
@@ -111,19 +111,19 @@ cut-within script cut within some last is below fits new =
       lives = omega (arith, longer, within.lives);
       commands = omega (arith, counted, within.commands);
       each = All-with_last IsFit (with_cut cut) script.lives (λ life is_last fit.
-        let same : last ≡ life = cc in
-        let own : cut.client < life.clients = subst (λ (l : Life). cut.client < l.clients) same below in
-        let none : has_cut cut.client life.cuts ≡ false = subst (λ (l : Life). has_cut cut.client l.cuts ≡ false) same new in
-        record {
-          some = fit.some;
-          few = fit.few;
-          choice = fit.choice;
-          own = fit.own;
-          cuts =
-              cuts_of life (with_cut cut life) (life.cuts ++ cut ∷ []) refl
-              (All-push (IsCutOf life) life.cuts cut fit.cuts (record { client = own; steps = fits }));
-          apart = all_pairs_push AreOfTwo life.cuts cut fit.apart (other_client cut life.cuts none);
-        }) within.each;
+          let same : last ≡ life = cc in
+          let own : cut.client < life.clients = subst (λ (l : Life). cut.client < l.clients) same below in
+          let none : has_cut cut.client life.cuts ≡ false = subst (λ (l : Life). has_cut cut.client l.cuts ≡ false) same new in
+          record {
+            some = fit.some;
+            few = fit.few;
+            choice = fit.choice;
+            own = fit.own;
+            cuts =
+                cuts_of life (with_cut cut life) (life.cuts ++ cut ∷ []) refl
+                (All-push (IsCutOf life) life.cuts cut fit.cuts (record { client = own; steps = fits }));
+            apart = all_pairs_push AreOfTwo life.cuts cut fit.apart (other_client cut life.cuts none);
+          }) within.each;
     }
 
 -- with one more line
@@ -191,10 +191,10 @@ life-built script clients choice built =
 command-built : (script : Script) (command : Command) → IsBuilt script → is_built script (forms.Command command) ≡ true
     → IsBuilt (with_said script (forms.Command command))
 command-built script command built is = record {
-    few = All-with_last AreFew (with_command command) script.lives (λ life last few.
+  few = All-with_last AreFew (with_command command) script.lives (λ life last few.
       let room : has_few command.client life ≡ true = rw last at is in
       few_with_one_more life.commands command (ltb-true (length (own_ops command.client life.commands)) 16 room) few) built.few;
-  }
+}
 
 said-built : (script : Script) (says : ScriptLine) → IsBuilt script → is_built script says ≡ true → IsBuilt (with_said script says)
 said-built script (forms.Lines lines) built is = record { few = built.few }

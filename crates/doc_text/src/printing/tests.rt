@@ -8,9 +8,7 @@ use crate::indexed_life::IndexedLife;
 use cx_base::{Bytes, Items};
 use cx_core::FullNote;
 use doc_model::{Op, Reply};
-use life_records::{
-    Command, FullLine, JournalLine, Life, LifeRecord, ReadLine, Script, StopLine,
-};
+use life_records::{Command, FullLine, JournalLine, Life, LifeRecord, ReadLine, Script, StopLine};
 use std::alloc::{AllocError, Global};
 use std::process::Abort;
 use std::test::Fail;
@@ -532,10 +530,7 @@ fn reads_of(alloc: Global, told: &[(u64, u64, Told)]) -> Result<Items<ReadLine>,
     Ok(reads)
 }
 
-fn stops_of(
-    alloc: Global,
-    told: &[(u32, u64, u64, bool)],
-) -> Result<Items<StopLine>, AllocError> {
+fn stops_of(alloc: Global, told: &[(u32, u64, u64, bool)]) -> Result<Items<StopLine>, AllocError> {
     let mut stops = Items::new(alloc);
     for (client, command, steps, kept) in told {
         stops.push(StopLine {

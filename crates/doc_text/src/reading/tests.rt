@@ -17,9 +17,9 @@ fn read(alloc: Global, text: &[u8]) -> Outcome {
     match read_script(alloc, text) {
         Ok(script) => {
             let lives = script.lives.as_slice();
-            let mut commands = 0;
+            let mut commands = 0_usize;
             for life in lives {
-                commands += life.commands.len();
+                commands = commands.saturating_add(life.commands.len());
             }
             Outcome::Script(script.lines, lives.len(), commands)
         }
@@ -667,10 +667,8 @@ fn full_life(text: &mut Vec<u8>, less: usize) -> Result<(), Fail> {
         b"6 next a\n",
         b"7 get a\n",
     ];
-    for number in 0..128_usize {
-        if number + less < 128 {
-            text.extend_from_slice(lines[number % 8])?;
-        }
+    for number in less..128 {
+        text.extend_from_slice(lines[number % 8])?;
     }
     Ok(())
 }
@@ -709,10 +707,7 @@ fn as_many_lives_as_may_be(rt: HostRuntime) -> Result<(), Fail> {
     ] {
         text.truncate(whole);
         text.extend_from_slice(line)?;
-        assert_eq!(rt;
-            read(rt.alloc(), &text),
-            Outcome::Refused(2_002, reason)
-        );
+        assert_eq!(rt; read(rt.alloc(), &text), Outcome::Refused(2_002, reason));
     }
     Ok(())
 }

@@ -12,11 +12,11 @@ use Rattle.doc_text.proofs.reading.read_lines.Goals as goal
 pub loop-rest-init : goal.loop-rest-init
 unfolding with_lines
 loop-rest-init c = record {
-    left = refl;
-    read = rw c.new.ensures.items refl;
-    counted = omega arith;
-    limits = rw c.new.ensures.items (All-nil (λ (life : Life). All (λ c. IsOp c.op) life.commands));
-  }
+  left = refl;
+  read = rw c.new.ensures.items refl;
+  counted = omega arith;
+  limits = rw c.new.ensures.items (All-nil (λ (life : Life). All (λ c. IsOp c.op) life.commands));
+}
 
 pub returns-in-Some-clause-refused : goal.returns-in-Some-clause-refused
 returns-in-Some-clause-refused c =
