@@ -1,3 +1,4 @@
 pub mod Calling
 pub mod Lines
 pub mod Serving
+pub mod Turning
