@@ -1,4 +1,5 @@
 pub mod Calling
+pub mod Commands
 pub mod Lines
 pub mod Serving
 pub mod Turning

@@ -1,6 +1,7 @@
 use Rattle.std.proofs.Common.{◌-◌, ◌∙◌, arith, refl, subst, sym}
 use Rattle.cx_base.specs.Memory.{Words}
 use Rattle.doc_model.proofs.OpKinds.{op_words_fit}
+use Rattle.cx_lives.specs.declared.desk.Desk.{Desk}
 use Rattle.cx_lives.specs.Ends.{Turned}
 use Rattle.cx_lives.specs.Turns.{EntryTurn, ReadTurn}
 use Rattle.cx_lives.proofs.Turning.{entry_turned, if_ok, read_turned, stop_turned, worn_turned}
@@ -22,7 +23,7 @@ returns-in-Done g c =
     let n = c.args.number in
     let client = c.args.command.now.client in
     let d = c.args.self in
-    let desk = record { caller = c.in-Done.caller; entries = d.entries; reads = d.reads } in
+    let desk : Desk = record { caller = c.in-Done.caller; entries = d.entries; reads = d.reads } in
     if_ok (EntryTurn client n c.in-Done.answer desk) (Turned life r client n)
     (λ turn t. entry_turned life r client (n - 1) n d.caller d.entries.items d.reads.items c.requires.served.lists (omega (arith, c.requires.number)) c.args.command.now.op c.op_words-op.result c.op_words-op.ensures c.requires.named
         c.requires.op c.amount_has_64_bits.ensures c.in-Done.caller c.in-Done.answer desk turn c.in-Done.ensures refl refl refl t)
@@ -35,7 +36,7 @@ returns-in-Read g c =
     let n = c.args.number in
     let client = c.args.command.now.client in
     let d = c.args.self in
-    let desk = record { caller = c.in-Read.caller; entries = d.entries; reads = d.reads } in
+    let desk : Desk = record { caller = c.in-Read.caller; entries = d.entries; reads = d.reads } in
     if_ok (ReadTurn client n c.in-Read.seen desk) (Turned life r client n)
     (λ turn t. read_turned life r client (n - 1) n d.caller d.entries.items d.reads.items c.requires.served.lists (omega (arith, c.requires.number)) c.args.command.now.op c.op_words-op.result c.op_words-op.ensures c.requires.named
         c.requires.op c.amount_has_64_bits.ensures (omega (arith, c.requires.served.caller.count)) c.in-Read.caller c.in-Read.seen desk turn c.in-Read.ensures refl refl refl t)
