@@ -4,7 +4,8 @@ use Rattle.std.specs.Prelude.{All, MatchBool, Result, IfOk}
 use Rattle.std.specs.List.{range_with_len}
 use Rattle.std.specs.Option.{option_to_list}
 use Rattle.std.specs.declared.alloc.AllocError.{AllocError}
-use Rattle.std.proofs.lemmas.List.{map-append, length-append}
+use Rattle.std.proofs.lemmas.List.{length-map, map-append, length-append}
+use Rattle.std.proofs.lemmas.List.FromFn.{length-range_with_len}
 use Rattle.std.proofs.lemmas.List.Elements.{All-nil, All-push}
 use Rattle.cx_core.proofs.Locals.{slice_get-last, slice_get-push}
 use Rattle.cx_core.proofs.ListLemmas.{slice_get-append_left}
@@ -14,7 +15,7 @@ use Rattle.cx_rule.specs.Running.{IsSeatOf, Running}
 use Rattle.cx_rule.specs.Seats.{Seated}
 use Rattle.cx_service.specs.Closes.{seat_of, seats_of}
 use Rattle.cx_service.specs.declared.close.Handed.{Handed}
-use Rattle.cx_table.specs.Remains.{locals_of}
+use Rattle.cx_table.specs.Remains.{AreSeats, locals_of}
 use Rattle.journals.specs.Works.{AreWorks, IsWork}
 use Rattle.life_records.specs.declared.script.Life.{Life}
 use Rattle.life_records.specs.declared.record.JournalLine.{JournalLine}
@@ -117,3 +118,14 @@ numbered life r k (s ∷ cs) (w ∷ ws) long numbers each =
       subst (λ i. IfOk w (IsWorkOf life r i)) first (each 0 w s (omega arith)),
       numbered life r (k + 1) cs ws (omega (arith, long)) (ap (λ (xs : List ℕ). drop 1 xs) numbers) (λ i d e within. each (suc i) d e (omega (arith, within))),
     )
+
+-- as many seats as callers
+pub seats_long : {O : Type 0} (r : Running O) (seats : List Seated) → AreSeats r seats → length seats ≡ r.callers
+seats_long r seats are = omega (arith, ap length are.numbers, length-map seats number, length-range_with_len 0 r.callers)
+
+-- what is put together of all callers has all seats
+pub gathered_seats : {O : Type 0} (life : Life) (r : Running O) (callers : List Seated) (g : Gathered) → AreSeats r callers → length g.handed.items ≡ length callers → AreGathered life r g → AreSeats r (seats_of g.handed.items)
+gathered_seats life r callers g are long gathered =
+    let few = seats_long r callers are in
+    let all : length g.handed.items ≡ r.callers = omega (arith, long, few) in
+    record { of = gathered.of; numbers = gathered.numbers ∙ ap (range_with_len 0) all }

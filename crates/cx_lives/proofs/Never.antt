@@ -67,7 +67,12 @@ whole_at [] i l at = cc
 whole_at (x ∷ xs) zero l at = (x, refl, same_Some (shown x) l at)
 whole_at (x ∷ xs) (suc i) l at = whole_at xs i l at
 
-module _ (life : Life) (lines : ℕ) (instance : Instance) (step_is : instance.step ≡ store_step lines) (base : LawfulBase lines (IsImage lines) instance.base) (words : List ℕ) (whole : List Local)
+shown_at : (xs : List Local) (i : ℕ) (l : Local) → slice_get xs i ≡ Some l → slice_get (map shown xs) i ≡ Some (shown l)
+shown_at [] i l there = cc
+shown_at (x ∷ xs) zero l there = ap (λ (y : Local). Some (shown y)) (same_Some x l there)
+shown_at (x ∷ xs) (suc i) l there = shown_at xs i l there
+
+module _ (life : Life) (count lines : ℕ) (instance : Instance) (step_is : instance.step ≡ store_step lines) (base : LawfulBase count (IsImage lines) instance.base) (words : List ℕ) (whole : List Local)
     (law : Lawful instance (record { words = words; locals = whole })) where
   abbrev opening : List ℕ
   opening = object_part instance.base.words
@@ -96,9 +101,9 @@ module _ (life : Life) (lines : ℕ) (instance : Instance) (step_is : instance.s
     not_worn : IsWorn life client w → EachLocal whole (λ i l. length l.own ≤ length (own_ops i life.commands)) → instance.base.place + length life.commands ≤ 2 ^ 40 → ⊥
     not_worn worn few tickets =
         let behind = (law.fronts.each client w at).to in
-        let count = own_count instance.base.place law.history whole law.tickets.merged in
+        let entries = own_count instance.base.place law.history whole law.tickets.merged in
         let fewer = entries_fewer life.commands whole client w (λ i l there. (let same : i ≡ 0 + i = omega arith in subst (λ k. length l.own ≤ length (own_ops k life.commands)) same (few i l there))) at worn.fewer in
-        omega (arith, worn.front, behind, count, fewer, tickets)
+        omega (arith, worn.front, behind, entries, fewer, tickets)
 
     no_bad_answer : IsBadAnswer w → ⊥
     no_bad_answer b =
@@ -136,8 +141,3 @@ module _ (life : Life) (lines : ℕ) (instance : Instance) (step_is : instance.s
     where
       few_whole : (i : ℕ) (l : Local) → slice_get whole i ≡ Some l → length l.own ≤ length (own_ops i life.commands)
       few_whole i l there = (each i (shown l) (ap (λ ls. slice_get ls i) (sym shows) ∙ shown_at whole i l there)).few
-
-      shown_at : (xs : List Local) (i : ℕ) (l : Local) → slice_get xs i ≡ Some l → slice_get (map shown xs) i ≡ Some (shown l)
-      shown_at [] i l there = cc
-      shown_at (x ∷ xs) zero l there = ap (λ (y : Local). Some (shown y)) (same_Some x l there)
-      shown_at (x ∷ xs) (suc i) l there = shown_at xs i l there
