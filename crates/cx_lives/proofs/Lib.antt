@@ -4,5 +4,6 @@ pub mod Gathering
 pub mod Lines
 pub mod Never
 pub mod Serving
+pub mod Starting
 pub mod Totals
 pub mod Turning

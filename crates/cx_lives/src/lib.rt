@@ -3,10 +3,16 @@
 #![tactic(auto)]
 
 mod calls;
+#[cfg(test)]
+mod checker;
 mod desk;
 mod gather;
 mod life;
 mod start;
+#[cfg(test)]
+mod tests;
+#[cfg(test)]
+mod told;
 mod work;
 mod workers;
 

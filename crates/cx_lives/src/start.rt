@@ -33,7 +33,10 @@ pub fn start_life(
 {
     let limits = limits_of(alloc, life)?;
     let store = DocStore::of(lines);
-    Service::start(alloc, store, life.clients, &limits, base).map_err(|_| AllocError)
+    let Ok((service, callers)) = Service::start(alloc, store, life.clients, &limits, base) else {
+        return Err(AllocError);
+    };
+    Ok((service, callers))
 }
 
 // The limit of each client, of client 0 first.
