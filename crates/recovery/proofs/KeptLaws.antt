@@ -41,11 +41,11 @@ part_from pairs count from n within =
     let long : length all ≡ count = length-map-range_with_len (image_word pairs) 0 count in
     let part : length (take n (drop from all)) ≡ n = length-take-le n (drop from all) (omega (arith, length-drop from all, long, within)) in
     ext_get_or 0 (take n (drop from all)) (words_from pairs from n) (part ∙ sym (length-map-range_with_len (image_word pairs) from n)) (λ i below. (
-        let inside : i < n = omega (arith, below, part) in
-        get_or-take n (drop from all) i 0 inside
-        ∙ get_or-drop from all i 0
-        ∙ get_or-map-range_with_len (image_word pairs) 0 count (from + i) (from + i) 0 (omega (arith, inside, within)) (omega arith)
-        ∙ sym (get_or-map-range_with_len (image_word pairs) from n i (from + i) 0 inside refl)))
+    let inside : i < n = omega (arith, below, part) in
+    get_or-take n (drop from all) i 0 inside
+    ∙ get_or-drop from all i 0
+    ∙ get_or-map-range_with_len (image_word pairs) 0 count (from + i) (from + i) 0 (omega (arith, inside, within)) (omega arith)
+    ∙ sym (get_or-map-range_with_len (image_word pairs) from n i (from + i) 0 inside refl)))
 
 -- an image that is accepted has no fault
 no_fault : (version : ℕ) (lawful : List ℕ → Type 0) (image : Image) (fault : ImageFault) → IsAccepted version lawful image → IsFaultOf version lawful image fault → fault ≡ Memory
