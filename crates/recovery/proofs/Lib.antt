@@ -1,2 +1,6 @@
+pub mod Leaving
 pub mod Pairs
+pub mod KeptLaws
+pub mod Shown
 pub mod Slots
+pub mod Written

@@ -138,7 +138,7 @@ module _ (pairs : List (ℕ × ℕ)) (from count i : ℕ) (words : List ℕ) (ri
 pub read_all : (pairs : List (ℕ × ℕ)) (from count i : ℕ) (words : List ℕ) → length pairs ≤ i → HasRead pairs from count i words → words ≡ words_from pairs from count
 read_all pairs from count i words end has =
     ext_get_or 0 words (words_from pairs from count) (has.long ∙ sym (length-map-range_with_len (image_word pairs) from count)) (λ k small. (
-        let inside : k < count = omega (arith, small, has.long) in
-        has.each k inside
-        ∙ ap (λ (ps : List (ℕ × ℕ)). image_word ps (from + k)) (take_all i pairs end)
-        ∙ sym (get_or-map-range_with_len (image_word pairs) from count k (from + k) 0 inside refl)))
+    let inside : k < count = omega (arith, small, has.long) in
+    has.each k inside
+    ∙ ap (λ (ps : List (ℕ × ℕ)). image_word ps (from + k)) (take_all i pairs end)
+    ∙ sym (get_or-map-range_with_len (image_word pairs) from count k (from + k) 0 inside refl)))

@@ -9,8 +9,8 @@ use Rattle.cx_core.specs.Region.{LawfulResults, object_part, slot_reply, slot_st
 pub blank_same : (words : List ℕ) (n : ℕ) → length words ≡ n → All (λ (w : ℕ). w ≡ 0) words → words ≡ replicate n 0
 blank_same words n long blank =
     ext_get_or 0 words (replicate n 0) (long ∙ sym (length-replicate n 0)) (λ i below. (
-        let inside : i < n = omega (arith, below, long) in
-        All-get_or (λ (w : ℕ). w ≡ 0) words i 0 below blank ∙ sym (get_or-replicate n i 0 0 inside)))
+    let inside : i < n = omega (arith, below, long) in
+    All-get_or (λ (w : ℕ). w ≡ 0) words i 0 below blank ∙ sym (get_or-replicate n i 0 0 inside)))
 
 pub same_blank : (words : List ℕ) (n : ℕ) → words ≡ replicate n 0 → All (λ (w : ℕ). w ≡ 0) words
 same_blank words n same = All-same (λ (w : ℕ). w ≡ 0) words (replicate n 0) same (All-replicate (λ (w : ℕ). w ≡ 0) n 0 refl)
@@ -33,9 +33,9 @@ reply_is words caller from at = ap (λ n. take 144 (drop n words)) at
 pub zeros_there : (words : List ℕ) → 8 ≤ length words → LawfulResults words → All (λ (w : ℕ). w ≡ 0) (take 7 (drop 1 words))
 zeros_there words long law =
     All-from_get_or (λ (w : ℕ). w ≡ 0) (take 7 (drop 1 words)) 0 (λ i below. (
-        let count : length (take 7 (drop 1 words)) ≡ 7 = length-take-le 7 (drop 1 words) (omega (arith, length-drop 1 words, long)) in
-        let inside : i < 7 = omega (arith, below, count) in
-        get_or-take 7 (drop 1 words) i 0 inside ∙ get_or-drop 1 words i 0 ∙ law.zeros (1 + i) (omega arith) (omega (arith, inside))))
+    let count : length (take 7 (drop 1 words)) ≡ 7 = length-take-le 7 (drop 1 words) (omega (arith, length-drop 1 words, long)) in
+    let inside : i < 7 = omega (arith, below, count) in
+    get_or-take 7 (drop 1 words) i 0 inside ∙ get_or-drop 1 words i 0 ∙ law.zeros (1 + i) (omega arith) (omega (arith, inside))))
 
 pub zeros_are : (words : List ℕ) → 8 ≤ length words → All (λ (w : ℕ). w ≡ 0) (take 7 (drop 1 words)) → (at : ℕ) → 1 ≤ at → at ≤ 7 → get_or words at 0 ≡ 0
 zeros_are words long blank at from to =

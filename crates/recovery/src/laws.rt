@@ -7,15 +7,18 @@ ghost use Rattle.cx_rule.specs.Running.{Running, instance_at};
 ghost use Rattle.cx_rule.specs.Seats.{Seated};
 ghost use Rattle.cx_table.specs.Remains.{Leaves};
 ghost use Rattle.recovery.specs.Crashes.{IsLeftOf, IsWhole};
+ghost use Rattle.recovery.specs.Images.{IsReadable};
 ghost use Rattle.recovery.specs.Kept.{IsKeptBy, IsOpened, crash_of};
 ghost use Rattle.recovery.specs.Recovery.{IsFaultOf, IsRecovered};
 ghost use Rattle.recovery.specs.declared.recovering.ImageFault.TheVariants.{Memory};
 
 use cx_base::Object;
 
-/// A closed table leaves all that a crash image is made of.
+/// A closed table leaves all that a crash image is made of, and what is left of it may be read for its object.
 pub fn closed_tables_are_whole<O: Object>()
-    ensures { (table : Running O) (seats : List Seated) (r : _) → IsOpened O.line_count O.lawful table → Leaves table (instance_at table O.step O.only_reads) seats r → IsWhole r }
+    ensures whole { (table : Running O) (seats : List Seated) (r : _) → IsOpened O.line_count O.lawful table → Leaves table (instance_at table O.step O.only_reads) seats r → IsWhole r }
+    ensures readable { (table : Running O) (seats : List Seated) (r : _) (choice : ℕ) (image : _) → IsOpened O.line_count O.lawful table →
+        Leaves table (instance_at table O.step O.only_reads) seats r → IsLeftOf r choice image → IsReadable (O.line_count table.object) image }
 {}
 
 /// What is left of it by each choice is a crash image of the state that was closed.

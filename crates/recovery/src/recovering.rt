@@ -6,7 +6,7 @@ ghost use Rattle.cx_core.specs.Base.{LawfulBase};
 ghost use Rattle.recovery.specs.Images.{IsReadable};
 ghost use Rattle.recovery.specs.Recovery.{HasRegion, IsFaultOf, IsRecovered, IsRegionFault, NumbersWithin};
 
-use crate::region::{image_len, has_lawful_results, object_words, read_region};
+use crate::region::{has_lawful_results, image_len, object_words, read_region};
 use cx_base::{Items, Object, root_place};
 use cx_core::{Base, Image};
 use std::alloc::Global;
