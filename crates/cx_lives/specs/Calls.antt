@@ -70,6 +70,8 @@ pub record HaltsBeside {O : Type 0} (r : Running O) (op : List ℕ) (before afte
 pub record HaltsLinked {O : Type 0} (r : Running O) (op : List ℕ) (ticket : ℕ) (before after : Seated) : Type 0 where
   pub caller : IsStoppedOf r after
   pub links : LinksEntry op ticket before.known.local after.known.local
+  pub more : List Answer
+  pub answered : after.known.local.answered ≡ before.known.local.answered ++ more
 
 -- what an operation comes to
 abbrev pub Asks : {O : Type 0} → Running O → List ℕ → Seated → Asked → Type 0

@@ -1,6 +1,8 @@
 -- What a worker keeps while it makes its client's commands one after another.
 use Rattle.std.specs.Prelude.{◌≡◌, ◌≤◌, ℕ, List, length, All, AllPairs, IsSome, None}
 use Rattle.std.specs.List.{AllZip}
+use Rattle.cx_core.specs.declared.local.Answer.{Answer}
+use Rattle.cx_core.specs.declared.local.Linked.{Linked}
 use Rattle.cx_core.specs.declared.local.Local.{Local}
 use Rattle.cx_core.specs.declared.local.SeenRead.{SeenRead}
 use Rattle.cx_rule.specs.Running.{Running}
@@ -13,6 +15,10 @@ use Rattle.life_records.specs.declared.record.JournalLine.{JournalLine}
 use Rattle.life_records.specs.declared.record.ReadLine.{ReadLine}
 use Rattle.cx_lives.specs.declared.desk.Desk.{Desk}
 
+-- the line of an entry that was answered
+abbrev pub IsAnsweredLine : Life → ℕ → List Answer → Linked → JournalLine → Type 0
+IsAnsweredLine life client answered x line = IsLineOf life client answered None x line × IsSome line.reply
+
 -- an entry of one of the first so many commands, with a reply
 abbrev pub IsAnsweredEntry : ℕ → JournalLine → Type 0
 IsAnsweredEntry number line = (1 ≤ line.command) × (line.command ≤ number) × IsSome line.reply
@@ -22,7 +28,7 @@ IsAnsweredEntry number line = (1 ≤ line.command) × (line.command ≤ number) 
 pub record HasServed (life : Life) (client number : ℕ) (l : Local) (entries : List JournalLine) (reads : List ReadLine) : Type 0 where
   pub by : l.number ≡ client
   pub limit : l.limit ≡ limit_in client life.cuts
-  pub entry_lines : AllZip (IsLineOf life client l.answered None) l.own entries
+  pub entry_lines : AllZip (IsAnsweredLine life client l.answered) l.own entries
   pub read_lines : AllZip (IsReadLine life client) l.seen_reads reads
   pub between : AllZip (StandsBetween entries) l.seen_reads reads
   pub before : All (λ (x : SeenRead). x.before ≤ length entries) l.seen_reads
