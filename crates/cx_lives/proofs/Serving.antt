@@ -55,7 +55,7 @@ module _ (life : Life) (client n : ℕ) (l : Local) (es : List JournalLine) (rs 
   -- no line is of a later command
   none_later : (k : ℕ) → n < k → lines_of k es rs ≡ 0
   none_later k later =
-      let a = count_none (λ (e : JournalLine). e.command == k) es (All-weaker (IsAnsweredEntry n) (λ (e : JournalLine). (e.command == k) ≡ false) (λ e h. ne_eqb e.command k (λ same. omega (arith, h.1.0))) es s.entries_done) in
+      let a = count_none (λ (e : JournalLine). e.command == k) es (All-weaker (IsAnsweredEntry n) (λ (e : JournalLine). (e.command == k) ≡ false) (λ e h. ne_eqb e.command k (λ same. omega (arith, h.1))) es s.entries_done) in
       let b = count_none (λ (e : ReadLine). e.command == k) rs (All-weaker (λ (e : ReadLine). (1 ≤ e.command) × (e.command ≤ n)) (λ (e : ReadLine). (e.command == k) ≡ false) (λ e h. ne_eqb e.command k (λ same. omega (arith, h.1))) rs s.reads_done) in
       omega (arith, a, b)
 
@@ -93,13 +93,13 @@ module _ (life : Life) (client n : ℕ) (l : Local) (es : List JournalLine) (rs 
           zip_also (StandsBetween es) (StandsBetween (es ++ line ∷ [])) (λ (x : SeenRead). x.before ≤ length es) (λ (r : ReadLine). (1 ≤ r.command) × (r.command ≤ n)) between_entry l.seen_reads rs s.between s.before s.reads_done
 
       in_turn : AllPairs IsEntryBefore (es ++ line ∷ [])
-      in_turn = all_pairs_push IsEntryBefore es line s.entries_in_turn (λ k d within. omega (arith, (s.entries_done k d within).1.0))
+      in_turn = all_pairs_push IsEntryBefore es line s.entries_in_turn (λ k d within. omega (arith, (s.entries_done k d within).1))
 
     reads_later : All (λ (r : ReadLine). (1 ≤ r.command) × (r.command ≤ number)) rs
     reads_later = All-weaker (λ (r : ReadLine). (1 ≤ r.command) × (r.command ≤ n)) (λ (r : ReadLine). (1 ≤ r.command) × (r.command ≤ number)) (λ r h. (h.0, omega (arith, h.1))) rs s.reads_done
 
     entries_later : All (IsAnsweredEntry number) es
-    entries_later = All-weaker (IsAnsweredEntry n) (IsAnsweredEntry number) (λ e h. (h.0, omega (arith, h.1.0), h.1.1)) es s.entries_done
+    entries_later = All-weaker (IsAnsweredEntry n) (IsAnsweredEntry number) (λ e h. (h.0, omega (arith, h.1), h.2)) es s.entries_done
 
     module _ (op : Op) (ws : List ℕ) (are : ws ≡ op_words op) (named : named_op life client number ≡ Some op) where
       has_words : (words : List ℕ) → words ≡ ws → HasWords life client number words
@@ -136,3 +136,159 @@ module _ (life : Life) (client n : ℕ) (l : Local) (es : List JournalLine) (rs 
             reads_done = rw reads reads_later;
             few = rw entries (omega (arith, s.few, length-append es (line ∷ [])));
           }
+
+      -- a read that was answered beside the queue, where each entry is answered
+      module _ (even : length l.own ≡ length l.answered) (seen : Seen) (reply : Reply) (words : reply_words reply ≡ seen.reply) where
+        abbrev pub read_line : ReadLine
+        read_line = record { client = client; command = number; place = seen.place; reply = reply }
+
+        abbrev pub seen_read : SeenRead
+        seen_read = record { place = seen.place; op = ws; reply = seen.reply; before = length l.answered }
+
+        once_read : (k : ℕ) → 1 ≤ k → k ≤ number → lines_of k es (rs ++ read_line ∷ []) ≡ 1
+        once_read k one up =
+            elim (cases_eq number k) [
+              | inl same ↦ omega (arith, count_yes (λ (e : ReadLine). e.command == k) rs read_line (eq-eqb number k same), none_later k (omega arith))
+              | inr ne ↦ omega (arith, count_no (λ (e : ReadLine). e.command == k) rs read_line (ne_eqb number k ne), s.once k one (omega arith))
+            ]
+
+        between_read : StandsBetween es seen_read read_line
+        between_read = (
+          λ i e at less. (let done = all_at (IsAnsweredEntry n) es i e s.entries_done at in omega (arith, done.1)),
+          λ i e at more. (let within = slice_get_within es i e at in absurd (omega (arith, long, even))),
+        )
+
+        pub serves_read : (l' : Local) (es' : List JournalLine) (rs' : List ReadLine) → l'.number ≡ l.number → l'.limit ≡ l.limit → l'.own ≡ l.own → l'.answered ≡ l.answered → l'.seen_reads ≡ one_read ws seen l → es' ≡ es → rs' ≡ rs ++ read_line ∷ []
+            → HasServed life client number l' es' rs'
+        serves_read l' es' rs' same_number limit own answered reads entries lines =
+            let new : IsReadLine life client seen_read read_line = record { place = refl; client_is = refl; op = has_words ws refl; reply = words } in
+            record {
+              by = same_number ∙ s.by;
+              limit = limit ∙ s.limit;
+              entry_lines = rw (answered, own, entries) s.entry_lines;
+              read_lines = rw (reads, lines) (all_zipped_more (IsReadLine life client) l.seen_reads rs seen_read read_line s.read_lines new);
+              between = rw (reads, entries, lines) (all_zipped_more (StandsBetween es) l.seen_reads rs seen_read read_line s.between between_read);
+              before = rw (reads, entries) (All-push (λ (x : SeenRead). x.before ≤ length es) l.seen_reads seen_read s.before (omega (arith, long, even)));
+              entries_in_turn = rw entries s.entries_in_turn;
+              reads_in_turn = rw lines (all_pairs_push IsSeenBefore rs read_line s.reads_in_turn (λ k d within. omega (arith, (s.reads_done k d within).1)));
+              once = rw (entries, lines) once_read;
+              entries_done = rw entries entries_later;
+              reads_done = rw lines (All-push (λ (r : ReadLine). (1 ≤ r.command) × (r.command ≤ number)) rs read_line reads_later (omega arith, omega arith));
+              few = rw entries (omega (arith, s.few));
+            }
+
+      -- a client that is stopped in its next command
+      module _ (within : number ≤ length (own_ops client life.commands)) (l' : Local) (limit : l'.limit ≡ l.limit) (at_limit : IsAtLimit l') where
+        abbrev pub stop : StopLine
+        stop = record { client = client; command = number; steps = l'.limit; kept = false }
+
+        is_stop : IsStopOf life client n l' stop
+        is_stop = record {
+          client_is = refl;
+          command = next;
+          within = omega arith;
+          steps = refl;
+          reached = at_limit.0;
+          limit = at_limit.1;
+          kept = refl;
+        }
+
+        not_in : (command : ℕ) → command ≤ n → stops_in (Some stop) command ≡ false
+        not_in command up = ne_eqb number command (λ same. omega arith)
+
+        line_stays : (more : List Answer) (x : Linked) (e : JournalLine) → IsAnsweredLine life client l.answered x e → IsAnsweredEntry n e → IsLineOf life client (l.answered ++ more) (Some stop) x e
+        line_stays more x e h done = record {
+          ticket = h.0.ticket;
+          by = h.0.by;
+          client_is = h.0.client_is;
+          op = h.0.op;
+          reply = subst (λ b. IsLineReply b (l.answered ++ more) e.ticket e.reply) (sym (not_in e.command done.1)) (reply_stays l.answered more e.ticket e.reply h.1 h.0.reply);
+        }
+
+        lines_stay : (more : List Answer) → AllZip (IsLineOf life client (l.answered ++ more) (Some stop)) l.own es
+        lines_stay more = zip_with (IsAnsweredLine life client l.answered) (IsLineOf life client (l.answered ++ more) (Some stop)) (IsAnsweredEntry n) (line_stays more) l.own es s.entry_lines s.entries_done
+
+        done_entries : All (IsDoneEntry n (Some stop)) es
+        done_entries = All-weaker (IsAnsweredEntry n) (IsDoneEntry n (Some stop)) (λ e h. inl h) es s.entries_done
+
+        -- before its link
+        pub stops_beside : (es' : List JournalLine) (rs' : List ReadLine) → l'.number ≡ l.number → l'.own ≡ l.own → l'.answered ≡ l.answered
+            → (l'.seen_reads ≡ l.seen_reads) ⊎ ((seen : Seen) × (l'.seen_reads ≡ one_read ws seen l)) → es' ≡ es → rs' ≡ rs → IsWork life client l' es' rs' (Some stop)
+        stops_beside es' rs' same_number own answered reads entries lines =
+            let left : (xs : List SeenRead) × (l'.seen_reads ≡ l.seen_reads ++ xs) × (length xs ≤ 1) × All (IsStoppedRead life client (Some stop)) xs =
+            elim reads [
+              | inl none ↦ ([], none ∙ sym (append-nil l.seen_reads), omega arith, All-nil (IsStoppedRead life client (Some stop)))
+              | inr one ↦ (
+                  record { place = one.0.place; op = ws; reply = one.0.reply; before = length l.answered } ∷ [],
+                  one.1,
+                  omega arith,
+                  All-cons (IsStoppedRead life client (Some stop)) (record { place = one.0.place; op = ws; reply = one.0.reply; before = length l.answered }) [] (record { line = stop; is = refl; op = has_words ws refl }) (All-nil (IsStoppedRead life client (Some stop))),
+                )
+            ] in
+            record {
+              by = same_number ∙ s.by;
+              entry_lines = rw (answered ∙ sym (append-nil l.answered), own, entries) (lines_stay []);
+              read_lines = record { told = l.seen_reads; left = left.0; are = left.1; lines_are = rw lines s.read_lines; few = left.2; stopped = left.3 };
+              between = rw (entries, lines) s.between;
+              entries_in_turn = rw entries s.entries_in_turn;
+              reads_in_turn = rw lines s.reads_in_turn;
+              done = n;
+              within = omega arith;
+              once = rw (entries, lines) s.once;
+              entries_done = rw entries done_entries;
+              reads_done = rw lines s.reads_done;
+              ends = is_stop;
+            }
+
+        -- behind its link
+        pub stops_linked : (ticket : ℕ) (more : List Answer) (es' : List JournalLine) (rs' : List ReadLine) → LinksEntry ws ticket l l' → l'.answered ≡ l.answered ++ more
+            → es' ≡ es ++ record { ticket = ticket; client = client; command = number; reply = None } ∷ [] → rs' ≡ rs → IsWork life client l' es' rs' (Some stop)
+        stops_linked ticket more es' rs' links answered entries lines =
+            let line : JournalLine = record { ticket = ticket; client = client; command = number; reply = None } in
+            let new : IsLineOf life client (l.answered ++ more) (Some stop) links.entry line = record {
+              ticket = sym links.at;
+              by = links.by ∙ s.by;
+              client_is = refl;
+              op = has_words links.entry.entry.op links.op_is;
+              reply = subst (λ b. IsLineReply b (l.answered ++ more) ticket None) (sym (eq-eqb number number refl)) refl;
+            } in
+            record {
+              by = links.number ∙ s.by;
+              entry_lines = rw (answered, links.own, entries) (all_zipped_more (IsLineOf life client (l.answered ++ more) (Some stop)) l.own es links.entry line (lines_stay more) new);
+              read_lines = record { told = l.seen_reads; left = []; are = links.reads ∙ sym (append-nil l.seen_reads); lines_are = rw lines s.read_lines; few = omega arith; stopped = All-nil (IsStoppedRead life client (Some stop)) };
+              between = rw (entries, lines) (between_all line refl);
+              entries_in_turn = rw entries (in_turn line refl);
+              reads_in_turn = rw lines s.reads_in_turn;
+              done = n;
+              within = omega arith;
+              once = rw (entries, lines) (once_still line refl);
+              entries_done = rw entries (All-push (IsDoneEntry n (Some stop)) es line done_entries (inr (next, refl, refl)));
+              reads_done = rw lines s.reads_done;
+              ends = is_stop;
+            }
+
+  -- a client that was answered all its commands
+  pub is_whole : n ≡ length (own_ops client life.commands) → IsWork life client l es rs None
+  is_whole all = record {
+    by = s.by;
+    entry_lines = zip_with (IsAnsweredLine life client l.answered) (IsLineOf life client l.answered None) (IsAnsweredEntry n) (λ x e h done. h.0) l.own es s.entry_lines s.entries_done;
+    read_lines = record { told = l.seen_reads; left = []; are = sym (append-nil l.seen_reads); lines_are = s.read_lines; few = omega arith; stopped = All-nil (IsStoppedRead life client None) };
+    between = s.between;
+    entries_in_turn = s.entries_in_turn;
+    reads_in_turn = s.reads_in_turn;
+    done = n;
+    within = omega arith;
+    once = s.once;
+    entries_done = All-weaker (IsAnsweredEntry n) (IsDoneEntry n None) (λ e h. inl h) es s.entries_done;
+    reads_done = s.reads_done;
+    ends = all;
+  }
+
+  -- it has at most one entry for each command
+  pub few_own : length l.own ≤ n
+  few_own = omega (arith, long, s.few)
+
+-- the client has the command that is named
+pub named_within : (life : Life) (client number : ℕ) (op : Op) → named_op life client number ≡ Some op → number ≤ length (own_ops client life.commands)
+named_within life client zero op named = cc
+named_within life client (suc n) op named = (let within = slice_get_within (own_ops client life.commands) n op named in omega arith)

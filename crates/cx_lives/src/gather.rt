@@ -7,6 +7,7 @@ ghost use Rattle.cx_lives.specs.Gathering.{AddsWork, AreGathered, is_never, stop
 use crate::desk::{End, Work};
 use cx_service::{Handed, Service};
 use doc_store::DocStore;
+use journals::laws::{works_begin, works_go_on};
 use life_records::{JournalLine, Life, ReadLine, StopLine};
 use std::alloc::{AllocError, Global};
 
@@ -83,7 +84,10 @@ pub(crate) fn gather(
     ensures gathered { IfOk result (AreGathered life.now service.now) }
     ensures all { IfOk result (λ g. length g.handed.items ≡ vec_len works) }
 {
-    let _ = (service, life);
+    let _ = service;
+    let _ = life;
+    works_begin();
+    works_go_on();
     let mut all = Gathered {
         handed: Vec::new(alloc),
         entries: Vec::new(alloc),

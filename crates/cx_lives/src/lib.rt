@@ -6,7 +6,9 @@ mod calls;
 mod desk;
 mod gather;
 mod life;
+mod start;
 mod work;
 mod workers;
 
 pub use life::run_life;
+pub use start::start_life;

@@ -9,6 +9,7 @@ use cx_base::{Gate, Items};
 use cx_service::{Caller, Service};
 use cx_table::Remains;
 use doc_store::DocStore;
+use journals::laws::journals_are_told;
 use life_records::{Life, LifeRecord};
 use std::alloc::{AllocError, Global};
 use std::sync::Wait;
@@ -37,6 +38,7 @@ pub fn run_life<R: Threads + Wait + Sync, G: Gate + Sync>(
         never,
     } = gather(alloc, &service, life, works)?;
     entries.sort_unstable_by_key(|line| line.ticket);
+    journals_are_told();
     let _lines = service.lines();
     let Ok(remains) = service.close(alloc, handed) else {
         return Err(AllocError);

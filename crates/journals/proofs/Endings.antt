@@ -1,10 +1,10 @@
 -- What clients came to whose lines are those of their callers' lists.
-use Rattle.std.proofs.Common.{◌≡◌, ◌+◌, ◌-◌, ◌^◌, ◌<◌, ◌≤◌, ◌==◌, ℕ, suc, Bool, true, false, List, [], ◌∷◌, length, map, filter, slice_get, Option, None, Some, sym, ap, subst, ◌∙◌, refl, inl, inr, ◌⊎◌, arith, add-one}
+use Rattle.std.proofs.Common.{◌≡◌, ◌+◌, ◌-◌, ◌^◌, ◌<◌, ◌≤◌, ℕ, suc, true, false, List, [], length, map, filter, slice_get, Option, None, Some, sym, ap, subst, ◌∙◌, refl, inl, inr, ◌⊎◌, arith, add-one}
 use Rattle.std.specs.Prelude.{All, AllPairs, IsSome}
 use Rattle.std.specs.List.Sorted.{IsStrictlyIncreasing}
 use Rattle.std.proofs.lemmas.Bool.{eq-eqb, ne_eqb}
 use Rattle.std.proofs.lemmas.List.Elements.{All-contains, All-nil}
-use Rattle.std.proofs.lemmas.Option.{none-some, slice_get_cases}
+use Rattle.std.proofs.lemmas.Option.{slice_get_cases}
 use Rattle.cx_core.specs.declared.entry.Entry.{Entry}
 use Rattle.cx_core.specs.declared.local.Local.{Local}
 use Rattle.cx_core.proofs.ListLemmas.{item_below}
@@ -21,7 +21,7 @@ use Rattle.journals.specs.Ended.{IsEnded}
 use Rattle.journals.specs.Told.{IsTold}
 use Rattle.journals.specs.Works.{AreWorks, IsDoneEntry, IsEnd, IsLineOf, IsStopOf, IsWork, by_entry, by_read, stop_of}
 use Rattle.journals.proofs.Counting.{answers_counted}
-use Rattle.journals.proofs.Lists.{Each, Has, all_each, each_get, filter_no, has_contains, has_filter, has_get, strictly_from, zip_back}
+use Rattle.journals.proofs.Lists.{Has, all_each, each_get, filter_no, has_contains, has_filter, has_get, strictly_from, zip_back}
 use Rattle.journals.proofs.Stops.{has_stop-here, stop_found, stop_is}
 
 module _ (life : Life) (locals : List Local) (journal : List JournalLine) (reads : List ReadLine) (stops : List StopLine)

@@ -1,7 +1,7 @@
 -- Kept flags may be set, and the numbers of entries kept and of documents filled in: what a closed table tells of a record, and
 -- what clients came to, stays.
-use Rattle.std.proofs.Common.{◌≡◌, ◌+◌, ◌<◌, ◌≤◌, ◌==◌, ◌&&◌, ◌||◌, ℕ, Bool, true, false, cond, List, [], ◌∷◌, length, filter, slice_get, Option, None, Some, sym, ap, subst, ◌∙◌, refl, inl, inr, ◌⊎◌, arith}
-use Rattle.std.specs.Prelude.{All, AllPairs, map}
+use Rattle.std.proofs.Common.{◌≡◌, ◌+◌, ◌<◌, ◌==◌, ◌&&◌, ◌||◌, ℕ, zero, suc, Bool, true, false, cond, List, [], ◌∷◌, length, get_or, set, filter, slice_get, Option, None, Some, sym, ap, subst, ◌∙◌, refl, inl, inr, ◌⊎◌, arith}
+use Rattle.std.specs.Prelude.{All, map}
 use Rattle.std.specs.List.{AllZip}
 use Rattle.std.proofs.lemmas.List.Elements.{All-weaker}
 use Rattle.std.proofs.lemmas.Option.{none-some, same_Some}
@@ -10,24 +10,35 @@ use Rattle.cx_core.specs.declared.local.Answer.{Answer}
 use Rattle.cx_core.specs.declared.local.Linked.{Linked}
 use Rattle.cx_core.specs.declared.local.Local.{Local}
 use Rattle.cx_core.specs.declared.local.SeenRead.{SeenRead}
-use Rattle.doc_model.specs.declared.operations.Reply.{Reply}
 use Rattle.life_records.specs.declared.script.Life.{Life}
 use Rattle.life_records.specs.declared.record.FullLine.{FullLine}
 use Rattle.life_records.specs.declared.record.JournalLine.{JournalLine}
 use Rattle.life_records.specs.declared.record.LifeRecord.{LifeRecord}
 use Rattle.life_records.specs.declared.record.ReadLine.{ReadLine}
 use Rattle.life_records.specs.declared.record.StopLine.{StopLine}
-use Rattle.life_records.specs.Lives.{HasEnded, IsEndedEntry, IsLegalFull, IsLegalStop, IsStopBefore, Names, has_full, has_stop, is_stopped}
-use Rattle.life_records.specs.Scripts.{limit_in, own_ops}
+use Rattle.life_records.specs.Lives.{HasEnded, IsEndedEntry, IsLegalFull, IsLegalStop, has_full, has_stop, is_stopped}
+use Rattle.life_records.specs.Scripts.{own_ops}
 use Rattle.journals.specs.Ended.{IsEnded, IsSameButKept, IsSameStop}
 use Rattle.journals.specs.Told.{IsTold, IsToldFull, IsToldStop}
-use Rattle.journals.specs.Works.{AreReadLines, HasWords, IsLineOf, IsLineReply, IsReadLine, IsStoppedRead, by_read, stop_of, stops_in}
-use Rattle.journals.proofs.Lists.{Each, all_each, each_all, pairs_rise, rises_pairs, zip_each, zip_rises}
+use Rattle.journals.specs.Works.{AreReadLines, HasWords, IsLineOf, IsLineReply, IsStoppedRead, by_read, stop_of, stops_in}
+use Rattle.journals.proofs.Lists.{all_each, each_all, pairs_rise, rises_pairs, zip_each, zip_rises}
 
 -- another flag is all that differs
 pub flags_of : (f : StopLine → StopLine) → ((line : StopLine) → IsSameStop line (f line)) → (stops : List StopLine) → AllZip IsSameStop stops (map f stops)
 flags_of f same [] = tt
 flags_of f same (line ∷ lines) = (same line, flags_of f same lines)
+
+pub same_stops : (stops : List StopLine) → AllZip IsSameStop stops stops
+same_stops [] = tt
+same_stops (line ∷ lines) = (record { client = refl; command = refl; steps = refl }, same_stops lines)
+
+-- to set one flag leaves the stops the same
+pub set_flag : (xs ys : List StopLine) (i : ℕ) (d : StopLine) (flag : Bool) → AllZip IsSameStop xs ys → i < length ys →
+    AllZip IsSameStop xs (set ys i (record { client = (get_or ys i d).client; command = (get_or ys i d).command; steps = (get_or ys i d).steps; kept = flag }))
+set_flag xs [] i d flag z within = absurd (omega arith)
+set_flag [] (y ∷ ys) i d flag z within = absurd z
+set_flag (x ∷ xs) (y ∷ ys) zero d flag z within = (record { client = z.0.client; command = z.0.command; steps = z.0.steps }, z.1)
+set_flag (x ∷ xs) (y ∷ ys) (suc i) d flag z within = (z.0, set_flag xs ys i d flag z.1 (omega arith))
 
 -- two stop lines of one client, or none
 abbrev SameStopOf : Option StopLine → Option StopLine → Type 0

@@ -1,5 +1,5 @@
 -- The lines of clients, one client after another.
-use Rattle.std.proofs.Common.{◌≡◌, ◌≢◌, ◌+◌, ◌<◌, ◌≤◌, ◌==◌, ℕ, List, [], ◌∷◌, ◌++◌, length, get_or, filter, slice_get, Option, None, Some, sym, ap, subst, ◌∙◌, refl, inl, inr, arith, length-append}
+use Rattle.std.proofs.Common.{◌≡◌, ◌≢◌, ◌+◌, ◌<◌, ℕ, List, [], ◌∷◌, ◌++◌, length, get_or, filter, Option, None, Some, sym, subst, ◌∙◌, refl, inl, inr, arith, length-append}
 use Rattle.std.specs.Prelude.{All, AllPairs}
 use Rattle.std.specs.Option.{option_to_list}
 use Rattle.std.proofs.lemmas.List.Elements.{All-append, All-weaker}
@@ -14,7 +14,7 @@ use Rattle.life_records.specs.declared.record.ReadLine.{ReadLine}
 use Rattle.life_records.specs.declared.record.StopLine.{StopLine}
 use Rattle.life_records.specs.Lives.{IsReadBefore, IsStopBefore}
 use Rattle.journals.specs.Works.{AreWorks, IsEnd, IsLineOf, IsReadLine, IsWork, by_entry, by_read, stop_of}
-use Rattle.journals.proofs.Lists.{Each, Has, all_each, each_all, each_get, each_has, filter_mine, filter_other, has_get, pairs_append, zip_all}
+use Rattle.journals.proofs.Lists.{Each, all_each, each_all, each_get, each_has, filter_mine, filter_other, has_get, pairs_append, zip_all}
 use Rattle.journals.proofs.Stops.{stop_later, stop_of-option, stop_other}
 
 -- no client yet

@@ -1,11 +1,10 @@
 -- The lines of all clients by ticket are the journal of the history.
-use Rattle.std.proofs.Common.{◌≡◌, ◌+◌, ◌-◌, ◌<◌, ◌≤◌, ◌==◌, ℕ, Bool, true, List, [], ◌∷◌, length, map, filter, slice_get, Option, None, Some, sym, ap, subst, ◌∙◌, refl, inl, inr, arith}
-use Rattle.std.specs.Prelude.{All, IsPermutation}
+use Rattle.std.proofs.Common.{◌≡◌, ◌+◌, ◌-◌, ◌<◌, ◌≤◌, ℕ, true, List, length, map, filter, slice_get, Some, sym, ap, subst, ◌∙◌, refl, arith}
 use Rattle.std.specs.Option.{option_map}
 use Rattle.std.proofs.lemmas.Bool.{eq-eqb}
 use Rattle.std.proofs.lemmas.List.Elements.{All-contains, All-nil, filter_passes}
 use Rattle.std.proofs.lemmas.List.Sorted.{IsPermutation-sym, length_permutation, All-permutation}
-use Rattle.std.proofs.lemmas.Option.{same_Some, slice_get_cases, slice_get-map}
+use Rattle.std.proofs.lemmas.Option.{same_Some, slice_get-map}
 use Rattle.cx_core.specs.declared.entry.Entry.{Entry}
 use Rattle.cx_core.specs.declared.local.Linked.{Linked}
 use Rattle.cx_core.specs.declared.local.Local.{Local}
@@ -13,7 +12,6 @@ use Rattle.cx_core.specs.Merge.{IsHistory}
 use Rattle.cx_core.proofs.ListLemmas.{item_below}
 use Rattle.cx_core.proofs.MergeLemmas.{has_own, own_at}
 use Rattle.life_records.specs.declared.script.Life.{Life}
-use Rattle.life_records.specs.declared.record.FullLine.{FullLine}
 use Rattle.life_records.specs.declared.record.JournalLine.{JournalLine}
 use Rattle.life_records.specs.declared.record.LifeRecord.{LifeRecord}
 use Rattle.life_records.specs.declared.record.ReadLine.{ReadLine}
@@ -22,9 +20,12 @@ use Rattle.life_records.specs.Scripts.{limit_in}
 use Rattle.journals.specs.Journal.{IsByTicket, IsRecordOf}
 use Rattle.journals.specs.Told.{IsTold, IsToldFull, IsToldStop}
 use Rattle.journals.specs.Works.{AreWorks, IsEnd, IsLineOf, IsStopOf, IsWork, by_entry, by_read, stop_of}
-use Rattle.journals.proofs.Lists.{Each, Has, Rises, all_each, climbs_from, each_get, filter_has, get_has, has_contains, has_filter, has_get, has_map, has_moved, length_map, ranged, rises_filter, rises_from, same_items, zip_back, zip_has, zip_rises}
+use Rattle.journals.proofs.Lists.{Has, Rises, all_each, climbs_from, each_get, filter_has, get_has, has_contains, has_filter, has_get, has_map, has_moved, length_map, ranged, rises_filter, rises_from, same_items, zip_back, zip_has, zip_rises}
 use Rattle.journals.proofs.Owns.{own_count, own_rises}
 use Rattle.journals.proofs.Stops.{stop_is}
+
+linked_is : (x : Linked) (ticket : ℕ) (entry : Entry) → x.ticket ≡ ticket → x.entry ≡ entry → x ≡ record { ticket = ticket; entry = entry }
+linked_is x ticket entry t e = ap (λ (k : ℕ). record { ticket = k; entry = x.entry }) t ∙ ap (λ (y : Entry). record { ticket = ticket; entry = y }) e
 
 module _ (life : Life) (place : ℕ) (history : List Entry) (locals : List Local) (entries journal : List JournalLine) (reads : List ReadLine) (stops : List StopLine)
     (m : AreWorks life locals entries reads stops) (merged : IsHistory place history locals) (sorted : IsByTicket entries journal) where
@@ -103,7 +104,7 @@ module _ (life : Life) (place : ℕ) (history : List Entry) (locals : List Local
       let same : x.0.entry ≡ entry = same_Some x.0.entry entry (sym place_of.1 ∙ ap (slice_get history) index ∙ there) in
       let by : entry.caller ≡ c = ap (λ (e : Entry). e.caller) (sym same) ∙ x.2.by in
       let local : h.0 ≡ l = same_Some h.0 l (sym h.1 ∙ ap (slice_get locals) (sym by) ∙ of) in
-      let whole : x.0 ≡ record { ticket = place + i; entry = entry } = ap (λ (t : ℕ). record { ticket = t; entry = x.0.entry }) from ∙ ap (λ (e : Entry). record { ticket = place + i; entry = e }) same in
+      let whole = linked_is x.0 (place + i) entry from same in
       subst (λ (w : Linked). IsLineOf life entry.caller l.answered (stop_of entry.caller stops) w line) whole
       (subst (λ (k : ℕ). IsLineOf life k l.answered (stop_of k stops) x.0 line) (sym by) (subst (λ (w : Local). IsLineOf life c w.answered (stop_of c stops) x.0 line) local x.2))
 

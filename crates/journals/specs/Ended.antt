@@ -1,11 +1,11 @@
 -- What clients came to in a life, as far as it speaks of commands alone, and a record whose stop lines got their kept flags.
-use Rattle.std.specs.Prelude.{◌≡◌, ◌+◌, ◌<◌, ℕ, List, All, AllPairs, slice_get, Option, Some}
+use Rattle.std.specs.Prelude.{◌≡◌, ◌↔◌, ◌+◌, ◌<◌, ℕ, true, List, All, AllPairs, slice_get, Some}
 use Rattle.std.specs.List.{AllZip}
 use Rattle.life_records.specs.declared.script.Life.{Life}
 use Rattle.life_records.specs.declared.record.JournalLine.{JournalLine}
 use Rattle.life_records.specs.declared.record.LifeRecord.{LifeRecord}
 use Rattle.life_records.specs.declared.record.StopLine.{StopLine}
-use Rattle.life_records.specs.Lives.{HasEnded, Interleaves, IsFullBefore, IsLegalFull, IsLegalStop, IsReadBefore, IsStopBefore}
+use Rattle.life_records.specs.Lives.{HasEnded, Interleaves, IsFullBefore, IsKeptStop, IsLegalFull, IsLegalStop, IsReadBefore, IsStopBefore}
 
 -- What a legal life says of its clients' commands: one history, that interleaves them; lines in their order; each command answered
 -- once, up to its client's end; and clients that were stopped at their limits. Replies and places are not looked at, nor which
@@ -34,3 +34,12 @@ pub record IsSameButKept (told flagged : LifeRecord) : Type 0 where
   pub reads : flagged.reads ≡ told.reads
   pub stops : AllZip IsSameStop told.stops flagged.stops
   pub fulls : flagged.fulls ≡ told.fulls
+
+-- the kept flag says whether the stopped command has an entry that is kept
+abbrev pub IsFlagged : ℕ → ℕ → List JournalLine → StopLine → Type 0
+IsFlagged place kept journal line = (line.kept ≡ true) ↔ IsKeptStop place kept journal line
+
+-- the same stops, each with its kept flag
+pub record AreFlagged (place kept : ℕ) (journal : List JournalLine) (before after : List StopLine) : Type 0 where
+  pub same : AllZip IsSameStop before after
+  pub flags : All (IsFlagged place kept journal) after

@@ -13,7 +13,8 @@ pub record IsByTicket (entries journal : List JournalLine) : Type 0 where
   pub up : IsNonDecreasingBy (λ (line : JournalLine). line.ticket) journal
 
 -- the record of a life that began at a place, with these lines of its clients, of whom none gave up
-pub record IsRecordOf (place : ℕ) (locals : List Local) (journal : List JournalLine) (reads : List ReadLine) (stops : List StopLine) (told : LifeRecord) : Type 0 where
+pub record IsRecordOf (place : ℕ) (locals : List Local) (journal : List JournalLine) (reads : List ReadLine) (stops : List StopLine)
+    (told : LifeRecord) : Type 0 where
   pub clients : told.clients ≡ length locals
   pub from : told.from ≡ place
   pub journal_is : told.journal ≡ journal

@@ -17,30 +17,35 @@ pub fn works_begin()
 
 /// The lines of the next client go behind those of all before it.
 pub fn works_go_on()
-    ensures { (life : Life) (locals l entries es reads rs stops stop : _) → AreWorks life locals entries reads stops → IsWork life (length locals) l es rs stop →
+    ensures { (life : Life) (locals l entries es reads rs stops stop : _) → AreWorks life locals entries reads stops →
+        IsWork life (length locals) l es rs stop →
         AreWorks life (locals ++ l ∷ []) (entries ++ es) (reads ++ rs) (stops ++ option_to_list stop) }
 {}
 
 /// Put by ticket, the lines are still those of the clients, and a record of them is told by the history that merges their callers'
 /// own lists.
 pub fn journals_are_told()
-    ensures works { (life : Life) (place : ℕ) (history locals entries journal reads stops : _) → AreWorks life locals entries reads stops → IsHistory place history locals →
-        IsByTicket entries journal → AreWorks life locals journal reads stops }
-    ensures told { (life : Life) (place : ℕ) (history locals entries journal reads stops : _) → AreWorks life locals entries reads stops → IsHistory place history locals →
-        IsByTicket entries journal → (told : _) → IsRecordOf place locals journal reads stops told → length locals ≡ life.clients →
-        ((client : ℕ) (l : _) → slice_get locals client ≡ Some l → l.limit ≡ limit_in client life.cuts) → IsTold life place history locals told }
+    ensures works { (life : Life) (place : ℕ) (history locals entries journal reads stops : _) →
+        AreWorks life locals entries reads stops → IsHistory place history locals → IsByTicket entries journal →
+        AreWorks life locals journal reads stops }
+    ensures told { (life : Life) (place : ℕ) (history locals entries journal reads stops : _) →
+        AreWorks life locals entries reads stops → IsHistory place history locals → IsByTicket entries journal →
+        (told : _) → IsRecordOf place locals journal reads stops told → length locals ≡ life.clients →
+        ((client : ℕ) (l : _) → slice_get locals client ≡ Some l → l.limit ≡ limit_in client life.cuts) →
+        IsTold life place history locals told }
 {}
 
 /// Clients whose lines a history tells, none of whom gave up, have ended: each command is answered once, in order, up to a stop at
 /// the client's limit.
 pub fn told_lives_have_ended()
-    ensures { (life : Life) (place : ℕ) (history locals told : _) → AreWorks life locals told.journal told.reads told.stops → IsTold life place history locals told →
-        told.fulls ≡ [] → IsEnded life told }
+    ensures { (life : Life) (place : ℕ) (history locals told : _) → AreWorks life locals told.journal told.reads told.stops →
+        IsTold life place history locals told → told.fulls ≡ [] → IsEnded life told }
 {}
 
 /// What a closed table tells of a record, and what its clients came to, stays when stop lines get their kept flags and the
 /// numbers of entries kept and of documents are filled in.
 pub fn flags_may_be_set()
-    ensures told { (life : Life) (told flagged : _) → IsSameButKept told flagged → (place : ℕ) (history locals : _) → IsTold life place history locals told → IsTold life place history locals flagged }
+    ensures told { (life : Life) (told flagged : _) → IsSameButKept told flagged →
+        (place : ℕ) (history locals : _) → IsTold life place history locals told → IsTold life place history locals flagged }
     ensures ended { (life : Life) (told flagged : _) → IsSameButKept told flagged → IsEnded life told → IsEnded life flagged }
 {}

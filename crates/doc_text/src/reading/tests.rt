@@ -108,14 +108,8 @@ fn headers_and_lives(rt: HostRuntime) {
             b"lines 64\nlife 01 power 0",
             Outcome::Refused(2, Reason::Life),
         ),
-        (
-            b"lines 64\nlife 2 power 0",
-            Outcome::Refused(2, Reason::Form),
-        ),
-        (
-            b"lines 64\nlife 8 power 0",
-            Outcome::Refused(2, Reason::Form),
-        ),
+        (b"lines 64\nlife 2 power 0", Outcome::Script(64, 1, 0)),
+        (b"lines 64\nlife 8 power 0", Outcome::Script(64, 1, 0)),
         (
             b"lines 64\nlife 1 power 0\nlife 1 power 0",
             Outcome::Refused(3, Reason::Form),
@@ -355,6 +349,7 @@ fn commands_are_refused(rt: HostRuntime) -> Result<(), Fail> {
             b"cut 0 18446744073709551615",
             b"life 2 power 1",
             b"life 1 power 0",
+            b"life 8 power 18446744073709551615",
         ],
         Some(Reason::Form),
     )
@@ -526,23 +521,21 @@ fn what_is_read(rt: HostRuntime) -> Result<(), Fail> {
 
 #[test]
 fn as_many_commands_as_may_be(rt: HostRuntime) -> Result<(), Fail> {
-    let mut text = after_life(rt.alloc(), b"")?;
-    for _ in 0..100_000 {
-        text.extend_from_slice(b"0 put some_key 1234567890\n")?;
+    let mut text = Vec::from_slice(rt.alloc(), b"lines 64\nlife 2 power 0\n")?;
+    for _ in 0..16 {
+        text.extend_from_slice(b"0 get a\n1 count\n")?;
     }
-    assert_eq!(rt; read(rt.alloc(), &text), Outcome::Script(64, 1, 100_000));
+    assert_eq!(rt; read(rt.alloc(), &text), Outcome::Script(64, 1, 32));
     let whole = text.len();
-    for line in [
-        b"0 push\n".as_slice(),
-        b"0 get some_key\n".as_slice(),
-        b"0\n".as_slice(),
+    for (line, reason) in [
+        (b"0 get a\n".as_slice(), Reason::Form),
+        (b"1 next\n".as_slice(), Reason::Form),
+        (b"0 push\n".as_slice(), Reason::Command),
+        (b"2 get a\n".as_slice(), Reason::Client),
     ] {
         text.truncate(whole);
         text.extend_from_slice(line)?;
-        assert_eq!(rt;
-            read(rt.alloc(), &text),
-            Outcome::Refused(100_003, Reason::Commands)
-        );
+        assert_eq!(rt; read(rt.alloc(), &text), Outcome::Refused(35, reason));
     }
     Ok(())
 }

@@ -1,0 +1,60 @@
+//! A service for a life.
+
+ghost use Rattle.std.specs.Prelude.{◌≡◌, ◌+◌, ◌^◌, ◌≤◌, IfOk, length, map};
+ghost use Rattle.std.specs.List.{range_with_len};
+ghost use Rattle.cx_core.specs.Base.{LawfulBase};
+ghost use Rattle.doc_store.specs.ExactStep.{IsImage};
+ghost use Rattle.life_records.specs.Limits.{IsLifeInLimits};
+ghost use Rattle.life_records.specs.Scripts.{limit_in};
+ghost use Rattle.cx_lives.specs.Life.{CanRun};
+
+use cx_core::Base;
+use cx_service::{Caller, Service};
+use doc_store::DocStore;
+use life_records::{Cut, Life};
+use std::alloc::{AllocError, Global};
+
+/// Starts a service of the document store in so many lines for a life, which opens from a base: one caller for each client, with the
+/// limit of the client's cut. `Err` is want of memory.
+pub fn start_life(
+    alloc: Global,
+    lines: u64,
+    life: &Life,
+    base: &Base,
+) -> Result<(Service<DocStore>, Vec<Caller>), AllocError>
+    requires some { 64 ≤ lines }
+    requires few { lines ≤ 16384 }
+    requires life { IsLifeInLimits life.now }
+    requires base { LawfulBase lines (IsImage lines) base.now }
+    requires tickets { base.now.place + length life.now.commands ≤ 2 ^ 40 }
+    ensures can_run { IfOk result (λ r. CanRun life.now r.0 r.1.items) }
+    ensures base { IfOk result (λ r. r.0.base ≡ base.now) }
+    ensures lines { IfOk result (λ r. r.0.object.lines ≡ lines) }
+{
+    let limits = limits_of(alloc, life)?;
+    let store = DocStore::of(lines);
+    Service::start(alloc, store, life.clients, &limits, base).map_err(|_| AllocError)
+}
+
+// The limit of each client, of client 0 first.
+fn limits_of(alloc: Global, life: &Life) -> Result<Vec<u64>, AllocError>
+    ensures { IfOk result (λ limits. limits.items ≡ map (λ client. limit_in client life.now.cuts) (range_with_len 0 life.now.clients)) }
+{
+    let mut limits = Vec::new(alloc);
+    for client in 0..life.clients {
+        limits.push(limit_of(life.cuts.as_slice(), client))?;
+    }
+    Ok(limits)
+}
+
+// The limit of a client: the steps of its first cut, and none without one.
+fn limit_of(cuts: &[Cut], client: u32) -> u64
+    ensures { result ≡ limit_in client cuts.now }
+{
+    for cut in cuts {
+        if cut.client == client {
+            return cut.steps;
+        }
+    }
+    u64::MAX
+}
