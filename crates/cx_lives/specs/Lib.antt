@@ -4,3 +4,4 @@ pub mod Turns
 pub mod Ends
 pub mod Gathering
 pub mod Life
+pub mod Lives

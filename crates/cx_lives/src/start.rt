@@ -7,9 +7,10 @@ ghost use Rattle.doc_store.specs.ExactStep.{IsImage};
 ghost use Rattle.life_records.specs.Limits.{IsLifeInLimits};
 ghost use Rattle.life_records.specs.Scripts.{limit_in};
 ghost use Rattle.cx_lives.specs.Life.{CanRun};
+ghost use Rattle.cx_lives.specs.Lives.{IsServiceOf};
 
 use cx_core::Base;
-use cx_service::{Caller, Service};
+use cx_service::{Caller, Service, StartFault};
 use doc_store::DocStore;
 use life_records::{Cut, Life};
 use std::alloc::{AllocError, Global};
@@ -22,24 +23,23 @@ pub fn start_life(
     life: &Life,
     base: &Base,
 ) -> Result<(Service<DocStore>, Vec<Caller>), AllocError>
-    requires some { 64 ≤ lines }
+    requires enough { 64 ≤ lines }
     requires few { lines ≤ 16384 }
     requires life { IsLifeInLimits life.now }
     requires base { LawfulBase lines (IsImage lines) base.now }
     requires tickets { base.now.place + length life.now.commands ≤ 2 ^ 40 }
+    ensures service { IfOk result (λ r. IsServiceOf lines base.now life.now r.0) }
     ensures can_run { IfOk result (λ r. CanRun life.now r.0 r.1.items) }
-    ensures base { IfOk result (λ r. r.0.base ≡ base.now) }
-    ensures lines { IfOk result (λ r. r.0.object.lines ≡ lines) }
 {
     let limits = limits_of(alloc, life)?;
-    let store = DocStore::of(lines);
-    let Ok((service, callers)) = Service::start(alloc, store, life.clients, &limits, base) else {
-        return Err(AllocError);
-    };
-    Ok((service, callers))
+    match Service::start(alloc, DocStore::of(lines), life.clients, &limits, base) {
+        Ok(started) => Ok(started),
+        Err(StartFault::Memory) => Err(AllocError),
+        Err(StartFault::Callers { .. } | StartFault::Lines { .. }) => unreachable!(),
+    }
 }
 
-// The limit of each client, of client 0 first.
+// The steps that each client of a life may make.
 fn limits_of(alloc: Global, life: &Life) -> Result<Vec<u64>, AllocError>
     ensures { IfOk result (λ limits. limits.items ≡ map (λ client. limit_in client life.now.cuts) (range_with_len 0 life.now.clients)) }
 {
@@ -50,7 +50,8 @@ fn limits_of(alloc: Global, life: &Life) -> Result<Vec<u64>, AllocError>
     Ok(limits)
 }
 
-// The limit of a client: the steps of its first cut, and none without one.
+// The steps that a client may make.
+#[tactic(auto, using(crate::proofs::Limits::cut_here, crate::proofs::Limits::cut_passed, crate::proofs::Limits::cuts_over))]
 fn limit_of(cuts: &[Cut], client: u32) -> u64
     ensures { result ≡ limit_in client cuts.now }
 {

@@ -3,3 +3,4 @@ pub mod Pairs
 pub mod KeptLaws
 pub mod Shown
 pub mod Slots
+pub mod Written

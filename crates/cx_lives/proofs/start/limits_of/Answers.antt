@@ -1,15 +1,17 @@
-use Rattle.std.proofs.Common.{◌∙◌, ◌∷◌, ◌++◌, [], List, ℕ, ap, arith, refl, sym}
-use Rattle.std.proofs.lemmas.List.FromFn.{map-range_with_len_more}
+use Rattle.std.proofs.Common.{◌≡◌, ◌∙◌, ℕ, List, ◌∷◌, [], ◌++◌, sym, ap, ap₂, map, arith}
+use Rattle.std.specs.List.{range_with_len}
 use Rattle.life_records.specs.Scripts.{limit_in}
+use Rattle.cx_lives.proofs.Taking.{range_next}
 use Rattle.cx_lives.proofs.start.limits_of.Goals as goal
 
 pub loop-client-preserved : goal.loop-client-preserved
 loop-client-preserved c =
-    let cuts = c.args.life.now.cuts in
-    let me = c.loop-client.client in
-    let limit = c.limit_of.ensures ∙ ap (limit_in me) c.as_slice.ensures in
-    record {
-      are = c.in_ok-push.ensures.items ∙ ap (λ (k : ℕ). c.loop-client.limits.items ++ k ∷ []) limit ∙ ap (λ (xs : List ℕ). xs ++ limit_in me cuts ∷ []) c.loop-client.invariant.are
-          ∙ sym (map-range_with_len_more (λ client. limit_in client cuts) 0 me me (omega arith));
-      within = omega (arith, c.loop-client-test.true);
-    }
+    let limit : ℕ → ℕ = λ client. limit_in client c.args.life.now.cuts in
+    c.in_ok-push.ensures.items
+    ∙ ap₂ (λ (xs : List ℕ) (x : ℕ). xs ++ x ∷ []) c.loop-client.invariant (c.limit_of.ensures ∙ ap (limit_in c.loop-client.client) c.as_slice.ensures)
+    ∙ sym (range_next limit c.loop-client.client)
+
+pub returns : goal.returns
+returns c =
+    let over : c.loop-client.client ≡ c.args.life.now.clients = omega arith in
+    c.loop-client.invariant ∙ ap (λ (n : ℕ). map (λ client. limit_in client c.args.life.now.cuts) (range_with_len 0 n)) over
