@@ -3,4 +3,3 @@ pub mod Pairs
 pub mod KeptLaws
 pub mod Shown
 pub mod Slots
-pub mod Written

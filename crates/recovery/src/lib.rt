@@ -5,8 +5,6 @@ mod crash;
 mod laws;
 mod recovering;
 mod region;
-#[cfg(test)]
-mod tests;
 
 pub use crash::crash_image;
 pub use cx_core::Image;

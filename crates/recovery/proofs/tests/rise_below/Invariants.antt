@@ -1,5 +1,0 @@
-use Rattle.recovery.proofs.Written.{RiseTo}
-use Rattle.recovery.proofs.tests.rise_below.Given as goal
-
-abbrev pub invariant-loop-at : goal.invariant-loop-at
-invariant-loop-at l = RiseTo l.pairs l.end l.from l.at-index
