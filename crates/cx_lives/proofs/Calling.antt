@@ -7,14 +7,14 @@ use Rattle.cx_core.specs.declared.local.Linked.{Linked as OwnEntry}
 use Rattle.cx_core.specs.declared.local.FullNote.{FullNote}
 use Rattle.cx_rule.specs.Running.{Running}
 use Rattle.cx_rule.specs.Seats.{Seated}
-use Rattle.cx_service.specs.Drives.{DriveDone, DriveHalted}
+use Rattle.cx_service.specs.Drives.{DriveHalted}
 use Rattle.cx_service.specs.Lookups.{ReadAnswered, ReadHalted, ReadPending}
 use Rattle.cx_service.specs.Submits.{SubmitAgain, SubmitFull, SubmitHalted, SubmitLinked, SubmitWorn, entry_at}
 use Rattle.cx_turns.specs.declared.lookup.Seen.{Seen}
 use Rattle.cx_turns.specs.Answering.{with_answer, with_read}
 use Rattle.cx_lives.specs.declared.calls.Asked.{Asked}
 use Rattle.cx_lives.specs.declared.calls.Asked.TheVariants.{Done, Read, Worn, Halted}
-use Rattle.cx_lives.specs.Calls.{Asks, AsksDone, AsksRead, AsksWorn, Finishes, HaltsBeside, HaltsLinked, KeepsLists, LinksEntry, one_read}
+use Rattle.cx_lives.specs.Calls.{Asks, AsksDone, AsksRead, AsksWorn, Finishes, HaltsBeside, HaltsLinked, IsFinished, KeepsLists, LinksEntry, one_read}
 
 pub keeps_all : (s : Seated) → KeepsLists s.known.local s.known.local
 keeps_all s = record { number = refl; limit = refl; own = refl; answered = refl; reads = refl }
@@ -70,7 +70,7 @@ module _ {O : Type 0} (r : Running O) (op : List ℕ) (s u : Seated) (same : Kee
       reads = reads ∙ linked.keeps.reads ∙ same.reads;
     }
 
-    done : (v : Seated) (answer : Answer) → DriveDone r l v answer → AsksDone r op s v answer
+    done : (v : Seated) (answer : Answer) → IsFinished r l v answer → AsksDone r op s v answer
     done v answer d = record {
       caller = d.caller;
       links = links v answer.ticket (same_Some linked.ticket answer.ticket (sym linked.lends ∙ d.ticket)) d.keeps.number d.keeps.limit d.keeps.own d.keeps.reads;

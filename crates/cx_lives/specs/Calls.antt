@@ -6,8 +6,8 @@ use Rattle.cx_core.specs.declared.local.Local.{Local}
 use Rattle.cx_core.specs.declared.local.SeenRead.{SeenRead}
 use Rattle.cx_rule.specs.Running.{Running}
 use Rattle.cx_rule.specs.Seats.{Seated, unanswered_ticket}
-use Rattle.cx_service.specs.Callers.{IsCallerOf, IsStoppedOf}
-use Rattle.cx_service.specs.Drives.{DriveDone, DriveHalted}
+use Rattle.cx_service.specs.Callers.{IsCallerOf, IsLinkedOf, IsStoppedOf}
+use Rattle.cx_service.specs.Drives.{DriveHalted, DriveKeeps}
 use Rattle.cx_turns.specs.declared.lookup.Seen.{Seen}
 use Rattle.cx_turns.specs.Answering.{with_answer, with_read}
 use Rattle.cx_lives.specs.declared.calls.Asked.{Asked}
@@ -81,9 +81,22 @@ Asks r op before (Worn after) = AsksWorn r before after
 Asks r op before (Halted after None) = HaltsBeside r op before after
 Asks r op before (Halted after (Some ticket)) = HaltsLinked r op ticket before after
 
+-- the linked entry stands, unanswered, after turns or none
+pub record StaysLinked {O : Type 0} (r : Running O) (before after : Seated) : Type 0 where
+  pub caller : IsLinkedOf r after
+  pub keeps : DriveKeeps before after
+  pub answered : after.known.local.answered ≡ before.known.local.answered
+
+-- the linked entry is answered, and nothing else
+pub record IsFinished {O : Type 0} (r : Running O) (before after : Seated) (answer : Answer) : Type 0 where
+  pub caller : IsCallerOf r after
+  pub keeps : DriveKeeps before after
+  pub ticket : unanswered_ticket before.known.local ≡ Some answer.ticket
+  pub answered : after.known.local.answered ≡ with_answer answer.ticket answer.reply before.known.local.answered
+
 -- what driving a linked entry comes to
 abbrev pub Finishes : {O : Type 0} → Running O → Seated → Asked → Type 0
-Finishes r before (Done after answer) = DriveDone r before after answer
+Finishes r before (Done after answer) = IsFinished r before after answer
 Finishes r before (Read after seen) = ⊥
 Finishes r before (Worn after) = ⊥
 Finishes r before (Halted after None) = ⊥
