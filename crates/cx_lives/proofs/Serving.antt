@@ -25,7 +25,7 @@ use Rattle.life_records.specs.declared.script.Life.{Life}
 use Rattle.life_records.specs.declared.record.JournalLine.{JournalLine}
 use Rattle.life_records.specs.declared.record.ReadLine.{ReadLine}
 use Rattle.life_records.specs.declared.record.StopLine.{StopLine}
-use Rattle.cx_lives.specs.Calls.{KeepsLists, LinksEntry, one_read}
+use Rattle.cx_lives.specs.Calls.{LinksEntry, one_read}
 use Rattle.cx_lives.specs.Serving.{HasServed, IsAnsweredEntry, IsAnsweredLine}
 use Rattle.cx_lives.proofs.Lines.{all_at, count_no, count_none, count_yes, zip_also, zip_with}
 
@@ -219,11 +219,11 @@ module _ (life : Life) (client n : ℕ) (l : Local) (es : List JournalLine) (rs 
             elim reads [
               | inl none ↦ ([], none ∙ sym (append-nil l.seen_reads), omega arith, All-nil (IsStoppedRead life client (Some stop)))
               | inr one ↦ (
-                  record { place = one.0.place; op = ws; reply = one.0.reply; before = length l.answered } ∷ [],
-                  one.1,
-                  omega arith,
-                  All-cons (IsStoppedRead life client (Some stop)) (record { place = one.0.place; op = ws; reply = one.0.reply; before = length l.answered }) [] (record { line = stop; is = refl; op = has_words ws refl }) (All-nil (IsStoppedRead life client (Some stop))),
-                )
+                record { place = one.0.place; op = ws; reply = one.0.reply; before = length l.answered } ∷ [],
+                one.1,
+                omega arith,
+                All-cons (IsStoppedRead life client (Some stop)) (record { place = one.0.place; op = ws; reply = one.0.reply; before = length l.answered }) [] (record { line = stop; is = refl; op = has_words ws refl }) (All-nil (IsStoppedRead life client (Some stop))),
+              )
             ] in
             record {
               by = same_number ∙ s.by;

@@ -10,12 +10,6 @@ take_next xs i x within is =
     let next : i + 1 ≡ suc i = omega arith in
     ap (λ n. take n xs) next ∙ take-suc xs i x within ∙ ap (λ y. take i xs ++ y ∷ []) (sym is)
 
-pub all_taken : {X : Type 0} (P : X → Type 0) (xs : List X) (i : ℕ) (x : X) → i < length xs → x ≡ get_or xs i x → All P (take i xs) → P x → All P (take (i + 1) xs)
-all_taken P xs i x within is before here = subst (All P) (sym (take_next xs i x within is)) (All-push P (take i xs) x before here)
-
-pub all_over : {X : Type 0} (P : X → Type 0) (xs : List X) (i : ℕ) → length xs ≤ i → All P (take i xs) → All P xs
-all_over P xs i over before = subst (All P) (take_all i xs over) before
-
 pub zip_taken : {X : Type 0} (R : X → X → Type 0) (xs ys : List X) (i : ℕ) (x y : X) → i < length xs → x ≡ get_or xs i x → AllZip R (take i xs) ys → R x y → AllZip R (take (i + 1) xs) (ys ++ y ∷ [])
 zip_taken R xs ys i x y within is before here = subst (λ l. AllZip R l (ys ++ y ∷ [])) (sym (take_next xs i x within is)) (AllZip-push R (take i xs) ys x y before here)
 

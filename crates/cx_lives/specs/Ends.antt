@@ -85,7 +85,9 @@ pub record IsNewIn {O : Type 0} (life : Life) (r : Running O) (seat : Seated) : 
 
 -- item i is the work of caller i, or its worker found no memory
 abbrev pub AreWorksOf : {O : Type 0} → Life → Running O → List Seated → List (Result Work AllocError) → Type 0
-AreWorksOf life r callers works = (i : ℕ) (d : Result Work AllocError) (e : Seated) → i < length callers → IfOk (slice_index_or works i d) (IsWorkOf life r (slice_index_or callers i e).known.local.number)
+AreWorksOf life r callers works =
+    (i : ℕ) (d : Result Work AllocError) (e : Seated) → i < length callers →
+    IfOk (slice_index_or works i d) (IsWorkOf life r (slice_index_or callers i e).known.local.number)
 
 -- the works of the callers from one on, each where its worker found memory
 abbrev pub AreNumbered : {O : Type 0} → Life → Running O → ℕ → List (Result Work AllocError) → Type 0
