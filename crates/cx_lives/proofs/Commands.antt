@@ -1,6 +1,5 @@
 -- A client's commands among the first ones of a life.
-use Rattle.std.proofs.Common.{◌≡◌, ◌≢◌, ℕ, zero, suc, ◌+◌, ◌-◌, ◌<◌, ◌≤◌, ◌==◌, Bool, true, false, cond, List, [], ◌∷◌, ◌++◌, length, get_or, take, drop, map, filter, slice_get, Option, None, Some, sym, ap, subst, ◌∙◌, refl, arith, length-append, add-one}
-use Rattle.std.specs.Prelude.{All}
+use Rattle.std.proofs.Common.{◌≡◌, ◌≢◌, ℕ, ◌+◌, ◌<◌, ◌≤◌, ◌==◌, cond, List, [], ◌∷◌, ◌++◌, length, get_or, take, drop, map, filter, slice_get, Some, sym, ap, subst, ◌∙◌, refl, arith, length-append, add-one}
 use Rattle.std.proofs.lemmas.Bool.{eq-eqb, ne_eqb}
 use Rattle.std.proofs.lemmas.List.{map-append, take_all, take_more, take-append-drop}
 use Rattle.std.proofs.lemmas.List.Elements.{filter-append}
@@ -8,7 +7,7 @@ use Rattle.doc_model.specs.declared.operations.Op.{Op}
 use Rattle.doc_model.specs.Meaning.{IsOp}
 use Rattle.life_records.specs.declared.script.Command.{Command}
 use Rattle.life_records.specs.declared.script.Life.{Life}
-use Rattle.life_records.specs.Limits.{IsCommandOf, IsLifeInLimits}
+use Rattle.life_records.specs.Limits.{IsLifeInLimits}
 use Rattle.life_records.specs.Scripts.{named_op, own_ops}
 
 own_ops-append : (client : ℕ) (xs ys : List Command) → own_ops client (xs ++ ys) ≡ own_ops client xs ++ own_ops client ys

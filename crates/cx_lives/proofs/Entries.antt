@@ -1,10 +1,9 @@
 -- A history has at most as many entries as its life has commands.
-use Rattle.std.proofs.Common.{◌≡◌, ◌≢◌, ◌⊎◌, inl, inr, ◌+◌, ◌<◌, ◌≤◌, ◌==◌, ℕ, zero, suc, Bool, true, false, cond, List, [], ◌∷◌, length, map, filter, refl, sym, ap, subst, ◌∙◌, arith, Option, Some, None}
-use Rattle.std.specs.Prelude.{nat_lt, All, AllPairs, IsSome, slice_get, is_some}
+use Rattle.std.proofs.Common.{◌≡◌, ◌⊎◌, inl, inr, ◌+◌, ◌<◌, ◌≤◌, ◌==◌, ℕ, zero, suc, Bool, true, false, cond, List, [], ◌∷◌, length, map, filter, refl, sym, ap, subst, arith}
+use Rattle.std.specs.Prelude.{nat_lt, IsSome, slice_get}
 use Rattle.std.proofs.lemmas.Bool.{cases_Bool, cases_order, eqb-true, eqb-false, false≢true, ltb-true, ltb-false}
 use Rattle.std.proofs.lemmas.List.Kept.{AllPairs-from_increasing}
-use Rattle.doc_model.specs.declared.operations.Op.{Op}
-use Rattle.journals.proofs.Lists.{Each, Rises, all_each, each_all, each_filter, length_map, pairs_rise}
+use Rattle.journals.proofs.Lists.{Each, Rises, each_all, length_map, pairs_rise}
 use Rattle.life_records.specs.Lives.{Interleaves, Names, numbers_of}
 use Rattle.life_records.specs.Scripts.{named_op, own_ops}
 use Rattle.life_records.specs.declared.script.Command.{Command}

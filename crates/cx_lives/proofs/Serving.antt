@@ -1,6 +1,6 @@
 -- One command more of a client, and a client's end.
-use Rattle.std.proofs.Common.{◌≡◌, ◌≢◌, ℕ, zero, suc, ◌+◌, ◌-◌, ◌^◌, ◌<◌, ◌≤◌, ◌==◌, Bool, true, false, cond, List, [], ◌∷◌, ◌++◌, length, get_or, slice_get, Option, None, Some, sym, ap, subst, ◌∙◌, refl, inl, inr, ◌⊎◌, arith, length-append}
-use Rattle.std.specs.Prelude.{All, AllPairs, Contains, IsSome, count_by}
+use Rattle.std.proofs.Common.{◌≡◌, ℕ, zero, suc, ◌+◌, ◌<◌, ◌≤◌, ◌==◌, false, List, [], ◌∷◌, ◌++◌, length, Option, None, Some, sym, ap, subst, ◌∙◌, refl, inl, inr, ◌⊎◌, arith, length-append}
+use Rattle.std.specs.Prelude.{All, AllPairs, Contains, IsSome}
 use Rattle.std.specs.List.{AllZip}
 use Rattle.std.proofs.lemmas.Bool.{cases_eq, eq-eqb, ne_eqb}
 use Rattle.std.proofs.lemmas.List.{append-nil}
@@ -19,7 +19,7 @@ use Rattle.cx_turns.specs.Answering.{with_answer}
 use Rattle.doc_model.specs.declared.operations.Op.{Op}
 use Rattle.doc_model.specs.declared.operations.Reply.{Reply}
 use Rattle.doc_model.specs.Words.{op_words, reply_words}
-use Rattle.journals.specs.Works.{AreReadLines, HasWords, IsDoneEntry, IsEntryBefore, IsLineOf, IsLineReply, IsReadLine, IsReplyAt, IsSeenBefore, IsStopOf, IsStoppedRead, IsWork, StandsBetween, lines_of, stops_in}
+use Rattle.journals.specs.Works.{HasWords, IsDoneEntry, IsEntryBefore, IsLineOf, IsLineReply, IsReadLine, IsReplyAt, IsSeenBefore, IsStopOf, IsStoppedRead, IsWork, StandsBetween, lines_of, stops_in}
 use Rattle.life_records.specs.Scripts.{limit_in, named_op, own_ops}
 use Rattle.life_records.specs.declared.script.Life.{Life}
 use Rattle.life_records.specs.declared.record.JournalLine.{JournalLine}

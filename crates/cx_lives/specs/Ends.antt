@@ -9,7 +9,6 @@ use Rattle.cx_rule.specs.Running.{IsSeatOf, Running}
 use Rattle.cx_rule.specs.Seats.{Seated}
 use Rattle.cx_service.specs.Callers.{IsCallerOf}
 use Rattle.cx_service.specs.Closes.{seat_of}
-use Rattle.cx_service.specs.declared.close.Handed.{Handed}
 use Rattle.doc_model.specs.declared.operations.Op.{Op}
 use Rattle.doc_model.specs.Words.{AreOfNoReply, IsOpOf}
 use Rattle.journals.specs.Works.{IsWork}
@@ -22,7 +21,7 @@ use Rattle.cx_lives.specs.declared.desk.End.TheVariants.{Whole, Stopped, Never}
 use Rattle.cx_lives.specs.declared.desk.Turn.{Turn}
 use Rattle.cx_lives.specs.declared.desk.Turn.TheVariants.{Next, Over}
 use Rattle.cx_lives.specs.declared.desk.Work.{Work}
-use Rattle.cx_lives.specs.Serving.{HasServed, IsServed}
+use Rattle.cx_lives.specs.Serving.{IsServed}
 
 -- every ticket is linked, while the caller has fewer entries than its client has commands
 pub record IsWorn (life : Life) (client : ℕ) (l : Local) : Type 0 where

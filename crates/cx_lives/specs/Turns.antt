@@ -2,7 +2,6 @@
 use Rattle.std.specs.Prelude.{◌≡◌, ℕ, false, List, [], ◌∷◌, ◌++◌, Option, None, Some}
 use Rattle.cx_core.specs.declared.local.Answer.{Answer}
 use Rattle.cx_rule.specs.Seats.{Seated}
-use Rattle.cx_service.specs.declared.close.Handed.{Handed}
 use Rattle.cx_service.specs.declared.close.Handed.TheVariants.{Idle, Stopped as StoppedCaller}
 use Rattle.cx_turns.specs.declared.lookup.Seen.{Seen}
 use Rattle.doc_model.specs.declared.operations.Reply.{Reply}

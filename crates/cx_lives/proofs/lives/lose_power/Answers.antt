@@ -2,7 +2,6 @@ use Rattle.std.proofs.Common.{rules, ◌≡◌, ◌∙◌, ◌-◌, ◌≤◌, �
 use Rattle.cx_core.specs.Base.{LawfulBase}
 use Rattle.cx_core.specs.Region.{object_part}
 use Rattle.cx_core.specs.declared.entry.Base.{Base}
-use Rattle.cx_core.specs.declared.entry.Image.{Image}
 use Rattle.cx_rule.specs.Running.{Running}
 use Rattle.doc_store.specs.ExactStep.{IsImage}
 use Rattle.doc_store.specs.declared.store.DocStore.{DocStore}
