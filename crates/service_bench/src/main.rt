@@ -1,6 +1,7 @@
-//! Nanoseconds and steps of a service's calls. With no words it does nothing. `calls T N R` makes N services of T callers, one after
-//! another, and in each lets every caller, on a thread of its own, make calls until it has linked 16 updates, or 256 calls. So many
-//! calls in 100 are reads. It prints the calls of all, and what they took.
+//! Nanoseconds and steps of a service's calls. With no words it does nothing. `calls T N R L K` makes N services of T callers, one after
+//! another, over a store of L lines with documents at K keys (1,024 and 100 where they are not said), and in each lets every caller, on a
+//! thread of its own, make calls until it has linked 16 updates, or 4,096 calls. R calls in 100 are reads. It prints the calls of all,
+//! and what they took.
 #![tactic(auto)]
 
 mod base;
@@ -8,7 +9,7 @@ mod calls;
 mod operations;
 mod tally;
 
-use crate::calls::services;
+use crate::calls::{Setting, services};
 use std::alloc::Global;
 use std::process::ExitCode;
 use std::rt::Runtime;
@@ -41,11 +42,15 @@ fn run<R: Runtime + Threads + CpuClock + Sync>(
     let Some(work) = words.first() else {
         return Ok(());
     };
-    let threads = number(words.get(1));
     let count = number(words.get(2));
-    let reads = number(words.get(3));
+    let setting = Setting {
+        threads: number(words.get(1)),
+        reads: number(words.get(3)),
+        lines: words.get(4).map_or(1024, |word| number(Some(word))),
+        keys: words.get(5).map_or(100, |word| number(Some(word))),
+    };
     match work.as_str() {
-        "calls" => services(rt, alloc, threads, count, reads)?.print(rt),
+        "calls" => services(rt, alloc, count, &setting)?.print(rt, setting.lines, setting.keys),
         _ => Ok(()),
     }
 }
