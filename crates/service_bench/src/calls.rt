@@ -6,7 +6,9 @@ ghost use Rattle.cx_service.specs.Callers.{IsCallerOf};
 ghost use Rattle.doc_store.specs.ExactStep.{IsImage};
 
 use crate::base::filled;
+use crate::laps::Laps;
 use crate::operations::{MOST_KEYS, Operations, Reading};
+use crate::parts::parted;
 use crate::tally::{Tally, since, thread_time};
 use cx_core::Base;
 use cx_service::{Caller, Driven, ReadTried, Service, Submitted};
@@ -58,6 +60,20 @@ pub fn services<R: Runtime + Threads + CpuClock + Sync>(
         }
     }
     Ok(all)
+}
+
+/// What the parts of one caller's calls take, in so many tables.
+pub fn parts<R: Runtime>(
+    rt: &R,
+    alloc: Global,
+    count: u64,
+    setting: &Setting,
+) -> io::Result<Laps> {
+    if setting.lines < 64 || setting.lines > 16384 {
+        return Laps::begin(rt);
+    }
+    let base = filled_store(alloc, setting)?;
+    parted(rt, alloc, count, setting.lines, setting.keys, &base)
 }
 
 // The base of a store that has a document at each key.
