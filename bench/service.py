@@ -95,6 +95,6 @@ if __name__ == "__main__":
     parser.add_argument("--rounds", type=int, default=LEAST_ROUNDS)
     rounds = parser.parse_args().rounds
     head = ["threads", "reads in 100", "calls", "cpu ns a call", "wall ns a call", "submit steps", "drive steps", "read steps"]
-    table([head] + [row(rounds, threads, 400, reads) for threads in (1, 2, 4) for reads in (0, 50, 100)])
+    table([head] + [row(rounds, threads, 400 if reads < 100 else 25, reads) for threads in (1, 2, 4) for reads in (0, 50, 100)])
     print()
     table(parts_table(rounds, 400))
