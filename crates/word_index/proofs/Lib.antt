@@ -11,6 +11,7 @@ pub mod Writing
 pub mod Arrangements
 pub mod Splits
 pub mod KeyPlaces
+pub mod Reaching
 pub mod Relaying
 pub mod Cutting
 pub mod Adding
