@@ -10,6 +10,7 @@ pub mod Taking
 pub mod Writing
 pub mod Arrangements
 pub mod Splits
+pub mod KeyOrders
 pub mod KeyPlaces
 pub mod Reaching
 pub mod Relaying
