@@ -1,5 +1,5 @@
 use Rattle.cx_base.proofs.MemoryLemmas.{Framed-then}
-use Rattle.std.proofs.Common.{rules, arith, refl, sym, ◌≡◌, ◌+◌, ◌∙◌}
+use Rattle.std.proofs.Common.{rules, arith, refl, sym, ◌+◌, ◌∙◌}
 use Rattle.cx_base.specs.Packing.{unpacked}
 use Rattle.cx_base.proofs.ReadLemmas.{kept_then, Reads-none, Reads-then, Reads-weaker, Reads-load, Reads-loaded, always_read}
 use Rattle.avl_words.proofs.Memories.{always_said, always_kept}
