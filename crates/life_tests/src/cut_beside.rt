@@ -8,7 +8,7 @@ use std::test::Fail;
 use std::thread::Threads;
 
 // The client is stopped after each number of steps below this one. Alone it is answered within fewer.
-const STEPS: u64 = 600;
+const STEPS: u64 = 1200;
 
 // The script: client 1 is stopped in its update after so many steps, and the next life reads what was left.
 fn script(alloc: Global, choice: u64, steps: u64) -> Result<String, AllocError> {
@@ -60,28 +60,40 @@ fn all_tried<R: Threads + Wait + Sync>(
 #[test]
 fn stopped_beside_updates_and_nothing_more_is_left(rt: HostRuntime) -> Result<(), Fail> {
     let tried = all_tried(&rt, rt.alloc(), 0)?;
-    assert!(rt; tried.fault.is_none() && tried.stopped > 0, "{tried:?}");
+    assert!(rt;
+        tried.fault.is_none() && tried.stopped > 0 && tried.stopped < STEPS,
+        "{tried:?}"
+    );
     Ok(())
 }
 
 #[test]
 fn stopped_beside_updates_and_all_is_left(rt: HostRuntime) -> Result<(), Fail> {
     let tried = all_tried(&rt, rt.alloc(), 1)?;
-    assert!(rt; tried.fault.is_none() && tried.stopped > 0, "{tried:?}");
+    assert!(rt;
+        tried.fault.is_none() && tried.stopped > 0 && tried.stopped < STEPS,
+        "{tried:?}"
+    );
     Ok(())
 }
 
 #[test]
 fn stopped_beside_updates_and_other_words_are_left(rt: HostRuntime) -> Result<(), Fail> {
     let tried = all_tried(&rt, rt.alloc(), 2)?;
-    assert!(rt; tried.fault.is_none() && tried.stopped > 0, "{tried:?}");
+    assert!(rt;
+        tried.fault.is_none() && tried.stopped > 0 && tried.stopped < STEPS,
+        "{tried:?}"
+    );
     Ok(())
 }
 
 #[test]
 fn stopped_beside_updates_and_words_times_three_are_left(rt: HostRuntime) -> Result<(), Fail> {
     let tried = all_tried(&rt, rt.alloc(), 3)?;
-    assert!(rt; tried.fault.is_none() && tried.stopped > 0, "{tried:?}");
+    assert!(rt;
+        tried.fault.is_none() && tried.stopped > 0 && tried.stopped < STEPS,
+        "{tried:?}"
+    );
     Ok(())
 }
 
@@ -90,6 +102,9 @@ fn stopped_beside_updates_and_words_times_a_large_number_are_left(
     rt: HostRuntime,
 ) -> Result<(), Fail> {
     let tried = all_tried(&rt, rt.alloc(), 11_400_714_819_323_198_485)?;
-    assert!(rt; tried.fault.is_none() && tried.stopped > 0, "{tried:?}");
+    assert!(rt;
+        tried.fault.is_none() && tried.stopped > 0 && tried.stopped < STEPS,
+        "{tried:?}"
+    );
     Ok(())
 }
