@@ -1,8 +1,8 @@
 -- The lines of records of legal lives name commands of their lives.
-use Rattle.std.proofs.Common.{ℕ, ◌+◌, List, [], ◌∷◌, All}
+use Rattle.std.proofs.Common.{ℕ, ◌+◌, List, [], ◌∷◌}
 use Rattle.std.proofs.lemmas.List.Elements.{All-weaker}
 use Rattle.cx_base.specs.Store.{Store}
-use Rattle.life_records.specs.Lives.{AreLivesFrom, IsLegalLife, IsLegalRead, NameCommands, Names, store_at}
+use Rattle.life_records.specs.Lives.{AreLivesFrom, IsLegalRead, NameCommands, Names, store_at}
 use Rattle.life_records.specs.declared.record.LifeRecord.{LifeRecord}
 use Rattle.life_records.specs.declared.record.ReadLine.{ReadLine}
 use Rattle.life_records.specs.declared.script.Life.{Life}

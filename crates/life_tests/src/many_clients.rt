@@ -6,7 +6,7 @@ use std::alloc::{AllocError, Global};
 use std::test::Fail;
 
 // So often the clients' life is run.
-const ROUNDS: u32 = 20;
+const ROUNDS: u32 = 1500;
 
 // The script of eight clients that update and read one key.
 fn over_one_key(alloc: Global) -> Result<String, AllocError> {
