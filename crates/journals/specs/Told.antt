@@ -1,8 +1,7 @@
 -- A record is told by what a closed table leaves: by the history of its entries and the local states that its callers ended with.
-use Rattle.std.specs.Prelude.{◌≡◌, ◌+◌, ◌<◌, ◌≤◌, ℕ, true, List, length, filter, slice_get, All, IsSome, Option, Some}
+use Rattle.std.specs.Prelude.{◌≡◌, ◌+◌, ◌≤◌, ℕ, true, List, length, filter, slice_get, All, Some}
 use Rattle.cx_core.specs.declared.entry.Entry.{Entry}
 use Rattle.cx_core.specs.declared.local.Cell.{Cell}
-use Rattle.cx_core.specs.declared.local.Linked.{Linked}
 use Rattle.cx_core.specs.declared.local.Local.{Local}
 use Rattle.life_records.specs.declared.script.Life.{Life}
 use Rattle.life_records.specs.declared.record.FullLine.{FullLine}

@@ -1,0 +1,54 @@
+//! What a user would take instead of the service: one store behind a lock.
+//!
+//!     peers run --form FORM --threads T --lines L --keys K --reads P --ms M
+//!     peers selftest
+//!
+//! The forms: `btree_mutex` and `btree_rwlock`, a `BTreeMap` under a lock of std, not durable; `region_mutex`, the words of one region
+//! under a mutex, of which each changed word is also stored to a durable copy. P of 100 calls get a document, the others put one.
+
+mod check;
+mod region;
+mod work;
+
+use std::env;
+use std::process::ExitCode;
+use work::{Run, run};
+
+const USAGE: &str = "usage: peers run --form btree_mutex|btree_rwlock|region_mutex --threads T --lines L --keys K --reads P --ms M
+       peers selftest
+T is 1 to 8, L 64 to 16384, P at most 100, and 3K is below L.";
+
+fn main() -> ExitCode {
+    let words: Vec<_> = env::args().skip(1).collect();
+    if words == ["selftest"] {
+        check::selftest(20_000);
+        return ExitCode::SUCCESS;
+    }
+    let tally = asked(&words).and_then(|asked| run(&asked));
+    let Some(tally) = tally else {
+        eprintln!("{USAGE}");
+        return ExitCode::from(2);
+    };
+    let [updates, reads, cpu, wall] = tally;
+    println!("updates {updates} reads {reads} cpu {cpu} wall {wall}");
+    ExitCode::SUCCESS
+}
+
+// The run that the words ask for.
+fn asked(words: &[String]) -> Option<Run> {
+    let (first, rest) = words.split_first()?;
+    if first != "run" || rest.len() != 12 {
+        return None;
+    }
+    let word = |name: &str| rest.chunks(2).find(|pair| pair[0] == name).map(|pair| pair[1].as_str());
+    let number = |name: &str, least: u64, most: u64| word(name)?.parse().ok().filter(|n| (least..=most).contains(n));
+    let lines = number("--lines", 64, 16384)?;
+    Some(Run {
+        form: word("--form")?.to_string(),
+        threads: number("--threads", 1, 8)? as usize,
+        lines,
+        keys: number("--keys", 1, (lines - 1) / 3)?,
+        reads: number("--reads", 0, 100)?,
+        ms: number("--ms", 1, 60_000)?,
+    })
+}

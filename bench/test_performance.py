@@ -1,0 +1,128 @@
+#!/usr/bin/env python3
+"""Tests of the table and the plot of performance.py, without a measurement."""
+import itertools
+import re
+import unittest
+import xml.etree.ElementTree as ElementTree
+
+import performance
+import performance_plot
+from performance import FORMS, OURS, REGION, Ran, Setting
+
+SVG = "{http://www.w3.org/2000/svg}"
+SIZES = [(1024, 100), (16384, 100), (16384, 1000)]
+READS = [0, 50, 90, 99, 100]
+WIDTHS = {"title": 8.6, "strong": 7.4}
+
+
+def measured(sizes, threads, ratio):
+    """Two rounds in which each form but the region has a rate from `ratio`, of a form's number and of reads."""
+    rates = {form: number for number, form in enumerate(FORMS) if form != REGION}
+    found = {}
+    for size, count, reads in itertools.product(sizes, threads, READS):
+        one = {form: Ran(1000.0 * (ratio(rates[form], reads) if form in rates else 1), 500.0) for form in FORMS}
+        found[Setting(*size, count, reads)] = [one, {form: Ran(3 * run.rate, run.cpu) for form, run in one.items()}]
+    return found
+
+
+class Measuring(unittest.TestCase):
+    def test_forms_take_turns(self):
+        called = []
+
+        def run(form, setting, options):
+            called.append(form)
+            return Ran(1.0, 1.0)
+
+        options = performance.options_of(["--rounds", "5"])
+        self.assertEqual(5, len(performance.rounds_of(Setting(64, 8, 1, 0), options, run)))
+        self.assertEqual([called[4 * number :][0] for number in range(5)], [*FORMS, OURS])
+        for number in range(5):
+            self.assertEqual(set(FORMS), set(called[4 * number : 4 * number + 4]))
+
+    def test_ratios_are_within_rounds(self):
+        rounds = [{OURS: Ran(rate, 1.0), REGION: Ran(rate * ratio, 1.0)} for rate, ratio in ((1.0, 2.0), (100.0, 3.0), (10.0, 8.0))]
+        self.assertEqual(3.0, performance.median_ratio(rounds, REGION, OURS))
+        self.assertEqual(1 / 3, performance.median_ratio(rounds, OURS, REGION))
+
+    def test_row(self):
+        rounds = [{form: Ran(2e6 if form == OURS else 5e6, 400.0 if form == OURS else 10.0) for form in FORMS}]
+        self.assertEqual(
+            ["16,384", "1,000", 4, 90, "8,000 (400)"] + ["2.50 (0.025)"] * 3, performance.row(Setting(16384, 1000, 4, 90), rounds)
+        )
+
+    def test_table_has_rows_of_one_width(self):
+        lines = performance.markdown(measured(SIZES, [1, 2, 4], lambda form, reads: 1 + form)).split("\n")
+        self.assertEqual(2 + 45, len(lines))
+        self.assertEqual({9}, {line.count("|") for line in lines})
+
+
+class Pictures(unittest.TestCase):
+    def pictures(self):
+        ratios = {
+            "near": lambda form, reads: 1 + (form + 1) * reads / 1000,
+            "same": lambda form, reads: 1.0,
+            "wide": lambda form, reads: 1000.0 ** ((form - 1) * (reads + 1) / 101),
+            "below": lambda form, reads: 0.01 * (form + 1) + reads / 200,
+        }
+        for (name, ratio), sizes, threads in itertools.product(ratios.items(), (SIZES[:1], SIZES), ([4], [1, 2], [1, 2, 4])):
+            panels = performance.panels(measured(sizes, threads, ratio))
+            picture = ElementTree.fromstring(performance_plot.drawn(panels, FORMS, REGION))
+            yield f"{name}, {len(sizes)} sizes, {threads} threads", picture, len(panels)
+
+    def box(self, element):
+        """About the rectangle that a text takes, by letters as wide as those of common fonts."""
+        kind = element.get("class").split()
+        wide = len(element.text) * max((WIDTHS.get(word, 6.9) for word in kind), default=6.9)
+        left = float(element.get("x")) - wide * (1 if "right" in kind else 0.5 if "middle" in kind else 0)
+        top = float(element.get("y")) - 10
+        return left, top, left + wide, top + 13
+
+    def frames(self, picture):
+        for rect in picture.iter(f"{SVG}rect"):
+            if rect.get("class") == "frame":
+                left, top, wide, high = (float(rect.get(name)) for name in ("x", "y", "width", "height"))
+                yield left, top, left + wide, top + high
+
+    def legend(self, picture):
+        """The boxes of the looks in the legend, which stand above the panels."""
+        for line in picture.iter(f"{SVG}polyline"):
+            points = [tuple(map(float, point.split(","))) for point in line.get("points").split()]
+            if points[0][1] < performance_plot.HEAD:
+                yield points[0][0], points[0][1] - 6, points[-1][0], points[0][1] + 6
+
+    def test_texts_and_panels_do_not_overlap(self):
+        for name, picture, _ in self.pictures():
+            boxes = [self.box(element) for element in picture.iter(f"{SVG}text")]
+            boxes += [*self.frames(picture), *self.legend(picture)]
+            with self.subTest(name):
+                for one, other in itertools.combinations(boxes, 2):
+                    apart = one[2] <= other[0] or other[2] <= one[0] or one[3] <= other[1] or other[3] <= one[1]
+                    self.assertTrue(apart, (one, other))
+                self.assertGreaterEqual(min(min(box[:2]) for box in boxes), 0)
+                self.assertLessEqual(max(box[2] for box in boxes), float(picture.get("width")))
+                self.assertLessEqual(max(box[3] for box in boxes), float(picture.get("height")))
+
+    def test_each_point_is_marked_in_its_panel(self):
+        for name, picture, panels in self.pictures():
+            frames = list(self.frames(picture))
+            marks = [group for group in picture.iter(f"{SVG}g") if group.find(f"{SVG}title") is not None]
+            with self.subTest(name):
+                self.assertEqual((panels, panels * 3 * len(READS)), (len(frames), len(marks)))
+                for mark in marks:
+                    x, y = map(float, re.findall(r"[-0-9.]+", mark.get("transform")))
+                    inside = [left < x < right and top - 0.1 <= y <= bottom + 0.1 for left, top, right, bottom in frames]
+                    self.assertEqual(1, sum(inside), (x, y))
+
+    def test_heights_are_ratios(self):
+        scale = performance_plot.Scale([0.02, 4])
+        self.assertEqual([0.02, 0.05, 0.1, 0.2, 0.5, 1, 2, 5], scale.marks)
+        self.assertAlmostEqual(scale.down(0.1) - scale.down(0.2), scale.down(1) - scale.down(2))
+        self.assertAlmostEqual(0, scale.down(5))
+        self.assertAlmostEqual(performance_plot.PANEL_HEIGHT, scale.down(0.02))
+
+    def test_no_text_is_small(self):
+        self.assertGreaterEqual(min(float(size) for size in re.findall(r"font-size: ([0-9.]+)px", performance_plot.STYLE)), 12)
+
+
+if __name__ == "__main__":
+    unittest.main()

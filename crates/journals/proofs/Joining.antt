@@ -1,0 +1,119 @@
+-- The lines of clients, one client after another.
+use Rattle.std.proofs.Common.{◌≡◌, ◌≢◌, ◌+◌, ◌<◌, ℕ, List, [], ◌∷◌, ◌++◌, length, get_or, filter, Option, None, Some, sym, subst, ◌∙◌, refl, inl, inr, arith, length-append}
+use Rattle.std.specs.Prelude.{All, AllPairs}
+use Rattle.std.specs.Option.{option_to_list}
+use Rattle.std.proofs.lemmas.List.Elements.{All-append, All-weaker}
+use Rattle.std.proofs.lemmas.Option.{none-some, slice_get_within}
+use Rattle.std.proofs.lemmas.Slice.Zip.{AllZip-long}
+use Rattle.cx_core.specs.declared.local.Local.{Local}
+use Rattle.cx_core.specs.Merge.{all_own}
+use Rattle.cx_core.proofs.Locals.{slice_get-push}
+use Rattle.life_records.specs.declared.script.Life.{Life}
+use Rattle.life_records.specs.declared.record.JournalLine.{JournalLine}
+use Rattle.life_records.specs.declared.record.ReadLine.{ReadLine}
+use Rattle.life_records.specs.declared.record.StopLine.{StopLine}
+use Rattle.life_records.specs.Lives.{IsReadBefore, IsStopBefore}
+use Rattle.journals.specs.Works.{AreWorks, IsEnd, IsLineOf, IsReadLine, IsWork, by_entry, by_read, stop_of}
+use Rattle.journals.proofs.Lists.{Each, all_each, each_all, each_get, each_has, filter_mine, filter_other, has_get, pairs_append, zip_all}
+use Rattle.journals.proofs.Stops.{stop_later, stop_of-option, stop_other}
+
+-- no client yet
+pub works_none : (life : Life) → AreWorks life [] [] [] []
+works_none life = record {
+  each = λ i l at. absurd (none-some l at);
+  of_entries = λ k d within. absurd (omega arith);
+  of_reads = λ k d within. absurd (omega arith);
+  of_stops = λ k d within. absurd (omega arith);
+  long = refl;
+  reads_in_order = λ i j d up within. absurd (omega arith);
+  stops_in_order = λ i j d up within. absurd (omega arith);
+}
+
+own_append : (ls : List Local) (l : Local) → length (all_own (ls ++ l ∷ [])) ≡ length (all_own ls) + length l.own
+own_append [] l = length-append l.own [] ∙ omega arith
+own_append (k ∷ ls) l =
+    let rest = own_append ls l in
+    omega (arith, length-append k.own (all_own (ls ++ l ∷ [])), length-append k.own (all_own ls))
+
+-- a stop line is its client's
+stop_by : (life : Life) (n done : ℕ) (l : Local) (stop : Option StopLine) → IsEnd life n done l stop → Each (λ (s : StopLine). s.client ≡ n) (option_to_list stop)
+stop_by life n done l None end = tt
+stop_by life n done l (Some line) end = (end.client_is, tt)
+
+-- there is one at the most
+one_stop : (stop : Option StopLine) → AllPairs IsStopBefore (option_to_list stop)
+one_stop None i j d up within = absurd (omega arith)
+one_stop (Some line) i j d up within = absurd (omega arith)
+
+module _ (life : Life) (locals : List Local) (l : Local) (entries es : List JournalLine) (reads rs : List ReadLine) (stops : List StopLine) (stop : Option StopLine)
+    (m : AreWorks life locals entries reads stops) (w : IsWork life (length locals) l es rs stop) where
+  abbrev n : ℕ
+  n = length locals
+
+  es_by : Each (λ (x : JournalLine). x.client ≡ n) es
+  es_by = zip_all (IsLineOf life n l.answered stop) (λ (x : JournalLine). x.client ≡ n) (λ a b r. r.client_is) l.own es w.entry_lines
+
+  rs_by : Each (λ (x : ReadLine). x.client ≡ n) rs
+  rs_by = zip_all (IsReadLine life n) (λ (x : ReadLine). x.client ≡ n) (λ a b r. r.client_is) w.read_lines.told rs w.read_lines.lines_are
+
+  ss_by : Each (λ (x : StopLine). x.client ≡ n) (option_to_list stop)
+  ss_by = stop_by life n w.done l stop w.ends
+
+  longer : length (locals ++ l ∷ []) ≡ n + 1
+  longer = length-append locals (l ∷ []) ∙ omega arith
+
+  -- what holds of clients before the next, and of the next, holds of all
+  below : {X : Type 0} (client : X → ℕ) (xs mine : List X) → All (λ x. client x < n) xs → Each (λ x. client x ≡ n) mine → All (λ x. client x < n + 1) (xs ++ mine)
+  below client xs mine before own =
+      All-append (λ x. client x < n + 1) xs mine
+      (All-weaker (λ x. client x < n) (λ x. client x < n + 1) (λ x b. omega arith) xs before)
+      (All-weaker (λ x. client x ≡ n) (λ x. client x < n + 1) (λ x b. omega arith) mine (all_each (λ x. client x ≡ n) mine own))
+
+  -- of an earlier client the stop line stays, and the next one has its own
+  stop_before : (i : ℕ) → i < n → stop_of i (stops ++ option_to_list stop) ≡ stop_of i stops
+  stop_before i less =
+      stop_other i stops (option_to_list stop) (each_get (λ (s : StopLine). s.client ≢ i) (option_to_list stop) (λ k z at e.
+      let own : z.client ≡ n = each_has (λ (s : StopLine). s.client ≡ n) (option_to_list stop) z ss_by (has_get (option_to_list stop) k z at) in
+      omega arith))
+
+  stop_mine : stop_of n (stops ++ option_to_list stop) ≡ stop
+  stop_mine =
+      stop_later n stops (option_to_list stop) (each_get (λ (s : StopLine). s.client ≢ n) stops (λ k z at e.
+      let less : z.client < n = each_has (λ (s : StopLine). s.client < n) stops z (each_all (λ (s : StopLine). s.client < n) stops m.of_stops) (has_get stops k z at) in
+      omega arith))
+      ∙ stop_of-option n stop ss_by
+
+  -- one client more
+  pub works_more : AreWorks life (locals ++ l ∷ []) (entries ++ es) (reads ++ rs) (stops ++ option_to_list stop)
+  works_more = record {
+    each = λ i g at.
+        elim (slice_get-push locals l i g at) [
+          | inl old ↦ (
+              let less : i < n = slice_get_within locals i g old in
+              rw (filter_other (λ (x : JournalLine). x.client) n i entries es m.of_entries es_by less, filter_other (λ (x : ReadLine). x.client) n i reads rs m.of_reads rs_by less, stop_before i less) (m.each i g old))
+          | inr new ↦
+              subst (λ (k : ℕ). IsWork life k g (filter (by_entry k) (entries ++ es)) (filter (by_read k) (reads ++ rs)) (stop_of k (stops ++ option_to_list stop))) (sym new.0)
+              (rw (filter_mine (λ (x : JournalLine). x.client) n entries es m.of_entries es_by, filter_mine (λ (x : ReadLine). x.client) n reads rs m.of_reads rs_by, stop_mine)
+              (subst (λ (x : Local). IsWork life n x es rs stop) new.1 w))
+        ];
+    of_entries = rw longer (below (λ (x : JournalLine). x.client) entries es m.of_entries es_by);
+    of_reads = rw longer (below (λ (x : ReadLine). x.client) reads rs m.of_reads rs_by);
+    of_stops = rw longer (below (λ (x : StopLine). x.client) stops (option_to_list stop) m.of_stops ss_by);
+    long = omega (arith, length-append entries es, m.long, own_append locals l, AllZip-long (IsLineOf life n l.answered stop) l.own es w.entry_lines);
+    reads_in_order = pairs_append IsReadBefore reads rs m.reads_in_order
+        (λ i j d up within. inr (
+          (let a : (get_or rs i d).client ≡ n = all_each (λ (x : ReadLine). x.client ≡ n) rs rs_by i d (omega arith) in
+              let b : (get_or rs j d).client ≡ n = all_each (λ (x : ReadLine). x.client ≡ n) rs rs_by j d within in
+              a ∙ sym b),
+          w.reads_in_turn i j d up within,
+        ))
+        (λ x y a b. inl (
+        let low : x.client < n = each_has (λ (x : ReadLine). x.client < n) reads x (each_all (λ (x : ReadLine). x.client < n) reads m.of_reads) a in
+        let same : y.client ≡ n = each_has (λ (x : ReadLine). x.client ≡ n) rs y rs_by b in
+        omega arith));
+    stops_in_order = pairs_append IsStopBefore stops (option_to_list stop) m.stops_in_order (one_stop stop)
+        (λ x y a b.
+        let low : x.client < n = each_has (λ (x : StopLine). x.client < n) stops x (each_all (λ (x : StopLine). x.client < n) stops m.of_stops) a in
+        let same : y.client ≡ n = each_has (λ (x : StopLine). x.client ≡ n) (option_to_list stop) y ss_by b in
+        omega arith);
+  }

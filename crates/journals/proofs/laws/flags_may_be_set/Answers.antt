@@ -1,0 +1,8 @@
+use Rattle.journals.proofs.Flags.{still_ended, told_flagged}
+use Rattle.journals.proofs.laws.flags_may_be_set.Goals as goal
+
+pub returns-clause-told : goal.returns-clause-told
+returns-clause-told c = told_flagged
+
+pub returns-clause-ended : goal.returns-clause-ended
+returns-clause-ended c = still_ended

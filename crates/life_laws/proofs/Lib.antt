@@ -1,0 +1,8 @@
+pub mod Fresh
+pub mod Keeping
+pub mod Lists
+pub mod Recording
+pub mod ReplyWords
+pub mod Slots
+pub mod Steps
+pub mod Turns
