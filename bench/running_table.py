@@ -2,7 +2,9 @@
 """Nanoseconds of the running table's calls on one thread and on two, and the memory of its largest table.
 
 Build the program first: cd crates/table_bench && rt run
-The time of a link includes one reading of the clock. Each link is won, or lost to the other thread and tried again.
+The time of a link includes one reading of the clock. Each link is won, or lost to the other thread and tried again. Loads, stores
+and persists are of words of replicas held, a replica for each thread; a persist is of a word just stored, and includes the store.
+An addition and a document put are full steps on a replica held, and over plain words in the same run.
 """
 import os
 import subprocess
@@ -16,9 +18,19 @@ def nanoseconds(work, count, threads):
     return int(subprocess.run(words, check=True, capture_output=True).stdout)
 
 
-def time_of(work, count):
-    one, two = (min(nanoseconds(work, count, threads) for _ in range(3)) for threads in (1, 2))
-    print(f"{work}: {one / count:.1f} ns on one thread, {two / count:.1f} ns on each of two at once, best of 3 runs")
+def time_of(work, count, runs=3):
+    one, two = (min(nanoseconds(work, count, threads) for _ in range(runs)) for threads in (1, 2))
+    print(f"{work}: {one / count:.1f} ns on one thread, {two / count:.1f} ns on each of two at once, best of {runs} runs")
+
+
+def ratio_of(work, count):
+    """The least time of each of both of 20 short runs, since others load the machine."""
+    runs = []
+    for _ in range(20):
+        words = [TABLE, work, str(count)]
+        runs.append([int(word) for word in subprocess.run(words, check=True, capture_output=True).stdout.split()])
+    held, plain = (min(run[i] for run in runs) / count for i in range(2))
+    print(f"{work}: {held:.0f} ns on a replica held, {plain:.0f} ns over plain words, ratio {held / plain:.2f}, best of 20 runs")
 
 
 def memory():
@@ -39,4 +51,8 @@ if __name__ == "__main__":
     time_of("repeat", 300_000)
     time_of("link", 3_000)
     time_of("flush", 100)
+    for work in ("load", "store", "persist"):
+        time_of(work, 1_000_000, runs=40)
+    for work in ("add", "put"):
+        ratio_of(work, 5_000)
     memory()

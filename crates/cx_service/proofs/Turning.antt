@@ -1,5 +1,5 @@
 -- What turns for an entry, and for a read, leave of their caller, and what turns come to one after another.
-use Rattle.std.proofs.Common.{◌≡◌, ◌+◌, ◌≤◌, inl, inr, ℕ, List, [], length, refl, ap, sym, ◌∙◌, arith, Some, None, length-append}
+use Rattle.std.proofs.Common.{◌≡◌, ◌+◌, ◌≤◌, ◌⊎◌, inl, inr, ℕ, List, [], length, refl, ap, sym, subst, ◌∙◌, arith, Some, None, length-append}
 use Rattle.std.proofs.lemmas.Bool.{cases_lt}
 use Rattle.std.proofs.lemmas.Option.{slice_get_past}
 use Rattle.std.specs.List.{slice_get}
@@ -12,7 +12,7 @@ use Rattle.cx_core.specs.declared.local.SeenRead.{SeenRead}
 use Rattle.cx_core.specs.Layout.{max_word}
 use Rattle.cx_core.specs.State.{one_more}
 use Rattle.cx_rule.specs.Running.{IsSeatOf, Running}
-use Rattle.cx_rule.specs.Seats.{Seated, unanswered_ticket}
+use Rattle.cx_rule.specs.Seats.{IsAtLimit, Seated, unanswered_ticket}
 use Rattle.cx_service.specs.Callers.{IsBetweenCalls, IsCallerOf, IsLinkedOf}
 use Rattle.cx_service.specs.Drives.{DriveDone, DriveHalted, DriveKeeps, DrivePending, MeetsMore}
 use Rattle.cx_service.specs.Lookups.{ReadAnswered, ReadHalted, ReadKeeps, ReadPending}
@@ -29,8 +29,8 @@ meets_one s v is =
       | inr above ↦ inr (omega (arith, is, above))
     ]
 
-pub meets_none : (s : Seated) → MeetsMore 0 s s
-meets_none s = inl (omega arith)
+rises_one : (s v : Seated) → s.known.local.met ≤ max_word → v.known.local.met ≡ one_more s.known.local.met → s.known.local.met ≤ v.known.local.met
+rises_one s v small is = omega (arith, small, is)
 
 pub meets_then : (n : ℕ) (s u v : Seated) → MeetsMore n s u → MeetsMore 1 u v → MeetsMore (n + 1) s v
 meets_then n s u v (inl a) (inl b) = inl (omega (arith, a, b))
@@ -62,10 +62,12 @@ module _ {O : Type 0} (r : Running O) (s v : Seated) (linked : IsLinkedOf r s) (
   stands m at answered =
       between_after r 1 m s v linked (ap (λ (x : Seated). x.known.local.own) rest) (ap (λ (x : Seated). x.known.local.cells) rest) (ap (λ (x : Seated). x.known.local.seen_free) rest) front of at answered
 
-  pub turn_done : (ticket : ℕ) (reply : List ℕ) → unanswered_ticket s.known.local ≡ Some ticket → AnswersEntry ticket reply s v → DriveDone r s v (record { ticket = ticket; reply = reply })
-  turn_done ticket reply is answers = record {
+  pub turn_done : (ticket : ℕ) (reply : List ℕ) → unanswered_ticket s.known.local ≡ Some ticket → ¬ IsAtLimit s.known.local → AnswersEntry ticket reply s v → DriveDone r s v (record { ticket = ticket; reply = reply })
+  turn_done ticket reply is allowed answers = record {
     caller = stands 0 answers.rest (ap (λ (xs : List Answer). length xs + 0) answers.answered ∙ ap (λ n. n + 0) (length-append s.known.local.answered _) ∙ zero_more (length s.known.local.answered + 1));
     keeps = drive_keeps;
+    allowed = allowed;
+    met = (let same = answers.met in omega (arith, same));
     ticket = is;
     answered = answers.answered;
   }
@@ -73,10 +75,12 @@ module _ {O : Type 0} (r : Running O) (s v : Seated) (linked : IsLinkedOf r s) (
       zero_more : (n : ℕ) → n + 0 ≡ n
       zero_more n = omega arith
 
-  pub turn_refused : MeetsRefusal s v → DrivePending r 1 s v
-  turn_refused refused = record {
+  pub turn_refused : ¬ IsAtLimit s.known.local → s.known.local.met ≤ max_word → MeetsRefusal s v → DrivePending r 1 s v
+  turn_refused allowed small refused = record {
     caller = stands 1 refused.rest (ap (λ (xs : List Answer). length xs + 1) refused.answered);
     keeps = drive_keeps;
+    allowed = allowed;
+    rises = rises_one s v small refused.met;
     answered = refused.answered;
     met = meets_one s v refused.met;
   }
@@ -94,13 +98,27 @@ module _ {O : Type 0} (r : Running O) (n : ℕ) (s u : Seated) (before : DrivePe
       ap (λ (xs : List Linked). option_map (λ (x : Linked). x.ticket) (slice_get xs (length s.known.local.answered))) (sym before.keeps.own)
       ∙ ap (λ (as_ : List Answer). option_map (λ (x : Linked). x.ticket) (slice_get u.known.local.own (length as_))) (sym before.answered)
 
-  pub pending_then : (v : Seated) → DrivePending r 1 u v → DrivePending r (n + 1) s v
-  pending_then v p = record { caller = p.caller; keeps = keeps_then v p.keeps; answered = p.answered ∙ before.answered; met = meets_then n s u v before.met p.met }
+  pending_then : (k m : ℕ) (v : Seated) → DrivePending r m u v → MeetsMore k s v → DrivePending r k s v
+  pending_then k m v p met = record {
+    caller = p.caller;
+    keeps = keeps_then v p.keeps;
+    allowed = before.allowed;
+    answered = p.answered ∙ before.answered;
+    rises = omega (arith, before.rises, p.rises);
+    met = met;
+  }
 
-  pub done_then : (v : Seated) (answer : Answer) → DriveDone r u v answer → DriveDone r s v answer
-  done_then v answer d = record { caller = d.caller; keeps = keeps_then v d.keeps; ticket = same_ticket ∙ d.ticket; answered = d.answered ∙ ap (with_answer answer.ticket answer.reply) before.answered }
+  done_then : (v : Seated) (answer : Answer) → DriveDone r u v answer → DriveDone r s v answer
+  done_then v answer d = record {
+    caller = d.caller;
+    keeps = keeps_then v d.keeps;
+    allowed = before.allowed;
+    met = omega (arith, before.rises, d.met);
+    ticket = same_ticket ∙ d.ticket;
+    answered = d.answered ∙ ap (with_answer answer.ticket answer.reply) before.answered;
+  }
 
-  pub halted_then : (v : Seated) → DriveHalted r u v → DriveHalted r s v
+  halted_then : (v : Seated) → DriveHalted r u v → DriveHalted r s v
   halted_then v h = record {
     caller = h.caller;
     keeps = keeps_then v h.keeps;
@@ -112,8 +130,42 @@ module _ {O : Type 0} (r : Running O) (n : ℕ) (s u : Seated) (before : DrivePe
     ];
   }
 
-pub pending_none : {O : Type 0} (r : Running O) (s : Seated) → IsLinkedOf r s → DrivePending r 0 s s
-pending_none r s linked = record { caller = linked; keeps = record { number = refl; limit = refl; own = refl; reads = refl }; answered = refl; met = meets_none s }
+-- so many turns were made, of which there may be none, and in each a refusal was met
+pub record DrivesOn {O : Type 0} (r : Running O) (n : ℕ) (s u : Seated) : Type 0 where
+  pub caller : IsLinkedOf r u
+  pub turns : ((n ≡ 0) × (u ≡ s)) ⊎ DrivePending r n s u
+
+pub drives_none : {O : Type 0} (r : Running O) (s : Seated) → IsLinkedOf r s → DrivesOn r 0 s s
+drives_none r s linked = record { caller = linked; turns = inl (refl, refl) }
+
+module _ {O : Type 0} (r : Running O) (n : ℕ) (s u : Seated) (on : DrivesOn r n s u) where
+  pub drives_more : (v : Seated) → DrivePending r 1 u v → DrivesOn r (n + 1) s v
+  drives_more v p = record {
+    caller = p.caller;
+    turns = elim on.turns [
+      | inl none ↦ (let one : 1 ≡ n + 1 = (let zero = none.0 in omega (arith, zero)) in inr (subst (λ k. DrivePending r k s v) one (subst (λ x. DrivePending r 1 x v) none.1 p)))
+      | inr some ↦ inr (pending_then r n s u some (n + 1) 1 v p (meets_then n s u v some.met p.met))
+    ];
+  }
+
+  pub drives_all : 1 ≤ n → DrivePending r n s u
+  drives_all some = elim on.turns [ inl none ↦ (let zero = none.0 in absurd (omega (arith, zero, some))) | inr turned ↦ turned ]
+
+  pub drives_done : (v : Seated) (answer : Answer) → DriveDone r u v answer → DriveDone r s v answer
+  drives_done v answer d = elim on.turns [ inl none ↦ subst (λ x. DriveDone r x v answer) none.1 d | inr some ↦ done_then r n s u some v answer d ]
+
+  pub drives_halted : (v : Seated) → DriveHalted r u v → DriveHalted r s v
+  drives_halted v h = elim on.turns [ inl none ↦ subst (λ x. DriveHalted r x v) none.1 h | inr some ↦ halted_then r n s u some v h ]
+
+-- turns that are begun again
+pub drives_again : {O : Type 0} (r : Running O) (m : ℕ) (s u v : Seated) → DrivesOn r 0 s u → DrivePending r m u v → DrivesOn r 0 s v
+drives_again r m s u v on p = record {
+  caller = p.caller;
+  turns = elim on.turns [
+    | inl none ↦ inr (subst (λ x. DrivePending r 0 x v) none.1 (record { caller = p.caller; keeps = p.keeps; allowed = p.allowed; answered = p.answered; rises = p.rises; met = inl (omega (arith, p.rises)) }))
+    | inr some ↦ inr (pending_then r 0 s u some 0 m v p (inl (omega (arith, some.rises, p.rises))))
+  ];
+}
 
 -- the same of turns for a read
 module _ {O : Type 0} (r : Running O) (op : List ℕ) (s v : Seated) (caller : IsCallerOf r s) (rest : beside_lookup v ≡ beside_lookup s) (front : s.known.local.front ≤ v.known.local.front) (of : IsSeatOf r v) where
@@ -130,11 +182,26 @@ module _ {O : Type 0} (r : Running O) (op : List ℕ) (s v : Seated) (caller : I
       between_after r 0 0 s v caller (ap (λ (x : Seated). x.known.local.own) rest) (ap (λ (x : Seated). x.known.local.cells) rest) (ap (λ (x : Seated). x.known.local.seen_free) rest) front of at
       (ap (λ (x : Seated). length x.known.local.answered + 0) rest)
 
-  pub read_done : (seen : Seen) → AnswersRead op seen.place seen.reply s v → ReadAnswered r op s v seen
-  read_done seen answers = record { caller = still answers.rest; keeps = read_keeps; reads = answers.reads; above = answers.above; from = answers.from }
+  pub read_done : (seen : Seen) → ¬ IsAtLimit s.known.local → AnswersRead op seen.place seen.reply s v → ReadAnswered r op s v seen
+  read_done seen allowed answers = record {
+    caller = still answers.rest;
+    keeps = read_keeps;
+    allowed = allowed;
+    met = (let same = answers.met in omega (arith, same));
+    reads = answers.reads;
+    above = answers.above;
+    from = answers.from;
+  }
 
-  pub read_refused : MeetsRefusal s v → ReadPending r 1 s v
-  read_refused refused = record { caller = still refused.rest; keeps = read_keeps; reads = refused.reads; met = meets_one s v refused.met }
+  pub read_refused : ¬ IsAtLimit s.known.local → s.known.local.met ≤ max_word → MeetsRefusal s v → ReadPending r 1 s v
+  read_refused allowed small refused = record {
+    caller = still refused.rest;
+    keeps = read_keeps;
+    allowed = allowed;
+    rises = rises_one s v small refused.met;
+    reads = refused.reads;
+    met = meets_one s v refused.met;
+  }
 
 -- a caller without an unanswered entry
 pub all_answered : {O : Type 0} (r : Running O) (s : Seated) → IsCallerOf r s → unanswered_ticket s.known.local ≡ None
@@ -150,19 +217,28 @@ module _ {O : Type 0} (r : Running O) (op : List ℕ) (n : ℕ) (s u : Seated) (
       ap (λ (xs : List Answer). with_read place op reply (length xs) u.known.local.seen_reads) before.keeps.answered
       ∙ ap (with_read place op reply (length s.known.local.answered)) before.reads
 
-  pub read_pending_then : (v : Seated) → ReadPending r 1 u v → ReadPending r (n + 1) s v
-  read_pending_then v p = record { caller = p.caller; keeps = read_keeps_then v p.keeps; reads = p.reads ∙ before.reads; met = meets_then n s u v before.met p.met }
+  read_pending_then : (v : Seated) → ReadPending r 1 u v → ReadPending r (n + 1) s v
+  read_pending_then v p = record {
+    caller = p.caller;
+    keeps = read_keeps_then v p.keeps;
+    allowed = before.allowed;
+    rises = omega (arith, before.rises, p.rises);
+    reads = p.reads ∙ before.reads;
+    met = meets_then n s u v before.met p.met;
+  }
 
-  pub read_done_then : (v : Seated) (seen : Seen) → ReadAnswered r op u v seen → ReadAnswered r op s v seen
+  read_done_then : (v : Seated) (seen : Seen) → ReadAnswered r op u v seen → ReadAnswered r op s v seen
   read_done_then v seen d = record {
     caller = d.caller;
     keeps = read_keeps_then v d.keeps;
+    allowed = before.allowed;
+    met = omega (arith, before.rises, d.met);
     reads = d.reads ∙ more_reads seen.place seen.reply;
     above = λ i x at. d.above i x (ap (λ (xs : List Answer). slice_get xs i) before.keeps.answered ∙ at);
     from = λ i x at. d.from i x (ap (λ (xs : List SeenRead). slice_get xs i) before.reads ∙ at);
   }
 
-  pub read_halted_then : (v : Seated) → ReadHalted r op u v → ReadHalted r op s v
+  read_halted_then : (v : Seated) → ReadHalted r op u v → ReadHalted r op s v
   read_halted_then v h = record {
     caller = h.caller;
     keeps = read_keeps_then v h.keeps;
@@ -172,5 +248,29 @@ module _ {O : Type 0} (r : Running O) (op : List ℕ) (n : ℕ) (s u : Seated) (
     ];
   }
 
-pub read_pending_none : {O : Type 0} (r : Running O) (s : Seated) → IsCallerOf r s → ReadPending r 0 s s
-read_pending_none r s caller = record { caller = caller; keeps = record { number = refl; limit = refl; own = refl; answered = refl }; reads = refl; met = meets_none s }
+-- so many turns for a read were made, of which there may be none, and in each a refusal was met
+pub record LooksOn {O : Type 0} (r : Running O) (n : ℕ) (s u : Seated) : Type 0 where
+  pub caller : IsCallerOf r u
+  pub turns : ((n ≡ 0) × (u ≡ s)) ⊎ ReadPending r n s u
+
+pub looks_none : {O : Type 0} (r : Running O) (s : Seated) → IsCallerOf r s → LooksOn r 0 s s
+looks_none r s caller = record { caller = caller; turns = inl (refl, refl) }
+
+module _ {O : Type 0} (r : Running O) (op : List ℕ) (n : ℕ) (s u : Seated) (on : LooksOn r n s u) where
+  pub looks_more : (v : Seated) → ReadPending r 1 u v → LooksOn r (n + 1) s v
+  looks_more v p = record {
+    caller = p.caller;
+    turns = elim on.turns [
+      | inl none ↦ (let one : 1 ≡ n + 1 = (let zero = none.0 in omega (arith, zero)) in inr (subst (λ k. ReadPending r k s v) one (subst (λ x. ReadPending r 1 x v) none.1 p)))
+      | inr some ↦ inr (read_pending_then r op n s u some v p)
+    ];
+  }
+
+  pub looks_all : 1 ≤ n → ReadPending r n s u
+  looks_all some = elim on.turns [ inl none ↦ (let zero = none.0 in absurd (omega (arith, zero, some))) | inr turned ↦ turned ]
+
+  pub looks_done : (v : Seated) (seen : Seen) → ReadAnswered r op u v seen → ReadAnswered r op s v seen
+  looks_done v seen d = elim on.turns [ inl none ↦ subst (λ x. ReadAnswered r op x v seen) none.1 d | inr some ↦ read_done_then r op n s u some v seen d ]
+
+  pub looks_halted : (v : Seated) → ReadHalted r op u v → ReadHalted r op s v
+  looks_halted v h = elim on.turns [ inl none ↦ subst (λ x. ReadHalted r op x v) none.1 h | inr some ↦ read_halted_then r op n s u some v h ]

@@ -1,12 +1,12 @@
 -- What submits and drives come to one after another.
-use Rattle.std.proofs.Common.{◌≡◌, ◌+◌, inl, inr, ℕ, List, [], ◌∷◌, ◌++◌, length, refl, ap, sym, ◌∙◌}
+use Rattle.std.proofs.Common.{◌≡◌, ◌+◌, inl, inr, ℕ, List, [], ◌∷◌, ◌++◌, length, refl, ap, sym, subst, ◌∙◌}
 use Rattle.std.proofs.lemmas.Option.{same_Some}
 use Rattle.std.specs.List.{slice_get}
 use Rattle.cx_core.specs.declared.local.Answer.{Answer}
 use Rattle.cx_core.specs.declared.local.Linked.{Linked as OwnEntry}
 use Rattle.cx_core.specs.Region.{slot_number}
 use Rattle.cx_rule.specs.Running.{Running}
-use Rattle.cx_rule.specs.Seats.{Seated}
+use Rattle.cx_rule.specs.Seats.{IsAtLimit, Seated}
 use Rattle.cx_core.specs.declared.local.FullNote.{FullNote}
 use Rattle.cx_service.specs.Drives.{DriveDone, DriveHalted}
 use Rattle.cx_service.specs.Submits.{IsLeastTicket, SubmitAgain, SubmitFull, SubmitHalted, SubmitLinked, SubmitWorn, entry_at}
@@ -19,7 +19,11 @@ use Rattle.cx_turns.specs.Answering.{with_answer}
 pub keeps_all : (s : Seated) → KeepsLists s s
 keeps_all s = record { number = refl; limit = refl; own = refl; answered = refl; reads = refl }
 
-module _ {O : Type 0} (r : Running O) (op : List ℕ) (s u : Seated) (same : KeepsLists s u) where
+module _ {O : Type 0} (r : Running O) (op : List ℕ) (s u : Seated) (same : KeepsLists s u) (stood : IsAtLimit s.known.local → u ≡ s) where
+  -- what is allowed after the tries so far was so before them
+  allowed_first : ¬ IsAtLimit u.known.local → ¬ IsAtLimit s.known.local
+  allowed_first free at = free (subst (λ (x : Seated). IsAtLimit x.known.local) (sym (stood at)) at)
+
   -- the caller's next entry is the same
   same_entry : (ticket : ℕ) → entry_at r u.known.local op ticket ≡ entry_at r s.known.local op ticket
   same_entry ticket =
@@ -35,6 +39,9 @@ module _ {O : Type 0} (r : Running O) (op : List ℕ) (s u : Seated) (same : Kee
     reads = a.keeps.reads ∙ same.reads;
   }
 
+  pub again_stood : (tries most : ℕ) (v : Seated) → SubmitAgain r tries most u v → IsAtLimit s.known.local → v ≡ s
+  again_stood tries most v a at = absurd (allowed_first a.allowed at)
+
   least_kept : (ticket : ℕ) → IsLeastTicket u.known.local ticket → IsLeastTicket s.known.local ticket
   least_kept ticket l = record {
     index = l.index;
@@ -47,6 +54,7 @@ module _ {O : Type 0} (r : Running O) (op : List ℕ) (s u : Seated) (same : Kee
   pub update_full : (most : ℕ) (v : Seated) (note : FullNote) → SubmitFull r most u v note → UpdateFull r s v note
   update_full most v note f = record {
     caller = f.caller;
+    allowed = allowed_first f.allowed;
     keeps = record { number = f.keeps.number ∙ same.number; limit = f.keeps.limit ∙ same.limit; own = f.own ∙ same.own; answered = f.keeps.answered ∙ same.answered; reads = f.keeps.reads ∙ same.reads };
     full = ap (λ (xs : List OwnEntry). length xs) (sym same.own) ∙ f.full;
     names = record { holder = f.names.holder ∙ same.number; need = f.names.need; ticket = least_kept note.ticket f.names.ticket };
@@ -55,6 +63,7 @@ module _ {O : Type 0} (r : Running O) (op : List ℕ) (s u : Seated) (same : Kee
   pub update_worn : (most : ℕ) (v : Seated) → SubmitWorn r most u v → UpdateWorn r s v
   update_worn most v w = record {
     caller = w.caller;
+    allowed = allowed_first w.allowed;
     keeps = record { number = w.keeps.number ∙ same.number; limit = w.keeps.limit ∙ same.limit; own = w.own ∙ same.own; answered = w.keeps.answered ∙ same.answered; reads = w.keeps.reads ∙ same.reads };
     front = w.front;
   }
@@ -84,6 +93,7 @@ module _ {O : Type 0} (r : Running O) (op : List ℕ) (s u : Seated) (same : Kee
     pub update_done : (answer : Answer) → DriveDone r l v answer → UpdateDone r op s v answer
     update_done answer d = record {
       caller = d.caller;
+      allowed = allowed_first linked.allowed;
       links = links answer.ticket (same_Some answer.ticket linked.ticket (sym d.ticket ∙ linked.lends)) d.keeps.number d.keeps.limit d.keeps.own d.keeps.reads;
       answered = d.answered ∙ ap (with_answer answer.ticket answer.reply) before_answered;
     }

@@ -3,7 +3,7 @@ use Rattle.std.specs.Prelude.{◌≡◌, ◌+◌, ◌≤◌, ◌⊎◌, ℕ, Lis
 use Rattle.cx_core.specs.declared.local.Answer.{Answer}
 use Rattle.cx_core.specs.Layout.{max_word}
 use Rattle.cx_rule.specs.Running.{Running}
-use Rattle.cx_rule.specs.Seats.{Seated, unanswered_ticket}
+use Rattle.cx_rule.specs.Seats.{IsAtLimit, Seated, unanswered_ticket}
 use Rattle.cx_service.specs.declared.drive.Driven.{Driven}
 use Rattle.cx_service.specs.declared.drive.Driven.TheVariants.{Done, Pending, Halted}
 use Rattle.cx_service.specs.Callers.{IsCallerOf, IsLinkedOf, IsStoppedOf}
@@ -20,18 +20,22 @@ pub record DriveKeeps (before after : Seated) : Type 0 where
   pub own : after.known.local.own ≡ before.known.local.own
   pub reads : after.known.local.seen_reads ≡ before.known.local.seen_reads
 
--- The entry is answered, and nothing else: the caller has one answer more, at the entry's ticket.
+-- The entry is answered, and nothing else: the caller has one answer more, at the entry's ticket. The limit allowed a step.
 pub record DriveDone {O : Type 0} (r : Running O) (before after : Seated) (answer : Answer) : Type 0 where
   pub caller : IsCallerOf r after
   pub keeps : DriveKeeps before after
+  pub allowed : ¬ IsAtLimit before.known.local
+  pub met : before.known.local.met ≤ after.known.local.met
   pub ticket : unanswered_ticket before.known.local ≡ Some answer.ticket
   pub answered : after.known.local.answered ≡ with_answer answer.ticket answer.reply before.known.local.answered
 
--- In each of so many turns a refusal was met. The entry stands, unanswered.
+-- In each of so many turns a refusal was met. The entry stands, unanswered. The limit allowed a step.
 pub record DrivePending {O : Type 0} (r : Running O) (tries : ℕ) (before after : Seated) : Type 0 where
   pub caller : IsLinkedOf r after
   pub keeps : DriveKeeps before after
+  pub allowed : ¬ IsAtLimit before.known.local
   pub answered : after.known.local.answered ≡ before.known.local.answered
+  pub rises : before.known.local.met ≤ after.known.local.met
   pub met : MeetsMore tries before after
 
 -- A further step was to be made and the steps equal the limit. The entry stands, unanswered, or it was answered before.

@@ -3,7 +3,7 @@ use Rattle.std.specs.Prelude.{◌≡◌, ◌<◌, ◌≤◌, ◌⊎◌, ℕ, Lis
 use Rattle.cx_core.specs.declared.local.Answer.{Answer}
 use Rattle.cx_core.specs.declared.local.SeenRead.{SeenRead}
 use Rattle.cx_rule.specs.Running.{Running}
-use Rattle.cx_rule.specs.Seats.{Seated}
+use Rattle.cx_rule.specs.Seats.{IsAtLimit, Seated}
 use Rattle.cx_service.specs.declared.lookup.ReadTried.{ReadTried}
 use Rattle.cx_service.specs.declared.lookup.ReadTried.TheVariants.{Read, Pending, Halted}
 use Rattle.cx_service.specs.Callers.{IsCallerOf, IsStoppedOf}
@@ -19,18 +19,22 @@ pub record ReadKeeps (before after : Seated) : Type 0 where
   pub answered : after.known.local.answered ≡ before.known.local.answered
 
 -- The read is answered, and nothing else: the caller has one read more, of this operation. Its place is above each ticket and not below
--- any place that the caller was answered before.
+-- any place that the caller was answered before. The limit allowed a step.
 pub record ReadAnswered {O : Type 0} (r : Running O) (op : List ℕ) (before after : Seated) (seen : Seen) : Type 0 where
   pub caller : IsCallerOf r after
   pub keeps : ReadKeeps before after
+  pub allowed : ¬ IsAtLimit before.known.local
+  pub met : before.known.local.met ≤ after.known.local.met
   pub reads : after.known.local.seen_reads ≡ with_read seen.place op seen.reply (length before.known.local.answered) before.known.local.seen_reads
   pub above : (i : ℕ) (x : Answer) → slice_get before.known.local.answered i ≡ Some x → x.ticket < seen.place
   pub from : (i : ℕ) (x : SeenRead) → slice_get before.known.local.seen_reads i ≡ Some x → x.place ≤ seen.place
 
--- In each of so many turns a refusal was met.
+-- In each of so many turns a refusal was met. The limit allowed a step.
 pub record ReadPending {O : Type 0} (r : Running O) (tries : ℕ) (before after : Seated) : Type 0 where
   pub caller : IsCallerOf r after
   pub keeps : ReadKeeps before after
+  pub allowed : ¬ IsAtLimit before.known.local
+  pub rises : before.known.local.met ≤ after.known.local.met
   pub reads : after.known.local.seen_reads ≡ before.known.local.seen_reads
   pub met : MeetsMore tries before after
 

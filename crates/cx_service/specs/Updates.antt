@@ -2,7 +2,7 @@
 use Rattle.std.specs.Prelude.{◌≡◌, ◌^◌, ◌⊎◌, ℕ, List, [], ◌∷◌, ◌++◌, length}
 use Rattle.cx_core.specs.declared.local.Answer.{Answer}
 use Rattle.cx_rule.specs.Running.{Running}
-use Rattle.cx_rule.specs.Seats.{Seated}
+use Rattle.cx_rule.specs.Seats.{IsAtLimit, Seated}
 use Rattle.cx_core.specs.declared.local.FullNote.{FullNote}
 use Rattle.cx_service.specs.declared.update.ReadDone.{ReadDone}
 use Rattle.cx_service.specs.declared.update.ReadDone.TheVariants.{Read, Queued, Full as FullRead, Worn as WornRead, Halted as HaltedRead}
@@ -32,12 +32,14 @@ pub record LinksEntry {O : Type 0} (r : Running O) (op : List ℕ) (ticket : ℕ
 -- The entry is linked and answered, and nothing else: the caller has one entry more and one answer more, at the answer's ticket.
 pub record UpdateDone {O : Type 0} (r : Running O) (op : List ℕ) (before after : Seated) (answer : Answer) : Type 0 where
   pub caller : IsCallerOf r after
+  pub allowed : ¬ IsAtLimit before.known.local
   pub links : LinksEntry r op answer.ticket before after
   pub answered : after.known.local.answered ≡ with_answer answer.ticket answer.reply before.known.local.answered
 
 -- The caller linked 16 entries in this service.
 pub record UpdateFull {O : Type 0} (r : Running O) (before after : Seated) (note : FullNote) : Type 0 where
   pub caller : IsCallerOf r after
+  pub allowed : ¬ IsAtLimit before.known.local
   pub keeps : KeepsLists before after
   pub full : length before.known.local.own ≡ 16
   pub names : IsOwnNote r before note
@@ -45,6 +47,7 @@ pub record UpdateFull {O : Type 0} (r : Running O) (before after : Seated) (note
 -- There is no further ticket.
 pub record UpdateWorn {O : Type 0} (r : Running O) (before after : Seated) : Type 0 where
   pub caller : IsCallerOf r after
+  pub allowed : ¬ IsAtLimit before.known.local
   pub keeps : KeepsLists before after
   pub front : after.known.local.front ≡ 2 ^ 40
 

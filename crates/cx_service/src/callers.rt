@@ -1,4 +1,5 @@
-//! The callers of a service. Contracts see of each its seat: what it knows, linked and was answered.
+//! The callers of a service. Contracts see of each its seat: what it knows, linked and was answered. A seat lies in memory of its
+//! own, so that callers are handed on by a word.
 
 ghost use Rattle.std.specs.Prelude.{◌≡◌, ◌+◌, ◌^◌, ◌≤◌, Some, length};
 ghost use Rattle.cx_rule.specs.Seats.{unanswered_ticket};
@@ -9,7 +10,7 @@ use std::marker::Model;
 /// A caller with no call under way.
 #[derive(Drop)]
 pub struct Caller {
-    pub(crate) seat: CallerSeat,
+    pub(crate) seat: Box<CallerSeat>,
 }
 
 impl Model for Caller {
@@ -17,13 +18,13 @@ impl Model for Caller {
 
     ghost Value = { Seated };
 
-    ghost view = { λ c. c.seat };
+    ghost view = { λ c. c.seat.value };
 }
 
 /// A caller whose entry is linked and not answered.
 #[derive(Drop)]
 pub struct Linked {
-    pub(crate) seat: CallerSeat,
+    pub(crate) seat: Box<CallerSeat>,
 }
 
 impl Model for Linked {
@@ -33,15 +34,15 @@ impl Model for Linked {
 
     ghost use Rattle.std.specs.Prelude.{◌≡◌, ◌+◌, length};
 
-    ghost view = { λ c. c.seat };
+    ghost view = { λ c. c.seat.value };
 
-    ghost invariant = { λ c. length c.seat.known.local.own ≡ length c.seat.known.local.answered + 1 };
+    ghost invariant = { λ c. length c.seat.value.known.local.own ≡ length c.seat.value.known.local.answered + 1 };
 }
 
 /// A caller whose step limit was reached. It makes no further step.
 #[derive(Drop)]
 pub struct Stopped {
-    pub(crate) seat: CallerSeat,
+    pub(crate) seat: Box<CallerSeat>,
 }
 
 impl Model for Stopped {
@@ -49,9 +50,9 @@ impl Model for Stopped {
 
     ghost Value = { Seated };
 
-    ghost view = { λ c. c.seat };
+    ghost view = { λ c. c.seat.value };
 
-    ghost invariant = { λ c. IsAtLimit c.seat.known.local };
+    ghost invariant = { λ c. IsAtLimit c.seat.value.known.local };
 }
 
 impl Caller {

@@ -68,8 +68,8 @@ fn as_seat(handed: Handed) -> CallerSeat
     ensures { result ≡ seat_of handed }
 {
     match handed {
-        Handed::Idle(Caller { seat }) => seat,
-        Handed::Linked(Linked { seat }) => seat,
-        Handed::Stopped(Stopped { seat }) => seat,
+        Handed::Idle(Caller { seat }) => Box::into_inner(seat),
+        Handed::Linked(Linked { seat }) => Box::into_inner(seat),
+        Handed::Stopped(Stopped { seat }) => Box::into_inner(seat),
     }
 }

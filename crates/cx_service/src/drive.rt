@@ -24,7 +24,8 @@ pub enum Driven {
 impl<O: Object> Service<O> {
     /// Drives a caller's linked entry to its answer, in at most so many turns. `Done` is answered by a raise of the durable root
     /// alone: the reply is the object's after the entries before the ticket, and a loss of power keeps the entry. `Pending` comes
-    /// only where the count of refusals rose in each turn. `Halted` comes only where the steps equal the limit.
+    /// only where the count of refusals rose in each turn. `Halted` comes exactly where a further step is to be made and the
+    /// steps equal the limit.
     pub fn drive(&self, linked: Linked, tries: u64) -> Driven
         requires linked { IsLinkedOf self.now linked }
         requires tries { 1 ≤ tries }
@@ -48,7 +49,10 @@ impl<O: Object> Service<O> {
     {
         let ticket = linked.ticket();
         let Linked { mut seat } = linked;
-        match update_turn(&self.shared, &mut seat, ticket) {
+        let at = &mut *seat;
+        // refusals are counted in a word
+        let _met = at.met();
+        match update_turn(&self.shared, at, ticket) {
             Ok(Some(reply)) => Driven::Done(Caller { seat }, Answer { ticket, reply }),
             Ok(None) => Driven::Pending(Linked { seat }),
             Err(Halt) => Driven::Halted(Stopped { seat }),

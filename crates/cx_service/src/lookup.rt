@@ -23,8 +23,8 @@ pub enum ReadTried {
 impl<O: Object> Service<O> {
     /// Answers an operation that only reads on the current replica, in at most so many turns, and does not enter the queue. `Read` is
     /// answered by a raise of the durable root alone: the reply is the object's after the entries below the place, all of which a loss
-    /// of power keeps. `Pending` comes only where the count of refusals rose in each turn. `Halted` comes only where the steps equal
-    /// the limit.
+    /// of power keeps. `Pending` comes only where the count of refusals rose in each turn. `Halted` comes exactly where a
+    /// further step is to be made and the steps equal the limit.
     pub fn try_read(&self, caller: Caller, op: &[u64; 144], tries: u64) -> ReadTried
         requires caller { IsCallerOf self.now caller }
         requires reads { IsTrue (O.only_reads self.now.object op.now) }
@@ -49,7 +49,10 @@ impl<O: Object> Service<O> {
         ensures { Looks self.now op.now 1 caller result }
     {
         let Caller { mut seat } = caller;
-        match read_turn(&self.shared, &mut seat, op) {
+        let at = &mut *seat;
+        // refusals are counted in a word
+        let _met = at.met();
+        match read_turn(&self.shared, at, op) {
             Ok(Some(seen)) => ReadTried::Read(Caller { seat }, seen),
             Ok(None) => ReadTried::Pending(Caller { seat }),
             Err(Halt) => ReadTried::Halted(Stopped { seat }),

@@ -1,6 +1,7 @@
 //! A service of an object.
 
 ghost use Rattle.std.specs.Prelude.{◌≡◌};
+ghost use Rattle.cx_rule.specs.Running.{IsRunning};
 
 use cx_base::Object;
 use cx_table::Shared;
@@ -22,6 +23,14 @@ impl<O: Object> Model for Service<O> {
 }
 
 impl<O: Object> Service<O> {
+    /// The lines of the object. A running service is within its limits.
+    pub fn lines(&self) -> u64
+        ensures value { result ≡ self.now.lines }
+        ensures running { IsRunning O.line_count O.lawful self.now }
+    {
+        self.shared.lines()
+    }
+
     /// The object.
     pub fn object(&self) -> &O
         ensures { result.now ≡ self.now.object }

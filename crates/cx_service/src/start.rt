@@ -1,6 +1,6 @@
 //! Starting a service.
 
-ghost use Rattle.std.specs.Prelude.{◌≡◌, ◌≤◌, [], MatchResult, length, vec_capacity, vec_len};
+ghost use Rattle.std.specs.Prelude.{◌≡◌, ◌≤◌, [], IfOk, MatchResult, length, vec_capacity, vec_len};
 ghost use Rattle.cx_core.specs.Base.{LawfulBase};
 ghost use Rattle.cx_service.specs.Starts.{AreFewCallers, AreFewLines, IsStartFault, Starts};
 
@@ -9,7 +9,7 @@ use crate::service::Service;
 use cx_base::Object;
 use cx_core::Base;
 use cx_table::{CallerSeat, Shared};
-use std::alloc::Global;
+use std::alloc::{AllocError, Global};
 
 /// Why a service was not started.
 #[derive(Clone, Copy, Debug, PartialEq, Eq, Drop)]
@@ -50,18 +50,26 @@ impl<O: Object> Service<O> {
         let Ok((shared, seats)) = Shared::make(alloc, object, callers, limits, base) else {
             return Err(StartFault::Memory);
         };
-        Ok((Service { shared }, as_callers(seats, room)))
+        let Ok(callers) = as_callers(alloc, seats, room) else {
+            return Err(StartFault::Memory);
+        };
+        Ok((Service { shared }, callers))
     }
 }
 
-/// The callers of seats.
-fn as_callers(seats: Vec<CallerSeat>, mut callers: Vec<Caller>) -> Vec<Caller>
+/// The callers of seats, each of which gets memory of its own.
+fn as_callers(
+    alloc: Global,
+    seats: Vec<CallerSeat>,
+    mut callers: Vec<Caller>,
+) -> Result<Vec<Caller>, AllocError>
     requires none { callers.items ≡ [] }
     requires room { vec_len seats ≤ vec_capacity callers }
-    ensures { result.items ≡ seats.items }
+    ensures { IfOk result (λ made. made.items ≡ seats.items) }
 {
     for seat in seats {
+        let seat = Box::new(alloc, seat)?;
         callers.push_reserved(Caller { seat });
     }
-    callers
+    Ok(callers)
 }

@@ -39,11 +39,12 @@ impl<O: Object> Service<O> {
         ensures { Submits self.now op.now tries caller result }
     {
         let Caller { mut seat } = caller;
-        let Ok(idle) = find_idle(&self.shared, &mut seat) else {
+        let at = &mut *seat;
+        let Ok(idle) = find_idle(&self.shared, at) else {
             return Submitted::Halted(Stopped { seat });
         };
         let Some(cell) = idle else {
-            let note = full_note(&self.shared, &seat);
+            let note = full_note(&self.shared, at);
             return Submitted::Full(Caller { seat }, note);
         };
         self.enter(seat, cell, op, tries)
@@ -51,13 +52,14 @@ impl<O: Object> Service<O> {
 
     /// Enters an operation in the cell of the caller's next entry. CUR is loaded first, so that the front is at least the
     /// current place.
-    fn enter(&self, mut seat: CallerSeat, cell: u32, op: &[u64; 144], tries: u64) -> Submitted
-        requires caller { IsCallerOf self.now seat }
-        requires cell { (cell ≡ length seat.known.local.own) × (cell < 16) }
+    fn enter(&self, mut seat: Box<CallerSeat>, cell: u32, op: &[u64; 144], tries: u64) -> Submitted
+        requires caller { IsCallerOf self.now seat.value }
+        requires cell { (cell ≡ length seat.value.known.local.own) × (cell < 16) }
         requires tries { 1 ≤ tries }
-        ensures { SubmitsIn (146 + 2 * tries) self.now op.now tries seat result }
+        ensures { SubmitsIn (146 + 2 * tries) self.now op.now tries seat.value result }
     {
-        if self.shared.load_cur(&mut seat).is_err() {
+        let at = &mut *seat;
+        if self.shared.load_cur(at).is_err() {
             return Submitted::Halted(Stopped { seat });
         }
         self.announce_and_link(seat, cell, op, tries)
@@ -66,21 +68,22 @@ impl<O: Object> Service<O> {
     /// Announces an operation in the cell of the caller's next entry, and tries to link it.
     fn announce_and_link(
         &self,
-        mut seat: CallerSeat,
+        mut seat: Box<CallerSeat>,
         cell: u32,
         op: &[u64; 144],
         tries: u64,
     ) -> Submitted
-        requires seat { IsSeatOf self.now seat }
-        requires caller { IsCallerOf self.now (stale seat) }
-        requires cell { (cell ≡ length seat.known.local.own) × (cell < 16) }
+        requires seat { IsSeatOf self.now seat.value }
+        requires caller { IsCallerOf self.now (stale seat.value) }
+        requires cell { (cell ≡ length seat.value.known.local.own) × (cell < 16) }
         requires tries { 1 ≤ tries }
-        ensures { SubmitsIn (145 + 2 * tries) self.now op.now tries (stale seat) result }
+        ensures { SubmitsIn (145 + 2 * tries) self.now op.now tries (stale seat.value) result }
     {
-        if announce(&self.shared, &mut seat, cell, op).is_err() {
+        let at = &mut *seat;
+        if announce(&self.shared, at, cell, op).is_err() {
             return Submitted::Halted(Stopped { seat });
         }
-        match link(&self.shared, &mut seat, cell, tries) {
+        match link(&self.shared, at, cell, tries) {
             Ok(LinkTried::Linked { ticket: _ }) => Submitted::Linked(Linked { seat }),
             Ok(LinkTried::Again) => Submitted::Again(Caller { seat }),
             Ok(LinkTried::Worn) => Submitted::Worn(Caller { seat }),

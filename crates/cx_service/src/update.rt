@@ -50,7 +50,7 @@ pub enum ReadDone {
 
 impl<O: Object> Service<O> {
     /// Enters an operation into the queue and drives it to its answer. It tries again as long as others link before it, or hold all
-    /// replicas, and so it may wait for them.
+    /// replicas, and so it may wait for them. `Halted` comes exactly where a further step is to be made and the steps equal the limit.
     pub fn update<R: Wait>(&self, rt: &R, caller: Caller, op: &[u64; 144]) -> Updated
         requires { IsCallerOf self.now caller }
         ensures { Updates self.now op.now caller result }
@@ -85,7 +85,8 @@ impl<O: Object> Service<O> {
     }
 
     /// Answers an operation that only reads: beside the queue where the current replica can be read in 8 turns, and else as an entry
-    /// of the queue, which it may wait for as an update does. So no read is kept out for good by those who publish.
+    /// of the queue, which it may wait for as an update does. So no read is kept out for good by those who publish. `Halted` comes
+    /// exactly where a further step is to be made and the steps equal the limit.
     pub fn read<R: Wait>(&self, rt: &R, caller: Caller, op: &[u64; 144]) -> ReadDone
         requires caller { IsCallerOf self.now caller }
         requires reads { IsTrue (O.only_reads self.now.object op.now) }

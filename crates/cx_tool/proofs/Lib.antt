@@ -1,7 +1,4 @@
 pub mod Answering
-pub mod Commands
-pub mod OneLife
-pub mod OneMore
-pub mod Runs
-pub mod StoreMemory
+pub mod Naming
 pub mod Transfer
+pub mod WordsJudged

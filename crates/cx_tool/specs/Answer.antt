@@ -2,15 +2,18 @@
 use Rattle.std.specs.Prelude.{◌≡◌, ◌⊎◌, ◌<◌, ◌≤◌, ℕ, List, [], ◌∷◌, ◌++◌, length, codes, Option, IfSome}
 use Rattle.std.specs.Fmt.{decimal}
 use Rattle.cx_base.specs.Outside.{Rose}
-use Rattle.doc_text.specs.declared.script_parts.Script.{Script}
-use Rattle.doc_text.specs.declared.lives.LifeRecord.{LifeRecord}
+use Rattle.cx_rule.specs.Ending.{Ending}
+use Rattle.cx_lives.specs.Lives.{AreTold}
+use Rattle.life_records.specs.declared.script.Script.{Script}
+use Rattle.life_records.specs.declared.record.LifeRecord.{LifeRecord}
 use Rattle.doc_text.specs.Grammar.{IsScript, IsFirstFault}
 use Rattle.doc_text.specs.Refusal.{IsReasonAt}
 use Rattle.doc_text.specs.Reasons.{reason_text}
 use Rattle.doc_text.specs.declared.script_parts.Reason.{Reason}
-use Rattle.doc_text.specs.Lives.{AreLegalLives}
+use Rattle.life_records.specs.Lives.{AreLegalLives}
 use Rattle.doc_text.specs.Report.{report_of}
 use Rattle.cx_tool.specs.Output.{Appends, AppendsFront}
+use Rattle.cx_tool.specs.declared.status.Ended.{Ended}
 use Rattle.cx_tool.specs.declared.status.Status.{Status}
 use Rattle.cx_tool.specs.declared.status.Status.TheVariants.{Fine, Usage, Refused, ReadFault, WriteFault, Memory, BadImage, TooLong}
 
@@ -31,13 +34,14 @@ refused_text line reason = codes "refused line " ++ decimal line ++ codes ": " +
 abbrev pub too_long_text : List ℕ
 too_long_text = codes "refused: input over 16777216 bytes\n"
 
--- The text is a report of legal lives of the script that the input is.
-pub record IsReport (input text : List ℕ) : Type 0 where
+-- The text is a report of legal lives of the script that the input is. Each is told by the trail of the service that ran it.
+pub record IsReport (input : List ℕ) (trails : List Ending) (text : List ℕ) : Type 0 where
   pub short : length input ≤ 16777216
   pub script : Script
   pub read : IsScript input script
   pub records : List LifeRecord
   pub lives : AreLegalLives script records
+  pub told : AreTold script.lines script.lives records trails
   pub report : text ≡ report_of script records
 
 -- The text names the first line of the input with which its lines are no script, and the first reason that fits.
@@ -50,33 +54,35 @@ pub record IsRefusal (input text : List ℕ) : Type 0 where
   pub none : (script : Script) → IsScript input script → ⊥
   pub refusal : text ≡ refused_text line reason
 
--- The status and the whole text that words and input call for, where the source told the input.
-abbrev pub Owed : List (List ℕ) → Option (List ℕ) → Status → List ℕ → Type 0
-Owed words told Fine text = IsRun words × IfSome told (λ input. IsReport input text)
-Owed words told Usage text = (IsRun words → ⊥) × (text ≡ usage_text)
-Owed words told Refused text = IsRun words × IfSome told (λ input. IsRefusal input text)
-Owed words told TooLong text = IsRun words × IfSome told (λ input. 16777216 < length input) × (text ≡ too_long_text)
-Owed words told ReadFault text = ⊥
-Owed words told WriteFault text = ⊥
-Owed words told Memory text = ⊥
-Owed words told BadImage text = ⊥
+-- The status and the whole text that words and input call for, where the source told the input, with the trails of the lives that
+-- were run.
+abbrev pub Owed : List (List ℕ) → Option (List ℕ) → Status → List Ending → List ℕ → Type 0
+Owed words told Fine trails text = IsRun words × IfSome told (λ input. IsReport input trails text)
+Owed words told Usage trails text = (IsRun words → ⊥) × (text ≡ usage_text)
+Owed words told Refused trails text = IsRun words × IfSome told (λ input. IsRefusal input text)
+Owed words told TooLong trails text = IsRun words × IfSome told (λ input. 16777216 < length input) × (text ≡ too_long_text)
+Owed words told ReadFault trails text = ⊥
+Owed words told WriteFault trails text = ⊥
+Owed words told Memory trails text = ⊥
+Owed words told BadImage trails text = ⊥
 
 -- A text that words and input call for with some status.
 pub record IsOwed (words : List (List ℕ)) (told : Option (List ℕ)) (text : List ℕ) : Type 0 where
   pub status : Status
-  pub owed : Owed words told status text
+  pub trails : List Ending
+  pub owed : Owed words told status trails text
 
 -- What was written with a status: the whole text that it calls for; a front of some such text where the sink failed;
 -- and nothing where the source failed or memory was wanting.
-abbrev pub Answers : List (List ℕ) → Option (List ℕ) → Status → Option (List ℕ) → Option (List ℕ) → Type 0
-Answers words told Fine before after = (text : List ℕ) × Owed words told Fine text × Appends text before after
-Answers words told Usage before after = (text : List ℕ) × Owed words told Usage text × Appends text before after
-Answers words told Refused before after = (text : List ℕ) × Owed words told Refused text × Appends text before after
-Answers words told TooLong before after = (text : List ℕ) × Owed words told TooLong text × Appends text before after
-Answers words told WriteFault before after = (text : List ℕ) × IsOwed words told text × AppendsFront text before after
-Answers words told ReadFault before after = IsRun words × (after ≡ before)
-Answers words told Memory before after = IsRun words × (after ≡ before)
-Answers words told BadImage before after = ⊥
+abbrev pub Answers : List (List ℕ) → Option (List ℕ) → Status → List Ending → Option (List ℕ) → Option (List ℕ) → Type 0
+Answers words told Fine trails before after = (text : List ℕ) × Owed words told Fine trails text × Appends text before after
+Answers words told Usage trails before after = (text : List ℕ) × Owed words told Usage trails text × Appends text before after
+Answers words told Refused trails before after = (text : List ℕ) × Owed words told Refused trails text × Appends text before after
+Answers words told TooLong trails before after = (text : List ℕ) × Owed words told TooLong trails text × Appends text before after
+Answers words told WriteFault trails before after = (text : List ℕ) × IsOwed words told text × AppendsFront text before after
+Answers words told ReadFault trails before after = IsRun words × (after ≡ before)
+Answers words told Memory trails before after = after ≡ before
+Answers words told BadImage trails before after = ⊥
 
 -- a status that may come in place of another: of a fault, or for want of memory
 abbrev pub GivesUp : Status → Type 0
@@ -110,8 +116,12 @@ HasCause Memory reads reads' writes writes' = Unit {0}
 HasCause BadImage reads reads' writes writes' = Unit {0}
 HasCause TooLong reads reads' writes writes' = Unit {0}
 
--- a whole text was written and has its status, or the sink failed behind a front of it
-abbrev pub Wrote : List ℕ → Status → Status → Option (List ℕ) → Option (List ℕ) → ℕ → ℕ → Type 0
-Wrote text status result before after faults faults' =
-    ((result ≡ status) × Appends text before after)
-    ⊎ ((result ≡ WriteFault) × AppendsFront text before after × Rose faults faults')
+-- the status calls for no trail
+abbrev pub HasNone : Ended → Type 0
+HasNone ended = (ended.status ≡ Fine → ⊥) → ended.trails ≡ []
+
+-- a whole text was written, and the run ended as it calls for; or the sink failed behind a front of it
+abbrev pub Wrote : List ℕ → Ended → Ended → Option (List ℕ) → Option (List ℕ) → ℕ → ℕ → Type 0
+Wrote text owed result before after faults faults' =
+    ((result ≡ owed) × Appends text before after)
+    ⊎ ((result.status ≡ WriteFault) × (result.trails ≡ []) × AppendsFront text before after × Rose faults faults')

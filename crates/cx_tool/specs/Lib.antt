@@ -1,7 +1,5 @@
 pub mod Answer
+pub mod CommandLine
 pub mod Input
-pub mod OneClient
 pub mod Output
 pub mod Status
-pub mod StoreInLines
-pub mod StoreMemory

@@ -2,10 +2,9 @@
 #![tactic(auto)]
 
 mod arguments;
+mod command_line;
 mod counted_source;
 mod input;
-mod lives;
-mod memory_store;
 mod output;
 mod standard;
 mod status;

@@ -1,7 +1,11 @@
 //! How a run ended.
 
-ghost use Rattle.std.specs.Prelude.{◌≡◌};
+ghost use Rattle.std.specs.Prelude.{◌≡◌, []};
 ghost use Rattle.cx_tool.specs.Status.{code_of};
+
+use cx_base::Items;
+use cx_table::Trail;
+use std::alloc::Global;
 
 /// What a run came to.
 #[derive(Clone, Copy, Debug, PartialEq, Eq)]
@@ -42,8 +46,22 @@ impl Status {
     }
 }
 
-/// What a run leaves behind.
-#[derive(Debug, Drop)]
+/// What a run leaves behind: how it ended, and the trail of each life that was run, in order. Where the status is not `Fine` there is
+/// none.
+#[derive(Drop)]
 pub struct Ended {
     pub status: Status,
+    pub trails: Items<Trail>,
+}
+
+impl Ended {
+    /// A run that ended without lives.
+    pub(crate) fn without_lives(alloc: Global, status: Status) -> Ended
+        ensures { result ≡ record { status = status; trails = [] } }
+    {
+        Ended {
+            status,
+            trails: Items::new(alloc),
+        }
+    }
 }

@@ -17,18 +17,10 @@ use Rattle.cx_rule.specs.Steps.{Steps}
 use Rattle.cx_rule.proofs.Raising.{reply_still, tells_one}
 use Rattle.cx_turns.specs.Answering.{AnswersBy, IsPublishedFor, IsReadyFor, beside_update, with_answer}
 use Rattle.cx_turns.specs.Turns.{IsAtRest, beside_turn}
+use Rattle.publish.proofs.Options.{none_of, some_of}
 use Rattle.publish.specs.Publishing.{PassedBy, beside_publish, place_in}
 use Rattle.replica.specs.Replays.{noted_place}
 use Rattle.strong_trylock.specs.Held.{AllRights, all_rights, no_rights}
-
--- nothing that is shown of nothing
-none_of : {A B : Type 0} (f : A → B) (o : Option A) → option_map f o ≡ None → o ≡ None
-none_of f None e = refl
-none_of f (Some x) e = absurd (none-some (f x) (sym e))
-
-some_of : {A B : Type 0} (f : A → B) (o : Option A) (y : B) → option_map f o ≡ Some y → (x : A) × (o ≡ Some x) × (f x ≡ y)
-some_of f None y e = absurd (none-some y e)
-some_of f (Some x) y e = (x, refl, same_Some (f x) y e)
 
 -- a caller that is at rest beside what it saw of CUR, downgraded and won
 pub rests : (s : Seated) → IsAtRest (beside_publish s).known.local → s.known.local.downgraded ≡ None → s.known.local.won ≡ None → s.known.local.fresh ≡ false → IsAtRest s.known.local

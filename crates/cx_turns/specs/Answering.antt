@@ -11,64 +11,21 @@ use Rattle.cx_rule.specs.Running.{IsSeatOf, Running, instance_at}
 use Rattle.cx_rule.specs.Seats.{IsAtLimit, Seated, unanswered_ticket}
 use Rattle.cx_turns.specs.declared.reading.Queried.{Queried}
 use Rattle.cx_turns.specs.declared.lookup.Seen.{Seen}
-use Rattle.cx_turns.specs.Turns.{IsAtRest}
+use Rattle.cx_turns.specs.Turns.{IsAtRest, beside_turn}
 use Rattle.publish.specs.Publishing.{beside_publish, place_in}
 use Rattle.replica.specs.Held.{IsHeldShared}
 
--- what a turn for an entry leaves as it was: what no step of a turn changes but the answered entries, the greatest code that DUR was
--- raised by, and the floor
-abbrev pub beside_update : Seated → Seated
-beside_update s = record s {
-  known = record s.known {
-    local = record s.known.local {
-      front = 0;
-      answered = [];
-      seen_slot = None;
-      seen_cur = 0;
-      fresh = false;
-      refused = [];
-      seen_lock = None;
-      exclusive = None;
-      shared = None;
-      passer = None;
-      downgraded = None;
-      won = None;
-      raised = 0;
-      floor = 0;
-      steps = 0;
-      met = 0;
-    };
-    noted = [];
-    accesses = [];
-  };
-}
+-- what no turn changes: what no step of one does before its raise, but the greatest code that DUR was raised by, and the floor
+abbrev pub beside_raise : Seated → Seated
+beside_raise s = (let b = beside_turn s in record b { known = record b.known { local = record b.known.local { raised = 0; floor = 0 } } })
 
--- what a turn for a read leaves as it was: the same with the answered reads in place of the answered entries
+-- what a turn for an entry leaves as it was: all of that but the answered entries
+abbrev pub beside_update : Seated → Seated
+beside_update s = (let b = beside_raise s in record b { known = record b.known { local = record b.known.local { answered = [] } } })
+
+-- what a turn for a read leaves as it was: all of it but the answered reads
 abbrev pub beside_lookup : Seated → Seated
-beside_lookup s = record s {
-  known = record s.known {
-    local = record s.known.local {
-      front = 0;
-      seen_reads = [];
-      seen_slot = None;
-      seen_cur = 0;
-      fresh = false;
-      refused = [];
-      seen_lock = None;
-      exclusive = None;
-      shared = None;
-      passer = None;
-      downgraded = None;
-      won = None;
-      raised = 0;
-      floor = 0;
-      steps = 0;
-      met = 0;
-    };
-    noted = [];
-    accesses = [];
-  };
-}
+beside_lookup s = (let b = beside_raise s in record b { known = record b.known { local = record b.known.local { seen_reads = [] } } })
 
 -- answers with one more, to an entry with a ticket
 abbrev pub with_answer : ℕ → List ℕ → List Answer → List Answer
@@ -98,9 +55,10 @@ pub record AnswersBy {O : Type 0} (r : Running O) (step : O → List ℕ → Lis
   pub made : after ≡ record before { known = known_answered (instance_at r step reads) code (record { ticket = ticket; reply = reply } ∷ []) None before.known }
   pub seat : IsSeatOf r after
 
--- The caller's unanswered entry is answered with this reply, and the caller is at rest.
+-- The caller's unanswered entry is answered with this reply, no refusal is met, and the caller is at rest.
 pub record AnswersEntry (ticket : ℕ) (reply : List ℕ) (before after : Seated) : Type 0 where
   pub rest : IsAtRest after.known.local
+  pub met : after.known.local.met ≡ before.known.local.met
   pub answered : after.known.local.answered ≡ with_answer ticket reply before.known.local.answered
 
 -- A refusal was met: nothing is answered, and the caller is at rest.
@@ -125,9 +83,10 @@ abbrev pub with_read : ℕ → List ℕ → List ℕ → ℕ → List SeenRead �
 with_read place op reply answered reads = reads ++ record { place = place; op = op; reply = reply; before = answered } ∷ []
 
 -- A read is answered at a place that is not below the floor, which rises to it, and so above each ticket and not below any place
--- that the caller was answered before. The caller is at rest.
+-- that the caller was answered before. No refusal is met, and the caller is at rest.
 pub record AnswersRead (op : List ℕ) (place : ℕ) (reply : List ℕ) (before after : Seated) : Type 0 where
   pub rest : IsAtRest after.known.local
+  pub met : after.known.local.met ≡ before.known.local.met
   pub reads : after.known.local.seen_reads ≡ with_read place op reply (length before.known.local.answered) before.known.local.seen_reads
   pub floor : before.known.local.floor ≤ place
   pub above : (i : ℕ) (x : Answer) → slice_get before.known.local.answered i ≡ Some x → x.ticket < place

@@ -5,7 +5,7 @@ ghost use Rattle.cx_core.specs.RootEvents.{CanAnswer};
 ghost use Rattle.cx_rule.specs.Raises.{TellsRead};
 ghost use Rattle.cx_base.specs.Codes.{root_place_of};
 ghost use Rattle.cx_rule.specs.Running.{IsSeatOf, instance_at};
-ghost use Rattle.cx_rule.specs.Seats.{unanswered_ticket};
+ghost use Rattle.cx_rule.specs.Seats.{IsAtLimit, unanswered_ticket};
 ghost use Rattle.cx_rule.specs.Steps.{Halts};
 ghost use Rattle.cx_turns.specs.Answering.{AnswersRead, AnswersReadBy, HaltsLookup, IsLookedUp, LooksUp, beside_lookup};
 ghost use Rattle.cx_turns.specs.Turns.{IsAtRest};
@@ -35,6 +35,7 @@ pub fn read_turn<O: Object>(
     requires rest { IsAtRest seat.old.known.local }
     requires answered { unanswered_ticket seat.old.known.local ≡ None }
     requires reads { IsTrue (O.only_reads shared.now.object op.now) }
+    ensures allowed { OnOk result (¬ IsAtLimit seat.old.known.local) }
     ensures turned { IfOk result (LooksUp op.now seat.old seat.new) }
     ensures halted { OnErr result (HaltsLookup op.now seat.old seat.new) }
     ensures rest { beside_lookup seat.new ≡ beside_lookup seat.old }

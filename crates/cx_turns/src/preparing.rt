@@ -1,6 +1,6 @@
 //! A replica is made ready to be published.
 
-ghost use Rattle.std.specs.Prelude.{◌≡◌, ◌<◌, ◌≤◌, [], IfOk, OnErr, Some};
+ghost use Rattle.std.specs.Prelude.{◌≡◌, ◌<◌, ◌≤◌, [], IfOk, OnErr, OnOk, Some};
 ghost use Rattle.cx_rule.specs.Running.{IsSeatOf};
 ghost use Rattle.cx_rule.specs.Seats.{IsAtLimit};
 ghost use Rattle.cx_turns.specs.Preparing.{Prepares, TriesPrepare};
@@ -35,6 +35,7 @@ pub fn prepare<O: Object>(
     requires seat { IsSeatOf shared.now seat.old }
     requires rest { IsAtRest seat.old.known.local }
     requires linked { ticket < seat.old.known.local.front }
+    ensures allowed { OnOk result (¬ IsAtLimit seat.old.known.local) }
     ensures prepared { IfOk result (TriesPrepare shared.now (O.lawful shared.now.object) (O.step shared.now.object) ticket seat.old seat.new) }
     ensures halted { OnErr result (IsAtLimit seat.new.known.local) }
     ensures rest { beside_turn seat.new ≡ beside_turn seat.old }

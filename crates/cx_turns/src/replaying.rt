@@ -63,18 +63,26 @@ pub fn replay_to<O: Object>(
     // tickets are few
     let _front = seat.front();
     let place = seat.noted_place();
+    let mut words = [0; 145];
+    let mut next = Entry {
+        caller: 0,
+        number: 0,
+        op: [0; 144],
+    };
     for at in place..ticket + 1 {
-        replay_next(shared, seat, held, at)?;
+        replay_next(shared, seat, held, at, &mut words, &mut next)?;
     }
     Ok(())
 }
 
-/// Applies the entry of the place of a replica held exclusively.
+/// Applies the entry of the place of a replica held exclusively, which is read into memory of the caller's.
 fn replay_next<O: Object>(
     shared: &Shared<O>,
     seat: &mut CallerSeat,
     held: &Exclusive,
     at: u64,
+    words: &mut [u64; 145],
+    next: &mut Entry,
 ) -> Result<(), Halt>
     requires ready { IsReady (O.line_count shared.now.object) shared.now (O.lawful shared.now.object) (O.step shared.now.object) held.now at seat.old }
     requires linked { at < seat.old.known.local.front }
@@ -84,8 +92,8 @@ fn replay_next<O: Object>(
     ensures work { beside_work seat.new ≡ beside_work seat.old }
     ensures seat { IsSeatOf shared.now seat.new }
 {
-    let next = read_next(shared, seat, at)?;
-    apply(shared, seat, held, &next)
+    read_next(shared, seat, at, words, next)?;
+    apply(shared, seat, held, next)
 }
 
 /// Reads the entry with a ticket, which is linked.
@@ -93,32 +101,30 @@ fn read_next<O: Object>(
     shared: &Shared<O>,
     seat: &mut CallerSeat,
     ticket: u64,
-) -> Result<Entry, Halt>
+    words: &mut [u64; 145],
+    next: &mut Entry,
+) -> Result<(), Halt>
     requires seat { IsSeatOf shared.now seat.old }
     requires linked { ticket < seat.old.known.local.front }
     requires later { shared.now.base.place ≤ ticket }
-    ensures read { IfOk result (λ next. ReadsNext ticket next seat.old seat.new) }
+    ensures read { OnOk result (ReadsNext ticket next.new seat.old seat.new) }
     ensures halted { OnErr result (IsAtLimit seat.new.known.local) }
     ensures work { beside_work seat.new ≡ beside_work seat.old }
     ensures seat { IsSeatOf shared.now seat.new }
 {
-    let mut words = [0; 145];
-    let caller = entry(shared, seat, ticket, &mut words)?;
-    Ok(entry_of(caller, &words))
+    let caller = entry(shared, seat, ticket, words)?;
+    set_entry(next, caller, words);
+    Ok(())
 }
 
-/// The entry of a caller, of these words.
-fn entry_of(caller: u32, words: &[u64; 145]) -> Entry
-    ensures caller { result.caller ≡ caller }
-    ensures words { result.number ∷ result.op ≡ words.now }
+/// Makes an entry that of a caller, of these words.
+fn set_entry(entry: &mut Entry, caller: u32, words: &[u64; 145])
+    ensures caller { entry.new.caller ≡ caller }
+    ensures words { entry.new.number ∷ entry.new.op ≡ words.now }
 {
-    let mut op = [0; 144];
-    op.copy_from_slice(&words[1..]);
-    Entry {
-        caller,
-        number: words[0],
-        op,
-    }
+    entry.caller = caller;
+    entry.number = words[0];
+    entry.op.copy_from_slice(&words[1..]);
 }
 
 /// The reply to the caller's own last entry in a replica held exclusively, which is the image after its place. `Halt` comes

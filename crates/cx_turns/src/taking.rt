@@ -1,6 +1,6 @@
 //! A caller takes a replica exclusively, whichever nobody holds.
 
-ghost use Rattle.std.specs.Prelude.{◌≡◌, ◌+◌, ◌*◌, ◌<◌, ◌≤◌, [], IfOk, OnErr};
+ghost use Rattle.std.specs.Prelude.{◌≡◌, ◌+◌, ◌*◌, ◌<◌, ◌≤◌, [], IfOk, OnErr, OnOk};
 ghost use Rattle.cx_rule.specs.Running.{IsSeatOf};
 ghost use Rattle.cx_rule.specs.Seats.{IsAtLimit};
 ghost use Rattle.cx_turns.specs.Taking.{KeepsSeen, TakesAny, TriesOne, beside_tries};
@@ -13,7 +13,7 @@ use strong_trylock::{ExclusiveTried, try_exclusive};
 
 /// Tries the replicas exclusively, one step each, from the caller's first on, rising with wrap-around, so that callers begin
 /// apart. It gives the first that nobody held, or `None` where each was refused in turn; then a refusal is met. `Halt` comes
-/// only where the seat's steps equal its limit.
+/// only where the seat's steps equal its limit, and comes where they did at first.
 pub fn take_any<O: Object>(
     shared: &Shared<O>,
     seat: &mut CallerSeat,
@@ -21,6 +21,7 @@ pub fn take_any<O: Object>(
     requires seat { IsSeatOf shared.now seat.old }
     requires free { all_rights seat.old ≡ no_rights }
     requires refused { seat.old.known.local.refused ≡ [] }
+    ensures allowed { OnOk result (¬ IsAtLimit seat.old.known.local) }
     ensures taken { IfOk result (λ taken. TakesAny (O.line_count shared.now.object) shared.now (O.lawful shared.now.object) seat.old seat.new taken) }
     ensures halted { OnErr result (IsAtLimit seat.new.known.local) }
     ensures rest { beside_turn seat.new ≡ beside_turn seat.old }
@@ -56,6 +57,7 @@ fn try_one<O: Object>(
     requires seat { IsSeatOf shared.now seat.old }
     requires free { all_rights seat.old ≡ no_rights }
     requires few { r < 2 * shared.now.callers }
+    ensures allowed { OnOk result (¬ IsAtLimit seat.old.known.local) }
     ensures tried { IfOk result (λ tried. TriesOne (O.line_count shared.now.object) shared.now (O.lawful shared.now.object) r seat.old seat.new tried) }
     ensures halted { OnErr result (IsAtLimit seat.new.known.local) }
     ensures rest { beside_tries seat.new ≡ beside_tries seat.old }

@@ -2,7 +2,7 @@
 
 ghost use Rattle.std.specs.Prelude.{◌≡◌, ◌<◌, ◌≤◌, None, Some, IfOk, OnErr, OnOk};
 ghost use Rattle.cx_rule.specs.Running.{IsSeatOf};
-ghost use Rattle.cx_rule.specs.Seats.{unanswered_ticket};
+ghost use Rattle.cx_rule.specs.Seats.{IsAtLimit, unanswered_ticket};
 ghost use Rattle.cx_rule.specs.Steps.{Halts};
 ghost use Rattle.cx_table.specs.Tokens.{IsDowngradedOf, IsWonOf};
 ghost use Rattle.cx_turns.specs.Answering.{AnswersBy, AnswersEntry, HaltsFor, IsPublishedFor, IsReadyFor, TurnsFor, beside_update};
@@ -26,6 +26,7 @@ pub fn update_turn<O: Object>(
     requires rest { IsAtRest seat.old.known.local }
     requires linked { ticket < seat.old.known.local.front }
     requires last { unanswered_ticket seat.old.known.local ≡ Some ticket }
+    ensures allowed { OnOk result (¬ IsAtLimit seat.old.known.local) }
     ensures turned { IfOk result (TurnsFor ticket seat.old seat.new) }
     ensures halted { OnErr result (HaltsFor ticket seat.old seat.new) }
     ensures rest { beside_update seat.new ≡ beside_update seat.old }

@@ -1,6 +1,6 @@
 -- What is added to a script, line by line.
 use Rattle.std.proofs.Common.{◌≡◌, ℕ, zero, suc, ◌+◌, ◌-◌, ◌<◌, List, [], ◌∷◌, ◌++◌, length, take, drop, Option, Some, None, Result, Ok, Err, refl, sym, ap, ◌∙◌, arith, inl, inr, true}
-use Rattle.std.specs.Prelude.{option_and_then, IfOk, IfErr, slice_get}
+use Rattle.std.specs.Prelude.{option_and_then, slice_get}
 use Rattle.std.specs.Result.{result_ok}
 use Rattle.std.proofs.lemmas.Bool.{cases_Bool}
 use Rattle.std.proofs.lemmas.List.{append-nil, take-append-drop}
@@ -9,7 +9,7 @@ use Rattle.doc_text.specs.Reading.{line_of, with_parsed, judged, with_line, with
 use Rattle.doc_text.specs.Refusal.{IsReason, IsReasonAt, IsFault, IsOkOr}
 use Rattle.doc_text.specs.declared.script_parts.Reason.{Reason}
 use Rattle.doc_text.specs.declared.script_parts.Reason.TheVariants as reasons
-use Rattle.doc_text.specs.declared.script_parts.Script.{Script}
+use Rattle.life_records.specs.declared.script.Script.{Script}
 use Rattle.doc_text.specs.declared.script_parts.ScriptLine.{ScriptLine}
 use Rattle.doc_text.specs.declared.script_parts.TextFault.{TextFault}
 use Rattle.doc_text.specs.declared.script_parts.TextFault.TheVariants.{Refused, Memory}
@@ -205,18 +205,6 @@ all_read lines n script left read =
     ap (with_lines no_script) (sym whole) ∙ read
 
 -- ---- what is answered
-
--- the script that was read, where there is memory for it
-pub finished_script : (text : List ℕ) (read : Script) (r : Result Script TextFault) → with_lines no_script (text_lines text) ≡ Some read
-    → IfOk r (λ script. script ≡ read) → IfOk r (λ script. IsScript text script)
-finished_script text read (Ok script) e same = AddsAll-from no_script (text_lines text) script (e ∙ ap Some (sym same))
-finished_script text read (Err error) e same = tt
-
-pub finished_only : (text : List ℕ) (read : Script) (r : Result Script TextFault) → with_lines no_script (text_lines text) ≡ Some read
-    → IfOk r (λ script. script ≡ read) → IfErr r (λ error. error ≡ Memory) → (script : Script) → IsScript text script → IsOkOr script r
-finished_only text read (Ok made) e same memory script is = same ∙ only_script text read script e is
-finished_only text read (Err (Refused line reason)) e same memory script is = absurd cc
-finished_only text read (Err Memory) e same memory script is = tt
 
 -- a text that is refused is no script's
 pub refused_only : (text : List ℕ) (error : TextFault) → IsFault text error → (script : Script) → IsScript text script → IsOkOr script (Err error)

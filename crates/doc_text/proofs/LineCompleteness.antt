@@ -12,10 +12,11 @@ use Rattle.doc_model.specs.declared.operations.Op.TheVariants.{Put, Del, Add, Ge
 use Rattle.doc_model.proofs.WordTexts.{key_passes}
 use Rattle.doc_model.proofs.Numerals.{number_of-decimal, integer_of-signed_decimal}
 use Rattle.doc_text.specs.Document.{IsJsonOf, document_of}
-use Rattle.doc_text.specs.Grammar.{Life, Script, Asks, Says, MayStand, IsAccepted, command_count, has_cut, is_passed_over}
+use Rattle.doc_text.specs.Grammar.{Life, Script, Asks, Says, MayStand, IsAccepted, is_passed_over}
+use Rattle.life_records.specs.Scripts.{command_count, has_cut}
 use Rattle.doc_text.specs.Reading.{verb_of, then_ok, only_key, add_amount, asked_op, header_of, choice_of, life_behind, life_of, client_of, cut_of, line_of}
 use Rattle.doc_text.specs.Words.{is_word}
-use Rattle.doc_text.specs.declared.script_parts.Cut.{Cut}
+use Rattle.life_records.specs.declared.script.Cut.{Cut}
 use Rattle.doc_text.specs.declared.script_parts.ScriptLine.{ScriptLine}
 use Rattle.doc_text.specs.declared.script_parts.ScriptLine.TheVariants as forms
 use Rattle.doc_text.proofs.UnspacedWords.{word_cut, word_alone, key_unspaced, decimal_unspaced, signed_unspaced, decimal_first}

@@ -14,10 +14,11 @@ use Rattle.doc_model.specs.declared.operations.Op.{Op}
 use Rattle.doc_model.specs.declared.operations.Op.TheVariants.{Put, Del, Add, Get, Next, Count}
 use Rattle.doc_model.proofs.Numerals.{decimal-number_of, signed_decimal-integer_of}
 use Rattle.doc_text.specs.Document.{IsJsonOf, kept_as, document_of}
-use Rattle.doc_text.specs.Grammar.{Life, Script, Asks, Says, MayStand, IsAccepted, command_count, last_life, has_cut}
-use Rattle.doc_text.specs.Reading.{verb_of, then_ok, only_key, put_with, add_amount, add_with, op_by_verb, asked_op, within, header_of, choice_of, life_behind, life_of, client_of, cut_of, command_of, said_in, begun, said_below, line_of}
+use Rattle.doc_text.specs.Grammar.{Life, Script, Asks, Says, MayStand, IsAccepted, last_life}
+use Rattle.life_records.specs.Scripts.{command_count, has_cut}
+use Rattle.doc_text.specs.Reading.{verb_of, then_ok, only_key, put_with, add_amount, add_with, op_by_verb, asked_op, within, header_of, choice_of, life_behind, life_of, client_of, cut_of, command_of, said_by, said_in, begun, said_below, line_of}
 use Rattle.doc_text.specs.Words.{first_word, rest_of, is_word}
-use Rattle.doc_text.specs.declared.script_parts.Cut.{Cut}
+use Rattle.life_records.specs.declared.script.Cut.{Cut}
 use Rattle.doc_text.specs.declared.script_parts.Reason.{Reason}
 use Rattle.doc_text.specs.declared.script_parts.Reason.TheVariants as reasons
 use Rattle.serde_json.specs.Data.{Data}
@@ -414,3 +415,11 @@ accepted before line says e =
           let is = below_is before line says (not_zero before.lines some) other in
           record { text = text.0; says_it = is.0; stands = is.1 }
     ]
+
+-- what is read of a line that begins no life, by the life that it stands in
+pub said_in_life : (lives : List Life) (line : List ℕ) (life : Life) (count : ℕ) (word : List ℕ) (rest : Option (List ℕ))
+    → is_word (codes "life") word ≡ false → last_life lives ≡ Some life → count ≡ command_count lives → word ≡ first_word line → rest ≡ rest_of line
+    → said_by count life word rest ≡ said_below lives line
+said_in_life lives line life count word rest other last counted first behind_it =
+    let no_life : is_word (codes "life") (first_word line) ≡ false = ap (is_word (codes "life")) (sym first) ∙ other in
+    rw (counted, first, behind_it, no_life, last) refl

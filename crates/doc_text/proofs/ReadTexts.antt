@@ -1,28 +1,24 @@
 -- The reads of a life are read off their text.
-use Rattle.std.proofs.Common.{◌≡◌, ℕ, ◌-◌, ◌^◌, ◌<◌, List, [], ◌∷◌, ◌++◌, All, flat_map, codes, Some, sym, ap, ◌∙◌, refl, arith, lit≤, append_assoc}
+use Rattle.std.proofs.Common.{◌≡◌, ℕ, ◌-◌, ◌^◌, ◌<◌, List, [], ◌∷◌, ◌++◌, codes, Some, sym, ap, ◌∙◌, refl, lit≤, append_assoc}
 use Rattle.std.specs.Fmt.{decimal}
 use Rattle.std.proofs.lemmas.List.{append_cancel_left}
-use Rattle.std.proofs.lemmas.List.Elements.{All-head, All-tail}
 use Rattle.cx_base.specs.Store.{Store}
 use Rattle.doc_model.specs.Meaning.{reply_to}
 use Rattle.doc_model.specs.declared.operations.Op.{Op}
 use Rattle.doc_model.specs.declared.operations.Reply.{Reply}
 use Rattle.doc_text.specs.Grammar.{Life}
-use Rattle.doc_text.specs.Lives.{named_op, store_at, IsLegalRead}
+use Rattle.life_records.specs.Lives.{store_at, IsLegalRead}
+use Rattle.life_records.specs.Scripts.{named_op}
 use Rattle.doc_text.specs.Report.{read_text, exchange_text, reply_text}
-use Rattle.doc_text.specs.declared.lives.JournalLine.{JournalLine}
-use Rattle.doc_text.specs.declared.lives.ReadLine.{ReadLine}
+use Rattle.life_records.specs.declared.record.JournalLine.{JournalLine}
+use Rattle.life_records.specs.declared.record.ReadLine.{ReadLine}
+use Rattle.doc_text.proofs.Beginnings.{AreReadOff}
 use Rattle.doc_text.proofs.Decimals.{same_numbers}
 use Rattle.doc_text.proofs.JournalTexts.{value_of}
 
 -- the numbers of a line are within 64 bits
 abbrev pub HasReadNumbers : ReadLine → Type 0
 HasReadNumbers line = (line.client < 2 ^ 64) × (line.command < 2 ^ 64) × (line.place < 2 ^ 64)
-
--- the text begins with the `p` of the line on the loss of power
-abbrev pub BeginsPower : List ℕ → Type 0
-BeginsPower [] = ⊥
-BeginsPower (b ∷ text) = b ≡ 112
 
 -- the parts of a line, with what follows it
 abbrev answer_text : Life → ReadLine → List ℕ
@@ -85,32 +81,14 @@ same_first lines place store life journal a b x y legal other fits others_fit e 
     fits.2 others_fit.2 (lit≤ tt) place_text in
     same_line a b client.0 command.0 at.0 (same_reply lines place store life journal a b legal other client.0 command.0 at.0)
 
-no_line : (life : Life) (line : ReadLine) (x y : List ℕ) → BeginsPower y → read_text life line ++ x ≡ y → ⊥
-no_line life line x [] power e = absurd power
-no_line life line x (b ∷ y) power e = let first : 114 ≡ b = cc in omega arith
+-- a read that may have been answered so beside one journal, with its numbers
+pub record IsReadOff (lines place : ℕ) (store : Store) (life : Life) (journal : List JournalLine) (line : ReadLine) : Type 0 where
+  pub legal : IsLegalRead lines place store life journal line
+  pub numbers : HasReadNumbers line
 
--- reads with the same text, beside one journal, are the same, and so is what follows
-pub same_reads : (lines place : ℕ) (store : Store) (life : Life) (journal : List JournalLine) (a b : List ReadLine) (x y : List ℕ)
-    → All (IsLegalRead lines place store life journal) a → All (IsLegalRead lines place store life journal) b
-    → All HasReadNumbers a → All HasReadNumbers b → BeginsPower x → BeginsPower y
-    → flat_map (read_text life) a ++ x ≡ flat_map (read_text life) b ++ y → (a ≡ b) × (x ≡ y)
-same_reads lines place store life journal [] [] x y legal others fits others_fit x_power y_power e = (refl, e)
-same_reads lines place store life journal [] (line ∷ b) x y legal others fits others_fit x_power y_power e =
-    absurd (no_line life line (flat_map (read_text life) b ++ y) x x_power
-    (sym (append_assoc (read_text life line) (flat_map (read_text life) b) y) ∙ sym e))
-same_reads lines place store life journal (line ∷ a) [] x y legal others fits others_fit x_power y_power e =
-    absurd (no_line life line (flat_map (read_text life) a ++ x) y y_power
-    (sym (append_assoc (read_text life line) (flat_map (read_text life) a) x) ∙ e))
-same_reads lines place store life journal (line ∷ a) (next ∷ b) x y legal others fits others_fit x_power y_power e =
-    let text = sym (append_assoc (read_text life line) (flat_map (read_text life) a) x) ∙ e
-    ∙ append_assoc (read_text life next) (flat_map (read_text life) b) y in
-    let same : line ≡ next = same_first lines place store life journal line next (flat_map (read_text life) a ++ x) (flat_map (read_text life) b ++ y)
-    (All-head (IsLegalRead lines place store life journal) line a legal) (All-head (IsLegalRead lines place store life journal) next b others)
-    (All-head HasReadNumbers line a fits) (All-head HasReadNumbers next b others_fit) text in
-    let rest = append_cancel_left (read_text life line) (flat_map (read_text life) a ++ x) (flat_map (read_text life) b ++ y)
-    (text ∙ ap (λ l. read_text life l ++ (flat_map (read_text life) b ++ y)) (sym same)) in
-    let found = same_reads lines place store life journal a b x y
-    (All-tail (IsLegalRead lines place store life journal) line a legal) (All-tail (IsLegalRead lines place store life journal) next b others)
-    (All-tail HasReadNumbers line a fits) (All-tail HasReadNumbers next b others_fit) x_power y_power rest in
-    let tail : a ≡ b = found.0 in
-    (cc, found.1)
+pub reads_read : (lines place : ℕ) (store : Store) (life : Life) (journal : List JournalLine)
+    → AreReadOff (read_text life) 114 (IsReadOff lines place store life journal)
+reads_read lines place store life journal = record {
+  begins = λ line. (_, refl);
+  same = λ a b x y is other e. same_first lines place store life journal a b x y is.legal other.legal is.numbers other.numbers e;
+}

@@ -2,7 +2,8 @@
 use Rattle.std.proofs.Common.{◌≡◌, ℕ, zero, suc, ◌+◌, ◌<◌, ◌≤◌, List, [], ◌∷◌, ◌++◌, length, get_or, take, sym, ap, ◌∙◌, refl, arith, append_assoc, add-zero, add-one}
 use Rattle.std.proofs.lemmas.List.{append-nil, take_all}
 use Rattle.doc_text.specs.Grammar.{Life}
-use Rattle.doc_text.specs.Lives.{LifeRecord, NameCommands, NamesCommands}
+use Rattle.life_records.specs.Lives.{NameCommands, NamesCommands}
+use Rattle.life_records.specs.declared.record.LifeRecord.{LifeRecord}
 use Rattle.doc_text.specs.Report.{record_text, records_text}
 
 -- there are as many records as lives

@@ -11,7 +11,8 @@ use Rattle.serde_json.specs.Data.{Data}
 use Rattle.serde_json.specs.Read.{read as read_json}
 use Rattle.serde_json.specs.Written.{has_float, compact_text}
 use Rattle.doc_text.specs.Document.{kept_as, document_of}
-use Rattle.doc_text.specs.Grammar.{Script, Life, command_count, last_life}
+use Rattle.doc_text.specs.Grammar.{Script, Life, last_life}
+use Rattle.life_records.specs.Scripts.{command_count}
 use Rattle.doc_text.specs.Reading.{verb_of, then_ok, only_key, put_with, add_amount, add_with, op_by_verb, asked_op, header_of, life_of, client_of, cut_of, command_of, said_in, begun, said_below, line_of}
 use Rattle.doc_text.specs.Refusal.{Row, first_that_fits, word_rows, command_rows, reasons_for, is_no_value, has_fraction, is_too_long}
 use Rattle.doc_text.specs.Words.{first_word, rest_of, is_word}

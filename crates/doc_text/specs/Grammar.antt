@@ -1,17 +1,18 @@
 -- What a script is: the lines of a text, what a line says, where it may stand, and what lines say together.
-use Rattle.std.specs.Prelude.{◌≡◌, ◌⊎◌, ◌-◌, ◌^◌, ◌<◌, ◌≤◌, ℕ, Bool, true, false, ◌&&◌, ◌==◌, List, [], ◌∷◌, ◌++◌, length, take, sum_by, codes, Option, None, Some, if◌then◌else◌}
-use Rattle.std.specs.List.{list_any}
+use Rattle.std.specs.Prelude.{◌≡◌, ◌⊎◌, ◌-◌, ◌^◌, ◌<◌, ◌≤◌, ℕ, Bool, true, false, ◌&&◌, ◌==◌, nat_lt, List, [], ◌∷◌, ◌++◌, length, take, codes, Option, None, Some, if◌then◌else◌}
+use Rattle.std.specs.Option.{option_map_or}
 use Rattle.std.specs.Fmt.{decimal, signed_decimal}
 use Rattle.std.specs.Str.{is_utf8}
 use Rattle.cx_base.specs.Store.{IsKey}
 use Rattle.doc_model.specs.Number.{is_i64}
 use Rattle.doc_model.specs.declared.operations.Op.{Op}
 use Rattle.doc_model.specs.declared.operations.Op.TheVariants.{Put, Del, Add, Get, Next, Count}
+use Rattle.life_records.specs.Scripts.{command_count, has_cut, own_ops}
 use Rattle.doc_text.specs.Document.{IsJsonOf}
-use Rattle.doc_text.specs.declared.script_parts.Command.{Command}
-use Rattle.doc_text.specs.declared.script_parts.Cut.{Cut}
-pub use Rattle.doc_text.specs.declared.script_parts.Life.{Life}
-pub use Rattle.doc_text.specs.declared.script_parts.Script.{Script}
+use Rattle.life_records.specs.declared.script.Command.{Command}
+use Rattle.life_records.specs.declared.script.Cut.{Cut}
+pub use Rattle.life_records.specs.declared.script.Life.{Life}
+pub use Rattle.life_records.specs.declared.script.Script.{Script}
 use Rattle.doc_text.specs.declared.script_parts.ScriptLine.{ScriptLine}
 use Rattle.doc_text.specs.declared.script_parts.ScriptLine.TheVariants as forms
 
@@ -67,19 +68,11 @@ Says (forms.Cut cut) line = (line ≡ codes "cut " ++ decimal cut.client ++ code
 Says (forms.Command command) line =
     (text : List ℕ) × (line ≡ decimal command.client ++ codes " " ++ text) × (command.client < 2 ^ 64) × Asks command.op text
 
--- the commands of all lives
-abbrev pub command_count : List Life → ℕ
-command_count lives = sum_by (λ life. length life.commands) lives
-
 -- the life that was begun last
 abbrev pub last_life : List Life → Option Life
 last_life [] = None
 last_life (life ∷ []) = Some life
 last_life (life ∷ next ∷ lives) = last_life (next ∷ lives)
-
--- whether a client has a cut line
-abbrev pub has_cut : ℕ → List Cut → Bool
-has_cut client cuts = list_any (λ cut. cut.client == client) cuts
 
 -- Where a line may stand: the header first and once; then up to 1,000 lives; in a life the commands of its clients, up
 -- to 100,000 in all lives, and a cut line for each of its clients.
@@ -100,12 +93,16 @@ pub record IsAccepted (before : Script) (line : List ℕ) (says : ScriptLine) : 
   pub says_it : Says says line
   pub stands : MayStand before says
 
--- The forms that are read today: one life, of one client, and no cut line.
+-- whether a client has fewer than 16 commands in the life
+abbrev pub has_few : ℕ → Life → Bool
+has_few client life = nat_lt (length (own_ops client life.commands)) 16
+
+-- The forms that are read today: all but a client's 17th command of a life.
 abbrev pub is_built : Script → ScriptLine → Bool
 is_built script (forms.Lines lines) = true
-is_built script (forms.Life clients choice) = (clients == 1) && (length script.lives == 0)
-is_built script (forms.Cut cut) = false
-is_built script (forms.Command command) = true
+is_built script (forms.Life clients choice) = true
+is_built script (forms.Cut cut) = true
+is_built script (forms.Command command) = option_map_or (has_few command.client) (last_life script.lives) true
 
 -- the lives with a change to the last
 abbrev pub with_last : (Life → Life) → List Life → List Life

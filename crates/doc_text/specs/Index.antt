@@ -3,9 +3,9 @@ use Rattle.std.specs.Prelude.{◌≡◌, ℕ, List, length, map, slice_get, Some
 use Rattle.std.specs.Global.{Vec}
 use Rattle.std.specs.Borrow.{Bor}
 use Rattle.doc_model.specs.declared.operations.Op.{Op}
-use Rattle.doc_text.specs.Lives.{own_ops}
-use Rattle.doc_text.specs.declared.script_parts.Command.{Command}
-use Rattle.doc_text.specs.declared.script_parts.Life.{Life}
+use Rattle.life_records.specs.Scripts.{own_ops}
+use Rattle.life_records.specs.declared.script.Command.{Command}
+use Rattle.life_records.specs.declared.script.Life.{Life}
 
 -- the lists are those of the operations of clients 0, 1 and so on among commands
 abbrev pub AreOwnOps : List Command → List (Vec (Bor Op)) → Type 0

@@ -2,7 +2,6 @@ pub mod Document
 pub mod Grammar
 pub mod Index
 pub mod Limits
-pub mod Lives
 pub mod Measure
 pub mod Reading
 pub mod Reasons

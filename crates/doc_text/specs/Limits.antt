@@ -1,9 +1,9 @@
--- The limits that each script that is read keeps.
-use Rattle.std.specs.Prelude.{◌≡◌, ◌<◌, ◌≤◌, ◌^◌, length, All}
+-- The limits that each script that is read keeps, beside those of all scripts.
+use Rattle.std.specs.Prelude.{◌≤◌, ℕ, length, All}
 use Rattle.doc_model.specs.Meaning.{IsOp}
-use Rattle.doc_text.specs.Grammar.{command_count}
-use Rattle.doc_text.specs.declared.script_parts.Life.{Life}
-use Rattle.doc_text.specs.declared.script_parts.Script.{Script}
+use Rattle.life_records.specs.Scripts.{own_ops}
+use Rattle.life_records.specs.declared.script.Life.{Life}
+use Rattle.life_records.specs.declared.script.Script.{Script}
 use Rattle.doc_text.specs.declared.script_parts.ScriptLine.{ScriptLine}
 use Rattle.doc_text.specs.declared.script_parts.ScriptLine.TheVariants as forms
 
@@ -18,16 +18,10 @@ AsksWithinLimits (forms.Command command) = IsOp command.op
 abbrev pub AskWithinLimits : Script → Type 0
 AskWithinLimits script = All (λ life. All (λ c. IsOp c.op) life.commands) script.lives
 
--- the life has one client, and each command is this client's, with a key and a document within the limits
-pub record IsOneClient (life : Life) : Type 0 where
-  pub alone : life.clients ≡ 1
-  pub choice : life.choice < 2 ^ 64
-  pub own : All (λ c. c.client ≡ 0) life.commands
-  pub ops : All (λ c. IsOp c.op) life.commands
+-- no client has more than 16 commands
+abbrev pub AreFew : Life → Type 0
+AreFew life = (client : ℕ) → length (own_ops client life.commands) ≤ 16
 
--- one life at the most, 64 to 16,384 lines where there is a life, and 100,000 commands at the most
-pub record KeepsLimits (script : Script) : Type 0 where
-  pub lines : 0 < length script.lives → (64 ≤ script.lines) × (script.lines ≤ 16384)
-  pub lives : length script.lives ≤ 1
-  pub clients : All IsOneClient script.lives
-  pub commands : command_count script.lives ≤ 100000
+-- what the forms that are read today make: 16 commands a client of a life at the most
+pub record IsBuilt (script : Script) : Type 0 where
+  pub few : All AreFew script.lives

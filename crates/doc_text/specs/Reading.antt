@@ -9,9 +9,10 @@ use Rattle.doc_model.specs.WordParts.{is_key}
 use Rattle.doc_model.specs.declared.operations.Op.{Op}
 use Rattle.doc_model.specs.declared.operations.Op.TheVariants.{Put, Del, Add, Get, Next, Count}
 use Rattle.doc_text.specs.Document.{document_of}
-use Rattle.doc_text.specs.Grammar.{Life, Script, is_passed_over, command_count, last_life, has_cut, is_built, with_said}
+use Rattle.doc_text.specs.Grammar.{Life, Script, is_passed_over, last_life, is_built, with_said}
+use Rattle.life_records.specs.Scripts.{command_count, has_cut}
 use Rattle.doc_text.specs.Words.{first_word, rest_of, is_word}
-use Rattle.doc_text.specs.declared.script_parts.Cut.{Cut}
+use Rattle.life_records.specs.declared.script.Cut.{Cut}
 use Rattle.doc_text.specs.declared.script_parts.Reason.{Reason}
 use Rattle.doc_text.specs.declared.script_parts.Reason.TheVariants as reasons
 use Rattle.doc_text.specs.declared.script_parts.ScriptLine.{ScriptLine}

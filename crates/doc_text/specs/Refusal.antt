@@ -6,7 +6,8 @@ use Rattle.serde_json.specs.Read.{read as read_json}
 use Rattle.serde_json.specs.Written.{has_float, compact_text}
 use Rattle.doc_model.specs.Number.{integer_of}
 use Rattle.doc_model.specs.WordParts.{is_key}
-use Rattle.doc_text.specs.Grammar.{Script, Life, command_count, last_life, AreLinesOf, IsAccepted, is_built, IsFirstFault, text_lines}
+use Rattle.doc_text.specs.Grammar.{Script, Life, last_life, AreLinesOf, IsAccepted, is_built, IsFirstFault, text_lines}
+use Rattle.life_records.specs.Scripts.{command_count}
 use Rattle.doc_text.specs.Reading.{verb_of, header_of, life_of, cut_of, client_of}
 use Rattle.doc_text.specs.Words.{first_word, rest_of, is_word}
 use Rattle.doc_text.specs.declared.script_parts.ScriptLine.{ScriptLine}

@@ -1,17 +1,19 @@
 -- The report of a script's lives as text.
-use Rattle.std.specs.Prelude.{◌+◌, ℕ, List, [], ◌∷◌, ◌++◌, length, flat_map, codes, Option}
+use Rattle.std.specs.Prelude.{◌+◌, ℕ, List, [], ◌∷◌, ◌++◌, length, flat_map, codes, Option, if◌then◌else◌}
 use Rattle.std.specs.Option.{option_map_or}
 use Rattle.std.specs.Fmt.{decimal, signed_decimal}
 use Rattle.doc_model.specs.declared.operations.Op.{Op}
 use Rattle.doc_model.specs.declared.operations.Reply.{Reply}
 use Rattle.doc_model.specs.declared.operations.Reply.TheVariants.{New, Replaced, Deleted, Absent, Doc, Sum, NotNumber, Overflow, NoRoom, Key, Number}
 use Rattle.doc_text.specs.Grammar.{command_text}
-use Rattle.doc_text.specs.Lives.{named_op}
-use Rattle.doc_text.specs.declared.script_parts.Life.{Life}
-use Rattle.doc_text.specs.declared.script_parts.Script.{Script}
-use Rattle.doc_text.specs.declared.lives.JournalLine.{JournalLine}
-use Rattle.doc_text.specs.declared.lives.ReadLine.{ReadLine}
-use Rattle.doc_text.specs.declared.lives.LifeRecord.{LifeRecord}
+use Rattle.life_records.specs.Scripts.{named_op}
+use Rattle.life_records.specs.declared.script.Life.{Life}
+use Rattle.life_records.specs.declared.script.Script.{Script}
+use Rattle.life_records.specs.declared.record.FullLine.{FullLine}
+use Rattle.life_records.specs.declared.record.JournalLine.{JournalLine}
+use Rattle.life_records.specs.declared.record.ReadLine.{ReadLine}
+use Rattle.life_records.specs.declared.record.StopLine.{StopLine}
+use Rattle.life_records.specs.declared.record.LifeRecord.{LifeRecord}
 
 abbrev pub reply_text : Reply → List ℕ
 reply_text New = codes "new"
@@ -51,6 +53,17 @@ read_text life line =
     codes "read " ++ name_text line.client line.command ++ codes " at " ++ decimal line.place ++ codes " "
     ++ exchange_text (named_op life line.client line.command) (reply_text line.reply)
 
+-- `stopped K.J at S kept`, or `lost`
+abbrev pub stop_text : StopLine → List ℕ
+stop_text line =
+    codes "stopped " ++ name_text line.client line.command ++ codes " at " ++ decimal line.steps ++ (if line.kept then codes " kept\n" else codes " lost\n")
+
+-- `full K.J holder H need M ticket T`
+abbrev pub full_text : FullLine → List ℕ
+full_text line =
+    codes "full " ++ name_text line.client line.command ++ codes " holder " ++ decimal line.note.holder ++ codes " need " ++ decimal line.note.need
+    ++ codes " ticket " ++ decimal line.note.ticket ++ codes "\n"
+
 -- `power C kept E of F documents D`
 abbrev pub power_text : LifeRecord → List ℕ
 power_text told =
@@ -60,7 +73,8 @@ power_text told =
 -- the lines of one life
 abbrev pub record_text : ℕ → Life → LifeRecord → List ℕ
 record_text number life told =
-    life_text number told ++ flat_map (journal_text life) told.journal ++ flat_map (read_text life) told.reads ++ power_text told
+    life_text number told ++ flat_map (journal_text life) told.journal ++ flat_map (read_text life) told.reads
+    ++ flat_map stop_text told.stops ++ flat_map full_text told.fulls ++ power_text told
 
 -- the lines of lives that are counted from a number on
 abbrev pub records_text : ℕ → List Life → List LifeRecord → List ℕ

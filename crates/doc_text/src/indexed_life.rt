@@ -2,10 +2,10 @@
 
 ghost use Rattle.std.specs.Prelude.{◌≡◌, ◌<◌, IfOk, length, All, []};
 ghost use Rattle.std.specs.Option.{option_copied};
-ghost use Rattle.doc_text.specs.Lives.{named_op};
+ghost use Rattle.life_records.specs.Scripts.{named_op};
 
-use crate::script_parts::Life;
 use doc_model::Op;
+use life_records::Life;
 use std::alloc::{AllocError, Global};
 use std::marker::Model;
 
@@ -19,7 +19,7 @@ pub struct IndexedLife<'a> {
 
 impl<'a> Model for IndexedLife<'a> {
     ghost use Rattle.std.specs.Prelude.{◌≡◌, length};
-    ghost use Rattle.doc_text.specs.declared.script_parts.Life.{Life};
+    ghost use Rattle.life_records.specs.declared.script.Life.{Life};
     ghost use Rattle.doc_text.specs.Index.{IsLifeIndex};
 
     ghost Value = { Life };

@@ -1,14 +1,16 @@
 //! What follows from the definitions.
 
 ghost use Rattle.std.specs.Prelude.{◌≡◌, List};
+ghost use Rattle.life_records.specs.Limits.{KeepsLimits};
+ghost use Rattle.life_records.specs.Lives.{AreLegalLives, AreNumbers};
+ghost use Rattle.life_records.specs.declared.record.LifeRecord.{LifeRecord};
 ghost use Rattle.doc_text.specs.Grammar.{Script};
-ghost use Rattle.doc_text.specs.Lives.{AreLegalLives, AreNumbers, LifeRecord};
 ghost use Rattle.doc_text.specs.Report.{report_of};
 
 /// Two different lists of records that are legal lives of one script have different reports, so what happened is
 /// read off the bytes written. (The premises on numbers hold for all values of the types.)
 pub fn different_lives_have_different_reports()
-    ensures { (script : Script) (a b : List LifeRecord) →
+    ensures { (script : Script) (a b : List LifeRecord) → KeepsLimits script →
         AreLegalLives script a → AreLegalLives script b → AreNumbers a → AreNumbers b →
         report_of script a ≡ report_of script b → a ≡ b }
 {}

@@ -4,16 +4,17 @@ ghost use Rattle.std.specs.Prelude.{◌≡◌, IfOk, IfSome, IsUtf8};
 ghost use Rattle.std.specs.Option.{option_copied};
 ghost use Rattle.cx_base.specs.Store.{IsKey};
 ghost use Rattle.doc_model.specs.Meaning.{IsOp};
-ghost use Rattle.doc_text.specs.Grammar.{has_cut};
+ghost use Rattle.life_records.specs.Scripts.{has_cut};
 ghost use Rattle.doc_text.specs.Limits.{AsksWithinLimits};
 ghost use Rattle.doc_text.specs.Words.{first_word, rest_of};
 ghost use Rattle.doc_text.specs.Reading.{verb_of, then_ok, only_key, put_with, add_with, op_by_verb, asked_op, within, header_of, choice_of, life_behind, life_of, client_of, cut_of};
 
 use crate::document::read_document;
-use crate::script_parts::{Cut, Life, Reason, ScriptLine};
+use crate::script_parts::{Reason, ScriptLine};
 use crate::words::{is_one_word, is_word, split_word};
 use cx_base::Bytes;
 use doc_model::{Op, integer_of, is_key, number_of};
+use life_records::{Cut, Life};
 use std::alloc::{AllocError, Global};
 
 /// The fewest and the most lines that a store may have.

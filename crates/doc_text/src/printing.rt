@@ -4,14 +4,13 @@ ghost use Rattle.std.specs.Prelude.{◌≡◌, ◌++◌, ◌<◌, [], IfOk, OnOk
 ghost use Rattle.std.specs.Fmt.{decimal, signed_decimal};
 ghost use Rattle.std.specs.Option.{option_map_or, option_copied};
 ghost use Rattle.doc_text.specs.Grammar.{command_text};
-ghost use Rattle.doc_text.specs.Lives.{NameCommands, NamesCommands, Names};
-ghost use Rattle.doc_text.specs.Report.{report_of, record_text, life_text, journal_text, read_text, power_text, name_text, exchange_text, reply_text};
+ghost use Rattle.life_records.specs.Lives.{NameCommands, NamesCommands, Names};
+ghost use Rattle.doc_text.specs.Report.{report_of, record_text, life_text, journal_text, read_text, stop_text, full_text, power_text, name_text, exchange_text, reply_text};
 
 use crate::indexed_life::IndexedLife;
-use crate::lives::{JournalLine, LifeRecord, ReadLine};
-use crate::script_parts::Script;
 use doc_model::{Op, Reply};
 use itoa::Buffer;
+use life_records::{FullLine, JournalLine, LifeRecord, ReadLine, Script, StopLine};
 use std::alloc::{AllocError, Global};
 
 /// The report of a script's lives. `Err` is want of memory.
@@ -44,6 +43,8 @@ fn write_record(
     write_life(out, number, told)?;
     write_journal(out, life, told.journal.as_slice())?;
     write_reads(out, life, told.reads.as_slice())?;
+    write_stops(out, told.stops.as_slice())?;
+    write_fulls(out, told.fulls.as_slice())?;
     write_power(out, told)
 }
 
@@ -112,6 +113,48 @@ fn write_read_line(
     write_labelled(out, b" at ", line.place)?;
     out.extend_from_slice(b" ")?;
     write_exchange(out, life.op(line.client, line.command), Some(&line.reply))
+}
+
+fn write_stops(out: &mut Vec<u8>, stops: &[StopLine]) -> Result<(), AllocError>
+    ensures { OnOk result (out.new.items ≡ out.old.items ++ flat_map stop_text stops.now) }
+{
+    for line in stops {
+        write_stop_line(out, line)?;
+    }
+    Ok(())
+}
+
+fn write_stop_line(out: &mut Vec<u8>, line: &StopLine) -> Result<(), AllocError>
+    ensures { OnOk result (out.new.items ≡ out.old.items ++ stop_text line.now) }
+{
+    out.extend_from_slice(b"stopped ")?;
+    write_name(out, line.client, line.command)?;
+    write_labelled(out, b" at ", line.steps)?;
+    if line.kept {
+        out.extend_from_slice(b" kept\n")
+    } else {
+        out.extend_from_slice(b" lost\n")
+    }
+}
+
+fn write_fulls(out: &mut Vec<u8>, fulls: &[FullLine]) -> Result<(), AllocError>
+    ensures { OnOk result (out.new.items ≡ out.old.items ++ flat_map full_text fulls.now) }
+{
+    for line in fulls {
+        write_full_line(out, line)?;
+    }
+    Ok(())
+}
+
+fn write_full_line(out: &mut Vec<u8>, line: &FullLine) -> Result<(), AllocError>
+    ensures { OnOk result (out.new.items ≡ out.old.items ++ full_text line.now) }
+{
+    out.extend_from_slice(b"full ")?;
+    write_name(out, line.client, line.command)?;
+    write_labelled(out, b" holder ", u64::from(line.note.holder))?;
+    write_labelled(out, b" need ", line.note.need)?;
+    write_labelled(out, b" ticket ", line.note.ticket)?;
+    out.extend_from_slice(b"\n")
 }
 
 fn write_power(out: &mut Vec<u8>, told: &LifeRecord) -> Result<(), AllocError>

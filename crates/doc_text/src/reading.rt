@@ -1,22 +1,30 @@
 //! Scripts read from their text.
 
-ghost use Rattle.std.specs.Prelude.{◌≡◌, ◌<◌, ◌∷◌, None, Some, Ok, Err, true, IfOk, IfErr, IfSome, OnOk, IsUtf8, IsTrue, length, option_and_then};
+ghost use Rattle.std.specs.Prelude.{◌≡◌, ◌==◌, ◌<◌, ◌∷◌, count_by, None, Some, Ok, Err, true, IfOk, IfErr, IfSome, OnOk, IsUtf8, IsTrue, length, option_and_then};
 ghost use Rattle.std.specs.Option.{option_copied};
 ghost use Rattle.std.specs.Str.{is_utf8};
-ghost use Rattle.doc_text.specs.Grammar.{Script, IsScript, text_lines, is_built, with_said, no_script};
-ghost use Rattle.doc_text.specs.Limits.{AsksWithinLimits, AskWithinLimits, KeepsLimits};
-ghost use Rattle.doc_text.specs.Reading.{without_return, said_by, cut_of, line_of, judged, with_lines, outcome};
+ghost use Rattle.life_records.specs.Limits.{KeepsLimits};
+ghost use Rattle.doc_text.specs.Grammar.{Script, IsScript, MayStand, text_lines, last_life, has_few, is_built, with_said, no_script};
+ghost use Rattle.doc_text.specs.Limits.{AsksWithinLimits, AskWithinLimits, IsBuilt};
+ghost use Rattle.doc_text.specs.Reading.{without_return, said_by, cut_of, line_of, begun, said_below, judged, with_lines, outcome};
 ghost use Rattle.doc_text.specs.Refusal.{IsFault, IsOkOr};
 
 use crate::line::{read_client, read_cut, read_header, read_life, read_op};
-use crate::script_parts::{Command, Cut, Life, Reason, Script, ScriptLine, TextFault};
+use crate::script_parts::{Reason, ScriptLine, TextFault};
 use crate::words::{cut_at, is_word, split_word};
 use cx_base::Items;
+use life_records::{Command, Cut, Life, Script};
 use std::alloc::{AllocError, Global};
 use std::marker::Model;
 
+/// The most lives of a script.
+const MAX_LIVES: usize = 1_000;
+
 /// The most commands of a script.
 const MAX_COMMANDS: usize = 100_000;
+
+/// The most commands of a client in a life that are read today.
+const MAX_OWN: usize = 16;
 
 /// Reads a script. It is Ok exactly for the texts of scripts, unless memory is wanting. Other texts are refused by
 /// the first line with which the lines so far are no script.
@@ -26,10 +34,11 @@ pub fn read_script(alloc: Global, bytes: &[u8]) -> Result<Script, TextFault>
     // What is a script is read.
     ensures only { (script : Script) → IsScript bytes.now script → IsOkOr script result }
     ensures limits { IfOk result KeepsLimits }
+    ensures built { IfOk result IsBuilt }
     // The line refused is the first with which the lines so far are no script.
     ensures refused { IfErr result (IsFault bytes.now) }
 {
-    read_lines(alloc, bytes)?.finish(alloc)
+    Ok(read_lines(alloc, bytes)?.finish())
 }
 
 /// Adds line after line to the script of no lines.
@@ -40,7 +49,8 @@ fn read_lines(alloc: Global, bytes: &[u8]) -> Result<Draft, TextFault>
 {
     let mut draft = Draft {
         lines: 0,
-        life: None,
+        lives: Vec::new(alloc),
+        commands: 0,
     };
     let mut rest = bytes;
     let mut number: u64 = 0;
@@ -77,20 +87,25 @@ fn without_return(line: &[u8]) -> &[u8]
     line.strip_suffix(b"\r").unwrap_or(line)
 }
 
-/// The script of the lines so far. It has one life at the most.
+/// The script of the lines so far. Contracts see the script.
 #[derive(Drop)]
 struct Draft {
     lines: u64,
-    life: Option<Life>,
+    lives: Vec<Life>,
+    /// The commands of all lives.
+    commands: usize,
 }
 
 impl Model for Draft {
-    ghost use Rattle.std.specs.Prelude.{option_to_list};
+    ghost use Rattle.std.specs.Prelude.{◌≡◌};
     ghost use Rattle.doc_text.specs.Grammar.{Script};
+    ghost use Rattle.life_records.specs.Scripts.{command_count};
 
     ghost Value = { Script };
 
-    ghost view = { λ d. record { lines = d.lines; lives = option_to_list d.life } };
+    ghost view = { λ d. record { lines = d.lines; lives = d.lives.items } };
+
+    ghost invariant = { λ d. d.commands ≡ command_count d.lives.items };
 }
 
 impl Draft {
@@ -133,80 +148,153 @@ impl Draft {
                 None => Err(Reason::Header),
             });
         }
-        let (word, rest) = split_word(line);
-        if is_word(b"life", word) {
-            return Ok(match read_life(line) {
-                Some(life) => Ok(life),
-                None => Err(Reason::Life),
-            });
-        }
-        let Some(life) = &self.life else {
-            return Ok(Err(Reason::Life));
-        };
-        read_in(alloc, life, word, rest)
+        self.read_below(alloc, line)
     }
 
-    /// Whether the form of a line is read already: one life of one client, and no cut line.
+    /// The same of a line behind the header.
+    fn read_below(
+        &self,
+        alloc: Global,
+        line: &[u8],
+    ) -> Result<Result<ScriptLine, Reason>, AllocError>
+        requires { IsUtf8 line.now }
+        ensures value { IfOk result (λ read. read ≡ said_below self.now.lives line.now) }
+        ensures limits { IfOk result (λ read. IfOk read AsksWithinLimits) }
+    {
+        let (word, rest) = split_word(line);
+        if is_word(b"life", word) {
+            return Ok(begun(self.lives.len(), read_life(line)));
+        }
+        let Some(life) = self.last_life() else {
+            return Ok(Err(Reason::Life));
+        };
+        read_in(alloc, self.commands, life, word, rest)
+    }
+
+    /// The life that was begun last.
+    #[tactic(auto, using(crate::proofs::LastLives::slice_get_last))]
+    fn last_life(&self) -> Option<&Life>
+        ensures { option_copied result ≡ last_life self.now.lives }
+    {
+        self.lives.last()
+    }
+
+    /// Whether the form of a line is read already: all but a client's 17th command of a life.
     fn is_built(&self, says: &ScriptLine) -> bool
         ensures { result ≡ is_built self.now says.now }
     {
         match says {
-            ScriptLine::Lines(_) | ScriptLine::Command(_) => true,
-            ScriptLine::Life { clients, .. } => *clients == 1 && self.life.is_none(),
-            ScriptLine::Cut(_) => false,
+            ScriptLine::Lines(_) | ScriptLine::Life { .. } | ScriptLine::Cut(_) => true,
+            ScriptLine::Command(command) => match self.last_life() {
+                Some(life) => has_few(command.client, life),
+                None => true,
+            },
         }
     }
 
-    /// Adds what a line says, of a form that is read. `Err` is want of memory.
+    /// Adds what a line says that may stand here. `Err` is want of memory.
     fn add(&mut self, alloc: Global, says: ScriptLine) -> Result<(), AllocError>
-        requires { is_built self.old says ≡ true }
-        ensures value { OnOk result (self.new ≡ with_said self.old says) }
-        ensures limits { OnOk result (AsksWithinLimits says → AskWithinLimits self.old → AskWithinLimits self.new) }
+        requires { MayStand self.old says }
+        ensures { OnOk result (self.new ≡ with_said self.old says) }
     {
         match says {
-            ScriptLine::Lines(lines) => self.lines = lines,
-            ScriptLine::Life { clients, choice } => {
-                self.life = Some(Life {
-                    clients,
-                    choice,
-                    cuts: Items::new(alloc),
-                    commands: Items::new(alloc),
-                });
+            ScriptLine::Lines(lines) => {
+                self.lines = lines;
+                Ok(())
             }
-            ScriptLine::Cut(_) => {}
-            ScriptLine::Command(command) => {
-                if let Some(life) = self.life.as_mut() {
-                    life.commands.push(command)?;
-                }
-            }
+            ScriptLine::Life { clients, choice } => self.begin(alloc, clients, choice),
+            ScriptLine::Cut(cut) => self.add_cut(cut),
+            ScriptLine::Command(command) => self.add_command(command),
         }
+    }
+
+    fn begin(&mut self, alloc: Global, clients: u32, choice: u64) -> Result<(), AllocError>
+        ensures { OnOk result (self.new ≡ with_said self.old (ScriptLine.Life clients choice)) }
+    {
+        self.lives.push(Life {
+            clients,
+            choice,
+            cuts: Items::new(alloc),
+            commands: Items::new(alloc),
+        })?;
         Ok(())
     }
 
-    /// The script, once all lines are read. `Err` is want of memory.
-    fn finish(self, alloc: Global) -> Result<Script, TextFault>
-        ensures ok { IfOk result (λ script. script ≡ self) }
-        ensures err { IfErr result (λ fault. fault ≡ TextFault.Memory) }
+    fn add_cut(&mut self, cut: Cut) -> Result<(), AllocError>
+        ensures { OnOk result (self.new ≡ with_said self.old (ScriptLine.Cut cut)) }
     {
-        let Draft { lines, life } = self;
-        let mut lives = Items::new(alloc);
-        if let Some(life) = life {
-            lives.push(life)?;
+        let Some(life) = self.lives.last_mut() else {
+            return Ok(());
+        };
+        life.cuts.push(cut)?;
+        Ok(())
+    }
+
+    fn add_command(&mut self, command: Command) -> Result<(), AllocError>
+        requires { MayStand self.old (ScriptLine.Command command) }
+        ensures { OnOk result (self.new ≡ with_said self.old (ScriptLine.Command command)) }
+    {
+        let Some(life) = self.lives.last_mut() else {
+            return Ok(());
+        };
+        life.commands.push(command)?;
+        self.commands += 1;
+        Ok(())
+    }
+
+    /// The script, once all lines are read.
+    fn finish(self) -> Script
+        ensures { result ≡ self }
+    {
+        let Draft { lines, lives, .. } = self;
+        Script {
+            lines,
+            lives: Items::of(lives),
         }
-        Ok(Script { lines, lives })
     }
 }
 
-/// What a line says that stands in a life and begins none, by its first word and the rest.
+/// What a life's first line says, where so many lives stand before it.
+fn begun(count: usize, life: Option<ScriptLine>) -> Result<ScriptLine, Reason>
+    ensures value { result ≡ begun count life }
+    ensures limits { IfSome life AsksWithinLimits → IfOk result AsksWithinLimits }
+{
+    match life {
+        None => Err(Reason::Life),
+        Some(_) if count >= MAX_LIVES => Err(Reason::Lives),
+        Some(says) => Ok(says),
+    }
+}
+
+/// Whether a client has fewer commands in the life than may be today.
+#[tactic(auto, using(crate::proofs::OwnOps::own_ops_counted))]
+fn has_few(client: u32, life: &Life) -> bool
+    ensures { result ≡ has_few client life.now }
+{
+    own_count(client, life.commands.as_slice()) < MAX_OWN
+}
+
+/// The number of a client's commands.
+fn own_count(client: u32, commands: &[Command]) -> usize
+    ensures { result ≡ count_by (λ c. c.client == client) commands.now }
+{
+    commands
+        .iter()
+        .filter(|command| command.client == client)
+        .count()
+}
+
+/// What a line says that stands in a life and begins none, by its first word and the rest. So many commands stand before it.
 fn read_in(
     alloc: Global,
+    count: usize,
     life: &Life,
     word: &[u8],
     rest: Option<&[u8]>,
 ) -> Result<Result<ScriptLine, Reason>, AllocError>
     requires { IfSome rest (λ text. IsUtf8 text.now) }
     ensures limits { IfOk result (λ read. IfOk read AsksWithinLimits) }
-    ensures value { IfOk result (λ read. read ≡ said_by (length life.now.commands) life.now word.now (option_copied rest.entry)) }
+    ensures value { IfOk result (λ read. read ≡ said_by count life.now word.now (option_copied rest.entry)) }
 {
     if is_word(b"cut", word) {
         return Ok(match read_cut_behind(life, rest) {
@@ -217,7 +305,7 @@ fn read_in(
     let Some(client) = read_client(life.clients, word) else {
         return Ok(Err(Reason::Client));
     };
-    if life.commands.as_slice().len() >= MAX_COMMANDS {
+    if count >= MAX_COMMANDS {
         return Ok(Err(Reason::Commands));
     }
     Ok(match read_op(alloc, rest)? {

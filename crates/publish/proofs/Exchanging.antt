@@ -2,12 +2,11 @@
 use Rattle.std.proofs.Common.{◌≡◌, ◌≢◌, ◌==◌, ◌<◌, ◌≤◌, ◌*◌, inl, inr, ℕ, Bool, true, false, cond, ap, sym, subst, ◌∙◌, refl, arith, eq-eqb, List, ◌++◌, [], append-nil, Option, Some, None, Result, Ok, Err}
 use Rattle.std.proofs.lemmas.Bool.{cases_Bool, eqb-true}
 use Rattle.std.proofs.Math.Nat.{div-lt_iff_lt-mul, le-max_left}
-use Rattle.std.proofs.lemmas.Option.{none-some}
-use Rattle.std.specs.Option.{option_map}
 use Rattle.cx_base.specs.Codes.{root_place_of}
 use Rattle.cx_core.specs.declared.kinds.Kind.TheVariants.{Publish}
 use Rattle.cx_core.specs.declared.local.HeldDowngraded.{HeldDowngraded}
 use Rattle.cx_core.specs.RootEvents.{IsAbove, outrun, published}
+use Rattle.cx_core.specs.State.{one_more}
 use Rattle.cx_rule.specs.Running.{Running}
 use Rattle.cx_rule.specs.Seats.{Seated}
 use Rattle.cx_rule.specs.Steps.{Steps}
@@ -15,7 +14,8 @@ use Rattle.cx_table.specs.Right.{Right, WonRight}
 use Rattle.cx_table.specs.Tokens.{TriedPublish}
 use Rattle.strong_trylock.specs.Ends.{but_downgraded}
 use Rattle.strong_trylock.specs.Held.{AllRights, all_rights}
-use Rattle.publish.specs.Publishing.{Exchanges, PassedBy, beside_publish, place_in}
+use Rattle.publish.proofs.Options.{none_of}
+use Rattle.publish.specs.Publishing.{Exchanges, KeepsMet, PassedBy, beside_publish, place_in}
 
 -- what is downgraded at a place above a code may be published
 pub may_publish : (callers code : ℕ) (o : Option HeldDowngraded) → root_place_of callers code < place_in o → IsAbove callers code o
@@ -50,6 +50,13 @@ module _ {O : Type 0} (r : Running O) (step : O → List ℕ → List ℕ → Li
   pub exchange_front : before.known.local.front ≤ after.known.local.front
   exchange_front = subst (λ (t : Seated). before.known.local.front ≤ t.known.local.front) (sym s.made) (front_by (found == before.known.local.seen_cur))
 
+  met_by : (won : Bool) → KeepsMet before (by won)
+  met_by true was = refl
+  met_by false was = ap (λ b. cond b (one_more before.known.local.met) before.known.local.met) was
+
+  pub exchange_met : KeepsMet before after
+  exchange_met = subst (KeepsMet before) (sym s.made) (met_by (found == before.known.local.seen_cur))
+
   pub exchanged : (held : Right) (x : Result WonRight Right) → before.known.local.won ≡ None → TriedPublish r.callers before held after found x → Exchanges r.callers before after x
   exchanged held (Ok won) none tried =
       let is = is_by true (eq-eqb found before.known.local.seen_cur tried.0) in
@@ -83,14 +90,13 @@ pub passed : (callers found : ℕ) (before after : Seated) → but_downgraded af
 passed callers found before after rest rights none seen above = record {
   seen = ap (λ (s : Seated). s.known.local.seen_cur) rest ∙ seen;
   above = subst (λ n. place_in before.known.local.downgraded ≤ root_place_of callers n) seen above;
-  ended = no_right after.known.local.downgraded (ap (λ (a : AllRights). a.downgraded) rights);
+  ended = none_of _ after.known.local.downgraded (ap (λ (a : AllRights). a.downgraded) rights);
   none = ap (λ (s : Seated). s.known.local.won) rest ∙ none;
   stale = λ was. ap (λ (s : Seated). s.known.local.fresh) rest ∙ was;
 }
-  where
-    no_right : (o : Option HeldDowngraded) → option_map (λ (h : HeldDowngraded). h.replica) o ≡ None → o ≡ None
-    no_right None e = refl
-    no_right (Some h) e = absurd (none-some h.replica (sym e))
 
 pub passed_rest : (before after : Seated) → but_downgraded after ≡ but_downgraded before → beside_publish after ≡ beside_publish before
 passed_rest before after rest = ap beside_publish rest
+
+pub passed_met : (before after : Seated) → but_downgraded after ≡ but_downgraded before → KeepsMet before after
+passed_met before after rest was = ap (λ (s : Seated). s.known.local.met) rest

@@ -1,1 +1,2 @@
 mod Exchanging
+pub mod Options

@@ -44,6 +44,10 @@ abbrev pub Exchanges : ℕ → Seated → Seated → Result WonRight Right → T
 Exchanges callers before after (Ok won) = WinsCur callers before after won
 Exchanges callers before after (Err given) = LosesCur callers before after given
 
+-- no refusal is met where what was seen of CUR was not fresh
+abbrev pub KeepsMet : Seated → Seated → Type 0
+KeepsMet before after = before.known.local.fresh ≡ false → after.known.local.met ≡ before.known.local.met
+
 -- each exchange so far was lost
 pub record Turns {O : Type 0} (r : Running O) (first seat : Seated) (right : Right) : Type 0 where
   pub of : IsSeatOf r seat
@@ -52,6 +56,7 @@ pub record Turns {O : Type 0} (r : Running O) (first seat : Seated) (right : Rig
   pub none : seat.known.local.won ≡ None
   pub front : first.known.local.front ≤ seat.known.local.front
   pub rest : beside_publish seat ≡ beside_publish first
+  pub met : KeepsMet first seat
   pub stale : first.known.local.fresh ≡ false → seat.known.local.fresh ≡ false
 
 -- a code was found in CUR whose place is not below the caller's own: the caller gave its right up

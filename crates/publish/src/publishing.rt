@@ -5,7 +5,7 @@ ghost use Rattle.cx_base.specs.Codes.{root_place_of};
 ghost use Rattle.cx_rule.specs.Running.{IsSeatOf};
 ghost use Rattle.cx_rule.specs.Seats.{IsAtLimit};
 ghost use Rattle.cx_table.specs.Tokens.{IsDowngradedOf};
-ghost use Rattle.publish.specs.Publishing.{Exchanges, Publishes, beside_publish, place_in};
+ghost use Rattle.publish.specs.Publishing.{Exchanges, KeepsMet, Publishes, beside_publish, place_in};
 
 use cx_base::{Halt, Object, root_place};
 use cx_table::{CallerSeat, Downgraded, Shared, Won};
@@ -34,6 +34,7 @@ pub fn publish<O: Object>(
     ensures published { IfOk result (Publishes shared.now.callers seat.old seat.new) }
     ensures seat { IsSeatOf shared.now seat.new }
     ensures front { seat.old.known.local.front ≤ seat.new.known.local.front }
+    ensures met { KeepsMet seat.old seat.new }
     ensures rest { beside_publish seat.new ≡ beside_publish seat.old }
     ensures halts { OnErr result (IsAtLimit seat.new.known.local) }
 {
@@ -62,6 +63,7 @@ fn pass<O: Object>(
     ensures published { IfOk result (Publishes shared.now.callers seat.old seat.new) }
     ensures seat { IsSeatOf shared.now seat.new }
     ensures front { seat.old.known.local.front ≤ seat.new.known.local.front }
+    ensures met { KeepsMet seat.old seat.new }
     ensures rest { beside_publish seat.new ≡ beside_publish seat.old }
     ensures halts { OnErr result (IsAtLimit seat.new.known.local) }
 {
@@ -83,6 +85,7 @@ fn exchange<O: Object>(
     ensures exchanged { IfOk result (Exchanges shared.now.callers seat.old seat.new) }
     ensures seat { IsSeatOf shared.now seat.new }
     ensures front { seat.old.known.local.front ≤ seat.new.known.local.front }
+    ensures met { KeepsMet seat.old seat.new }
     ensures rest { beside_publish seat.new ≡ beside_publish seat.old }
     ensures halts { OnErr result (IsAtLimit seat.new.known.local) }
 {

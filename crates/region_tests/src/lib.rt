@@ -4,6 +4,8 @@
 #[cfg(test)]
 mod commands;
 #[cfg(test)]
+mod copy_tests;
+#[cfg(test)]
 mod limit_tests;
 #[cfg(test)]
 mod marking;

@@ -83,16 +83,25 @@ fn taken_and_renewed<O: Object>(
     Ok(true)
 }
 
-// The words and the marks of a replica.
+/// The words and the marks of a replica.
 #[derive(Drop)]
-struct Image {
-    volatile: Vec<u64>,
-    durable: Vec<u64>,
-    dirty: Vec<bool>,
+pub(crate) struct Image {
+    pub(crate) volatile: Vec<u64>,
+    pub(crate) durable: Vec<u64>,
+    pub(crate) dirty: Vec<bool>,
 }
 
-// What the model has after so many accesses of a replica: those of the full step of an entry, and then persists.
-fn modelled<O: Object>(
+/// The image of a replica into which nothing was stored since the table was made.
+pub(crate) fn untouched(alloc: Global, words: &[u64]) -> Result<Image, AllocError> {
+    Ok(Image {
+        volatile: Vec::from_slice(alloc, words)?,
+        durable: Vec::from_slice(alloc, words)?,
+        dirty: Vec::from_elem(alloc, false, words.len())?,
+    })
+}
+
+/// What the model has after so many accesses of a replica: those of the full step of an entry, and then persists.
+pub(crate) fn modelled<O: Object>(
     alloc: Global,
     object: &O,
     base: &Base,
@@ -164,24 +173,20 @@ fn persist_first(volatile: &[u64], durable: &mut [u64], dirty: &mut [bool], coun
     }
 }
 
-// Whether a table was left with these words and marks of replica 1, and with those of the base, none of them marked, in the
-// others.
-fn is_left(left: &Remains, base: &[u64], image: &Image) -> bool {
-    for r in 0..4 {
+/// Whether a table of two callers was left with these words and marks of each replica.
+pub(crate) fn is_left(left: &Remains, images: [&Image; 4]) -> bool {
+    for (r, image) in images.iter().enumerate() {
+        let region = image.volatile.len();
         let (Some(volatile), Some(durable), Some(dirty)) = (
-            of_replica(&left.volatile, r, base.len()),
-            of_replica(&left.durable, r, base.len()),
-            of_replica(&left.dirty, r, base.len()),
+            of_replica(&left.volatile, r, region),
+            of_replica(&left.durable, r, region),
+            of_replica(&left.dirty, r, region),
         ) else {
             return false;
         };
-        let same = if r == 1 {
-            volatile == image.volatile.as_slice()
-                && durable == image.durable.as_slice()
-                && dirty == image.dirty.as_slice()
-        } else {
-            volatile == base && durable == base && !dirty.iter().any(|mark| *mark)
-        };
+        let same = volatile == image.volatile.as_slice()
+            && durable == image.durable.as_slice()
+            && dirty == image.dirty.as_slice();
         if !same {
             return false;
         }
@@ -246,7 +251,8 @@ fn at_limit(alloc: Global, base: &Base, entry: &Entry, limit: u64) -> Result<Out
     let Some(left) = closed(alloc, shared, first, second)? else {
         return Err(AllocError);
     };
-    let same = is_left(&left, base.words.as_slice(), &image);
+    let other = untouched(alloc, base.words.as_slice())?;
+    let same = is_left(&left, [&other, &image, &other, &other]);
     let dirty = left.dirty.iter().filter(|mark| **mark).count();
     Ok(Outcome {
         done,

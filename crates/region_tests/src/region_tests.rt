@@ -8,10 +8,11 @@ ghost use Rattle.cx_rule.specs.Fitting.{base_of};
 ghost use Rattle.replica.specs.Held.{IsHeld, IsSized};
 ghost use Rattle.replica.specs.Replays.{IsImage, noted_place};
 ghost use Rattle.replica.specs.Tests.{IsFree};
-ghost use Rattle.region_tests.specs.Stepping.{IsSteppable};
+ghost use Rattle.replica.specs.Stepping.{IsSteppable};
 
 use crate::commands::{Numbers, next_entry};
 use crate::tables::{NO_LIMIT, made, take};
+use cx_base::tally::Tally;
 use cx_base::{Halt, Memory, Object, VecMemory};
 use cx_core::{Base, Entry, HEAD_LINES, LINE_WORDS, full_step};
 use cx_table::{CallerSeat, Exclusive, Shared};
@@ -159,5 +160,21 @@ fn documents_are_replayed_word_by_word(rt: HostRuntime) -> Result<(), Fail> {
     };
     assert_eq!(rt; done, 1000);
     assert!(rt; plain.len() == 5264 && plain[0] == 1000);
+    Ok(())
+}
+
+// The same words are operations of a running sum.
+#[test]
+fn sums_are_replayed_word_by_word(rt: HostRuntime) -> Result<(), Fail> {
+    let alloc = rt.alloc();
+    let base = Base::fresh(alloc, &Tally)?;
+    let (shared, mut first, second) = made(alloc, Tally, &[NO_LIMIT, NO_LIMIT], &base)?;
+    let _other = second;
+    let words = Vec::from_slice(alloc, base.words.as_slice())?;
+    let Ok(Some((done, plain))) = agree_taken(&shared, &mut first, 2, words, 1000) else {
+        panic!(rt; "halted");
+    };
+    assert_eq!(rt; done, 1000);
+    assert!(rt; plain.len() == 1680 && plain[0] == 1000);
     Ok(())
 }

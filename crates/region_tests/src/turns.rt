@@ -22,8 +22,8 @@ pub(crate) struct Turns {
     pub(crate) right: bool,
 }
 
-// Tries a replica exclusively.
-fn try_one<O: Object>(
+/// Tries a replica exclusively.
+pub(crate) fn try_one<O: Object>(
     shared: &Shared<O>,
     seat: &mut CallerSeat,
     r: u32,
@@ -32,6 +32,7 @@ fn try_one<O: Object>(
     requires free { all_rights seat.old ≡ no_rights }
     requires few { r < 2 * shared.now.callers }
     ensures taken { IfOk result (λ o. IfSome o (λ held. TakesIt (O.line_count shared.now.object) shared.now (O.lawful shared.now.object) seat.new held)) }
+    ensures of { IfOk result (λ o. IfSome o (λ held. held.replica ≡ r)) }
     ensures refused { result ≡ Ok None → all_rights seat.new ≡ no_rights }
     ensures seat { IsSeatOf shared.now seat.new }
 {
@@ -43,8 +44,8 @@ fn try_one<O: Object>(
     }
 }
 
-// The places of a replica before a turn and after it.
-type Places = (u64, u64);
+/// The places of a replica before a turn and after it.
+pub(crate) type Places = (u64, u64);
 
 // Brings a replica that was just taken up to a ticket, and makes it durable. A caller that does not know that the ticket is linked
 // stops as if it was halted.
@@ -87,8 +88,8 @@ fn renew<O: Object>(
     Ok(places)
 }
 
-// Takes a replica, where nobody holds it, brings it up to a ticket, and gives it up.
-fn turn<O: Object>(
+/// Takes a replica, where nobody holds it, brings it up to a ticket, and gives it up.
+pub(crate) fn turn<O: Object>(
     shared: &Shared<O>,
     seat: &mut CallerSeat,
     r: u32,

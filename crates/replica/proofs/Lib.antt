@@ -1,9 +1,9 @@
 pub mod Access
-mod CopySteps
+pub mod CopySteps
 mod Reading
 mod RegionLaws
 pub mod Replaying
-mod Persisting
+pub mod Persisting
 mod Renewing
 pub mod Updating
-mod Running
+pub mod Stepping

@@ -5,4 +5,5 @@ pub mod Replays
 pub mod Flushes
 pub mod Copies
 pub mod Laws
+pub mod Stepping
 pub mod Tests

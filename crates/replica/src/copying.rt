@@ -3,6 +3,7 @@
 ghost use Rattle.std.specs.Prelude.{◌≡◌, ◌+◌, ◌<◌, IfOk, OnErr, OnOk};
 ghost use Rattle.cx_core.specs.Region.{region_words};
 ghost use Rattle.cx_rule.specs.Fitting.{AgreeTo, AreEqual};
+ghost use Rattle.cx_rule.specs.Running.{IsSeatOf};
 ghost use Rattle.cx_rule.specs.Seats.{IsAtLimit};
 ghost use Rattle.replica.specs.Copies.{HoldsBoth, beside_copy, without_shared};
 ghost use Rattle.replica.specs.Held.{IsHeld};
@@ -49,6 +50,7 @@ pub fn renew_from<O: Object>(
     ensures image { OnOk result (IsImage (O.line_count shared.now.object) (O.lawful shared.now.object) shared.now.base (O.step shared.now.object) seat.new.known) }
     ensures place { IfOk result (λ place. noted_place seat.new ≡ place) }
     ensures rest { OnOk result (beside_copy seat.new ≡ without_shared (beside_copy seat.old)) }
+    ensures seat { IsSeatOf shared.now seat.new }
     ensures halts { OnErr result (IsAtLimit seat.new.known.local) }
 {
     let place = copy_from(shared, seat, held, &source)?;

@@ -1,10 +1,10 @@
 //! A replica is taken, replayed with linked entries, made durable and given up.
 
-ghost use Rattle.std.specs.Prelude.{◌≡◌, ◌+◌, ◌*◌, ◌^◌, [], ◌∷◌, ◌≤◌, ◌<◌, IfOk, IfSome, IsTrue, OnOk, length};
-ghost use Rattle.cx_base.specs.Memory.{Always, Framed, Words};
+ghost use Rattle.std.specs.Prelude.{◌≡◌, ◌+◌, ◌*◌, [], ◌∷◌, ◌≤◌, ◌<◌, IfOk, IfSome, OnOk, length};
+ghost use Rattle.cx_base.specs.Memory.{Words};
 ghost use Rattle.cx_core.specs.Base.{LawfulBase};
-ghost use Rattle.cx_core.specs.Region.{object_part, place_of, region_words};
-ghost use Rattle.cx_rule.specs.Fitting.{IsNoted, base_of};
+ghost use Rattle.cx_core.specs.Region.{region_words};
+ghost use Rattle.cx_rule.specs.Fitting.{IsNoted};
 ghost use Rattle.cx_rule.specs.Running.{IsSeatOf};
 ghost use Rattle.cx_table.specs.Tokens.{IsDowngradedOf};
 ghost use Rattle.mutation_queue.specs.Entries.{IsNotedEntry};
@@ -15,8 +15,8 @@ ghost use Rattle.replica.specs.Tests.{IsFree, IsNew, IsReady, Keeps, KnowsLinked
 
 use crate::{ReadRegion, Region, begin, flush, outcome, place, replay_one};
 use cx_base::tally::Tally;
-use cx_base::{Halt, Memory, Object, VecMemory};
-use cx_core::{Base, Entry, full_step};
+use cx_base::{Halt, Memory, Object};
+use cx_core::{Base, Entry};
 use cx_table::{CallerSeat, Downgraded, Exclusive, Shared, SharedHold};
 use mutation_queue::{LinkTried, announce, entry, link};
 use std::alloc::{AllocError, Global};
@@ -347,98 +347,4 @@ fn update_and_renew<O: Object>(
         }
         Ok(_) | Err(_) => false,
     }
-}
-
-// An entry for a test, one of many. Of Tally, two of three add.
-fn mixed(k: u64) -> Entry
-    ensures caller { result.caller < 8 }
-    ensures op { Words 144 result.op }
-{
-    let mut words = [k; 145];
-    words[0] = k / 8 + 1;
-    words[2] = k % 3;
-    entry_of((k % 8) as u32, &words)
-}
-
-// Does the full steps of so many entries on any memory of a region.
-fn replay_all<O: Object, M: Memory>(object: &O, mem: &mut M, count: u64) -> Result<(), Halt>
-    requires size { M.size mem.old ≡ region_words (O.line_count object.now) }
-    requires small { region_words (O.line_count object.now) < 2 ^ 64 }
-    requires writable { IsTrue (M.writable mem.old) }
-    requires place { Always (M.stands mem.old) (λ region. place_of region + count ≤ 2 ^ 40) }
-    requires lawful { Always (M.stands mem.old) (λ region. O.lawful object.now (object_part region)) }
-    ensures framed { Framed M.size M.fixed M.writable M.left mem.old mem.new }
-{
-    for k in 0..count {
-        full_step(object, mem, &mixed(k))?;
-    }
-    Ok(())
-}
-
-// The words of a region after the full steps of so many entries, over a plain memory.
-fn plain_words<O: Object>(object: &O, words: Vec<u64>, count: u64) -> Option<Vec<u64>>
-    requires base { LawfulBase (O.line_count object.now) (O.lawful object.now) (base_of words.items) }
-    requires small { O.line_count object.now ≤ 16384 }
-    requires place { place_of words.items + count ≤ 2 ^ 40 }
-{
-    let mut plain = VecMemory::of(words, None);
-    replay_all(object, &mut plain, count).ok()?;
-    Some(plain.into_words())
-}
-
-// Whether a replica that is taken has these words after the full steps of so many entries.
-fn replays_to<O: Object>(
-    shared: &Shared<O>,
-    seat: &mut CallerSeat,
-    r: u64,
-    count: u64,
-    words: &[u64],
-) -> Result<bool, Halt>
-    requires free { IsFree shared.now seat.old }
-    requires sized { IsSized (O.line_count shared.now.object) shared.now }
-    requires few { r < 2 * shared.now.callers }
-    requires words { length words.now ≤ region_words (O.line_count shared.now.object) }
-    requires count { count ≤ 1000 }
-{
-    let Some(held) = take(shared, seat, r)? else {
-        return Ok(false);
-    };
-    if begin(shared, seat, &held)? > 1 << 20 {
-        return Ok(false);
-    }
-    replayed_on(shared, seat, &held, count, words)
-}
-
-// The same on a replica that is held exclusively.
-fn replayed_on<O: Object>(
-    shared: &Shared<O>,
-    seat: &mut CallerSeat,
-    held: &Exclusive,
-    count: u64,
-    words: &[u64],
-) -> Result<bool, Halt>
-    requires held { IsHeld (O.line_count shared.now.object) shared.now (O.lawful shared.now.object) seat.old held.now }
-    requires image { IsImage (O.line_count shared.now.object) (O.lawful shared.now.object) shared.now.base (O.step shared.now.object) seat.old.known }
-    requires place { noted_place seat.old + count ≤ 2 ^ 40 }
-    requires words { length words.now ≤ region_words (O.line_count shared.now.object) }
-{
-    let object = shared.object();
-    let mut region = Region::of(shared, seat, held);
-    replay_all(object, &mut region, count)?;
-    has_words(&mut region, words)
-}
-
-#[test]
-fn many_entries_are_replayed(rt: HostRuntime) -> Result<(), Fail> {
-    let alloc = rt.alloc();
-    let base = Base::fresh(alloc, &Tally)?;
-    let (shared, mut first, second) = made(alloc, Tally, &[NO_LIMIT, NO_LIMIT], &base)?;
-    let _other = second;
-    let words = Vec::from_slice(alloc, base.words.as_slice())?;
-    let Some(plain) = plain_words(&Tally, words, 1000) else {
-        panic!(rt; "a plain memory halted");
-    };
-    assert!(rt; plain.len() == 1680 && plain[0] == 1000);
-    assert!(rt; replays_to(&shared, &mut first, 2, 1000, &plain) == Ok(true));
-    Ok(())
 }

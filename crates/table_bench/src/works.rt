@@ -1,10 +1,12 @@
 //! The calls that are timed.
 
-ghost use Rattle.std.specs.Prelude.{◌≡◌, ◌<◌, ◌≤◌, IfOk, IfSome, length};
+ghost use Rattle.std.specs.Prelude.{◌≡◌, ◌*◌, ◌<◌, ◌≤◌, IfOk, IfSome, length};
+ghost use Rattle.cx_core.specs.Base.{LawfulBase};
 ghost use Rattle.cx_core.specs.QueueEvents.{IsIdle};
-ghost use Rattle.cx_core.specs.LockEvents.{CanTryExclusive};
 ghost use Rattle.cx_table.specs.Running.{IsSeatOf};
 ghost use Rattle.replica.specs.Held.{IsHeld, IsSized};
+ghost use Rattle.replica.specs.Laws.{IsTaken};
+ghost use Rattle.replica.specs.Tests.{IsFree, IsNew};
 
 use cx_base::{Halt, Object};
 use cx_core::Base;
@@ -26,7 +28,7 @@ pub fn looks<R: Runtime + Threads + Sync>(
     count: u64,
     two: bool,
 ) -> io::Result<u64> {
-    let Ok((shared, first, second)) = made(alloc) else {
+    let Ok((shared, first, second)) = small(alloc) else {
         return Ok(0);
     };
     let table = &shared;
@@ -50,7 +52,7 @@ pub fn announces<R: Runtime + Threads + Sync>(
     count: u64,
     two: bool,
 ) -> io::Result<u64> {
-    let Ok((shared, first, second)) = made(alloc) else {
+    let Ok((shared, first, second)) = small(alloc) else {
         return Ok(0);
     };
     let table = &shared;
@@ -92,21 +94,55 @@ fn announce_again(shared: &Shared<DocStore>, mut seat: CallerSeat, count: u64)
 }
 
 // A table of two callers over a store of 64 lines, and its seats.
-fn made(alloc: Global) -> Result<(Shared<DocStore>, CallerSeat, CallerSeat), AllocError>
-    ensures first { IfOk result (λ r. IsSeatOf r.0 r.1 × IsIdle r.1.known.local 0 × (length r.1.known.local.answered ≡ length r.1.known.local.own)) }
-    ensures second { IfOk result (λ r. IsSeatOf r.0 r.2 × IsIdle r.2.known.local 0 × (length r.2.known.local.answered ≡ length r.2.known.local.own)) }
+fn small(alloc: Global) -> Result<(Shared<DocStore>, CallerSeat, CallerSeat), AllocError>
+    ensures first { IfOk result (λ r. IsNew r.0 r.1) }
+    ensures second { IfOk result (λ r. IsNew r.0 r.2) }
 {
     let store = DocStore::of(64);
     let base = Base::fresh(alloc, &store)?;
-    let (shared, mut seats) = Shared::make(alloc, store, 2, &[u64::MAX, u64::MAX], &base)?;
+    opened(alloc, store, &base)
+}
+
+/// A table of two callers over an object, and its seats.
+pub fn opened<O: Object>(
+    alloc: Global,
+    object: O,
+    base: &Base,
+) -> Result<(Shared<O>, CallerSeat, CallerSeat), AllocError>
+    requires enough { 64 ≤ O.line_count object }
+    requires small { O.line_count object ≤ 16384 }
+    requires base { LawfulBase (O.line_count object) (O.lawful object) base.now }
+    ensures object { IfOk result (λ r. r.0.object ≡ object) }
+    ensures callers { IfOk result (λ r. r.0.callers ≡ 2) }
+    ensures sized { IfOk result (λ r. IsSized (O.line_count object) r.0) }
+    ensures base { IfOk result (λ r. r.0.base ≡ base.now) }
+    ensures first { IfOk result (λ r. IsNew r.0 r.1) }
+    ensures second { IfOk result (λ r. IsNew r.0 r.2) }
+{
+    let (shared, mut seats) = Shared::make(alloc, object, 2, &[u64::MAX, u64::MAX], base)?;
     match (seats.pop(), seats.pop()) {
         (Some(second), Some(first)) => Ok((shared, first, second)),
         _ => Err(AllocError),
     }
 }
 
-// The nanoseconds since then.
-fn since(rt: &impl Clock, begun: Instant) -> io::Result<u64> {
+/// Takes a replica, where nobody holds it.
+pub fn take<O: Object>(
+    shared: &Shared<O>,
+    seat: &mut CallerSeat,
+    r: u64,
+) -> Result<Option<Exclusive>, Halt>
+    requires free { IsFree shared.now seat.old }
+    requires sized { IsSized (O.line_count shared.now.object) shared.now }
+    requires few { r < 2 * shared.now.callers }
+    ensures { IfOk result (λ o. IfSome o (λ held. IsTaken (O.line_count shared.now.object) shared.now (O.lawful shared.now.object) seat.new held)) }
+{
+    let (_, right) = shared.try_exclusive(seat, r)?;
+    Ok(right)
+}
+
+/// The nanoseconds since then.
+pub fn since(rt: &impl Clock, begun: Instant) -> io::Result<u64> {
     let time = begun.elapsed(rt)?;
     Ok(
         time.as_secs()
@@ -117,7 +153,7 @@ fn since(rt: &impl Clock, begun: Instant) -> io::Result<u64> {
 
 /// Announces entries that differ by one word of their operation, so many times.
 pub fn repeats(rt: &impl Clock, alloc: Global, count: u64) -> io::Result<u64> {
-    let Ok((shared, first, _)) = made(alloc) else {
+    let Ok((shared, first, _)) = small(alloc) else {
         return Ok(0);
     };
     let begun = Instant::now(rt)?;
@@ -155,11 +191,12 @@ fn flush_again<O: Object>(
     mut seat: CallerSeat,
     count: u64,
 ) -> io::Result<u64>
-    requires seat { IsSeatOf shared.now seat × CanTryExclusive shared.now.callers 1 seat.known.local }
+    requires free { IsFree shared.now seat }
+    requires callers { shared.now.callers ≡ 1 }
     requires lines { O.line_count shared.now.object ≡ 16384 }
     requires sized { IsSized (O.line_count shared.now.object) shared.now }
 {
-    let Ok((_, Some(held))) = shared.try_exclusive(&mut seat, 1) else {
+    let Ok(Some(held)) = take(shared, &mut seat, 1) else {
         return Ok(0);
     };
     let mut all = 0u64;
@@ -195,7 +232,8 @@ fn store_dozen<O: Object>(
 
 // A table of one caller over a store of 16,384 lines, and its seat.
 fn large(alloc: Global) -> Result<(Shared<DocStore>, CallerSeat), AllocError>
-    ensures seat { IfOk result (λ r. IsSeatOf r.0 r.1 × CanTryExclusive r.0.callers 1 r.1.known.local) }
+    ensures seat { IfOk result (λ r. IsFree r.0 r.1) }
+    ensures callers { IfOk result (λ r. r.0.callers ≡ 1) }
     ensures lines { IfOk result (λ r. r.0.object.lines ≡ 16384) }
     ensures sized { IfOk result (λ r. IsSized 16384 r.0) }
 {
@@ -230,7 +268,7 @@ pub fn links<R: Runtime + Threads + Sync>(
 ) -> io::Result<u64> {
     let mut all = 0u64;
     for _ in 0..count {
-        let Ok((shared, first, second)) = made(alloc) else {
+        let Ok((shared, first, second)) = small(alloc) else {
             return Ok(0);
         };
         let table = &shared;

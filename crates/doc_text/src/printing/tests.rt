@@ -1,14 +1,14 @@
 //! The texts of worked lives.
 
 ghost use Rattle.std.specs.Prelude.{◌≡◌, IsTrue, IfOk, All};
-ghost use Rattle.doc_text.specs.Lives.{NameCommands, NamesCommands, Names};
+ghost use Rattle.life_records.specs.Lives.{NameCommands, NamesCommands, Names};
 
 use super::report;
 use crate::indexed_life::IndexedLife;
-use crate::lives::{JournalLine, LifeRecord, ReadLine};
-use crate::script_parts::{Command, Life, Script};
 use cx_base::{Bytes, Items};
+use cx_core::FullNote;
 use doc_model::{Op, Reply};
+use life_records::{Command, FullLine, JournalLine, Life, LifeRecord, ReadLine, Script, StopLine};
 use std::alloc::{AllocError, Global};
 use std::process::Abort;
 use std::test::Fail;
@@ -41,7 +41,9 @@ enum Told {
     Unanswered,
 }
 
-// A life, its history by ticket, client and command, the reads of client 0 by command and place, and its end.
+// A life, its history by ticket, client and command, the reads of client 0 by command and place, the clients stopped, by command,
+// steps and whether the command is kept, those that gave up, by command, holder, need and ticket, and the end, with the number of
+// entries lost.
 #[derive(Clone, Copy)]
 struct Worked {
     clients: u32,
@@ -49,7 +51,10 @@ struct Worked {
     commands: &'static [(u32, Asked)],
     journal: &'static [(u64, u32, u64, Told)],
     reads: &'static [(u64, u64, Told)],
+    stops: &'static [(u32, u64, u64, bool)],
+    fulls: &'static [(u32, u64, u32, u64, u64)],
     choice: u64,
+    lost: u64,
     documents: u64,
 }
 
@@ -63,7 +68,10 @@ static WRITTEN_AND_READ: [Worked; 1] = [Worked {
     ],
     journal: &[(0, 0, 1, Told::New), (1, 0, 2, Told::Replaced)],
     reads: &[(3, 2, Told::Doc("2"))],
+    stops: &[],
+    fulls: &[],
     choice: 0,
+    lost: 0,
     documents: 1,
 }];
 
@@ -73,7 +81,10 @@ static EMPTY_STORE: [Worked; 1] = [Worked {
     commands: &[(0, Asked::Get("a"))],
     journal: &[],
     reads: &[(1, 0, Told::Absent)],
+    stops: &[],
+    fulls: &[],
     choice: 0,
+    lost: 0,
     documents: 0,
 }];
 
@@ -87,7 +98,10 @@ static END_OF_TYPE: [Worked; 1] = [Worked {
     ],
     journal: &[(0, 0, 1, Told::Sum(i64::MAX)), (1, 0, 2, Told::Overflow)],
     reads: &[(3, 2, Told::Doc("9223372036854775807"))],
+    stops: &[],
+    fulls: &[],
     choice: 0,
+    lost: 0,
     documents: 1,
 }];
 
@@ -108,7 +122,10 @@ static COMPACT_TEXT: [Worked; 1] = [Worked {
         (3, 0, 5, Told::Absent),
     ],
     reads: &[(2, 1, Told::Doc("{\"a\":[],\"b\":1}"))],
+    stops: &[],
+    fulls: &[],
     choice: 0,
+    lost: 0,
     documents: 0,
 }];
 
@@ -132,7 +149,10 @@ static KEYS_AND_COUNT: [Worked; 1] = [Worked {
         (6, 2, Told::Absent),
         (7, 2, Told::Number(2)),
     ],
+    stops: &[],
+    fulls: &[],
     choice: 0,
+    lost: 0,
     documents: 2,
 }];
 
@@ -142,7 +162,10 @@ static TWO_CLIENTS: [Worked; 1] = [Worked {
     commands: &[(0, Asked::Add("n", 1)), (1, Asked::Add("n", 1))],
     journal: &[(0, 1, 1, Told::Sum(1)), (1, 0, 1, Told::Sum(2))],
     reads: &[],
+    stops: &[],
+    fulls: &[],
     choice: 0,
+    lost: 0,
     documents: 1,
 }];
 
@@ -169,7 +192,10 @@ static TWO_LIVES: [Worked; 2] = [
             (3, 1, 2, Told::Sum(7)),
         ],
         reads: &[],
+        stops: &[],
+        fulls: &[],
         choice: 1,
+        lost: 0,
         documents: 3,
     },
     Worked {
@@ -186,7 +212,10 @@ static TWO_LIVES: [Worked; 2] = [
             (2, 4, Told::Doc("7")),
             (3, 4, Told::Number(3)),
         ],
+        stops: &[],
+        fulls: &[],
         choice: 0,
+        lost: 0,
         documents: 3,
     },
 ];
@@ -203,7 +232,76 @@ static WITHOUT_ROOM: [Worked; 1] = [Worked {
     ],
     journal: &[(0, 0, 1, Told::NoRoom), (1, 0, 2, Told::Unanswered)],
     reads: &[],
+    stops: &[],
+    fulls: &[],
     choice: 0,
+    lost: 0,
+    documents: 0,
+}];
+
+// Two clients that were stopped: the command of one is linked and kept, that of the other is linked and lost.
+static STOPPED: [Worked; 2] = [
+    Worked {
+        clients: 3,
+        from: 0,
+        commands: &[
+            (0, Asked::Put("a", "1")),
+            (1, Asked::Add("a", 2)),
+            (2, Asked::Del("a")),
+            (0, Asked::Get("a")),
+        ],
+        journal: &[
+            (0, 0, 1, Told::New),
+            (1, 1, 1, Told::Unanswered),
+            (2, 2, 1, Told::Unanswered),
+        ],
+        reads: &[(2, 1, Told::Doc("1"))],
+        stops: &[(1, 1, 12, true), (2, 1, 18_446_744_073_709_551_614, false)],
+        fulls: &[],
+        choice: 2,
+        lost: 1,
+        documents: 1,
+    },
+    // One that was stopped before its first step.
+    Worked {
+        clients: 2,
+        from: 2,
+        commands: &[(1, Asked::Put("a", "1"))],
+        journal: &[],
+        reads: &[],
+        stops: &[(1, 1, 0, false)],
+        fulls: &[],
+        choice: 0,
+        lost: 0,
+        documents: 1,
+    },
+];
+
+// A client that gave up, since one that was stopped keeps its cells.
+static GAVE_UP: [Worked; 1] = [Worked {
+    clients: 2,
+    from: 0,
+    commands: &[(0, Asked::Count)],
+    journal: &[],
+    reads: &[],
+    stops: &[],
+    fulls: &[(0, 17, 1, 0, 1)],
+    choice: 0,
+    lost: 0,
+    documents: 0,
+}];
+
+// Both, and two that gave up.
+static STOPPED_AND_GAVE_UP: [Worked; 1] = [Worked {
+    clients: 3,
+    from: 7,
+    commands: &[(0, Asked::Count)],
+    journal: &[],
+    reads: &[(1, 7, Told::Number(0))],
+    stops: &[(1, 2, 40, false)],
+    fulls: &[(0, 2, 1, 7, 8), (2, 1, 1, 7, 18_446_744_073_709_551_615)],
+    choice: 1,
+    lost: 0,
     documents: 0,
 }];
 
@@ -300,6 +398,41 @@ life 0 clients 1 from 0
 power 0 kept 2 of 2 documents 0
 ",
         ),
+        (
+            STOPPED.as_slice(),
+            "\
+life 0 clients 3 from 0
+0 0.1 put a 1 = new
+1 1.1 add a 2 = unanswered
+2 2.1 del a = unanswered
+read 0.2 at 1 get a = 1
+stopped 1.1 at 12 kept
+stopped 2.1 at 18446744073709551614 lost
+power 2 kept 2 of 3 documents 1
+life 1 clients 2 from 2
+stopped 1.1 at 0 lost
+power 0 kept 0 of 0 documents 1
+",
+        ),
+        (
+            GAVE_UP.as_slice(),
+            "\
+life 0 clients 2 from 0
+full 0.17 holder 1 need 0 ticket 1
+power 0 kept 0 of 0 documents 0
+",
+        ),
+        (
+            STOPPED_AND_GAVE_UP.as_slice(),
+            "\
+life 0 clients 3 from 7
+read 0.1 at 7 count = count 0
+stopped 1.2 at 40 lost
+full 0.2 holder 1 need 7 ticket 8
+full 2.1 holder 1 need 7 ticket 18446744073709551615
+power 1 kept 0 of 0 documents 0
+",
+        ),
     ];
     for (lives, text) in rows {
         check(&rt, rt.alloc(), lives, text)?;
@@ -348,13 +481,17 @@ fn records_of(alloc: Global, worked: &[Worked]) -> Result<Vec<LifeRecord>, Alloc
     for life in worked {
         let journal = journal_of(alloc, life.journal)?;
         let reads = reads_of(alloc, life.reads)?;
+        let stops = stops_of(alloc, life.stops)?;
+        let fulls = fulls_of(alloc, life.fulls)?;
         records.push(LifeRecord {
             clients: life.clients,
             from: life.from,
             journal,
             reads,
+            stops,
+            fulls,
             choice: life.choice,
-            kept: life.journal.len() as u64,
+            kept: (life.journal.len() as u64).saturating_sub(life.lost),
             documents: life.documents,
         })?;
     }
@@ -391,6 +528,38 @@ fn reads_of(alloc: Global, told: &[(u64, u64, Told)]) -> Result<Items<ReadLine>,
         }
     }
     Ok(reads)
+}
+
+fn stops_of(alloc: Global, told: &[(u32, u64, u64, bool)]) -> Result<Items<StopLine>, AllocError> {
+    let mut stops = Items::new(alloc);
+    for (client, command, steps, kept) in told {
+        stops.push(StopLine {
+            client: *client,
+            command: *command,
+            steps: *steps,
+            kept: *kept,
+        })?;
+    }
+    Ok(stops)
+}
+
+fn fulls_of(
+    alloc: Global,
+    told: &[(u32, u64, u32, u64, u64)],
+) -> Result<Items<FullLine>, AllocError> {
+    let mut fulls = Items::new(alloc);
+    for (client, command, holder, need, ticket) in told {
+        fulls.push(FullLine {
+            client: *client,
+            command: *command,
+            note: FullNote {
+                holder: *holder,
+                need: *need,
+                ticket: *ticket,
+            },
+        })?;
+    }
+    Ok(fulls)
 }
 
 fn made_op(alloc: Global, asked: Asked) -> Result<Op, AllocError> {

@@ -17,9 +17,10 @@ fn read(alloc: Global, text: &[u8]) -> Outcome {
     match read_script(alloc, text) {
         Ok(script) => {
             let lives = script.lives.as_slice();
-            let commands = lives
-                .first()
-                .map_or(0, |life| life.commands.as_slice().len());
+            let mut commands = 0_usize;
+            for life in lives {
+                commands = commands.saturating_add(life.commands.len());
+            }
             Outcome::Script(script.lines, lives.len(), commands)
         }
         Err(TextFault::Refused { line, reason }) => Outcome::Refused(line, reason),
@@ -108,17 +109,11 @@ fn headers_and_lives(rt: HostRuntime) {
             b"lines 64\nlife 01 power 0",
             Outcome::Refused(2, Reason::Life),
         ),
-        (
-            b"lines 64\nlife 2 power 0",
-            Outcome::Refused(2, Reason::Form),
-        ),
-        (
-            b"lines 64\nlife 8 power 0",
-            Outcome::Refused(2, Reason::Form),
-        ),
+        (b"lines 64\nlife 2 power 0", Outcome::Script(64, 1, 0)),
+        (b"lines 64\nlife 8 power 0", Outcome::Script(64, 1, 0)),
         (
             b"lines 64\nlife 1 power 0\nlife 1 power 0",
-            Outcome::Refused(3, Reason::Form),
+            Outcome::Script(64, 2, 0),
         ),
         (
             b"lines 64\nlife 1 power 0\nlife 9 power 0",
@@ -346,18 +341,121 @@ fn commands_are_refused(rt: HostRuntime) -> Result<(), Fail> {
             b"0 put a {\"a\":-0}",
         ],
         Some(Reason::Fraction),
-    )?;
-    check(
-        &rt,
-        rt.alloc(),
-        &[
-            b"cut 0 5",
-            b"cut 0 18446744073709551615",
-            b"life 2 power 1",
-            b"life 1 power 0",
-        ],
-        Some(Reason::Form),
     )
+}
+
+#[test]
+fn lines_of_a_script_are_refused(rt: HostRuntime) {
+    let texts: [(&[u8], Outcome); 9] = [
+        (
+            b"lines 64\nlife 1 power 0\n0 put a 1.5\n",
+            Outcome::Refused(3, Reason::Fraction),
+        ),
+        (
+            b"lines 64\nlife 1 power 0\n0 put a {\n",
+            Outcome::Refused(3, Reason::Json),
+        ),
+        (
+            b"lines 64\nlife 1 power 0\n0 add a 01\n",
+            Outcome::Refused(3, Reason::Number),
+        ),
+        (
+            b"lines 64\nlife 1 power 0\n1 count\n",
+            Outcome::Refused(3, Reason::Client),
+        ),
+        (
+            b"lines 64\nlife 1 power 0\n0 push a 1\n",
+            Outcome::Refused(3, Reason::Command),
+        ),
+        (b"life 1 power 0\n", Outcome::Refused(1, Reason::Header)),
+        (b"lines 63\n", Outcome::Refused(1, Reason::Header)),
+        (
+            b"lines 64\nlife 9 power 0\n",
+            Outcome::Refused(2, Reason::Life),
+        ),
+        (
+            b"lines 64\nlife 1 power 0\ncut 0 1\ncut 0 1\n",
+            Outcome::Refused(4, Reason::Cut),
+        ),
+    ];
+    for (i, (text, want)) in texts.iter().enumerate() {
+        assert_eq!(rt; read(rt.alloc(), text), *want, "at {i}");
+    }
+}
+
+#[test]
+fn lives_and_cuts(rt: HostRuntime) {
+    let texts: [(&[u8], Outcome); 10] = [
+        (
+            b"lines 64\nlife 1 power 0\ncut 0 5\n0 get a\n",
+            Outcome::Script(64, 1, 1),
+        ),
+        // a cut may stand behind its client's commands
+        (
+            b"lines 64\nlife 2 power 0\n1 get a\ncut 1 18446744073709551615\ncut 0 0\n0 count\n",
+            Outcome::Script(64, 1, 2),
+        ),
+        // one cut a client of each life
+        (
+            b"lines 64\nlife 1 power 0\ncut 0 1\nlife 1 power 0\ncut 0 1\n",
+            Outcome::Script(64, 2, 0),
+        ),
+        (
+            b"lines 64\nlife 2 power 0\ncut 0 1\nlife 1 power 0\ncut 1 1\n",
+            Outcome::Refused(5, Reason::Cut),
+        ),
+        (
+            b"lines 64\nlife 2 power 0\ncut 1 1\ncut 0 1\ncut 1 2\n",
+            Outcome::Refused(5, Reason::Cut),
+        ),
+        // commands are those of the clients of the life that was begun last
+        (
+            b"lines 64\nlife 1 power 0\n0 get a\nlife 2 power 1\n1 get a\n0 get a\n",
+            Outcome::Script(64, 2, 3),
+        ),
+        (
+            b"lines 64\nlife 2 power 0\n1 get a\nlife 1 power 1\n1 get a\n",
+            Outcome::Refused(5, Reason::Client),
+        ),
+        (
+            b"lines 64\nlife 8 power 0\n7 get a\nlife 8 power 1\n8 get a\n",
+            Outcome::Refused(5, Reason::Client),
+        ),
+        (
+            b"# two shops\nlines 1024\nlife 2 power 1\n0 put stock:apple {\"name\":\"apple\",\"price\":120}\n1 put stock:pear {\"name\":\"pear\",\"price\":95}\n0 add sold 3\n1 add sold 4\n\nlife 1 power 0\n0 next stock:\n0 get sold\n0 count\n",
+            Outcome::Script(1024, 2, 7),
+        ),
+        (
+            b"lines 64\nlife 1 power 0\nlife 1 power 0\nlife 1 power\n",
+            Outcome::Refused(4, Reason::Life),
+        ),
+    ];
+    for (i, (text, want)) in texts.iter().enumerate() {
+        assert_eq!(rt; read(rt.alloc(), text), *want, "at {i}");
+    }
+}
+
+#[test]
+fn what_is_read_of_cuts(rt: HostRuntime) -> Result<(), Fail> {
+    let text =
+        b"lines 64\nlife 3 power 0\ncut 2 7\ncut 0 18446744073709551615\nlife 1 power 9\n0 count\n";
+    let script = read_script(rt.alloc(), text)
+        .ok()
+        .ok_or("the text is a script")?;
+    let [first, second] = script.lives.as_slice() else {
+        return Err(Fail::from("the script has two lives"));
+    };
+    let [two, none] = first.cuts.as_slice() else {
+        return Err(Fail::from("the first life has two cuts"));
+    };
+    assert_eq!(rt; (first.clients, first.choice), (3, 0));
+    assert_eq!(rt; (two.client, two.steps), (2, 7));
+    assert_eq!(rt; (none.client, none.steps), (0, u64::MAX));
+    assert!(rt; first.commands.is_empty());
+    assert_eq!(rt; (second.clients, second.choice), (1, 9));
+    assert!(rt; second.cuts.is_empty());
+    assert_eq!(rt; second.commands.len(), 1);
+    Ok(())
 }
 
 /// A put of so many bytes of the first kind, one of the second, and as many of the third.
@@ -525,24 +623,91 @@ fn what_is_read(rt: HostRuntime) -> Result<(), Fail> {
 }
 
 #[test]
-fn as_many_commands_as_may_be(rt: HostRuntime) -> Result<(), Fail> {
-    let mut text = after_life(rt.alloc(), b"")?;
-    for _ in 0..100_000 {
-        text.extend_from_slice(b"0 put some_key 1234567890\n")?;
+fn as_many_commands_of_a_client_as_may_be(rt: HostRuntime) -> Result<(), Fail> {
+    let mut text = Vec::from_slice(rt.alloc(), b"lines 64\nlife 2 power 0\n")?;
+    for _ in 0..16 {
+        text.extend_from_slice(b"0 get a\n1 count\n")?;
     }
-    assert_eq!(rt; read(rt.alloc(), &text), Outcome::Script(64, 1, 100_000));
+    assert_eq!(rt; read(rt.alloc(), &text), Outcome::Script(64, 1, 32));
     let whole = text.len();
-    for line in [
-        b"0 push\n".as_slice(),
-        b"0 get some_key\n".as_slice(),
-        b"0\n".as_slice(),
+    for (line, want) in [
+        (b"0 get a\n".as_slice(), Outcome::Refused(35, Reason::Form)),
+        (b"1 next\n".as_slice(), Outcome::Refused(35, Reason::Form)),
+        (
+            b"0 push\n".as_slice(),
+            Outcome::Refused(35, Reason::Command),
+        ),
+        (
+            b"2 get a\n".as_slice(),
+            Outcome::Refused(35, Reason::Client),
+        ),
+        // they are counted anew in each life
+        (
+            b"life 1 power 0\n0 get a\n".as_slice(),
+            Outcome::Script(64, 2, 33),
+        ),
     ] {
         text.truncate(whole);
         text.extend_from_slice(line)?;
-        assert_eq!(rt;
-            read(rt.alloc(), &text),
-            Outcome::Refused(100_003, Reason::Commands)
-        );
+        assert_eq!(rt; read(rt.alloc(), &text), want);
+    }
+    Ok(())
+}
+
+/// A life of 8 clients with 16 commands each, less the commands that a number says.
+fn full_life(text: &mut Vec<u8>, less: usize) -> Result<(), Fail> {
+    text.extend_from_slice(b"life 8 power 0\n")?;
+    let lines: [&[u8]; 8] = [
+        b"0 get some_key\n",
+        b"1 count\n",
+        b"2 next\n",
+        b"3 del k\n",
+        b"4 add n -1\n",
+        b"5 put a 1\n",
+        b"6 next a\n",
+        b"7 get a\n",
+    ];
+    for number in less..128 {
+        text.extend_from_slice(lines[number % 8])?;
+    }
+    Ok(())
+}
+
+#[test]
+fn as_many_commands_as_may_be(rt: HostRuntime) -> Result<(), Fail> {
+    // 781 lives of 128 commands, and one of 32
+    let mut text = Vec::from_slice(rt.alloc(), b"lines 64\n")?;
+    for _ in 0..781 {
+        full_life(&mut text, 0)?;
+    }
+    full_life(&mut text, 96)?;
+    // a cut may still come, and no further command
+    text.extend_from_slice(b"cut 0 1\n")?;
+    assert_eq!(rt; read(rt.alloc(), &text), Outcome::Script(64, 782, 100_000));
+    text.extend_from_slice(b"0 push\n")?;
+    assert_eq!(rt;
+        read(rt.alloc(), &text),
+        Outcome::Refused(100_785, Reason::Commands)
+    );
+    Ok(())
+}
+
+#[test]
+fn as_many_lives_as_may_be(rt: HostRuntime) -> Result<(), Fail> {
+    let mut text = Vec::from_slice(rt.alloc(), b"lines 64\n")?;
+    for _ in 0..1_000 {
+        text.extend_from_slice(b"life 1 power 0\n0 count\n")?;
+    }
+    assert_eq!(rt; read(rt.alloc(), &text), Outcome::Script(64, 1_000, 1_000));
+    let whole = text.len();
+    for (line, reason) in [
+        (b"life 1 power 0\n".as_slice(), Reason::Lives),
+        (b"life 0 power 0\n".as_slice(), Reason::Life),
+        (b"cut 1 1\n".as_slice(), Reason::Cut),
+    ] {
+        text.truncate(whole);
+        text.extend_from_slice(line)?;
+        assert_eq!(rt; read(rt.alloc(), &text), Outcome::Refused(2_002, reason));
     }
     Ok(())
 }

@@ -1,12 +1,13 @@
-use Rattle.std.proofs.Common.{◌≡◌, refl, map, true}
+use Rattle.std.proofs.Common.{◌≡◌, refl, map, true, sym, subst, rules}
 use Rattle.std.specs.Prelude.{string_bytes}
-use Rattle.cx_tool.specs.Answer.{IsRun, usage_text}
-use Rattle.cx_tool.specs.declared.status.Status.TheVariants.{Usage}
+use Rattle.cx_tool.specs.Answer.{IsRun, Owed, usage_text}
+use Rattle.cx_tool.specs.declared.status.Ended.{Ended}
 use Rattle.cx_tool.proofs.Answering.{answers-written}
 use Rattle.cx_tool.proofs.top_call.cx_run.Goals as goal
 
-pub returns-else-is_run-clause-answer : goal.returns-else-is_run-clause-answer
-returns-else-is_run-clause-answer g c =
-    answers-written (map string_bytes c.args.words.now) (g.S.Source.left c.args.source.now) usage_text Usage c.write_answer-status.result (g.K.Sink.written c.args.sink.now) (g.K.Sink.written c.write_answer-status.new.sink)
-    (g.K.Sink.faults c.args.sink.now) (g.K.Sink.faults c.write_answer-status.new.sink)
-    ((λ (run : IsRun (map string_bytes c.args.words.now)). let yes : c.is_run.result ≡ true = c.is_run.ensures.1 run in cc), refl) c.write_answer-status.ensures.wrote
+pub returns-in-Ok-false-clause-answer : goal.returns-in-Ok-false-clause-answer
+returns-in-Ok-false-clause-answer g c =
+    let none : IsRun (map string_bytes c.args.words.now) → ⊥ = search rules in
+    answers-written (map string_bytes c.args.words.now) (g.S.Source.left c.args.source.now) usage_text c.without_lives-ended.result c.write_answer.result (g.K.Sink.written c.args.sink.now) (g.K.Sink.written c.write_answer.new.sink)
+    (g.K.Sink.faults c.args.sink.now) (g.K.Sink.faults c.write_answer.new.sink)
+    (subst (λ (e : Ended). Owed (map string_bytes c.args.words.now) (g.S.Source.left c.args.source.now) e.status e.trails usage_text) (sym c.without_lives-ended.ensures) (none, refl)) c.write_answer.ensures.wrote

@@ -1,4 +1,5 @@
-use Rattle.std.proofs.Common.{◌*◌, ◌∙◌, arith, subst}
+use Rattle.std.proofs.Common.{◌*◌, ◌∙◌, arith, subst, sym}
+use Rattle.cx_rule.specs.Seats.{IsAtLimit, Seated}
 use Rattle.cx_turns.proofs.Refusals.{refusing_more}
 use Rattle.cx_turns.specs.Taking.{TriesOne}
 use Rattle.cx_turns.proofs.taking.take_any.Goals as goal
@@ -15,4 +16,5 @@ loop-tried-preserved g c =
       rest = e.rest ∙ i.rest;
       refusing = refusing_more shared.callers first c.loop-tried.tried c.wrapped-r.result c.args.seat.now c.loop-tried.seat c.try_one.new.seat (omega arith) (omega arith) (record { below = λ low. w.below (omega arith); above = λ high. (let up = w.above (omega arith) in omega arith) }) i.refusing
           (subst (TriesOne (g.O.Object.line_count shared.object) shared (g.O.Object.lawful shared.object) c.wrapped-r.result c.loop-tried.seat c.try_one.new.seat) c.in_default.is e.tried);
+      stood = λ at. absurd (e.allowed (subst (λ (s : Seated). IsAtLimit s.known.local) (sym (i.stood at).1) at));
     }

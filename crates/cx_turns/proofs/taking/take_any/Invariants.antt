@@ -1,5 +1,6 @@
 use Rattle.std.proofs.Common.{◌≡◌}
 use Rattle.cx_rule.specs.Running.{IsSeatOf}
+use Rattle.cx_rule.specs.Seats.{IsAtLimit}
 use Rattle.cx_turns.specs.Taking.{beside_tries}
 use Rattle.cx_turns.proofs.Refusals.{IsRefusing}
 use Rattle.cx_turns.proofs.taking.take_any.Given as goal
@@ -9,4 +10,5 @@ invariant-loop-tried g l = record {
   of : IsSeatOf l.shared l.seat;
   rest : beside_tries l.seat ≡ beside_tries l.fn.seat;
   refusing : IsRefusing l.shared.callers l.first l.tried l.fn.seat l.seat;
+  stood : IsAtLimit l.fn.seat.known.local → (l.tried ≡ 0) × (l.seat ≡ l.fn.seat);
 }

@@ -1,5 +1,5 @@
 use Rattle.std.proofs.Common.{arith, length, ap, ◌∙◌, take}
-use Rattle.doc_text.specs.Lives.{NameCommands}
+use Rattle.life_records.specs.Lives.{NameCommands}
 use Rattle.doc_text.specs.Report.{records_text}
 use Rattle.doc_text.proofs.Records.{length-lives, NamesCommands_at, records_text-step, records_text-all}
 use Rattle.doc_text.proofs.printing.report.Goals as goal

@@ -1,15 +1,22 @@
-use Rattle.std.proofs.Common.{◌≡◌, ◌≤◌, ◌+◌, length, [], refl, sym, ap, ◌∙◌, arith}
+use Rattle.std.proofs.Common.{◌≡◌, ◌≤◌, ◌+◌, All, length, [], refl, sym, ap, ◌∙◌, arith}
 use Rattle.std.specs.Result.{result_ok}
 use Rattle.std.proofs.lemmas.Bool.{eqb-true}
 use Rattle.std.proofs.lemmas.List.{nil_from_length}
-use Rattle.doc_text.specs.Grammar.{text_lines}
+use Rattle.std.proofs.lemmas.List.Elements.{All-nil}
+use Rattle.doc_model.specs.Meaning.{IsOp}
+use Rattle.doc_text.specs.Grammar.{Life, text_lines}
 use Rattle.doc_text.specs.Reading.{with_lines}
 use Rattle.doc_text.proofs.Adding.{fault, one_more, all_read}
 use Rattle.doc_text.proofs.reading.read_lines.Goals as goal
 
 pub loop-rest-init : goal.loop-rest-init
 unfolding with_lines
-loop-rest-init c = record { left = refl; read = refl; counted = omega arith; limits = λ k d below. absurd (omega (arith, below)) }
+loop-rest-init c = record {
+  left = refl;
+  read = rw c.new.ensures.items refl;
+  counted = omega arith;
+  limits = rw c.new.ensures.items (All-nil (λ (life : Life). All (λ c. IsOp c.op) life.commands));
+}
 
 pub returns-in-Some-clause-refused : goal.returns-in-Some-clause-refused
 returns-in-Some-clause-refused c =

@@ -1,5 +1,5 @@
 use Rattle.std.proofs.Common.{◌-◌}
-use Rattle.region_tests.specs.Stepping.{IsSteppable}
+use Rattle.replica.specs.Stepping.{IsSteppable}
 use Rattle.region_tests.proofs.region_tests.agree.Given as goal
 
 abbrev pub invariant-loop-k : goal.invariant-loop-k

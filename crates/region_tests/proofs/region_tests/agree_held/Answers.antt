@@ -3,8 +3,8 @@ use Rattle.cx_core.specs.Region.{region_words}
 use Rattle.cx_rule.specs.Fitting.{Fits}
 use Rattle.cx_rule.specs.Running.{Running}
 use Rattle.cx_rule.specs.Seats.{Seated}
-use Rattle.region_tests.specs.Stepping.{IsSteppable}
-use Rattle.region_tests.proofs.Stepping.{image_steppable}
+use Rattle.replica.specs.Stepping.{IsSteppable}
+use Rattle.replica.proofs.Stepping.{image_steppable}
 use Rattle.region_tests.proofs.region_tests.agree_held.Goals as goal
 
 pub agree-requires-clause-mem : goal.agree-requires-clause-mem

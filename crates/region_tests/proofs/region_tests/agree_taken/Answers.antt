@@ -1,7 +1,7 @@
 use Rattle.std.proofs.Common.{length, true, subst, sym}
 use Rattle.cx_base.specs.Memory.{Known}
-use Rattle.region_tests.specs.Stepping.{IsSteppable}
-use Rattle.region_tests.proofs.Stepping.{plain_steppable}
+use Rattle.replica.specs.Stepping.{IsSteppable}
+use Rattle.replica.proofs.Stepping.{plain_steppable}
 use Rattle.region_tests.proofs.region_tests.agree_taken.Goals as goal
 
 pub agree_held-requires-clause-plain : goal.agree_held-requires-clause-plain

@@ -1,4 +1,4 @@
-use Rattle.region_tests.proofs.Stepping.{stepped}
+use Rattle.replica.proofs.Stepping.{stepped}
 use Rattle.region_tests.proofs.region_tests.step_one.Goals as goal
 
 pub returns : goal.returns

@@ -1,4 +1,4 @@
-use Rattle.std.proofs.Common.{◌≡◌, subst, sym, Some}
+use Rattle.std.proofs.Common.{◌≡◌, arith, subst, sym, Some, ◌∙◌}
 use Rattle.cx_core.specs.declared.local.Answer.{Answer}
 use Rattle.cx_rule.specs.Running.{IsSeatOf, Running}
 use Rattle.cx_rule.specs.Seats.{Seated, unanswered_ticket}
@@ -10,19 +10,21 @@ use Rattle.cx_service.proofs.service.Service.drive_once.Goals as goal
 
 pub returns-in-Ok-Some : goal.returns-in-Ok-Some
 returns-in-Ok-Some g c =
-    let s = c.linked.inside.seat in
+    let s = c.deref_mut-at.result.now in
+    let is = c.deref_mut-at.ensures.value ∙ c.linked.view_is in
     let v = c.update_turn.new.seat in
     let ticket = c.ticket-ticket.result in
     let answer : Answer = record { ticket = ticket; reply = c.in-Ok-Some.reply } in
-    subst (λ (x : Seated). DriveDone c.args.self.now x v answer) c.linked.view_is
-    (turn_done c.args.self.now s v (subst (IsLinkedOf c.args.self.now) (sym c.linked.view_is) c.requires) c.update_turn.ensures.rest c.update_turn.ensures.front (subst (λ (t : Running _). IsSeatOf t v) c.self.view_is c.update_turn.ensures.seat)
-    ticket c.in-Ok-Some.reply (subst (λ (x : Seated). unanswered_ticket x.known.local ≡ Some ticket) (sym c.linked.view_is) c.ticket-ticket.ensures)
-    (subst (TurnsFor ticket s v) c.in-Ok-Some.field-0-is c.in-Ok-Some.ensures.turned))
+    subst (λ (x : Seated). DriveDone c.args.self.now x v answer) is
+    (turn_done c.args.self.now s v (subst (IsLinkedOf c.args.self.now) (sym is) c.requires) c.update_turn.ensures.rest c.update_turn.ensures.front (subst (λ (t : Running _). IsSeatOf t v) c.self.view_is c.update_turn.ensures.seat)
+    ticket c.in-Ok-Some.reply (subst (λ (x : Seated). unanswered_ticket x.known.local ≡ Some ticket) (sym is) c.ticket-ticket.ensures)
+    c.in-Ok-Some.ensures.allowed (subst (TurnsFor ticket s v) c.in-Ok-Some.field-0-is c.in-Ok-Some.ensures.turned))
 
 pub returns-in-Ok-None : goal.returns-in-Ok-None
 returns-in-Ok-None g c =
-    let s = c.linked.inside.seat in
+    let s = c.deref_mut-at.result.now in
+    let is = c.deref_mut-at.ensures.value ∙ c.linked.view_is in
     let v = c.update_turn.new.seat in
-    subst (λ (x : Seated). DrivePending c.args.self.now 1 x v) c.linked.view_is
-    (turn_refused c.args.self.now s v (subst (IsLinkedOf c.args.self.now) (sym c.linked.view_is) c.requires) c.update_turn.ensures.rest c.update_turn.ensures.front (subst (λ (t : Running _). IsSeatOf t v) c.self.view_is c.update_turn.ensures.seat)
-    (subst (TurnsFor c.ticket-ticket.result s v) c.in-Ok-None.field-0-is c.in-Ok-None.ensures.turned))
+    subst (λ (x : Seated). DrivePending c.args.self.now 1 x v) is
+    (turn_refused c.args.self.now s v (subst (IsLinkedOf c.args.self.now) (sym is) c.requires) c.update_turn.ensures.rest c.update_turn.ensures.front (subst (λ (t : Running _). IsSeatOf t v) c.self.view_is c.update_turn.ensures.seat)
+    c.in-Ok-None.ensures.allowed (omega (arith, c.met-met.ensures)) (subst (TurnsFor c.ticket-ticket.result s v) c.in-Ok-None.field-0-is c.in-Ok-None.ensures.turned))

@@ -1,4 +1,4 @@
-use Rattle.std.proofs.Common.{subst, sym}
+use Rattle.std.proofs.Common.{arith, subst, sym, ◌∙◌}
 use Rattle.cx_rule.specs.Running.{IsSeatOf, Running}
 use Rattle.cx_rule.specs.Seats.{Seated}
 use Rattle.cx_service.specs.Callers.{IsCallerOf}
@@ -9,20 +9,23 @@ use Rattle.cx_service.proofs.service.Service.read_once.Goals as goal
 
 pub returns-in-Ok-Some : goal.returns-in-Ok-Some
 returns-in-Ok-Some g c =
-    let s = c.caller.inside.seat in
+    let s = c.deref_mut-at.result.now in
+    let is = c.deref_mut-at.ensures.value ∙ c.caller.view_is in
     let v = c.read_turn.new.seat in
-    subst (λ (x : Seated). ReadAnswered c.args.self.now c.args.op.now x v c.in-Ok-Some.seen) c.caller.view_is
-    (read_done c.args.self.now c.args.op.now s v (subst (IsCallerOf c.args.self.now) (sym c.caller.view_is) c.requires.caller) c.read_turn.ensures.rest c.read_turn.ensures.front (subst (λ (t : Running _). IsSeatOf t v) c.self.view_is c.read_turn.ensures.seat)
-    c.in-Ok-Some.seen (subst (LooksUp c.args.op.now s v) c.in-Ok-Some.field-0-is c.in-Ok-Some.ensures.turned))
+    subst (λ (x : Seated). ReadAnswered c.args.self.now c.args.op.now x v c.in-Ok-Some.seen) is
+    (read_done c.args.self.now c.args.op.now s v (subst (IsCallerOf c.args.self.now) (sym is) c.requires.caller) c.read_turn.ensures.rest c.read_turn.ensures.front (subst (λ (t : Running _). IsSeatOf t v) c.self.view_is c.read_turn.ensures.seat)
+    c.in-Ok-Some.seen c.in-Ok-Some.ensures.allowed (subst (LooksUp c.args.op.now s v) c.in-Ok-Some.field-0-is c.in-Ok-Some.ensures.turned))
 
 pub returns-in-Ok-None : goal.returns-in-Ok-None
 returns-in-Ok-None g c =
-    let s = c.caller.inside.seat in
+    let s = c.deref_mut-at.result.now in
+    let is = c.deref_mut-at.ensures.value ∙ c.caller.view_is in
     let v = c.read_turn.new.seat in
-    subst (λ (x : Seated). ReadPending c.args.self.now 1 x v) c.caller.view_is
-    (read_refused c.args.self.now c.args.op.now s v (subst (IsCallerOf c.args.self.now) (sym c.caller.view_is) c.requires.caller) c.read_turn.ensures.rest c.read_turn.ensures.front (subst (λ (t : Running _). IsSeatOf t v) c.self.view_is c.read_turn.ensures.seat)
-    (subst (LooksUp c.args.op.now s v) c.in-Ok-None.field-0-is c.in-Ok-None.ensures.turned))
+    subst (λ (x : Seated). ReadPending c.args.self.now 1 x v) is
+    (read_refused c.args.self.now c.args.op.now s v (subst (IsCallerOf c.args.self.now) (sym is) c.requires.caller) c.read_turn.ensures.rest c.read_turn.ensures.front (subst (λ (t : Running _). IsSeatOf t v) c.self.view_is c.read_turn.ensures.seat)
+    c.in-Ok-None.ensures.allowed (omega (arith, c.met-met.ensures)) (subst (LooksUp c.args.op.now s v) c.in-Ok-None.field-0-is c.in-Ok-None.ensures.turned))
 
 pub read_turn-requires-clause-answered : goal.read_turn-requires-clause-answered
 read_turn-requires-clause-answered g c =
-    all_answered c.args.self.now c.caller.inside.seat (subst (IsCallerOf c.args.self.now) (sym c.caller.view_is) c.requires.caller)
+    let is = c.deref_mut-at.ensures.value ∙ c.caller.view_is in
+    all_answered c.args.self.now c.deref_mut-at.result.now (subst (IsCallerOf c.args.self.now) (sym is) c.requires.caller)

@@ -14,12 +14,12 @@ as_callers-requires-clause-room g c =
 pub returns : goal.returns
 returns g c =
     let r = c.in-Ok-make.shared in
-    let seats : c.as_callers.result.items ≡ map (opening_seat r c.args.limits.now) (range_with_len 0 c.args.callers) = c.as_callers.ensures ∙ c.in-Ok-make.ensures.seats in
+    let seats : c.in-Ok-as_callers.callers.items ≡ map (opening_seat r c.args.limits.now) (range_with_len 0 c.args.callers) = c.in-Ok-as_callers.ensures ∙ c.in-Ok-make.ensures.seats in
     let callers = ap (λ x. x.callers) c.in-Ok-make.ensures.table in
-    let all = subst (AreSeats r) (sym c.as_callers.ensures) c.in-Ok-make.ensures.all in record {
+    let all = subst (AreSeats r) (sym c.in-Ok-as_callers.ensures) c.in-Ok-make.ensures.all in record {
       right = ((omega (arith, c.if-callers-lt1.false), omega (arith, c.if-callers-gt8.false)), (omega (arith, c.if-lines-lt64.false, c.lines-lines.ensures), omega (arith, c.if-lines-gt16384.false, c.lines-lines.ensures)));
       is = c.in-Ok-make.ensures.table;
       opened = seats;
-      each = each_opened r c.args.limits.now c.as_callers.result.items (seats ∙ ap (λ n. map (opening_seat r c.args.limits.now) (range_with_len 0 n)) (sym callers)) all.of;
+      each = each_opened r c.args.limits.now c.in-Ok-as_callers.callers.items (seats ∙ ap (λ n. map (opening_seat r c.args.limits.now) (range_with_len 0 n)) (sym callers)) all.of;
       all = all;
     }

@@ -1,7 +1,13 @@
+use Rattle.std.proofs.Common.{◌≡◌}
+use Rattle.cx_rule.specs.Seats.{IsAtLimit}
 use Rattle.cx_service.specs.Callers.{IsCallerOf}
 use Rattle.cx_service.specs.Updates.{KeepsLists}
 use Rattle.cx_service.proofs.service.Service.update.Given as goal
 
--- the caller is in no call, and its lists are as they were
+-- the caller is in no call, and its lists are as they were; where it was at its limit no step was made
 abbrev pub invariant-loop : goal.invariant-loop
-invariant-loop g l = record { caller : IsCallerOf l.self l.caller; keeps : KeepsLists l.fn.caller l.caller }
+invariant-loop g l = record {
+  caller : IsCallerOf l.self l.caller;
+  keeps : KeepsLists l.fn.caller l.caller;
+  stood : IsAtLimit l.fn.caller.known.local → l.caller ≡ l.fn.caller;
+}

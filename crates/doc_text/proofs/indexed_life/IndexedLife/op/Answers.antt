@@ -3,7 +3,7 @@ use Rattle.std.specs.Option.{option_map}
 use Rattle.std.specs.Borrow.{Bor}
 use Rattle.doc_model.specs.declared.operations.Op.{Op}
 use Rattle.doc_text.specs.Grammar.{Life}
-use Rattle.doc_text.specs.Lives.{named_op}
+use Rattle.life_records.specs.Scripts.{named_op}
 use Rattle.doc_text.proofs.OwnOps.{got, op_of_at}
 use Rattle.doc_text.proofs.indexed_life.IndexedLife.op.Goals as goal
 

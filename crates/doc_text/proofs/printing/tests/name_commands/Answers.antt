@@ -2,7 +2,8 @@ use Rattle.std.proofs.Common.{◌≡◌, ℕ, suc, ◌+◌, ◌<◌, List, [], �
 use Rattle.std.proofs.lemmas.Bool.{cases_lt}
 use Rattle.std.proofs.lemmas.List.{get_or_read}
 use Rattle.doc_text.specs.Grammar.{Life}
-use Rattle.doc_text.specs.Lives.{LifeRecord, NameCommands, NamesCommands}
+use Rattle.life_records.specs.Lives.{NameCommands, NamesCommands}
+use Rattle.life_records.specs.declared.record.LifeRecord.{LifeRecord}
 use Rattle.doc_text.proofs.printing.tests.name_commands.Goals as goal
 
 -- what is so at each place is so of the lists

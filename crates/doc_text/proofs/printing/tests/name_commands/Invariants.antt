@@ -1,6 +1,7 @@
 use Rattle.std.proofs.Common.{ℕ, ◌<◌, get_or}
 use Rattle.doc_text.specs.Grammar.{Life}
-use Rattle.doc_text.specs.Lives.{LifeRecord, NamesCommands}
+use Rattle.life_records.specs.Lives.{NamesCommands}
+use Rattle.life_records.specs.declared.record.LifeRecord.{LifeRecord}
 use Rattle.doc_text.proofs.printing.tests.name_commands.Given as goal
 
 abbrev pub invariant-loop-number : goal.invariant-loop-number

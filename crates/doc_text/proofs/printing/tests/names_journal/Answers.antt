@@ -1,8 +1,8 @@
 use Rattle.std.proofs.Common.{rules, subst, sym, take}
 use Rattle.std.proofs.lemmas.List.{take_all}
 use Rattle.std.proofs.lemmas.List.Elements.{All-more, All-same}
-use Rattle.doc_text.specs.Lives.{Names}
-use Rattle.doc_text.specs.declared.lives.JournalLine.{JournalLine}
+use Rattle.life_records.specs.Lives.{Names}
+use Rattle.life_records.specs.declared.record.JournalLine.{JournalLine}
 use Rattle.doc_text.proofs.printing.tests.names_journal.Goals as goal
 
 pub loop-line-preserved : goal.loop-line-preserved

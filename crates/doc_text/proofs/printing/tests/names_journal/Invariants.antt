@@ -1,5 +1,5 @@
 use Rattle.std.proofs.Common.{All, take}
-use Rattle.doc_text.specs.Lives.{Names}
+use Rattle.life_records.specs.Lives.{Names}
 use Rattle.doc_text.proofs.printing.tests.names_journal.Given as goal
 
 abbrev pub invariant-loop-line : goal.invariant-loop-line

@@ -1,0 +1,58 @@
+-- A client's commands among the first ones of a life.
+use Rattle.std.proofs.Common.{◌≡◌, ◌≢◌, ℕ, zero, suc, ◌+◌, ◌-◌, ◌<◌, ◌≤◌, ◌==◌, Bool, true, false, cond, List, [], ◌∷◌, ◌++◌, length, get_or, take, drop, map, filter, slice_get, Option, None, Some, sym, ap, subst, ◌∙◌, refl, arith, length-append, add-one}
+use Rattle.std.specs.Prelude.{All}
+use Rattle.std.proofs.lemmas.Bool.{eq-eqb, ne_eqb}
+use Rattle.std.proofs.lemmas.List.{map-append, take_more, take-append-drop}
+use Rattle.std.proofs.lemmas.List.Elements.{filter-append}
+use Rattle.doc_model.specs.declared.operations.Op.{Op}
+use Rattle.doc_model.specs.Meaning.{IsOp}
+use Rattle.life_records.specs.declared.script.Command.{Command}
+use Rattle.life_records.specs.declared.script.Life.{Life}
+use Rattle.life_records.specs.Limits.{IsCommandOf, IsLifeInLimits}
+use Rattle.life_records.specs.Scripts.{named_op, own_ops}
+
+own_ops-append : (client : ℕ) (xs ys : List Command) → own_ops client (xs ++ ys) ≡ own_ops client xs ++ own_ops client ys
+own_ops-append client xs ys =
+    ap (map (λ (c : Command). c.op)) (filter-append (λ c. c.client == client) xs ys)
+    ∙ map-append (λ (c : Command). c.op) (filter (λ c. c.client == client) xs) (filter (λ c. c.client == client) ys)
+
+get_middle : {X : Type 0} (xs : List X) (x : X) (ys : List X) → slice_get ((xs ++ x ∷ []) ++ ys) (length xs) ≡ Some x
+get_middle [] x ys = refl
+get_middle (z ∷ xs) x ys = get_middle xs x ys
+
+own_ops_next : (client : ℕ) (commands : List Command) (i : ℕ) (command : Command) → i < length commands → command ≡ get_or commands i command
+    → own_ops client (take (i + 1) commands) ≡ own_ops client (take i commands) ++ own_ops client (command ∷ [])
+own_ops_next client commands i command within at =
+    ap (own_ops client) (take_more commands i command within ∙ ap (λ (c : Command). take i commands ++ c ∷ []) (sym at))
+    ∙ own_ops-append client (take i commands) (command ∷ [])
+
+-- how many commands a client has among the first ones
+pub own_more : (client : ℕ) (commands : List Command) (i : ℕ) (command : Command) → i < length commands → command ≡ get_or commands i command → command.client ≡ client
+    → length (own_ops client (take (i + 1) commands)) ≡ length (own_ops client (take i commands)) + 1
+own_more client commands i command within at own =
+    let one : own_ops client (command ∷ []) ≡ command.op ∷ [] = ap (λ b. map (λ (c : Command). c.op) (cond b (command ∷ []) [])) (eq-eqb command.client client own) in
+    omega (arith, ap length (own_ops_next client commands i command within at), length-append (own_ops client (take i commands)) (own_ops client (command ∷ [])), ap length one)
+
+pub own_none : (client : ℕ) (commands : List Command) (i : ℕ) (command : Command) → i < length commands → command ≡ get_or commands i command → command.client ≢ client
+    → length (own_ops client (take (i + 1) commands)) ≡ length (own_ops client (take i commands))
+own_none client commands i command within at other =
+    let none : own_ops client (command ∷ []) ≡ [] = ap (λ b. map (λ (c : Command). c.op) (cond b (command ∷ []) [])) (ne_eqb command.client client other) in
+    omega (arith, ap length (own_ops_next client commands i command within at), length-append (own_ops client (take i commands)) (own_ops client (command ∷ [])), ap length none)
+
+-- the next of a client's commands
+pub named_next : (life : Life) (i number : ℕ) (command : Command) → i < length life.commands → command ≡ get_or life.commands i command → number ≡ length (own_ops command.client (take i life.commands))
+    → named_op life command.client (number + 1) ≡ Some command.op
+named_next life i number command within at e =
+    let me = command.client in
+    let front = own_ops me (take i life.commands) in
+    let rest = own_ops me (drop (i + 1) life.commands) in
+    let one : own_ops me (command ∷ []) ≡ command.op ∷ [] = ap (λ b. map (λ (c : Command). c.op) (cond b (command ∷ []) [])) (eq-eqb me me refl) in
+    let parts : own_ops me life.commands ≡ (front ++ command.op ∷ []) ++ rest =
+    ap (own_ops me) (sym (take-append-drop (i + 1) life.commands))
+    ∙ own_ops-append me (take (i + 1) life.commands) (drop (i + 1) life.commands)
+    ∙ ap (λ ops. ops ++ rest) (own_ops_next me life.commands i command within at ∙ ap (λ ops. front ++ ops) one) in
+    rw add-one (ap (λ (ops : List Op). slice_get ops number) parts ∙ ap (λ n. slice_get ((front ++ command.op ∷ []) ++ rest) n) e ∙ get_middle front command.op rest)
+
+-- its operation is within the limits
+pub next_is_op : (life : Life) (i : ℕ) (command : Command) → IsLifeInLimits life → i < length life.commands → command ≡ get_or life.commands i command → IsOp command.op
+next_is_op life i command limits within at = subst (λ (c : Command). IsOp c.op) (sym at) ((limits.commands i command within).op)

@@ -1,0 +1,131 @@
+-- One client's work more among all.
+use Rattle.std.proofs.Common.{◌≡◌, ℕ, zero, suc, ◌+◌, ◌<◌, ◌≤◌, Bool, true, false, ◌||◌, List, [], ◌∷◌, ◌++◌, length, get_or, drop, map, slice_get, Option, None, Some, sym, ap, subst, ◌∙◌, refl, inl, inr, ◌⊎◌, arith}
+use Rattle.std.specs.Prelude.{All, MatchBool, Result, IfOk}
+use Rattle.std.specs.List.{range_with_len}
+use Rattle.std.specs.Option.{option_to_list}
+use Rattle.std.specs.declared.alloc.AllocError.{AllocError}
+use Rattle.std.proofs.lemmas.List.{length-map, map-append, length-append}
+use Rattle.std.proofs.lemmas.List.FromFn.{length-range_with_len}
+use Rattle.std.proofs.lemmas.List.Elements.{All-nil, All-push}
+use Rattle.cx_core.proofs.Locals.{slice_get-last, slice_get-push}
+use Rattle.cx_core.proofs.ListLemmas.{slice_get-append_left}
+use Rattle.cx_core.specs.declared.local.Local.{Local}
+use Rattle.cx_core.specs.State.{EachLocal}
+use Rattle.cx_rule.specs.Running.{IsSeatOf, Running}
+use Rattle.cx_rule.specs.Seats.{Seated}
+use Rattle.cx_service.specs.Closes.{seat_of, seats_of}
+use Rattle.cx_service.specs.declared.close.Handed.{Handed}
+use Rattle.cx_table.specs.Remains.{AreSeats, locals_of}
+use Rattle.journals.specs.Works.{AreWorks, IsWork}
+use Rattle.life_records.specs.declared.script.Life.{Life}
+use Rattle.life_records.specs.declared.record.JournalLine.{JournalLine}
+use Rattle.life_records.specs.declared.record.ReadLine.{ReadLine}
+use Rattle.life_records.specs.declared.record.StopLine.{StopLine}
+use Rattle.cx_lives.specs.declared.desk.End.{End}
+use Rattle.cx_lives.specs.declared.desk.End.TheVariants.{Whole, Stopped, Never}
+use Rattle.cx_lives.specs.declared.desk.Work.{Work}
+use Rattle.cx_lives.specs.declared.gather.Gathered.{Gathered}
+use Rattle.cx_lives.specs.Ends.{AreNumbered, AreWorksOf, CannotBe, IsEndOf, IsWorkOf}
+use Rattle.cx_lives.specs.Gathering.{AddsWork, AreGathered, HasNever, IsLocalIn, is_never, stop_in}
+
+abbrev number : Seated → ℕ
+number s = s.known.local.number
+
+range_more : (a n : ℕ) → range_with_len a (suc n) ≡ range_with_len a n ++ (a + n) ∷ []
+range_more a zero = (let same : a ≡ a + 0 = omega arith in ap (λ k. k ∷ []) same)
+range_more a (suc n) =
+    let same : a + 1 + n ≡ a + suc n = omega arith in
+    ap (λ ks. a ∷ ks) (range_more (a + 1) n ∙ ap (λ k. range_with_len (a + 1) n ++ k ∷ []) same)
+
+-- the local states of callers as they were handed in
+abbrev pub locals_in : List Handed → List Local
+locals_in handed = locals_of (seats_of handed)
+
+locals_more : (xs : List Handed) (h : Handed) → locals_in (xs ++ h ∷ []) ≡ locals_in xs ++ (seat_of h).known.local ∷ []
+locals_more [] h = refl
+locals_more (x ∷ xs) h = ap (λ ls. (seat_of x).known.local ∷ ls) (locals_more xs h)
+
+pub locals_long : (xs : List Handed) → length (locals_in xs) ≡ length xs
+locals_long [] = refl
+locals_long (x ∷ xs) = ap suc (locals_long xs)
+
+module _ (life : Life) (ls : List Local) (l : Local) where
+  never_stays : HasNever life ls → HasNever life (ls ++ l ∷ [])
+  never_stays h = record { client = h.client; local = h.local; of_client = slice_get-append_left ls (l ∷ []) h.client h.local h.of_client; is = h.is }
+
+  never_now : CannotBe life (length ls) l → HasNever life (ls ++ l ∷ [])
+  never_now is = record { client = length ls; local = l; of_client = slice_get-last ls l; is = is }
+
+  module _ (es es' : List JournalLine) (rs rs' : List ReadLine) (ss : List StopLine)
+      (go_on : (stop : Option StopLine) → AreWorks life ls es rs ss → IsWork life (length ls) l es' rs' stop → AreWorks life (ls ++ l ∷ []) (es ++ es') (rs ++ rs') (ss ++ option_to_list stop)) where
+    works_more : (b : Bool) (end_ : End) → MatchBool b (HasNever life ls) (AreWorks life ls es rs ss) → IsEndOf life (length ls) l es' rs' end_
+        → MatchBool (b || is_never end_) (HasNever life (ls ++ l ∷ [])) (AreWorks life (ls ++ l ∷ []) (es ++ es') (rs ++ rs') (ss ++ stop_in end_))
+    works_more true end_ w e = never_stays w
+    works_more false Whole w e = go_on None w e
+    works_more false (Stopped line) w e = go_on (Some line) w e
+    works_more false Never w e = never_now e
+
+-- what the laws of lines say of one client more
+abbrev pub GoesOn : Life → Type 0
+GoesOn life =
+    (locals : List Local) (l : Local) (entries es : List JournalLine) (reads rs : List ReadLine) (stops : List StopLine) (stop : Option StopLine) → AreWorks life locals entries reads stops →
+    IsWork life (length locals) l es rs stop → AreWorks life (locals ++ l ∷ []) (entries ++ es) (reads ++ rs) (stops ++ option_to_list stop)
+
+pub gathered_more : {O : Type 0} (life : Life) (r : Running O) (before after : Gathered) (work : Work) → GoesOn life → AreGathered life r before → AddsWork before after work → IsWorkOf life r (length before.handed.items) work
+    → AreGathered life r after
+gathered_more life r before after work go_on g adds w =
+    let hs = before.handed.items in
+    let ls = locals_in hs in
+    let s = seat_of work.handed in
+    let l = s.known.local in
+    let n = length hs in
+    let seats : seats_of after.handed.items ≡ seats_of hs ++ s ∷ [] = ap seats_of adds.handed ∙ map-append seat_of hs (work.handed ∷ []) in
+    let locals : locals_in after.handed.items ≡ ls ++ l ∷ [] = ap locals_in adds.handed ∙ locals_more hs work.handed in
+    let long : length ls ≡ n = locals_long hs in
+    let longer : length after.handed.items ≡ suc n = omega (arith, ap length adds.handed, length-append hs (work.handed ∷ [])) in
+    let last : number s ≡ 0 + n = w.caller.by ∙ omega arith in
+    let own : IsLocalIn life n l = record { limit = w.caller.limit; few = w.caller.few } in
+    let at_long = subst (λ k. IsEndOf life k l work.entries.items work.reads.items work.end) (sym long) w.ends in
+    let more = works_more life ls l before.entries.items work.entries.items before.reads.items work.reads.items before.stops.items
+        (λ stop. go_on ls l before.entries.items work.entries.items before.reads.items work.reads.items before.stops.items stop) before.never work.end g.works at_long in
+    record {
+      of = rw seats (All-push (IsSeatOf r) (seats_of hs) s g.of w.caller.of);
+      numbers = ap (map number) seats ∙ map-append number (seats_of hs) (s ∷ []) ∙ ap (λ ks. ks ++ number s ∷ []) g.numbers ∙ ap (λ k. range_with_len 0 n ++ k ∷ []) last ∙ sym (range_more 0 n) ∙ ap (range_with_len 0) (sym longer);
+      each = λ i x at. elim (slice_get-push ls l i x (ap (λ xs. slice_get xs i) (sym locals) ∙ at)) [
+        | inl there ↦ g.each i x there
+        | inr new ↦ subst (IsLocalIn life i) new.1 (subst (λ k. IsLocalIn life k l) (sym (new.0 ∙ long)) own)
+      ];
+      works = rw (locals, adds.entries, adds.reads, adds.stops, adds.never) more;
+    }
+
+pub gathered_none : {O : Type 0} (life : Life) (r : Running O) (g : Gathered) → AreWorks life [] [] [] [] → g.handed.items ≡ [] → g.entries.items ≡ [] → g.reads.items ≡ [] → g.stops.items ≡ [] → g.never ≡ false → AreGathered life r g
+gathered_none life r g begin handed entries reads stops never = record {
+  of = rw handed (All-nil (IsSeatOf r));
+  numbers = rw handed refl;
+  each = rw handed (λ i x at. cc);
+  works = rw (never, handed, entries, reads, stops) begin;
+}
+
+-- the works of callers from one on, by the callers' numbers
+pub numbered : {O : Type 0} (life : Life) (r : Running O) (k : ℕ) (callers : List Seated) (works : List (Result Work AllocError)) → length works ≡ length callers → map number callers ≡ range_with_len k (length callers)
+    → AreWorksOf life r callers works → AreNumbered life r k works
+numbered life r k [] [] long numbers each = tt
+numbered life r k [] (w ∷ ws) long numbers each = absurd (omega (arith, long))
+numbered life r k (s ∷ cs) [] long numbers each = absurd (omega (arith, long))
+numbered life r k (s ∷ cs) (w ∷ ws) long numbers each =
+    let first : number s ≡ k = ap (λ (xs : List ℕ). get_or xs 0 0) numbers in
+    (
+      subst (λ i. IfOk w (IsWorkOf life r i)) first (each 0 w s (omega arith)),
+      numbered life r (k + 1) cs ws (omega (arith, long)) (ap (λ (xs : List ℕ). drop 1 xs) numbers) (λ i d e within. each (suc i) d e (omega (arith, within))),
+    )
+
+-- as many seats as callers
+pub seats_long : {O : Type 0} (r : Running O) (seats : List Seated) → AreSeats r seats → length seats ≡ r.callers
+seats_long r seats are = omega (arith, ap length are.numbers, length-map seats number, length-range_with_len 0 r.callers)
+
+-- what is put together of all callers has all seats
+pub gathered_seats : {O : Type 0} (life : Life) (r : Running O) (callers : List Seated) (g : Gathered) → AreSeats r callers → length g.handed.items ≡ length callers → AreGathered life r g → AreSeats r (seats_of g.handed.items)
+gathered_seats life r callers g are long gathered =
+    let few = seats_long r callers are in
+    let all : length g.handed.items ≡ r.callers = omega (arith, long, few) in
+    record { of = gathered.of; numbers = gathered.numbers ∙ ap (range_with_len 0) all }

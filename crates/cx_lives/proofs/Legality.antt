@@ -1,0 +1,196 @@
+-- A life that was run, lost its power and was recovered is a legal life, told by its trail.
+use Rattle.std.proofs.Common.{◌≡◌, ◌↔◌, ◌+◌, ◌-◌, ◌%◌, ◌<◌, ◌≤◌, ℕ, Bool, true, List, length, map, slice_index, refl, sym, ap, ap₂, subst, ◌∙◌, arith, Some, Ok, Result, MatchResult}
+use Rattle.std.specs.Prelude.{All, slice_get}
+use Rattle.cx_base.specs.Codes.{root_place_of}
+use Rattle.cx_base.specs.Store.{Store}
+use Rattle.cx_core.specs.Base.{LawfulBase}
+use Rattle.cx_core.specs.Crash.{IsKept as IsKeptOf, recovered}
+use Rattle.cx_core.specs.History.{full_image}
+use Rattle.cx_core.specs.Lawful.{Lawful}
+use Rattle.cx_core.specs.LawfulAnswers.{durable_place}
+use Rattle.cx_core.specs.Region.{object_part}
+use Rattle.cx_core.specs.Shown.{shown}
+use Rattle.cx_core.specs.State.{Instance, State}
+use Rattle.cx_core.specs.declared.entry.Base.{Base}
+use Rattle.cx_core.specs.declared.entry.Entry.{Entry}
+use Rattle.cx_core.specs.declared.entry.Image.{Image}
+use Rattle.cx_rule.specs.Running.{Running, instance_at}
+use Rattle.cx_rule.specs.Seats.{Seated}
+use Rattle.cx_table.specs.Remains.{Leaves, locals_of}
+use Rattle.cx_table.specs.declared.remains.Remains.{Remains}
+use Rattle.doc_store.specs.ExactStep.{IsImage, reads_in, store_step}
+use Rattle.doc_store.specs.declared.store.DocStore.{DocStore}
+use Rattle.index_checks.specs.Reading.{store_in}
+use Rattle.journals.specs.Ended.{IsEnded, IsSameButKept}
+use Rattle.journals.specs.Told.{IsTold}
+use Rattle.journals.specs.Works.{AreWorks}
+use Rattle.life_laws.specs.Begins.{Begun, IsBaseOf, begun_after}
+use Rattle.life_laws.specs.Meanings.{store_instance}
+use Rattle.life_laws.specs.Recorded.{GoesOn, HasReplies, IsKeptIn, IsRecorded}
+use Rattle.life_records.specs.Lives.{IsKept, IsKeptStop, IsLegal, IsLegalLife, answers_of}
+use Rattle.life_records.specs.declared.record.JournalLine.{JournalLine}
+use Rattle.life_records.specs.declared.record.LifeRecord.{LifeRecord}
+use Rattle.life_records.specs.declared.script.Life.{Life}
+use Rattle.recovery.specs.Crashes.{IsLeftOf, left_root}
+use Rattle.recovery.specs.Kept.{IsKeptBy, IsOpened, crash_of}
+use Rattle.cx_lives.specs.Life.{HasRun}
+use Rattle.cx_lives.specs.Lives.{HasLived, HasLost, IsServiceOf, IsToldBy}
+use Rattle.cx_lives.specs.declared.lives.Ran.{Ran}
+use Rattle.cx_lives.proofs.Entries.{few_entries}
+
+abbrev pub steps : DocStore → List ℕ → List ℕ → List ℕ × List ℕ
+steps store = store_step store.lines
+
+abbrev pub readings : DocStore → List ℕ → Bool
+readings _ = reads_in
+
+abbrev pub lines_in : DocStore → ℕ
+lines_in store = store.lines
+
+abbrev pub images : DocStore → List ℕ → Type 0
+images store = IsImage store.lines
+
+-- a closed service of the store, and a base that was kept of it
+pub record Closed (instance : Instance) (remains : Remains) (next : Base) : Type 0 where
+  pub s : State
+  pub law : Lawful instance s
+  pub history : law.history ≡ remains.trail.history
+  pub shows : map shown s.locals ≡ remains.trail.locals
+  pub kept : IsKeptOf instance law.history s next
+
+module _ (service : Running DocStore) (seats : List Seated) (remains : Remains) (choice : ℕ) (image : Image) (next : Base)
+    (opened : IsOpened lines_in images service) (leaves : Leaves service (instance_at service steps readings) seats remains) (left : IsLeftOf remains choice image)
+    (by : IsKeptBy lines_in images steps service seats remains choice next)
+    (rec : IsKeptOf (instance_at service steps readings) leaves.state.history (record { words = leaves.words; locals = leaves.whole }) (recovered (instance_at service steps readings) (crash_of image))) where
+  pub closed_now : Closed (instance_at service steps readings) remains next
+  closed_now =
+      let place : root_place_of service.callers image.root ≡ next.place = ap (root_place_of service.callers) left.root ∙ sym by.place in
+      let inst : Instance = instance_at service steps readings in
+      record {
+        s = record { words = leaves.words; locals = leaves.whole };
+        law = leaves.state;
+        history = leaves.history;
+        shows = leaves.shows ∙ sym leaves.locals;
+        kept = record {
+          from = by.from;
+          durable = subst (λ (p : ℕ). durable_place inst leaves.words ≤ p) place rec.durable;
+          to = subst (λ (es : List Entry). next.place ≤ service.base.place + length es) (sym leaves.history) by.to;
+          long = by.again.size.long ∙ sym opened.base.size.long;
+          full = λ i within. ap (λ (ws : List ℕ). slice_index ws i) (by.words ∙ ap (λ (es : List Entry). full_image (steps service.object) service.base es next.place) (sym leaves.history));
+          answered = λ c l at i x told. subst (λ (p : ℕ). x.ticket < p) place (rec.answered c l at i x told);
+          reads = λ c l at i x told. subst (λ (p : ℕ). x.place ≤ p) place (rec.reads c l at i x told);
+        };
+      }
+
+-- the same, said over the lines and the base
+pub closed_of : (lines : ℕ) (base : Base) (life : Life) (service : Running DocStore) (remains : Remains) (next : Base) → IsServiceOf lines base life service
+    → Closed (instance_at service steps readings) remains next → Closed (store_instance lines service.callers base) remains next
+closed_of lines base life service remains next is c =
+    let same : instance_at service steps readings ≡ store_instance lines service.callers base =
+    λ i. record { callers = service.callers; base = is.from i; step = store_step (is.store i); reads = reads_in } in
+    subst (λ (x : Instance). Closed x remains next) same c
+
+-- of a legal life, from what its parts say
+module _ (lines place : ℕ) (store : Store) (life : Life) (told flagged : LifeRecord) (next : Base) (from : flagged.from ≡ place) (told_from : told.from ≡ place)
+    (ended : IsEnded life flagged) (has : HasReplies lines place store life flagged) (goes : GoesOn lines place store life flagged next) where
+  legal_of : IsLegal lines place store life flagged
+  legal_of = record {
+    tickets = λ i line at. ended.tickets i line at ∙ ap (λ (p : ℕ). p + i) from;
+    interleaved = ended.interleaved;
+    reads_in_order = ended.reads_in_order;
+    stops_in_order = ended.stops_in_order;
+    fulls_in_order = ended.fulls_in_order;
+    ended = ended.ended;
+    stops = ended.stops;
+    fulls = ended.fulls;
+    replies = has.replies;
+    legal_reads = has.legal_reads;
+    in_turn = has.in_turn;
+  }
+
+  kept_of : (flagged.journal ≡ told.journal) → (kept : ℕ) → flagged.kept ≡ kept → All (λ line. (line.kept ≡ true) ↔ IsKeptStop told.from kept told.journal line) flagged.stops → IsKept lines place store life flagged
+  kept_of journal kept kept_is flags = record {
+    prefix = goes.prefix;
+    answered = goes.answered;
+    stops =
+        subst (λ (j : List JournalLine). All (λ line. (line.kept ≡ true) ↔ IsKeptStop place flagged.kept j line) flagged.stops) (sym journal)
+        (subst (λ (p : ℕ). All (λ line. (line.kept ≡ true) ↔ IsKeptStop p flagged.kept told.journal line) flagged.stops) told_from
+        (subst (λ (k : ℕ). All (λ line. (line.kept ≡ true) ↔ IsKeptStop told.from k told.journal line) flagged.stops) (sym kept_is) flags));
+    documents = goes.documents;
+  }
+
+-- the table that a life's service was is opened
+pub opened_of : (lines : ℕ) (base : Base) (life : Life) (service : Running DocStore) → 64 ≤ lines → lines ≤ 16384 → LawfulBase lines (IsImage lines) base → IsServiceOf lines base life service → IsOpened lines_in images service
+opened_of lines base life service enough few lawful is = record {
+  lines = is.has_lines ∙ sym is.store;
+  enough = subst (λ (l : ℕ). 64 ≤ l) (sym is.has_lines) enough;
+  small = subst (λ (l : ℕ). l ≤ 16384) (sym is.has_lines) few;
+  base = subst (λ (b : Base). LawfulBase service.object.lines (IsImage service.object.lines) b) (sym is.from) (subst (λ (l : ℕ). LawfulBase l (IsImage l) base) (sym is.store) lawful);
+}
+
+module _ (lines : ℕ) (base : Base) (life : Life) (begun : Begun) (service : Running DocStore) (told flagged : LifeRecord) (remains : Remains) (image : Image) (next : Base)
+    (based : IsBaseOf base begun) (is : IsServiceOf lines base life service) (ran : HasRun life service told remains) (lost : HasLost lines life told remains image next flagged)
+    (by : IsKeptBy lines_in images steps service ran.seats remains life.choice next) (closed : Closed (store_instance lines service.callers base) remains next)
+    (retold : (place : ℕ) (history : List Entry) → IsTold life place history remains.trail.locals told → IsTold life place history remains.trail.locals flagged) where
+  abbrev inst : Instance
+  inst = store_instance lines service.callers base
+
+  told_from : told.from ≡ base.place
+  told_from = ran.is_told.from ∙ ap (λ (b : Base). b.place) is.from
+
+  flagged_from : flagged.from ≡ base.place
+  flagged_from = lost.flags.same.from ∙ told_from
+
+  pub recorded : IsRecorded inst closed.s closed.law.history begun.store life flagged
+  recorded = record {
+    locals = remains.trail.locals;
+    seats = closed.shows;
+    stops = told.stops;
+    works = rw (lost.flags.same.journal, lost.flags.same.reads) ran.works;
+    is_told =
+        subst (λ (p : ℕ). IsTold life p closed.law.history remains.trail.locals flagged) (ap (λ (b : Base). b.place) is.from)
+        (subst (λ (h : List Entry). IsTold life service.base.place h remains.trail.locals flagged) (sym closed.history) (retold service.base.place remains.trail.history ran.is_told));
+    stands = based.stands;
+    limits = lost.limits;
+    amounts = lost.amounts;
+    values = lost.values;
+  }
+
+  pub kept_in : IsKeptIn inst closed.s closed.law.history flagged next
+  kept_in = record {
+    image = closed.kept;
+    kept = lost.flags.kept_is ∙ ap (λ (p : ℕ). next.place - p) told_from;
+    documents = lost.flags.documents_are;
+  }
+
+  told_by : IsToldBy life remains.trail flagged
+  told_by = record {
+    is_told = subst (λ (b : Base). IsTold life b.place remains.trail.history remains.trail.locals flagged) (sym ran.leaves.base) (retold service.base.place remains.trail.history ran.is_told);
+    kept =
+        lost.flags.kept_is
+        ∙ ap₂ (λ (p q : ℕ). p - q)
+        (by.place ∙ ap₂ (λ (n : ℕ) (codes : List ℕ). root_place_of n (slice_index codes (life.choice % length codes))) is.callers ran.leaves.published)
+        (sym lost.flags.same.from);
+  }
+
+  pub lived : IsEnded life flagged → HasReplies lines base.place begun.store life flagged → GoesOn lines base.place begun.store life flagged next
+      → IsBaseOf next (begun_after lines begun life flagged.journal flagged.kept) → HasLived lines life begun base (record { told = flagged; trail = remains.trail; image = image; next = next })
+  lived ended has goes begins =
+      let has' : HasReplies lines begun.place begun.store life flagged = subst (λ (p : ℕ). HasReplies lines p begun.store life flagged) based.at_place has in
+      let goes' : GoesOn lines begun.place begun.store life flagged next = subst (λ (p : ℕ). GoesOn lines p begun.store life flagged next) based.at_place goes in
+      let from : flagged.from ≡ begun.place = flagged_from ∙ based.at_place in
+      let begun_from : told.from ≡ begun.place = told_from ∙ based.at_place in
+      record {
+        legal = record {
+          clients = lost.flags.same.clients ∙ ran.is_told.clients ∙ ran.is_told.callers;
+          choice = lost.flags.choice ∙ ran.choice;
+          from = from;
+          legal = legal_of lines begun.place begun.store life told flagged next from begun_from ended has' goes';
+          kept = kept_of lines begun.place begun.store life told flagged next from begun_from ended has' goes' lost.flags.same.journal (next.place - told.from) lost.flags.kept_is lost.flags.stops;
+        };
+        told = told_by;
+        began = ran.leaves.base ∙ is.from;
+        recovered = lost.recovered;
+        next = record { lawful = goes.lawful; is = begins };
+        few = omega (arith, goes.at_place, goes.prefix, few_entries life flagged.journal ended.interleaved);
+      }

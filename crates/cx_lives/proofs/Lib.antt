@@ -1,0 +1,13 @@
+pub mod Appending
+pub mod Calling
+pub mod Commands
+pub mod Entries
+pub mod Gathering
+pub mod Legality
+pub mod Limits
+pub mod Lines
+pub mod Never
+pub mod Serving
+pub mod Taking
+pub mod Totals
+pub mod Turning

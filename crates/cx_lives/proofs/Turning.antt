@@ -1,0 +1,132 @@
+-- What a command comes to, from what its operation came to.
+use Rattle.std.proofs.Common.{◌≡◌, ℕ, zero, suc, ◌+◌, ◌-◌, ◌<◌, ◌≤◌, List, [], ◌∷◌, ◌++◌, length, Option, None, Some, sym, ap, subst, ◌∙◌, refl, inl, inr, ◌⊎◌, arith}
+use Rattle.std.specs.Prelude.{Contains, IfOk, Result, Ok, Err}
+use Rattle.std.proofs.lemmas.List.Elements.{Contains-push}
+use Rattle.std.proofs.lemmas.List.{length-append}
+use Rattle.cx_core.specs.declared.local.Answer.{Answer}
+use Rattle.cx_core.specs.declared.local.Linked.{Linked}
+use Rattle.cx_core.specs.declared.local.Local.{Local}
+use Rattle.cx_core.specs.declared.local.SeenRead.{SeenRead}
+use Rattle.cx_rule.specs.Running.{IsSeatOf, Running}
+use Rattle.cx_rule.specs.Seats.{IsAtLimit, Seated}
+use Rattle.cx_service.specs.Closes.{seat_of}
+use Rattle.cx_service.specs.declared.close.Handed.{Handed}
+use Rattle.cx_service.specs.declared.close.Handed.TheVariants.{Idle, Stopped as StoppedCaller}
+use Rattle.cx_turns.specs.declared.lookup.Seen.{Seen}
+use Rattle.doc_model.specs.declared.operations.Op.{Op}
+use Rattle.doc_model.specs.Meaning.{IsOp}
+use Rattle.doc_model.specs.Words.{AreOfNoReply, HasIntegerAmount, IsOpOf, op_words}
+use Rattle.journals.specs.Works.{IsWork}
+use Rattle.life_records.specs.Scripts.{limit_in, named_op, own_ops}
+use Rattle.life_records.specs.declared.script.Life.{Life}
+use Rattle.life_records.specs.declared.record.JournalLine.{JournalLine}
+use Rattle.life_records.specs.declared.record.ReadLine.{ReadLine}
+use Rattle.cx_lives.specs.declared.desk.Desk.{Desk}
+use Rattle.cx_lives.specs.declared.desk.End.{End}
+use Rattle.cx_lives.specs.declared.desk.End.TheVariants.{Whole, Stopped, Never}
+use Rattle.cx_lives.specs.declared.desk.Turn.{Turn}
+use Rattle.cx_lives.specs.declared.desk.Turn.TheVariants.{Next, Over}
+use Rattle.cx_lives.specs.declared.desk.Work.{Work}
+use Rattle.cx_lives.specs.declared.calls.Asked.{Asked}
+use Rattle.cx_lives.specs.declared.calls.Asked.TheVariants.{Done, Read, Worn, Halted}
+use Rattle.cx_lives.specs.Calls.{Asks, AsksDone, AsksRead, AsksWorn, HaltsBeside, HaltsLinked, LinksEntry, one_read}
+use Rattle.cx_lives.specs.Ends.{CannotBe, IsCallerIn, IsEndOf, IsNewIn, IsWorkOf, Turned}
+use Rattle.cx_lives.specs.Serving.{HasServed, IsServed}
+use Rattle.cx_lives.specs.Turns.{AddsEntry, AddsRead, EntryTurn, GivesUp, ReadTurn, StopsIn, stop_line, with_linked}
+use Rattle.cx_lives.proofs.Serving.{few_own, is_whole, named_within, serves_entry, serves_none, serves_read, stops_beside, stops_linked}
+
+-- what holds of what came out
+pub if_ok : {T E : Type 0} (P Q : T → Type 0) → ((t : T) → P t → Q t) → (result : Result T E) → IfOk result P → IfOk result Q
+if_ok P Q f (Ok t) p = f t p
+if_ok P Q f (Err e) p = tt
+
+-- a client at its end, as its seat, its lines and its end say
+work_is : {O : Type 0} (life : Life) (r : Running O) (client : ℕ) (work : Work) (handed : Handed) (end_ : End) → work.handed ≡ handed → work.end ≡ end_ → IsCallerIn life r client (seat_of handed)
+    → IsEndOf life client (seat_of handed).known.local work.entries.items work.reads.items end_ → IsWorkOf life r client work
+work_is life r client work handed end_ same end_is caller ends =
+    record {
+      caller = subst (λ (h : Handed). IsCallerIn life r client (seat_of h)) (sym same) caller;
+      ends = subst (λ (e : End). IsEndOf life client (seat_of work.handed).known.local work.entries.items work.reads.items e) (sym end_is)
+          (subst (λ (h : Handed). IsEndOf life client (seat_of h).known.local work.entries.items work.reads.items end_) (sym same) ends);
+    }
+
+module _ {O : Type 0} (life : Life) (r : Running O) (client n number : ℕ) (before : Seated) (es : List JournalLine) (rs : List ReadLine) (s : HasServed life client n before.known.local es rs) (next : number ≡ n + 1)
+    (op : Op) (ws : List ℕ) (are : ws ≡ op_words op) (named : named_op life client number ≡ Some op) (limits : IsOp op) (amount : HasIntegerAmount op) where
+  abbrev pub l : Local
+  l = before.known.local
+
+  within : number ≤ length (own_ops client life.commands)
+  within = named_within life client number op named
+
+  few_before : length l.own ≤ n
+  few_before = few_own life client n l es rs s
+
+  is_op : (words : List ℕ) → words ≡ ws → IsOpOf words op
+  is_op words same = record { limits = limits; amount = amount; has = sym (same ∙ are) }
+
+  -- the entry was answered
+  pub entry_turned : (after : Seated) (answer : Answer) (desk : Desk) (turn : Turn) → AsksDone r ws before after answer → desk.caller ≡ after → desk.entries.items ≡ es → desk.reads.items ≡ rs
+      → EntryTurn client number answer desk turn → Turned life r client number turn
+  entry_turned after answer desk (Next desk') a caller entries reads turned = record {
+    caller = rw (turned.caller, caller) a.caller;
+    lists = rw (turned.caller, caller) (serves_entry life client n l es rs s number next op ws are named after.known.local desk'.entries.items desk'.reads.items answer turned.reply a.links a.answered turned.words
+        (turned.entries ∙ ap (λ (xs : List JournalLine). xs ++ record { ticket = answer.ticket; client = client; command = number; reply = Some turned.reply } ∷ []) entries) (turned.reads ∙ reads));
+  }
+  entry_turned after answer desk (Over work) a caller entries reads turned =
+      let longer : length after.known.local.own ≡ length l.own + 1 = ap length a.links.own ∙ length-append l.own (a.links.entry ∷ []) in
+      let told : Contains after.known.local.answered answer = rw a.answered (Contains-push l.answered answer) in
+      let own : Contains after.known.local.own a.links.entry = rw a.links.own (Contains-push l.own a.links.entry) in
+      work_is life r client work (Idle after) Never (turned.0.handed ∙ ap Idle caller) turned.0.end_is
+      (record { of = a.caller.of; by = a.links.number ∙ s.by; limit = a.links.limit ∙ s.limit; few = omega (arith, longer, few_before, within) })
+      (inr (inl (record { answer = answer; there = told; entry = a.links.entry; linked = own; at = a.links.at; op = op; is = is_op a.links.entry.entry.op a.links.op_is; bad = turned.1 })))
+
+  -- the read was answered
+  pub read_turned : length l.own ≡ length l.answered → (after : Seated) (seen : Seen) (desk : Desk) (turn : Turn) → AsksRead r ws before after seen → desk.caller ≡ after → desk.entries.items ≡ es → desk.reads.items ≡ rs
+      → ReadTurn client number seen desk turn → Turned life r client number turn
+  read_turned even after seen desk (Next desk') a caller entries reads turned = record {
+    caller = rw (turned.caller, caller) a.caller;
+    lists = rw (turned.caller, caller) (serves_read life client n l es rs s number next op ws are named even seen turned.reply turned.words after.known.local desk'.entries.items desk'.reads.items a.number a.limit a.own a.answered a.reads
+        (turned.entries ∙ entries) (turned.reads ∙ ap (λ (xs : List ReadLine). xs ++ record { client = client; command = number; place = seen.place; reply = turned.reply } ∷ []) reads));
+  }
+  read_turned even after seen desk (Over work) a caller entries reads turned =
+      let x : SeenRead = record { place = seen.place; op = ws; reply = seen.reply; before = length l.answered } in
+      let told : Contains after.known.local.seen_reads x = rw a.reads (Contains-push l.seen_reads x) in
+      work_is life r client work (Idle after) Never (turned.0.handed ∙ ap Idle caller) turned.0.end_is
+      (record { of = a.caller.of; by = a.number ∙ s.by; limit = a.limit ∙ s.limit; few = omega (arith, ap length a.own, few_before, within) })
+      (inr (inr (record { read = x; there = told; op = op; is = is_op ws refl; bad = turned.1 })))
+
+  -- there was no further ticket
+  pub worn_turned : (after : Seated) (work : Work) → AsksWorn r before after → work.handed ≡ Idle after → work.end ≡ Never → IsWorkOf life r client work
+  worn_turned after work a handed end_is =
+      let same : length after.known.local.own ≡ length l.own = ap length a.keeps.own in
+      work_is life r client work (Idle after) Never handed end_is
+      (record { of = a.caller.of; by = a.keeps.number ∙ s.by; limit = a.keeps.limit ∙ s.limit; few = omega (arith, same, few_before, within) })
+      (inl (record { front = a.front; fewer = omega (arith, same, few_before, within) }))
+
+  -- the client is stopped
+  pub stop_turned : (stopped : Seated) (linked : Option ℕ) (work : Work) → Asks r ws before (Halted stopped linked) → StopsIn client number stopped linked es rs work → IsWorkOf life r client work
+  stop_turned stopped None work a w =
+      work_is life r client work (StoppedCaller stopped) (Stopped (stop_line client number stopped)) w.handed w.end_is
+      (record { of = a.caller.of; by = a.number ∙ s.by; limit = a.limit ∙ s.limit; few = omega (arith, ap length a.own, few_before, within) })
+      (stops_beside life client n l es rs s number next op ws are named within stopped.known.local a.limit a.caller.limit work.entries.items work.reads.items a.number a.own a.answered a.reads w.entries_are w.reads_are)
+  stop_turned stopped (Some ticket) work a w =
+      let longer : length stopped.known.local.own ≡ length l.own + 1 = ap length a.links.own ∙ length-append l.own (a.links.entry ∷ []) in
+      work_is life r client work (StoppedCaller stopped) (Stopped (stop_line client number stopped)) w.handed w.end_is
+      (record { of = a.caller.of; by = a.links.number ∙ s.by; limit = a.links.limit ∙ s.limit; few = omega (arith, longer, few_before, within) })
+      (stops_linked life client n l es rs s number next op ws are named within stopped.known.local a.links.limit a.caller.limit ticket a.more work.entries.items work.reads.items a.links a.answered w.entries_are w.reads_are)
+
+-- a client that was answered all its commands
+pub whole_work : {O : Type 0} (life : Life) (r : Running O) (client n : ℕ) (desk : Desk) (work : Work) → IsServed life r client n desk → n ≡ length (own_ops client life.commands)
+    → work.handed ≡ Idle desk.caller → work.entries.items ≡ desk.entries.items → work.reads.items ≡ desk.reads.items → work.end ≡ Whole → IsWorkOf life r client work
+whole_work life r client n desk work s all handed entries reads end_is =
+    let l = desk.caller.known.local in
+    work_is life r client work (Idle desk.caller) Whole handed end_is
+    (record { of = s.caller.of; by = s.lists.by; limit = s.lists.limit; few = omega (arith, few_own life client n l desk.entries.items desk.reads.items s.lists) })
+    (rw (entries, reads) (is_whole life client n l desk.entries.items desk.reads.items s.lists all))
+
+-- a client before its first command
+pub first_served : {O : Type 0} (life : Life) (r : Running O) (desk : Desk) → IsNewIn life r desk.caller → desk.entries.items ≡ [] → desk.reads.items ≡ [] → IsServed life r desk.caller.known.local.number 0 desk
+first_served life r desk new entries reads = record {
+  caller = new.caller;
+  lists = serves_none life desk.caller.known.local desk.entries.items desk.reads.items new.own new.answered new.reads new.limit entries reads;
+}

@@ -1,0 +1,87 @@
+use Rattle.std.proofs.Common.{rules, ◌≡◌, ◌∙◌, ◌+◌, ℕ, List, Some, ap, arith, length, map, refl, slice_get, subst, sym, false, true}
+use Rattle.std.specs.Prelude.{MatchBool}
+use Rattle.std.specs.List.{range_with_len}
+use Rattle.std.proofs.lemmas.List.Sorted.{IsNonDecreasingBy-from_sort_by_key}
+use Rattle.cx_core.specs.declared.local.Local.{Local}
+use Rattle.cx_core.specs.Merge.{IsHistory}
+use Rattle.cx_rule.specs.Running.{instance_at}
+use Rattle.cx_rule.specs.Seats.{Seated}
+use Rattle.cx_service.specs.Closes.{seats_of}
+use Rattle.cx_table.specs.Remains.{AreSeats}
+use Rattle.doc_store.specs.ExactStep.{reads_in, store_step}
+use Rattle.journals.specs.Journal.{IsByTicket, IsRecordOf}
+use Rattle.journals.specs.Told.{IsTold}
+use Rattle.journals.specs.Works.{AreWorks}
+use Rattle.life_records.specs.declared.record.JournalLine.{JournalLine}
+use Rattle.life_records.specs.declared.record.LifeRecord.{LifeRecord}
+use Rattle.cx_lives.specs.Gathering.{HasNever}
+use Rattle.cx_lives.proofs.Gathering.{gathered_seats, locals_in, locals_long, numbered, seats_long}
+use Rattle.cx_lives.proofs.Never.{never}
+use Rattle.cx_lives.proofs.life.run_life.Goals as goal
+
+pub gather-requires : goal.gather-requires
+gather-requires g c =
+    let callers = c.args.callers in
+    let works = c.in_ok-works.works in
+    let few = seats_long c.args.service callers.items c.requires.seats in
+    numbered c.args.life.now c.args.service 0 callers.items works.items (omega (arith, works.ok.0, callers.ok.0, c.in_ok-works.ensures.len))
+    (c.requires.seats.numbers ∙ ap (range_with_len 0) (sym few)) c.in_ok-works.ensures.each
+
+pub close-requires : goal.close-requires
+close-requires g c =
+    let e = c.in_ok-handed.ensures in
+    gathered_seats c.args.life.now c.args.service c.args.callers.items c.in_ok-handed.field-0 c.requires.seats (omega (arith, e.all, c.args.callers.ok.0, c.in_ok-works.ensures.len)) e.gathered
+
+pub unreachable-requires : goal.unreachable-requires
+unreachable-requires g c =
+    let life = c.args.life.now in
+    let r = c.args.service in
+    let f = c.in_ok-handed.field-0 in
+    let ls = locals_in f.handed.items in
+    let gathered = c.in_ok-handed.ensures.gathered in
+    let left = c.in-Ok.ensures.remains in
+    let base = c.lines-lines.ensures.running.base in
+    let has : HasNever life ls = subst (λ b. MatchBool b (HasNever life ls) (AreWorks life ls f.entries.items f.reads.items f.stops.items)) c.if-never.true gathered.works in
+    never life r.lines r.object.lines (instance_at r (λ s. store_step s.lines) (λ _. reads_in)) refl base left.words left.whole left.state ls left.shows gathered.each c.requires.tickets has
+
+pub returns : goal.returns
+returns g c =
+    let life = c.args.life.now in
+    let place = c.args.service.base.place in
+    let f = c.in_ok-handed.field-0 in
+    let handed = f.handed.items in
+    let ls = locals_in handed in
+    let gathered = c.in_ok-handed.ensures.gathered in
+    let left = c.in-Ok.ensures.remains in
+    let history = c.in-Ok.remains.trail.history in
+    let journal = c.sort_unstable_by_key.new.self.items in
+    let works : AreWorks life ls f.entries.items f.reads.items f.stops.items =
+    subst (λ b. MatchBool b (HasNever life ls) (AreWorks life ls f.entries.items f.reads.items f.stops.items)) c.if-never.false gathered.works in
+    let sorted : IsByTicket f.entries.items journal = record {
+      moved = c.sort_unstable_by_key.ensures.permutation;
+      up = IsNonDecreasingBy-from_sort_by_key (λ (l : JournalLine). l.ticket) journal c.sort_unstable_by_key.ensures.sorted (λ a r q k. search rules);
+    } in
+    let laws = c.journals_are_told.ensures in
+    let still = laws.works life place history ls f.entries.items journal f.reads.items f.stops.items works left.merged sorted in
+    let clients : length ls ≡ life.clients = omega (arith, locals_long handed, c.in_ok-handed.ensures.all, c.in_ok-works.ensures.len, c.args.callers.ok.0, c.requires.clients) in
+    let made : LifeRecord = record { clients = life.clients; from = c.in-Ok.remains.first; journal = c.of.result; reads = c.of-2.result; stops = c.of-3.result; fulls = c.new.result; choice = life.choice; kept = 0; documents = 0 } in
+    let is : IsRecordOf place ls journal f.reads.items f.stops.items made = record {
+      clients = sym clients;
+      from = left.first;
+      journal_is = c.of.ensures;
+      reads_are = c.of-2.ensures;
+      stops_are = c.of-3.ensures;
+      fulls = c.new.ensures;
+    } in
+    let told = laws.told life place history ls f.entries.items journal f.reads.items f.stops.items works left.merged sorted made is clients (λ client l at. (gathered.each client l at).limit) in
+    record {
+      seats = seats_of handed;
+      are = gathered_seats life c.args.service c.args.callers.items f c.requires.seats (omega (arith, c.in_ok-handed.ensures.all, c.args.callers.ok.0, c.in_ok-works.ensures.len)) gathered;
+      leaves = left;
+      is_told = subst (λ (xs : List Local). IsTold life place history xs made) (sym left.locals) told;
+      works = rw (left.locals, c.of.ensures, c.of-2.ensures, c.of-3.ensures) still;
+      choice = refl;
+      kept = refl;
+      documents = refl;
+      fulls = c.new.ensures;
+    }

@@ -1,0 +1,93 @@
+-- What a worker ends with.
+use Rattle.std.specs.Prelude.{◌≡◌, ◌^◌, ◌<◌, ◌≤◌, ◌⊎◌, ◌+◌, ℕ, List, [], ◌∷◌, length, Contains, None, Some, IfOk, Result, slice_index_or}
+use Rattle.std.specs.declared.alloc.AllocError.{AllocError}
+use Rattle.cx_core.specs.declared.local.Answer.{Answer}
+use Rattle.cx_core.specs.declared.local.Linked.{Linked}
+use Rattle.cx_core.specs.declared.local.Local.{Local}
+use Rattle.cx_core.specs.declared.local.SeenRead.{SeenRead}
+use Rattle.cx_rule.specs.Running.{IsSeatOf, Running}
+use Rattle.cx_rule.specs.Seats.{Seated}
+use Rattle.cx_service.specs.Callers.{IsCallerOf}
+use Rattle.cx_service.specs.Closes.{seat_of}
+use Rattle.cx_service.specs.declared.close.Handed.{Handed}
+use Rattle.doc_model.specs.declared.operations.Op.{Op}
+use Rattle.doc_model.specs.Words.{AreOfNoReply, IsOpOf}
+use Rattle.journals.specs.Works.{IsWork}
+use Rattle.life_records.specs.Scripts.{limit_in, own_ops}
+use Rattle.life_records.specs.declared.script.Life.{Life}
+use Rattle.life_records.specs.declared.record.JournalLine.{JournalLine}
+use Rattle.life_records.specs.declared.record.ReadLine.{ReadLine}
+use Rattle.cx_lives.specs.declared.desk.End.{End}
+use Rattle.cx_lives.specs.declared.desk.End.TheVariants.{Whole, Stopped, Never}
+use Rattle.cx_lives.specs.declared.desk.Turn.{Turn}
+use Rattle.cx_lives.specs.declared.desk.Turn.TheVariants.{Next, Over}
+use Rattle.cx_lives.specs.declared.desk.Work.{Work}
+use Rattle.cx_lives.specs.Serving.{HasServed, IsServed}
+
+-- every ticket is linked, while the caller has fewer entries than its client has commands
+pub record IsWorn (life : Life) (client : ℕ) (l : Local) : Type 0 where
+  pub front : l.front ≡ 2 ^ 40
+  pub fewer : length l.own < length (own_ops client life.commands)
+
+-- an entry of an operation was answered with words of no reply
+pub record IsBadAnswer (l : Local) : Type 0 where
+  pub answer : Answer
+  pub there : Contains l.answered answer
+  pub entry : Linked
+  pub linked : Contains l.own entry
+  pub at : entry.ticket ≡ answer.ticket
+  pub op : Op
+  pub is : IsOpOf entry.entry.op op
+  pub bad : AreOfNoReply answer.reply
+
+-- a read of an operation was answered with words of no reply
+pub record IsBadRead (l : Local) : Type 0 where
+  pub read : SeenRead
+  pub there : Contains l.seen_reads read
+  pub op : Op
+  pub is : IsOpOf read.op op
+  pub bad : AreOfNoReply read.reply
+
+-- what no closed service leaves of a caller
+abbrev pub CannotBe : Life → ℕ → Local → Type 0
+CannotBe life client l = IsWorn life client l ⊎ (IsBadAnswer l ⊎ IsBadRead l)
+
+-- how a worker ended: its client was answered all its commands, or was stopped; or its caller has what none can have
+abbrev pub IsEndOf : Life → ℕ → Local → List JournalLine → List ReadLine → End → Type 0
+IsEndOf life client l entries reads Whole = IsWork life client l entries reads None
+IsEndOf life client l entries reads (Stopped line) = IsWork life client l entries reads (Some line)
+IsEndOf life client l entries reads Never = CannotBe life client l
+
+-- what is known of a client's caller however it ended: at most one entry for each command, and the limit of the client's cut
+pub record IsCallerIn {O : Type 0} (life : Life) (r : Running O) (client : ℕ) (seat : Seated) : Type 0 where
+  pub of : IsSeatOf r seat
+  pub by : seat.known.local.number ≡ client
+  pub limit : seat.known.local.limit ≡ limit_in client life.cuts
+  pub few : length seat.known.local.own ≤ length (own_ops client life.commands)
+
+-- what a worker hands in
+pub record IsWorkOf {O : Type 0} (life : Life) (r : Running O) (client : ℕ) (work : Work) : Type 0 where
+  pub caller : IsCallerIn life r client (seat_of work.handed)
+  pub ends : IsEndOf life client (seat_of work.handed).known.local work.entries.items work.reads.items work.end
+
+-- what a command of this number comes to
+abbrev pub Turned : {O : Type 0} → Life → Running O → ℕ → ℕ → Turn → Type 0
+Turned life r client number (Next desk) = IsServed life r client number desk
+Turned life r client number (Over work) = IsWorkOf life r client work
+
+-- a caller of this service that made no call yet, with its client's limit
+pub record IsNewIn {O : Type 0} (life : Life) (r : Running O) (seat : Seated) : Type 0 where
+  pub caller : IsCallerOf r seat
+  pub own : seat.known.local.own ≡ []
+  pub answered : seat.known.local.answered ≡ []
+  pub reads : seat.known.local.seen_reads ≡ []
+  pub limit : seat.known.local.limit ≡ limit_in seat.known.local.number life.cuts
+
+-- item i is the work of caller i, or its worker found no memory
+abbrev pub AreWorksOf : {O : Type 0} → Life → Running O → List Seated → List (Result Work AllocError) → Type 0
+AreWorksOf life r callers works = (i : ℕ) (d : Result Work AllocError) (e : Seated) → i < length callers → IfOk (slice_index_or works i d) (IsWorkOf life r (slice_index_or callers i e).known.local.number)
+
+-- the works of the callers from one on, each where its worker found memory
+abbrev pub AreNumbered : {O : Type 0} → Life → Running O → ℕ → List (Result Work AllocError) → Type 0
+AreNumbered life r client [] = Unit {0}
+AreNumbered life r client (work ∷ works) = IfOk work (IsWorkOf life r client) × AreNumbered life r (client + 1) works

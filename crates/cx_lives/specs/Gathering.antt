@@ -1,0 +1,57 @@
+-- The works of the first so many clients put together.
+use Rattle.std.specs.Prelude.{◌≡◌, ◌≤◌, ℕ, Bool, true, false, ◌||◌, List, ◌∷◌, [], ◌++◌, length, map, All, Some, slice_get, MatchBool}
+use Rattle.std.specs.List.{range_with_len}
+use Rattle.cx_core.specs.declared.local.Local.{Local}
+use Rattle.cx_core.specs.State.{EachLocal}
+use Rattle.cx_rule.specs.Running.{IsSeatOf, Running}
+use Rattle.cx_rule.specs.Seats.{Seated}
+use Rattle.cx_service.specs.Closes.{seats_of}
+use Rattle.cx_table.specs.Remains.{locals_of}
+use Rattle.journals.specs.Works.{AreWorks}
+use Rattle.life_records.specs.Scripts.{limit_in, own_ops}
+use Rattle.life_records.specs.declared.script.Life.{Life}
+use Rattle.life_records.specs.declared.record.StopLine.{StopLine}
+use Rattle.cx_lives.specs.declared.desk.End.{End}
+use Rattle.cx_lives.specs.declared.desk.End.TheVariants.{Whole, Stopped, Never}
+use Rattle.cx_lives.specs.declared.desk.Work.{Work}
+use Rattle.cx_lives.specs.declared.gather.Gathered.{Gathered}
+use Rattle.cx_lives.specs.Ends.{CannotBe}
+
+-- some caller has what none can have
+pub record HasNever (life : Life) (locals : List Local) : Type 0 where
+  pub client : ℕ
+  pub local : Local
+  pub of_client : slice_get locals client ≡ Some local
+  pub is : CannotBe life client local
+
+-- at most one entry for each command of a client, and the limit of the client's cut
+pub record IsLocalIn (life : Life) (client : ℕ) (l : Local) : Type 0 where
+  pub limit : l.limit ≡ limit_in client life.cuts
+  pub few : length l.own ≤ length (own_ops client life.commands)
+
+-- What is put together: the seats are those of the first callers in order; the lines are those of their lists, where no caller has
+-- what none can have.
+pub record AreGathered {O : Type 0} (life : Life) (r : Running O) (g : Gathered) : Type 0 where
+  pub of : All (IsSeatOf r) (seats_of g.handed.items)
+  pub numbers : map (λ (s : Seated). s.known.local.number) (seats_of g.handed.items) ≡ range_with_len 0 (length g.handed.items)
+  pub each : EachLocal (locals_of (seats_of g.handed.items)) (IsLocalIn life)
+  pub works : MatchBool g.never (HasNever life (locals_of (seats_of g.handed.items))) (AreWorks life (locals_of (seats_of g.handed.items)) g.entries.items g.reads.items g.stops.items)
+
+-- the stop line of an end
+abbrev pub stop_in : End → List StopLine
+stop_in Whole = []
+stop_in (Stopped line) = line ∷ []
+stop_in Never = []
+
+abbrev pub is_never : End → Bool
+is_never Whole = false
+is_never (Stopped line) = false
+is_never Never = true
+
+-- one client's work more
+pub record AddsWork (before after : Gathered) (work : Work) : Type 0 where
+  pub handed : after.handed.items ≡ before.handed.items ++ work.handed ∷ []
+  pub entries : after.entries.items ≡ before.entries.items ++ work.entries.items
+  pub reads : after.reads.items ≡ before.reads.items ++ work.reads.items
+  pub stops : after.stops.items ≡ before.stops.items ++ stop_in work.end
+  pub never : after.never ≡ (before.never || is_never work.end)

@@ -1,0 +1,45 @@
+-- What a worker keeps while it makes its client's commands one after another.
+use Rattle.std.specs.Prelude.{◌≡◌, ◌≤◌, ℕ, List, length, All, AllPairs, IsSome, None}
+use Rattle.std.specs.List.{AllZip}
+use Rattle.cx_core.specs.declared.local.Answer.{Answer}
+use Rattle.cx_core.specs.declared.local.Linked.{Linked}
+use Rattle.cx_core.specs.declared.local.Local.{Local}
+use Rattle.cx_core.specs.declared.local.SeenRead.{SeenRead}
+use Rattle.cx_rule.specs.Running.{Running}
+use Rattle.cx_rule.specs.Seats.{Seated}
+use Rattle.cx_service.specs.Callers.{IsCallerOf}
+use Rattle.journals.specs.Works.{IsEntryBefore, IsLineOf, IsReadLine, IsSeenBefore, StandsBetween, lines_of}
+use Rattle.life_records.specs.Scripts.{limit_in}
+use Rattle.life_records.specs.declared.script.Life.{Life}
+use Rattle.life_records.specs.declared.record.JournalLine.{JournalLine}
+use Rattle.life_records.specs.declared.record.ReadLine.{ReadLine}
+use Rattle.cx_lives.specs.declared.desk.Desk.{Desk}
+
+-- the line of an entry that was answered
+abbrev pub IsAnsweredLine : Life → ℕ → List Answer → Linked → JournalLine → Type 0
+IsAnsweredLine life client answered x line = IsLineOf life client answered None x line × IsSome line.reply
+
+-- an entry of one of the first so many commands, with a reply
+abbrev pub IsAnsweredEntry : ℕ → JournalLine → Type 0
+IsAnsweredEntry number line = (1 ≤ line.command) × (line.command ≤ number) × IsSome line.reply
+
+-- The client was answered its first so many commands: the lines stand for the caller's entries and reads one by one, and each of
+-- those commands has one.
+pub record HasServed (life : Life) (client number : ℕ) (l : Local) (entries : List JournalLine) (reads : List ReadLine) : Type 0 where
+  pub by : l.number ≡ client
+  pub limit : l.limit ≡ limit_in client life.cuts
+  pub entry_lines : AllZip (IsAnsweredLine life client l.answered) l.own entries
+  pub read_lines : AllZip (IsReadLine life client) l.seen_reads reads
+  pub between : AllZip (StandsBetween entries) l.seen_reads reads
+  pub before : All (λ (x : SeenRead). x.before ≤ length entries) l.seen_reads
+  pub entries_in_turn : AllPairs IsEntryBefore entries
+  pub reads_in_turn : AllPairs IsSeenBefore reads
+  pub once : (command : ℕ) → 1 ≤ command → command ≤ number → lines_of command entries reads ≡ 1
+  pub entries_done : All (IsAnsweredEntry number) entries
+  pub reads_done : All (λ (line : ReadLine). (1 ≤ line.command) × (line.command ≤ number)) reads
+  pub few : length entries ≤ number
+
+-- the same of a worker whose caller is in no call
+pub record IsServed {O : Type 0} (life : Life) (r : Running O) (client number : ℕ) (desk : Desk) : Type 0 where
+  pub caller : IsCallerOf r desk.caller
+  pub lists : HasServed life client number desk.caller.known.local desk.entries.items desk.reads.items

@@ -1,0 +1,19 @@
+//! A life of clients over a service of the document store: each client's commands are made by a worker on a thread of its own, and
+//! what the workers note is put together as the record of the life. Lives of a script, one after another, each from what the loss of
+//! power before it left.
+#![tactic(auto)]
+
+mod calls;
+mod desk;
+mod gather;
+mod life;
+mod lived_laws;
+mod lives;
+mod start;
+mod values;
+mod work;
+mod workers;
+
+pub use life::run_life;
+pub use lives::{Lived, run_lives};
+pub use start::start_life;

@@ -1,0 +1,61 @@
+//! A life of clients on threads, and its record.
+
+ghost use Rattle.std.specs.Prelude.{IfOk};
+ghost use Rattle.cx_lives.specs.Life.{CanRun, HasRun};
+
+use crate::gather::{Gathered, gather};
+use crate::workers::run_workers;
+use cx_base::{Gate, Items};
+use cx_service::{Caller, Service};
+use cx_table::Remains;
+use doc_store::DocStore;
+use journals::laws::journals_are_told;
+use life_records::{Life, LifeRecord};
+use std::alloc::{AllocError, Global};
+use std::sync::Wait;
+use std::thread::Threads;
+
+/// Runs a life on a service: one worker for each client makes the client's commands in order and passes the gate before each and
+/// behind it, until all are answered or the client is stopped. Then the service is closed. Gives the record of the life before the
+/// loss of power, with nothing kept, and what the service leaves. `Err` is want of memory, and gives nothing back.
+pub fn run_life<R: Threads + Wait + Sync, G: Gate + Sync>(
+    rt: &R,
+    alloc: Global,
+    service: Service<DocStore>,
+    callers: Vec<Caller>,
+    life: &Life,
+    gate: &G,
+) -> Result<(LifeRecord, Remains), AllocError>
+    requires { CanRun life.now service callers.items }
+    ensures { IfOk result (λ r. HasRun life.now service r.0 r.1) }
+{
+    let works = run_workers(rt, alloc, &service, callers, life, gate)?;
+    let Gathered {
+        handed,
+        mut entries,
+        reads,
+        stops,
+        never,
+    } = gather(alloc, &service, life, works)?;
+    entries.sort_unstable_by_key(|line| line.ticket);
+    journals_are_told();
+    let _lines = service.lines();
+    let Ok(remains) = service.close(alloc, handed) else {
+        return Err(AllocError);
+    };
+    if never {
+        unreachable!()
+    }
+    let told = LifeRecord {
+        clients: life.clients,
+        from: remains.first,
+        journal: Items::of(entries),
+        reads: Items::of(reads),
+        stops: Items::of(stops),
+        fulls: Items::new(alloc),
+        choice: life.choice,
+        kept: 0,
+        documents: 0,
+    };
+    Ok((told, remains))
+}

@@ -1,0 +1,41 @@
+//! A worker for each client, each on a thread of its own.
+
+ghost use Rattle.std.specs.Prelude.{◌≡◌, All, IfOk, vec_len};
+ghost use Rattle.life_records.specs.Limits.{IsLifeInLimits};
+ghost use Rattle.cx_lives.specs.Ends.{AreWorksOf, IsNewIn, IsWorkOf};
+
+use crate::desk::Work;
+use crate::work::serve;
+use cx_base::Gate;
+use cx_service::{Caller, Service};
+use doc_store::DocStore;
+use life_records::Life;
+use std::alloc::{AllocError, Global};
+use std::sync::Wait;
+use std::thread::{Threads, map_vec};
+
+/// Runs a worker for each client, all at once, and joins them. A worker whose thread cannot be started is run by the calling thread.
+pub(crate) fn run_workers<R: Threads + Wait + Sync, G: Gate + Sync>(
+    rt: &R,
+    alloc: Global,
+    service: &Service<DocStore>,
+    callers: Vec<Caller>,
+    life: &Life,
+    gate: &G,
+) -> Result<Vec<Result<Work, AllocError>>, AllocError>
+    requires callers { All (IsNewIn life.now service.now) callers.items }
+    requires life { IsLifeInLimits life.now }
+    ensures len { IfOk result (λ works. vec_len works ≡ vec_len callers) }
+    ensures each { IfOk result (λ works. AreWorksOf life.now service.now callers.items works.items) }
+{
+    // `map_vec` halves the list and runs both halves at once. To part a list takes memory: where one half finds none while the other
+    // runs, its workers are not run at all, and a gate that waits for one of them may wait for good.
+    map_vec(
+        rt,
+        callers,
+        &|caller: Caller| -> Result<Work, AllocError>
+            requires { IsNewIn life.now service.now caller × IsLifeInLimits life.now }
+            ensures { IfOk result (IsWorkOf life.entry.now service.entry.now caller.known.local.number) }
+        { serve(rt, alloc, service, life, gate, caller) },
+    )
+}

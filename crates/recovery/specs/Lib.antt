@@ -1,0 +1,4 @@
+pub mod Crashes
+pub mod Images
+pub mod Kept
+pub mod Recovery
