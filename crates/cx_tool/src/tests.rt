@@ -6,7 +6,9 @@ use crate::top_call::cx_run;
 use cx_base::{Failed, Gate, OpenGate, Sink, Source, SureSink, SureSource};
 use std::alloc::{AllocError, Global};
 use std::sync::atomic::{AtomicBool, AtomicU32, AtomicU64, AtomicUsize, Ordering};
+use std::sync::Wait;
 use std::test::Fail;
+use std::thread::Threads;
 
 const HEAD: &str = "lines 64\nlife 1 power 0\n";
 
@@ -79,7 +81,7 @@ fn words_of(alloc: Global, words: &[&str]) -> Result<Vec<String>, AllocError> {
     Ok(all)
 }
 
-fn ran(rt: &HostRuntime, words: &[&str], input: Vec<u8>) -> Result<(u8, Vec<u8>), AllocError> {
+fn ran<R: Threads + Wait + Sync + AllocGlobal>(rt: &R, words: &[&str], input: Vec<u8>) -> Result<(u8, Vec<u8>), AllocError> {
     let alloc = rt.alloc();
     let words = words_of(alloc, words)?;
     let mut source = SureSource::new(input);
@@ -278,7 +280,7 @@ const REPORT: &str =
     "life 0 clients 1 from 0\n0 0.1 put a 1 = new\n1 0.2 put a 2 = replaced\nread 0.3 at 2 get a = 2\npower 0 kept 2 of 2 documents 1\n";
 
 /// A run of the script over a source and a sink that may fail at one call each; 0 is no call.
-fn broken(rt: &HostRuntime, read: u64, write: u64) -> Result<(u8, Vec<u8>), AllocError> {
+fn broken<R: Threads + Wait + Sync + AllocGlobal>(rt: &R, read: u64, write: u64) -> Result<(u8, Vec<u8>), AllocError> {
     let alloc = rt.alloc();
     let words = words_of(alloc, &["run"])?;
     let mut source = BrokenSource {

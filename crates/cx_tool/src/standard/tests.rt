@@ -8,7 +8,9 @@ use cx_base::{Failed, OpenGate, Sink, Source};
 use std::alloc::{AllocError, Global};
 use std::io;
 use std::io::{ErrorKind, Read, Write};
+use std::sync::Wait;
 use std::test::Fail;
+use std::thread::Threads;
 
 const SCRIPT: &[u8; 52] = b"lines 64\nlife 1 power 0\n0 put a 1\n0 put a 2\n0 get a\n";
 
@@ -167,7 +169,11 @@ fn a_count_of_faults_stands_still_at_its_end(rt: HostRuntime) {
 }
 
 /// A whole run of the script over such a reader and such a writer.
-fn ran(rt: &HostRuntime, reads: &[Does], writes: &[Does]) -> Result<(u8, Vec<u8>), AllocError> {
+fn ran<R: Threads + Wait + Sync + AllocGlobal>(
+    rt: &R,
+    reads: &[Does],
+    writes: &[Does],
+) -> Result<(u8, Vec<u8>), AllocError> {
     let alloc = rt.alloc();
     let mut words = Vec::new(alloc);
     words.push(String::from_str(alloc, "run")?)?;
