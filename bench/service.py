@@ -1,33 +1,79 @@
 #!/usr/bin/env python3
-"""Processor time and steps of a service's updates and reads, on one thread, two and four.
+"""Processor time and steps of a service's updates and reads, on one thread, two and four, and of an update's parts on one.
 
 Build the program first: cd crates/service_bench && rt run
 A store of 1,024 lines has documents of 32 bytes at 100 keys. A service is made anew for each 16 updates of its callers; its
 making and closing are not counted. Each caller has a thread of its own. The least of several runs stands, since others load the
-machine.
+machine. `--rounds N` sets how many.
+
+The parts are those of the same updates of one caller, made one after another on a thread of its own, between which the steps and the
+clock are read. What it takes to read the clock is in each part's time once.
 """
+import argparse
 import os
 import subprocess
 import sys
 
 BENCH = os.path.join(os.path.dirname(__file__), "..", "crates", "service_bench", "out", "service_bench")
-RUNS = 9
+LEAST_ROUNDS = 9
+# each replica that is taken is brought up by the entries that it lacks, so two parts are done more than once in an update
+PARTS = {
+    "load_cur": "load CUR",
+    "announce": "announce",
+    "link": "link",
+    "take": "take a replica",
+    "place": "load its place",
+    "read_entry": "read entries",
+    "apply": "apply entries",
+    "own_outcome": "load own outcome",
+    "flush": "flush",
+    "downgrade": "downgrade",
+    "publish": "publish",
+    "raise": "raise",
+    "retire": "retire",
+}
+
+
+def lines_of(*words):
+    words = [BENCH, *(str(word) for word in words)]
+    return subprocess.run(words, check=True, capture_output=True, text=True).stdout.splitlines()
+
+
+def named(words):
+    return {name: int(number) for name, number in zip(words[::2], words[1::2])}
 
 
 def run(threads, services, reads):
-    words = [BENCH, "calls", str(threads), str(services), str(reads)]
-    line = subprocess.run(words, check=True, capture_output=True, text=True).stdout.split()
-    return {name: int(number) for name, number in zip(line[::2], line[1::2])}
+    return named(lines_of("calls", threads, services, reads)[0].split())
 
 
-def least(threads, services, reads):
+def parts(services):
+    """What each part of an update took, in one run."""
+    return {words[0]: named(words[1:]) for words in map(str.split, lines_of("parts", 1, services, 0))}
+
+
+def parts_table(rounds, services):
+    """For each part how often it is done in an update, its steps and its least nanoseconds, and all of them."""
+    runs = [parts(services) for _ in range(rounds)]
+    updates = runs[0]["retire"]["times"]
+    rows = []
+    for part, words in PARTS.items():
+        found = runs[0][part]
+        nanos = min(got[part]["nanos"] for got in runs)
+        rows.append((words, found["times"] / updates, found["steps"] / updates, nanos / updates))
+    rows.append(("all", 1, sum(row[2] for row in rows), sum(row[3] for row in rows)))
+    head = ["part", "times an update", "steps an update", "ns an update"]
+    return [head] + [[words, f"{times:.2f}", f"{steps:.1f}", f"{nanos:.0f}"] for words, times, steps, nanos in rows]
+
+
+def least(rounds, threads, services, reads):
     """The run with the least processor time of a call."""
-    runs = [run(threads, services, reads) for _ in range(RUNS)]
+    runs = [run(threads, services, reads) for _ in range(rounds)]
     return min(runs, key=lambda got: got["cpu"] / (got["updates"] + got["reads"]))
 
 
-def row(threads, services, reads):
-    got = least(threads, services, reads)
+def row(rounds, threads, services, reads):
+    got = least(rounds, threads, services, reads)
     calls = got["updates"] + got["reads"]
     updates, looks = max(got["updates"], 1), max(got["reads"], 1)
     return [
@@ -45,5 +91,10 @@ def table(rows):
 if __name__ == "__main__":
     if not os.path.exists(BENCH):
         sys.exit(__doc__)
+    parser = argparse.ArgumentParser(description=__doc__, formatter_class=argparse.RawDescriptionHelpFormatter)
+    parser.add_argument("--rounds", type=int, default=LEAST_ROUNDS)
+    rounds = parser.parse_args().rounds
     head = ["threads", "reads in 100", "calls", "cpu ns a call", "wall ns a call", "submit steps", "drive steps", "read steps"]
-    table([head] + [row(threads, 400, reads) for threads in (1, 2, 4) for reads in (0, 50, 100)])
+    table([head] + [row(rounds, threads, 400 if reads < 100 else 25, reads) for threads in (1, 2, 4) for reads in (0, 50, 100)])
+    print()
+    table(parts_table(rounds, 400))

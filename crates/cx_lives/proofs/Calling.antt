@@ -1,5 +1,5 @@
 -- What submits and drives come to one after another, as a worker sees them.
-use Rattle.std.proofs.Common.{◌≡◌, inl, inr, ℕ, List, [], ◌∷◌, ◌++◌, length, refl, ap, sym, ◌∙◌, Option, Some, None}
+use Rattle.std.proofs.Common.{◌≡◌, inl, inr, ℕ, List, [], ◌∷◌, ◌++◌, length, refl, ap, sym, ◌∙◌, Some, None}
 use Rattle.std.proofs.lemmas.List.{append-nil}
 use Rattle.std.proofs.lemmas.Option.{same_Some}
 use Rattle.cx_core.specs.declared.local.Answer.{Answer}
@@ -10,17 +10,15 @@ use Rattle.cx_rule.specs.Seats.{Seated}
 use Rattle.cx_service.specs.Drives.{DriveHalted}
 use Rattle.cx_service.specs.Lookups.{ReadAnswered, ReadHalted, ReadPending}
 use Rattle.cx_service.specs.Submits.{SubmitAgain, SubmitFull, SubmitHalted, SubmitLinked, SubmitWorn, entry_at}
+use Rattle.cx_service.specs.Updates.{KeepsLists}
 use Rattle.cx_turns.specs.declared.lookup.Seen.{Seen}
 use Rattle.cx_turns.specs.Answering.{with_answer, with_read}
 use Rattle.cx_lives.specs.declared.calls.Asked.{Asked}
 use Rattle.cx_lives.specs.declared.calls.Asked.TheVariants.{Done, Read, Worn, Halted}
-use Rattle.cx_lives.specs.Calls.{Asks, AsksDone, AsksRead, AsksWorn, Finishes, HaltsBeside, HaltsLinked, IsFinished, KeepsLists, LinksEntry, one_read}
+use Rattle.cx_lives.specs.Calls.{Asks, AsksDone, AsksRead, AsksWorn, Finishes, HaltsBeside, IsFinished, LinksEntry, one_read}
 
-pub keeps_all : (s : Seated) → KeepsLists s.known.local s.known.local
-keeps_all s = record { number = refl; limit = refl; own = refl; answered = refl; reads = refl }
-
-module _ {O : Type 0} (r : Running O) (op : List ℕ) (s u : Seated) (same : KeepsLists s.known.local u.known.local) where
-  pub again_keeps : (tries most : ℕ) (v : Seated) → SubmitAgain r tries most u v → KeepsLists s.known.local v.known.local
+module _ {O : Type 0} (r : Running O) (op : List ℕ) (s u : Seated) (same : KeepsLists s u) where
+  pub again_keeps : (tries most : ℕ) (v : Seated) → SubmitAgain r tries most u v → KeepsLists s v
   again_keeps tries most v a = record {
     number = a.keeps.number ∙ same.number;
     limit = a.keeps.limit ∙ same.limit;
@@ -29,7 +27,7 @@ module _ {O : Type 0} (r : Running O) (op : List ℕ) (s u : Seated) (same : Kee
     reads = a.keeps.reads ∙ same.reads;
   }
 
-  pub full_keeps : (most : ℕ) (v : Seated) (note : FullNote) → SubmitFull r most u v note → KeepsLists s.known.local v.known.local
+  pub full_keeps : (most : ℕ) (v : Seated) (note : FullNote) → SubmitFull r most u v note → KeepsLists s v
   full_keeps most v note f = record {
     number = f.keeps.number ∙ same.number;
     limit = f.keeps.limit ∙ same.limit;
@@ -153,7 +151,7 @@ module _ {O : Type 0} (r : Running O) (op : List ℕ) (s u : Seated) (same : Kee
   }
 
 module _ {O : Type 0} (r : Running O) (op : List ℕ) (s u : Seated) where
-  pub read_keeps : (tries : ℕ) → ReadPending r tries s u → KeepsLists s.known.local u.known.local
+  pub read_keeps : (tries : ℕ) → ReadPending r tries s u → KeepsLists s u
   read_keeps tries p = record { number = p.keeps.number; limit = p.keeps.limit; own = p.keeps.own; answered = p.keeps.answered; reads = p.reads }
 
   pub asks_read : (seen : Seen) → ReadAnswered r op s u seen → AsksRead r op s u seen

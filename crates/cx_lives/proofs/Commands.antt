@@ -1,14 +1,13 @@
 -- A client's commands among the first ones of a life.
-use Rattle.std.proofs.Common.{◌≡◌, ◌≢◌, ℕ, zero, suc, ◌+◌, ◌-◌, ◌<◌, ◌≤◌, ◌==◌, Bool, true, false, cond, List, [], ◌∷◌, ◌++◌, length, get_or, take, drop, map, filter, slice_get, Option, None, Some, sym, ap, subst, ◌∙◌, refl, arith, length-append, add-one}
-use Rattle.std.specs.Prelude.{All}
+use Rattle.std.proofs.Common.{◌≡◌, ◌≢◌, ℕ, ◌+◌, ◌<◌, ◌≤◌, ◌==◌, cond, List, [], ◌∷◌, ◌++◌, length, get_or, take, drop, map, filter, slice_get, Some, sym, ap, subst, ◌∙◌, refl, arith, length-append, add-one}
 use Rattle.std.proofs.lemmas.Bool.{eq-eqb, ne_eqb}
-use Rattle.std.proofs.lemmas.List.{map-append, take_more, take-append-drop}
+use Rattle.std.proofs.lemmas.List.{map-append, take_all, take_more, take-append-drop}
 use Rattle.std.proofs.lemmas.List.Elements.{filter-append}
 use Rattle.doc_model.specs.declared.operations.Op.{Op}
 use Rattle.doc_model.specs.Meaning.{IsOp}
 use Rattle.life_records.specs.declared.script.Command.{Command}
 use Rattle.life_records.specs.declared.script.Life.{Life}
-use Rattle.life_records.specs.Limits.{IsCommandOf, IsLifeInLimits}
+use Rattle.life_records.specs.Limits.{IsLifeInLimits}
 use Rattle.life_records.specs.Scripts.{named_op, own_ops}
 
 own_ops-append : (client : ℕ) (xs ys : List Command) → own_ops client (xs ++ ys) ≡ own_ops client xs ++ own_ops client ys
@@ -27,20 +26,20 @@ own_ops_next client commands i command within at =
     ∙ own_ops-append client (take i commands) (command ∷ [])
 
 -- how many commands a client has among the first ones
-pub own_more : (client : ℕ) (commands : List Command) (i : ℕ) (command : Command) → i < length commands → command ≡ get_or commands i command → command.client ≡ client
+own_more : (client : ℕ) (commands : List Command) (i : ℕ) (command : Command) → i < length commands → command ≡ get_or commands i command → command.client ≡ client
     → length (own_ops client (take (i + 1) commands)) ≡ length (own_ops client (take i commands)) + 1
 own_more client commands i command within at own =
     let one : own_ops client (command ∷ []) ≡ command.op ∷ [] = ap (λ b. map (λ (c : Command). c.op) (cond b (command ∷ []) [])) (eq-eqb command.client client own) in
     omega (arith, ap length (own_ops_next client commands i command within at), length-append (own_ops client (take i commands)) (own_ops client (command ∷ [])), ap length one)
 
-pub own_none : (client : ℕ) (commands : List Command) (i : ℕ) (command : Command) → i < length commands → command ≡ get_or commands i command → command.client ≢ client
+own_none : (client : ℕ) (commands : List Command) (i : ℕ) (command : Command) → i < length commands → command ≡ get_or commands i command → command.client ≢ client
     → length (own_ops client (take (i + 1) commands)) ≡ length (own_ops client (take i commands))
 own_none client commands i command within at other =
     let none : own_ops client (command ∷ []) ≡ [] = ap (λ b. map (λ (c : Command). c.op) (cond b (command ∷ []) [])) (ne_eqb command.client client other) in
     omega (arith, ap length (own_ops_next client commands i command within at), length-append (own_ops client (take i commands)) (own_ops client (command ∷ [])), ap length none)
 
 -- the next of a client's commands
-pub named_next : (life : Life) (i number : ℕ) (command : Command) → i < length life.commands → command ≡ get_or life.commands i command → number ≡ length (own_ops command.client (take i life.commands))
+named_next : (life : Life) (i number : ℕ) (command : Command) → i < length life.commands → command ≡ get_or life.commands i command → number ≡ length (own_ops command.client (take i life.commands))
     → named_op life command.client (number + 1) ≡ Some command.op
 named_next life i number command within at e =
     let me = command.client in
@@ -52,6 +51,29 @@ named_next life i number command within at e =
     ∙ own_ops-append me (take (i + 1) life.commands) (drop (i + 1) life.commands)
     ∙ ap (λ ops. ops ++ rest) (own_ops_next me life.commands i command within at ∙ ap (λ ops. front ++ ops) one) in
     rw add-one (ap (λ (ops : List Op). slice_get ops number) parts ∙ ap (λ n. slice_get ((front ++ command.op ∷ []) ++ rest) n) e ∙ get_middle front command.op rest)
+
+-- what a loop over a life's commands knows of the one that it is at
+module _ (life : Life) (items : List Command) (same : items ≡ life.commands) (i : ℕ) (command : Command) (within : i < length items) (at : command ≡ get_or items i command)
+    (me number : ℕ) (count : number ≡ length (own_ops me (take i life.commands))) where
+  here : i < length life.commands
+  here = omega (arith, within, ap length same)
+
+  there : command ≡ get_or life.commands i command
+  there = at ∙ ap (λ (all : List Command). get_or all i command) same
+
+  pub named_here : command.client ≡ me → named_op life command.client (number + 1) ≡ Some command.op
+  named_here own = named_next life i number command here there (count ∙ ap (λ (client : ℕ). length (own_ops client (take i life.commands))) (sym own))
+
+  pub count_more : (next : ℕ) → next ≡ number + 1 → command.client ≡ me → next ≡ length (own_ops me (take (i + 1) life.commands))
+  count_more next is own = is ∙ omega (arith, count, own_more me life.commands i command here there own)
+
+  pub count_none : (next : ℕ) → next ≡ number → command.client ≢ me → next ≡ length (own_ops me (take (i + 1) life.commands))
+  count_none next is other = is ∙ omega (arith, count, own_none me life.commands i command here there other)
+
+-- no command is left
+pub count_all : (life : Life) (items : List Command) (i me number : ℕ) → items ≡ life.commands → length items ≤ i → number ≡ length (own_ops me (take i life.commands)) → number ≡ length (own_ops me life.commands)
+count_all life items i me number same over count =
+    count ∙ ap (λ (cs : List Command). length (own_ops me cs)) (take_all i life.commands (omega (arith, over, ap length same)))
 
 -- its operation is within the limits
 pub next_is_op : (life : Life) (i : ℕ) (command : Command) → IsLifeInLimits life → i < length life.commands → command ≡ get_or life.commands i command → IsOp command.op

@@ -1,10 +1,9 @@
 -- A history has at most as many entries as its life has commands.
-use Rattle.std.proofs.Common.{◌≡◌, ◌≢◌, ◌⊎◌, inl, inr, ◌+◌, ◌<◌, ◌≤◌, ◌==◌, ℕ, zero, suc, Bool, true, false, cond, List, [], ◌∷◌, length, map, filter, refl, sym, ap, subst, ◌∙◌, arith, Option, Some, None}
-use Rattle.std.specs.Prelude.{nat_lt, All, AllPairs, IsSome, slice_get, is_some}
+use Rattle.std.proofs.Common.{◌≡◌, ◌⊎◌, inl, inr, ◌+◌, ◌<◌, ◌≤◌, ◌==◌, ℕ, zero, suc, Bool, true, false, cond, List, [], ◌∷◌, length, map, filter, refl, sym, ap, subst, arith}
+use Rattle.std.specs.Prelude.{nat_lt, IsSome, slice_get}
 use Rattle.std.proofs.lemmas.Bool.{cases_Bool, cases_order, eqb-true, eqb-false, false≢true, ltb-true, ltb-false}
 use Rattle.std.proofs.lemmas.List.Kept.{AllPairs-from_increasing}
-use Rattle.doc_model.specs.declared.operations.Op.{Op}
-use Rattle.journals.proofs.Lists.{Each, Rises, all_each, each_all, each_filter, length_map, pairs_rise}
+use Rattle.journals.proofs.Lists.{Each, Rises, each_all, length_map, pairs_rise}
 use Rattle.life_records.specs.Lives.{Interleaves, Names, numbers_of}
 use Rattle.life_records.specs.Scripts.{named_op, own_ops}
 use Rattle.life_records.specs.declared.script.Command.{Command}
@@ -140,13 +139,13 @@ few_entries life journal inter =
     let client_of : JournalLine → ℕ = λ (line : JournalLine). line.client in
     let asks : Command → ℕ = λ (c : Command). c.client in
     let few : (i : ℕ) → i < life.clients → length (filter (λ line. client_of line == i) journal) ≤ length (filter (λ c. asks c == i) life.commands) = λ i less. (
-        let n : ℕ = length (own_ops i life.commands) in
-        let xs : List ℕ = numbers_of i journal in
-        let rises : Rises (λ x. x) xs = pairs_rise (λ x. x) xs (AllPairs-from_increasing xs (inter.in_order i)) in
-        let bounds : Each (λ m. (1 ≤ m) × (m ≤ n)) xs = numbers_within life i journal each in
-        let room : length xs + 1 ≤ n + 1 = room_between 1 n xs rises (each_lows n xs bounds) (each_highs n xs bounds) (omega arith) in
-        let as_lines : length xs ≡ length (filter (λ line. client_of line == i) journal) = length_map (λ (line : JournalLine). line.command) (filter (λ line. client_of line == i) journal) in
-        let as_commands : n ≡ length (filter (λ c. asks c == i) life.commands) = length_map (λ (c : Command). c.op) (filter (λ c. asks c == i) life.commands) in
-        omega (arith, room, as_lines, as_commands)) in
+    let n : ℕ = length (own_ops i life.commands) in
+    let xs : List ℕ = numbers_of i journal in
+    let rises : Rises (λ x. x) xs = pairs_rise (λ x. x) xs (AllPairs-from_increasing xs (inter.in_order i)) in
+    let bounds : Each (λ m. (1 ≤ m) × (m ≤ n)) xs = numbers_within life i journal each in
+    let room : length xs + 1 ≤ n + 1 = room_between 1 n xs rises (each_lows n xs bounds) (each_highs n xs bounds) (omega arith) in
+    let as_lines : length xs ≡ length (filter (λ line. client_of line == i) journal) = length_map (λ (line : JournalLine). line.command) (filter (λ line. client_of line == i) journal) in
+    let as_commands : n ≡ length (filter (λ c. asks c == i) life.commands) = length_map (λ (c : Command). c.op) (filter (λ c. asks c == i) life.commands) in
+    omega (arith, room, as_lines, as_commands)) in
     let fewer_below : length (below client_of life.clients journal) ≤ length (below asks life.clients life.commands) = fewer client_of asks life.clients journal life.commands few in
     omega (arith, fewer_below, all_below client_of life.clients journal (each_takes_part life journal each), few_below asks life.clients life.commands)

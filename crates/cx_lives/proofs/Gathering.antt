@@ -1,6 +1,6 @@
 -- One client's work more among all.
-use Rattle.std.proofs.Common.{◌≡◌, ℕ, zero, suc, ◌+◌, ◌<◌, ◌≤◌, Bool, true, false, ◌||◌, List, [], ◌∷◌, ◌++◌, length, get_or, drop, map, slice_get, Option, None, Some, sym, ap, subst, ◌∙◌, refl, inl, inr, ◌⊎◌, arith}
-use Rattle.std.specs.Prelude.{All, MatchBool, Result, IfOk}
+use Rattle.std.proofs.Common.{◌≡◌, ℕ, zero, suc, ◌+◌, Bool, true, false, ◌||◌, List, [], ◌∷◌, ◌++◌, length, get_or, drop, map, slice_get, Option, None, Some, sym, ap, subst, ◌∙◌, refl, inl, inr, arith}
+use Rattle.std.specs.Prelude.{MatchBool, Result, IfOk}
 use Rattle.std.specs.List.{range_with_len}
 use Rattle.std.specs.Option.{option_to_list}
 use Rattle.std.specs.declared.alloc.AllocError.{AllocError}
@@ -10,7 +10,6 @@ use Rattle.std.proofs.lemmas.List.Elements.{All-nil, All-push}
 use Rattle.cx_core.proofs.Locals.{slice_get-last, slice_get-push}
 use Rattle.cx_core.proofs.ListLemmas.{slice_get-append_left}
 use Rattle.cx_core.specs.declared.local.Local.{Local}
-use Rattle.cx_core.specs.State.{EachLocal}
 use Rattle.cx_rule.specs.Running.{IsSeatOf, Running}
 use Rattle.cx_rule.specs.Seats.{Seated}
 use Rattle.cx_service.specs.Closes.{seat_of, seats_of}
@@ -87,7 +86,7 @@ gathered_more life r before after work go_on g adds w =
     let own : IsLocalIn life n l = record { limit = w.caller.limit; few = w.caller.few } in
     let at_long = subst (λ k. IsEndOf life k l work.entries.items work.reads.items work.end) (sym long) w.ends in
     let more = works_more life ls l before.entries.items work.entries.items before.reads.items work.reads.items before.stops.items
-        (λ stop. go_on ls l before.entries.items work.entries.items before.reads.items work.reads.items before.stops.items stop) before.never work.end g.works at_long in
+    (λ stop. go_on ls l before.entries.items work.entries.items before.reads.items work.reads.items before.stops.items stop) before.never work.end g.works at_long in
     record {
       of = rw seats (All-push (IsSeatOf r) (seats_of hs) s g.of w.caller.of);
       numbers = ap (map number) seats ∙ map-append number (seats_of hs) (s ∷ []) ∙ ap (λ ks. ks ++ number s ∷ []) g.numbers ∙ ap (λ k. range_with_len 0 n ++ k ∷ []) last ∙ sym (range_more 0 n) ∙ ap (range_with_len 0) (sym longer);
@@ -113,8 +112,7 @@ numbered life r k [] [] long numbers each = tt
 numbered life r k [] (w ∷ ws) long numbers each = absurd (omega (arith, long))
 numbered life r k (s ∷ cs) [] long numbers each = absurd (omega (arith, long))
 numbered life r k (s ∷ cs) (w ∷ ws) long numbers each =
-    let first : number s ≡ k = ap (λ (xs : List ℕ). get_or xs 0 0) numbers in
-    (
+    let first : number s ≡ k = ap (λ (xs : List ℕ). get_or xs 0 0) numbers in (
       subst (λ i. IfOk w (IsWorkOf life r i)) first (each 0 w s (omega arith)),
       numbered life r (k + 1) cs ws (omega (arith, long)) (ap (λ (xs : List ℕ). drop 1 xs) numbers) (λ i d e within. each (suc i) d e (omega (arith, within))),
     )

@@ -1,6 +1,6 @@
 -- A life that was run, lost its power and was recovered is a legal life, told by its trail.
-use Rattle.std.proofs.Common.{◌≡◌, ◌↔◌, ◌+◌, ◌-◌, ◌%◌, ◌<◌, ◌≤◌, ℕ, Bool, true, List, length, map, slice_index, refl, sym, ap, ap₂, subst, ◌∙◌, arith, Some, Ok, Result, MatchResult}
-use Rattle.std.specs.Prelude.{All, slice_get}
+use Rattle.std.proofs.Common.{◌≡◌, ◌↔◌, ◌+◌, ◌-◌, ◌%◌, ◌<◌, ◌≤◌, ℕ, Bool, true, List, length, map, slice_index, sym, ap, ap₂, subst, ◌∙◌, arith, Result, MatchResult}
+use Rattle.std.specs.Prelude.{All}
 use Rattle.cx_base.specs.Codes.{root_place_of}
 use Rattle.cx_base.specs.Store.{Store}
 use Rattle.cx_core.specs.Base.{LawfulBase}
@@ -8,7 +8,6 @@ use Rattle.cx_core.specs.Crash.{IsKept as IsKeptOf, recovered}
 use Rattle.cx_core.specs.History.{full_image}
 use Rattle.cx_core.specs.Lawful.{Lawful}
 use Rattle.cx_core.specs.LawfulAnswers.{durable_place}
-use Rattle.cx_core.specs.Region.{object_part}
 use Rattle.cx_core.specs.Shown.{shown}
 use Rattle.cx_core.specs.State.{Instance, State}
 use Rattle.cx_core.specs.declared.entry.Base.{Base}
@@ -16,26 +15,26 @@ use Rattle.cx_core.specs.declared.entry.Entry.{Entry}
 use Rattle.cx_core.specs.declared.entry.Image.{Image}
 use Rattle.cx_rule.specs.Running.{Running, instance_at}
 use Rattle.cx_rule.specs.Seats.{Seated}
-use Rattle.cx_table.specs.Remains.{Leaves, locals_of}
+use Rattle.cx_table.specs.Remains.{Leaves}
 use Rattle.cx_table.specs.declared.remains.Remains.{Remains}
 use Rattle.doc_store.specs.ExactStep.{IsImage, reads_in, store_step}
 use Rattle.doc_store.specs.declared.store.DocStore.{DocStore}
-use Rattle.index_checks.specs.Reading.{store_in}
-use Rattle.journals.specs.Ended.{IsEnded, IsSameButKept}
+use Rattle.journals.specs.Ended.{IsEnded}
 use Rattle.journals.specs.Told.{IsTold}
-use Rattle.journals.specs.Works.{AreWorks}
 use Rattle.life_laws.specs.Begins.{Begun, IsBaseOf, begun_after}
 use Rattle.life_laws.specs.Meanings.{store_instance}
 use Rattle.life_laws.specs.Recorded.{GoesOn, HasReplies, IsKeptIn, IsRecorded}
-use Rattle.life_records.specs.Lives.{IsKept, IsKeptStop, IsLegal, IsLegalLife, answers_of}
+use Rattle.life_records.specs.Lives.{IsKept, IsKeptStop, IsLegal}
 use Rattle.life_records.specs.declared.record.JournalLine.{JournalLine}
 use Rattle.life_records.specs.declared.record.LifeRecord.{LifeRecord}
 use Rattle.life_records.specs.declared.script.Life.{Life}
-use Rattle.recovery.specs.Crashes.{IsLeftOf, left_root}
+use Rattle.recovery.specs.Crashes.{IsLeftOf}
 use Rattle.recovery.specs.Kept.{IsKeptBy, IsOpened, crash_of}
+use Rattle.recovery.specs.Recovery.{IsFaultOf, IsRecovered}
+use Rattle.recovery.specs.declared.recovering.ImageFault.{ImageFault}
+use Rattle.recovery.specs.declared.recovering.ImageFault.TheVariants.{Memory}
 use Rattle.cx_lives.specs.Life.{HasRun}
 use Rattle.cx_lives.specs.Lives.{HasLived, HasLost, IsServiceOf, IsToldBy}
-use Rattle.cx_lives.specs.declared.lives.Ran.{Ran}
 use Rattle.cx_lives.proofs.Entries.{few_entries}
 
 abbrev pub steps : DocStore → List ℕ → List ℕ → List ℕ × List ℕ
@@ -127,6 +126,22 @@ opened_of lines base life service enough few lawful is = record {
   small = subst (λ (l : ℕ). l ≤ 16384) (sym is.has_lines) few;
   base = subst (λ (b : Base). LawfulBase service.object.lines (IsImage service.object.lines) b) (sym is.from) (subst (λ (l : ℕ). LawfulBase l (IsImage l) base) (sym is.store) lawful);
 }
+
+-- what recovery answers of what a closed table left, as its law says
+abbrev pub Recovers : Type 0
+Recovers =
+    (table : Running DocStore) (seats : List Seated) (r : Remains) (choice : ℕ) (image : Image) (answer : Result Base ImageFault) → IsOpened lines_in images table →
+    Leaves table (instance_at table steps readings) seats r → IsLeftOf r choice image → MatchResult answer (IsRecovered 1 (images table.object) image) (IsFaultOf 1 (images table.object) image) →
+    MatchResult answer (IsKeptBy lines_in images steps table seats r choice) (λ fault. fault ≡ Memory)
+
+-- and of what a life's service left, with the store's lines as recovery was told them
+pub recovered_of : Recovers → (lines : ℕ) (base : Base) (life : Life) (service : Running DocStore) (told : LifeRecord) (remains : Remains) (image : Image) → 64 ≤ lines → lines ≤ 16384
+    → LawfulBase lines (IsImage lines) base → IsServiceOf lines base life service → (ran : HasRun life service told remains) → IsLeftOf remains life.choice image
+    → (l : ℕ) → l ≡ lines → (answer : Result Base ImageFault) → MatchResult answer (IsRecovered 1 (IsImage l) image) (IsFaultOf 1 (IsImage l) image)
+    → MatchResult answer (IsKeptBy lines_in images steps service ran.seats remains life.choice) (λ fault. fault ≡ Memory)
+recovered_of law lines base life service told remains image enough few lawful is ran left l of answer a =
+    law service ran.seats remains life.choice image answer (opened_of lines base life service enough few lawful is) ran.leaves left
+    (subst (λ (k : ℕ). MatchResult answer (IsRecovered 1 (IsImage k) image) (IsFaultOf 1 (IsImage k) image)) (of ∙ sym is.store) a)
 
 module _ (lines : ℕ) (base : Base) (life : Life) (begun : Begun) (service : Running DocStore) (told flagged : LifeRecord) (remains : Remains) (image : Image) (next : Base)
     (based : IsBaseOf base begun) (is : IsServiceOf lines base life service) (ran : HasRun life service told remains) (lost : HasLost lines life told remains image next flagged)

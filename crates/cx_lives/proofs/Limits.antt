@@ -1,5 +1,5 @@
 -- The limits of a life's clients.
-use Rattle.std.proofs.Common.{◌≡◌, ◌+◌, ◌<◌, ◌≤◌, ◌==◌, ◌-◌, ◌^◌, ℕ, suc, true, false, List, [], ◌∷◌, length, map, drop, get_or, refl, sym, ap, subst, ◌∙◌, arith, if◌then◌else◌}
+use Rattle.std.proofs.Common.{◌≡◌, ◌+◌, ◌<◌, ◌≤◌, ◌==◌, ◌-◌, ◌^◌, ℕ, suc, true, false, List, ◌∷◌, length, map, drop, get_or, sym, ap, ◌∙◌, arith, if◌then◌else◌}
 use Rattle.std.specs.List.{range_with_len}
 use Rattle.std.proofs.Math.Seq.{drop-cons}
 use Rattle.std.proofs.lemmas.List.{drop_all}
@@ -44,17 +44,17 @@ can_run life limits base object lines service seats limits_are starts within tic
     let seat : ℕ → Seated = opening_seat service limits in
     let long : length seats ≡ life.clients = ap length starts.opened ∙ length-map-range_with_len seat 0 life.clients in
     let new : All (IsNewIn life service) seats = λ k d less. (
-        let below : k < life.clients = omega (arith, less, long) in
-        let here : 0 + k ≡ k = omega arith in
-        let same : get_or seats k d ≡ seat k = ap (λ (xs : List Seated). get_or xs k d) starts.opened ∙ get_or-map-range_with_len seat 0 life.clients k k d below here in
-        let limit : slice_index limits k ≡ limit_in k life.cuts = ap (λ (xs : List ℕ). slice_index xs k) limits_are ∙ get_or-map-range_with_len (λ client. limit_in client life.cuts) 0 life.clients k k 0 below here in
-        record {
-          caller = starts.each k d less;
-          own = ap (λ (s : Seated). s.known.local.own) same;
-          answered = ap (λ (s : Seated). s.known.local.answered) same;
-          reads = ap (λ (s : Seated). s.known.local.seen_reads) same;
-          limit = ap (λ (s : Seated). s.known.local.limit) same ∙ limit ∙ ap (λ (s : Seated). limit_in s.known.local.number life.cuts) (sym same);
-        }) in
+    let below : k < life.clients = omega (arith, less, long) in
+    let here : 0 + k ≡ k = omega arith in
+    let same : get_or seats k d ≡ seat k = ap (λ (xs : List Seated). get_or xs k d) starts.opened ∙ get_or-map-range_with_len seat 0 life.clients k k d below here in
+    let limit : slice_index limits k ≡ limit_in k life.cuts = ap (λ (xs : List ℕ). slice_index xs k) limits_are ∙ get_or-map-range_with_len (λ client. limit_in client life.cuts) 0 life.clients k k 0 below here in
+    record {
+      caller = starts.each k d less;
+      own = ap (λ (s : Seated). s.known.local.own) same;
+      answered = ap (λ (s : Seated). s.known.local.answered) same;
+      reads = ap (λ (s : Seated). s.known.local.seen_reads) same;
+      limit = ap (λ (s : Seated). s.known.local.limit) same ∙ limit ∙ ap (λ (s : Seated). limit_in s.known.local.number life.cuts) (sym same);
+    }) in
     let place : service.base.place ≡ base.place = ap (λ (r : Running DocStore). r.base.place) starts.is in
     record {
       seats = starts.all;

@@ -1,5 +1,5 @@
 -- No closed service leaves a caller that found no further ticket while commands are left, or that was answered with words of no reply.
-use Rattle.std.proofs.Common.{◌≡◌, ◌≢◌, ℕ, zero, suc, ◌+◌, ◌-◌, ◌^◌, ◌<◌, ◌≤◌, true, List, [], ◌∷◌, length, get_or, map, take, slice_get, Option, None, Some, sym, ap, subst, ◌∙◌, refl, inl, inr, ◌⊎◌, arith}
+use Rattle.std.proofs.Common.{◌≡◌, ℕ, zero, suc, ◌+◌, ◌-◌, ◌^◌, ◌≤◌, List, [], ◌∷◌, length, map, take, slice_get, Some, sym, ap, subst, ◌∙◌, refl, inl, inr, arith}
 use Rattle.std.specs.Prelude.{Contains}
 use Rattle.std.specs.Option.{option_map}
 use Rattle.std.proofs.lemmas.Option.{same_Some, slice_get_cases, get_or_from_slice_get}
@@ -7,22 +7,18 @@ use Rattle.cx_base.specs.Memory.{Words}
 use Rattle.cx_core.proofs.ListLemmas.{item_below}
 use Rattle.cx_core.proofs.MergeLemmas.{has_own, own_at}
 use Rattle.cx_core.specs.Base.{LawfulBase}
-use Rattle.cx_core.specs.declared.entry.Base.{Base}
 use Rattle.cx_core.specs.declared.entry.Entry.{Entry}
-use Rattle.cx_core.specs.declared.local.Answer.{Answer}
 use Rattle.cx_core.specs.declared.local.Linked.{Linked}
 use Rattle.cx_core.specs.declared.local.Local.{Local}
-use Rattle.cx_core.specs.declared.local.SeenRead.{SeenRead}
-use Rattle.cx_core.specs.History.{image_after, reply_at}
+use Rattle.cx_core.specs.History.{image_after}
 use Rattle.cx_core.specs.Lawful.{Lawful}
-use Rattle.cx_core.specs.Merge.{all_own}
 use Rattle.cx_core.specs.Region.{object_part}
 use Rattle.cx_core.specs.Shown.{shown}
-use Rattle.cx_core.specs.State.{EachLocal, Instance, State}
+use Rattle.cx_core.specs.State.{EachLocal, Instance}
 use Rattle.doc_model.proofs.OpKinds.{op_words_fit}
 use Rattle.doc_model.specs.declared.operations.Op.{Op}
 use Rattle.doc_model.specs.Meaning.{reply_to}
-use Rattle.doc_model.specs.Words.{AreOfNoReply, IsOpOf, reply_words}
+use Rattle.doc_model.specs.Words.{AreOfNoReply, IsOpOf}
 use Rattle.doc_store.specs.ExactStep.{IsImage, store_step}
 use Rattle.doc_store.specs.StoreLaws.{image_index, image_reply_fits, step_keeps, step_means}
 use Rattle.journals.proofs.Owns.{own_count}

@@ -1,6 +1,6 @@
 -- One command more of a client, and a client's end.
-use Rattle.std.proofs.Common.{◌≡◌, ◌≢◌, ℕ, zero, suc, ◌+◌, ◌-◌, ◌^◌, ◌<◌, ◌≤◌, ◌==◌, Bool, true, false, cond, List, [], ◌∷◌, ◌++◌, length, get_or, slice_get, Option, None, Some, sym, ap, subst, ◌∙◌, refl, inl, inr, ◌⊎◌, arith, length-append}
-use Rattle.std.specs.Prelude.{All, AllPairs, Contains, IsSome, count_by}
+use Rattle.std.proofs.Common.{◌≡◌, ℕ, zero, suc, ◌+◌, ◌<◌, ◌≤◌, ◌==◌, false, List, [], ◌∷◌, ◌++◌, length, Option, None, Some, sym, ap, subst, ◌∙◌, refl, inl, inr, ◌⊎◌, arith, length-append}
+use Rattle.std.specs.Prelude.{All, AllPairs, Contains, IsSome}
 use Rattle.std.specs.List.{AllZip}
 use Rattle.std.proofs.lemmas.Bool.{cases_eq, eq-eqb, ne_eqb}
 use Rattle.std.proofs.lemmas.List.{append-nil}
@@ -19,13 +19,13 @@ use Rattle.cx_turns.specs.Answering.{with_answer}
 use Rattle.doc_model.specs.declared.operations.Op.{Op}
 use Rattle.doc_model.specs.declared.operations.Reply.{Reply}
 use Rattle.doc_model.specs.Words.{op_words, reply_words}
-use Rattle.journals.specs.Works.{AreReadLines, HasWords, IsDoneEntry, IsEntryBefore, IsLineOf, IsLineReply, IsReadLine, IsReplyAt, IsSeenBefore, IsStopOf, IsStoppedRead, IsWork, StandsBetween, lines_of, stops_in}
+use Rattle.journals.specs.Works.{HasWords, IsDoneEntry, IsEntryBefore, IsLineOf, IsLineReply, IsReadLine, IsReplyAt, IsSeenBefore, IsStopOf, IsStoppedRead, IsWork, StandsBetween, lines_of, stops_in}
 use Rattle.life_records.specs.Scripts.{limit_in, named_op, own_ops}
 use Rattle.life_records.specs.declared.script.Life.{Life}
 use Rattle.life_records.specs.declared.record.JournalLine.{JournalLine}
 use Rattle.life_records.specs.declared.record.ReadLine.{ReadLine}
 use Rattle.life_records.specs.declared.record.StopLine.{StopLine}
-use Rattle.cx_lives.specs.Calls.{KeepsLists, LinksEntry, one_read}
+use Rattle.cx_lives.specs.Calls.{LinksEntry, one_read}
 use Rattle.cx_lives.specs.Serving.{HasServed, IsAnsweredEntry, IsAnsweredLine}
 use Rattle.cx_lives.proofs.Lines.{all_at, count_no, count_none, count_yes, zip_also, zip_with}
 
@@ -219,11 +219,11 @@ module _ (life : Life) (client n : ℕ) (l : Local) (es : List JournalLine) (rs 
             elim reads [
               | inl none ↦ ([], none ∙ sym (append-nil l.seen_reads), omega arith, All-nil (IsStoppedRead life client (Some stop)))
               | inr one ↦ (
-                  record { place = one.0.place; op = ws; reply = one.0.reply; before = length l.answered } ∷ [],
-                  one.1,
-                  omega arith,
-                  All-cons (IsStoppedRead life client (Some stop)) (record { place = one.0.place; op = ws; reply = one.0.reply; before = length l.answered }) [] (record { line = stop; is = refl; op = has_words ws refl }) (All-nil (IsStoppedRead life client (Some stop))),
-                )
+                record { place = one.0.place; op = ws; reply = one.0.reply; before = length l.answered } ∷ [],
+                one.1,
+                omega arith,
+                All-cons (IsStoppedRead life client (Some stop)) (record { place = one.0.place; op = ws; reply = one.0.reply; before = length l.answered }) [] (record { line = stop; is = refl; op = has_words ws refl }) (All-nil (IsStoppedRead life client (Some stop))),
+              )
             ] in
             record {
               by = same_number ∙ s.by;

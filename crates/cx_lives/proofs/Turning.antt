@@ -1,23 +1,21 @@
 -- What a command comes to, from what its operation came to.
-use Rattle.std.proofs.Common.{◌≡◌, ℕ, zero, suc, ◌+◌, ◌-◌, ◌<◌, ◌≤◌, List, [], ◌∷◌, ◌++◌, length, Option, None, Some, sym, ap, subst, ◌∙◌, refl, inl, inr, ◌⊎◌, arith}
+use Rattle.std.proofs.Common.{◌≡◌, ℕ, ◌+◌, ◌≤◌, List, [], ◌∷◌, ◌++◌, length, Option, None, Some, sym, ap, subst, ◌∙◌, refl, inl, inr, arith}
 use Rattle.std.specs.Prelude.{Contains, IfOk, Result, Ok, Err}
 use Rattle.std.proofs.lemmas.List.Elements.{Contains-push}
 use Rattle.std.proofs.lemmas.List.{length-append}
 use Rattle.cx_core.specs.declared.local.Answer.{Answer}
-use Rattle.cx_core.specs.declared.local.Linked.{Linked}
 use Rattle.cx_core.specs.declared.local.Local.{Local}
 use Rattle.cx_core.specs.declared.local.SeenRead.{SeenRead}
-use Rattle.cx_rule.specs.Running.{IsSeatOf, Running}
-use Rattle.cx_rule.specs.Seats.{IsAtLimit, Seated}
+use Rattle.cx_rule.specs.Running.{Running}
+use Rattle.cx_rule.specs.Seats.{Seated}
 use Rattle.cx_service.specs.Closes.{seat_of}
 use Rattle.cx_service.specs.declared.close.Handed.{Handed}
 use Rattle.cx_service.specs.declared.close.Handed.TheVariants.{Idle, Stopped as StoppedCaller}
 use Rattle.cx_turns.specs.declared.lookup.Seen.{Seen}
 use Rattle.doc_model.specs.declared.operations.Op.{Op}
 use Rattle.doc_model.specs.Meaning.{IsOp}
-use Rattle.doc_model.specs.Words.{AreOfNoReply, HasIntegerAmount, IsOpOf, op_words}
-use Rattle.journals.specs.Works.{IsWork}
-use Rattle.life_records.specs.Scripts.{limit_in, named_op, own_ops}
+use Rattle.doc_model.specs.Words.{HasIntegerAmount, IsOpOf, op_words}
+use Rattle.life_records.specs.Scripts.{named_op, own_ops}
 use Rattle.life_records.specs.declared.script.Life.{Life}
 use Rattle.life_records.specs.declared.record.JournalLine.{JournalLine}
 use Rattle.life_records.specs.declared.record.ReadLine.{ReadLine}
@@ -27,12 +25,11 @@ use Rattle.cx_lives.specs.declared.desk.End.TheVariants.{Whole, Stopped, Never}
 use Rattle.cx_lives.specs.declared.desk.Turn.{Turn}
 use Rattle.cx_lives.specs.declared.desk.Turn.TheVariants.{Next, Over}
 use Rattle.cx_lives.specs.declared.desk.Work.{Work}
-use Rattle.cx_lives.specs.declared.calls.Asked.{Asked}
-use Rattle.cx_lives.specs.declared.calls.Asked.TheVariants.{Done, Read, Worn, Halted}
-use Rattle.cx_lives.specs.Calls.{Asks, AsksDone, AsksRead, AsksWorn, HaltsBeside, HaltsLinked, LinksEntry, one_read}
-use Rattle.cx_lives.specs.Ends.{CannotBe, IsCallerIn, IsEndOf, IsNewIn, IsWorkOf, Turned}
+use Rattle.cx_lives.specs.declared.calls.Asked.TheVariants.{Halted}
+use Rattle.cx_lives.specs.Calls.{Asks, AsksDone, AsksRead, AsksWorn}
+use Rattle.cx_lives.specs.Ends.{IsCallerIn, IsEndOf, IsNewIn, IsWorkOf, Turned}
 use Rattle.cx_lives.specs.Serving.{HasServed, IsServed}
-use Rattle.cx_lives.specs.Turns.{AddsEntry, AddsRead, EntryTurn, GivesUp, ReadTurn, StopsIn, stop_line, with_linked}
+use Rattle.cx_lives.specs.Turns.{EntryTurn, ReadTurn, StopsIn, stop_line}
 use Rattle.cx_lives.proofs.Serving.{few_own, is_whole, named_within, serves_entry, serves_none, serves_read, stops_beside, stops_linked}
 
 -- what holds of what came out

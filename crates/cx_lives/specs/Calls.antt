@@ -1,5 +1,5 @@
 -- What an operation comes to that a worker asks for, whether beside the queue or as an entry of it.
-use Rattle.std.specs.Prelude.{◌≡◌, ◌^◌, ◌⊎◌, ℕ, List, [], ◌∷◌, ◌++◌, length, Option, Some, None}
+use Rattle.std.specs.Prelude.{◌≡◌, ◌^◌, ◌⊎◌, ℕ, List, [], ◌∷◌, ◌++◌, length, Some, None}
 use Rattle.cx_core.specs.declared.local.Answer.{Answer}
 use Rattle.cx_core.specs.declared.local.Linked.{Linked}
 use Rattle.cx_core.specs.declared.local.Local.{Local}
@@ -8,18 +8,11 @@ use Rattle.cx_rule.specs.Running.{Running}
 use Rattle.cx_rule.specs.Seats.{Seated, unanswered_ticket}
 use Rattle.cx_service.specs.Callers.{IsCallerOf, IsLinkedOf, IsStoppedOf}
 use Rattle.cx_service.specs.Drives.{DriveHalted, DriveKeeps}
+use Rattle.cx_service.specs.Updates.{KeepsLists}
 use Rattle.cx_turns.specs.declared.lookup.Seen.{Seen}
 use Rattle.cx_turns.specs.Answering.{with_answer, with_read}
 use Rattle.cx_lives.specs.declared.calls.Asked.{Asked}
 use Rattle.cx_lives.specs.declared.calls.Asked.TheVariants.{Done, Read, Worn, Halted}
-
--- the caller's number, its limit and its lists are as they were
-pub record KeepsLists (before after : Local) : Type 0 where
-  pub number : after.number ≡ before.number
-  pub limit : after.limit ≡ before.limit
-  pub own : after.own ≡ before.own
-  pub answered : after.answered ≡ before.answered
-  pub reads : after.seen_reads ≡ before.seen_reads
 
 -- one entry more, of this operation, at a ticket
 pub record LinksEntry (op : List ℕ) (ticket : ℕ) (before after : Local) : Type 0 where
@@ -54,7 +47,7 @@ pub record AsksRead {O : Type 0} (r : Running O) (op : List ℕ) (before after :
 -- there is no further ticket
 pub record AsksWorn {O : Type 0} (r : Running O) (before after : Seated) : Type 0 where
   pub caller : IsCallerOf r after
-  pub keeps : KeepsLists before.known.local after.known.local
+  pub keeps : KeepsLists before after
   pub front : after.known.local.front ≡ 2 ^ 40
 
 -- The limit was come to before anything was linked. No read was answered, or this one was.
@@ -64,7 +57,8 @@ pub record HaltsBeside {O : Type 0} (r : Running O) (op : List ℕ) (before afte
   pub limit : after.known.local.limit ≡ before.known.local.limit
   pub own : after.known.local.own ≡ before.known.local.own
   pub answered : after.known.local.answered ≡ before.known.local.answered
-  pub reads : (after.known.local.seen_reads ≡ before.known.local.seen_reads) ⊎ ((seen : Seen) × (after.known.local.seen_reads ≡ one_read op seen before.known.local))
+  pub reads : (after.known.local.seen_reads ≡ before.known.local.seen_reads) ⊎
+      ((seen : Seen) × (after.known.local.seen_reads ≡ one_read op seen before.known.local))
 
 -- The limit was come to behind the link of an entry at a ticket, whether it was answered or not.
 pub record HaltsLinked {O : Type 0} (r : Running O) (op : List ℕ) (ticket : ℕ) (before after : Seated) : Type 0 where

@@ -9,7 +9,6 @@ use Rattle.cx_rule.specs.Running.{IsSeatOf, Running}
 use Rattle.cx_rule.specs.Seats.{Seated}
 use Rattle.cx_service.specs.Callers.{IsCallerOf}
 use Rattle.cx_service.specs.Closes.{seat_of}
-use Rattle.cx_service.specs.declared.close.Handed.{Handed}
 use Rattle.doc_model.specs.declared.operations.Op.{Op}
 use Rattle.doc_model.specs.Words.{AreOfNoReply, IsOpOf}
 use Rattle.journals.specs.Works.{IsWork}
@@ -22,7 +21,7 @@ use Rattle.cx_lives.specs.declared.desk.End.TheVariants.{Whole, Stopped, Never}
 use Rattle.cx_lives.specs.declared.desk.Turn.{Turn}
 use Rattle.cx_lives.specs.declared.desk.Turn.TheVariants.{Next, Over}
 use Rattle.cx_lives.specs.declared.desk.Work.{Work}
-use Rattle.cx_lives.specs.Serving.{HasServed, IsServed}
+use Rattle.cx_lives.specs.Serving.{IsServed}
 
 -- every ticket is linked, while the caller has fewer entries than its client has commands
 pub record IsWorn (life : Life) (client : ℕ) (l : Local) : Type 0 where
@@ -85,7 +84,9 @@ pub record IsNewIn {O : Type 0} (life : Life) (r : Running O) (seat : Seated) : 
 
 -- item i is the work of caller i, or its worker found no memory
 abbrev pub AreWorksOf : {O : Type 0} → Life → Running O → List Seated → List (Result Work AllocError) → Type 0
-AreWorksOf life r callers works = (i : ℕ) (d : Result Work AllocError) (e : Seated) → i < length callers → IfOk (slice_index_or works i d) (IsWorkOf life r (slice_index_or callers i e).known.local.number)
+AreWorksOf life r callers works =
+    (i : ℕ) (d : Result Work AllocError) (e : Seated) → i < length callers →
+    IfOk (slice_index_or works i d) (IsWorkOf life r (slice_index_or callers i e).known.local.number)
 
 -- the works of the callers from one on, each where its worker found memory
 abbrev pub AreNumbered : {O : Type 0} → Life → Running O → ℕ → List (Result Work AllocError) → Type 0

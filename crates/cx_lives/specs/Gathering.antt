@@ -35,7 +35,8 @@ pub record AreGathered {O : Type 0} (life : Life) (r : Running O) (g : Gathered)
   pub of : All (IsSeatOf r) (seats_of g.handed.items)
   pub numbers : map (λ (s : Seated). s.known.local.number) (seats_of g.handed.items) ≡ range_with_len 0 (length g.handed.items)
   pub each : EachLocal (locals_of (seats_of g.handed.items)) (IsLocalIn life)
-  pub works : MatchBool g.never (HasNever life (locals_of (seats_of g.handed.items))) (AreWorks life (locals_of (seats_of g.handed.items)) g.entries.items g.reads.items g.stops.items)
+  pub works : MatchBool g.never (HasNever life (locals_of (seats_of g.handed.items)))
+      (AreWorks life (locals_of (seats_of g.handed.items)) g.entries.items g.reads.items g.stops.items)
 
 -- the stop line of an end
 abbrev pub stop_in : End → List StopLine

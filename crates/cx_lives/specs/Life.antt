@@ -1,5 +1,5 @@
 -- What a life that is run comes to.
-use Rattle.std.specs.Prelude.{◌≡◌, ◌+◌, ◌^◌, ◌≤◌, ℕ, List, [], length, All}
+use Rattle.std.specs.Prelude.{◌≡◌, ◌+◌, ◌^◌, ◌≤◌, List, [], length, All}
 use Rattle.cx_rule.specs.Running.{Running, instance_at}
 use Rattle.cx_rule.specs.Seats.{Seated}
 use Rattle.cx_table.specs.Remains.{AreSeats, Leaves}

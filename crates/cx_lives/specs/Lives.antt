@@ -1,5 +1,5 @@
 -- What the lives of a script come to, and what one life comes to.
-use Rattle.std.specs.Prelude.{◌≡◌, ◌↔◌, ◌+◌, ◌-◌, ◌%◌, ◌<◌, ◌≤◌, ℕ, List, [], ◌∷◌, ◌++◌, length, slice_index, true, All, Option, None, Some}
+use Rattle.std.specs.Prelude.{◌≡◌, ◌↔◌, ◌+◌, ◌-◌, ◌%◌, ◌<◌, ◌≤◌, ℕ, List, [], ◌∷◌, length, slice_index, true, All, Option, None, Some}
 use Rattle.cx_base.specs.Codes.{root_place_of}
 use Rattle.cx_core.specs.Base.{LawfulBase}
 use Rattle.cx_core.specs.declared.entry.Base.{Base}
@@ -41,7 +41,8 @@ begun_by lines begun (life ∷ lives) (told ∷ records) = begun_by lines (begun
 abbrev pub AreToldFrom : ℕ → Begun → List Life → List LifeRecord → List Ending → Type 0
 AreToldFrom lines begun [] [] [] = Unit {0}
 AreToldFrom lines begun (life ∷ lives) (told ∷ records) (trail ∷ trails) =
-    IsToldBy life trail told × IsBaseOf trail.base begun × AreToldFrom lines (begun_after lines begun life told.journal told.kept) lives records trails
+    IsToldBy life trail told × IsBaseOf trail.base begun ×
+    AreToldFrom lines (begun_after lines begun life told.journal told.kept) lives records trails
 AreToldFrom lines begun [] [] (trail ∷ trails) = ⊥
 AreToldFrom lines begun [] (told ∷ records) trails = ⊥
 AreToldFrom lines begun (life ∷ lives) [] trails = ⊥
@@ -92,7 +93,8 @@ pub record IsFlagged (told : LifeRecord) (kept documents : ℕ) (flagged : LifeR
   pub documents_are : flagged.documents ≡ documents
 
 -- What is left of a life by its choice where it loses its power, what is recovered, and the record with what was kept.
-pub record HasLost (lines : ℕ) (life : Life) (told : LifeRecord) (remains : Remains) (image : Image) (next : Base) (flagged : LifeRecord) : Type 0 where
+pub record HasLost (lines : ℕ) (life : Life) (told : LifeRecord) (remains : Remains) (image : Image) (next : Base) (flagged : LifeRecord) :
+    Type 0 where
   pub enough : 64 ≤ lines
   pub few : lines ≤ 16384
   pub limits : IsLifeInLimits life

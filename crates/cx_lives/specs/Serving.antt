@@ -6,7 +6,6 @@ use Rattle.cx_core.specs.declared.local.Linked.{Linked}
 use Rattle.cx_core.specs.declared.local.Local.{Local}
 use Rattle.cx_core.specs.declared.local.SeenRead.{SeenRead}
 use Rattle.cx_rule.specs.Running.{Running}
-use Rattle.cx_rule.specs.Seats.{Seated}
 use Rattle.cx_service.specs.Callers.{IsCallerOf}
 use Rattle.journals.specs.Works.{IsEntryBefore, IsLineOf, IsReadLine, IsSeenBefore, StandsBetween, lines_of}
 use Rattle.life_records.specs.Scripts.{limit_in}

@@ -2,7 +2,6 @@
 use Rattle.std.specs.Prelude.{◌≡◌, ℕ, false, List, [], ◌∷◌, ◌++◌, Option, None, Some}
 use Rattle.cx_core.specs.declared.local.Answer.{Answer}
 use Rattle.cx_rule.specs.Seats.{Seated}
-use Rattle.cx_service.specs.declared.close.Handed.{Handed}
 use Rattle.cx_service.specs.declared.close.Handed.TheVariants.{Idle, Stopped as StoppedCaller}
 use Rattle.cx_turns.specs.declared.lookup.Seen.{Seen}
 use Rattle.doc_model.specs.declared.operations.Reply.{Reply}
@@ -26,7 +25,8 @@ pub record AddsEntry (client number : ℕ) (answer : Answer) (desk next : Desk) 
   pub caller : next.caller ≡ desk.caller
   pub reply : Reply
   pub words : reply_words reply ≡ answer.reply
-  pub entries : next.entries.items ≡ desk.entries.items ++ record { ticket = answer.ticket; client = client; command = number; reply = Some reply } ∷ []
+  pub entries : next.entries.items ≡
+      desk.entries.items ++ record { ticket = answer.ticket; client = client; command = number; reply = Some reply } ∷ []
   pub reads : next.reads.items ≡ desk.reads.items
 
 -- one read's line more
@@ -58,10 +58,12 @@ stop_line client number stopped = record { client = client; command = number; st
 -- the lines with one more, without reply, where an entry is linked
 abbrev pub with_linked : ℕ → ℕ → Option ℕ → List JournalLine → List JournalLine
 with_linked client number None entries = entries
-with_linked client number (Some ticket) entries = entries ++ record { ticket = ticket; client = client; command = number; reply = None } ∷ []
+with_linked client number (Some ticket) entries =
+    entries ++ record { ticket = ticket; client = client; command = number; reply = None } ∷ []
 
 -- the client is stopped in its command of this number, whose entry has a ticket where it is linked
-pub record StopsIn (client number : ℕ) (stopped : Seated) (linked : Option ℕ) (entries : List JournalLine) (reads : List ReadLine) (work : Work) : Type 0 where
+pub record StopsIn (client number : ℕ) (stopped : Seated) (linked : Option ℕ) (entries : List JournalLine) (reads : List ReadLine)
+    (work : Work) : Type 0 where
   pub handed : work.handed ≡ StoppedCaller stopped
   pub end_is : work.end ≡ Stopped (stop_line client number stopped)
   pub entries_are : work.entries.items ≡ with_linked client number linked entries

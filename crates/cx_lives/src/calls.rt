@@ -6,9 +6,7 @@ ghost use Rattle.cx_service.specs.Callers.{IsCallerOf, IsLinkedOf};
 ghost use Rattle.cx_lives.specs.Calls.{Asks, Finishes};
 
 use cx_base::Object;
-use cx_service::{
-    Answer, Caller, Driven, Linked, ReadTried, Seen, Service, Stopped, Submitted,
-};
+use cx_service::{Answer, Caller, Driven, Linked, ReadTried, Seen, Service, Stopped, Submitted};
 use std::sync::Wait;
 
 /// The tries of one submit, and the turns of one drive, before they are begun again.
@@ -51,12 +49,7 @@ pub(crate) fn ask<O: Object, R: Wait>(
 }
 
 // Reads beside the queue, and enters it where that was refused.
-fn look<O: Object, R: Wait>(
-    rt: &R,
-    service: &Service<O>,
-    caller: Caller,
-    op: &[u64; 144],
-) -> Asked
+fn look<O: Object, R: Wait>(rt: &R, service: &Service<O>, caller: Caller, op: &[u64; 144]) -> Asked
     requires caller { IsCallerOf service.now caller }
     requires reads { IsTrue (O.only_reads service.now.object op.now) }
     ensures { Asks service.now op.now caller result }
@@ -69,12 +62,7 @@ fn look<O: Object, R: Wait>(
 }
 
 // Enters the queue. It tries again as long as others link before it, or no cell is idle.
-fn queue<O: Object, R: Wait>(
-    rt: &R,
-    service: &Service<O>,
-    caller: Caller,
-    op: &[u64; 144],
-) -> Asked
+fn queue<O: Object, R: Wait>(rt: &R, service: &Service<O>, caller: Caller, op: &[u64; 144]) -> Asked
     requires { IsCallerOf service.now caller }
     ensures { Asks service.now op.now caller result }
 {

@@ -10,10 +10,8 @@ mod life;
 mod lived_laws;
 mod lives;
 mod start;
-mod values;
 mod work;
 mod workers;
 
 pub use life::run_life;
 pub use lives::{Lived, run_lives};
-pub use start::start_life;

@@ -15,9 +15,20 @@ use std::alloc::{AllocError, Global};
 use std::sync::Wait;
 use std::thread::Threads;
 
-/// Runs a life on a service: one worker for each client makes the client's commands in order and passes the gate before each and
-/// behind it, until all are answered or the client is stopped. Then the service is closed. Gives the record of the life before the
-/// loss of power, with nothing kept, and what the service leaves. `Err` is want of memory, and gives nothing back.
+/// Runs a life on a service: one worker for each client, on a thread of its own, makes the client's commands in order, until all are
+/// answered or the client is stopped at its limit of steps. A worker whose thread cannot be started is run by the calling thread. Then
+/// the service is closed. Gives the record of the life before the loss of power, with nothing kept, and what the service leaves.
+///
+/// The gate is for tests that bring about an order among the clients: each worker passes it before each of its commands and behind it,
+/// also where the client was stopped in that command, with the client's number, the number of the command among the client's, from 1
+/// on, and which of the two it is. The gate holds a worker as long as its `pass` does not return. The record says what came, whatever
+/// the gate does. `OpenGate` holds none.
+///
+/// `Err` is want of memory, in a worker or behind them, and gives nothing back. There is no other refusal.
+///
+/// The call waits: it does not return where the gate holds a worker for good. A worker tries again without end where no cell of its
+/// caller is idle, and each entry that a client links in a life takes one of 16. So each client of a life that the program runs has at
+/// most 16 commands that enter the queue: those that write, and those that only read where the read beside the queue was refused.
 pub fn run_life<R: Threads + Wait + Sync, G: Gate + Sync>(
     rt: &R,
     alloc: Global,

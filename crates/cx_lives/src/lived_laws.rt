@@ -30,9 +30,11 @@ use recovery::{closed_tables_recover, crash_images_are_left};
 /// of a legal life, and begins the next one.
 pub(crate) fn lives_that_ran_have_lived(store: &DocStore, base: &Base)
     requires { LawfulBase store.now.lines (IsImage store.now.lines) base.now }
-    ensures { (life : Life) (begun : Begun) (service : Running DocStore) (told flagged : LifeRecord) (remains : Remains) (image : Image) (next : entry_base.Base) →
-        IsBaseOf base.now begun → IsServiceOf store.now.lines base.now life service → HasRun life service told remains →
-        HasLost store.now.lines life told remains image next flagged → HasLived store.now.lines life begun base.now (record { told = flagged; trail = remains.trail; image = image; next = next }) }
+    ensures { (life : Life) (begun : Begun) (service : Running DocStore) (told flagged : LifeRecord) (remains : Remains)
+        (image : Image) (next : entry_base.Base) → IsBaseOf base.now begun → IsServiceOf store.now.lines base.now life service →
+        HasRun life service told remains → HasLost store.now.lines life told remains image next flagged →
+        HasLived store.now.lines life begun base.now
+        (record { told = flagged; trail = remains.trail; image = image; next = next }) }
 {
     crash_images_recover();
     crash_images_are_left::<DocStore>();

@@ -21,14 +21,13 @@ ghost use Rattle.cx_lives.specs.Lives.{BeginsLife, HasLived, HaveLived, IsFlagge
 use crate::life::run_life;
 use crate::lived_laws::lives_that_ran_have_lived;
 use crate::start::start_life;
-use crate::values::{amounts_have_64_bits, replies_are_values};
 use cx_base::{Gate, Items};
 use cx_core::{Base, OBJECT_START};
 use cx_table::{Remains, Trail};
 use doc_store::{DocStore, documents};
 use journals::is_kept;
+use life_laws::{amounts_have_64_bits, fresh_bases_begin_with_nothing, replies_are_values};
 use life_records::{JournalLine, Life, LifeRecord, Script, StopLine};
-use life_laws::fresh_bases_begin_with_nothing;
 use recovery::{
     Image, ImageFault, closed_tables_are_whole, closed_tables_recover, crash_image, recover,
 };
@@ -36,13 +35,16 @@ use std::alloc::{AllocError, Global};
 use std::sync::Wait;
 use std::thread::Threads;
 
-/// What the lives of a script came to: a record of each and the trail of its service, in order; and the image that the last loss of
-/// power left with the base that was recovered from it, where there was a life.
+/// What the lives of a script came to.
 #[derive(Drop)]
 pub struct Lived {
+    /// The record of each life, in order.
     pub records: Items<LifeRecord>,
+    /// The trail of the service that ran each life, in order.
     pub trails: Items<Trail>,
+    /// What the loss of power left that ended the last life; nothing where there was no life.
     pub image: Option<Image>,
+    /// The base that was recovered from that image, from which a further life would begin.
     pub base: Option<Base>,
 }
 
@@ -56,7 +58,12 @@ pub(crate) struct Ran {
 }
 
 /// Runs the lives of a script one after another, the first from the empty store and each next one from what was recovered after the
-/// loss of power that ended the one before. `Err` is want of memory.
+/// loss of power that ended the one before. Each life is run as `run_life` runs it, with the same gate. Its service ended with a chain
+/// of codes; the life's choice, modulo their number, takes the one whose place ends what is kept. The record's stop lines say which
+/// stopped commands are among what was kept.
+///
+/// `Err` is want of memory, and gives nothing back, whichever lives were run before. The call waits for its workers, and does not return
+/// where a life does not end: see `run_life`.
 pub fn run_lives<R: Threads + Wait + Sync, G: Gate + Sync>(
     rt: &R,
     alloc: Global,

@@ -17,7 +17,7 @@ use std::alloc::{AllocError, Global};
 
 /// Starts a service of the document store in so many lines for a life, which opens from a base: one caller for each client, with the
 /// limit of the client's cut. `Err` is want of memory.
-pub fn start_life(
+pub(crate) fn start_life(
     alloc: Global,
     lines: u64,
     life: &Life,

@@ -1,7 +1,7 @@
-mod Queries
-mod ReadSteps
+pub mod Queries
+pub mod ReadSteps
 mod Refusals
 mod Taken
-mod Working
-mod Renewed
-mod Answered
+pub mod Working
+pub mod Renewed
+pub mod Answered

@@ -1,170 +1,275 @@
-//! A plain checker of records before the loss of power, for tests: one history that interleaves the clients' commands, each command
-//! answered once and in order up to a stop, and each reply that of the one-thread store at its place.
+//! A plain checker of legal lives. It is written from the definition, over nothing but the records and the plain program of what each
+//! operation means.
 
-use crate::told::reply_text;
 use doc_model::{Op, Pairs, Reply};
-use life_records::{Life, LifeRecord};
+use life_records::{FullLine, JournalLine, Life, LifeRecord, Script, StopLine};
 use std::alloc::{AllocError, Global};
 
-/// Whether a record is one of a life that began at its place with an empty store of so many lines.
-pub(crate) fn is_legal(
+/// Whether the records are of legal lives of the script: the first from place 0 and the empty store on, and each next one from the place
+/// and the store that the last one's loss of power left.
+pub(crate) fn are_legal(
     alloc: Global,
-    lines: u64,
-    life: &Life,
-    told: &LifeRecord,
+    script: &Script,
+    records: &[LifeRecord],
 ) -> Result<bool, AllocError> {
-    for client in 0..life.clients {
-        if !has_ended(life, told, client) {
+    let lives = script.lives.as_slice();
+    if lives.len() != records.len() {
+        return Ok(false);
+    }
+    let mut past: Vec<&Op> = Vec::new(alloc);
+    let mut place = 0u64;
+    for (life, told) in lives.iter().zip(records) {
+        if told.clients != life.clients || told.choice != life.choice || told.from != place {
             return Ok(false);
         }
+        if !(is_in_order(life, told) && has_ended_all(life, told) && stops_are_legal(life, told)) {
+            return Ok(false);
+        }
+        if !(is_in_turn(alloc, told)? && is_kept(alloc, told)?) {
+            return Ok(false);
+        }
+        if !replies_are_the_stores(alloc, script.lines, &past, life, told)? {
+            return Ok(false);
+        }
+        push_kept(&mut past, life, told)?;
+        if told.documents != store_after(alloc, script.lines, &past)?.len() as u64 {
+            return Ok(false);
+        }
+        place = place.saturating_add(told.kept);
     }
-    Ok(has_tickets(told)
-        && replies_are_the_stores(alloc, lines, life, told)?
-        && told.fulls.is_empty())
+    Ok(true)
 }
 
-// A client's command of this number, from 1.
+// A client's command of this number, from 1, where the client is one of the life's.
 fn op_of(life: &Life, client: u32, command: u64) -> Option<&Op> {
-    let mut own = life.commands.as_slice().iter().filter(|c| c.client == client);
-    match command.checked_sub(1) {
-        Some(before) => own.nth(before as usize).map(|c| &c.op),
-        None => None,
+    if client >= life.clients {
+        return None;
     }
+    let before = command.checked_sub(1)?;
+    let mut own = life
+        .commands
+        .as_slice()
+        .iter()
+        .filter(|c| c.client == client);
+    own.nth(before as usize).map(|c| &c.op)
 }
 
-// The tickets go up by one from the place on.
-fn has_tickets(told: &LifeRecord) -> bool {
-    let mut next = told.from;
+fn has_op(life: &Life, client: u32, command: u64) -> bool {
+    op_of(life, client, command).is_some()
+}
+
+// The number of a client's commands.
+fn own_count(life: &Life, client: u32) -> u64 {
+    let commands = life.commands.as_slice().iter();
+    commands.filter(|c| c.client == client).count() as u64
+}
+
+// The tickets go up by one from the place on, and the lines of each kind stand in their order and name commands.
+fn is_in_order(life: &Life, told: &LifeRecord) -> bool {
+    let mut ticket = told.from;
     for line in told.journal.as_slice() {
-        if line.ticket != next {
+        if line.ticket != ticket || !has_op(life, line.client, line.command) {
             return false;
         }
-        next = next.wrapping_add(1);
+        ticket = ticket.saturating_add(1);
+    }
+    let mut last = None;
+    for line in told.reads.as_slice() {
+        let name = (line.client, line.command);
+        if last >= Some(name) || !has_op(life, line.client, line.command) {
+            return false;
+        }
+        last = Some(name);
+    }
+    let mut last = None;
+    for line in told.stops.as_slice() {
+        if last >= Some(line.client) {
+            return false;
+        }
+        last = Some(line.client);
+    }
+    let mut last = None;
+    for line in told.fulls.as_slice() {
+        if last >= Some(line.client) {
+            return false;
+        }
+        last = Some(line.client);
     }
     true
 }
 
-// Each command of a client has one line, in order, up to its last one or a stop. `done` counts those answered; places never fall.
-fn has_ended(life: &Life, told: &LifeRecord, client: u32) -> bool {
-    let mut floor = told.from;
-    let mut command = 1u64;
-    while op_of(life, client, command).is_some() {
-        let entry = told
-            .journal
-            .as_slice()
-            .iter()
-            .filter(|l| l.client == client && l.command == command);
-        let reads = told
-            .reads
-            .as_slice()
-            .iter()
-            .filter(|l| l.client == client && l.command == command);
-        let entries = entry.count();
-        let stopped = told
-            .stops
-            .as_slice()
-            .iter()
-            .any(|l| l.client == client && l.command == command);
-        let beside = reads.count();
-        if stopped {
-            return beside == 0 && entries <= 1 && is_last(told, client, command);
-        }
-        if entries + beside != 1 {
+fn has_ended_all(life: &Life, told: &LifeRecord) -> bool {
+    for client in 0..life.clients {
+        if !(entries_rise(told, client) && has_ended(life, told, client)) {
             return false;
         }
-        let Some(next) = floor_after(told, client, command, floor) else {
-            return false;
-        };
-        floor = next;
-        command = command.wrapping_add(1);
     }
-    is_last(told, client, command)
+    true
 }
 
-// No line of the client is of a later command.
-fn is_last(told: &LifeRecord, client: u32, command: u64) -> bool {
-    told.journal
-        .as_slice()
-        .iter()
-        .all(|l| l.client != client || l.command <= command)
-        && told
-            .reads
-            .as_slice()
-            .iter()
-            .all(|l| l.client != client || l.command < command)
-        && told
-            .stops
-            .as_slice()
-            .iter()
-            .all(|l| l.client != client || l.command == command)
-}
-
-// The place below which the client's next answer may not lie, where this one lies at or above the last.
-fn floor_after(told: &LifeRecord, client: u32, command: u64, floor: u64) -> Option<u64> {
+// The entries of a client stand in the order of its commands, each once.
+fn entries_rise(told: &LifeRecord, client: u32) -> bool {
+    let mut last = 0;
     for line in told.journal.as_slice() {
-        if line.client == client && line.command == command {
-            return if line.ticket >= floor && line.reply.is_some() {
-                Some(line.ticket.wrapping_add(1))
-            } else {
-                None
-            };
-        }
-    }
-    for line in told.reads.as_slice() {
-        if line.client == client && line.command == command {
-            return if line.place >= floor {
-                Some(line.place)
-            } else {
-                None
-            };
-        }
-    }
-    None
-}
-
-// Each reply is that of the store after the entries below its place.
-fn replies_are_the_stores(
-    alloc: Global,
-    lines: u64,
-    life: &Life,
-    told: &LifeRecord,
-) -> Result<bool, AllocError> {
-    let mut store = Pairs::new(alloc);
-    let mut place = told.from;
-    for line in told.journal.as_slice() {
-        if !reads_are(alloc, lines, life, told, &mut store, place)? {
-            return Ok(false);
-        }
-        let Some(op) = op_of(life, line.client, line.command) else {
-            return Ok(false);
-        };
-        let reply = store.step(alloc, lines, op)?;
-        if let Some(given) = &line.reply {
-            if !is_same(alloc, given, &reply)? {
-                return Ok(false);
+        if line.client == client {
+            if line.command <= last {
+                return false;
             }
+            last = line.command;
         }
-        place = place.wrapping_add(1);
     }
-    reads_are(alloc, lines, life, told, &mut store, place)
+    true
 }
 
-// The replies of the reads at this place.
-fn reads_are(
-    alloc: Global,
-    lines: u64,
-    life: &Life,
-    told: &LifeRecord,
-    store: &mut Pairs,
-    place: u64,
-) -> Result<bool, AllocError> {
+// Whether a client was stopped in a command.
+fn has_stop(told: &LifeRecord, client: u32, command: u64) -> bool {
+    let mut stops = told.stops.as_slice().iter();
+    stops.any(|l| l.client == client && l.command == command)
+}
+
+// Whether a client gave up in a command.
+fn has_full(told: &LifeRecord, client: u32, command: u64) -> bool {
+    let mut fulls = told.fulls.as_slice().iter();
+    fulls.any(|l| l.client == client && l.command == command)
+}
+
+// The number of answers to a command, in the history and beside it.
+fn answers_to(told: &LifeRecord, client: u32, command: u64) -> usize {
+    let entries = told.journal.as_slice().iter();
+    let reads = told.reads.as_slice().iter();
+    entries
+        .filter(|l| l.client == client && l.command == command && l.reply.is_some())
+        .count()
+        .saturating_add(
+            reads
+                .filter(|l| l.client == client && l.command == command)
+                .count(),
+        )
+}
+
+// Each of a client's commands up to a number has exactly one answer, and no other command has a line but for the next one, in which the
+// client was stopped or gave up. Else the client has no more commands.
+fn has_ended(life: &Life, told: &LifeRecord, client: u32) -> bool {
+    let mut answered = 0u64;
+    for line in told.journal.as_slice() {
+        if line.client == client && line.reply.is_some() {
+            answered = answered.saturating_add(1);
+        }
+    }
     for line in told.reads.as_slice() {
-        if line.place == place {
-            let Some(op) = op_of(life, line.client, line.command) else {
-                return Ok(false);
-            };
-            let reply = store.step(alloc, lines, op)?;
-            if !op.only_reads() || !is_same(alloc, &line.reply, &reply)? {
+        if line.client == client {
+            answered = answered.saturating_add(1);
+        }
+    }
+    let next = answered.saturating_add(1);
+    for command in 1..next {
+        if answers_to(told, client, command) != 1 {
+            return false;
+        }
+    }
+    for line in told.journal.as_slice() {
+        let is_next = line.command == next && line.reply.is_none() && has_stop(told, client, next);
+        let is_answered = line.command <= answered && line.reply.is_some();
+        if line.client == client && !is_answered && !is_next {
+            return false;
+        }
+    }
+    for line in told.stops.as_slice() {
+        if line.client == client && line.command != next {
+            return false;
+        }
+    }
+    for line in told.fulls.as_slice() {
+        if line.client == client && line.command != next {
+            return false;
+        }
+    }
+    answered == own_count(life, client)
+        || has_stop(told, client, next)
+        || has_full(told, client, next)
+}
+
+fn stops_are_legal(life: &Life, told: &LifeRecord) -> bool {
+    let mut stops = told.stops.as_slice().iter();
+    let mut fulls = told.fulls.as_slice().iter();
+    stops.all(|line| is_legal_stop(life, told, line))
+        && fulls.all(|line| is_legal_full(life, told, line))
+}
+
+// A client was stopped in a command of its own, at the limit of its cut; and the line says kept where the command's entry is kept.
+fn is_legal_stop(life: &Life, told: &LifeRecord, line: &StopLine) -> bool {
+    let mut cuts = life.cuts.as_slice().iter();
+    let mut entries = told.journal.as_slice().iter();
+    let end = told.from.saturating_add(told.kept);
+    let is_at_cut = cuts.any(|cut| cut.client == line.client && cut.steps == line.steps);
+    let is_entry_kept = entries.any(|l| l.client == line.client
+        && l.command == line.command
+        && l.ticket < end);
+    has_op(life, line.client, line.command)
+        && is_at_cut
+        && line.steps < u64::MAX
+        && line.kept == is_entry_kept
+}
+
+// A client gave up in a command of its own. Another, which was stopped, needs a ticket at or below the one named, and 16 of the
+// client's entries are answered from that one on, which is answered too.
+fn is_legal_full(life: &Life, told: &LifeRecord, line: &FullLine) -> bool {
+    let entries = told.journal.as_slice();
+    let is_from = |l: &JournalLine| -> bool {
+        l.client == line.client && l.reply.is_some() && l.ticket >= line.note.ticket
+    };
+    has_op(life, line.client, line.command)
+        && line.note.holder != line.client
+        && told
+            .stops
+            .as_slice()
+            .iter()
+            .any(|l| l.client == line.note.holder)
+        && line.note.need <= line.note.ticket
+        && entries.iter().filter(|l| is_from(l)).count() >= 16
+        && entries
+            .iter()
+            .any(|l| is_from(l) && l.ticket == line.note.ticket)
+}
+
+// An answer that a client was given: to which command, the place where it holds, and the place that no later one may lie below.
+#[derive(Clone, Copy, Drop)]
+struct Answer {
+    client: u32,
+    command: u64,
+    at: u64,
+    next: u64,
+}
+
+fn answers_of(alloc: Global, told: &LifeRecord) -> Result<Vec<Answer>, AllocError> {
+    let mut answers = Vec::new(alloc);
+    for line in told.journal.as_slice() {
+        if line.reply.is_some() {
+            answers.push(Answer {
+                client: line.client,
+                command: line.command,
+                at: line.ticket,
+                next: line.ticket.saturating_add(1),
+            })?;
+        }
+    }
+    for line in told.reads.as_slice() {
+        answers.push(Answer {
+            client: line.client,
+            command: line.command,
+            at: line.place,
+            next: line.place,
+        })?;
+    }
+    Ok(answers)
+}
+
+// No answer to a client lies below what the client was told before.
+fn is_in_turn(alloc: Global, told: &LifeRecord) -> Result<bool, AllocError> {
+    let answers = answers_of(alloc, told)?;
+    for a in &answers {
+        for b in &answers {
+            if a.client == b.client && a.command < b.command && a.next > b.at {
                 return Ok(false);
             }
         }
@@ -172,6 +277,99 @@ fn reads_are(
     Ok(true)
 }
 
-fn is_same(alloc: Global, one: &Reply, other: &Reply) -> Result<bool, AllocError> {
-    Ok(reply_text(alloc, one)? == reply_text(alloc, other)?)
+// What is kept is a front of the history that holds each answer.
+fn is_kept(alloc: Global, told: &LifeRecord) -> Result<bool, AllocError> {
+    let end = told.from.saturating_add(told.kept);
+    let answers = answers_of(alloc, told)?;
+    Ok(told.kept <= told.journal.len() as u64 && answers.iter().all(|a| a.next <= end))
+}
+
+// The store after these operations.
+fn store_after(alloc: Global, lines: u64, past: &[&Op]) -> Result<Pairs, AllocError> {
+    let mut store = Pairs::new(alloc);
+    for op in past {
+        store.step(alloc, lines, op)?;
+    }
+    Ok(store)
+}
+
+// Puts the operations of the entries that are kept behind those before.
+fn push_kept<'a>(
+    past: &mut Vec<&'a Op>,
+    life: &'a Life,
+    told: &LifeRecord,
+) -> Result<(), AllocError> {
+    for line in told.journal.as_slice().iter().take(told.kept as usize) {
+        if let Some(op) = op_of(life, line.client, line.command) {
+            past.push(op)?;
+        }
+    }
+    Ok(())
+}
+
+// Each reply is that of the store after the entries below its place, the history's from the store after the operations of the past on.
+fn replies_are_the_stores(
+    alloc: Global,
+    lines: u64,
+    past: &[&Op],
+    life: &Life,
+    told: &LifeRecord,
+) -> Result<bool, AllocError> {
+    let mut store = store_after(alloc, lines, past)?;
+    let mut place = told.from;
+    let mut reads = reads_at(alloc, lines, life, told, &mut store, place)?;
+    for line in told.journal.as_slice() {
+        let Some(op) = op_of(life, line.client, line.command) else {
+            return Ok(false);
+        };
+        let reply = store.step(alloc, lines, op)?;
+        if let Some(given) = &line.reply {
+            if !is_same(given, &reply) {
+                return Ok(false);
+            }
+        }
+        place = place.saturating_add(1);
+        reads = reads.saturating_add(reads_at(alloc, lines, life, told, &mut store, place)?);
+    }
+    Ok(reads == told.reads.len())
+}
+
+// The number of reads at this place that have the reply of the store.
+fn reads_at(
+    alloc: Global,
+    lines: u64,
+    life: &Life,
+    told: &LifeRecord,
+    store: &mut Pairs,
+    place: u64,
+) -> Result<usize, AllocError> {
+    let mut count = 0usize;
+    for line in told.reads.as_slice() {
+        if let Some(op) = op_of(life, line.client, line.command) {
+            if line.place == place && op.only_reads() {
+                let reply = store.step(alloc, lines, op)?;
+                if is_same(&line.reply, &reply) {
+                    count = count.saturating_add(1);
+                }
+            }
+        }
+    }
+    Ok(count)
+}
+
+fn is_same(one: &Reply, other: &Reply) -> bool {
+    match (one, other) {
+        (Reply::New, Reply::New)
+        | (Reply::Replaced, Reply::Replaced)
+        | (Reply::Deleted, Reply::Deleted)
+        | (Reply::Absent, Reply::Absent)
+        | (Reply::NotNumber, Reply::NotNumber)
+        | (Reply::Overflow, Reply::Overflow)
+        | (Reply::NoRoom, Reply::NoRoom) => true,
+        (Reply::Doc(a), Reply::Doc(b)) | (Reply::Key(a), Reply::Key(b)) => a.as_slice()
+            == b.as_slice(),
+        (Reply::Sum(a), Reply::Sum(b)) => a == b,
+        (Reply::Number(a), Reply::Number(b)) => a == b,
+        _ => false,
+    }
 }

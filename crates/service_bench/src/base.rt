@@ -5,20 +5,21 @@ ghost use Rattle.cx_core.specs.Base.{LawfulBase};
 ghost use Rattle.cx_core.specs.History.{IsLawfulEntry};
 ghost use Rattle.cx_core.specs.Region.{region_words};
 
-use crate::operations::{KEYS, put};
+use crate::operations::put;
 use cx_base::{Halt, Items, Object, VecMemory};
 use cx_core::{Base, Entry, full_step};
 use doc_model::is_op;
 use std::alloc::{AllocError, Global};
 
 /// The base of an object after a document was put at each key, in turn.
-pub fn filled<O: Object>(alloc: Global, object: &O) -> Result<Base, AllocError>
-    requires { O.line_count object.now ≤ 16384 }
+pub fn filled<O: Object>(alloc: Global, object: &O, keys: u64) -> Result<Base, AllocError>
+    requires small { O.line_count object.now ≤ 16384 }
+    requires few { keys ≤ 10000 }
     ensures { IfOk result (LawfulBase (O.line_count object.now) (O.lawful object.now)) }
 {
     let mut base = Base::fresh(alloc, object)?;
-    for k in 0..KEYS {
-        let Some(entry) = entry_of(k, &put(k * 37 % KEYS, k)) else {
+    for k in 0..keys {
+        let Some(entry) = entry_of(k, &put(k * 37 % keys, k)) else {
             return Err(AllocError);
         };
         match after(object, base, &entry) {

@@ -1,14 +1,19 @@
-//! Nanoseconds and steps of a service's calls. With no words it does nothing. `calls T N R` makes N services of T callers, one after
-//! another, and in each lets every caller, on a thread of its own, make calls until it has linked 16 updates, or 256 calls. So many
-//! calls in 100 are reads. It prints the calls of all, and what they took.
+//! Nanoseconds and steps of a service's calls. With no words it does nothing. `calls T N R L K` makes N services of T callers, one after
+//! another, over a store of L lines with documents at K keys (1,024 and 100 where they are not said), and in each lets every caller, on a
+//! thread of its own, make calls until it has linked 16 updates, or 4,096 calls. R calls in 100 are reads. It prints the calls of all,
+//! and what they took. `parts 1 N 0 L K` makes 16 updates of one caller in each of N tables, and prints for each part of an update how
+//! often it was done, its steps, and its nanoseconds of wall time.
 #![tactic(auto)]
 
 mod base;
 mod calls;
+mod laps;
 mod operations;
+mod parts;
 mod tally;
+mod turns;
 
-use crate::calls::services;
+use crate::calls::{Setting, parts, services};
 use std::alloc::Global;
 use std::process::ExitCode;
 use std::rt::Runtime;
@@ -41,11 +46,16 @@ fn run<R: Runtime + Threads + CpuClock + Sync>(
     let Some(work) = words.first() else {
         return Ok(());
     };
-    let threads = number(words.get(1));
     let count = number(words.get(2));
-    let reads = number(words.get(3));
+    let setting = Setting {
+        threads: number(words.get(1)),
+        reads: number(words.get(3)),
+        lines: words.get(4).map_or(1024, |word| number(Some(word))),
+        keys: words.get(5).map_or(100, |word| number(Some(word))),
+    };
     match work.as_str() {
-        "calls" => services(rt, alloc, threads, count, reads)?.print(rt),
+        "parts" => parts(rt, alloc, count, &setting)?.print(rt),
+        "calls" => services(rt, alloc, count, &setting)?.print(rt, setting.lines, setting.keys),
         _ => Ok(()),
     }
 }

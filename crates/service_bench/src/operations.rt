@@ -1,6 +1,6 @@
 //! The operations that callers ask for.
 
-ghost use Rattle.std.specs.Prelude.{◌^◌, ◌<◌, IsTrue};
+ghost use Rattle.std.specs.Prelude.{IsTrue};
 ghost use Rattle.doc_store.specs.ExactStep.{reads_in};
 
 use cx_base::Object;
@@ -8,8 +8,8 @@ use doc_model::{DOCUMENT_AT, DOCUMENT_LENGTH_AT, KEY_AT, KEY_LENGTH_AT, KIND_AT}
 use doc_store::DocStore;
 use std::alloc::{AllocError, Global};
 
-/// The keys.
-pub const KEYS: u64 = 100;
+/// The most keys.
+pub const MOST_KEYS: u64 = 10_000;
 
 /// An operation that only reads.
 #[derive(Clone, Copy, Drop)]
@@ -26,15 +26,24 @@ pub struct Operations {
 }
 
 impl Operations {
-    /// Operations of a caller, which begin at a seed: 16 updates, of which 8 in 10 put a document, one deletes one and one adds to a
-    /// number, and 16 reads, each of a document.
-    pub fn of(alloc: Global, store: &DocStore, seed: u64) -> Result<Operations, AllocError> {
+    /// Operations of a caller, which begin at a seed: 16 updates, each of which puts a new document, and 64 reads of a document, at
+    /// keys that look thrown.
+    pub fn of(
+        alloc: Global,
+        store: &DocStore,
+        keys: u64,
+        seed: u64,
+    ) -> Result<Operations, AllocError> {
         let mut random = Random { state: seed };
         let mut updates = Vec::new(alloc);
         let mut reads = Vec::new(alloc);
+        let keys = keys.max(1);
         for _ in 0..16 {
-            updates.push(update(&mut random))?;
-            if let Some(reading) = get(store, &mut random) {
+            let key = random.next() % keys;
+            updates.push(put(key, random.next()))?;
+        }
+        for _ in 0..64 {
+            if let Some(reading) = get(store, random.next() % keys) {
                 reads.push(reading)?;
             }
         }
@@ -59,22 +68,9 @@ impl Random {
     }
 }
 
-// An update.
-fn update(random: &mut Random) -> [u64; 144] {
-    match random.next() % 10 {
-        0 => keyed(2, key_of(random.next() % KEYS)),
-        1 => {
-            let mut op = keyed(3, key_of(random.next() % 16) + 1);
-            op[3] = random.next() % 1000;
-            op
-        }
-        _ => put(random.next() % KEYS, random.next() % 16),
-    }
-}
-
 // A read of a key.
-fn get(store: &DocStore, random: &mut Random) -> Option<Reading> {
-    let op = keyed(4, key_of(random.next() % KEYS));
+fn get(store: &DocStore, key: u64) -> Option<Reading> {
+    let op = keyed(4, key);
     if store.reads(&op) {
         Some(Reading { op })
     } else {
@@ -82,28 +78,40 @@ fn get(store: &DocStore, random: &mut Random) -> Option<Reading> {
     }
 }
 
-// A key's word, of 8 bytes.
-fn key_of(number: u64) -> u64
-    ensures { result < 2 ^ 63 }
-{
-    0x3030_3030_3030_3030 + number % 10 * 256 + number / 10 % 10 * 0x10000
-}
-
-/// The operation that puts a document of 32 bytes at a key.
-pub fn put(number: u64, text: u64) -> [u64; 144] {
-    let mut op = keyed(1, key_of(number));
+/// The operation that puts a document of 32 bytes at a key. Documents of other numbers are others.
+pub fn put(key: u64, number: u64) -> [u64; 144] {
+    let mut op = keyed(1, key);
     op[DOCUMENT_LENGTH_AT] = 32;
     for i in 0..4 {
-        op[DOCUMENT_AT + i] = 0x6161_6161_6161_6161 + text % 16;
+        op[DOCUMENT_AT + i] = letters(number.wrapping_add(i as u64));
     }
     op
 }
 
-// The operation of a kind with a key of 8 bytes.
+// The operation of a kind with a key of 16 bytes, which is a number below 10,000 in decimal.
 fn keyed(kind: u64, key: u64) -> [u64; 144] {
     let mut op = [0; 144];
     op[KIND_AT] = kind;
-    op[KEY_LENGTH_AT] = 8;
-    op[KEY_AT] = key;
+    op[KEY_LENGTH_AT] = 16;
+    op[KEY_AT] = ZEROS;
+    op[KEY_AT + 1] = ZEROS
+        + (key / 1000 % 10 << 32)
+        + (key / 100 % 10 << 40)
+        + (key / 10 % 10 << 48)
+        + (key % 10 << 56);
     op
+}
+
+/// Eight digits `0`.
+const ZEROS: u64 = 0x3030_3030_3030_3030;
+
+// Eight letters for the low 32 bits of a number, `a` to `p` for four bits each.
+fn letters(number: u64) -> u64 {
+    let mut left = number;
+    let mut word = 0;
+    for _ in 0..8 {
+        word = word << 8 | 0x61 + left % 16;
+        left /= 16;
+    }
+    word
 }

@@ -46,10 +46,10 @@ impl Tally {
         self.sum = self.sum.wrapping_add(other.sum);
     }
 
-    /// Prints it in a line.
-    pub fn print(&self, rt: &impl Runtime) -> io::Result<()> {
+    /// Prints it in a line, with the lines and the keys of the store.
+    pub fn print(&self, rt: &impl Runtime, lines: u64, keys: u64) -> io::Result<()> {
         println!(rt;
-            "updates {} reads {} wall {} cpu {} submit {} drive {} read {} sum {}",
+            "updates {} reads {} wall {} cpu {} submit {} drive {} read {} sum {} lines {lines} keys {keys}",
             self.updates,
             self.reads,
             self.wall,

@@ -10,7 +10,9 @@ pub mod Taking
 pub mod Writing
 pub mod Arrangements
 pub mod Splits
+pub mod KeyOrders
 pub mod KeyPlaces
+pub mod Reaching
 pub mod Relaying
 pub mod Cutting
 pub mod Adding

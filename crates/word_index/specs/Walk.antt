@@ -46,6 +46,20 @@ OnWay past key nodes sides depth node above words = (version : ℕ) (store : Sto
 abbrev pub AtSpot : Bool → List ℕ → List ℕ → List ℕ → ℕ → ℕ → ℕ → List ℕ → Type 0
 AtSpot past key nodes sides depth node above words = (version : ℕ) (store : Store) (s : StandsFor words version store) → IsEnded nodes sides (walk_order past key words) depth node above s.tree
 
+-- The same for a walk of which no way is kept: so far down some way, and at the end of some way.
+pub record OnSomeWay (past : Bool) (key : List ℕ) (depth node above : ℕ) (words : List ℕ) : Type 0 where
+  pub nodes : List ℕ
+  pub sides : List ℕ
+  pub nodes_long : length nodes ≡ 64
+  pub sides_long : length sides ≡ 64
+  pub on : OnWay past key nodes sides depth node above words
+
+pub record AtEnd (past : Bool) (key : List ℕ) (node above : ℕ) (words : List ℕ) : Type 0 where
+  pub depth : ℕ
+  pub nodes : List ℕ
+  pub sides : List ℕ
+  pub at : AtSpot past key nodes sides depth node above words
+
 -- the bound on visits
 abbrev pub FewVisits : ℕ → List ℕ → Type 0
 FewVisits visits words = (version : ℕ) (store : Store) → StandsFor words version store → 2 ^ visits ≤ 2 * ((length store + 1) * (length store + 1))

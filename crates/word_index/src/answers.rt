@@ -12,7 +12,7 @@ ghost use Rattle.word_index.specs.Walk.{FewVisits};
 
 use crate::nodes::key_at;
 use crate::texts::Key;
-use crate::walk::seek;
+use crate::walk::reach;
 use cx_base::{Halt, Memory, Steps};
 use std::sync::ledger::Ledger;
 
@@ -32,11 +32,11 @@ pub fn find<M: Memory, L: Ledger>(
     ensures halts { OnErr result (M.left mem.new ≡ Some 0) }
     ensures framed { Framed M.size M.fixed M.writable M.left mem.old mem.new }
 {
-    let spot = seek(mem, key, false, visits)?;
-    if spot.node == 0 {
+    let end = reach(mem, key, false, visits)?;
+    if end.node == 0 {
         Ok(None)
     } else {
-        Ok(Some(spot.node))
+        Ok(Some(end.node))
     }
 }
 
@@ -56,10 +56,10 @@ pub fn least_above<M: Memory, L: Ledger>(
     ensures halts { OnErr result (M.left mem.new ≡ Some 0) }
     ensures framed { Framed M.size M.fixed M.writable M.left mem.old mem.new }
 {
-    let spot = seek(mem, key, true, visits)?;
-    if spot.above == 0 {
+    let end = reach(mem, key, true, visits)?;
+    if end.above == 0 {
         return Ok(None);
     }
-    let key = key_at(mem, spot.above)?;
+    let key = key_at(mem, end.above)?;
     Ok(Some(key))
 }

@@ -8,7 +8,7 @@ ghost use Rattle.cx_base.specs.Store.{key_cmp};
 ghost use Rattle.avl_words.specs.Lines.{IsPartLength};
 ghost use Rattle.index_checks.specs.Layout.{IsIndex};
 ghost use Rattle.word_index.specs.Answers.{IsNodeOf};
-ghost use Rattle.word_index.specs.Walk.{AtSpot, FewVisits, HasNode, Walked, toward};
+ghost use Rattle.word_index.specs.Walk.{AtEnd, AtSpot, FewVisits, HasNode, Walked, toward};
 
 use crate::nodes::order_at;
 use crate::texts::Key;
@@ -21,6 +21,13 @@ use std::sync::ledger::Ledger;
 #[derive(Clone, Copy, Debug)]
 pub struct Spot {
     pub way: Way,
+    pub node: u64,
+    pub above: u64,
+}
+
+/// Where a walk of which no way is kept ended: the node there (0 for none), and the last node at which the walk went left.
+#[derive(Clone, Copy, Debug)]
+pub struct End {
     pub node: u64,
     pub above: u64,
 }
@@ -74,6 +81,40 @@ fn visit<M: Memory, L: Ledger>(
 {
     visits.tick();
     order_at(mem, node, key)
+}
+
+/// Walks to the place of a key, or past it, and keeps no way, which a reading does not need.
+pub fn reach<M: Memory, L: Ledger>(
+    mem: &mut M,
+    key: &Key,
+    past: bool,
+    visits: &mut Steps<L>,
+) -> Result<End, Halt>
+    requires sized { IsPartLength (M.size mem.old) }
+    requires lawful { Always (M.stands mem.old) IsIndex }
+    requires key { key.now.len ≤ 64 }
+    ensures done { IfOk result (λ end. Reads (M.stands mem.old) (M.stands mem.new)
+        (AtEnd past (unpacked key.now.len key.now.words) end.node end.above)) }
+    ensures visits { Always (M.stands mem.new) (FewVisits (visits.new - visits.old)) }
+    ensures kept { Becomes (M.stands mem.old) (M.stands mem.new) ◌≡◌ }
+    ensures halts { OnErr result (M.left mem.new ≡ Some 0) }
+    ensures framed { Framed M.size M.fixed M.writable M.left mem.old mem.new }
+{
+    let mut above = 0;
+    let mut node = word(mem, 0, 1)?;
+    for _depth in 0..64_u64 {
+        if node == 0 {
+            return Ok(End { node, above });
+        }
+        let order = toward(past, visit(mem, node, key, visits)?);
+        if order.is_eq() {
+            return Ok(End { node, above });
+        }
+        let side = side_of(order);
+        above = above_after(side, node, above);
+        node = word(mem, node, side)?;
+    }
+    Ok(End { node, above })
 }
 
 /// Walks to the place of a key, or past it. A visit is one node whose key is compared.

@@ -1,4 +1,4 @@
-use Rattle.std.proofs.Common.{◌≡◌, ◌∙◌, ◌+◌, ◌∷◌, ap, arith, length, length-append, List, Result, IfOk, subst, [], refl}
+use Rattle.std.proofs.Common.{◌≡◌, ◌∙◌, ◌+◌, ◌∷◌, ap, arith, length, length-append, List, Result, IfOk, subst, []}
 use Rattle.std.specs.declared.alloc.AllocError.{AllocError}
 use Rattle.cx_lives.specs.declared.desk.Work.{Work}
 use Rattle.cx_lives.specs.Ends.{AreNumbered, IsWorkOf}

@@ -1,13 +1,10 @@
-use Rattle.std.proofs.Common.{rules, ◌≡◌, ◌∙◌, ◌+◌, ℕ, List, Some, ap, arith, length, map, refl, slice_get, subst, sym, false, true}
+use Rattle.std.proofs.Common.{rules, ◌≡◌, ◌∙◌, List, ap, arith, length, refl, subst, sym}
 use Rattle.std.specs.Prelude.{MatchBool}
 use Rattle.std.specs.List.{range_with_len}
 use Rattle.std.proofs.lemmas.List.Sorted.{IsNonDecreasingBy-from_sort_by_key}
 use Rattle.cx_core.specs.declared.local.Local.{Local}
-use Rattle.cx_core.specs.Merge.{IsHistory}
 use Rattle.cx_rule.specs.Running.{instance_at}
-use Rattle.cx_rule.specs.Seats.{Seated}
 use Rattle.cx_service.specs.Closes.{seats_of}
-use Rattle.cx_table.specs.Remains.{AreSeats}
 use Rattle.doc_store.specs.ExactStep.{reads_in, store_step}
 use Rattle.journals.specs.Journal.{IsByTicket, IsRecordOf}
 use Rattle.journals.specs.Told.{IsTold}

@@ -2,55 +2,38 @@ use Rattle.std.proofs.Common.{rules, ◌≡◌, ◌∙◌, ◌-◌, ◌≤◌, �
 use Rattle.cx_core.specs.Base.{LawfulBase}
 use Rattle.cx_core.specs.Region.{object_part}
 use Rattle.cx_core.specs.declared.entry.Base.{Base}
-use Rattle.cx_core.specs.declared.entry.Image.{Image}
 use Rattle.cx_rule.specs.Running.{Running}
 use Rattle.doc_store.specs.ExactStep.{IsImage}
 use Rattle.doc_store.specs.declared.store.DocStore.{DocStore}
 use Rattle.index_checks.specs.Reading.{store_in}
 use Rattle.life_records.specs.declared.record.LifeRecord.{LifeRecord}
 use Rattle.recovery.specs.Kept.{IsKeptBy}
-use Rattle.recovery.specs.Recovery.{IsFaultOf, IsRecovered}
 use Rattle.recovery.specs.declared.recovering.ImageFault.TheVariants.{Memory}
 use Rattle.cx_lives.specs.Lives.{HasLived, HasLost, IsFlagged, IsServiceOf}
-use Rattle.cx_lives.proofs.Legality.{images, lines_in, opened_of, steps}
+use Rattle.cx_lives.proofs.Legality.{images, lines_in, recovered_of, steps}
 use Rattle.cx_lives.proofs.lives.lose_power.Goals as goal
 
 pub unreachable-requires : goal.unreachable-requires
 unreachable-requires c =
-    let service : Running DocStore = c.requires.ran.0 in
-    let is : IsServiceOf c.args.lines c.args.base.now c.args.life.now service = c.requires.ran.1 in
-    let ran = c.requires.ran.2 in
-    let opened = opened_of c.args.lines c.args.base.now c.args.life.now service c.requires.enough c.requires.few c.requires.base is in
-    let fault : IsFaultOf 1 (IsImage service.object.lines) c.in_ok-image.image c.in-Err.field-0 =
-    subst (λ (l : ℕ). IsFaultOf 1 (IsImage l) c.in_ok-image.image c.in-Err.field-0) (c.of-store.ensures ∙ sym is.store) c.in-Err.ensures.recovers in
     let memory : c.in-Err.field-0 ≡ Memory =
-    c.closed_tables_recover.ensures service ran.seats c.args.remains c.args.life.now.choice c.in_ok-image.image (Err c.in-Err.field-0) opened ran.leaves c.in_ok-image.ensures fault in
+    recovered_of c.closed_tables_recover.ensures c.args.lines c.args.base.now c.args.life.now c.requires.ran.0 c.args.told c.args.remains c.in_ok-image.image c.requires.enough c.requires.few
+    c.requires.base c.requires.ran.1 c.requires.ran.2 c.in_ok-image.ensures c.of-store.result.lines c.of-store.ensures (Err c.in-Err.field-0) c.in-Err.ensures.recovers in
     let other : c.in-Err.field-0 ≡ Memory → ⊥ = search rules in
     other memory
 
 pub overflow_sub-kept : goal.overflow_sub-kept
 overflow_sub-kept c =
-    let service : Running DocStore = c.requires.ran.0 in
-    let is : IsServiceOf c.args.lines c.args.base.now c.args.life.now service = c.requires.ran.1 in
-    let ran = c.requires.ran.2 in
-    let opened = opened_of c.args.lines c.args.base.now c.args.life.now service c.requires.enough c.requires.few c.requires.base is in
-    let recovered : IsRecovered 1 (IsImage service.object.lines) c.in_ok-image.image c.in-Ok.next =
-    subst (λ (l : ℕ). IsRecovered 1 (IsImage l) c.in_ok-image.image c.in-Ok.next) (c.of-store.ensures ∙ sym is.store) c.in-Ok.ensures.recovers in
-    let by : IsKeptBy lines_in images steps service ran.seats c.args.remains c.args.life.now.choice c.in-Ok.next =
-    c.closed_tables_recover.ensures service ran.seats c.args.remains c.args.life.now.choice c.in_ok-image.image (Ok c.in-Ok.next) opened ran.leaves c.in_ok-image.ensures recovered in
-    subst (λ (b : Base). b.place ≤ c.in-Ok.next.place) is.from by.from
+    let by : IsKeptBy lines_in images steps c.requires.ran.0 c.requires.ran.2.seats c.args.remains c.args.life.now.choice c.in-Ok.next =
+    recovered_of c.closed_tables_recover.ensures c.args.lines c.args.base.now c.args.life.now c.requires.ran.0 c.args.told c.args.remains c.in_ok-image.image c.requires.enough c.requires.few
+    c.requires.base c.requires.ran.1 c.requires.ran.2 c.in_ok-image.ensures c.of-store.result.lines c.of-store.ensures (Ok c.in-Ok.next) c.in-Ok.ensures.recovers in
+    subst (λ (b : Base). b.place ≤ c.in-Ok.next.place) c.requires.ran.1.from by.from
 
 pub count_pairs-requires : goal.count_pairs-requires
 count_pairs-requires c =
-    let service : Running DocStore = c.requires.ran.0 in
-    let is : IsServiceOf c.args.lines c.args.base.now c.args.life.now service = c.requires.ran.1 in
-    let ran = c.requires.ran.2 in
-    let opened = opened_of c.args.lines c.args.base.now c.args.life.now service c.requires.enough c.requires.few c.requires.base is in
-    let recovered : IsRecovered 1 (IsImage service.object.lines) c.in_ok-image.image c.in-Ok.next =
-    subst (λ (l : ℕ). IsRecovered 1 (IsImage l) c.in_ok-image.image c.in-Ok.next) (c.of-store.ensures ∙ sym is.store) c.in-Ok.ensures.recovers in
-    let by : IsKeptBy lines_in images steps service ran.seats c.args.remains c.args.life.now.choice c.in-Ok.next =
-    c.closed_tables_recover.ensures service ran.seats c.args.remains c.args.life.now.choice c.in_ok-image.image (Ok c.in-Ok.next) opened ran.leaves c.in_ok-image.ensures recovered in
-    subst (λ (l : ℕ). LawfulBase l (IsImage l) c.in-Ok.next) is.store by.again
+    let by : IsKeptBy lines_in images steps c.requires.ran.0 c.requires.ran.2.seats c.args.remains c.args.life.now.choice c.in-Ok.next =
+    recovered_of c.closed_tables_recover.ensures c.args.lines c.args.base.now c.args.life.now c.requires.ran.0 c.args.told c.args.remains c.in_ok-image.image c.requires.enough c.requires.few
+    c.requires.base c.requires.ran.1 c.requires.ran.2 c.in_ok-image.ensures c.of-store.result.lines c.of-store.ensures (Ok c.in-Ok.next) c.in-Ok.ensures.recovers in
+    subst (λ (l : ℕ). LawfulBase l (IsImage l) c.in-Ok.next) c.requires.ran.1.store by.again
 
 pub returns : goal.returns
 returns c = λ begun based. (

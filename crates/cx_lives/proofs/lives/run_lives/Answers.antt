@@ -1,8 +1,8 @@
-use Rattle.std.proofs.Common.{◌≡◌, ◌∙◌, ◌<◌, ◌≤◌, ◌+◌, ℕ, List, length, ap, take, get_or, arith}
+use Rattle.std.proofs.Common.{◌≡◌, ◌∙◌, ◌<◌, ◌≤◌, ◌+◌, List, length, ap, take, get_or, arith}
 use Rattle.life_records.specs.Scripts.{command_count}
 use Rattle.life_records.specs.declared.script.Life.{Life}
 use Rattle.cx_lives.specs.Lives.{HaveLived}
-use Rattle.cx_lives.proofs.Appending.{count_taken, lived_next}
+use Rattle.cx_lives.proofs.Appending.{count_taken}
 use Rattle.cx_lives.proofs.lives.run_lives.Goals as goal
 
 pub with_life-requires-clause-lived : goal.with_life-requires-clause-lived

@@ -3,14 +3,14 @@ use Rattle.cx_base.proofs.ReadLemmas.{Reads-weaker}
 use Rattle.word_index.proofs.KeyPlaces.{spot_found, spot_missing}
 use Rattle.word_index.proofs.answers.find.Goals as goal
 
-pub returns-then-spot-eq0-clause-done : goal.returns-then-spot-eq0-clause-done
-returns-then-spot-eq0-clause-done g c =
-    let spot = c.in_ok-spot.spot in
+pub returns-then-end-eq0-clause-done : goal.returns-then-end-eq0-clause-done
+returns-then-end-eq0-clause-done g c =
+    let end = c.in_ok-end.end in
     let key = unpacked c.args.key.now.len c.args.key.now.words in
-    Reads-weaker c.in_ok-spot.ensures.done (λ ws s. spot_missing ws key spot.way.nodes spot.way.sides spot.way.depth spot.node spot.above s c.if-spot-eq0.true)
+    Reads-weaker c.in_ok-end.ensures.done (λ ws s. spot_missing ws key s.nodes s.sides s.depth end.node end.above s.at c.if-end-eq0.true)
 
-pub returns-else-spot-eq0-clause-done : goal.returns-else-spot-eq0-clause-done
-returns-else-spot-eq0-clause-done g c =
-    let spot = c.in_ok-spot.spot in
+pub returns-else-end-eq0-clause-done : goal.returns-else-end-eq0-clause-done
+returns-else-end-eq0-clause-done g c =
+    let end = c.in_ok-end.end in
     let key = unpacked c.args.key.now.len c.args.key.now.words in
-    Reads-weaker c.in_ok-spot.ensures.done (λ ws s. spot_found ws key spot.way.nodes spot.way.sides spot.way.depth spot.node spot.above s c.if-spot-eq0.false)
+    Reads-weaker c.in_ok-end.ensures.done (λ ws s. spot_found ws key s.nodes s.sides s.depth end.node end.above s.at c.if-end-eq0.false)

@@ -18,29 +18,29 @@ key_of_first : (ws : List ℕ) (node len : ℕ) (words : List ℕ) (pairs : Stor
 key_of_first ws node len words [] some is packs = absurd (some is)
 key_of_first ws node len words (pair ∷ pairs) some is packs = (pair, pairs, refl, packs pair is.1)
 
-pub returns-then-spot-eq0-clause-done : goal.returns-then-spot-eq0-clause-done
-returns-then-spot-eq0-clause-done g c =
-    let spot = c.in_ok-spot.spot in
+pub returns-then-end-eq0-clause-done : goal.returns-then-end-eq0-clause-done
+returns-then-end-eq0-clause-done g c =
+    let end = c.in_ok-end.end in
     let key = unpacked c.args.key.now.len c.args.key.now.words in
-    Reads-weaker c.in_ok-spot.ensures.done (λ ws f version store s. none_there ws spot.above (pairs_above key store) c.if-spot-eq0.true (spot_above ws key spot.way.nodes spot.way.sides spot.way.depth spot.node spot.above f version store s))
+    Reads-weaker c.in_ok-end.ensures.done (λ ws f version store s. none_there ws end.above (pairs_above key store) c.if-end-eq0.true (spot_above ws key f.nodes f.sides f.depth end.node end.above f.at version store s))
 
 pub key_at-requires-clause-node : goal.key_at-requires-clause-node
 key_at-requires-clause-node g c =
-    let spot = c.in_ok-spot.spot in
+    let end = c.in_ok-end.end in
     let key = unpacked c.args.key.now.len c.args.key.now.words in
-    always_read c.requires.lawful c.in_ok-spot.ensures.done
-    (λ ws i f. there_first ws spot.above (pairs_above key i.store) (spot_above ws key spot.way.nodes spot.way.sides spot.way.depth spot.node spot.above f i.version i.store i.stands) c.if-spot-eq0.false)
+    always_read c.requires.lawful c.in_ok-end.ensures.done
+    (λ ws i f. there_first ws end.above (pairs_above key i.store) (spot_above ws key f.nodes f.sides f.depth end.node end.above f.at i.version i.store i.stands) c.if-end-eq0.false)
 
 pub returns-clause-done : goal.returns-clause-done
 returns-clause-done g c =
-    let spot = c.in_ok-spot.spot in
+    let end = c.in_ok-end.end in
     let key = unpacked c.args.key.now.len c.args.key.now.words in
     let found = c.in_ok-key.key in
-    Reads-then c.in_ok-spot.ensures.done c.in_ok-key.ensures.done
-    (λ ws f k version store s. key_of_first ws spot.above found.len found.words (pairs_above key store) c.if-spot-eq0.false (spot_above ws key spot.way.nodes spot.way.sides spot.way.depth spot.node spot.above f version store s) k)
+    Reads-then c.in_ok-end.ensures.done c.in_ok-key.ensures.done
+    (λ ws f k version store s. key_of_first ws end.above found.len found.words (pairs_above key store) c.if-end-eq0.false (spot_above ws key f.nodes f.sides f.depth end.node end.above f.at version store s) k)
 
 pub returns-in_err-key-clause-visits : goal.returns-in_err-key-clause-visits
-returns-in_err-key-clause-visits g c = always_kept c.in_ok-spot.ensures.visits c.in_err-key.ensures.kept
+returns-in_err-key-clause-visits g c = always_kept c.in_ok-end.ensures.visits c.in_err-key.ensures.kept
 
 pub returns-clause-visits : goal.returns-clause-visits
-returns-clause-visits g c = always_kept c.in_ok-spot.ensures.visits c.in_ok-key.ensures.kept
+returns-clause-visits g c = always_kept c.in_ok-end.ensures.visits c.in_ok-key.ensures.kept

@@ -26,7 +26,7 @@ returns-in-Done g c =
     let desk : Desk = record { caller = c.in-Done.caller; entries = d.entries; reads = d.reads } in
     if_ok (EntryTurn client n c.in-Done.answer desk) (Turned life r client n)
     (λ turn t. entry_turned life r client (n - 1) n d.caller d.entries.items d.reads.items c.requires.served.lists (omega (arith, c.requires.number)) c.args.command.now.op c.op_words-op.result c.op_words-op.ensures c.requires.named
-        c.requires.op c.amount_has_64_bits.ensures c.in-Done.caller c.in-Done.answer desk turn c.in-Done.ensures refl refl refl t)
+    c.requires.op c.amount_has_64_bits.ensures c.in-Done.caller c.in-Done.answer desk turn c.in-Done.ensures refl refl refl t)
     c.with_entry.result c.with_entry.ensures
 
 pub returns-in-Read : goal.returns-in-Read
@@ -39,7 +39,7 @@ returns-in-Read g c =
     let desk : Desk = record { caller = c.in-Read.caller; entries = d.entries; reads = d.reads } in
     if_ok (ReadTurn client n c.in-Read.seen desk) (Turned life r client n)
     (λ turn t. read_turned life r client (n - 1) n d.caller d.entries.items d.reads.items c.requires.served.lists (omega (arith, c.requires.number)) c.args.command.now.op c.op_words-op.result c.op_words-op.ensures c.requires.named
-        c.requires.op c.amount_has_64_bits.ensures (omega (arith, c.requires.served.caller.count)) c.in-Read.caller c.in-Read.seen desk turn c.in-Read.ensures refl refl refl t)
+    c.requires.op c.amount_has_64_bits.ensures (omega (arith, c.requires.served.caller.count)) c.in-Read.caller c.in-Read.seen desk turn c.in-Read.ensures refl refl refl t)
     c.with_read.result c.with_read.ensures
 
 pub returns-in-Worn : goal.returns-in-Worn

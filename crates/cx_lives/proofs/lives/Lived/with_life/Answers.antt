@@ -1,4 +1,4 @@
-use Rattle.std.proofs.Common.{◌≡◌, ℕ, List, ◌++◌, ◌∷◌, [], sym, subst, ap₂, refl, Some}
+use Rattle.std.proofs.Common.{List, ◌++◌, ◌∷◌, [], sym, subst, refl, Some}
 use Rattle.cx_rule.specs.Ending.{Ending}
 use Rattle.life_laws.specs.Begins.{nothing_begun}
 use Rattle.life_records.specs.declared.record.LifeRecord.{LifeRecord}

@@ -1,0 +1,19 @@
+//! Whole lives, from the text of a script to the report, against the one-thread store. It has tests alone.
+#![tactic(auto)]
+
+#[cfg(test)]
+mod checker;
+#[cfg(test)]
+mod cut_beside;
+#[cfg(test)]
+mod cut_updates;
+#[cfg(test)]
+mod many_clients;
+#[cfg(test)]
+mod numbers;
+#[cfg(test)]
+mod rows;
+#[cfg(test)]
+mod runs;
+#[cfg(test)]
+mod written_scripts;

@@ -1,0 +1,5 @@
+use Rattle.cx_service.specs.Callers.{IsCallerOf}
+use Rattle.service_bench.proofs.parts.call_in_turn.Given as goal
+
+abbrev pub invariant-loop-op : goal.invariant-loop-op
+invariant-loop-op g l = IsCallerOf l.shared l.seat

@@ -1,0 +1,10 @@
+use Rattle.std.proofs.Common.{subst}
+use Rattle.publish.specs.Publishing.{Publishes, WinsCur}
+use Rattle.cx_turns.proofs.Answered.{won_published}
+use Rattle.service_bench.proofs.turns.hand_over.Goals as goal
+
+pub settle_won-requires-clause-published : goal.settle_won-requires-clause-published
+settle_won-requires-clause-published g c =
+    let p : WinsCur c.args.shared.now.callers c.args.seat.now c.publish.new.seat c.in-Won.won = subst (Publishes c.args.shared.now.callers c.args.seat.now c.publish.new.seat) c.in-Won.is c.in_ok-won.ensures.published in
+    won_published c.args.shared.now (g.O.Object.lawful c.args.shared.now.object) (g.O.Object.step c.args.shared.now.object) c.args.ticket c.args.reply.now c.in-Won.won.code c.args.held.replica c.args.seat.now c.publish.new.seat
+    c.publish.ensures.rest c.requires.ready p.code c.requires.held.holds c.requires.held.few p.ended p.seen

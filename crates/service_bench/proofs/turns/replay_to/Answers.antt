@@ -1,0 +1,14 @@
+use Rattle.std.proofs.Common.{◌≤◌, refl, subst, sym}
+use Rattle.replica.proofs.Replaying.{image_from}
+use Rattle.service_bench.proofs.turns.replay_to.Goals as goal
+
+pub loop-at-init : goal.loop-at-init
+loop-at-init g c =
+    let shared = c.args.shared.now in
+    let at = c.noted_place-place.ensures in
+    record {
+      ready = record { is_held = c.requires.held; image = c.requires.image; place = sym at };
+      later = subst (λ p. shared.base.place ≤ p) (sym at) (image_from (g.O.Object.line_count shared.object) (g.O.Object.lawful shared.object) shared.base (g.O.Object.step shared.object) c.args.seat.now.known c.requires.held.some c.requires.image);
+      linked = c.requires.linked;
+      work = refl;
+    }

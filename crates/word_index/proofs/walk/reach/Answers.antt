@@ -1,0 +1,96 @@
+use Rattle.cx_base.proofs.MemoryLemmas.{Framed-then}
+use Rattle.std.proofs.Common.{rules, arith, refl, sym, ◌+◌, ◌∙◌}
+use Rattle.cx_base.specs.Packing.{unpacked}
+use Rattle.cx_base.proofs.ReadLemmas.{kept_then, Reads-none, Reads-then, Reads-weaker, Reads-load, Reads-loaded, always_read}
+use Rattle.avl_words.proofs.Memories.{always_said, always_kept}
+use Rattle.word_index.proofs.NodeReads.{node_within}
+use Rattle.word_index.proofs.KeyPlaces.{few_counted, is_same, is_other}
+use Rattle.word_index.proofs.Reaching.{some_begins, some_few, some_few_node, some_has_node, some_ends, some_ends_same, some_deep, some_on}
+use Rattle.word_index.proofs.walk.reach.Goals as goal
+
+pub loop-depth-init : goal.loop-depth-init
+loop-depth-init g c =
+    let b = c.in_ok-node.ensures in
+    record {
+      done = Reads-load (Reads-none _ c.requires.lawful) b.done (λ ws p e. some_begins ws c.args.past (unpacked c.args.key.now.len c.args.key.now.words) 0 c.in_ok-node.node 0 e refl refl);
+      counted = omega arith;
+      kept = b.kept;
+      sized = search rules;
+      framed = b.framed;
+    }
+
+pub returns-then-node-eq0-clause-done : goal.returns-then-node-eq0-clause-done
+returns-then-node-eq0-clause-done g c =
+    let l = c.loop-depth in
+    Reads-weaker l.invariant.done (λ ws w. some_ends ws c.args.past (unpacked c.args.key.now.len c.args.key.now.words) l._depth l.node l.above w c.if-node-eq0.true)
+
+pub returns-then-node-eq0-clause-visits : goal.returns-then-node-eq0-clause-visits
+returns-then-node-eq0-clause-visits g c =
+    let l = c.loop-depth in
+    always_said (Reads-weaker l.invariant.done (λ ws w. few_counted ws c.args.visits.now l.visits l._depth (some_few ws c.args.past (unpacked c.args.key.now.len c.args.key.now.words) l._depth l.node l.above w) l.invariant.counted))
+
+pub visit-requires-clause-node : goal.visit-requires-clause-node
+visit-requires-clause-node g c =
+    let l = c.loop-depth in
+    always_read c.requires.lawful l.invariant.done (λ ws i w. some_has_node ws c.args.past (unpacked c.args.key.now.len c.args.key.now.words) l._depth l.node l.above w c.if-node-eq0.false i)
+
+pub returns-in_err-visit-clause-visits : goal.returns-in_err-visit-clause-visits
+returns-in_err-visit-clause-visits g c =
+    let l = c.loop-depth in
+    always_kept (always_said (Reads-weaker l.invariant.done (λ ws w. few_counted ws c.args.visits.now c.visit.new.visits (l._depth + 1) (some_few_node ws c.args.past (unpacked c.args.key.now.len c.args.key.now.words) l._depth l.node l.above w c.if-node-eq0.false) (omega (arith, l.invariant.counted, c.in_err-visit.ensures.counted)))))
+    c.in_err-visit.ensures.kept
+
+pub returns-then-is_eq-clause-done : goal.returns-then-is_eq-clause-done
+returns-then-is_eq-clause-done g c =
+    let l = c.loop-depth in
+    let o = c.in_ok-visit.field-0 in
+    let same = sym c.toward-order.ensures ∙ is_same c.toward-order.result (sym c.is_eq.ensures ∙ c.if-is_eq.true) in
+    Reads-then l.invariant.done c.in_ok-visit.ensures.done (λ ws w is. some_ends_same ws c.args.past (unpacked c.args.key.now.len c.args.key.now.words) l._depth l.node l.above o w c.if-node-eq0.false is same)
+
+pub returns-then-is_eq-clause-visits : goal.returns-then-is_eq-clause-visits
+returns-then-is_eq-clause-visits g c =
+    let l = c.loop-depth in
+    always_kept (always_said (Reads-weaker l.invariant.done (λ ws w. few_counted ws c.args.visits.now c.visit.new.visits (l._depth + 1) (some_few_node ws c.args.past (unpacked c.args.key.now.len c.args.key.now.words) l._depth l.node l.above w c.if-node-eq0.false) (omega (arith, l.invariant.counted, c.in_ok-visit.ensures.counted)))))
+    c.in_ok-visit.ensures.kept
+
+pub word-requires-in-loop-depth-clause-line : goal.word-requires-in-loop-depth-clause-line
+word-requires-in-loop-depth-clause-line g c =
+    let l = c.loop-depth in
+    always_read c.requires.lawful (Reads-then l.invariant.done c.in_ok-visit.ensures.done (λ ws w o. w))
+    (λ ws i w. node_within ws l.node (some_has_node ws c.args.past (unpacked c.args.key.now.len c.args.key.now.words) l._depth l.node l.above w c.if-node-eq0.false i))
+
+pub returns-in_err-node-2-clause-visits : goal.returns-in_err-node-2-clause-visits
+returns-in_err-node-2-clause-visits g c =
+    let l = c.loop-depth in
+    always_kept (always_said (Reads-weaker l.invariant.done (λ ws w. few_counted ws c.args.visits.now c.visit.new.visits (l._depth + 1) (some_few_node ws c.args.past (unpacked c.args.key.now.len c.args.key.now.words) l._depth l.node l.above w c.if-node-eq0.false) (omega (arith, l.invariant.counted, c.in_ok-visit.ensures.counted)))))
+    (kept_then c.in_ok-visit.ensures.kept c.in_err-node-2.ensures.kept)
+
+pub loop-depth-preserved : goal.loop-depth-preserved
+loop-depth-preserved g c =
+    let l = c.loop-depth in
+    let i = l.invariant in
+    let o = c.in_ok-visit.ensures in
+    let w = c.in_ok-node-2.ensures in
+    let t = c.toward-order.ensures in
+    let s = c.side_of-side.ensures in
+    let a = c.above_after-above.ensures in
+    let other = is_other c.toward-order.result (sym c.is_eq.ensures ∙ c.if-is_eq.false) in
+    record {
+      done = Reads-then i.done (Reads-loaded o.done w.done) (λ ws p q.
+          some_on ws c.args.past (unpacked c.args.key.now.len c.args.key.now.words) l._depth l.node l.above c.in_ok-node-2.node c.side_of-side.result c.above_after-above.result c.in_ok-visit.field-0
+          p (omega (arith, c.loop-depth-test.true)) c.if-node-eq0.false q.0 (λ e. other (t ∙ e)) (λ e. s.less (t ∙ e)) (λ e. s.more (t ∙ e)) a.left a.right q.1);
+      counted = omega (arith, i.counted, c.in_ok-visit.ensures.counted);
+      kept = kept_then (kept_then i.kept o.kept) w.kept;
+      sized = search rules;
+      framed = Framed-then (Framed-then i.framed o.framed) w.framed;
+    }
+
+pub returns-clause-done : goal.returns-clause-done
+returns-clause-done g c =
+    let l = c.loop-depth in
+    Reads-weaker l.invariant.done (λ ws w. some_deep ws c.args.past (unpacked c.args.key.now.len c.args.key.now.words) l._depth l.node l.above w (omega (arith, c.loop-depth-test.false)))
+
+pub returns-clause-visits : goal.returns-clause-visits
+returns-clause-visits g c =
+    let l = c.loop-depth in
+    always_said (Reads-weaker l.invariant.done (λ ws w. few_counted ws c.args.visits.now l.visits l._depth (some_few ws c.args.past (unpacked c.args.key.now.len c.args.key.now.words) l._depth l.node l.above w) l.invariant.counted))
