@@ -1,49 +1,62 @@
 #!/usr/bin/env python3
-"""Seconds and peak memory of `cx_tool run` for scripts of every command, and for long documents.
+"""Seconds and peak memory of `cx_tool run` for lives of clients, for scripts of every command, and for long documents.
 
 Build the program first: cd crates/cx_tool && rt run -- run < ../../examples/first.script
 
-The counts and the gets of one key show what a command costs alone. The long documents stand behind each other at few keys,
-so that reading them is what takes the time. A script of the same size in comments shows what reading its bytes costs alone.
-The texts of one line are as long as an input may be, and no documents, or short ones; of some the value would take many times
+A client has at most 16 commands in a life, so many commands are many lives of 8 clients, each with a service that is started and closed, and a
+loss of power. Lives without commands show what that costs alone; a script of the same size in comments shows what reading its bytes
+costs alone. The texts of one line are as long as an input may be, and no documents, or short ones; of some the value would take many times
 the memory of its text.
 """
 import os
+import subprocess
 import sys
+import tempfile
+import time
 
-import first_path
-from first_path import TOOL, measure
+TOOL = os.path.join(os.path.dirname(__file__), "..", "crates", "cx_tool", "out", "cx_tool")
 
 HEAD = [b"lines 16384", b"life 1 power 0"]
+CLIENTS, EACH = 8, 16
 
 
-def every_command():
-    lines = list(HEAD)
-    for i in range(100_000):
-        key = b"key%03d" % (i * 37 % 1000)
-        lines.append(
-            [
-                b"0 put %s {\"name\":\"n%d\",\"price\":%d}" % (key, i, i),
-                b"0 get " + key,
-                b"0 add sum%d %d" % (i % 7, i),
-                b"0 next " + key,
-                b"0 del " + key,
-                b"0 count",
-            ][i % 6]
-        )
-    return b"\n".join(lines) + b"\n"
+def lives(lines, count, clients, commands):
+    """So many lives of so many clients; `commands` gives each client's command of a number, counted over all lives."""
+    text = [b"lines %d" % lines]
+    for life in range(count):
+        text.append(b"life %d power %d" % (clients, life))
+        text += [b"%d " % client + command for client, command in commands(life)]
+    return b"\n".join(text) + b"\n"
 
 
-def counts():
-    return b"\n".join(HEAD + [b"0 count"] * 100_000) + b"\n"
+def no_commands(life):
+    return []
 
 
-def gets():
-    return b"\n".join(HEAD + [b"0 put k 1"] + [b"0 get k"] * 99_999) + b"\n"
+def one_command(life):
+    return [(0, b"add n 1")]
 
 
-def puts(keys):
-    return b"\n".join(HEAD + [b"0 put %016d %d" % (i * 7919 % keys, i) for i in range(100_000)]) + b"\n"
+def of_all_clients(command):
+    """Each client has its 16 commands, of the numbers that follow each other."""
+    return lambda life: [(i % CLIENTS, command(life * CLIENTS * EACH + i)) for i in range(CLIENTS * EACH)]
+
+
+def every_command(i):
+    key = b"key%03d" % (i * 37 % 1000)
+    return [
+        b"put %s {\"name\":\"n%d\",\"price\":%d}" % (key, i, i),
+        b"get " + key,
+        b"add sum%d %d" % (i % 7, i),
+        b"next " + key,
+        b"del " + key,
+        b"count",
+    ][i % 6]
+
+
+def long_document(i):
+    members = b",".join(b"\"member%02d\":[%d,\"some text of a document\",true]" % (n, n * 1000) for n in range(20))
+    return b"put key%d {%s}" % (i % 10, members)
 
 
 def one_line(front, piece, end):
@@ -52,29 +65,39 @@ def one_line(front, piece, end):
 
 
 def long_documents():
-    lines = list(HEAD)
-    size = 0
-    members = b",".join(b"\"member%02d\":[%d,\"some text of a document\",true]" % (i, i * 1000) for i in range(20))
-    while size < 16_700_000:
-        line = b"0 put key%d {%s}" % (len(lines) % 10, members)
-        lines.append(line)
-        size += len(line) + 1
-    return b"\n".join(lines) + b"\n"
+    return lives(1024, 130, CLIENTS, of_all_clients(long_document))
 
 
 def comments():
     return b"\n".join(b"#" + line for line in long_documents().split(b"\n")) [:16_777_216]
 
 
+def measure(name, data):
+    with tempfile.TemporaryFile() as source, tempfile.TemporaryFile() as sink:
+        source.write(data)
+        source.seek(0)
+        begun = time.monotonic()
+        child = subprocess.Popen([TOOL, "run"], stdin=source, stdout=sink)
+        _, status, usage = os.wait4(child.pid, 0)
+        seconds = time.monotonic() - begun
+        written = os.fstat(sink.fileno()).st_size
+    print(
+        f"{name}: status {os.waitstatus_to_exitcode(status)}, {seconds:.2f} s, "
+        f"peak {usage.ru_maxrss / 1024:.0f} MiB for {len(data) / 2**20:.1f} MiB in, {written} bytes out"
+    )
+
+
 if __name__ == "__main__":
     if not os.path.exists(TOOL):
         sys.exit(__doc__)
-    measure("100,000 commands of all kinds over 1,000 keys", every_command())
-    measure("100,000 counts", counts())
-    measure("100,000 commands, a put and gets of its key", gets())
-    measure("100,000 puts over 1,000 keys of 16 bytes", puts(1_000))
-    measure("100,000 puts over 5,000 keys of 16 bytes", puts(5_000))
-    measure("16 MiB of long documents", long_documents())
+    measure("a life of one client and one command, 64 lines", lives(64, 1, 1, one_command))
+    for lines in (1024, 16384):
+        measure(f"a life of 8 clients without commands, {lines} lines", lives(lines, 1, CLIENTS, no_commands))
+        measure(f"a life of 8 clients with 16 commands, {lines} lines", lives(lines, 1, CLIENTS, of_all_clients(every_command)))
+    measure("1,000 lives of one client and one command, 64 lines", lives(64, 1000, 1, one_command))
+    measure("100,000 commands of all kinds over 1,000 keys, 781 lives, 4,096 lines", lives(4096, 781, CLIENTS, of_all_clients(every_command)))
+    measure("16 MiB of long documents, 130 lives", long_documents())
+    measure("16,777,216 line feeds", b"\n" * 16_777_216)
     measure("as many bytes of comments", comments())
     measure("one line, an array of numbers", one_line(b"[", b"1,", b"1]"))
     measure("one line, an array of objects", one_line(b"[", b"{\"a\":1},", b"1]"))

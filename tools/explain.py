@@ -36,7 +36,7 @@ COMMANDS_RULE = "a script           has at most 1,000 lives and 100,000 commands
 JSON_RULE = "JSON               a value as JSON has it, nested at most 127 deep"
 NUMBER_RULE = "JSON               each number in it is an integer of 64 bits, with a sign or without; -0 is none"
 LENGTH_RULE = "JSON               its compact text, without spaces between its parts, has at most 1,024 bytes"
-FORM_RULE = "not read yet       a life of more than one client, a second life, a cut line"
+FORM_RULE = "not read yet       a client's 17th command in a life"
 
 SENTENCES = {
     "utf8": "The line is not UTF-8: the marked byte cannot stand there. Only empty lines and comments may have any bytes.",
@@ -83,7 +83,7 @@ def rows_of(reason, line):
         "json": command + [JSON_RULE],
         "fraction": command + [NUMBER_RULE],
         "long": command + [LENGTH_RULE],
-        "form": [LIFE_ROW, CUT_ROW, FORM_RULE],
+        "form": [FORM_RULE],
     }.get(reason, [])
 
 

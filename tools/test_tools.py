@@ -46,7 +46,7 @@ REFUSED = {
     "json": (HEAD + b'0 put a {"b":}\n', 3, "}"),
     "fraction": (HEAD + b'0 put a {"price":1.5,"sold":2}\n', 3, "1.5"),
     "long": (HEAD + b'0 put a "' + b"t" * 1_023 + b'"\n', 3, '"' + "t" * 60),
-    "form": (b"lines 64\nlife 2 power 0\n", 2, "life 2 power 0"),
+    "form": (HEAD + b"0 count\n" * 17, 19, "0 count"),
 }
 # lines and the reasons for which they are refused, with what is marked in them: where no lines line was read,
 HEADERS = {
@@ -362,7 +362,7 @@ class Explanations(unittest.TestCase):
         if not random_lives.PROGRAM.exists():
             self.skipTest("the program is not built")
         for reason, (script, line, _) in REFUSED.items():
-            if reason not in ("form", "lives", "cut"):
+            if reason != "commands":
                 with self.subTest(reason):
                     self.assertEqual((line, reason), random_lives.answer_of_program(random_lives.PROGRAM, script))
 

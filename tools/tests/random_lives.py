@@ -44,13 +44,19 @@ def command(choice):
     return f"{kind} {key(choice)}"
 
 
-def script_text(choice, clients=1, lives=1, commands=20, cuts=False):
+def script_text(choice, clients=1, lives=1, commands=20, cuts=False, most=None, steps=999):
+    """A script of so many lives; where it is said, with at most so many commands of one client in a life."""
     lines = [f"lines {choice.choice([64, 64, 70, 1024])}"]
     for _ in range(lives):
         lines.append(f"life {clients} power {choice.randint(0, 9)}")
         if cuts:
-            lines.extend(f"cut {client} {choice.randint(0, 999)}" for client in range(clients) if choice.random() < 0.4)
-        lines.extend(f"{choice.randrange(clients)} {command(choice)}" for _ in range(commands))
+            lines.extend(f"cut {client} {choice.randint(0, steps)}" for client in range(clients) if choice.random() < 0.4)
+        made = [0] * clients
+        for _ in range(commands):
+            client = choice.randrange(clients)
+            if made[client] != most:
+                made[client] += 1
+                lines.append(f"{client} {command(choice)}")
     return ("\n".join(lines) + "\n").encode()
 
 
@@ -150,7 +156,7 @@ def answer_of_program(program, script):
 
 
 def disagreement(program, script):
-    """Where the program and the tools disagree on a script of one life of one client; else None."""
+    """Where the program and the tools disagree on a script; else None."""
     answer = answer_of_program(program, script)
     try:
         read = read_script(script)
@@ -169,7 +175,8 @@ def compare(count, program=PROGRAM):
     """Runs so many scripts through the program; the first on which they disagree, with why, or None."""
     for seed in range(count):
         choice = random.Random(seed)
-        script = script_text(choice, commands=choice.randint(0, 60))
+        clients, lives = choice.randint(1, 8), choice.randint(1, 5)
+        script = script_text(choice, clients, lives, choice.randint(0, 60), cuts=True, most=16, steps=choice.choice([99, 999, 19_999]))
         if seed % 2:
             script = spoiled(choice, script)
         why = disagreement(program, script)
