@@ -198,7 +198,10 @@ fn each_input_has_its_status_and_text(rt: HostRuntime) -> Result<(), Fail> {
     }
     let ran = run_of(&rt, &["run"], b"lines 64\n\xff\n")?;
     assert_eq!(rt; ran.code, 3);
-    assert_eq!(rt; ran.written.as_slice(), b"refused line 2: utf8\n".as_slice());
+    assert_eq!(rt;
+        ran.written.as_slice(),
+        b"refused line 2: utf8\n".as_slice()
+    );
     Ok(())
 }
 

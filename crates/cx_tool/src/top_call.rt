@@ -87,12 +87,7 @@ fn run<R: Threads + Wait + Sync, S: Source, K: Sink, G: Gate + Sync>(
         Ok(Input::Failed) => Ended::without_lives(alloc, Status::ReadFault),
         Ok(Input::TooLong) => {
             let ended = Ended::without_lives(alloc, Status::TooLong);
-            write_answer(
-                alloc,
-                sink,
-                b"refused: input over 16777216 bytes\n",
-                ended,
-            )
+            write_answer(alloc, sink, b"refused: input over 16777216 bytes\n", ended)
         }
         Ok(Input::Whole(bytes)) => run_input(rt, alloc, &bytes, sink, gate),
     }

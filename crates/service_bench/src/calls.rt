@@ -63,12 +63,7 @@ pub fn services<R: Runtime + Threads + CpuClock + Sync>(
 }
 
 /// What the parts of one caller's calls take, in so many tables.
-pub fn parts<R: Runtime>(
-    rt: &R,
-    alloc: Global,
-    count: u64,
-    setting: &Setting,
-) -> io::Result<Laps> {
+pub fn parts<R: Runtime>(rt: &R, alloc: Global, count: u64, setting: &Setting) -> io::Result<Laps> {
     if setting.lines < 64 || setting.lines > 16384 {
         return Laps::begin(rt);
     }

@@ -78,7 +78,10 @@ impl Laps {
     /// Prints a line for each part.
     pub fn print(&self, rt: &impl Runtime) -> io::Result<()> {
         for (cost, name) in self.costs.iter().zip(NAMES.iter()) {
-            println!(rt; "{name} times {} steps {} nanos {}", cost.times, cost.steps, cost.nanos)?;
+            println!(rt;
+                "{name} times {} steps {} nanos {}",
+                cost.times, cost.steps, cost.nanos
+            )?;
         }
         Ok(())
     }

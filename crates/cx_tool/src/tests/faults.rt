@@ -64,7 +64,11 @@ fn a_fault_at_each_read_leaves_nothing_written(rt: HostRuntime) -> Result<(), Fa
     // one read a byte, and the one that finds the end
     let alloc = rt.alloc();
     for call in 1..=LENGTHS.0 + 1 {
-        let (code, trails, written) = run_of(&rt, source(alloc, 1, &[call])?, sink(alloc, 64, &[])?)?;
+        let (code, trails, written) = run_of(
+            &rt,
+            source(alloc, 1, &[call])?,
+            sink(alloc, 64, &[])?,
+        )?;
         assert_eq!(rt; (code, trails), (4, 0), "at read {call}");
         assert_eq!(rt; written.as_slice(), b"".as_slice());
     }
@@ -75,9 +79,16 @@ fn a_fault_at_each_read_leaves_nothing_written(rt: HostRuntime) -> Result<(), Fa
 fn a_fault_at_each_write_leaves_a_front_of_the_report(rt: HostRuntime) -> Result<(), Fail> {
     let alloc = rt.alloc();
     for call in 1..=LENGTHS.1 {
-        let (code, trails, written) = run_of(&rt, source(alloc, 64, &[])?, sink(alloc, 1, &[call])?)?;
+        let (code, trails, written) = run_of(
+            &rt,
+            source(alloc, 64, &[])?,
+            sink(alloc, 1, &[call])?,
+        )?;
         assert_eq!(rt; (code, trails), (5, 0), "at write {call}");
-        assert_eq!(rt; Some(written.as_slice()), REPORT.as_bytes().get(..call as usize - 1));
+        assert_eq!(rt;
+            Some(written.as_slice()),
+            REPORT.as_bytes().get(..call as usize - 1)
+        );
     }
     Ok(())
 }

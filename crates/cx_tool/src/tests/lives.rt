@@ -23,9 +23,15 @@ fn keys_and_documents_have_a_largest_length(rt: HostRuntime) -> Result<(), Fail>
     ];
     let alloc = rt.alloc();
     for (key, document, code, refusal) in rows {
-        let command = format!(in alloc; "put {} \"{}\"", letters(alloc, "k", key)?, letters(alloc, "x", document)?)?;
+        let command = format!(in alloc;
+            "put {} \"{}\"",
+            letters(alloc, "k", key)?,
+            letters(alloc, "x", document)?
+        )?;
         let input = format!(in alloc; "{HEAD}0 {command}\n")?;
-        let report = format!(in alloc; "life 0 clients 1 from 0\n0 0.1 {command} = new\npower 0 kept 1 of 1 documents 1\n")?;
+        let report = format!(in alloc;
+            "life 0 clients 1 from 0\n0 0.1 {command} = new\npower 0 kept 1 of 1 documents 1\n"
+        )?;
         let ran = run_of(&rt, &["run"], input.as_bytes())?;
         assert_eq!(rt; ran.code, code);
         let text = if code == 0 { report.as_str() } else { refusal };
@@ -39,9 +45,12 @@ fn a_longest_document_takes_19_lines(rt: HostRuntime) -> Result<(), Fail> {
     // three of them with their keys are 63 lines, and leave no room for a pair of 3
     let alloc = rt.alloc();
     let long = letters(alloc, "x", 1022)?;
-    let input = format!(in alloc; "{HEAD}0 put a \"{long}\"\n0 put b \"{long}\"\n0 put c \"{long}\"\n0 put d 0\n")?;
+    let input = format!(in alloc;
+        "{HEAD}0 put a \"{long}\"\n0 put b \"{long}\"\n0 put c \"{long}\"\n0 put d 0\n"
+    )?;
     let report = format!(in alloc;
-        "life 0 clients 1 from 0\n0 0.1 put a \"{long}\" = new\n1 0.2 put b \"{long}\" = new\n2 0.3 put c \"{long}\" = new\n3 0.4 put d 0 = noroom\npower 0 kept 4 of 4 documents 3\n")?;
+        "life 0 clients 1 from 0\n0 0.1 put a \"{long}\" = new\n1 0.2 put b \"{long}\" = new\n2 0.3 put c \"{long}\" = new\n3 0.4 put d 0 = noroom\npower 0 kept 4 of 4 documents 3\n"
+    )?;
     let ran = run_of(&rt, &["run"], input.as_bytes())?;
     assert_eq!(rt; ran.code, 0);
     assert_eq!(rt; ran.written.as_slice(), report.as_bytes());
@@ -54,7 +63,10 @@ fn full_store(alloc: Global) -> Result<Vec<(String, &'static str)>, AllocError> 
     for i in 0..19u8 {
         puts.push((format!(in alloc; "put k{}{} 0", i / 10, i % 10)?, "new"))?;
     }
-    puts.push((format!(in alloc; "put k19 \"{}\"", letters(alloc, "x", 198)?)?, "new"))?;
+    puts.push((
+        format!(in alloc; "put k19 \"{}\"", letters(alloc, "x", 198)?)?,
+        "new",
+    ))?;
     puts.push((String::from_str(alloc, "put k20 0")?, "noroom"))?;
     puts.push((String::from_str(alloc, "put k19 0")?, "replaced"))?;
     puts.push((String::from_str(alloc, "put k20 0")?, "new"))?;
@@ -89,15 +101,22 @@ fn two_adds_have_two_orders(rt: HostRuntime) -> Result<(), Fail> {
         "life 0 clients 2 from 0\n0 1.1 add n 1 = sum 1\n1 0.1 add n 1 = sum 2\npower 0 kept 2 of 2 documents 1\n",
     ];
     for _ in 0..20 {
-        let ran = run_of(&rt, &["run"], b"lines 64\nlife 2 power 0\n0 add n 1\n1 add n 1\n")?;
+        let ran = run_of(
+            &rt,
+            &["run"],
+            b"lines 64\nlife 2 power 0\n0 add n 1\n1 add n 1\n",
+        )?;
         assert_eq!(rt; (ran.code, ran.trails), (0, 1));
-        let known = reports.iter().any(|report| ran.written.as_slice() == report.as_bytes());
+        let known = reports
+            .iter()
+            .any(|report| ran.written.as_slice() == report.as_bytes());
         assert!(rt; known);
     }
     Ok(())
 }
 
-const SHOPS: &str = "# two shops\nlines 1024\nlife 2 power 1\n0 put stock:apple {\"name\":\"apple\",\"price\":120}\n1 put stock:pear {\"name\":\"pear\",\"price\":95}\n0 add sold 3\n1 add sold 4\n\nlife 1 power 0\n0 next stock:\n0 get sold\n0 count\n";
+const SHOPS: &str =
+    "# two shops\nlines 1024\nlife 2 power 1\n0 put stock:apple {\"name\":\"apple\",\"price\":120}\n1 put stock:pear {\"name\":\"pear\",\"price\":95}\n0 add sold 3\n1 add sold 4\n\nlife 1 power 0\n0 next stock:\n0 get sold\n0 count\n";
 
 const APPLE: &str = "0.1 put stock:apple {\"name\":\"apple\",\"price\":120} = new";
 
@@ -105,16 +124,47 @@ const PEAR: &str = "1.1 put stock:pear {\"name\":\"pear\",\"price\":95} = new";
 
 /// The entries of the two shops in each order.
 const ORDERS: [[&str; 4]; 6] = [
-    [APPLE, "0.2 add sold 3 = sum 3", PEAR, "1.2 add sold 4 = sum 7"],
-    [APPLE, PEAR, "0.2 add sold 3 = sum 3", "1.2 add sold 4 = sum 7"],
-    [APPLE, PEAR, "1.2 add sold 4 = sum 4", "0.2 add sold 3 = sum 7"],
-    [PEAR, APPLE, "0.2 add sold 3 = sum 3", "1.2 add sold 4 = sum 7"],
-    [PEAR, APPLE, "1.2 add sold 4 = sum 4", "0.2 add sold 3 = sum 7"],
-    [PEAR, "1.2 add sold 4 = sum 4", APPLE, "0.2 add sold 3 = sum 7"],
+    [
+        APPLE,
+        "0.2 add sold 3 = sum 3",
+        PEAR,
+        "1.2 add sold 4 = sum 7",
+    ],
+    [
+        APPLE,
+        PEAR,
+        "0.2 add sold 3 = sum 3",
+        "1.2 add sold 4 = sum 7",
+    ],
+    [
+        APPLE,
+        PEAR,
+        "1.2 add sold 4 = sum 4",
+        "0.2 add sold 3 = sum 7",
+    ],
+    [
+        PEAR,
+        APPLE,
+        "0.2 add sold 3 = sum 3",
+        "1.2 add sold 4 = sum 7",
+    ],
+    [
+        PEAR,
+        APPLE,
+        "1.2 add sold 4 = sum 4",
+        "0.2 add sold 3 = sum 7",
+    ],
+    [
+        PEAR,
+        "1.2 add sold 4 = sum 4",
+        APPLE,
+        "0.2 add sold 3 = sum 7",
+    ],
 ];
 
 /// The lines of the report behind those entries.
-const NEXT_DAY: &str = "power 1 kept 4 of 4 documents 3\nlife 1 clients 1 from 4\nread 0.1 at 4 next stock: = key stock:apple\nread 0.2 at 4 get sold = 7\nread 0.3 at 4 count = count 3\npower 0 kept 0 of 0 documents 3\n";
+const NEXT_DAY: &str =
+    "power 1 kept 4 of 4 documents 3\nlife 1 clients 1 from 4\nread 0.1 at 4 next stock: = key stock:apple\nread 0.2 at 4 get sold = 7\nread 0.3 at 4 count = count 3\npower 0 kept 0 of 0 documents 3\n";
 
 /// The report on the two shops where their entries come in this order.
 fn shops_report(alloc: Global, order: [&str; 4]) -> Result<String, AllocError> {

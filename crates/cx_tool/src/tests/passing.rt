@@ -89,7 +89,8 @@ impl Gate for HoldingGate {
         }
         for turn in 0..1_000_000_000u64 {
             if self.answered.load(Ordering::SeqCst) {
-                self.turns_left.store(1_000_000_000 - turn, Ordering::SeqCst);
+                self.turns_left
+                    .store(1_000_000_000 - turn, Ordering::SeqCst);
                 return;
             }
             yield_now();

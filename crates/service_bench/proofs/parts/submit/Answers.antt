@@ -16,6 +16,8 @@ pub announce_and_link-requires-clause-caller : goal.announce_and_link-requires-c
 announce_and_link-requires-clause-caller g c = caller_then c.args.shared.now 1 c.args.seat.now (stale c.load_cur.new.seat) (loaded g c) c.requires refl
 
 pub announce_and_link-requires-clause-cell : goal.announce_and_link-requires-clause-cell
-announce_and_link-requires-clause-cell g c =
-    (next_cell c.args.shared.now.base.place c.args.seat.now.known.local c.requires.cells c.requires.free c.in-Some.cell c.in-Some.ensures.some.1 c.in-Some.ensures.least
-    ∙ ap (λ (xs : List Linked). length xs) (sym (loaded g c).own), c.in-Some.ensures.some.0)
+announce_and_link-requires-clause-cell g c = (
+  next_cell c.args.shared.now.base.place c.args.seat.now.known.local c.requires.cells c.requires.free c.in-Some.cell c.in-Some.ensures.some.1 c.in-Some.ensures.least
+      ∙ ap (λ (xs : List Linked). length xs) (sym (loaded g c).own),
+  c.in-Some.ensures.some.0,
+)
