@@ -1,5 +1,7 @@
 //! Faults of a source and a sink at each of their calls.
 
+ghost use Rattle.std.specs.Prelude.{◌≤◌};
+
 use super::run_over;
 use cx_base::{OpenGate, VecSink, VecSource};
 use std::alloc::{AllocError, Global};
