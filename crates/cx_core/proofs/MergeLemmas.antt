@@ -6,7 +6,7 @@ use Rattle.std.specs.List.{slice_get}
 use Rattle.std.specs.Option.{option_to_list}
 use Rattle.cx_core.specs.declared.entry.Entry.{Entry}
 use Rattle.cx_core.specs.declared.kinds.Kind.{Kind}
-use Rattle.cx_core.specs.declared.kinds.Kind.TheVariants.{WriteCell, Link, Look, ReadCell, LoadFree, TryExclusive, TryShared, BackOff, Downgrade, ReleaseExclusive, LoadWord, StoreWord, Persist, LoadCur, Publish, Raise, Retire}
+use Rattle.cx_core.specs.declared.kinds.Kind.TheVariants.{WriteCell, Link, Look, ReadCell, LoadFree, TryExclusive, TryShared, BackOff, Downgrade, ReleaseExclusive, LoadWord, StoreWord, Persist, LoadCur, Publish, Raise, Retire, Protect, Confirm, Unprotect, CloseLow, Scan, OpenFree}
 use Rattle.cx_core.specs.declared.local.Linked.{Linked}
 use Rattle.cx_core.specs.declared.local.Local.{Local}
 use Rattle.cx_core.specs.Events.{next}
@@ -67,6 +67,12 @@ own_counted (l ∷ ls) from ticket history own =
     let first : length l.own ≡ length (own_of from ticket history) = ap length (own 0 l refl) ∙ ap (λ k. length (own_of k ticket history)) (add-zero from) in
     let rest = own_counted ls (from + 1) ticket history (λ i x at. own (suc i) x at ∙ ap (λ k. own_of k ticket history) (let e : from + suc i ≡ from + 1 + i = omega arith in e)) in
     length-append l.own (all_own ls) ∙ omega arith
+
+-- there are as many own entries as the history has
+pub own_count : (place : ℕ) (history : List Entry) (locals : List Local) → IsHistory place history locals → length (all_own locals) ≡ length history
+own_count place history locals merged =
+    own_counted locals 0 place history (λ i l at. merged.own i l at ∙ ap (λ k. own_of k place history) (let e : i ≡ 0 + i = omega arith in e))
+    ∙ count_all (length locals) place history merged.of_callers
 
 abbrev InPlace : ℕ → List Entry → Linked → Type 0
 InPlace ticket history x = (ticket ≤ x.ticket) × (slice_get history (x.ticket - ticket) ≡ Some x.entry)
@@ -206,6 +212,12 @@ goes_on instance scene LoadCur l found = λ _ _ at. at
 goes_on instance scene Publish l found = goes_either l (found == l.seen_cur) (published instance.callers l) (outrun instance.callers l found) (λ _ _ at. at) (λ _ _ at. at)
 goes_on instance scene (Raise code read) l found = λ _ _ at. at
 goes_on instance scene Retire l found = λ _ _ at. at
+goes_on instance scene (Protect p) l found = λ _ _ at. at
+goes_on instance scene Confirm l found = λ _ _ at. at
+goes_on instance scene Unprotect l found = λ _ _ at. at
+goes_on instance scene (CloseLow target) l found = λ _ _ at. at
+goes_on instance scene (Scan d) l found = λ _ _ at. at
+goes_on instance scene OpenFree l found = λ _ _ at. at
 
 -- what is linked stays linked where one caller's own list goes on
 pub still_linked : (instance : Instance) (place : ℕ) (history history' : List Entry) (locals : List Local) (caller : ℕ) (l l' : Local) →

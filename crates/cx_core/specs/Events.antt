@@ -1,19 +1,21 @@
 -- The kinds of step: when a step is allowed, the word that it is on, what the word becomes, and the caller's local state
 -- afterwards.
-use Rattle.std.specs.Prelude.{◌≡◌, ◌+◌, ◌-◌, ◌*◌, ◌%◌, ◌^◌, ◌<◌, ◌==◌, ◌↔◌, ℕ, max, nat_lt, Bool, IsTrue, true, false, if◌then◌else◌, List, [], ◌∷◌, length, slice_get, slice_index, slice_set, Some, None}
+use Rattle.std.specs.Prelude.{◌≡◌, ◌+◌, ◌-◌, ◌*◌, ◌%◌, ◌^◌, ◌<◌, ◌≤◌, ◌==◌, ◌↔◌, ℕ, max, nat_lt, Bool, IsTrue, true, false, if◌then◌else◌, List, [], ◌∷◌, length, slice_get, slice_index, slice_set, Some, None}
 use Rattle.std.specs.Option.{option_map}
 use Rattle.cx_core.specs.declared.kinds.Event.{Event}
 use Rattle.cx_core.specs.declared.kinds.Kind.{Kind}
-use Rattle.cx_core.specs.declared.kinds.Kind.TheVariants.{WriteCell, Link, Look, ReadCell, LoadFree, TryExclusive, TryShared, BackOff, Downgrade, ReleaseExclusive, LoadWord, StoreWord, Persist, LoadCur, Publish, Raise, Retire}
+use Rattle.cx_core.specs.declared.kinds.Kind.TheVariants.{WriteCell, Link, Look, ReadCell, LoadFree, TryExclusive, TryShared, BackOff, Downgrade, ReleaseExclusive, LoadWord, StoreWord, Persist, LoadCur, Publish, Raise, Retire, Protect, Confirm, Unprotect, CloseLow, Scan, OpenFree}
 use Rattle.cx_core.specs.declared.local.Local.{Local}
+use Rattle.cx_core.specs.declared.local.Protection.TheVariants.{Unprotected}
 use Rattle.cx_core.specs.History.{IsFull}
 use Rattle.cx_base.specs.Codes.{root_replica_of}
-use Rattle.cx_core.specs.Layout.{cell_count, cell_at, cur_at, dur_at, free_at, link_at, lock_at, per_at, vol_at}
+use Rattle.cx_core.specs.Layout.{cell_count, cell_at, cur_at, dur_at, free_at, link_at, lock_at, low_at, max_word, need_at, per_at, vol_at}
 use Rattle.cx_core.specs.LockEvents.{CanBackOff, CanGiveUp, CanTryExclusive, CanTryShared, backed_off, downgraded_to, exclusive_mark, minus, passing, plus, refused_by, shared_by, taken}
 use Rattle.cx_core.specs.Merge.{scene_of}
 use Rattle.cx_core.specs.QueueEvents.{CanLink, IsIdle, ShowsTicket, exchanged, linked, lost, raised_front, seen_word, written}
 use Rattle.cx_core.specs.RegionEvents.{CanLoadAs, CanPersist, CanStore, loaded_by, persisted, stored_into}
 use Rattle.cx_core.specs.Rights.{held_words}
+use Rattle.cx_core.specs.RingEvents.{CanClose, IsNext, IsProtected, IsStated, IsUnprotected, bound_in, closing, confirmed, opened, scanned, stated}
 use Rattle.cx_core.specs.RootEvents.{CanPublish, CanRaise, CanRetire, before_in, code_in, loaded_cur, outrun, published, raised_by}
 use Rattle.cx_core.specs.State.{Instance, Scene, State, one_more}
 
@@ -36,6 +38,12 @@ Guard instance scene LoadCur l = Unit {0}
 Guard instance scene Publish l = CanPublish instance.callers l
 Guard instance scene (Raise code read) l = CanRaise instance code read l
 Guard instance scene Retire l = CanRetire l.raised l.won
+Guard instance scene (Protect p) l = (p ≤ 2 ^ 40) × IsUnprotected l.protection
+Guard instance scene Confirm l = IsStated l.protection
+Guard instance scene Unprotect l = IsProtected l.protection
+Guard instance scene (CloseLow target) l = CanClose instance.callers target l
+Guard instance scene (Scan d) l = (d < instance.callers) × IsNext d l.scan
+Guard instance scene OpenFree l = IsNext instance.callers l.scan
 
 -- the word that a step is on
 abbrev pub step_word : Instance → Kind → Local → ℕ
@@ -56,6 +64,12 @@ step_word instance LoadCur l = cur_at
 step_word instance Publish l = cur_at
 step_word instance (Raise code read) l = dur_at
 step_word instance Retire l = lock_at instance.callers (root_replica_of instance.callers (before_in l.won))
+step_word instance (Protect p) l = need_at l.number
+step_word instance Confirm l = low_at
+step_word instance Unprotect l = need_at l.number
+step_word instance (CloseLow target) l = low_at
+step_word instance (Scan d) l = need_at d
+step_word instance OpenFree l = free_at
 
 -- what the word becomes, given the word found
 abbrev pub new_word : Instance → Kind → Local → ℕ → ℕ
@@ -76,6 +90,12 @@ new_word instance LoadCur l found = found
 new_word instance Publish l found = if found == l.seen_cur then code_in instance.callers l.downgraded else found
 new_word instance (Raise code read) l found = max found code
 new_word instance Retire l found = minus found 1
+new_word instance (Protect p) l found = p
+new_word instance Confirm l found = found
+new_word instance Unprotect l found = max_word
+new_word instance (CloseLow target) l found = max found target
+new_word instance (Scan d) l found = found
+new_word instance OpenFree l found = max found (bound_in l.scan)
 
 -- the caller's local state afterwards, given the word found
 abbrev pub next : Instance → Scene → Kind → Local → ℕ → Local
@@ -100,6 +120,12 @@ next instance scene LoadCur l found = loaded_cur instance.callers l found
 next instance scene Publish l found = if found == l.seen_cur then published instance.callers l else outrun instance.callers l found
 next instance scene (Raise code read) l found = raised_by instance scene code read l
 next instance scene Retire l found = record l { won = None; steps = one_more l.steps }
+next instance scene (Protect p) l found = stated p l
+next instance scene Confirm l found = confirmed instance.callers l found
+next instance scene Unprotect l found = record l { protection = Unprotected; steps = one_more l.steps }
+next instance scene (CloseLow target) l found = closing target l
+next instance scene (Scan d) l found = scanned d l found
+next instance scene OpenFree l found = opened l found
 
 -- the word that a step of a caller with this local state finds, and the words after it
 abbrev pub found_by : Instance → Kind → Local → List ℕ → ℕ

@@ -1,5 +1,5 @@
 -- The lawful state, by its parts. Between any two steps of any callers the state of a service is lawful.
-use Rattle.std.specs.Prelude.{◌≡◌, ◌≢◌, ◌+◌, ◌*◌, ◌%◌, ◌^◌, ◌<◌, ◌≤◌, ℕ, All, List, ◌∷◌, length, map, take, slice_get, slice_index, Some}
+use Rattle.std.specs.Prelude.{◌≡◌, ◌≢◌, ◌+◌, ◌*◌, ◌%◌, ◌^◌, ◌<◌, ◌≤◌, ◌⊎◌, ℕ, All, List, ◌∷◌, length, map, take, slice_get, slice_index, Some}
 use Rattle.cx_base.specs.Codes.{link_code_of, link_ticket_of, root_place_of}
 use Rattle.cx_base.specs.Memory.{Words}
 use Rattle.cx_core.specs.declared.entry.Entry.{Entry}
@@ -13,6 +13,7 @@ use Rattle.cx_core.specs.declared.local.WonCode.{WonCode}
 use Rattle.cx_core.specs.LawfulAnswers.{Answers}
 use Rattle.cx_core.specs.LawfulLocks.{Locks}
 use Rattle.cx_core.specs.LawfulRegions.{Regions}
+use Rattle.cx_core.specs.LawfulRing.{Ring}
 use Rattle.cx_core.specs.LawfulRoot.{Root}
 use Rattle.cx_core.specs.Merge.{IsHistory, IsLinked}
 use Rattle.cx_core.specs.WriteSet.{IsWriteSetOf}
@@ -106,9 +107,13 @@ pub record IsOffered (locals : List Local) (k ticket : ℕ) : Type 0 where
 abbrev pub ShowsCells : Instance → List ℕ → ℕ → Local → Type 0
 ShowsCells instance words caller l = (j : ℕ) (cell : Cell) → slice_get l.cells j ≡ Some cell → IsShown instance.callers words (16 * caller + j) cell
 
--- where the word in a link slot that was seen has a ticket at or above FREE, the slot still has that word
+-- where the word in a link slot that was seen has a ticket at or above FREE, the slot still has that word; and any word that was
+-- seen there stands until a later ticket is linked in its place
 pub record SeenStands (instance : Instance) (words : List ℕ) (seen : SeenSlot) : Type 0 where
   pub slot : seen.slot < cell_count instance.callers
+  pub later : 0 < seen.word →
+      (slice_index words (link_at instance.callers seen.slot) ≡ seen.word)
+      ⊎ ((0 < slice_index words (link_at instance.callers seen.slot)) × (link_ticket_of instance.callers seen.word < link_ticket_of instance.callers (slice_index words (link_at instance.callers seen.slot))))
   pub stands : 0 < seen.word → slice_index words free_at ≤ link_ticket_of instance.callers seen.word → slice_index words (link_at instance.callers seen.slot) ≡ seen.word
 
 abbrev pub SlotStands : Instance → List ℕ → Local → Type 0
@@ -150,7 +155,7 @@ pub record IsBehind (instance : Instance) (history : List Entry) (words : List �
 pub record Fronts (instance : Instance) (history : List Entry) (words : List ℕ) (locals : List Local) : Type 0 where
   pub each : EachLocal locals (λ _ l. IsBehind instance history words l)
 
--- the lawful state, as far as its parts are built
+-- the lawful state
 pub record Lawful (instance : Instance) (s : State) : Type 0 where
   pub history : List Entry
   pub shape : Shape instance s.words s.locals
@@ -161,4 +166,5 @@ pub record Lawful (instance : Instance) (s : State) : Type 0 where
   pub locks : Locks instance.callers s.words s.locals
   pub regions : Regions instance history s.words s.locals
   pub root : Root instance s.words s.locals
+  pub ring : Ring instance s.words s.locals
   pub answers : Answers instance history s.words s.locals

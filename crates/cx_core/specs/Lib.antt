@@ -10,6 +10,7 @@ pub mod Lawful
 pub mod LawfulAnswers
 pub mod LawfulLocks
 pub mod LawfulRegions
+pub mod LawfulRing
 pub mod LawfulRoot
 pub mod Layout
 pub mod LockEvents
@@ -18,6 +19,7 @@ pub mod QueueEvents
 pub mod Region
 pub mod RegionEvents
 pub mod Rights
+pub mod RingEvents
 pub mod RootEvents
 pub mod Shown
 pub mod State

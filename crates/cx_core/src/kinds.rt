@@ -38,6 +38,18 @@ pub enum Kind {
     Raise { code: u64, read: Option<[u64; 144]> },
     /// Takes the pin back from the replica of the code before the caller's win.
     Retire,
+    /// States in the caller's need that it needs the tickets from `p` on.
+    Protect { p: u64 },
+    /// Loads LOW, which confirms the protection stated where it is at most its place.
+    Confirm,
+    /// Gives the caller's protection up.
+    Unprotect,
+    /// Raises LOW, below which tickets are closed, to `target`, and begins a scan of what the callers need.
+    CloseLow { target: u64 },
+    /// Loads the need of caller `d`, the next one of the caller's scan.
+    Scan { d: u64 },
+    /// Raises FREE, the ticket below which cells may be written again, to the bound that the caller's scan found.
+    OpenFree,
 }
 
 /// A step of a caller.
