@@ -5,7 +5,7 @@ use Rattle.std.specs.Option.{option_map}
 use Rattle.std.proofs.lemmas.Option.{same_Some, slice_get_cases, get_or_from_slice_get}
 use Rattle.cx_base.specs.Memory.{Words}
 use Rattle.cx_core.proofs.ListLemmas.{item_below}
-use Rattle.cx_core.proofs.MergeLemmas.{has_own, own_at}
+use Rattle.cx_core.proofs.MergeLemmas.{has_own, own_at, own_count}
 use Rattle.cx_core.specs.Base.{LawfulBase}
 use Rattle.cx_core.specs.declared.entry.Entry.{Entry}
 use Rattle.cx_core.specs.declared.local.Linked.{Linked}
@@ -21,7 +21,6 @@ use Rattle.doc_model.specs.Meaning.{reply_to}
 use Rattle.doc_model.specs.Words.{AreOfNoReply, IsOpOf}
 use Rattle.doc_store.specs.ExactStep.{IsImage, store_step}
 use Rattle.doc_store.specs.StoreLaws.{image_index, image_reply_fits, step_keeps, step_means}
-use Rattle.journals.proofs.Owns.{own_count}
 use Rattle.life_records.specs.declared.script.Life.{Life}
 use Rattle.life_records.specs.Scripts.{own_ops}
 use Rattle.cx_lives.specs.Ends.{CannotBe, IsBadAnswer, IsBadRead, IsWorn}

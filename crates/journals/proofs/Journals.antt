@@ -10,7 +10,7 @@ use Rattle.cx_core.specs.declared.local.Linked.{Linked}
 use Rattle.cx_core.specs.declared.local.Local.{Local}
 use Rattle.cx_core.specs.Merge.{IsHistory}
 use Rattle.cx_core.proofs.ListLemmas.{item_below}
-use Rattle.cx_core.proofs.MergeLemmas.{has_own, own_at}
+use Rattle.cx_core.proofs.MergeLemmas.{has_own, own_at, own_count}
 use Rattle.life_records.specs.declared.script.Life.{Life}
 use Rattle.life_records.specs.declared.record.JournalLine.{JournalLine}
 use Rattle.life_records.specs.declared.record.LifeRecord.{LifeRecord}
@@ -21,7 +21,7 @@ use Rattle.journals.specs.Journal.{IsByTicket, IsRecordOf}
 use Rattle.journals.specs.Told.{IsTold, IsToldFull, IsToldStop}
 use Rattle.journals.specs.Works.{AreWorks, IsEnd, IsLineOf, IsStopOf, IsWork, by_entry, by_read, stop_of}
 use Rattle.journals.proofs.Lists.{Has, Rises, all_each, climbs_from, each_get, filter_has, get_has, has_contains, has_filter, has_get, has_map, has_moved, length_map, ranged, rises_filter, rises_from, same_items, zip_back, zip_has, zip_rises}
-use Rattle.journals.proofs.Owns.{own_count, own_rises}
+use Rattle.journals.proofs.Owns.{own_rises}
 use Rattle.journals.proofs.Stops.{stop_is}
 
 linked_is : (x : Linked) (ticket : ℕ) (entry : Entry) → x.ticket ≡ ticket → x.entry ≡ entry → x ≡ record { ticket = ticket; entry = entry }

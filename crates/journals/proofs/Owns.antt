@@ -6,7 +6,7 @@ use Rattle.cx_core.specs.declared.entry.Entry.{Entry}
 use Rattle.cx_core.specs.declared.local.Linked.{Linked}
 use Rattle.cx_core.specs.declared.local.Local.{Local}
 use Rattle.cx_core.specs.Merge.{IsHistory, all_own, own_of}
-use Rattle.cx_core.proofs.MergeLemmas.{own_count, own_mine, own_other}
+use Rattle.cx_core.proofs.MergeLemmas.{own_mine, own_other}
 use Rattle.journals.proofs.Lists.{Each, Rises}
 
 own_above : (caller low ticket : ℕ) (history : List Entry) → low < ticket → Each (λ (x : Linked). low < x.ticket) (own_of caller ticket history)
