@@ -1,5 +1,5 @@
 -- The part on cells: its frames.
-use Rattle.std.proofs.Common.{◌≡◌, ◌≢◌, ◌+◌, ◌*◌, ◌%◌, ◌<◌, ◌≤◌, inl, inr, ℕ, List, set, slice_index, refl, sym, subst, ◌∙◌, arith, Some}
+use Rattle.std.proofs.Common.{◌≡◌, ◌≢◌, ◌+◌, ◌*◌, ◌%◌, ◌<◌, ◌≤◌, ◌⊎◌, inl, inr, ℕ, List, set, slice_index, refl, sym, subst, ◌∙◌, arith, Some}
 use Rattle.std.proofs.lemmas.List.{get_or-set_other}
 use Rattle.std.proofs.lemmas.Nat.{mod_below}
 use Rattle.std.proofs.lemmas.Option.{slice_get_within}
@@ -8,8 +8,9 @@ use Rattle.cx_base.specs.Codes.{link_ticket_of}
 use Rattle.cx_core.specs.declared.entry.Entry.{Entry}
 use Rattle.cx_core.specs.declared.local.Cell.{Cell}
 use Rattle.cx_core.specs.declared.local.Local.{Local}
+use Rattle.cx_core.specs.declared.local.SeenSlot.{SeenSlot}
 use Rattle.cx_core.specs.Layout.{cell_count, free_at, link_at, cell_at, offer_at, set_at}
-use Rattle.cx_core.specs.Lawful.{Cells, IsLive, IsShown, OfferStands, OffersLinked, Shape, ShowsCells, SlotStands}
+use Rattle.cx_core.specs.Lawful.{Cells, IsLive, IsShown, OfferStands, OffersLinked, SeenStands, Shape, ShowsCells, SlotStands}
 use Rattle.cx_core.specs.State.{EachLocal, Instance}
 use Rattle.cx_core.specs.WriteSet.{IsWriteSetOf}
 use Rattle.cx_core.specs.Frames.{IsOff}
@@ -76,33 +77,46 @@ cells_local instance history words locals caller l l' cells at same offer stands
           (λ j cell there some. cells.offers caller l at j cell (subst (λ cs. slice_get cs j ≡ Some cell) same there) some);
     }
 
--- the same words of FREE, the links and the cells
+-- what was seen of a slot stands still where the slot's word is as before and FREE did not fall
+pub slot_still : (instance : Instance) (words words' : List ℕ) (seen : SeenSlot) →
+    slice_index words' (link_at instance.callers seen.slot) ≡ slice_index words (link_at instance.callers seen.slot) → slice_index words free_at ≤ slice_index words' free_at →
+    SeenStands instance words seen → SeenStands instance words' seen
+slot_still instance words words' seen same up old = record {
+  slot = old.slot;
+  later = λ some. subst (λ w. (w ≡ seen.word) ⊎ ((0 < w) × (link_ticket_of instance.callers seen.word < link_ticket_of instance.callers w))) (sym same) (old.later some);
+  stands = λ some live. same ∙ old.stands some (omega arith);
+}
+
+-- the same words of the links and the cells, where FREE did not fall
 pub cells_words : (instance : Instance) (history : List Entry) (words : List ℕ) (locals : List Local) (at v : ℕ) → Cells instance history words locals → Shape instance words locals →
-    at ≢ free_at → IsOff (link_at instance.callers 0) (4 + 10563 * instance.callers) at → Cells instance history (set words at v) locals
-cells_words instance history words locals at v cells shape not_free off =
+    slice_index words free_at ≤ slice_index (set words at v) free_at → IsOff (link_at instance.callers 0) (4 + 10563 * instance.callers) at → Cells instance history (set words at v) locals
+cells_words instance history words locals at v cells shape up off =
     let some = shape.some in
     let words' = set words at v in
-    let free : slice_index words' free_at ≡ slice_index words free_at = get_or-set_other words at 3 v 0 (λ e. not_free (sym e)) in
     let link : (slot : ℕ) → slot < cell_count instance.callers → slice_index words' (link_at instance.callers slot) ≡ slice_index words (link_at instance.callers slot) = λ slot below. (
     let apart : link_at instance.callers slot ≢ at = elim off [ inl a ↦ omega arith | inr b ↦ omega arith ] in
     get_or-set_other words at (link_at instance.callers slot) v 0 apart) in
     let off_cells : IsOff (cell_at instance.callers 0 0) (4 + 10563 * instance.callers) at = elim off [ inl a ↦ inl (omega arith) | inr b ↦ inr b ] in
     record {
       live = λ ticket entry linked live. (
-          let before : slice_index words free_at ≤ ticket = subst (λ f. f ≤ ticket) free live in
+          let before : slice_index words free_at ≤ ticket = omega arith in
           let slot : ticket % cell_count instance.callers < cell_count instance.callers = mod_below ticket (cell_count instance.callers) (omega arith) in
           held_still instance history history words words' locals locals (slice_index words free_at) ticket entry (λ _ _ _ _ names _. names) before (link _ slot) (λ _ s. s)
           (cells.live ticket entry linked before));
       shown = λ c x there j cell at_j. shown_off instance.callers words at v (16 * c + j) cell (cell_within instance words locals c x j cell shape there at_j) off_cells (cells.shown c x there j cell at_j);
-      seen = λ c x there seen is. (
-          let old = cells.seen c x there seen is in
-          record {
-            slot = old.slot;
-            stands = λ some_word live. link seen.slot old.slot ∙ old.stands some_word (subst (λ f. f ≤ link_ticket_of instance.callers seen.word) free live);
-          });
-      seen_offers = λ c x there seen is live word. cells.seen_offers c x there seen is (subst (λ f. f ≤ seen.ticket) free live) word;
+      seen = λ c x there seen is. (let old = cells.seen c x there seen is in slot_still instance words words' seen (link seen.slot old.slot) up old);
+      seen_offers = λ c x there seen is live word. cells.seen_offers c x there seen is (omega arith) word;
       offers = cells.offers;
     }
+
+-- a step on no word of links and cells, where FREE did not fall
+pub cells_up : (instance : Instance) (history : List Entry) (words : List ℕ) (locals : List Local) (at v caller : ℕ) (l l' : Local) →
+    Cells instance history words locals → Shape instance words locals → slice_get locals caller ≡ Some l → slice_index words free_at ≤ slice_index (set words at v) free_at →
+    IsOff (link_at instance.callers 0) (4 + 10563 * instance.callers) at → SameCells l l' → Cells instance history (set words at v) (set locals caller l')
+cells_up instance history words locals at v caller l l' cells shape there up off same =
+    let after = cells_words instance history words locals at v cells shape up off in
+    cells_local instance history (set words at v) locals caller l l' after there same.cells same.seen_offer
+    (λ seen is. after.seen caller l there seen (sym same.seen_slot ∙ is))
 
 -- the framing law: cells name FREE, the links, the cells, offers and sets, and of a local state the fields of SameCells
 pub cells_framed : (instance : Instance) (history : List Entry) (words : List ℕ) (locals : List Local) (at v caller : ℕ) (l l' : Local) →
@@ -110,6 +124,5 @@ pub cells_framed : (instance : Instance) (history : List Entry) (words : List �
     at ≢ free_at → IsOff (link_at instance.callers 0) (4 + 10563 * instance.callers) at → SameCells l l' →
     Cells instance history (set words at v) (set locals caller l')
 cells_framed instance history words locals at v caller l l' cells shape there not_free off same =
-    let after = cells_words instance history words locals at v cells shape not_free off in
-    cells_local instance history (set words at v) locals caller l l' after there same.cells same.seen_offer
-    (λ seen is. after.seen caller l there seen (sym same.seen_slot ∙ is))
+    let free : slice_index (set words at v) free_at ≡ slice_index words free_at = get_or-set_other words at 3 v 0 (λ e. not_free (sym e)) in
+    cells_up instance history words locals at v caller l l' cells shape there (omega arith) off same

@@ -13,7 +13,7 @@ use Rattle.cx_core.specs.declared.local.SeenSlot.{SeenSlot}
 use Rattle.cx_core.specs.QueueEvents.{IsIdle, ShowsOpen, cell_of, entry_in, linked, seen_word}
 use Rattle.cx_core.specs.History.{full_image}
 use Rattle.cx_core.specs.Layout.{cell_count, free_at, link_at, cell_at}
-use Rattle.cx_core.specs.Lawful.{Cells, IsLive, Links, NamesCell, Shape}
+use Rattle.cx_core.specs.Lawful.{Cells, IsLive, Links, NamesCell, SeenStands, Shape}
 use Rattle.cx_core.specs.Lawful.LinkWord.{Never, Names}
 use Rattle.cx_core.specs.Merge.{IsLinked}
 use Rattle.cx_core.specs.State.{Instance}
@@ -21,10 +21,10 @@ use Rattle.cx_core.specs.WriteSet.{IsWriteSet, IsWriteSetOf}
 use Rattle.cx_core.proofs.HistoryLemmas.{full_stays, linked_grows}
 use Rattle.cx_core.proofs.ListLemmas.{slice_get-set_same}
 use Rattle.cx_core.specs.Frames.{IsOff}
-use Rattle.core_queue.proofs.CellLaws.{cell_within, held_still, shown_off}
+use Rattle.core_queue.proofs.CellLaws.{cell_within, held_still, shown_off, slot_still}
 use Rattle.core_queue.proofs.CellNames.{idle_is_dead}
 use Rattle.core_queue.proofs.CellPuts.{Puts, cells_put, keeps_put}
-use Rattle.core_queue.proofs.LinkLaws.{code_ticket, shown_open}
+use Rattle.core_queue.proofs.LinkLaws.{code_ticket, shown_open, word_within}
 use Rattle.cx_core.proofs.Locals.{linked_below, linked_then, linked_within}
 use Rattle.core_queue.proofs.Pigeonhole.{pigeonhole}
 use Rattle.core_queue.proofs.Shapes.{cell_there}
@@ -63,7 +63,7 @@ named_once instance words locals t u k shape a b =
     same_Some t u (sym a.names.named ∙ ap (λ (x : Cell). x.ticket) cell ∙ b.names.named)
 
 -- an idle cell is not taken by a live ticket
-idle_not_taken : (instance : Instance) (words : List ℕ) (locals : List Local) (caller : ℕ) (l : Local) (j free ticket : ℕ) → Shape instance words locals →
+pub idle_not_taken : (instance : Instance) (words : List ℕ) (locals : List Local) (caller : ℕ) (l : Local) (j free ticket : ℕ) → Shape instance words locals →
     slice_get locals caller ≡ Some l → j < 16 → IsIdle l j → l.seen_free ≤ free → free ≤ ticket → Taken locals ticket (16 * caller + j) → ⊥
 idle_not_taken instance words locals caller l j free ticket shape at small idle behind live a =
     let a_small = names_small instance words locals a.d a.j ticket a.cell shape a.names in
@@ -120,7 +120,7 @@ round_not_live instance history words locals caller l j ticket w from live round
     ])
 
 -- no live ticket has the slot of the front
-slot_free : (instance : Instance) (history : List Entry) (words : List ℕ) (locals : List Local) (caller : ℕ) (l : Local) (j ticket : ℕ) (entry : Entry) → Wins instance history words locals caller l j →
+pub slot_free : (instance : Instance) (history : List Entry) (words : List ℕ) (locals : List Local) (caller : ℕ) (l : Local) (j ticket : ℕ) (entry : Entry) → Wins instance history words locals caller l j →
     IsLinked instance.base.place history ticket entry → slice_index words free_at ≤ ticket → ticket % cell_count instance.callers ≡ l.front % cell_count instance.callers → ⊥
 slot_free instance history words locals caller l j ticket entry w linked live slot =
     let held = w.cells.live ticket entry linked live in
@@ -158,6 +158,18 @@ seen_elsewhere instance history words locals caller l j w seen some_word live st
           slot_free instance history words locals caller l j ticket entry w greatest.linked (subst (λ t. slice_index words free_at ≤ t) is_ticket live) (greatest.at ∙ same))
     ]
 
+-- what was seen in the slot of the front has a ticket before it
+seen_before : (instance : Instance) (history : List Entry) (words : List ℕ) (locals : List Local) (caller : ℕ) (l : Local) (j : ℕ) → Wins instance history words locals caller l j →
+    (seen : SeenSlot) → SeenStands instance words seen → 0 < seen.word → link_ticket_of instance.callers seen.word < l.front
+seen_before instance history words locals caller l j w seen stands some =
+    let word = slice_index words (link_at instance.callers seen.slot) in
+    let within = word_within instance history seen.slot word w.callers (w.links.each seen.slot stands.slot) in
+    let end = w.end in
+    elim (stands.later some) [
+      | inl same ↦ (let here = within (omega arith) in let ticket = ap (link_ticket_of instance.callers) same in omega arith)
+      | inr after ↦ (let here = within after.0 in omega (arith, after.1))
+    ]
+
 -- the part on cells after the link
 pub cells_linked : (instance : Instance) (history : List Entry) (words : List ℕ) (locals : List Local) (caller : ℕ) (l : Local) (j : ℕ) → Wins instance history words locals caller l j →
     Cells instance (history ++ entry_in l j ∷ [])
@@ -178,6 +190,7 @@ cells_linked instance history words locals caller l j w =
     let slot_small : slot < q = mod_below l.front q (omega arith) in
     let inside : place < length words = omega (arith, w.shape.long) in
     let free_apart : 3 ≢ place = omega arith in
+    let mine : 16 * l.number + j < 16 * instance.callers = subst (λ n. 16 * n + j < 16 * instance.callers) (sym local_shape.number) (cell_within instance words locals caller l j old w.shape w.at there) in
     let p : Puts instance words words' locals caller l (linked l j) j old (record old { ticket = Some l.front }) = record {
       at = w.at;
       there = there;
@@ -228,13 +241,17 @@ cells_linked instance history words locals caller l j w =
     ])
     (λ m cell ne within s. shown_off instance.callers words place code m cell within off s)
     (record { entry = here.entry; pairs = here.pairs; offer = here.offer })
-    (λ seen stands. record {
-      slot = stands.slot;
-      stands = λ some_word live. (
-          let before : slice_index words free_at ≤ link_ticket_of instance.callers seen.word = subst (λ f. f ≤ link_ticket_of instance.callers seen.word) p.free live in
-          let still = stands.stands some_word before in
-          elim (cases_eq seen.slot slot) [
-            | inl same ↦ absurd (seen_elsewhere instance history words locals caller l j w seen some_word before still same)
-            | inr ne ↦ link seen.slot ne ∙ still
-          ]);
-    })
+    (λ seen stands. elim (cases_eq seen.slot slot) [
+      | inl same ↦ (
+          let put : slice_index words' (link_at instance.callers seen.slot) ≡ code = ap (λ s. slice_index words' (link_at instance.callers s)) same ∙ get_or-set_same words place code 0 inside in
+          record {
+            slot = stands.slot;
+            later = λ some_word. inr (subst (λ c. (0 < c) × (link_ticket_of instance.callers seen.word < link_ticket_of instance.callers c)) (sym put) (
+                let ticket = code_ticket instance.callers l.front (16 * l.number + j) (omega (arith, mine)) in
+                (omega arith, omega (arith, ticket, seen_before instance history words locals caller l j w seen stands some_word))));
+            stands = λ some_word live. (
+                let before : slice_index words free_at ≤ link_ticket_of instance.callers seen.word = subst (λ f. f ≤ link_ticket_of instance.callers seen.word) p.free live in
+                absurd (seen_elsewhere instance history words locals caller l j w seen some_word before (stands.stands some_word before) same));
+          })
+      | inr ne ↦ (let free = p.free in slot_still instance words words' seen (link seen.slot ne) (omega arith) stands)
+    ])

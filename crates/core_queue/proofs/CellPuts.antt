@@ -5,7 +5,6 @@ use Rattle.std.proofs.lemmas.List.{get_or-set_other, get_or-set_same}
 use Rattle.std.proofs.lemmas.Nat.{mod_below}
 use Rattle.std.proofs.lemmas.Option.{slice_get_within}
 use Rattle.std.specs.List.{slice_get}
-use Rattle.cx_base.specs.Codes.{link_ticket_of}
 use Rattle.cx_core.specs.declared.entry.Entry.{Entry}
 use Rattle.cx_core.specs.declared.local.Cell.{Cell}
 use Rattle.cx_core.specs.declared.local.Local.{Local}
@@ -15,7 +14,7 @@ use Rattle.cx_core.specs.Layout.{cell_count, free_at, link_at, cell_at, offer_at
 use Rattle.cx_core.specs.Lawful.{Cells, IsLive, IsShown, OfferStands, OffersLinked, SeenStands, Shape, ShowsCells, SlotStands}
 use Rattle.cx_core.specs.Merge.{IsLinked}
 use Rattle.cx_core.specs.State.{EachLocal, Instance}
-use Rattle.core_queue.proofs.CellLaws.{cell_within, held_still}
+use Rattle.core_queue.proofs.CellLaws.{cell_within, held_still, slot_still}
 use Rattle.core_queue.proofs.CellNames.{KeepsNames, names_put, offered_still}
 use Rattle.cx_core.proofs.Locals.{EachLocal-set, item_after}
 use Rattle.core_queue.proofs.Shapes.{cell_there}
@@ -184,7 +183,4 @@ cells_written instance history words locals caller l l' j i v shape cells at j_s
     held_still instance history history words words' locals (set locals caller l') (slice_index words free_at) ticket entry keeps live (link _ slot) (λ _ s. s) (cells.live ticket entry linked live)))
     (λ m cell ne within shown. shown_apart instance.callers words k i v m cell k_within i_small ne within shown)
     (shown_written instance.callers words k i v old k_within i_small long ((shape.each caller l at).each j old there).words (cells.shown caller l at j old there))
-    (λ seen old_seen. record {
-      slot = old_seen.slot;
-      stands = λ some_word live. link seen.slot old_seen.slot ∙ old_seen.stands some_word (subst (λ f. f ≤ link_ticket_of instance.callers seen.word) p.free live);
-    })
+    (λ seen old_seen. (let free = p.free in slot_still instance words words' seen (link seen.slot old_seen.slot) (omega arith) old_seen))

@@ -108,3 +108,46 @@ behind_free instance history words l l' old found fields =
       floor_cur = kept.floor_cur;
       won = kept.won;
     }
+
+-- a caller that found LOW
+pub behind_low : (instance : Instance) (history : List Entry) (words : List ℕ) (l l' : Local) → IsBehind instance history words l →
+    l'.seen_low ≡ max l.seen_low (slice_index words low_at) → SameFront l (record l' { seen_low = l.seen_low }) → IsBehind instance history words l'
+behind_low instance history words l l' old found fields =
+    let kept = behind_kept instance history history words words l (record l' { seen_low = l.seen_low }) old (omega arith) (record { dur = refl; low = refl; free = refl }) fields in
+    record {
+      from = kept.from;
+      to = kept.to;
+      floor = kept.floor;
+      cur = kept.cur;
+      free = kept.free;
+      low = rw found (omega (arith, old.low));
+      raised = kept.raised;
+      floor_dur = kept.floor_dur;
+      floor_cur = kept.floor_cur;
+      won = kept.won;
+    }
+
+-- a caller that is behind is so when LOW or FREE rises
+pub behind_up : (instance : Instance) (history : List Entry) (words words' : List ℕ) (l : Local) → IsBehind instance history words l →
+    slice_index words' dur_at ≡ slice_index words dur_at → slice_index words low_at ≤ slice_index words' low_at → slice_index words free_at ≤ slice_index words' free_at →
+    IsBehind instance history words' l
+behind_up instance history words words' l old dur low free = record {
+  from = old.from;
+  to = old.to;
+  floor = old.floor;
+  cur = old.cur;
+  free = omega (arith, old.free);
+  low = omega (arith, old.low);
+  raised = rw dur old.raised;
+  floor_dur = rw dur old.floor_dur;
+  floor_cur = old.floor_cur;
+  won = old.won;
+}
+
+-- all callers are behind after LOW or FREE rose and a local state was put that is
+pub fronts_up : (instance : Instance) (history : List Entry) (words words' : List ℕ) (locals : List Local) (caller : ℕ) (l l' : Local) → Fronts instance history words locals →
+    slice_get locals caller ≡ Some l → slice_index words' dur_at ≡ slice_index words dur_at → slice_index words low_at ≤ slice_index words' low_at →
+    slice_index words free_at ≤ slice_index words' free_at → IsBehind instance history words' l' → Fronts instance history words' (set locals caller l')
+fronts_up instance history words words' locals caller l l' fronts at dur low free here = record {
+  each = EachLocal-set locals caller l l' (λ _ x. IsBehind instance history words' x) at (λ d x there. behind_up instance history words words' x (fronts.each d x there) dur low free) here;
+}

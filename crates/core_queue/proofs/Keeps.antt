@@ -1,7 +1,7 @@
--- Each kind of step keeps the parts on tickets, links, cells and fronts.
-use Rattle.std.proofs.Common.{◌≡◌, ◌+◌, ◌-◌, ◌*◌, ◌%◌, ◌==◌, ◌<◌, ◌≤◌, inl, inr, ℕ, Bool, cond, List, [], ◌∷◌, ◌++◌, length, set, slice_index, refl, sym, subst, ◌∙◌, arith, Some, length-append}
+-- Each kind of step keeps the parts on tickets, links, cells, fronts and the ring.
+use Rattle.std.proofs.Common.{◌≡◌, ◌+◌, ◌-◌, ◌*◌, ◌%◌, ◌==◌, ◌<◌, ◌≤◌, inl, inr, ℕ, Bool, cond, List, [], ◌∷◌, ◌++◌, length, set, slice_index, refl, sym, subst, arith, Some, length-append}
 use Rattle.std.proofs.lemmas.Bool.{cases_Bool, eqb-true}
-use Rattle.std.proofs.lemmas.List.{append-nil, set-get_or, length-set}
+use Rattle.std.proofs.lemmas.List.{append-nil}
 use Rattle.std.proofs.lemmas.Nat.{mod_below}
 use Rattle.std.proofs.lemmas.Option.{same_Some}
 use Rattle.std.specs.List.{slice_get}
@@ -9,29 +9,29 @@ use Rattle.cx_base.specs.Codes.{link_code_of}
 use Rattle.cx_core.specs.declared.entry.Entry.{Entry}
 use Rattle.cx_core.specs.declared.kinds.Event.{Event}
 use Rattle.cx_core.specs.declared.kinds.Kind.{Kind}
-use Rattle.cx_core.specs.declared.kinds.Kind.TheVariants.{WriteCell, Link, Look, ReadCell, LoadFree, TryExclusive, TryShared, BackOff, Downgrade, ReleaseExclusive, LoadWord, StoreWord, Persist, LoadCur, Publish, Raise, Retire}
+use Rattle.cx_core.specs.declared.kinds.Kind.TheVariants.{WriteCell, Link, Look, ReadCell, LoadFree, TryExclusive, TryShared, BackOff, Downgrade, ReleaseExclusive, LoadWord, StoreWord, Persist, LoadCur, Publish, Raise, Retire, Protect, Confirm, Unprotect, CloseLow, Scan, OpenFree}
 use Rattle.cx_core.specs.declared.local.Local.{Local}
 use Rattle.cx_core.specs.declared.local.SeenSlot.{SeenSlot}
 use Rattle.cx_core.specs.Events.{Guard, Makes, local_after, step_word, words_after}
 use Rattle.cx_core.specs.QueueEvents.{CanLink, entry_in, linked, lost, raised_front, seen_word}
 use Rattle.cx_core.specs.Layout.{cell_count, free_at, link_at, cell_at}
-use Rattle.cx_core.specs.Lawful.{IsBehind, LocalShape, SeenStands, SlotStands}
+use Rattle.cx_core.specs.Lawful.{IsBehind, SeenStands}
 use Rattle.cx_core.specs.LawfulRoot.{RootBounds}
 use Rattle.cx_core.specs.Merge.{IsLinked, scene_of}
 use Rattle.cx_core.specs.Rights.{is_at, shared_on}
 use Rattle.cx_core.specs.State.{Instance, Scene, State}
-use Rattle.core_queue.specs.Frames.{OffQueue, SameFront, SameQueue, SameTickets}
+use Rattle.core_queue.specs.Frames.{OffQueue, SameFront, SameQueue}
 use Rattle.core_queue.specs.Queue.{QueueContinues, QueueLawful}
-use Rattle.core_queue.proofs.CellLaws.{cells_local}
 use Rattle.core_queue.proofs.CellLinks.{Wins, cells_linked}
 use Rattle.core_queue.proofs.CellPuts.{cells_written}
 use Rattle.core_queue.proofs.FrontLaws.{behind_free, behind_kept, behind_raised, fronts_framed, fronts_put, same_words}
 use Rattle.core_queue.proofs.LinkLaws.{links_framed, links_linked, raised_within, won_at_end}
-use Rattle.cx_core.proofs.Locals.{EachLocal-set}
-use Rattle.core_queue.proofs.QueueFrames.{off_lock, off_region, queue_put, same_but}
+use Rattle.core_queue.proofs.QueueFrames.{off_lock, off_region, queue_loaded, queue_put, same_but}
+use Rattle.core_queue.proofs.RingKinds.{close_low_kept, confirm_kept, open_free_kept, protect_kept, scan_kept, unprotect_kept}
+use Rattle.core_queue.proofs.RingLaws.{ring_framed, ring_local}
 use Rattle.core_queue.proofs.RootKinds.{load_cur_kept, publish_kept, raise_kept, retire_kept}
 use Rattle.cx_core.proofs.Putting.{either}
-use Rattle.core_queue.proofs.Shapes.{cell_there, shape_kept, shape_linked, shape_same, shape_written}
+use Rattle.core_queue.proofs.Shapes.{cell_there, shape_kept, shape_linked, shape_written}
 use Rattle.core_queue.proofs.TicketLaws.{tickets_framed, tickets_linked}
 
 -- with the history as it was
@@ -45,24 +45,6 @@ module _ (instance : Instance) (history : List Entry) (words : List ℕ) (locals
       subst (λ n. entry.caller < n) law.shape.count (law.tickets.merged.of_callers (ticket - instance.base.place) entry is_linked.at)
 
   module _ (caller : ℕ) (l : Local) (at : slice_get locals caller ≡ Some l) where
-    -- a load, which links nothing
-    load_kept : (place : ℕ) (l' : Local) → l'.number ≡ l.number → SameTickets l l' → l'.cells ≡ l.cells → l'.seen_offer ≡ l.seen_offer →
-        SlotStands instance words l' → IsBehind instance history words l' → QueueLawful instance history (set words place (slice_index words place)) (set locals caller l')
-    load_kept place l' number tickets cells offer stands behind =
-        subst (λ ws. QueueLawful instance history ws (set locals caller l')) (sym (set-get_or words place 0)) (record {
-          shape = record {
-            some = law.shape.some;
-            few = law.shape.few;
-            long = law.shape.long;
-            count = length-set locals caller l' ∙ law.shape.count;
-            each = EachLocal-set locals caller l l' LocalShape at law.shape.each (shape_same caller l l' (law.shape.each caller l at) number cells);
-          };
-          tickets = tickets_framed instance history locals caller l l' law.tickets at tickets.own tickets.answered;
-          links = law.links;
-          cells = cells_local instance history words locals caller l l' law.cells at cells offer stands;
-          fronts = fronts_put instance history history words words locals caller l l' law.fronts at (omega arith) (record { dur = refl; low = refl; free = refl }) behind;
-        })
-
     -- the front of a caller that found a link word
     behind_found : (l' : Local) (slot : ℕ) → slot < cell_count instance.callers →
         l'.front ≡ raised_front instance.callers l.front (slice_index words (link_at instance.callers slot)) → SameFront l (record l' { front = l.front }) → IsBehind instance history words l'
@@ -72,6 +54,28 @@ module _ (instance : Instance) (history : List Entry) (words : List ℕ) (locals
         let rises = raised_within instance history l.front slot word linked_callers old.to (law.links.each slot below) in
         behind_raised instance history history words words l l' old (omega arith) (record { dur = refl; low = refl; free = refl })
         (omega (arith, front, rises.0)) (omega (arith, front, rises.1)) fields
+
+    -- a link that wins is at the end of the history, with an idle cell
+    pub link_wins : (j : ℕ) → CanLink instance.callers instance.base l j →
+        slice_index words (link_at instance.callers (l.front % cell_count instance.callers)) ≡ seen_word l.seen_slot → Wins instance history words locals caller l j
+    link_wins j guard found =
+        let some = law.shape.some in
+        let old = law.fronts.each caller l at in
+        let q = cell_count instance.callers in
+        let slot_small : l.front % q < q = mod_below l.front q (omega arith) in
+        record {
+          shape = law.shape;
+          links = law.links;
+          cells = law.cells;
+          callers = linked_callers;
+          at = at;
+          small = guard.0;
+          idle = guard.1;
+          behind = old.free;
+          end = won_at_end instance history l.front (slice_index words (link_at instance.callers (l.front % q))) l.seen_slot linked_callers some old.from old.to guard.4 found (law.links.each (l.front % q) slot_small);
+          open_ = guard.4;
+          found = found;
+        }
 
     -- a link that won: the entry is linked at the end of the history
     link_won : (j : ℕ) → CanLink instance.callers instance.base l j →
@@ -83,27 +87,13 @@ module _ (instance : Instance) (history : List Entry) (words : List ℕ) (locals
         let shape = law.shape.each caller l at in
         let old = law.fronts.each caller l at in
         let q = cell_count instance.callers in
-        let slot = l.front % q in
-        let slot_small : slot < q = mod_below l.front q (omega arith) in
-        let place = link_at instance.callers slot in
+        let place = link_at instance.callers (l.front % q) in
         let code = link_code_of instance.callers l.front (16 * l.number + j) in
-        let end = won_at_end instance history l.front (slice_index words place) l.seen_slot linked_callers some old.from old.to guard.4 found (law.links.each slot slot_small) in
+        let wins = link_wins j guard found in
+        let end = wins.end in
         let entry = entry_in l j in
         let far : 4 ≤ place = omega arith in
         let long : link_at instance.callers q ≤ length words = omega (arith, law.shape.long) in
-        let wins : Wins instance history words locals caller l j = record {
-          shape = law.shape;
-          links = law.links;
-          cells = law.cells;
-          callers = linked_callers;
-          at = at;
-          small = guard.0;
-          idle = guard.1;
-          behind = old.free;
-          end = end;
-          open_ = guard.4;
-          found = found;
-        } in
         let longer : length history + 1 ≡ length (history ++ entry ∷ []) = sym (length-append history (entry ∷ [])) in
         record {
           after = history ++ entry ∷ [];
@@ -113,6 +103,7 @@ module _ (instance : Instance) (history : List Entry) (words : List ℕ) (locals
             tickets = tickets_linked instance history locals caller l j law.tickets at shape.number (shape.each j _ (cell_there caller l j shape guard.0)) guard end;
             links = links_linked instance history words entry l.front j law.links some long end guard.0;
             cells = cells_linked instance history words locals caller l j wins;
+            ring = ring_framed instance words locals place code caller l (linked l j) law.shape law.ring at (inr (omega arith)) (record { protection = refl; scan = refl });
             fronts = fronts_put instance history (history ++ entry ∷ []) words (set words place code) locals caller l (linked l j) law.fronts at (omega (arith, longer)) (same_words words place code (inl far))
                 (behind_raised instance history (history ++ entry ∷ []) words (set words place code) l (linked l j) old (omega (arith, longer)) (same_words words place code (inl far))
                 (omega arith) (omega (arith, longer, end))
@@ -129,9 +120,10 @@ module _ (instance : Instance) (history : List Entry) (words : List ℕ) (locals
         let slot_small : l.front % q < q = mod_below l.front q (omega arith) in
         let place = link_at instance.callers (l.front % q) in
         let l' = lost instance.callers l (slice_index words place) in
-        load_kept place l' refl (record { own = refl; answered = refl }) refl refl (law.cells.seen caller l at)
+        queue_loaded instance history words locals place caller l l' law at refl (record { own = refl; answered = refl }) refl refl (law.cells.seen caller l at)
         (behind_found l' (l.front % q) slot_small refl
         (record { front = refl; floor = refl; seen_cur = refl; seen_free = refl; seen_low = refl; raised = refl; won = refl }))
+        (ring_local instance words locals caller l l' law.shape law.ring at (record { protection = refl; scan = refl }))
 
 -- what each kind has to meet
 module _ (instance : Instance) (history : List Entry) (scene : Scene) (locals : List Local) (caller : ℕ) (l : Local) (law : QueueLawful instance history scene.words locals) (at : slice_get locals caller ≡ Some l) where
@@ -153,6 +145,7 @@ module _ (instance : Instance) (history : List Entry) (scene : Scene) (locals : 
         cells = cells_written instance history words locals caller l l' j i v law.shape law.cells at j_small guard.1 guard.2 (law.fronts.each caller l at).free refl refl refl;
         fronts = fronts_framed instance history words locals place v caller l l' law.fronts at (inl (omega arith))
             (record { front = refl; floor = refl; seen_cur = refl; seen_free = refl; seen_low = refl; raised = refl; won = refl });
+        ring = ring_framed instance words locals place v caller l l' law.shape law.ring at (inr (omega arith)) (record { protection = refl; scan = refl });
       }))
 
   link_kept : (j : ℕ) → Guard instance scene (Link j) l → After (Link j)
@@ -172,24 +165,27 @@ module _ (instance : Instance) (history : List Entry) (scene : Scene) (locals : 
       let l' = local_after instance scene (Look slot) l in
       let place = link_at instance.callers slot in
       let now : SeenSlot = record { slot = slot; word = slice_index scene.words place } in
-      same_history (load_kept instance history scene.words locals law caller l at place l' refl (record { own = refl; answered = refl }) refl refl
-      (λ seen is. subst (SeenStands instance scene.words) (same_Some now seen is) (record { slot = guard; stands = λ _ _. refl }))
+      same_history (queue_loaded instance history scene.words locals place caller l l' law at refl (record { own = refl; answered = refl }) refl refl
+      (λ seen is. subst (SeenStands instance scene.words) (same_Some now seen is) (record { slot = guard; later = λ _. inl refl; stands = λ _ _. refl }))
       (behind_found instance history scene.words locals law caller l at l' slot guard refl
-      (record { front = refl; floor = refl; seen_cur = refl; seen_free = refl; seen_low = refl; raised = refl; won = refl })))
+      (record { front = refl; floor = refl; seen_cur = refl; seen_free = refl; seen_low = refl; raised = refl; won = refl }))
+      (ring_local instance scene.words locals caller l l' law.shape law.ring at (record { protection = refl; scan = refl })))
 
   read_cell_kept : (t k i : ℕ) → After (ReadCell t k i)
   read_cell_kept t k i =
       let l' = local_after instance scene (ReadCell t k i) l in
-      same_history (load_kept instance history scene.words locals law caller l at (cell_at instance.callers k i) l' refl (record { own = refl; answered = refl }) refl refl (law.cells.seen caller l at)
+      same_history (queue_loaded instance history scene.words locals (cell_at instance.callers k i) caller l l' law at refl (record { own = refl; answered = refl }) refl refl (law.cells.seen caller l at)
       (behind_kept instance history history scene.words scene.words l l' (law.fronts.each caller l at) (omega arith) (record { dur = refl; low = refl; free = refl })
-      (record { front = refl; floor = refl; seen_cur = refl; seen_free = refl; seen_low = refl; raised = refl; won = refl })))
+      (record { front = refl; floor = refl; seen_cur = refl; seen_free = refl; seen_low = refl; raised = refl; won = refl }))
+      (ring_local instance scene.words locals caller l l' law.shape law.ring at (record { protection = refl; scan = refl })))
 
   load_free_kept : After LoadFree
   load_free_kept =
       let l' = local_after instance scene LoadFree l in
-      same_history (load_kept instance history scene.words locals law caller l at free_at l' refl (record { own = refl; answered = refl }) refl refl (law.cells.seen caller l at)
+      same_history (queue_loaded instance history scene.words locals free_at caller l l' law at refl (record { own = refl; answered = refl }) refl refl (law.cells.seen caller l at)
       (behind_free instance history scene.words l l' (law.fronts.each caller l at) refl
-      (record { front = refl; floor = refl; seen_cur = refl; seen_free = refl; seen_low = refl; raised = refl; won = refl })))
+      (record { front = refl; floor = refl; seen_cur = refl; seen_free = refl; seen_low = refl; raised = refl; won = refl }))
+      (ring_local instance scene.words locals caller l l' law.shape law.ring at (record { protection = refl; scan = refl })))
 
   -- a step on locks or on the words of replicas
   apart_kept : (kind : Kind) → OffQueue instance (step_word instance kind l) → SameQueue l (local_after instance scene kind l) → After kind
@@ -226,6 +222,12 @@ queue_kept instance history scene locals caller l LoadCur law bounds at guard = 
 queue_kept instance history scene locals caller l Publish law bounds at guard = same_history (publish_kept instance history scene locals caller l law bounds at guard)
 queue_kept instance history scene locals caller l (Raise code read) law bounds at guard = same_history (raise_kept instance history scene locals caller l law bounds at code read guard)
 queue_kept instance history scene locals caller l Retire law bounds at guard = same_history (retire_kept instance history scene locals caller l law bounds at)
+queue_kept instance history scene locals caller l (Protect p) law bounds at guard = same_history (protect_kept instance history scene locals caller l law bounds at p)
+queue_kept instance history scene locals caller l Confirm law bounds at guard = same_history (confirm_kept instance history scene locals caller l law bounds at)
+queue_kept instance history scene locals caller l Unprotect law bounds at guard = same_history (unprotect_kept instance history scene locals caller l law bounds at)
+queue_kept instance history scene locals caller l (CloseLow target) law bounds at guard = same_history (close_low_kept instance history scene locals caller l law bounds at target guard)
+queue_kept instance history scene locals caller l (Scan d) law bounds at guard = same_history (scan_kept instance history scene locals caller l law bounds at d guard)
+queue_kept instance history scene locals caller l OpenFree law bounds at guard = same_history (open_free_kept instance history scene locals caller l law bounds at guard)
 
 -- an event
 pub queue_event_kept : (instance : Instance) (history : List Entry) (event : Event) (before after : State) → QueueLawful instance history before.words before.locals →

@@ -10,7 +10,10 @@ pub mod LiveLaws
 pub mod Opening
 pub mod Pigeonhole
 pub mod QueueFrames
+pub mod RingKinds
+pub mod RingLaws
 pub mod RootFronts
 pub mod RootKinds
 pub mod Shapes
+pub mod StayLaws
 pub mod TicketLaws

@@ -116,6 +116,17 @@ won_at_end instance history front word seen callers some from to open_ same (Nam
       | inr past ↦ omega arith
     ]
 
+-- the ticket in a link word that is not 0 is below the end
+pub word_within : (instance : Instance) (history : List Entry) (slot word : ℕ) → ((ticket : ℕ) (entry : Entry) → IsLinked instance.base.place history ticket entry → entry.caller < instance.callers) →
+    LinkWord instance history slot word → 0 < word → link_ticket_of instance.callers word < instance.base.place + length history
+word_within instance history slot word callers (Never none zero) some = absurd (omega arith)
+word_within instance history slot word callers (Names ticket entry j greatest below is) some =
+    let caller : entry.caller < instance.callers = callers ticket entry greatest.linked in
+    let k : 16 * entry.caller + j < 16 * instance.callers = omega arith in
+    let is_ticket : link_ticket_of instance.callers word ≡ ticket = ap (link_ticket_of instance.callers) is ∙ code_ticket instance.callers ticket _ k in
+    let linked = linked_within instance.base.place history ticket entry greatest.linked in
+    omega (arith, is_ticket, linked)
+
 -- a front raised by a link word is not past the end
 pub raised_within : (instance : Instance) (history : List Entry) (front slot word : ℕ) →
     ((ticket : ℕ) (entry : Entry) → IsLinked instance.base.place history ticket entry → entry.caller < instance.callers) →

@@ -1,5 +1,5 @@
 -- What a live ticket's cell gives: its entry, and no other live ticket.
-use Rattle.std.proofs.Common.{◌≡◌, ◌+◌, ◌-◌, ◌*◌, ◌%◌, ◌<◌, ◌≤◌, inl, inr, ℕ, ◌∷◌, slice_index, refl, ap, sym, subst, ◌∙◌, arith, Option, Some, None}
+use Rattle.std.proofs.Common.{◌≡◌, ◌+◌, ◌-◌, ◌*◌, ◌%◌, ◌<◌, ◌≤◌, inl, inr, ℕ, List, ◌∷◌, slice_index, refl, ap, sym, subst, ◌∙◌, arith, Option, Some, None}
 use Rattle.std.proofs.lemmas.Bool.{cases_lt}
 use Rattle.std.proofs.lemmas.Nat.{mod-mul-add}
 use Rattle.std.specs.List.{slice_get}
@@ -19,6 +19,7 @@ use Rattle.core_queue.proofs.Keeps.{linked_callers}
 use Rattle.core_queue.proofs.QueueFrames.{queue_of}
 use Rattle.core_queue.proofs.Pigeonhole.{pigeonhole}
 use Rattle.core_queue.specs.Live.{HasLive, named_cell}
+use Rattle.core_queue.specs.Queue.{QueueLawful}
 
 -- a link code gives its cell back
 code_cell : (callers ticket k : ℕ) → k < 16 * callers → link_cell_of callers (link_code_of callers ticket k) ≡ k
@@ -28,13 +29,14 @@ code_cell callers ticket k below =
     ap (λ n. n % w) one_off ∙ mod-mul-add ticket w k below
 
 -- the cell that the link slot of a live ticket names
-held_cell : (instance : Instance) (s : State) (law : Lawful instance s) (ticket : ℕ) (entry : Entry) → IsLinked instance.base.place law.history ticket entry →
-    (held : IsLive instance law.history s.words s.locals ticket entry) → named_cell instance s ticket ≡ 16 * entry.caller + held.j
-held_cell instance s law ticket entry linked held =
+pub held_cell : (instance : Instance) (s : State) (history : List Entry) (law : QueueLawful instance history s.words s.locals) (ticket : ℕ) (entry : Entry) →
+    IsLinked instance.base.place history ticket entry → (held : IsLive instance history s.words s.locals ticket entry) →
+    (named_cell instance s ticket ≡ 16 * entry.caller + held.j) × (16 * entry.caller + held.j < 16 * instance.callers)
+held_cell instance s history law ticket entry linked held =
     let small = names_small instance s.words s.locals entry.caller held.j ticket held.cell law.shape held.names in
-    let by = linked_callers instance law.history s.words s.locals (queue_of law) ticket entry linked in
+    let by = linked_callers instance history s.words s.locals law ticket entry linked in
     let within : 16 * entry.caller + held.j < 16 * instance.callers = omega (arith, small, by) in
-    ap (link_cell_of instance.callers) held.link ∙ code_cell instance.callers ticket (16 * entry.caller + held.j) within
+    (ap (link_cell_of instance.callers) held.link ∙ code_cell instance.callers ticket (16 * entry.caller + held.j) within, within)
 
 -- two live tickets with the same cell are one
 pub live_apart : (instance : Instance) (s : State) (law : Lawful instance s) (t u : ℕ) (e f : Entry) → IsLinked instance.base.place law.history t e → IsLinked instance.base.place law.history u f →
@@ -44,7 +46,7 @@ live_apart instance s law t u e f t_linked u_linked t_live u_live same =
     let b = law.cells.live u f u_linked u_live in
     let k = 16 * e.caller + a.j in
     let one : Taken s.locals t k = record { d = e.caller; j = a.j; cell = a.cell; names = a.names; is = refl {a = 16 * e.caller + a.j} } in
-    let two : Taken s.locals u k = record { d = f.caller; j = b.j; cell = b.cell; names = b.names; is = sym (held_cell instance s law t e t_linked a) ∙ same ∙ held_cell instance s law u f u_linked b } in
+    let two : Taken s.locals u k = record { d = f.caller; j = b.j; cell = b.cell; names = b.names; is = sym (held_cell instance s law.history (queue_of law) t e t_linked a).0 ∙ same ∙ (held_cell instance s law.history (queue_of law) u f u_linked b).0 } in
     named_once instance s.words s.locals t u k law.shape one two
 
 -- a live ticket of a caller takes one of the caller's cells
@@ -87,6 +89,6 @@ read_gives instance s law caller l t k i at guard live e linked =
     let still : slice_index s.words (link_at instance.callers x.slot) ≡ x.word = seen.stands shows.1 (subst (λ u. slice_index s.words free_at ≤ u) (sym shows.2) live) in
     let held = law.cells.live t e linked live in
     let slot : slice_index s.words (link_at instance.callers (t % cell_count instance.callers)) ≡ x.word = ap (λ n. slice_index s.words (link_at instance.callers n)) (sym shows.0) ∙ still in
-    let is : k ≡ 16 * e.caller + held.j = sym shows.3 ∙ ap (link_cell_of instance.callers) (sym slot) ∙ held_cell instance s law t e linked held in
+    let is : k ≡ 16 * e.caller + held.j = sym shows.3 ∙ ap (link_cell_of instance.callers) (sym slot) ∙ (held_cell instance s law.history (queue_of law) t e linked held).0 in
     let there = law.cells.shown e.caller held.names.local held.names.of_caller held.j held.cell held.names.at in
     ap (λ n. slice_index s.words (cell_at instance.callers n i)) is ∙ there.entry i guard.1 ∙ ap (λ ws. slice_index ws i) held.holds

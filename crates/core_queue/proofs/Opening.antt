@@ -1,4 +1,4 @@
--- The opening state meets the parts on tickets, links, cells and fronts.
+-- The opening state meets the parts on tickets, links, cells, fronts and the ring.
 use Rattle.std.proofs.Common.{◌≡◌, ◌+◌, ◌-◌, ◌*◌, ◌^◌, ◌<◌, ◌≤◌, ℕ, List, [], ◌∷◌, ◌++◌, length, replicate, slice_index, refl, ap, sym, subst, ◌∙◌, arith, Some, length-append}
 use Rattle.std.proofs.lemmas.List.{get_or_append_left, get_or-append_right, get_or-replicate, length-replicate}
 use Rattle.std.proofs.lemmas.List.Elements.{All-replicate}
@@ -9,9 +9,10 @@ use Rattle.cx_core.specs.declared.entry.Base.{Base}
 use Rattle.cx_core.specs.declared.entry.Entry.{Entry}
 use Rattle.cx_core.specs.declared.local.Cell.{Cell}
 use Rattle.cx_core.specs.declared.local.Local.{Local}
-use Rattle.cx_core.specs.Layout.{cell_at, dur_at, free_at, link_at, low_at, max_word, offer_at, set_at}
+use Rattle.cx_core.specs.Layout.{cell_at, cur_at, dur_at, free_at, link_at, low_at, max_word, need_at, offer_at, set_at}
 use Rattle.cx_core.specs.Lawful.{CellShape, IsShown, LocalShape}
 use Rattle.cx_core.specs.Lawful.LinkWord.{Never}
+use Rattle.cx_core.specs.LawfulRing.{InRing}
 use Rattle.cx_core.specs.Merge.{IsLinked}
 use Rattle.cx_core.specs.State.{Instance, blank_cell, copies, opening_code, opening_local, opening_locals, opening_words}
 use Rattle.cx_core.proofs.RootCodes.{code_place}
@@ -32,13 +33,39 @@ zeros callers base at some from to =
     ∙ get_or-append_right head middle (4 + 3 * callers) at 0 head_long from
     ∙ get_or-replicate {A = ℕ} (10560 * callers) (at - (4 + 3 * callers)) 0 0 in_middle
 
--- DUR, LOW and FREE
-roots : (callers : ℕ) (base : Base) →
-    (slice_index (opening_words callers base) dur_at ≡ opening_code callers base.place)
-    × (slice_index (opening_words callers base) low_at ≡ base.place)
-    × (slice_index (opening_words callers base) free_at ≡ base.place)
+-- no caller needs a ticket
+needs : (callers : ℕ) (base : Base) (caller : ℕ) → caller < callers → slice_index (opening_words callers base) (need_at caller) ≡ max_word
 unfolding opening_words
-roots callers base = (refl, refl, refl)
+needs callers base caller below =
+    let head : List ℕ = opening_code callers base.place ∷ opening_code callers base.place ∷ base.place ∷ base.place ∷ [] in
+    let middle : List ℕ = replicate callers max_word in
+    let pinned = head ++ middle ++ (1 ∷ []) in
+    let locks = pinned ++ replicate (2 * callers - 1) 0 in
+    let front = locks ++ replicate (10560 * callers) 0 in
+    let at = need_at caller in
+    let long : length (head ++ middle) ≡ 4 + callers = omega (arith, length-replicate {A = ℕ} callers max_word) in
+    let in_needs : at < length (head ++ middle) = omega arith in
+    let in_pinned : at < length pinned = omega (arith, length-append (head ++ middle) (1 ∷ [])) in
+    let in_locks : at < length locks = omega (arith, length-append pinned (replicate (2 * callers - 1) 0)) in
+    let in_front : at < length front = omega (arith, length-append locks (replicate (10560 * callers) 0)) in
+    let inside : at - 4 < callers = omega arith in
+    get_or_append_left front (copies (4 * callers) base.words) 0 at in_front
+    ∙ get_or_append_left locks (replicate (10560 * callers) 0) 0 at in_locks
+    ∙ get_or_append_left pinned (replicate (2 * callers - 1) 0) 0 at in_pinned
+    ∙ get_or_append_left (head ++ middle) (1 ∷ []) 0 at in_needs
+    ∙ get_or-append_right head middle 4 at 0 refl (omega arith)
+    ∙ get_or-replicate {A = ℕ} callers (at - 4) max_word 0 inside
+
+-- CUR, DUR, LOW and FREE
+record Roots (callers : ℕ) (base : Base) : Type 0 where
+  cur : slice_index (opening_words callers base) cur_at ≡ opening_code callers base.place
+  dur : slice_index (opening_words callers base) dur_at ≡ opening_code callers base.place
+  low : slice_index (opening_words callers base) low_at ≡ base.place
+  free : slice_index (opening_words callers base) free_at ≡ base.place
+
+roots : (callers : ℕ) (base : Base) → Roots callers base
+unfolding opening_words
+roots callers base = record { cur = refl; dur = refl; low = refl; free = refl }
 
 nothing_linked : (place ticket : ℕ) (entry : Entry) → IsLinked place [] ticket entry → ⊥
 nothing_linked place ticket entry linked = none-some entry linked.at
@@ -107,12 +134,21 @@ opening_lawful instance some few place_small =
               to = omega arith;
               floor = omega arith;
               cur = omega (arith, code);
-              free = omega (arith, r.2);
-              low = omega (arith, r.1);
-              raised = omega (arith, r.0);
-              floor_dur = rw r.0 (omega (arith, code));
+              free = omega (arith, r.free);
+              low = omega (arith, r.low);
+              raised = omega (arith, r.dur);
+              floor_dur = rw r.dur (omega (arith, code));
               floor_cur = omega (arith, code);
               won = λ won is. absurd (none-some won is);
             }));
+      };
+      ring = record {
+        closed = omega (arith, r.low, r.free);
+        current = rw (r.low, r.cur) (let code = code_place callers place 0 (omega (arith, some)) in omega arith);
+        each = own (InRing instance words (opening_locals callers place)) (λ c below. record {
+          need = needs callers base c below;
+          kept = λ p is. absurd (cc);
+          scan = λ s is. absurd (none-some s is);
+        });
       };
     }

@@ -1,6 +1,6 @@
--- The steps on the root keep the parts on tickets, links, cells and fronts.
+-- The steps on the root keep the parts on tickets, links, cells, fronts and the ring.
 use Rattle.std.proofs.Common.{◌≡◌, ◌+◌, ◌*◌, ◌==◌, ◌<◌, ◌≤◌, inl, inr, ℕ, max, Bool, cond, List, Option, length, set, slice_index, refl, ap, sym, subst, ◌∙◌, arith, Some, None}
-use Rattle.std.proofs.lemmas.Bool.{cases_Bool}
+use Rattle.std.proofs.lemmas.Bool.{cases_Bool, eqb-true}
 use Rattle.std.proofs.lemmas.Nat.{div-mul-add, mod_below}
 use Rattle.std.proofs.lemmas.Option.{same_Some}
 use Rattle.std.specs.List.{slice_get}
@@ -20,6 +20,7 @@ use Rattle.core_queue.specs.Frames.{SameQueue}
 use Rattle.core_queue.specs.Queue.{QueueLawful}
 use Rattle.core_queue.proofs.FrontLaws.{fronts_off}
 use Rattle.core_queue.proofs.QueueFrames.{off_cells, off_fronts, off_lock, queue_with, same_but}
+use Rattle.core_queue.proofs.RingLaws.{ring_current, ring_framed}
 use Rattle.core_queue.proofs.RootFronts.{behind_retired, behind_seen, code_above, floor_within, fronts_raised}
 use Rattle.core_queue.proofs.TicketLaws.{tickets_framed, tickets_raised}
 
@@ -36,21 +37,22 @@ module _ (instance : Instance) (history : List Entry) (scene : Scene) (locals : 
   abbrev Kept : Kind → Type 0
   Kept kind = QueueLawful instance history (words_after instance kind l scene.words) (set locals caller (local_after instance scene kind l))
 
-  -- a step that sees a code not below the one before, at a place that is not past the end
-  seen_kept : (v code : ℕ) (l' : Local) → l.seen_cur ≤ code → root_place_of instance.callers code ≤ instance.base.place + length history →
+  -- a step that sees a code not below the one before, at a place that is not past the end, and leaves CUR not below what it was
+  seen_kept : (v code : ℕ) (l' : Local) → slice_index scene.words cur_at ≤ v → l.seen_cur ≤ code → root_place_of instance.callers code ≤ instance.base.place + length history →
       l'.seen_cur ≡ code → l'.front ≡ max l.front (root_place_of instance.callers code) → ((won : WonCode) → l'.won ≡ Some won → won.code ≤ code) →
       SameQueue l (record l' { front = l.front; seen_cur = l.seen_cur; won = l.won }) → QueueLawful instance history (set scene.words cur_at v) (set locals caller l')
-  seen_kept v code l' up within seen front won same =
-      queue_with instance history scene.words locals cur_at v caller l l' law at (off_cells instance cur_at (inl refl)) same.number
+  seen_kept v code l' rises up within seen front won same =
+      queue_with instance history scene.words locals cur_at v caller l l' law at (omega arith, inl (omega arith)) same.number
       (record { cells = same.cells.cells; seen_slot = same.cells.seen_slot; seen_offer = same.cells.seen_offer })
       (tickets_framed instance history locals caller l l' law.tickets at same.tickets.own same.tickets.answered)
       (fronts_off instance history scene.words locals cur_at v caller l l' law.fronts at (inr refl)
       (behind_seen instance history scene.words l l' code law.shape.some (law.fronts.each caller l at) up within seen front won same.front))
+      (ring_current instance scene.words locals v caller l l' law.shape law.ring at rises (record { protection = same.ring.protection; scan = same.ring.scan }))
 
   pub load_cur_kept : Kept LoadCur
   load_cur_kept =
       let mine = bounds.each caller l at in
-      seen_kept _ (slice_index scene.words cur_at) _ mine.seen bounds.current refl refl mine.won (same_but l _ _ _ _ _ _ _ _ _)
+      seen_kept _ (slice_index scene.words cur_at) _ (omega arith) mine.seen bounds.current refl refl mine.won (same_but l _ _ _ _ _ _ _ _ _)
 
   pub publish_kept : Guard instance scene Publish l → Kept Publish
   publish_kept guard =
@@ -65,10 +67,11 @@ module _ (instance : Instance) (history : List Entry) (scene : Scene) (locals : 
             let is : code ≡ root_code_of instance.callers h.place h.replica = ap (code_in instance.callers) p.1 in
             let place : root_place_of instance.callers code ≡ h.place = ap (root_place_of instance.callers) is ∙ div-mul-add h.place (2 * instance.callers) h.replica (mine.replica h p.1) in
             let above = code_above instance.callers l.seen_cur h.place h.replica law.shape.some p.2 in
-            seen_kept code code (published instance.callers l) (omega (arith, is, above)) (omega (arith, place, mine.place h p.1)) refl refl
+            let was : found ≡ l.seen_cur = eqb-true found l.seen_cur e in
+            seen_kept code code (published instance.callers l) (omega (arith, is, above)) (omega (arith, is, above)) (omega (arith, place, mine.place h p.1)) refl refl
             (λ won has. (let same : code ≡ won.code = ap (λ (x : WonCode). x.code) (same_Some _ won has) in omega arith))
             (same_but l _ _ _ _ _ _ _ _ _))
-        | inr e ↦ subst P (sym e) (seen_kept found found (outrun instance.callers l found) mine.seen bounds.current refl refl mine.won (same_but l _ _ _ _ _ _ _ _ _))
+        | inr e ↦ subst P (sym e) (seen_kept found found (outrun instance.callers l found) (omega arith) mine.seen bounds.current refl refl mine.won (same_but l _ _ _ _ _ _ _ _ _))
       ]
 
   pub raise_kept : (code : ℕ) (read : Option (List ℕ)) → Guard instance scene (Raise code read) l → Kept (Raise code read)
@@ -83,6 +86,7 @@ module _ (instance : Instance) (history : List Entry) (scene : Scene) (locals : 
       (fronts_raised instance history scene.words locals caller code l l' law.shape.some (omega (arith, law.shape.long)) law.fronts at most refl
       (floor_within l.floor (root_place_of instance.callers code) _ _)
       (record { front = refl; floor = refl; seen_cur = refl; seen_free = refl; seen_low = refl; raised = refl; won = refl }))
+      (ring_framed instance scene.words locals dur_at _ caller l l' law.shape law.ring at (inl refl) (record { protection = refl; scan = refl }))
 
   pub retire_kept : Kept Retire
   retire_kept =
@@ -95,3 +99,4 @@ module _ (instance : Instance) (history : List Entry) (scene : Scene) (locals : 
       (tickets_framed instance history locals caller l l' law.tickets at refl refl)
       (fronts_off instance history scene.words locals (step_word instance Retire l) _ caller l l' law.fronts at (off_fronts instance _ off)
       (behind_retired instance history scene.words l l' (law.fronts.each caller l at) refl same.front))
+      (ring_framed instance scene.words locals (step_word instance Retire l) _ caller l l' law.shape law.ring at (inr off.0) (record { protection = refl; scan = refl }))

@@ -2,7 +2,7 @@
 use Rattle.std.specs.Prelude.{◌≡◌, ◌≢◌, ◌≤◌, ◌⊎◌, ℕ}
 use Rattle.cx_core.specs.declared.local.Local.{Local}
 use Rattle.cx_core.specs.Frames.{IsOff}
-use Rattle.cx_core.specs.Layout.{cell_count, cur_at, free_at, link_at, need_at, replicas_at}
+use Rattle.cx_core.specs.Layout.{cell_count, cur_at, dur_at, free_at, link_at, lock_at, need_at, replicas_at}
 use Rattle.cx_core.specs.State.{Instance}
 
 -- no link word
@@ -16,6 +16,10 @@ OffCells instance at = (at ≢ free_at) × IsOff (link_at instance.callers 0) (r
 -- neither DUR, LOW nor FREE, which stand between CUR and the first NEED
 abbrev pub OffFronts : ℕ → Type 0
 OffFronts at = (need_at 0 ≤ at) ⊎ (at ≡ cur_at)
+
+-- neither CUR, LOW, FREE nor the need of a caller, of which the last stands in front of the first lock word
+abbrev pub OffRing : Instance → ℕ → Type 0
+OffRing instance at = (at ≡ dur_at) ⊎ (lock_at instance.callers 0 ≤ at)
 
 -- the fields that the part on tickets names
 pub record SameTickets (l l' : Local) : Type 0 where
@@ -38,9 +42,14 @@ pub record SameFront (l l' : Local) : Type 0 where
   pub raised : l'.raised ≡ l.raised
   pub won : l'.won ≡ l.won
 
+-- the fields that the part on the ring names
+pub record SameRing (l l' : Local) : Type 0 where
+  pub protection : l'.protection ≡ l.protection
+  pub scan : l'.scan ≡ l.scan
+
 -- a word that none of these parts names
 abbrev pub OffQueue : Instance → ℕ → Type 0
-OffQueue instance at = (at ≡ cur_at) ⊎ ((need_at 0 ≤ at) × IsOff (link_at instance.callers 0) (replicas_at instance.callers) at)
+OffQueue instance at = (lock_at instance.callers 0 ≤ at) × IsOff (link_at instance.callers 0) (replicas_at instance.callers) at
 
 -- the fields that these parts and the shape name
 pub record SameQueue (l l' : Local) : Type 0 where
@@ -48,3 +57,4 @@ pub record SameQueue (l l' : Local) : Type 0 where
   pub tickets : SameTickets l l'
   pub cells : SameCells l l'
   pub front : SameFront l l'
+  pub ring : SameRing l l'

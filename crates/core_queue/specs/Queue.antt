@@ -1,4 +1,4 @@
--- The parts of the lawful state on tickets, links, cells and fronts, with the shape, and what keeps them.
+-- The parts of the lawful state on tickets, links, cells, fronts and the ring, with the shape, and what keeps them.
 use Rattle.std.specs.Prelude.{ℕ, List}
 use Rattle.cx_core.specs.declared.entry.Entry.{Entry}
 use Rattle.cx_core.specs.declared.kinds.Kind.{Kind}
@@ -6,6 +6,7 @@ use Rattle.cx_core.specs.declared.local.Local.{Local}
 use Rattle.cx_core.specs.Events.{Makes}
 use Rattle.cx_core.specs.Frames.{Continues}
 use Rattle.cx_core.specs.Lawful.{Cells, Fronts, Links, Shape, Tickets}
+use Rattle.cx_core.specs.LawfulRing.{Ring}
 use Rattle.cx_core.specs.LawfulRoot.{RootBounds}
 use Rattle.cx_core.specs.State.{Instance, State}
 
@@ -15,6 +16,7 @@ pub record QueueLawful (instance : Instance) (history : List Entry) (words : Lis
   pub links : Links instance history words
   pub cells : Cells instance history words locals
   pub fronts : Fronts instance history words locals
+  pub ring : Ring instance words locals
 
 -- those parts hold, with a history that begins with this one
 pub record QueueContinues (instance : Instance) (history : List Entry) (words : List ℕ) (locals : List Local) : Type 0 where

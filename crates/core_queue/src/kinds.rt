@@ -1,11 +1,11 @@
-//! The opening state has the parts of the lawful state on tickets, links, cells and fronts, and each kind of step keeps
-//! them, where what callers have seen of the root is within it. The history stays but for a link that wins, which adds its
+//! The opening state has the parts of the lawful state on tickets, links, cells, fronts and the ring, and each kind of step
+//! keeps them, where what callers have seen of the root is within it. The history stays but for a link that wins, which adds its
 //! entry at the end.
 
 ghost use Rattle.std.specs.Prelude.{◌^◌, ◌≤◌, ℕ, []};
 ghost use Rattle.core_queue.specs.Queue.{KeepsQueue, QueueLawful};
 ghost use Rattle.cx_core.specs.State.{Instance, opening_locals, opening_words};
-ghost use Rattle.cx_core.specs.declared.kinds.Kind.TheVariants.{Link, LoadCur, LoadFree, Look, Publish, Raise, ReadCell, Retire, WriteCell};
+ghost use Rattle.cx_core.specs.declared.kinds.Kind.TheVariants.{CloseLow, Confirm, Link, LoadCur, LoadFree, Look, OpenFree, Protect, Publish, Raise, ReadCell, Retire, Scan, Unprotect, WriteCell};
 
 /// The opening state of 1 to 8 callers, where the base's place is at most 2^40.
 pub fn opening_has_the_queue()
@@ -56,6 +56,36 @@ pub fn raise_keeps()
 /// A win given up.
 pub fn retire_keeps()
     ensures { KeepsQueue Retire }
+{}
+
+/// A protection stated.
+pub fn protect_keeps()
+    ensures { (p : ℕ) → KeepsQueue (Protect p) }
+{}
+
+/// A load of LOW, which may confirm a protection: where it does, no later scan opens a ticket at or above its place.
+pub fn confirm_keeps()
+    ensures { KeepsQueue Confirm }
+{}
+
+/// A protection given up.
+pub fn unprotect_keeps()
+    ensures { KeepsQueue Unprotect }
+{}
+
+/// A raise of LOW, with which a scan begins.
+pub fn close_low_keeps()
+    ensures { (target : ℕ) → KeepsQueue (CloseLow target) }
+{}
+
+/// A load of the need to which a scan comes next.
+pub fn scan_keeps()
+    ensures { (d : ℕ) → KeepsQueue (Scan d) }
+{}
+
+/// A raise of FREE to the bound of a scan that passed every caller.
+pub fn open_free_keeps()
+    ensures { KeepsQueue OpenFree }
 {}
 
 /// Any kind: those on locks and on the words of replicas touch nothing that these parts name.

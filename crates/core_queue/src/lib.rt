@@ -1,5 +1,5 @@
 //! The laws of linking and of the queue's cells: the opening state has the parts of the lawful state on tickets, links,
-//! cells and fronts, each kind of step keeps them, and so does each step that touches nothing that a part names. Where a
+//! cells, fronts and the ring, each kind of step keeps them, and so does each step that touches nothing that a part names. Where a
 //! state has them, its history's entries are lawful. Each law is the contract of a function that does nothing.
 #![tactic(auto)]
 

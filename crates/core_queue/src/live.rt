@@ -1,9 +1,12 @@
-//! What the lawful state says of live tickets, which are the linked ones at or above FREE.
+//! What the lawful state says of live tickets, which are the linked ones at or above FREE, and of those that a protection keeps.
 
 ghost use Rattle.std.specs.Prelude.{◌≡◌, ◌≤◌, ◌∷◌, ℕ, slice_index};
-ghost use Rattle.core_queue.specs.Live.{HasLive, IsLiveIn, MayRead, named_cell};
+ghost use Rattle.core_queue.specs.Live.{CellStays, HasLive, IsLiveIn, KeepsTicket, MayRead, named_cell};
+ghost use Rattle.core_queue.specs.Queue.{QueueLawful};
+ghost use Rattle.cx_core.specs.Events.{Makes};
 ghost use Rattle.cx_core.specs.Layout.{cell_at};
 ghost use Rattle.cx_core.specs.Lawful.{Lawful};
+ghost use Rattle.cx_core.specs.Merge.{IsLinked};
 ghost use Rattle.cx_core.specs.State.{Instance, State};
 
 /// No two live tickets share a cell.
@@ -24,4 +27,16 @@ pub fn reads_give_the_entry()
     ensures { (instance : Instance) (s : State) (law : Lawful instance s) (caller t k i : ℕ) (e : _) →
         MayRead instance s caller t k i → IsLiveIn instance s law.history t e →
         slice_index s.words (cell_at instance.callers k i) ≡ slice_index (e.number ∷ e.op) i }
+{}
+
+/// A linked ticket at or above a confirmed protection, of any caller, is live.
+pub fn protected_tickets_are_live()
+    ensures { (instance : Instance) (s : State) (history : _) (caller t : ℕ) (e : _) → QueueLawful instance history s.words s.locals →
+        KeepsTicket s caller t → IsLinked instance.base.place history t e → IsLiveIn instance s history t e }
+{}
+
+/// No event stores to a word of such a ticket's cell, nor changes the ticket's link slot.
+pub fn protected_cells_stay()
+    ensures { (instance : Instance) (history : _) (before after : State) (event : _) (caller t : ℕ) (e : _) → QueueLawful instance history before.words before.locals →
+        KeepsTicket before caller t → IsLinked instance.base.place history t e → Makes instance event before after → CellStays instance before after t }
 {}
