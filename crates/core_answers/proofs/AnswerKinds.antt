@@ -4,7 +4,7 @@ use Rattle.std.specs.List.{slice_get}
 use Rattle.cx_core.specs.declared.entry.Entry.{Entry}
 use Rattle.cx_core.specs.declared.kinds.Event.{Event}
 use Rattle.cx_core.specs.declared.kinds.Kind.{Kind}
-use Rattle.cx_core.specs.declared.kinds.Kind.TheVariants.{WriteCell, Link, Look, ReadCell, LoadFree, TryExclusive, TryShared, BackOff, Downgrade, ReleaseExclusive, LoadWord, StoreWord, Persist, LoadCur, Publish, Raise, Retire}
+use Rattle.cx_core.specs.declared.kinds.Kind.TheVariants.{WriteCell, Link, Look, ReadCell, LoadFree, TryExclusive, TryShared, BackOff, Downgrade, ReleaseExclusive, LoadWord, StoreWord, Persist, LoadCur, Publish, Raise, Retire, Protect, Confirm, Unprotect, CloseLow, Scan, OpenFree}
 use Rattle.cx_core.specs.declared.local.Local.{Local}
 use Rattle.cx_core.specs.Events.{Guard, Makes, found_by, local_after, new_word, step_word, words_after}
 use Rattle.cx_core.specs.Lawful.{Fronts, Shape, Tickets}
@@ -91,6 +91,12 @@ kind_kept instance history scene locals caller l Publish grounds old same at gua
     (either (SameAnswers l) (found == l.seen_cur) (published instance.callers l) (outrun instance.callers l found) (record { own = refl; answered = refl; seen_reads = refl; floor = refl }) (record { own = refl; answered = refl; seen_reads = refl; floor = refl }))
 kind_kept instance history scene locals caller l (Raise code read) grounds old same at guard = raise_kept instance history scene locals caller l code read grounds old same at guard
 kind_kept instance history scene locals caller l Retire grounds old same at guard = framed instance history scene locals caller l old at Retire (omega arith) (record { own = refl; answered = refl; seen_reads = refl; floor = refl })
+kind_kept instance history scene locals caller l (Protect p) grounds old same at guard = framed instance history scene locals caller l old at (Protect p) (omega arith) (record { own = refl; answered = refl; seen_reads = refl; floor = refl })
+kind_kept instance history scene locals caller l Confirm grounds old same at guard = framed instance history scene locals caller l old at Confirm (omega arith) (record { own = refl; answered = refl; seen_reads = refl; floor = refl })
+kind_kept instance history scene locals caller l Unprotect grounds old same at guard = framed instance history scene locals caller l old at Unprotect (omega arith) (record { own = refl; answered = refl; seen_reads = refl; floor = refl })
+kind_kept instance history scene locals caller l (CloseLow target) grounds old same at guard = framed instance history scene locals caller l old at (CloseLow target) (omega arith) (record { own = refl; answered = refl; seen_reads = refl; floor = refl })
+kind_kept instance history scene locals caller l (Scan d) grounds old same at guard = framed instance history scene locals caller l old at (Scan d) (omega arith) (record { own = refl; answered = refl; seen_reads = refl; floor = refl })
+kind_kept instance history scene locals caller l OpenFree grounds old same at guard = framed instance history scene locals caller l old at OpenFree (omega arith) (record { own = refl; answered = refl; seen_reads = refl; floor = refl })
 
 -- so it is of an allowed step in a state
 pub answers_kept : (instance : Instance) (history : List Entry) (s : State) (caller : ℕ) (l : Local) (kind : Kind) → Shape instance s.words s.locals → Tickets instance history s.locals → Fronts instance history s.words s.locals →

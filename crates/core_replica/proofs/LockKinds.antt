@@ -3,11 +3,12 @@ use Rattle.std.proofs.Common.{◌≡◌, ◌≢◌, ◌+◌, ◌-◌, ◌*◌, �
 use Rattle.std.proofs.lemmas.Bool.{cases_Bool, cases_eq, eqb-true, ltb-true}
 use Rattle.std.proofs.lemmas.List.{set-get_or}
 use Rattle.std.proofs.lemmas.Nat.{mod_below, mod-mul-add}
+use Rattle.std.proofs.lemmas.Option.{slice_get_within}
 use Rattle.std.specs.List.{slice_get}
 use Rattle.std.specs.Option.{option_map}
 use Rattle.cx_base.specs.Codes.{root_replica_of}
 use Rattle.cx_core.specs.declared.kinds.Kind.{Kind}
-use Rattle.cx_core.specs.declared.kinds.Kind.TheVariants.{WriteCell, Link, Look, ReadCell, LoadFree, TryExclusive, TryShared, BackOff, Downgrade, ReleaseExclusive, LoadWord, StoreWord, Persist, LoadCur, Publish, Raise, Retire}
+use Rattle.cx_core.specs.declared.kinds.Kind.TheVariants.{WriteCell, Link, Look, ReadCell, LoadFree, TryExclusive, TryShared, BackOff, Downgrade, ReleaseExclusive, LoadWord, StoreWord, Persist, LoadCur, Publish, Raise, Retire, Protect, Confirm, Unprotect, CloseLow, Scan, OpenFree}
 use Rattle.cx_core.specs.declared.local.HeldDowngraded.{HeldDowngraded}
 use Rattle.cx_core.specs.declared.local.HeldExclusive.{HeldExclusive}
 use Rattle.cx_core.specs.declared.local.HeldShared.{HeldShared}
@@ -16,7 +17,7 @@ use Rattle.cx_core.specs.declared.local.WonCode.{WonCode}
 use Rattle.cx_core.specs.Events.{Guard, found_by, local_after, step_word, words_after}
 use Rattle.cx_core.specs.Lawful.{Shape}
 use Rattle.cx_core.specs.LawfulLocks.{FewRights, LockWord, Locks, pin}
-use Rattle.cx_core.specs.Layout.{cur_at, lock_at}
+use Rattle.cx_core.specs.Layout.{cur_at, lock_at, need_at}
 use Rattle.cx_core.specs.LockEvents.{downgraded_to, exclusive_mark, minus, passing, plus, refused_by, shared_by, taken}
 use Rattle.cx_core.specs.QueueEvents.{seen_word}
 use Rattle.cx_core.specs.RegionEvents.{loaded_into, persisted, stored_into}
@@ -65,6 +66,13 @@ module _ (instance : Instance) (scene : Scene) (locals : List Local) (caller : �
   word_kept : (place : ℕ) (l' : Local) → SameRights l l' → Locks callers (set scene.words place (slice_index scene.words place)) (set locals caller l')
   word_kept place l' same =
       subst (λ ws. Locks callers ws (set locals caller l')) (sym (set-get_or scene.words place 0)) (locks_local instance scene.words locals caller l l' locks at same)
+
+  -- a step on the need of its own caller
+  need_kept : (kind : Kind) → step_word instance kind l ≡ need_at l.number → SameRights l (local_after instance scene kind l) → After kind
+  need_kept kind on same =
+      let number = (shape.each caller l at).number in
+      let within = slice_get_within locals caller l at in
+      apart_kept kind (omega (arith, on), inl (omega (arith, on, number, within, shape.count))) same
 
   -- a right that begins or ends on a replica
   moved : (r v : ℕ) (l' : Local) → r < 2 * callers → ((q : ℕ) → q ≢ r → SameOn callers q l l') → rights callers l' ≤ 2 →
@@ -287,3 +295,11 @@ locks_kept instance scene locals caller l Publish shape locks at guard = publish
 locks_kept instance scene locals caller l (Raise code read) shape locks at guard =
     apart_kept instance scene locals caller l shape locks at (Raise code read) (omega arith, inl (omega arith)) (record { exclusive = refl; shared = refl; passer = refl; downgraded = refl; won = refl })
 locks_kept instance scene locals caller l Retire shape locks at guard = retire_kept instance scene locals caller l shape locks at guard
+locks_kept instance scene locals caller l (Protect p) shape locks at guard = need_kept instance scene locals caller l shape locks at (Protect p) refl (record { exclusive = refl; shared = refl; passer = refl; downgraded = refl; won = refl })
+locks_kept instance scene locals caller l Confirm shape locks at guard = word_kept instance scene locals caller l shape locks at _ _ (record { exclusive = refl; shared = refl; passer = refl; downgraded = refl; won = refl })
+locks_kept instance scene locals caller l Unprotect shape locks at guard = need_kept instance scene locals caller l shape locks at Unprotect refl (record { exclusive = refl; shared = refl; passer = refl; downgraded = refl; won = refl })
+locks_kept instance scene locals caller l (CloseLow target) shape locks at guard =
+    apart_kept instance scene locals caller l shape locks at (CloseLow target) (omega arith, inl (omega arith)) (record { exclusive = refl; shared = refl; passer = refl; downgraded = refl; won = refl })
+locks_kept instance scene locals caller l (Scan d) shape locks at guard = word_kept instance scene locals caller l shape locks at _ _ (record { exclusive = refl; shared = refl; passer = refl; downgraded = refl; won = refl })
+locks_kept instance scene locals caller l OpenFree shape locks at guard =
+    apart_kept instance scene locals caller l shape locks at OpenFree (omega arith, inl (omega arith)) (record { exclusive = refl; shared = refl; passer = refl; downgraded = refl; won = refl })

@@ -9,7 +9,7 @@ use Rattle.std.specs.List.{All, Contains, slice_get}
 use Rattle.std.specs.Option.{option_map}
 use Rattle.cx_core.specs.declared.entry.Entry.{Entry}
 use Rattle.cx_core.specs.declared.kinds.Kind.{Kind}
-use Rattle.cx_core.specs.declared.kinds.Kind.TheVariants.{WriteCell, Link, Look, ReadCell, LoadFree, TryExclusive, TryShared, BackOff, Downgrade, ReleaseExclusive, LoadWord, StoreWord, Persist, LoadCur, Publish, Raise, Retire}
+use Rattle.cx_core.specs.declared.kinds.Kind.TheVariants.{WriteCell, Link, Look, ReadCell, LoadFree, TryExclusive, TryShared, BackOff, Downgrade, ReleaseExclusive, LoadWord, StoreWord, Persist, LoadCur, Publish, Raise, Retire, Protect, Confirm, Unprotect, CloseLow, Scan, OpenFree}
 use Rattle.cx_core.specs.declared.local.HeldExclusive.{HeldExclusive}
 use Rattle.cx_core.specs.declared.local.HeldShared.{HeldShared}
 use Rattle.cx_core.specs.declared.local.Local.{Local}
@@ -18,7 +18,7 @@ use Rattle.cx_core.specs.Lawful.{Shape}
 use Rattle.cx_core.specs.History.{IsFull}
 use Rattle.cx_core.specs.LawfulLocks.{Locks, total}
 use Rattle.cx_core.specs.LawfulRegions.{HasLoaded, HasWords, IsImage, Regions, vol_word}
-use Rattle.cx_core.specs.Layout.{cell_count, cur_at, lock_at, per_at, replica_words, vol_at}
+use Rattle.cx_core.specs.Layout.{cell_count, cur_at, lock_at, need_at, per_at, replica_words, vol_at}
 use Rattle.cx_core.specs.LockEvents.{CanGiveUp, exclusive_mark, passing, refused_by, shared_by, taken, with_number}
 use Rattle.cx_core.specs.QueueEvents.{linked, lost, seen_word}
 use Rattle.cx_core.specs.RegionEvents.{loaded_into, persisted, stored_into}
@@ -274,6 +274,13 @@ module _ (instance : Instance) (history : List Entry) (scene : Scene) (locals : 
       let small : before_in l.won % (2 * callers) < 2 * callers = mod_below (before_in l.won) (2 * callers) (omega (arith, shape.some)) in
       framed _ _ _ (omega (arith, small)) (record { exclusive = refl; shared = refl })
 
+  -- a step on the need of its own caller
+  need_kept : (v : ℕ) (l' : Local) → SameHeld l l' → Regions instance history (set scene.words (need_at l.number) v) (set locals caller l')
+  need_kept v l' same =
+      let number = (shape.each caller l at).number in
+      let within = slice_get_within locals caller l at in
+      framed _ v l' (omega (arith, number, within, shape.count)) same
+
   given_kept : (r v : ℕ) (l' : Local) → scene.history ≡ history → CanGiveUp instance scene r l → l'.exclusive ≡ None → l'.shared ≡ l.shared → Regions instance history (set scene.words (lock_at callers r) v) (set locals caller l')
   given_kept r v l' same guard none shared =
       given_up r v l' guard.0.0 guard.0.1 guard.0.3 (subst (λ h. IsFull instance h (held_words l.exclusive)) same guard.1) none shared
@@ -315,3 +322,9 @@ regions_kept instance history scene locals caller l LoadCur shape locks regions 
 regions_kept instance history scene locals caller l Publish shape locks regions same at guard = publish_kept instance history scene locals caller l shape locks regions at
 regions_kept instance history scene locals caller l (Raise code read) shape locks regions same at guard = framed instance history scene locals caller l shape locks regions at _ _ _ (omega arith) (record { exclusive = refl; shared = refl })
 regions_kept instance history scene locals caller l Retire shape locks regions same at guard = retire_kept instance history scene locals caller l shape locks regions at
+regions_kept instance history scene locals caller l (Protect p) shape locks regions same at guard = need_kept instance history scene locals caller l shape locks regions at _ _ (record { exclusive = refl; shared = refl })
+regions_kept instance history scene locals caller l Confirm shape locks regions same at guard = word_kept instance history scene locals caller l shape locks regions at _ _ (record { exclusive = refl; shared = refl })
+regions_kept instance history scene locals caller l Unprotect shape locks regions same at guard = need_kept instance history scene locals caller l shape locks regions at _ _ (record { exclusive = refl; shared = refl })
+regions_kept instance history scene locals caller l (CloseLow target) shape locks regions same at guard = framed instance history scene locals caller l shape locks regions at _ _ _ (omega arith) (record { exclusive = refl; shared = refl })
+regions_kept instance history scene locals caller l (Scan d) shape locks regions same at guard = word_kept instance history scene locals caller l shape locks regions at _ _ (record { exclusive = refl; shared = refl })
+regions_kept instance history scene locals caller l OpenFree shape locks regions same at guard = framed instance history scene locals caller l shape locks regions at _ _ _ (omega arith) (record { exclusive = refl; shared = refl })

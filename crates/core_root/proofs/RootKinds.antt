@@ -9,7 +9,7 @@ use Rattle.std.specs.List.{Contains, slice_get}
 use Rattle.cx_base.specs.Codes.{root_code_of, root_place_of, root_replica_of}
 use Rattle.cx_core.specs.declared.entry.Entry.{Entry}
 use Rattle.cx_core.specs.declared.kinds.Kind.{Kind}
-use Rattle.cx_core.specs.declared.kinds.Kind.TheVariants.{WriteCell, Link, Look, ReadCell, LoadFree, TryExclusive, TryShared, BackOff, Downgrade, ReleaseExclusive, LoadWord, StoreWord, Persist, LoadCur, Publish, Raise, Retire}
+use Rattle.cx_core.specs.declared.kinds.Kind.TheVariants.{WriteCell, Link, Look, ReadCell, LoadFree, TryExclusive, TryShared, BackOff, Downgrade, ReleaseExclusive, LoadWord, StoreWord, Persist, LoadCur, Publish, Raise, Retire, Protect, Confirm, Unprotect, CloseLow, Scan, OpenFree}
 use Rattle.cx_core.specs.declared.local.HeldDowngraded.{HeldDowngraded}
 use Rattle.cx_core.specs.declared.local.HeldExclusive.{HeldExclusive}
 use Rattle.cx_core.specs.declared.local.Local.{Local}
@@ -20,7 +20,7 @@ use Rattle.cx_core.specs.Lawful.{Fronts, Shape}
 use Rattle.cx_core.specs.LawfulLocks.{Locks}
 use Rattle.cx_core.specs.LawfulRegions.{Regions, vol_word}
 use Rattle.cx_core.specs.LawfulRoot.{IsPlaced, OnChain, Root, WinStands}
-use Rattle.cx_core.specs.Layout.{cell_count, cur_at, dur_at, lock_at, replicas_at, vol_at}
+use Rattle.cx_core.specs.Layout.{cell_count, cur_at, dur_at, lock_at, need_at, replicas_at, vol_at}
 use Rattle.cx_core.specs.LockEvents.{downgraded_to, exclusive_mark}
 use Rattle.cx_core.specs.QueueEvents.{seen_word}
 use Rattle.cx_core.specs.Region.{place_of}
@@ -90,6 +90,13 @@ module _ (instance : Instance) (scene : Scene) (locals : List Local) (caller : �
       let old = root.each caller l at in
       word_kept instance words locals caller l some locks root at place l' same.won
       (in_chain_local instance words root.above l l' old (subst (OnChain words root.above) (sym same.seen_cur) old.seen) same.won same.downgraded)
+
+  -- a step on the need of its own caller
+  need_framed : (v : ℕ) (l' : Local) → SameRoot l l' → Root instance (set words (need_at l.number) v) (set locals caller l')
+  need_framed v l' same =
+      let number = (shape.each caller l at).number in
+      let within = slice_get_within locals caller l at in
+      framed _ v l' (low_off instance _ (omega arith) (omega (arith, number, within, shape.count))) same
 
   write_cell_kept : (j i v : ℕ) → Guard instance scene (WriteCell j i v) l → After (WriteCell j i v)
   write_cell_kept j i v guard =
@@ -321,3 +328,9 @@ root_kind_kept instance history scene locals caller l LoadCur shape locks region
 root_kind_kept instance history scene locals caller l Publish shape locks regions fronts root at guard = publish_kept instance scene locals caller l shape locks root at guard
 root_kind_kept instance history scene locals caller l (Raise code read) shape locks regions fronts root at guard = raise_kept instance scene locals caller l shape locks root at code read guard
 root_kind_kept instance history scene locals caller l Retire shape locks regions fronts root at guard = retire_kept instance scene locals caller l shape locks root at (fronts.each caller l at).raised guard
+root_kind_kept instance history scene locals caller l (Protect p) shape locks regions fronts root at guard = need_framed instance scene locals caller l shape locks root at _ _ (same_root l _ refl refl refl)
+root_kind_kept instance history scene locals caller l Confirm shape locks regions fronts root at guard = load_framed instance scene locals caller l shape locks root at _ _ (same_root l _ refl refl refl)
+root_kind_kept instance history scene locals caller l Unprotect shape locks regions fronts root at guard = need_framed instance scene locals caller l shape locks root at _ _ (same_root l _ refl refl refl)
+root_kind_kept instance history scene locals caller l (CloseLow target) shape locks regions fronts root at guard = framed instance scene locals caller l shape locks root at _ _ _ (low_off instance _ (omega arith) (omega arith)) (same_root l _ refl refl refl)
+root_kind_kept instance history scene locals caller l (Scan d) shape locks regions fronts root at guard = load_framed instance scene locals caller l shape locks root at _ _ (same_root l _ refl refl refl)
+root_kind_kept instance history scene locals caller l OpenFree shape locks regions fronts root at guard = framed instance scene locals caller l shape locks root at _ _ _ (low_off instance _ (omega arith) (omega arith)) (same_root l _ refl refl refl)

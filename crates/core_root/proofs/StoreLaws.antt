@@ -7,14 +7,14 @@ use Rattle.std.specs.List.{Contains, slice_get}
 use Rattle.cx_base.specs.Codes.{root_replica_of}
 use Rattle.cx_core.specs.declared.kinds.Event.{Event}
 use Rattle.cx_core.specs.declared.kinds.Kind.{Kind}
-use Rattle.cx_core.specs.declared.kinds.Kind.TheVariants.{WriteCell, Link, Look, ReadCell, LoadFree, TryExclusive, TryShared, BackOff, Downgrade, ReleaseExclusive, LoadWord, StoreWord, Persist, LoadCur, Publish, Raise, Retire}
+use Rattle.cx_core.specs.declared.kinds.Kind.TheVariants.{WriteCell, Link, Look, ReadCell, LoadFree, TryExclusive, TryShared, BackOff, Downgrade, ReleaseExclusive, LoadWord, StoreWord, Persist, LoadCur, Publish, Raise, Retire, Protect, Confirm, Unprotect, CloseLow, Scan, OpenFree}
 use Rattle.cx_core.specs.declared.local.Local.{Local}
 use Rattle.cx_core.specs.Chain.{IsCodeChain}
 use Rattle.cx_core.specs.Events.{Guard, Makes, words_after}
 use Rattle.cx_core.specs.Lawful.{Shape}
 use Rattle.cx_core.specs.LawfulLocks.{Locks}
 use Rattle.cx_core.specs.LawfulRoot.{Root}
-use Rattle.cx_core.specs.Layout.{cell_count, lock_at, per_at, replicas_at, vol_at}
+use Rattle.cx_core.specs.Layout.{cell_count, lock_at, need_at, per_at, replicas_at, vol_at}
 use Rattle.cx_core.specs.Merge.{scene_of}
 use Rattle.cx_core.specs.Rights.{exclusive_on, holds, is_on}
 use Rattle.cx_core.specs.RootEvents.{before_in}
@@ -74,12 +74,24 @@ module _ (instance : Instance) (scene : Scene) (locals : List Local) (caller : �
   leaves Publish guard = tt
   leaves (Raise code read) guard = tt
   leaves Retire guard = tt
+  leaves (Protect p) guard = tt
+  leaves Confirm guard = tt
+  leaves Unprotect guard = tt
+  leaves (CloseLow target) guard = tt
+  leaves (Scan d) guard = tt
+  leaves OpenFree guard = tt
 
   low : (place v : ℕ) → place < replicas_at callers → SameWords instance words (set words place v) r
   low place v below = low_words instance words place v r below
 
   lock_low : (q v : ℕ) → q < 2 * callers → SameWords instance words (set words (lock_at callers q) v) r
   lock_low q v small = low (lock_at callers q) v (omega (arith, small))
+
+  need_low : (v : ℕ) → SameWords instance words (set words (need_at l.number) v) r
+  need_low v =
+      let number = (shape.each caller l at).number in
+      let within = slice_get_within locals caller l at in
+      low _ v (omega (arith, number, within, shape.count))
 
   stored : (q i v : ℕ) → q < 2 * callers → i < region → q ≢ r → SameWords instance words (set words (vol_at callers region q i) v) r
   stored q i v small below ne = record {
@@ -113,6 +125,12 @@ module _ (instance : Instance) (scene : Scene) (locals : List Local) (caller : �
   words_left Publish guard = low _ _ (omega arith)
   words_left (Raise code read) guard = low _ _ (omega arith)
   words_left Retire guard = low _ _ (omega (arith, mod_below (before_in l.won) (2 * callers) (omega (arith, shape.some))))
+  words_left (Protect p) guard = need_low _
+  words_left Confirm guard = found_words instance words _ r
+  words_left Unprotect guard = need_low _
+  words_left (CloseLow target) guard = low _ _ (omega arith)
+  words_left (Scan d) guard = found_words instance words _ r
+  words_left OpenFree guard = low _ _ (omega arith)
 
 -- so no event stores to a replica that a code of the chain names
 module _ (instance : Instance) (before after : State) (event : Event) (codes : List ℕ) (code : ℕ) (shape : Shape instance before.words before.locals) (locks : Locks instance.callers before.words before.locals)
