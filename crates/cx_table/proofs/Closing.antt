@@ -1,6 +1,6 @@
 -- What a table that was closed leaves.
-use Rattle.std.proofs.Common.{◌≡◌, ◌*◌, ◌<◌, ◌≤◌, ℕ, zero, suc, List, [], ◌∷◌, ◌++◌, length, map, slice_index, refl, sym, ap, subst, ◌∙◌, arith, Some, All, get_or, zero-add}
-use Rattle.std.proofs.lemmas.List.{length-map, get_or-map}
+use Rattle.std.proofs.Common.{◌≡◌, ◌+◌, ◌*◌, ◌<◌, ◌≤◌, ℕ, zero, suc, List, [], ◌∷◌, ◌++◌, length, map, take, slice_index, refl, sym, ap, subst, ◌∙◌, arith, Some, All, get_or, zero-add}
+use Rattle.std.proofs.lemmas.List.{append-nil, length-map, get_or-map, map-append, take_more}
 use Rattle.std.proofs.lemmas.List.Elements.{All-map}
 use Rattle.std.proofs.lemmas.List.FromFn.{length-range_with_len, get_or-range_with_len}
 use Rattle.std.proofs.lemmas.Option.{same_Some, none-some, slice_get_within, slice_get-get_or, get_or_from_slice_get}
@@ -12,7 +12,7 @@ use Rattle.atomic_table.specs.Table.{State}
 use Rattle.cx_core.specs.declared.entry.Base.{Base}
 use Rattle.cx_core.specs.declared.entry.Entry.{Entry}
 use Rattle.cx_core.specs.declared.local.Local.{Local}
-use Rattle.std.specs.Option.{option_map}
+use Rattle.std.specs.Option.{option_map, option_to_list}
 use Rattle.cx_core.specs.declared.local.Linked.{Linked}
 use Rattle.cx_core.specs.Merge.{IsHistory, all_own, history_of, in_order}
 use Rattle.cx_core.specs.Shown.{shown}
@@ -22,8 +22,8 @@ use Rattle.cx_core.specs.Layout.{vol_at, per_at}
 use Rattle.cx_table.specs.declared.remains.Remains.{Remains}
 use Rattle.cx_core.specs.Chain.{IsCodeChain, Leads}
 use Rattle.cx_core.specs.LawfulRoot.{Root}
-use Rattle.cx_table.specs.Wins.{IsWayBy, wins_of}
-use Rattle.cx_table.proofs.Chaining.{leads_shown, way_up, wins_shown}
+use Rattle.seat_memory.specs.Wins.{IsWayBy, wins_of}
+use Rattle.seat_memory.proofs.Chaining.{leads_shown, way_up, wins_append, wins_shown}
 use Rattle.cx_table.specs.Remains.{AreSeats, Leaves, MarksDirty, known_by, locals_of, opening_seat}
 use Rattle.cx_rule.specs.Rule.{RuleHolds, NotesHold}
 use Rattle.cx_rule.specs.Running.{IsSeatOf, Running}
@@ -115,6 +115,16 @@ read_is : (xs : List ℕ) (i x : ℕ) → get_elem? xs i ≡ some x → slice_in
 read_is [] i x at = absurd (some-ne-none x (sym at))
 read_is (y ∷ ys) zero x at = some-injective y x at
 read_is (y ∷ ys) (suc i) x at = read_is ys i x at
+
+-- the wins of one seat more
+pub wins_more : (seats : List Seated) (k : ℕ) (seat : Seated) → k < length seats → seat ≡ get_or seats k seat →
+    wins_of (locals_of (take (k + 1) seats)) ≡ wins_of (locals_of (take k seats)) ++ option_to_list seat.known.local.won
+wins_more seats k seat below is =
+    let first = take k seats in
+    ap (λ (ss : List Seated). wins_of (locals_of ss)) (take_more seats k seat below ∙ ap (λ (s : Seated). first ++ s ∷ []) (sym is))
+    ∙ ap wins_of (ap (map (λ (x : Known). x.local)) (map-append (λ (s : Seated). s.known) first (seat ∷ [])) ∙ map-append (λ (x : Known). x.local) (known_by first) (seat.known ∷ []))
+    ∙ wins_append (locals_of first) (seat.known.local ∷ [])
+    ∙ ap (λ ws. wins_of (locals_of first) ++ ws) (append-nil (option_to_list seat.known.local.won))
 
 -- the chain that was read off the wins is the one from DUR to CUR
 pub chain_read : (instance : Instance) (words : List ℕ) (whole locals : List Local) (dur : ℕ) (codes : List ℕ) → 1 ≤ instance.callers → Root instance words whole → map shown whole ≡ locals → get_elem? words 1 ≡ some dur →

@@ -1,25 +1,27 @@
 -- The tokens that steps hand out are of their seats, and what really is there fits what was noted.
-use Rattle.std.proofs.Common.{◌≡◌, ◌*◌, ◌<◌, ◌≤◌, inl, inr, ℕ, nat_lt, Bool, false, cond, List, ap, sym, subst, ◌∙◌, arith, eq-eqb, Option, Some, None, Result, Ok, Err}
+use Rattle.std.proofs.Common.{◌≡◌, ◌*◌, ◌<◌, ◌≤◌, inl, inr, ℕ, nat_lt, Bool, true, false, cond, List, refl, ap, sym, subst, ◌∙◌, arith, eq-eqb, Option, Some, None, Result, Ok, Err}
 use Rattle.std.proofs.lemmas.Bool.{cases_Bool, lt-ltb, ltb-true}
 use Rattle.atomic_table.specs.Table.{Me}
 use Rattle.cx_base.specs.Memory.{Words}
 use Rattle.cx_core.specs.declared.kinds.Kind.{Kind}
 use Rattle.cx_core.specs.declared.kinds.Kind.TheVariants.{Downgrade, TryExclusive, TryShared}
-use Rattle.cx_core.specs.LockEvents.{CanBackOff, exclusive_mark, passing, refused_by, shared_by, taken}
-use Rattle.cx_core.specs.Rights.{downgraded_on, exclusive_on, shared_on}
+use Rattle.cx_core.specs.declared.local.Local.{Local}
+use Rattle.cx_core.specs.LockEvents.{CanBackOff, backed_off, exclusive_mark, passing, refused_by, shared_by, taken}
+use Rattle.cx_core.specs.Rights.{downgraded_on, exclusive_on, is_at, shared_on}
+use Rattle.cx_core.specs.State.{one_more}
 use Rattle.cx_core.proofs.HistoryLemmas.{ObjectLaws}
 use Rattle.cx_rule.specs.declared.rule.Known.{Known}
 use Rattle.cx_rule.specs.Fitting.{Fitting}
 use Rattle.cx_rule.specs.Running.{IsRunning, Running, instance_at}
 use Rattle.cx_rule.specs.Seats.{Seated, known_after, known_of, unseen}
-use Rattle.cx_rule.specs.Steps.{Steps, Teaches}
+use Rattle.cx_rule.specs.Steps.{Steps, StepsCopied, Teaches}
 use Rattle.cx_rule.proofs.Fitting.{fitting}
-use Rattle.cx_table.specs.declared.mirror.Mirror.{Mirror}
-use Rattle.cx_table.specs.Mirrors.{Follows}
+use Rattle.seat_memory.specs.declared.mirror.Mirror.{Mirror}
+use Rattle.seat_memory.specs.Mirrors.{Follows}
 use Rattle.cx_table.specs.Right.{Right}
 use Rattle.cx_table.specs.declared.tokens.SharedRight.{SharedRight}
 use Rattle.cx_table.specs.declared.tokens.SharedRight.TheVariants.{Hold, Passer, Downgraded as Held}
-use Rattle.cx_table.specs.Tokens.{HandsExclusive, HandsShared, IsDowngradedOf, IsRightOf, TriedExclusive, TriedShared, replica_of}
+use Rattle.cx_table.specs.Tokens.{HandsExclusive, HandsShared, IsDowngradedOf, IsExclusiveOf, IsRightOf, TriedExclusive, TriedShared, replica_of}
 
 -- what is known after a step that was made
 known_made : {O : Type 0} (r : Running O) (step : O → List ℕ → List ℕ → List ℕ × List ℕ) (reads : O → List ℕ → Bool) (kind : Kind) (found : ℕ) (before after : Seated) → Steps r step reads kind found before after →
@@ -80,6 +82,28 @@ module _ {O : Type 0} (r : Running O) (step : O → List ℕ → List ℕ → Li
     caller = mine;
     holds = ap (λ (x : Known). downgraded_on x.local) (known_made r step reads (Downgrade replica) found before after steps);
   }
+
+-- what a right that was taken back leaves
+abbrev backed : Bool → Bool → Local → Local
+backed a b l = cond a (record l { shared = None; steps = one_more l.steps }) (cond b (record l { passer = None; steps = one_more l.steps }) (record l { downgraded = None; steps = one_more l.steps }))
+
+backed_leaves : (a b : Bool) (l : Local) → ((backed a b l).number ≡ l.number) × (exclusive_on (backed a b l) ≡ exclusive_on l)
+backed_leaves true b l = (refl, refl)
+backed_leaves false true l = (refl, refl)
+backed_leaves false false l = (refl, refl)
+
+-- the exclusive right stays
+pub still_held : {O : Type 0} (r : Running O) (step : O → List ℕ → List ℕ → List ℕ × List ℕ) (reads : O → List ℕ → Bool) (replica found : ℕ) (before after : Seated) (held : Right) → StepsCopied r step reads replica found before after →
+    IsExclusiveOf r.callers before held → IsExclusiveOf r.callers after held
+still_held r step reads replica found before after held steps is =
+    let l = before.known.local in
+    let local : after.known.local ≡ backed_off replica l = ap (λ (s : Seated). s.known.local) steps.made in
+    let leaves = backed_leaves (is_at replica (shared_on l)) (is_at replica l.passer) l in
+    record {
+      few = is.few;
+      caller = is.caller ∙ sym (ap (λ (x : Local). x.number) local ∙ leaves.0);
+      holds = ap exclusive_on local ∙ leaves.1 ∙ is.holds;
+    }
 
 -- a right that a step takes back may be backed off from
 pub can_back_off : (callers : ℕ) (seat : Seated) (right : SharedRight) → IsRightOf callers seat right → CanBackOff callers (replica_of right) seat.known.local

@@ -1,11 +1,3 @@
-mod CopyLaws
-mod MirrorLaws
-mod Refused
 mod Handing
-mod Copying
-mod Raising
 mod Marking
-mod Counting
-mod OpeningSeats
-mod Chaining
 mod Closing

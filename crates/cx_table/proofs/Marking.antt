@@ -1,60 +1,17 @@
 -- The marks of dirty words that are handed out.
-use Rattle.std.proofs.Common.{◌≡◌, ◌+◌, ◌*◌, ◌<◌, ◌≤◌, ◌↔◌, inl, inr, ℕ, zero, suc, Bool, true, false, List, [], ◌∷◌, length, replicate, set, refl, ap, sym, subst, ◌∙◌, arith, Some}
-use Rattle.std.proofs.Math.Nat.{mul-le-mul_left, mul-suc}
-use Rattle.std.proofs.lemmas.Bool.{cases_eq, cases_lt}
+use Rattle.std.proofs.Common.{◌≡◌, ◌+◌, ◌*◌, ◌<◌, ◌↔◌, inl, inr, ℕ, zero, suc, Bool, true, false, List, [], ◌∷◌, length, replicate, refl, ap, sym, subst, ◌∙◌, arith, Some}
+use Rattle.std.proofs.lemmas.Bool.{cases_eq}
 use Rattle.std.proofs.lemmas.Option.{none-some, same_Some, slice_get_within}
 use Rattle.std.specs.List.{Contains, slice_get}
 use Rattle.std.specs.Option.{option_map}
 use Rattle.cx_core.specs.declared.local.HeldExclusive.{HeldExclusive}
 use Rattle.cx_core.specs.declared.local.Local.{Local}
 use Rattle.cx_core.specs.Rights.{exclusive_on, held_dirty}
-use Rattle.cx_core.proofs.ListLemmas.{slice_get-set_same, slice_get-set_other}
 use Rattle.cx_core.proofs.HeldLists.{mapped}
 use Rattle.cx_rule.specs.Seats.{Seated}
-use Rattle.cx_table.specs.Marks.{MarksMore}
+use Rattle.seat_memory.specs.Marks.{MarksMore}
+use Rattle.seat_memory.proofs.Rows.{same_row}
 use Rattle.cx_table.specs.Remains.{MarksDirty, locals_of}
-
--- none of no marks, and one mark more
-pub marks_none : (marks : List Bool) (from : ℕ) (before : List Bool) → MarksMore marks from 0 before before
-marks_none marks from before at = (λ was. inl was, λ more. elim more [ inl was ↦ was | inr i ↦ (let below : i.0 < 0 = i.1 in absurd (omega arith)) ])
-
-pub marks_on : (marks : List Bool) (from n : ℕ) (before after : List Bool) → slice_get marks n ≡ Some true → from + n < length after → MarksMore marks from n before after → MarksMore marks from (n + 1) before (set after (from + n) true)
-marks_on marks from n before after marked within more at =
-    let place = from + n in
-    elim (cases_eq at place) [
-      | inl e ↦ (
-        λ _. inr (n, omega arith, e, marked),
-        λ _. subst (λ k. slice_get (set after place true) k ≡ Some true) (sym e) (slice_get-set_same after place true within),
-      )
-      | inr ne ↦ (
-          let same = slice_get-set_other after place at true ne in (
-            λ now. elim ((more at).0 (sym same ∙ now)) [ inl was ↦ inl was | inr i ↦ inr (i.0, (let below = i.1 in omega arith), i.2, i.3) ],
-            λ some. same ∙ (more at).1 (elim some [ inl was ↦ inl was | inr i ↦ (let below = i.1 in let is = i.2 in elim (cases_eq i.0 n) [ inl last ↦ absurd (ne (is ∙ ap (λ k. from + k) last)) | inr earlier ↦ inr (i.0, omega (arith, below, earlier), is, i.3) ]) ]),
-          ))
-    ]
-
-pub marks_off : (marks : List Bool) (from n : ℕ) (before after : List Bool) → (slice_get marks n ≡ Some true → ⊥) → MarksMore marks from n before after → MarksMore marks from (n + 1) before after
-marks_off marks from n before after unmarked more at = (
-  λ now. elim ((more at).0 now) [ inl was ↦ inl was | inr i ↦ inr (i.0, (let below = i.1 in omega arith), i.2, i.3) ],
-  λ some. (more at).1 (elim some [ inl was ↦ inl was | inr i ↦ (let below = i.1 in elim (cases_eq i.0 n) [ inl last ↦ absurd (unmarked (subst (λ k. slice_get marks k ≡ Some true) last i.3)) | inr earlier ↦ inr (i.0, omega (arith, below, earlier), i.2, i.3) ]) ]),
-)
-
--- rows of words do not meet
-row_before : (n q r : ℕ) → q < r → n * q + n ≤ n * r
-row_before n q r below = let m = mul-le-mul_left {m = suc q} {n = r} n (omega (arith, below)) in let e = mul-suc n q in omega (arith, m, e)
-
-pub same_row : (n q r i j : ℕ) → i < n → j < n → n * q + i ≡ n * r + j → (q ≡ r) × (i ≡ j)
-same_row n q r i j small below same =
-    elim (cases_lt q r) [
-      | inl less ↦ (let gap = row_before n q r less in absurd (omega (arith, gap, same)))
-      | inr least ↦ elim (cases_lt r q) [
-        | inl more ↦ (let gap = row_before n r q more in absurd (omega (arith, gap, same)))
-        | inr most ↦ (let e : q ≡ r = omega (arith, least, most) in (e, (let rows = ap (λ k. n * k) e in omega (arith, rows, same))))
-      ]
-    ]
-
-pub row_within : (n q r : ℕ) → q < r → n * q + n ≤ n * r
-row_within = row_before
 
 -- of the first seats, each word that is dirty is marked
 pub record DirtyTo (seats : List Seated) (n replicas region : ℕ) (marks : List Bool) : Type 0 where

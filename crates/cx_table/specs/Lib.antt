@@ -6,11 +6,6 @@ pub use Rattle.cx_rule.specs.Steps
 pub use Rattle.cx_rule.specs.Raises
 pub use Rattle.cx_rule.specs.Ending
 pub use Rattle.cx_rule.specs.Fitting
-pub mod Mirrors
-pub mod Raised
-pub mod Copies
 pub mod Right
 pub mod Tokens
-pub mod Marks
-pub mod Wins
 pub mod Remains

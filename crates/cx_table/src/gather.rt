@@ -1,10 +1,8 @@
 //! Closing a table: its callers' seats are joined, and its words are handed out.
 
-ghost use Rattle.std.specs.Prelude.{◌≡◌, ◌+◌, ◌*◌, ◌<◌, ◌≤◌, ◌∷◌, ℕ, List, [], false, All, IfErr, IfOk, length, map, replicate, slice_range, vec_capacity, vec_len};
-ghost use Rattle.cx_table.specs.Marks.{MarksMore};
-ghost use Rattle.std.specs.Slots.{IsFull, slots_items, slots_len};
+ghost use Rattle.std.specs.Prelude.{◌≡◌, ◌+◌, ◌*◌, ◌≤◌, ◌∷◌, List, [], false, All, IfErr, IfOk, length, replicate, vec_capacity, vec_len};
 ghost use Rattle.cx_table.specs.Remains.{AreSeats, IsRoomOf, Leaves, MarksDirty, known_by, locals_of};
-ghost use Rattle.cx_table.specs.Wins.{IsWayBy, TakesOver, wins_of};
+ghost use Rattle.seat_memory.specs.Wins.{wins_of};
 ghost use Rattle.cx_core.specs.Region.{region_words};
 ghost use Rattle.cx_core.specs.Rights.{exclusive_on, held_dirty};
 ghost use Rattle.cx_rule.specs.Running.{instance_at};
@@ -13,11 +11,12 @@ ghost use Rattle.cx_rule.specs.Seats.{Seated};
 use crate::remains::{Remains, Trail};
 use crate::seat::CallerSeat;
 use crate::shared::Shared;
-use atomic_table::{Closed, Join, Play, Seat};
+use atomic_table::{Join, Play, Seat};
 use cx_base::Object;
 use cx_core::layout::{DUR_AT, replicas_at};
 use cx_core::{HEAD_LINES, LINE_WORDS, WonCode};
 use cx_rule::View;
+use seat_memory::{copy_words, lead_on, mark_replica};
 use std::alloc::{AllocError, Global};
 use std::marker::Model;
 use std::snapshot::Snapshot;
@@ -249,19 +248,6 @@ fn mark_dirty(seats: &[CallerSeat], region: usize, replicas: usize, dirty: &mut 
     }
 }
 
-/// Marks those words, from one on, that are marked.
-fn mark_replica(marks: &[bool], from: usize, dirty: &mut Vec<bool>)
-    requires { from + length marks.now ≤ vec_len dirty.old }
-    ensures len { vec_len dirty.new ≡ vec_len dirty.old }
-    ensures marked { MarksMore marks.now from (length marks.now) dirty.old.items dirty.new.items }
-{
-    for i in 0..marks.len() {
-        if marks[i] {
-            dirty[from + i] = true;
-        }
-    }
-}
-
 /// Adds the wins of the seats' callers that are not retired.
 fn note_wins(seats: &[CallerSeat], wins: &mut Vec<WonCode>)
     requires none { wins.old.items ≡ [] }
@@ -274,44 +260,5 @@ fn note_wins(seats: &[CallerSeat], wins: &mut Vec<WonCode>)
         if let Some(won) = seat.mirror.won {
             wins.push_reserved(won);
         }
-    }
-}
-
-/// Adds a code, and each code that a win leads on to, one over the other.
-fn lead_on(mut wins: Vec<WonCode>, from: u64, codes: &mut Vec<u64>)
-    requires none { codes.old.items ≡ [] }
-    requires room { vec_len wins + 1 ≤ vec_capacity codes.old }
-    ensures { (above : List ℕ) (to : ℕ) → IsWayBy wins.items from above to → codes.new.items ≡ from ∷ above }
-{
-    codes.push_reserved(from);
-    let mut code = from;
-    while let Some(next) = take_over(&mut wins, code) {
-        codes.push_reserved(next);
-        code = next;
-    }
-}
-
-/// Takes a win over this code out, and gives the code that won.
-fn take_over(wins: &mut Vec<WonCode>, before: u64) -> Option<u64>
-    ensures { TakesOver before wins.old.items wins.new.items result }
-{
-    for i in 0..wins.len() {
-        if wins[i].before == before {
-            return Some(wins.remove(i).code);
-        }
-    }
-    None
-}
-
-/// Adds so many words of a closed table, from one on.
-fn copy_words(closed: &Closed<u8, Global>, words: &mut Vec<u64>, from: usize, count: usize)
-    requires full { IsFull closed.now.words }
-    requires within { from + count ≤ slots_len closed.now.words }
-    requires none { words.old.items ≡ [] }
-    requires room { count ≤ vec_capacity words.old }
-    ensures { words.new.items ≡ slice_range (slots_items closed.now.words) from (from + count) }
-{
-    for i in 0..count {
-        words.push_reserved(closed.word(from + i));
     }
 }

@@ -2,13 +2,10 @@
 //! call is one event of the core, made by one atomic instruction.
 #![tactic(auto)]
 
-mod copy;
 mod events;
 mod gather;
 mod lock_steps;
 mod make;
-mod marks;
-mod mirror;
 mod raise_step;
 mod region_steps;
 mod remains;
@@ -21,9 +18,9 @@ mod tokens;
 
 pub use cx_rule::{CoreRule, Key, Known, Noted, View};
 pub use gather::{KeptTable, Room};
-pub use marks::GROUP;
 pub use remains::{Remains, Trail};
 pub use seat::CallerSeat;
+pub use seat_memory::GROUP;
 pub use shared::Shared;
 pub use threads::cross_threads;
 pub use tokens::{Downgraded, Exclusive, Passer, SharedHold, SharedRight, Won};

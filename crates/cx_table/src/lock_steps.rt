@@ -9,13 +9,13 @@ ghost use Rattle.cx_rule.specs.Seats.{SeenGuard};
 ghost use Rattle.cx_rule.specs.Steps.{Halts, Steps, StepsCopied};
 ghost use Rattle.cx_table.specs.Tokens.{HandsExclusive, HandsShared, IsDowngradedOf, IsExclusiveOf, IsRightOf, IsSharedOf, TriedExclusive, TriedShared, replica_of};
 
-use crate::mirror::EXCLUSIVE_MARK;
 use crate::seat::CallerSeat;
 use crate::shared::Shared;
 use crate::tokens::{Downgraded, Exclusive, Passer, SharedHold, SharedRight};
 use cx_base::{Halt, Object};
 use cx_core::Kind;
 use cx_core::layout::lock_at;
+use seat_memory::EXCLUSIVE_MARK;
 
 impl<O: Object> Shared<O> {
     /// Tries to take a replica exclusively: a compare-exchange of its lock word from 0. It gives the word found, and where

@@ -1,23 +1,20 @@
 //! Making a table, and a seat for each caller.
 
-ghost use Rattle.std.specs.Prelude.{◌≡◌, ◌+◌, ◌^◌, ◌<◌, ◌≤◌, ℕ, [], IfOk, drop, length, map, slice_index, vec_capacity};
+ghost use Rattle.std.specs.Prelude.{◌≡◌, ◌+◌, ◌<◌, ◌≤◌, [], IfOk, drop, length, map, slice_index, vec_capacity};
 ghost use Rattle.std.specs.List.{range_with_len};
 ghost use Rattle.cx_core.specs.Base.{LawfulBase};
-ghost use Rattle.cx_core.specs.State.{opening_local};
-ghost use Rattle.cx_table.specs.Copies.{blank_copy};
-ghost use Rattle.cx_table.specs.Mirrors.{mirror_of};
+ghost use Rattle.seat_memory.specs.Copies.{blank_copy};
 ghost use Rattle.cx_table.specs.Remains.{AreSeats, opening_seat};
 ghost use Rattle.cx_rule.specs.Seats.{opening_view};
 
-use crate::copy::Copy;
-use crate::mirror::Mirror;
 use crate::seat::CallerSeat;
 use crate::shared::Shared;
 use atomic_table::{Seat, Split, Table};
 use core_events::CoreState;
-use cx_base::{Items, Object, root_code};
+use cx_base::{Items, Object};
 use cx_core::{Base, slot_start};
 use cx_rule::{Key, View};
+use seat_memory::{Copies, opening_mirror};
 use std::alloc::{AllocError, Global};
 use std::snapshot::Snapshot;
 
@@ -92,7 +89,7 @@ impl<O: Object> Shared<O> {
         ensures { IfOk result (λ made. made.items ≡ map (opening_seat self.now limits.now) (range_with_len 0 self.now.callers)) }
     {
         for number in 0..self.callers {
-            let copy = Copy::of(alloc, self.base.words.len())?;
+            let copy = Copies::of(alloc, self.base.words.len())?;
             let seat = self.next_seat(&mut first, number, limits, copy);
             seats.push_reserved(seat);
         }
@@ -105,7 +102,7 @@ impl<O: Object> Shared<O> {
         first: &mut Seat<u8, View>,
         number: u32,
         limits: &[u64],
-        copy: Copy,
+        copy: Copies,
     ) -> CallerSeat
         requires table { first.old.table_id ≡ self.now.table }
         requires me { first.old.me ≡ (drop number (opening_view self.now.callers self.now.base.place limits.now), []) }
@@ -130,39 +127,5 @@ impl<O: Object> Shared<O> {
             before,
             copy,
         }
-    }
-}
-
-/// The numbers of a caller that made no step.
-fn opening_mirror(callers: u32, place: u64, number: u32, limit: u64) -> Mirror
-    requires some { 1 ≤ callers }
-    requires few { callers ≤ 8 }
-    requires place { place ≤ 2 ^ 40 }
-    ensures { result ≡ mirror_of (record (opening_local callers place number) { limit = limit }) }
-{
-    let code = root_code(callers, place, 0);
-    Mirror {
-        number,
-        front: place,
-        linked: 0,
-        unanswered: None,
-        tickets: [None; 16],
-        seen_slot: None,
-        seen_free: place,
-        seen_low: place,
-        seen_cur: code,
-        fresh: false,
-        refused: [false; 16],
-        exclusive: None,
-        shared: None,
-        passer: None,
-        downgraded: None,
-        won: None,
-        raised: code,
-        floor: place,
-        steps: 0,
-        limit,
-        met: 0,
-        scans: 0,
     }
 }

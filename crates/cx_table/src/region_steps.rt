@@ -5,15 +5,15 @@ ghost use Rattle.cx_core.specs.declared.kinds.Kind.TheVariants.{LoadWord, Persis
 ghost use Rattle.cx_rule.specs.Fitting.{Fitting};
 ghost use Rattle.cx_rule.specs.Running.{IsSeatOf, instance_at};
 ghost use Rattle.cx_rule.specs.Seats.{SeenGuard, is_outdated, marked_load};
-ghost use Rattle.cx_table.specs.Mirrors.{mirror_of};
+ghost use Rattle.seat_memory.specs.Mirrors.{mirror_of};
 ghost use Rattle.cx_rule.specs.Steps.{Halts, Steps};
 
-use crate::mirror::{Mirror, is_at};
 use crate::seat::CallerSeat;
 use crate::shared::Shared;
 use cx_base::{Halt, Object, root_place};
 use cx_core::Kind;
 use cx_core::layout::{per_at, vol_at};
+use seat_memory::{Mirror, is_at};
 
 impl<O: Object> Shared<O> {
     /// Loads a word of a replica that the caller holds exclusively or shared, and notes it. With `mark`, a place word that

@@ -4,14 +4,13 @@ ghost use Rattle.std.specs.Prelude.{◌≡◌, ◌+◌, ◌*◌, ◌^◌, ◌<�
 ghost use Rattle.std.specs.List.{Contains};
 ghost use Rattle.cx_core.specs.Rights.{held_dirty};
 ghost use Rattle.cx_core.specs.QueueEvents.{cell_of};
-ghost use Rattle.cx_table.specs.Marks.{HasDirtyIn};
+ghost use Rattle.seat_memory.specs.Marks.{HasDirtyIn};
 ghost use Rattle.cx_rule.specs.Seats.{HasCells, IsWithinLimit, place_noted, unanswered_ticket};
 
-use crate::copy::Copy;
-use crate::mirror::Mirror;
 use atomic_table::Seat;
 use cx_core::{HeldDowngraded, SeenSlot, WonCode};
 use cx_rule::View;
+use seat_memory::{Copies, Mirror};
 use std::marker::Model;
 
 /// The seat of one caller. It has no bytes of the table, and what it knows changes only at its own steps. Contracts see
@@ -23,7 +22,7 @@ pub struct CallerSeat {
     /// The number of the caller's last entry before this service.
     pub(crate) before: u64,
     /// What is known in plain memory of the replica held exclusively and of the caller's cells.
-    pub(crate) copy: Copy,
+    pub(crate) copy: Copies,
 }
 
 impl Model for CallerSeat {
@@ -32,8 +31,8 @@ impl Model for CallerSeat {
     ghost Value = { Seated };
 
     ghost use Rattle.std.specs.Prelude.{length};
-    ghost use Rattle.cx_table.specs.Copies.{IsCopied};
-    ghost use Rattle.cx_table.specs.Mirrors.{IsMirrored};
+    ghost use Rattle.seat_memory.specs.Copies.{IsCopied};
+    ghost use Rattle.seat_memory.specs.Mirrors.{IsMirrored};
 
     ghost view = { λ s. record { table = s.seat.table_id; before = s.before; region = length s.copy.words; known = known_of s.seat.me.0 } };
 

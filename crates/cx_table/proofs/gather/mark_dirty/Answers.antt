@@ -3,7 +3,7 @@ use Rattle.std.proofs.lemmas.Option.{same_Some, slice_get-get_or}
 use Rattle.std.specs.List.{Contains, slice_get}
 use Rattle.cx_core.specs.Rights.{exclusive_on, held_dirty}
 use Rattle.cx_rule.specs.Seats.{Seated, known_of}
-use Rattle.cx_table.specs.declared.mirror.Mirror.{Mirror}
+use Rattle.seat_memory.specs.declared.mirror.Mirror.{Mirror}
 use Rattle.cx_table.proofs.Marking.{DirtyTo, dirty_all, dirty_off, dirty_on}
 use Rattle.cx_table.proofs.gather.mark_dirty.Goals as goal
 use Rattle.cx_table.proofs.gather.mark_dirty.Goals.{in-Some+then-replica-replicas, in-Some+else-replica-replicas, in_default}

@@ -3,10 +3,11 @@ use Rattle.std.proofs.lemmas.List.{append-nil}
 use Rattle.std.specs.Option.{option_to_list}
 use Rattle.cx_core.specs.declared.local.WonCode.{WonCode}
 use Rattle.cx_rule.specs.Seats.{Seated}
-use Rattle.cx_table.specs.declared.mirror.Mirror.{Mirror}
+use Rattle.seat_memory.specs.declared.mirror.Mirror.{Mirror}
 use Rattle.cx_table.specs.Remains.{locals_of}
-use Rattle.cx_table.specs.Wins.{wins_of}
-use Rattle.cx_table.proofs.Chaining.{no_win, wins_more}
+use Rattle.seat_memory.specs.Wins.{wins_of}
+use Rattle.seat_memory.proofs.Chaining.{no_win}
+use Rattle.cx_table.proofs.Closing.{wins_more}
 use Rattle.cx_table.proofs.gather.note_wins.Goals as goal
 use Rattle.cx_table.proofs.gather.note_wins.Goals.{in-Some, in_default}
 

@@ -2,8 +2,8 @@ use Rattle.std.proofs.Common.{◌↔◌, ap, subst, arith}
 use Rattle.std.specs.Prelude.{IsTrue}
 use Rattle.cx_core.specs.Rights.{held_dirty}
 use Rattle.cx_rule.specs.Seats.{Seated, known_of}
-use Rattle.cx_table.specs.Marks.{HasDirtyIn}
-use Rattle.cx_table.proofs.Counting.{dirty_any}
+use Rattle.seat_memory.specs.Marks.{HasDirtyIn}
+use Rattle.seat_memory.proofs.Counting.{dirty_any}
 use Rattle.cx_table.proofs.seat.CallerSeat.has_dirty.Goals as goal
 
 pub has_dirty-requires : goal.has_dirty-requires

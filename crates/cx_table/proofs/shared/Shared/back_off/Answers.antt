@@ -7,7 +7,7 @@ use Rattle.cx_rule.specs.Seats.{Seated, known_of}
 use Rattle.cx_rule.proofs.Keeps.{learns_shown}
 use Rattle.cx_table.specs.Tokens.{replica_of}
 use Rattle.cx_table.proofs.Handing.{can_back_off, steps_same}
-use Rattle.cx_table.proofs.MirrorLaws.{step_made}
+use Rattle.seat_memory.proofs.MirrorLaws.{step_made}
 use Rattle.cx_table.proofs.shared.Shared.back_off.Goals as goal
 
 pub subtract_learned-found-requires-clause-learns : goal.subtract_learned-found-requires-clause-learns

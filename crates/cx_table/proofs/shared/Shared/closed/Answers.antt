@@ -9,7 +9,7 @@ use Rattle.cx_core.specs.Merge.{history_of}
 use Rattle.cx_rule.specs.Ending.{locals_known}
 use Rattle.cx_rule.specs.Rule.{RuleHolds}
 use Rattle.cx_rule.specs.Running.{instance_at}
-use Rattle.cx_table.specs.Wins.{IsWayBy}
+use Rattle.seat_memory.specs.Wins.{IsWayBy}
 use Rattle.cx_table.proofs.Closing.{leaves, same_part}
 use Rattle.cx_rule.proofs.Keeps.{key_instance}
 use Rattle.cx_table.proofs.shared.Shared.closed.Goals as goal

@@ -8,7 +8,7 @@ use Rattle.cx_rule.specs.Seats.{Seated, known_of}
 use Rattle.cx_rule.proofs.Giving.{learns_downgrade}
 use Rattle.cx_table.proofs.Handing.{downgraded_now, laws_at, steps_same}
 use Rattle.cx_table.specs.Right.{Right}
-use Rattle.cx_table.proofs.MirrorLaws.{step_made_at}
+use Rattle.seat_memory.proofs.MirrorLaws.{step_made_at}
 use Rattle.cx_table.proofs.shared.Shared.downgrade.Goals as goal
 
 pub subtract_learned-found-requires-clause-learns : goal.subtract_learned-found-requires-clause-learns

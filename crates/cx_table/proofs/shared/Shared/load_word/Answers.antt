@@ -5,10 +5,10 @@ use Rattle.cx_core.specs.RegionEvents.{CanLoad}
 use Rattle.cx_core.specs.Rights.{is_at}
 use Rattle.cx_rule.specs.Running.{IsRunning, Running, instance_at}
 use Rattle.cx_rule.specs.Seats.{Seated, known_of, marked_load}
-use Rattle.cx_table.specs.declared.mirror.Mirror.{Mirror}
+use Rattle.seat_memory.specs.declared.mirror.Mirror.{Mirror}
 use Rattle.cx_rule.proofs.Giving.{learns_load}
 use Rattle.cx_table.proofs.Handing.{follows_same, laws_at, step_fits, steps_same}
-use Rattle.cx_table.proofs.MirrorLaws.{step_made}
+use Rattle.seat_memory.proofs.MirrorLaws.{step_made}
 use Rattle.cx_table.proofs.shared.Shared.load_word.Goals as goal
 
 pub load_learned-found-requires-clause-learns : goal.load_learned-found-requires-clause-learns

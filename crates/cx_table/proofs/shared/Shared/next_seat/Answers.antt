@@ -4,11 +4,11 @@ use Rattle.cx_core.specs.Region.{slot_number}
 use Rattle.cx_core.specs.State.{opening_local}
 use Rattle.cx_rule.specs.declared.rule.Known.{Known}
 use Rattle.std.proofs.lemmas.List.{length-replicate}
-use Rattle.cx_table.specs.Copies.{Copied}
-use Rattle.cx_table.specs.Mirrors.{mirror_of}
+use Rattle.seat_memory.specs.Copies.{Copied}
+use Rattle.seat_memory.specs.Mirrors.{mirror_of}
 use Rattle.cx_rule.specs.Seats.{Seated, opening_known, opening_view}
 use Rattle.cx_rule.proofs.Moves.{cut_rests, one_caller, splits}
-use Rattle.cx_table.proofs.OpeningSeats.{opening_copied, opening_mirrored}
+use Rattle.seat_memory.proofs.OpeningSeats.{opening_copied, opening_mirrored}
 use Rattle.cx_table.proofs.shared.Shared.next_seat.Goals as goal
 
 -- two seats that contracts see the same of

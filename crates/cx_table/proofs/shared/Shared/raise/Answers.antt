@@ -3,8 +3,8 @@ use Rattle.std.specs.Option.{option_copied}
 use Rattle.cx_rule.specs.Running.{IsRunning, Running}
 use Rattle.cx_rule.specs.Seats.{Seated, known_of}
 use Rattle.cx_table.proofs.Handing.{laws_at}
-use Rattle.cx_table.proofs.Raising.{dur_within, raise_learned, raised_fits, raised_made, some_map}
-use Rattle.cx_table.specs.Raised.{raised_mirror}
+use Rattle.seat_memory.proofs.Raising.{dur_within, raise_learned, raised_fits, raised_made, some_map}
+use Rattle.seat_memory.specs.Raised.{raised_mirror}
 use Rattle.cx_table.proofs.shared.Shared.raise.Goals as goal
 
 pub raise_learned-found-requires-clause-within : goal.raise_learned-found-requires-clause-within

@@ -2,7 +2,7 @@ use Rattle.std.proofs.Common.{ap, refl, subst}
 use Rattle.cx_core.specs.declared.kinds.Kind.TheVariants.{ReadCell}
 use Rattle.cx_rule.specs.Running.{IsRunning, Running}
 use Rattle.cx_table.proofs.Handing.{laws_at, step_fits}
-use Rattle.cx_table.proofs.MirrorLaws.{step_made}
+use Rattle.seat_memory.proofs.MirrorLaws.{step_made}
 use Rattle.cx_table.proofs.shared.Shared.read_cell.Goals as goal
 
 pub invariant_of-seat : goal.invariant_of-seat

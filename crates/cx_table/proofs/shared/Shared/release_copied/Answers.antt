@@ -8,8 +8,8 @@ use Rattle.cx_rule.specs.Running.{IsRunning, Running, instance_at}
 use Rattle.cx_rule.specs.Seats.{Seated, known_of}
 use Rattle.cx_rule.proofs.Copying.{learns_copied}
 use Rattle.cx_rule.proofs.Keeps.{learns_shown}
-use Rattle.cx_table.proofs.Copying.{copied_fits, copied_made, copied_same, region_some, still_held}
-use Rattle.cx_table.proofs.Handing.{laws_at}
+use Rattle.seat_memory.proofs.Copying.{copied_fits, copied_made, copied_same, region_some}
+use Rattle.cx_table.proofs.Handing.{laws_at, still_held}
 use Rattle.cx_table.specs.Right.{Right}
 use Rattle.cx_table.proofs.shared.Shared.release_copied.Goals as goal
 

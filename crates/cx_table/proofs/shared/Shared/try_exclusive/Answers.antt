@@ -1,9 +1,9 @@
 use Rattle.std.proofs.Common.{ap, subst}
 use Rattle.cx_core.specs.declared.kinds.Kind.TheVariants.{TryExclusive}
 use Rattle.cx_rule.specs.Running.{IsRunning, Running}
-use Rattle.cx_table.specs.declared.mirror.Mirror.{Mirror}
+use Rattle.seat_memory.specs.declared.mirror.Mirror.{Mirror}
 use Rattle.cx_table.proofs.Handing.{laws_at, step_fits, tried_exclusive}
-use Rattle.cx_table.proofs.MirrorLaws.{step_made}
+use Rattle.seat_memory.proofs.MirrorLaws.{step_made}
 use Rattle.cx_table.proofs.shared.Shared.try_exclusive.Goals as goal
 
 pub invariant_of-seat : goal.invariant_of-seat

@@ -1,9 +1,9 @@
 use Rattle.std.proofs.Common.{ap, refl, subst}
 use Rattle.cx_core.specs.declared.kinds.Kind.TheVariants.{TryShared}
 use Rattle.cx_rule.specs.Running.{IsRunning, Running}
-use Rattle.cx_table.specs.declared.mirror.Mirror.{Mirror}
+use Rattle.seat_memory.specs.declared.mirror.Mirror.{Mirror}
 use Rattle.cx_table.proofs.Handing.{laws_at, step_fits, tried_shared}
-use Rattle.cx_table.proofs.MirrorLaws.{step_made}
+use Rattle.seat_memory.proofs.MirrorLaws.{step_made}
 use Rattle.cx_table.proofs.shared.Shared.try_shared.Goals as goal
 
 pub invariant_of-seat : goal.invariant_of-seat

@@ -1,9 +1,0 @@
-use Rattle.std.proofs.Common.{◌≡◌, false, replicate}
-use Rattle.cx_table.proofs.copy.Copy.of.Goals as goal
-
-pub returns : goal.returns
-returns c =
-    let words : c.in_ok-from_elem.field-0.items ≡ replicate c.args.region 0 = c.in_ok-from_elem.ensures.items_if_clones_equal (λ y e. e) in
-    let dirty : c.in_ok-none.field-0 ≡ replicate c.args.region false = c.in_ok-none.ensures in
-    let cells : c.in_ok-from_elem-2.field-0.items ≡ replicate 2320 0 = c.in_ok-from_elem-2.ensures.items_if_clones_equal (λ y e. e) in
-    λ i. record { words = words i; dirty = dirty i; place = 0; cells = cells i }

@@ -1,0 +1,83 @@
+-- A seat after the release of a shared right whose words were copied over the replica held exclusively.
+use Rattle.std.proofs.Common.{◌≡◌, ◌<◌, ℕ, Bool, List, [], ◌∷◌, length, slice_index, refl, ap, sym, subst, ◌∙◌, arith, Some, None}
+use Rattle.std.proofs.lemmas.Option.{none-some}
+use Rattle.atomic_table.specs.Seated.{TableId}
+use Rattle.atomic_table.specs.Table.{Me}
+use Rattle.cx_core.specs.declared.kinds.Kind.{Kind}
+use Rattle.cx_core.specs.declared.kinds.Kind.TheVariants.{BackOff}
+use Rattle.cx_core.specs.declared.local.Local.{Local}
+use Rattle.cx_core.specs.LockEvents.{CanBackOff}
+use Rattle.cx_core.specs.State.{Instance}
+use Rattle.cx_rule.specs.declared.rule.Known.{Known}
+use Rattle.cx_core.proofs.HistoryLemmas.{ObjectLaws}
+use Rattle.cx_rule.specs.Fitting.{AgreeTo, Fitting, TellsWord, loads_of, loaded_of}
+use Rattle.cx_rule.specs.Rule.{IsBehindNotes}
+use Rattle.cx_rule.specs.Running.{IsRunning, IsSeatOf, Running, instance_at}
+use Rattle.cx_rule.specs.Seats.{IsAtLimit, Seated, known_after, known_of}
+use Rattle.cx_rule.specs.Steps.{Steps, StepsCopied, TeachesCopied, known_copied}
+use Rattle.cx_rule.proofs.Copying.{noted_place, noted_tells}
+use Rattle.cx_rule.proofs.Fitting.{fitting}
+use Rattle.seat_memory.specs.declared.mirror.Mirror.{Mirror}
+use Rattle.seat_memory.specs.Copies.{Copied, IsCopied}
+use Rattle.seat_memory.specs.Mirrors.{Follows, IsMirrored, mirror_of}
+use Rattle.seat_memory.proofs.MirrorLaws.{IsSeat, seated, step_made}
+
+-- The words in plain memory stay those of the dirty places, since they were noted last both before and after.
+copy_moved : (instance : Instance) (r found : ℕ) (k : Known) (c : Copied) → length c.words ≡ length instance.base.words → 0 < length c.words → AgreeTo k (length c.words) → IsBehindNotes instance (known_after instance (BackOff r) k found) →
+    IsCopied (known_after instance (BackOff r) k found) c → IsCopied (known_copied instance (BackOff r) k found) c
+copy_moved instance r found k c long some agree behind is =
+    let none : (w : ℕ) → None ≡ Some w → 0 ≡ w = λ w e. absurd (none-some w e) in
+    let first = agree 0 some in
+    record {
+      long = is.long;
+      place = is.place ∙ noted_place k.accesses 0 first.0 None none first.1 ∙ sym (noted_place (loads_of (loaded_of k.local.shared)) 0 first.0 None none first.2);
+      marks = is.marks;
+      cells = is.cells;
+      words = λ i below there. (
+          let a = agree i below in
+          let n = length c.words in
+          let count = behind.origin.long ∙ sym long in
+          let same : a.0 ≡ slice_index c.words i =
+          sym (noted_tells n k.accesses i a.0 below a.1 behind.first behind.now count behind.leads) ∙ is.words i below there behind.first behind.now count behind.leads in
+          subst (TellsWord n (loads_of (loaded_of k.local.shared)) i) same (noted_tells n (loads_of (loaded_of k.local.shared)) i a.0 below a.2));
+    }
+
+module _ {O : Type 0} (r : Running O) (step : O → List ℕ → List ℕ → List ℕ × List ℕ) (reads : O → List ℕ → Bool) (replica found : ℕ) (me me' : Me ℕ (List Known)) (mirror mirror' : Mirror) (copy : Copied) (table table' : TableId) (before : ℕ) where
+  pub copied_made : (callers : ℕ) (old : Seated) → IsSeat me mirror before copy → seated table me before copy ≡ old → ((l : Local) → mirror ≡ mirror_of l → ¬ IsAtLimit l) → IsSeatOf r old →
+      CanBackOff r.callers replica old.known.local → table' ≡ table → TeachesCopied (instance_at r step reads) (BackOff replica) (known_of me.0) found me' → callers ≡ r.callers → Follows callers (BackOff replica) found mirror mirror' →
+      AgreeTo old.known old.region → 0 < length r.base.words → IsSeat me' mirror' before copy × StepsCopied r step reads replica found old (seated table' me' before copy)
+  copied_made callers old is view allowed of guard same_table taught same follows agree some =
+      let instance = instance_at r step reads in
+      let k = known_of me.0 in
+      let left : Me ℕ (List Known) = (known_after instance (BackOff replica) k found ∷ [], []) in
+      let now : Me ℕ (List Known) = (known_copied instance (BackOff replica) k found ∷ [], []) in
+      let made = step_made r step reads (BackOff replica) found me left mirror mirror' copy copy table table' before callers old is view allowed of guard same_table taught.event same follows refl in
+      let m = made.0.0 in
+      let at = made.1.seat in
+      let long : length copy.words ≡ length r.base.words = ap (λ (s : Seated). s.region) view ∙ of.region in
+      let mirrored : IsMirrored now mirror' before = record { one = refl; is = m.is; linked = m.linked; front = m.front; few = m.few; small = m.small; place = m.place; cells = m.cells; within = m.within } in
+      let copied = copy_moved instance replica found k copy long (subst (λ n. 0 < n) (sym long) some) (subst (λ (s : Seated). AgreeTo s.known s.region) (sym view) agree) taught.event.behind made.0.1 in
+      let stands : IsSeatOf r (seated table' now before copy) = record { table = at.table; caller = at.caller; before = at.before; region = at.region } in
+      let whole : seated table' now before copy ≡ record old { known = known_copied instance (BackOff replica) old.known found } =
+      (λ i. record { table = same_table i; before = before; region = length copy.words; known = known_copied instance (BackOff replica) k found })
+      ∙ ap (λ (s : Seated). record s { known = known_copied instance (BackOff replica) s.known found }) view in
+      subst (λ (x : Me ℕ (List Known)). IsSeat x mirror' before copy × StepsCopied r step reads replica found old (seated table' x before copy)) (sym taught.knows) (
+        (mirrored, copied),
+        record { event = subst (λ (s : Seated). Steps r step reads (BackOff replica) found old s) made.1.made made.1; made = whole; seat = stands },
+      )
+
+-- a step of a replica that is another way to say the same
+pub copied_same : {O : Type 0} {r : Running O} {step : O → List ℕ → List ℕ → List ℕ × List ℕ} {reads : O → List ℕ → Bool} {replica replica' found : ℕ} {before after : Seated} → replica ≡ replica' → StepsCopied r step reads replica found before after →
+    StepsCopied r step reads replica' found before after
+copied_same {r = r} {step = step} {reads = reads} {found = found} {before = before} {after = after} same steps = subst (λ (n : ℕ). StepsCopied r step reads n found before after) same steps
+
+-- a region has words
+pub region_some : {O : Type 0} {line_count : O → ℕ} {lawful : O → List ℕ → Type 0} {r : Running O} → IsRunning line_count lawful r → 0 < length r.base.words
+region_some running = (let long = running.base.size.long in omega arith)
+
+-- what really is there fits what was noted
+pub copied_fits : {O : Type 0} (line_count : O → ℕ) (lawful : O → List ℕ → Type 0) (step : O → List ℕ → List ℕ → List ℕ × List ℕ) (reads : O → List ℕ → Bool) (r : Running O) (kind : Kind) (known : Known) (found : ℕ) (me' : Me ℕ (List Known)) →
+    IsRunning line_count lawful r → ObjectLaws r.lines (lawful r.object) (step r.object) → TeachesCopied (instance_at r step reads) kind known found me' → Fitting r.lines (lawful r.object) r.base (known_of me'.0)
+copied_fits line_count lawful step reads r kind known found me' running laws taught =
+    subst (Fitting r.lines (lawful r.object) r.base) (sym (ap (λ (m : Me ℕ (List Known)). known_of m.0) taught.knows))
+    (fitting r.lines (lawful r.object) (instance_at r step reads) laws running.base (known_copied (instance_at r step reads) kind known found) taught.behind)

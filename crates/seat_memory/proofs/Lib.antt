@@ -1,0 +1,10 @@
+pub mod Rows
+mod CopyLaws
+pub mod MirrorLaws
+mod Refused
+pub mod Copying
+pub mod Raising
+pub mod Counting
+pub mod OpeningSeats
+mod Carrying
+pub mod Chaining

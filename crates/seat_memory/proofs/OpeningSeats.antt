@@ -1,0 +1,75 @@
+-- The seat of a caller as it is cut from the first seat.
+use Rattle.std.proofs.Common.{◌≡◌, ◌+◌, ◌*◌, ◌^◌, ◌<◌, ◌≤◌, ℕ, zero, suc, true, false, List, [], ◌∷◌, get_or, replicate, slice_index, refl, sym, ap, ◌∙◌, subst, arith, None, Some}
+use Rattle.std.specs.List.{slice_get}
+use Rattle.std.proofs.lemmas.List.{get_or-replicate, length-replicate}
+use Rattle.std.proofs.lemmas.Option.{none-some, slice_get_within, get_or_from_slice_get}
+use Rattle.atomic_table.specs.Table.{Me}
+use Rattle.core_queue.proofs.Opening.{blank_shape}
+use Rattle.cx_core.specs.declared.local.Cell.{Cell}
+use Rattle.cx_core.specs.declared.local.Local.{Local}
+use Rattle.cx_core.specs.Lawful.{CellShape}
+use Rattle.cx_core.specs.State.{blank_cell, opening_local}
+use Rattle.cx_rule.specs.declared.rule.Known.{Known}
+use Rattle.seat_memory.specs.declared.mirror.Mirror.{Mirror}
+use Rattle.seat_memory.specs.Copies.{Copied, HasCellWords, IsCopied, blank_copy}
+use Rattle.seat_memory.specs.Mirrors.{IsMirrored, mirror_of}
+use Rattle.cx_rule.specs.Seats.{HasCells, IsWithinLimit, known_of, opening_known}
+use Rattle.cx_rule.proofs.Moves.{one_caller}
+
+-- a caller that made no step has its cells
+blank_cells : (callers place number limit : ℕ) → HasCells (record (opening_local callers place number) { limit = limit })
+blank_cells callers place number limit = record {
+  count = length-replicate 16 blank_cell;
+  each = λ j cell at. (
+      let within = slice_get_within (replicate 16 blank_cell) j cell at in
+      let is : blank_cell ≡ cell = sym (get_or-replicate 16 j blank_cell blank_cell (omega (arith, length-replicate 16 blank_cell))) ∙ get_or_from_slice_get (replicate 16 blank_cell) j cell blank_cell at in
+      subst CellShape is blank_shape);
+}
+
+-- a caller's seat as it is cut from the first seat
+pub opening_mirrored : (me : Me ℕ (List Known)) (mirror : Mirror) (before callers place number : ℕ) (limits : List ℕ) → me ≡ (opening_known callers place limits number ∷ [], []) →
+    mirror ≡ mirror_of (opening_known callers place limits number).local → place ≤ 2 ^ 40 → before ≤ 2 ^ 40 → IsMirrored me mirror before
+opening_mirrored me mirror before callers place number limits is m most small =
+    let one = one_caller me (opening_known callers place limits number) is in
+    let linked : mirror.linked ≡ 0 = ap (λ (x : Mirror). x.linked) m in
+    record {
+      one = one.0;
+      is = m ∙ ap (λ (k : Known). mirror_of k.local) (sym one.1);
+      linked = omega arith;
+      front = omega (arith, ap (λ (x : Mirror). x.front) m);
+      few = omega arith;
+      small = small;
+      place = λ h is. absurd (none-some h (sym (ap (λ (k : Known). k.local.downgraded) one.1) ∙ is));
+      cells = subst HasCells (ap (λ (k : Known). k.local) (sym one.1)) (blank_cells callers place number (slice_index limits number));
+      within = subst (λ (k : Known). IsWithinLimit k.local) (sym one.1) (λ few. omega arith);
+    }
+
+abbrev no_cell : Cell
+no_cell = record { words = []; ticket = None; set = []; offer = 0 }
+
+-- no word was written
+blank_words : (l : Local) → l.cells ≡ replicate 16 blank_cell → HasCellWords l (replicate 2320 0)
+blank_words l is = record {
+  long = length-replicate {A = ℕ} 2320 0;
+  each = λ j i small below.
+      get_or-replicate 2320 (145 * j + i) 0 0 (omega arith)
+      ∙ sym (get_or-replicate 145 i 0 0 below)
+      ∙ ap (λ (c : Cell). get_or c.words i 0) (sym (ap (λ (cs : List Cell). get_or cs j no_cell) is ∙ get_or-replicate 16 j blank_cell no_cell small));
+}
+
+-- and what it keeps in plain memory
+pub opening_copied : (me : Me ℕ (List Known)) (copy : Copied) (callers place number region : ℕ) (limits : List ℕ) → me ≡ (opening_known callers place limits number ∷ [], []) → copy ≡ blank_copy region → IsCopied (known_of me.0) copy
+opening_copied me copy callers place number region limits is blank =
+    let one = one_caller me (opening_known callers place limits number) is in
+    subst (λ (k : Known). IsCopied k copy) (sym one.1) (subst (IsCopied (opening_known callers place limits number)) (sym blank) (record {
+      long = length-replicate region false ∙ sym (length-replicate region 0);
+      place = refl;
+      marks = λ i below. (λ marked. absurd (unmarked region i marked), λ there. (let none : there.0 < 0 = there.1 in absurd (omega arith)));
+      words = λ i below there. (let none : there.0 < 0 = there.1 in absurd (omega arith));
+      cells = blank_words (opening_known callers place limits number).local refl;
+    }))
+  where
+    unmarked : (n i : ℕ) → slice_get (replicate n false) i ≡ Some true → ⊥
+    unmarked zero i at = none-some true at
+    unmarked (suc n) zero at = cc
+    unmarked (suc n) (suc i) at = unmarked n i at

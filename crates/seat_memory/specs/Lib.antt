@@ -1,0 +1,5 @@
+pub mod Mirrors
+pub mod Raised
+pub mod Copies
+pub mod Marks
+pub mod Wins

@@ -1,0 +1,59 @@
+-- The numbers of a local state that code reads.
+use Rattle.std.specs.Prelude.{◌≡◌, ◌^◌, ◌≤◌, ℕ, List, [], ◌∷◌, length, map, Some}
+use Rattle.std.specs.List.{range_with_len}
+use Rattle.atomic_table.specs.Table.{Me}
+use Rattle.cx_core.specs.declared.kinds.Kind.{Kind}
+use Rattle.cx_core.specs.declared.local.Cell.{Cell}
+use Rattle.cx_core.specs.declared.local.HeldDowngraded.{HeldDowngraded}
+use Rattle.cx_core.specs.declared.local.Local.{Local}
+use Rattle.cx_core.specs.LockEvents.{is_in}
+use Rattle.cx_core.specs.Rights.{exclusive_on, shared_on}
+use Rattle.cx_core.specs.State.{Instance}
+use Rattle.seat_memory.specs.declared.mirror.Mirror.{Mirror}
+use Rattle.cx_rule.specs.declared.rule.Known.{Known}
+use Rattle.cx_rule.specs.Seats.{HasCells, IsWithinLimit, SeenGuard, known_local, known_of, unanswered_ticket}
+
+abbrev pub mirror_of : Local → Mirror
+mirror_of l = record {
+  number = l.number;
+  front = l.front;
+  linked = length l.own;
+  unanswered = unanswered_ticket l;
+  tickets = map (λ (x : Cell). x.ticket) l.cells;
+  seen_slot = l.seen_slot;
+  seen_free = l.seen_free;
+  seen_low = l.seen_low;
+  seen_cur = l.seen_cur;
+  fresh = l.fresh;
+  refused = map (is_in l.refused) (range_with_len 0 16);
+  exclusive = exclusive_on l;
+  shared = shared_on l;
+  passer = l.passer;
+  downgraded = l.downgraded;
+  won = l.won;
+  raised = l.raised;
+  floor = l.floor;
+  steps = l.steps;
+  limit = l.limit;
+  met = l.met;
+  scans = l.scans;
+}
+
+-- the numbers follow an event of this kind that found this word, of a caller that is seen to be allowed to make it, in each
+-- instance with so many callers
+abbrev pub Follows : ℕ → Kind → ℕ → Mirror → Mirror → Type 0
+Follows callers kind found before after =
+    (instance : Instance) (k : Known) → instance.callers ≡ callers → SeenGuard instance kind k.local → before ≡ mirror_of k.local → after ≡ mirror_of (known_local instance kind k found)
+
+-- a seat knows one caller, and its numbers are that caller's. They are small enough to be counted on, and no more steps were
+-- made than the limit allows.
+pub record IsMirrored (me : Me ℕ (List Known)) (mirror : Mirror) (before : ℕ) : Type 0 where
+  pub one : me ≡ (known_of me.0 ∷ [], [])
+  pub is : mirror ≡ mirror_of (known_of me.0).local
+  pub linked : mirror.linked ≤ mirror.front
+  pub front : mirror.front ≤ 2 ^ 40
+  pub few : mirror.linked ≤ 2 ^ 40
+  pub small : before ≤ 2 ^ 40
+  pub place : (h : HeldDowngraded) → (known_of me.0).local.downgraded ≡ Some h → h.place ≤ 2 ^ 40
+  pub cells : HasCells (known_of me.0).local
+  pub within : IsWithinLimit (known_of me.0).local

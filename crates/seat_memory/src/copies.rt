@@ -1,0 +1,135 @@
+//! What a seat keeps in plain memory of words that its caller alone writes: one event stores one word, so the words of the
+//! replica held exclusively that are to be persisted have to be known without a load, and so have those of the caller's
+//! cells, of which only the words that differ are written.
+
+ghost use Rattle.std.specs.Prelude.{◌≡◌, ◌+◌, ◌*◌, ◌<◌, ◌==◌, ◌↔◌, ℕ, IfOk, IsTrue, false, true, if◌then◌else◌, length, replicate, slice_get, slice_index, slice_set, Some, None};
+ghost use Rattle.seat_memory.specs.Copies.{blank_copy};
+
+use crate::marks::Marks;
+use std::alloc::{AllocError, Global};
+use std::marker::Model;
+
+/// The words of a caller's 16 cells, each of 145.
+const CELL_WORDS: usize = 16 * 145;
+
+/// The words stored, by address, which of them are dirty, the place last loaded or stored, and the words of the cells, one
+/// cell after another.
+#[derive(Debug, Drop)]
+pub struct Copies {
+    words: Vec<u64>,
+    dirty: Marks,
+    place: u64,
+    cells: Vec<u64>,
+}
+
+impl Model for Copies {
+    ghost use Rattle.seat_memory.specs.Copies.{Copied};
+
+    ghost Value = { Copied };
+
+    ghost view = { λ c. record { words = c.words.items; dirty = c.dirty; place = c.place; cells = c.cells.items } };
+}
+
+impl Copies {
+    /// Room for so many words, none of which is dirty, and for cells that were never written.
+    pub fn of(alloc: Global, region: usize) -> Result<Copies, AllocError>
+        ensures { IfOk result (λ c. c ≡ blank_copy region) }
+    {
+        Ok(Copies {
+            words: Vec::from_elem(alloc, 0, region)?,
+            dirty: Marks::none(alloc, region)?,
+            place: 0,
+            cells: Vec::from_elem(alloc, 0, CELL_WORDS)?,
+        })
+    }
+
+    /// A replica was tried, of which nothing is known.
+    pub fn begin(&mut self)
+        ensures { self.new ≡ record self.old { place = 0 } }
+    {
+        self.place = 0;
+    }
+
+    /// A word was loaded, of the replica held exclusively or of another.
+    pub fn load(&mut self, held: bool, i: u64, found: u64)
+        ensures { self.new ≡ (if held then record self.old { place = if i == 0 then found else self.old.place } else self.old) }
+    {
+        if held && i == 0 {
+            self.place = found;
+        }
+    }
+
+    /// A word was stored.
+    pub fn store(&mut self, i: u64, v: u64)
+        requires word { i < length self.old.words }
+        requires mark { i < length self.old.dirty }
+        ensures { self.new ≡ record { words = slice_set self.old.words i v; dirty = slice_set self.old.dirty i true; place = if i == 0 then v else self.old.place; cells = self.old.cells } }
+    {
+        self.words[i as usize] = v;
+        self.dirty.mark(i);
+        if i == 0 {
+            self.place = v;
+        }
+    }
+
+    /// A word was persisted.
+    pub fn persist(&mut self, i: u64)
+        requires { i < length self.old.dirty }
+        ensures { self.new ≡ record self.old { dirty = slice_set self.old.dirty i false } }
+    {
+        self.dirty.clear(i);
+    }
+
+    /// A word was written into a cell.
+    pub fn write_cell(&mut self, j: u64, i: u64, v: u64)
+        requires { 145 * j + i < length self.old.cells }
+        ensures { self.new ≡ record self.old { cells = slice_set self.old.cells (145 * j + i) v } }
+    {
+        self.cells[(145 * j + i) as usize] = v;
+    }
+
+    /// A word of a cell.
+    pub fn cell_word(&self, j: u64, i: u64) -> u64
+        requires { 145 * j + i < length self.now.cells }
+        ensures { result ≡ slice_index self.now.cells (145 * j + i) }
+    {
+        self.cells[(145 * j + i) as usize]
+    }
+
+    /// The word last stored.
+    pub fn word(&self, i: u64) -> u64
+        requires { i < length self.now.words }
+        ensures { result ≡ slice_index self.now.words i }
+    {
+        self.words[i as usize]
+    }
+
+    /// The place last loaded or stored.
+    pub fn place(&self) -> u64
+        ensures { result ≡ self.now.place }
+    {
+        self.place
+    }
+
+    /// Which words are dirty.
+    pub fn marks(&self) -> &[bool]
+        ensures { result.now ≡ self.now.dirty }
+    {
+        self.dirty.as_slice()
+    }
+
+    /// Whether a word of a group of 64 is dirty.
+    pub fn has_dirty(&self, group: u64) -> bool
+        requires { 64 * group < length self.now.dirty }
+        ensures { IsTrue result ↔ ((i : ℕ) × (i < 64) × (slice_get self.now.dirty (64 * group + i) ≡ Some true)) }
+    {
+        self.dirty.has_any(group)
+    }
+
+    /// The words of a region.
+    pub fn region(&self) -> u64
+        ensures { result ≡ length self.now.words }
+    {
+        self.words.len() as u64
+    }
+}

@@ -1,0 +1,14 @@
+//! What a seat keeps in plain memory: the numbers of its caller's local state, how each kind of step changes them, and the
+//! words that its caller alone writes; and what is read off that when a table is closed. It gives no right to step: that is
+//! the seat's, which the running table hands out.
+#![tactic(auto)]
+
+mod closing;
+mod copies;
+mod marks;
+mod mirror;
+
+pub use closing::{copy_words, lead_on, mark_replica};
+pub use copies::Copies;
+pub use marks::GROUP;
+pub use mirror::{EXCLUSIVE_MARK, Mirror, is_at, opening_mirror};

@@ -1,0 +1,453 @@
+//! The numbers of a local state that code reads, and how each kind of step changes them.
+
+ghost use Rattle.std.specs.Prelude.{◌≡◌, ◌+◌, ◌*◌, ◌^◌, ◌<◌, ◌≤◌, ℕ, MatchResult, false, length, max, slice_index, slice_index_or, Some, None};
+ghost use Rattle.cx_core.specs.QueueEvents.{linked, lost, raised_front, seen_word};
+ghost use Rattle.cx_base.specs.Codes.{root_place_of};
+ghost use Rattle.cx_core.specs.declared.local.HeldDowngraded.{HeldDowngraded};
+ghost use Rattle.cx_core.specs.RootEvents.{code_in, outrun, published};
+ghost use Rattle.cx_core.specs.declared.kinds.Kind.TheVariants.{WriteCell, Link, Look, ReadCell, LoadFree, TryExclusive, TryShared, BackOff, Downgrade, ReleaseExclusive, LoadWord, StoreWord, Persist, LoadCur, Publish, Retire};
+ghost use Rattle.std.specs.List.{list_all, range_with_len};
+ghost use Rattle.cx_core.specs.LockEvents.{is_fresh_on, refused_by, taken};
+ghost use Rattle.cx_core.specs.State.{Instance, opening_local};
+ghost use Rattle.cx_core.specs.Rights.{is_at};
+ghost use Rattle.seat_memory.specs.Mirrors.{Follows, mirror_of};
+ghost use Rattle.seat_memory.specs.Raised.{is_below, raised_mirror};
+ghost use Rattle.cx_rule.specs.declared.rule.Known.{Known};
+ghost use Rattle.cx_rule.specs.Seats.{IsAtLimit, known_local, place_noted, unseen};
+
+use cx_base::{Halt, link_ticket, root_code, root_place, root_replica};
+use cx_core::{HeldDowngraded, SeenSlot, WonCode};
+
+/// What an exclusive right adds to a lock word.
+pub const EXCLUSIVE_MARK: u64 = 1 << 32;
+
+/// Whether a right is on this replica.
+pub fn is_at(r: u64, right: Option<u64>) -> bool
+    ensures { result ≡ is_at r right }
+{
+    match right {
+        None => false,
+        Some(q) => q == r,
+    }
+}
+
+/// Whether a ticket is below a place, where there is one.
+fn is_below(place: u64, ticket: Option<u64>) -> bool
+    ensures { result ≡ is_below place ticket }
+{
+    match ticket {
+        None => false,
+        Some(ticket) => ticket < place,
+    }
+}
+
+/// The numbers of a caller's local state that code reads: all but its lists and the words of its cells.
+#[derive(Clone, Copy, Debug, Drop)]
+pub struct Mirror {
+    pub number: u32,
+    pub front: u64,
+    /// The number of its linked entries.
+    pub linked: u64,
+    /// The ticket of its entry that is not answered yet.
+    pub unanswered: Option<u64>,
+    /// The tickets of its cells.
+    pub tickets: [Option<u64>; 16],
+    pub seen_slot: Option<SeenSlot>,
+    pub seen_free: u64,
+    pub seen_low: u64,
+    pub seen_cur: u64,
+    pub fresh: bool,
+    /// The replicas whose exclusive try was refused since it was last emptied.
+    pub refused: [bool; 16],
+    /// The replica that it holds exclusively, and the one that it holds shared.
+    pub exclusive: Option<u64>,
+    pub shared: Option<u64>,
+    /// The replica on which it left a passer's mark.
+    pub passer: Option<u64>,
+    /// The replica that it downgraded, and the place noted of it.
+    pub downgraded: Option<HeldDowngraded>,
+    /// The code with which it won and that it did not retire, and the code before it.
+    pub won: Option<WonCode>,
+    pub raised: u64,
+    pub floor: u64,
+    pub steps: u64,
+    pub limit: u64,
+    pub met: u64,
+    pub scans: u64,
+}
+
+/// The numbers of a caller that made no step.
+pub fn opening_mirror(callers: u32, place: u64, number: u32, limit: u64) -> Mirror
+    requires some { 1 ≤ callers }
+    requires few { callers ≤ 8 }
+    requires place { place ≤ 2 ^ 40 }
+    ensures { result ≡ mirror_of (record (opening_local callers place number) { limit = limit }) }
+{
+    let code = root_code(callers, place, 0);
+    Mirror {
+        number,
+        front: place,
+        linked: 0,
+        unanswered: None,
+        tickets: [None; 16],
+        seen_slot: None,
+        seen_free: place,
+        seen_low: place,
+        seen_cur: code,
+        fresh: false,
+        refused: [false; 16],
+        exclusive: None,
+        shared: None,
+        passer: None,
+        downgraded: None,
+        won: None,
+        raised: code,
+        floor: place,
+        steps: 0,
+        limit,
+        met: 0,
+        scans: 0,
+    }
+}
+
+impl Mirror {
+    /// Refuses a step where the steps equal the limit.
+    pub fn check(&self) -> Result<(), Halt>
+        ensures { (l : _) → self.now ≡ mirror_of l → MatchResult result (λ _. ¬ IsAtLimit l) (λ _. IsAtLimit l) }
+    {
+        if self.steps == self.limit && self.limit != u64::MAX {
+            return Err(Halt);
+        }
+        Ok(())
+    }
+
+    /// A word was written into cell `j`.
+    pub fn write_cell(&mut self, j: u64)
+        requires { j < 16 }
+        ensures { (callers i v found : ℕ) → Follows callers (WriteCell j i v) found self.old self.new }
+    {
+        self.tickets[j as usize] = None;
+        self.fresh = false;
+        self.steps = self.steps.saturating_add(1);
+    }
+
+    /// The entry in cell `j` was linked at the front.
+    pub fn win(&mut self, j: u64)
+        requires j { j < 16 }
+        requires front { self.old.front < 2 ^ 40 }
+        requires linked { self.old.linked ≤ self.old.front }
+        ensures { (l : _) → self.old ≡ mirror_of l → length l.answered ≡ length l.own → self.new ≡ mirror_of (linked l j) }
+    {
+        self.unanswered = Some(self.front);
+        self.tickets[j as usize] = Some(self.front);
+        self.linked += 1;
+        self.front += 1;
+        self.steps = self.steps.saturating_add(1);
+    }
+
+    /// A link was lost to the word found.
+    pub fn lose(&mut self, callers: u32, found: u64)
+        requires some { 1 ≤ callers }
+        requires few { callers ≤ 8 }
+        ensures { (l : _) → self.old ≡ mirror_of l → self.new ≡ mirror_of (lost callers l found) }
+    {
+        self.raise_front(callers, found);
+        self.steps = self.steps.saturating_add(1);
+    }
+
+    /// A link of the entry in cell `j` found this word.
+    pub fn link(&mut self, callers: u32, j: u64, found: u64)
+        requires some { 1 ≤ callers }
+        requires few { callers ≤ 8 }
+        requires j { j < 16 }
+        requires front { self.old.front < 2 ^ 40 }
+        requires linked { self.old.linked ≤ self.old.front }
+        ensures { Follows callers (Link j) found self.old self.new }
+    {
+        if found == self.seen_word() {
+            self.win(j);
+        } else {
+            self.lose(callers, found);
+        }
+    }
+
+    /// The word of the slot last looked at, 0 where there is none.
+    pub fn seen_word(&self) -> u64
+        ensures { result ≡ seen_word self.now.seen_slot }
+    {
+        match self.seen_slot {
+            None => 0,
+            Some(seen) => seen.word,
+        }
+    }
+
+    /// A link slot was looked at.
+    pub fn look(&mut self, callers: u32, s: u64, found: u64)
+        requires some { 1 ≤ callers }
+        requires few { callers ≤ 8 }
+        ensures { Follows callers (Look s) found self.old self.new }
+    {
+        self.seen_slot = Some(SeenSlot {
+            slot: s,
+            word: found,
+        });
+        self.raise_front(callers, found);
+        self.steps = self.steps.saturating_add(1);
+    }
+
+    /// A word of a cell was read.
+    pub fn read_cell(&mut self)
+        ensures { (callers t k i found : ℕ) → Follows callers (ReadCell t k i) found self.old self.new }
+    {
+        self.steps = self.steps.saturating_add(1);
+    }
+
+    /// FREE was found.
+    pub fn load_free(&mut self, found: u64)
+        ensures { (callers : ℕ) → Follows callers LoadFree found self.old self.new }
+    {
+        self.seen_free = self.seen_free.max(found);
+        self.steps = self.steps.saturating_add(1);
+    }
+
+    /// An exclusive try of a replica found this word.
+    pub fn try_exclusive(&mut self, callers: u32, r: u64, found: u64)
+        requires some { 1 ≤ callers }
+        requires few { callers ≤ 8 }
+        requires r { r < 2 * callers }
+        ensures { Follows callers (TryExclusive r) found self.old self.new }
+    {
+        if found == 0 {
+            self.take(r);
+        } else {
+            self.refuse(callers, r);
+        }
+    }
+
+    /// A replica was taken exclusively.
+    fn take(&mut self, r: u64)
+        ensures { (instance : Instance) (l : _) → self.old ≡ mirror_of l → self.new ≡ mirror_of (taken instance unseen r l) }
+    {
+        self.exclusive = Some(r);
+        self.refused = [false; 16];
+        self.steps = self.steps.saturating_add(1);
+    }
+
+    /// An exclusive try was refused.
+    fn refuse(&mut self, callers: u32, r: u64)
+        requires few { callers ≤ 8 }
+        requires r { r < 2 * callers }
+        ensures { (l : _) (found : ℕ) → self.old ≡ mirror_of l → self.new ≡ mirror_of (refused_by callers r l found) }
+    {
+        self.refused[r as usize] = true;
+        let all = self.all_refused(callers);
+        self.steps = self.steps.saturating_add(1);
+        if all {
+            self.refused = [false; 16];
+            self.met = self.met.saturating_add(1);
+        }
+    }
+
+    /// Whether each replica was refused.
+    fn all_refused(&self, callers: u32) -> bool
+        requires { callers ≤ 8 }
+        ensures { result ≡ list_all (λ r. slice_index_or self.now.refused r false) (range_with_len 0 (2 * callers)) }
+    {
+        (0..2 * callers as usize).all(|r| self.refused[r])
+    }
+
+    /// A shared try of a replica found this word.
+    pub fn try_shared(&mut self, callers: u32, r: u64, found: u64)
+        requires some { 1 ≤ callers }
+        requires few { callers ≤ 8 }
+        ensures { Follows callers (TryShared r) found self.old self.new }
+    {
+        if found < EXCLUSIVE_MARK {
+            self.shared = Some(r);
+        } else {
+            let fresh = self.is_fresh_on(callers, r);
+            self.passer = Some(r);
+            if fresh {
+                self.met = self.met.saturating_add(1);
+                self.fresh = false;
+            }
+        }
+        self.steps = self.steps.saturating_add(1);
+    }
+
+    /// Whether the code last loaded from CUR names this replica, and nothing ended its use.
+    pub fn is_fresh_on(&self, callers: u32, r: u64) -> bool
+        requires some { 1 ≤ callers }
+        requires few { callers ≤ 8 }
+        ensures { (l : _) → self.now ≡ mirror_of l → result ≡ is_fresh_on callers r l }
+    {
+        u64::from(root_replica(callers, self.seen_cur)) == r && self.fresh
+    }
+
+    /// A shared right, a passer's mark or a downgraded right was taken back.
+    pub fn back_off(&mut self, r: u64)
+        ensures { (callers found : ℕ) → Follows callers (BackOff r) found self.old self.new }
+    {
+        if is_at(r, self.shared) {
+            self.shared = None;
+        } else if is_at(r, self.passer) {
+            self.passer = None;
+        } else {
+            self.downgraded = None;
+        }
+        self.steps = self.steps.saturating_add(1);
+    }
+
+    /// An exclusive right was turned into a shared one, at the place noted.
+    pub fn downgrade(&mut self, r: u64, place: u64)
+        ensures { (instance : Instance) (k : Known) (found : ℕ) → place ≡ place_noted 0 k.accesses → self.old ≡ mirror_of k.local → self.new ≡ mirror_of (known_local instance (Downgrade r) k found) }
+    {
+        self.exclusive = None;
+        self.downgraded = Some(HeldDowngraded { replica: r, place });
+        self.steps = self.steps.saturating_add(1);
+    }
+
+    /// An exclusive right was given up.
+    pub fn release_exclusive(&mut self)
+        ensures { (callers r found : ℕ) → Follows callers (ReleaseExclusive r) found self.old self.new }
+    {
+        self.exclusive = None;
+        self.steps = self.steps.saturating_add(1);
+    }
+
+    /// CUR was found.
+    pub fn load_cur(&mut self, callers: u32, found: u64)
+        requires some { 1 ≤ callers }
+        requires few { callers ≤ 8 }
+        ensures { Follows callers LoadCur found self.old self.new }
+    {
+        self.see_cur(callers, found);
+        self.fresh = true;
+        self.steps = self.steps.saturating_add(1);
+    }
+
+    /// The root code of the replica that was downgraded, 0 where there is none.
+    pub fn downgraded_code(&self, callers: u32) -> u64
+        requires some { 1 ≤ callers }
+        requires few { callers ≤ 8 }
+        requires placed { (h : HeldDowngraded) → self.now.downgraded ≡ Some h → (h.replica < 2 * callers) × (h.place ≤ 2 ^ 40) }
+        ensures { result ≡ code_in callers self.now.downgraded }
+    {
+        match self.downgraded {
+            None => 0,
+            Some(held) => root_code(callers, held.place, held.replica as u32),
+        }
+    }
+
+    /// A publication of this code found this word in CUR.
+    pub fn publish(&mut self, callers: u32, code: u64, found: u64)
+        requires some { 1 ≤ callers }
+        requires few { callers ≤ 8 }
+        requires code { code ≡ code_in callers self.old.downgraded }
+        ensures { Follows callers Publish found self.old self.new }
+    {
+        if found == self.seen_cur {
+            self.win_cur(callers, code);
+        } else {
+            self.lose_cur(callers, found);
+        }
+    }
+
+    /// A publication of this code won.
+    fn win_cur(&mut self, callers: u32, code: u64)
+        requires some { 1 ≤ callers }
+        requires few { callers ≤ 8 }
+        requires code { code ≡ code_in callers self.old.downgraded }
+        ensures { (l : _) → self.old ≡ mirror_of l → self.new ≡ mirror_of (published callers l) }
+    {
+        self.won = Some(WonCode {
+            code,
+            before: self.seen_cur,
+        });
+        self.downgraded = None;
+        self.see_cur(callers, code);
+        self.fresh = false;
+        self.steps = self.steps.saturating_add(1);
+    }
+
+    /// A publication was lost to the code found.
+    fn lose_cur(&mut self, callers: u32, found: u64)
+        requires some { 1 ≤ callers }
+        requires few { callers ≤ 8 }
+        ensures { (l : _) → self.old ≡ mirror_of l → self.new ≡ mirror_of (outrun callers l found) }
+    {
+        if self.fresh {
+            self.met = self.met.saturating_add(1);
+        }
+        self.see_cur(callers, found);
+        self.fresh = false;
+        self.steps = self.steps.saturating_add(1);
+    }
+
+    /// A win was retired.
+    pub fn retire(&mut self)
+        ensures { (callers found : ℕ) → Follows callers Retire found self.old self.new }
+    {
+        self.won = None;
+        self.steps = self.steps.saturating_add(1);
+    }
+
+    /// A word of a replica was loaded, and marked as a refusal or not.
+    pub fn load_word(&mut self, refused: bool)
+        ensures { (callers r i found : ℕ) → Follows callers (LoadWord r i refused) found self.old self.new }
+    {
+        if refused {
+            self.met = self.met.saturating_add(1);
+            self.fresh = false;
+        }
+        self.steps = self.steps.saturating_add(1);
+    }
+
+    /// A word of a replica was stored or persisted.
+    pub fn write_word(&mut self)
+        ensures stored { (callers r i v found : ℕ) → Follows callers (StoreWord r i v) found self.old self.new }
+        ensures persisted { (callers r i found : ℕ) → Follows callers (Persist r i) found self.old self.new }
+    {
+        self.steps = self.steps.saturating_add(1);
+    }
+
+    /// DUR was raised by a code, with a read that is answered or without.
+    pub fn raise(&mut self, callers: u32, code: u64, read: bool)
+        requires some { 1 ≤ callers }
+        requires few { callers ≤ 8 }
+        ensures { self.new ≡ raised_mirror callers code read self.old }
+    {
+        let place = root_place(callers, code);
+        let answers = is_below(place, self.unanswered);
+        if answers {
+            self.unanswered = None;
+        }
+        if answers || read {
+            self.floor = self.floor.max(place);
+        }
+        self.raised = self.raised.max(code);
+        self.fresh = false;
+        self.steps = self.steps.saturating_add(1);
+    }
+
+    /// This code was found in CUR, or put there.
+    fn see_cur(&mut self, callers: u32, code: u64)
+        requires some { 1 ≤ callers }
+        requires few { callers ≤ 8 }
+        ensures { self.new ≡ record self.old { seen_cur = code; front = max self.old.front (root_place_of callers code) } }
+    {
+        self.seen_cur = code;
+        self.front = self.front.max(root_place(callers, code));
+    }
+
+    /// The ticket in a link word is linked, and so is each one before it.
+    fn raise_front(&mut self, callers: u32, found: u64)
+        requires some { 1 ≤ callers }
+        requires few { callers ≤ 8 }
+        ensures { self.new ≡ record self.old { front = raised_front callers self.old.front found } }
+    {
+        if found != 0 {
+            self.front = self.front.max(link_ticket(callers, found) + 1);
+        }
+    }
+}
