@@ -40,6 +40,7 @@ limit_kept instance words locals caller l limit law at = lawful_local instance (
     tickets = record { own = refl; answered = refl };
     cells = record { cells = refl; seen_slot = refl; seen_offer = refl };
     front = record { front = refl; floor = refl; seen_cur = refl; seen_free = refl; seen_low = refl; raised = refl; won = refl };
+    ring = record { protection = refl; scan = refl };
   };
   rights = record { exclusive = refl; shared = refl; passer = refl; downgraded = refl; won = refl };
   held = record { exclusive = refl; shared = refl };
