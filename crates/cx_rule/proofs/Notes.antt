@@ -4,7 +4,7 @@ use Rattle.std.proofs.lemmas.Option.{same_Some, none-some}
 use Rattle.std.specs.List.{slice_get}
 use Rattle.cx_core.specs.declared.entry.Entry.{Entry}
 use Rattle.cx_core.specs.declared.kinds.Kind.{Kind}
-use Rattle.cx_core.specs.declared.kinds.Kind.TheVariants.{WriteCell, Link, Look, ReadCell, LoadFree, TryExclusive, TryShared, BackOff, Downgrade, ReleaseExclusive, LoadWord, StoreWord, Persist, LoadCur, Publish, Raise, Retire}
+use Rattle.cx_core.specs.declared.kinds.Kind.TheVariants.{WriteCell, Link, Look, ReadCell, LoadFree, TryExclusive, TryShared, BackOff, Downgrade, ReleaseExclusive, LoadWord, StoreWord, Persist, LoadCur, Publish, Raise, Retire, Protect, Confirm, Unprotect, CloseLow, Scan, OpenFree}
 use Rattle.cx_core.specs.declared.local.Local.{Local}
 use Rattle.cx_core.specs.Events.{Guard, found_by}
 use Rattle.cx_core.specs.Lawful.{Lawful}
@@ -85,3 +85,9 @@ noted_hold instance LoadCur s law caller l at guard still = no_notes instance la
 noted_hold instance Publish s law caller l at guard still = no_notes instance law.history
 noted_hold instance (Raise code read) s law caller l at guard still = no_notes instance law.history
 noted_hold instance Retire s law caller l at guard still = no_notes instance law.history
+noted_hold instance (Protect p) s law caller l at guard still = no_notes instance law.history
+noted_hold instance Confirm s law caller l at guard still = no_notes instance law.history
+noted_hold instance Unprotect s law caller l at guard still = no_notes instance law.history
+noted_hold instance (CloseLow target) s law caller l at guard still = no_notes instance law.history
+noted_hold instance (Scan d) s law caller l at guard still = no_notes instance law.history
+noted_hold instance OpenFree s law caller l at guard still = no_notes instance law.history

@@ -5,7 +5,7 @@ use Rattle.std.proofs.lemmas.Bool.{false≢true}
 use Rattle.std.specs.Prelude.{nat_lt}
 use Rattle.std.specs.Option.{option_map}
 use Rattle.cx_core.specs.declared.kinds.Kind.{Kind}
-use Rattle.cx_core.specs.declared.kinds.Kind.TheVariants.{WriteCell, Link, Look, ReadCell, LoadFree, TryExclusive, TryShared, BackOff, Downgrade, ReleaseExclusive, LoadWord, StoreWord, Persist, LoadCur, Publish, Raise, Retire}
+use Rattle.cx_core.specs.declared.kinds.Kind.TheVariants.{WriteCell, Link, Look, ReadCell, LoadFree, TryExclusive, TryShared, BackOff, Downgrade, ReleaseExclusive, LoadWord, StoreWord, Persist, LoadCur, Publish, Raise, Retire, Protect, Confirm, Unprotect, CloseLow, Scan, OpenFree}
 use Rattle.cx_core.specs.declared.local.HeldExclusive.{HeldExclusive}
 use Rattle.cx_core.specs.declared.local.Local.{Local}
 use Rattle.cx_core.specs.Events.{Guard, new_word, next, step_word}
@@ -76,6 +76,12 @@ next_holding instance scene Publish l o found by =
     ≡ cond b (published instance.callers (holding l (option_map blank o))) (outrun instance.callers (holding l (option_map blank o)) found)) [ true ↦ refl | false ↦ refl ]
 next_holding instance scene (Raise code read) l o found by = absurd by
 next_holding instance scene Retire l o found by = refl
+next_holding instance scene (Protect p) l o found by = refl
+next_holding instance scene Confirm l o found by = refl
+next_holding instance scene Unprotect l o found by = refl
+next_holding instance scene (CloseLow target) l o found by = refl
+next_holding instance scene (Scan d) l o found by = refl
+next_holding instance scene OpenFree l o found by = refl
 
 -- what is shown of the local state after a step is what the step makes of the one that is shown
 pub next_shown : (instance : Instance) (scene : Scene) (kind : Kind) (l : Local) (found : ℕ) → IsByShown kind → shown (next instance scene kind l found) ≡ shown_next instance kind (shown l) found
@@ -100,6 +106,12 @@ known_by_shown instance LoadCur k found by = refl
 known_by_shown instance Publish k found by = refl
 known_by_shown instance (Raise code read) k found by = absurd by
 known_by_shown instance Retire k found by = refl
+known_by_shown instance (Protect p) k found by = refl
+known_by_shown instance Confirm k found by = refl
+known_by_shown instance Unprotect k found by = refl
+known_by_shown instance (CloseLow target) k found by = refl
+known_by_shown instance (Scan d) k found by = refl
+known_by_shown instance OpenFree k found by = refl
 
 pub known_shown : (instance : Instance) (scene : Scene) (kind : Kind) (k : Known) (l : Local) (found : ℕ) → IsByShown kind → k.local ≡ shown l → known_local instance kind k found ≡ shown (next instance scene kind l found)
 known_shown instance scene kind k l found by shows = known_by_shown instance kind k found by ∙ ap (λ (x : Local). shown_next instance kind x found) shows ∙ sym (next_shown instance scene kind l found by)
@@ -123,6 +135,12 @@ guard_holding instance scene LoadCur l (Some h) by g = g
 guard_holding instance scene Publish l (Some h) by g = g
 guard_holding instance scene (Raise code read) l (Some h) by g = absurd by
 guard_holding instance scene Retire l (Some h) by g = g
+guard_holding instance scene (Protect p) l (Some h) by g = g
+guard_holding instance scene Confirm l (Some h) by g = g
+guard_holding instance scene Unprotect l (Some h) by g = g
+guard_holding instance scene (CloseLow target) l (Some h) by g = g
+guard_holding instance scene (Scan d) l (Some h) by g = g
+guard_holding instance scene OpenFree l (Some h) by g = g
 
 -- a guard that does not look at the scene
 guard_seen : (instance : Instance) (scene : Scene) (kind : Kind) (l : Local) → IsByShown kind → Guard instance unseen kind l → Guard instance scene kind l
@@ -144,6 +162,12 @@ guard_seen instance scene LoadCur l by g = g
 guard_seen instance scene Publish l by g = g
 guard_seen instance scene (Raise code read) l by g = absurd by
 guard_seen instance scene Retire l by g = g
+guard_seen instance scene (Protect p) l by g = g
+guard_seen instance scene Confirm l by g = g
+guard_seen instance scene Unprotect l by g = g
+guard_seen instance scene (CloseLow target) l by g = g
+guard_seen instance scene (Scan d) l by g = g
+guard_seen instance scene OpenFree l by g = g
 
 -- a guard over what is shown is the guard
 pub guard_shown : (instance : Instance) (scene : Scene) (kind : Kind) (l : Local) → IsByShown kind → Guard instance unseen kind (shown l) → Guard instance scene kind l
@@ -168,6 +192,12 @@ word_shown instance LoadCur l = refl
 word_shown instance Publish l = refl
 word_shown instance (Raise code read) l = refl
 word_shown instance Retire l = refl
+word_shown instance (Protect p) l = refl
+word_shown instance Confirm l = refl
+word_shown instance Unprotect l = refl
+word_shown instance (CloseLow target) l = refl
+word_shown instance (Scan d) l = refl
+word_shown instance OpenFree l = refl
 
 pub put_shown : (instance : Instance) (kind : Kind) (l : Local) (found : ℕ) → IsByShown kind → new_word instance kind (shown l) found ≡ new_word instance kind l found
 put_shown instance (WriteCell j i v) l found by = refl
@@ -187,6 +217,12 @@ put_shown instance LoadCur l found by = refl
 put_shown instance Publish l found by = refl
 put_shown instance (Raise code read) l found by = absurd by
 put_shown instance Retire l found by = refl
+put_shown instance (Protect p) l found by = refl
+put_shown instance Confirm l found by = refl
+put_shown instance Unprotect l found by = refl
+put_shown instance (CloseLow target) l found by = refl
+put_shown instance (Scan d) l found by = refl
+put_shown instance OpenFree l found by = refl
 
 -- what the rule says of the word found
 pub told_shown : (instance : Instance) (kind : Kind) (l : Local) (found : ℕ) → Told instance kind l found → Told instance kind (shown l) found
@@ -207,6 +243,12 @@ told_shown instance LoadCur l found told = told
 told_shown instance Publish l found told = told
 told_shown instance (Raise code read) l found told = tt
 told_shown instance Retire l found told = tt
+told_shown instance (Protect p) l found told = tt
+told_shown instance Confirm l found told = tt
+told_shown instance Unprotect l found told = tt
+told_shown instance (CloseLow target) l found told = tt
+told_shown instance (Scan d) l found told = tt
+told_shown instance OpenFree l found told = tt
 
 -- the rights of a local state are those of what is shown of it
 shown_rights : (l : Local) → SameRights l (shown l)

@@ -5,7 +5,7 @@ use Rattle.std.proofs.lemmas.Nat.{mod_below}
 use Rattle.cx_base.specs.Codes.{root_replica_of}
 use Rattle.cx_core.specs.declared.entry.Base.{Base}
 use Rattle.cx_core.specs.declared.kinds.Kind.{Kind}
-use Rattle.cx_core.specs.declared.kinds.Kind.TheVariants.{WriteCell, Link, Look, ReadCell, LoadFree, TryExclusive, TryShared, BackOff, Downgrade, ReleaseExclusive, LoadWord, StoreWord, Persist, LoadCur, Publish, Raise, Retire}
+use Rattle.cx_core.specs.declared.kinds.Kind.TheVariants.{WriteCell, Link, Look, ReadCell, LoadFree, TryExclusive, TryShared, BackOff, Downgrade, ReleaseExclusive, LoadWord, StoreWord, Persist, LoadCur, Publish, Raise, Retire, Protect, Confirm, Unprotect, CloseLow, Scan, OpenFree}
 use Rattle.cx_core.specs.declared.local.Local.{Local}
 use Rattle.cx_core.specs.Events.{Guard, found_by, new_word, words_after}
 use Rattle.cx_core.specs.RootEvents.{before_in}
@@ -70,3 +70,9 @@ still_stands instance scene Publish l words some caller guard fits still = put_a
 still_stands instance scene (Raise code read) l words some caller guard fits still = put_apart instance words dur_at _ (inl (omega arith)) still
 still_stands instance scene Retire l words some caller guard fits still =
     lock_put instance words (root_replica_of instance.callers (before_in l.won)) _ (mod_below (before_in l.won) (2 * instance.callers) (omega (arith, some))) still
+still_stands instance scene (Protect p) l words some caller guard fits still = absurd fits
+still_stands instance scene Confirm l words some caller guard fits still = absurd fits
+still_stands instance scene Unprotect l words some caller guard fits still = absurd fits
+still_stands instance scene (CloseLow target) l words some caller guard fits still = absurd fits
+still_stands instance scene (Scan d) l words some caller guard fits still = absurd fits
+still_stands instance scene OpenFree l words some caller guard fits still = absurd fits

@@ -5,7 +5,7 @@ use Rattle.std.specs.List.{slice_get}
 use Rattle.cx_base.specs.Codes.{link_cell_of, link_code_of, link_ticket_of}
 use Rattle.cx_core.specs.declared.entry.Entry.{Entry}
 use Rattle.cx_core.specs.declared.kinds.Kind.{Kind}
-use Rattle.cx_core.specs.declared.kinds.Kind.TheVariants.{WriteCell, Link, Look, ReadCell, LoadFree, TryExclusive, TryShared, BackOff, Downgrade, ReleaseExclusive, LoadWord, StoreWord, Persist, LoadCur, Publish, Raise, Retire}
+use Rattle.cx_core.specs.declared.kinds.Kind.TheVariants.{WriteCell, Link, Look, ReadCell, LoadFree, TryExclusive, TryShared, BackOff, Downgrade, ReleaseExclusive, LoadWord, StoreWord, Persist, LoadCur, Publish, Raise, Retire, Protect, Confirm, Unprotect, CloseLow, Scan, OpenFree}
 use Rattle.cx_core.specs.declared.local.Local.{Local}
 use Rattle.cx_core.specs.declared.local.SeenSlot.{SeenSlot}
 use Rattle.cx_core.specs.Events.{Guard, found_by}
@@ -128,3 +128,9 @@ told_holds instance LoadCur s law caller l at guard still = (law.root.each calle
 told_holds instance Publish s law caller l at guard still = (law.root.each caller l at).seen.most
 told_holds instance (Raise code read) s law caller l at guard still = tt
 told_holds instance Retire s law caller l at guard still = tt
+told_holds instance (Protect p) s law caller l at guard still = tt
+told_holds instance Confirm s law caller l at guard still = tt
+told_holds instance Unprotect s law caller l at guard still = tt
+told_holds instance (CloseLow target) s law caller l at guard still = tt
+told_holds instance (Scan d) s law caller l at guard still = tt
+told_holds instance OpenFree s law caller l at guard still = tt

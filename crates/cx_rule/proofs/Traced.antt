@@ -7,7 +7,7 @@ use Rattle.std.specs.Option.{option_map}
 use Rattle.cx_base.specs.Noted.{Note, load_leads, store_leads}
 use Rattle.cx_core.specs.declared.entry.Entry.{Entry}
 use Rattle.cx_core.specs.declared.kinds.Kind.{Kind}
-use Rattle.cx_core.specs.declared.kinds.Kind.TheVariants.{WriteCell, Link, Look, ReadCell, LoadFree, TryExclusive, TryShared, BackOff, Downgrade, ReleaseExclusive, LoadWord, StoreWord, Persist, LoadCur, Publish, Raise, Retire}
+use Rattle.cx_core.specs.declared.kinds.Kind.TheVariants.{WriteCell, Link, Look, ReadCell, LoadFree, TryExclusive, TryShared, BackOff, Downgrade, ReleaseExclusive, LoadWord, StoreWord, Persist, LoadCur, Publish, Raise, Retire, Protect, Confirm, Unprotect, CloseLow, Scan, OpenFree}
 use Rattle.cx_core.specs.declared.local.HeldExclusive.{HeldExclusive}
 use Rattle.cx_core.specs.declared.local.Local.{Local}
 use Rattle.cx_core.specs.Events.{Guard, found_by, local_after}
@@ -196,3 +196,9 @@ module _ (instance : Instance) (s : State) (law : Lawful instance s) (caller : �
       elim (found == l.seen_cur) as (λ b. Traced k.accesses (cond b (published instance.callers l) (outrun instance.callers l found))) [ true ↦ same_held _ refl | false ↦ same_held _ refl ]
   traced_next (Raise code read) guard small = same_held _ refl
   traced_next Retire guard small = same_held _ refl
+  traced_next (Protect p) guard small = same_held _ refl
+  traced_next Confirm guard small = same_held _ refl
+  traced_next Unprotect guard small = same_held _ refl
+  traced_next (CloseLow target) guard small = same_held _ refl
+  traced_next (Scan d) guard small = same_held _ refl
+  traced_next OpenFree guard small = same_held _ refl

@@ -8,7 +8,7 @@ use Rattle.std.specs.List.{Contains, slice_get}
 use Rattle.std.specs.Option.{option_map}
 use Rattle.cx_base.specs.Noted.{Note, led_by_load, led_by_store}
 use Rattle.cx_core.specs.declared.kinds.Kind.{Kind}
-use Rattle.cx_core.specs.declared.kinds.Kind.TheVariants.{WriteCell, Link, Look, ReadCell, LoadFree, TryExclusive, TryShared, BackOff, Downgrade, ReleaseExclusive, LoadWord, StoreWord, Persist, LoadCur, Publish, Raise, Retire}
+use Rattle.cx_core.specs.declared.kinds.Kind.TheVariants.{WriteCell, Link, Look, ReadCell, LoadFree, TryExclusive, TryShared, BackOff, Downgrade, ReleaseExclusive, LoadWord, StoreWord, Persist, LoadCur, Publish, Raise, Retire, Protect, Confirm, Unprotect, CloseLow, Scan, OpenFree}
 use Rattle.cx_core.specs.declared.local.Cell.{Cell}
 use Rattle.cx_core.specs.declared.local.HeldExclusive.{HeldExclusive}
 use Rattle.cx_core.specs.declared.local.Local.{Local}
@@ -309,3 +309,9 @@ copy_kept instance Publish k found c guard shape long is = (
 )
 copy_kept instance (Raise code read) k found c guard shape long is = (refl, still k _ c refl refl (λ j. refl) is)
 copy_kept instance Retire k found c guard shape long is = (refl, still k _ c refl refl (λ j. refl) is)
+copy_kept instance (Protect p) k found c guard shape long is = (refl, still k _ c refl refl (λ j. refl) is)
+copy_kept instance Confirm k found c guard shape long is = (refl, still k _ c refl refl (λ j. refl) is)
+copy_kept instance Unprotect k found c guard shape long is = (refl, still k _ c refl refl (λ j. refl) is)
+copy_kept instance (CloseLow target) k found c guard shape long is = (refl, still k _ c refl refl (λ j. refl) is)
+copy_kept instance (Scan d) k found c guard shape long is = (refl, still k _ c refl refl (λ j. refl) is)
+copy_kept instance OpenFree k found c guard shape long is = (refl, still k _ c refl refl (λ j. refl) is)

@@ -7,7 +7,7 @@ use Rattle.atomic_table.specs.Seated.{TableId}
 use Rattle.atomic_table.specs.Table.{Me}
 use Rattle.cx_base.specs.Codes.{link_ticket_of}
 use Rattle.cx_core.specs.declared.kinds.Kind.{Kind}
-use Rattle.cx_core.specs.declared.kinds.Kind.TheVariants.{WriteCell, Link, Look, ReadCell, LoadFree, TryExclusive, TryShared, BackOff, Downgrade, ReleaseExclusive, LoadWord, StoreWord, Persist, LoadCur, Publish, Raise, Retire}
+use Rattle.cx_core.specs.declared.kinds.Kind.TheVariants.{WriteCell, Link, Look, ReadCell, LoadFree, TryExclusive, TryShared, BackOff, Downgrade, ReleaseExclusive, LoadWord, StoreWord, Persist, LoadCur, Publish, Raise, Retire, Protect, Confirm, Unprotect, CloseLow, Scan, OpenFree}
 use Rattle.cx_core.specs.declared.local.Cell.{Cell}
 use Rattle.cx_core.specs.declared.local.Linked.{Linked}
 use Rattle.cx_core.specs.declared.local.Local.{Local}
@@ -127,6 +127,12 @@ goes_on instance Publish k found guard small shape =
     ]
 goes_on instance (Raise code read) k found guard small shape = quiet k.local _ small shape refl refl refl refl refl refl
 goes_on instance Retire k found guard small shape = quiet k.local _ small shape refl refl refl refl refl refl
+goes_on instance (Protect p) k found guard small shape = quiet k.local _ small shape refl refl refl refl refl refl
+goes_on instance Confirm k found guard small shape = quiet k.local _ small shape refl refl refl refl refl refl
+goes_on instance Unprotect k found guard small shape = quiet k.local _ small shape refl refl refl refl refl refl
+goes_on instance (CloseLow target) k found guard small shape = quiet k.local _ small shape refl refl refl refl refl refl
+goes_on instance (Scan d) k found guard small shape = quiet k.local _ small shape refl refl refl refl refl refl
+goes_on instance OpenFree k found guard small shape = quiet k.local _ small shape refl refl refl refl refl refl
 
 -- one step more within the limit
 pub one_step : (l : Local) → IsWithinLimit l → ¬ IsAtLimit l → l.limit < max_word → one_more l.steps ≤ l.limit
