@@ -103,11 +103,11 @@ module _ (instance : Instance) (history : List Entry) (words : List ℕ) (locals
             tickets = tickets_linked instance history locals caller l j law.tickets at shape.number (shape.each j _ (cell_there caller l j shape guard.0)) guard end;
             links = links_linked instance history words entry l.front j law.links some long end guard.0;
             cells = cells_linked instance history words locals caller l j wins;
-            ring = ring_framed instance words locals place code caller l (linked l j) law.shape law.ring at (inr (omega arith)) (record { protection = refl; scan = refl });
             fronts = fronts_put instance history (history ++ entry ∷ []) words (set words place code) locals caller l (linked l j) law.fronts at (omega (arith, longer)) (same_words words place code (inl far))
                 (behind_raised instance history (history ++ entry ∷ []) words (set words place code) l (linked l j) old (omega (arith, longer)) (same_words words place code (inl far))
                 (omega arith) (omega (arith, longer, end))
                 (record { front = refl; floor = refl; seen_cur = refl; seen_free = refl; seen_low = refl; raised = refl; won = refl }));
+            ring = ring_framed instance words locals place code caller l (linked l j) law.shape law.ring at (inr (omega arith)) (record { protection = refl; scan = refl });
           };
         }
 

@@ -44,11 +44,11 @@ lawful_local instance s caller l l' law at same =
       links = q.links;
       cells = q.cells;
       fronts = q.fronts;
-      ring = q.ring;
       locks = locks_local instance s.words s.locals caller l l' law.locks at same.rights;
       regions = regions_shared instance law.history s.words s.locals caller l l' law.regions at same.held.exclusive (λ h has. law.regions.loaded caller l at h (sym same.held.shared ∙ has));
       root = no_word (λ ws. Root instance ws locals') s.words low_at
           (root_framed instance s.words s.locals caller l law.shape.some law.locks law.root at low_at low l' (low_off instance low_at (omega arith) (omega arith)) same.root);
+      ring = q.ring;
       answers = no_word (λ ws. Answers instance law.history ws locals') s.words low_at
           (answers_framed instance law.history s.words s.locals low_at low caller l l' law.answers at (omega arith) same.answers);
     }
@@ -77,10 +77,10 @@ kind_kept instance s caller l kind law at guard =
       links = q.lawful.links;
       cells = q.lawful.cells;
       fronts = q.lawful.fronts;
-      ring = q.lawful.ring;
       locks = r.locks;
       regions = regions_longer instance law.history q.after words' locals' q.continues r.regions;
       root = root';
+      ring = q.lawful.ring;
       answers = answers_longer instance law.history q.after q.continues.more words' locals' q.continues.is (durable_within instance law.history words' locals' law.shape.some bounds') answers';
     }
 
@@ -109,9 +109,9 @@ opening_lawful instance some few within placed =
       links = q.links;
       cells = q.cells;
       fronts = q.fronts;
-      ring = q.ring;
       locks = opening_locks instance.callers instance.base some;
       regions = opening_regions instance some placed;
       root = opening_root instance some placed;
+      ring = q.ring;
       answers = opening_answers instance;
     }
