@@ -11,7 +11,7 @@ use Rattle.core_events.specs.declared.events.Told.{Told}
 use Rattle.cx_core.specs.declared.entry.Base.{Base}
 use Rattle.cx_core.specs.declared.kinds.Event.{Event}
 use Rattle.cx_core.specs.declared.kinds.Kind.{Kind}
-use Rattle.cx_core.specs.declared.kinds.Kind.TheVariants.{WriteCell, Link, Look, ReadCell, LoadFree, TryExclusive, TryShared, BackOff, Downgrade, ReleaseExclusive, LoadWord, StoreWord, Persist, LoadCur, Publish, Raise, Retire}
+use Rattle.cx_core.specs.declared.kinds.Kind.TheVariants.{WriteCell, Link, Look, ReadCell, LoadFree, TryExclusive, TryShared, BackOff, Downgrade, ReleaseExclusive, LoadWord, StoreWord, Persist, LoadCur, Publish, Raise, Retire, Protect, Confirm, Unprotect, CloseLow, Scan, OpenFree}
 use Rattle.cx_core.specs.declared.local.HeldDowngraded.{HeldDowngraded}
 use Rattle.cx_core.specs.declared.local.Linked.{Linked}
 use Rattle.cx_core.specs.declared.local.Local.{Local}
@@ -50,6 +50,12 @@ next-number instance scene LoadCur l found = refl
 next-number instance scene Publish l found = either-number (found == l.seen_cur) (published instance.callers l) (outrun instance.callers l found) l.number refl refl
 next-number instance scene (Raise code read) l found = refl
 next-number instance scene Retire l found = refl
+next-number instance scene (Protect p) l found = refl
+next-number instance scene Confirm l found = refl
+next-number instance scene Unprotect l found = refl
+next-number instance scene (CloseLow target) l found = refl
+next-number instance scene (Scan d) l found = refl
+next-number instance scene OpenFree l found = refl
 
 -- each own entry after a step is from before, or was linked by it
 abbrev OwnFrom : Local → Local → Type 0
@@ -93,6 +99,12 @@ own_next instance scene LoadCur l found guard = λ _ _ at. inl at
 own_next instance scene Publish l found guard = own_either l (found == l.seen_cur) (published instance.callers l) (outrun instance.callers l found) (λ _ _ at. inl at) (λ _ _ at. inl at)
 own_next instance scene (Raise code read) l found guard = λ _ _ at. inl at
 own_next instance scene Retire l found guard = λ _ _ at. inl at
+own_next instance scene (Protect p) l found guard = λ _ _ at. inl at
+own_next instance scene Confirm l found guard = λ _ _ at. inl at
+own_next instance scene Unprotect l found guard = λ _ _ at. inl at
+own_next instance scene (CloseLow target) l found guard = λ _ _ at. inl at
+own_next instance scene (Scan d) l found guard = λ _ _ at. inl at
+own_next instance scene OpenFree l found guard = λ _ _ at. inl at
 
 -- what is downgraded after a step was so before, or is the full image after its place
 code_none : (callers : ℕ) → HasCode callers None
@@ -130,6 +142,12 @@ code_next instance scene LoadCur l found small guard has = has
 code_next instance scene Publish l found small guard has = code_either instance.callers (found == l.seen_cur) (published instance.callers l) (outrun instance.callers l found) (code_none instance.callers) has
 code_next instance scene (Raise code read) l found small guard has = has
 code_next instance scene Retire l found small guard has = has
+code_next instance scene (Protect p) l found small guard has = has
+code_next instance scene Confirm l found small guard has = has
+code_next instance scene Unprotect l found small guard has = has
+code_next instance scene (CloseLow target) l found small guard has = has
+code_next instance scene (Scan d) l found small guard has = has
+code_next instance scene OpenFree l found small guard has = has
 
 -- what a step keeps of its caller's number and own list, and of what is downgraded
 pub record Follows (callers : ℕ) (l l' : Local) : Type 0 where

@@ -9,8 +9,33 @@ use cx_core::{EXCLUSIVE_MARK, Kind, Local};
 use std::alloc::{AllocError, Global};
 use std::test::Fail;
 
-fn lock_word(board: &Board, r: usize) -> Option<u64> {
-    board.state.lock().get(r).copied()
+// A kind of step of caller 0, whether it is allowed, then the lock word of replica 0.
+type LockRow = (Kind, bool, u64);
+
+const TWO_REPLICAS: [LockRow; 7] = [
+    (Kind::TryExclusive { r: 0 }, true, 1),
+    (Kind::TryShared { r: 0 }, true, 2),
+    (Kind::BackOff { r: 0 }, true, 1),
+    (Kind::Downgrade { r: 1 }, false, 1),
+    (Kind::TryExclusive { r: 1 }, true, 1),
+    (Kind::StoreWord { r: 1, i: 0, v: 1 }, true, 1),
+    (Kind::Downgrade { r: 1 }, false, 1),
+];
+
+// The first row that answers otherwise or leaves another lock word.
+fn first_other_lock(
+    alloc: Global,
+    board: &mut Board,
+    rows: &[LockRow],
+) -> Result<Option<usize>, AllocError> {
+    for (i, (kind, allowed, word)) in rows.iter().enumerate() {
+        if board.step(alloc, 0, *kind)? != *allowed
+            || board.state.lock().first().copied() != Some(*word)
+        {
+            return Ok(Some(i));
+        }
+    }
+    Ok(None)
 }
 
 fn met(board: &Board, caller: usize) -> Option<u64> {
@@ -21,20 +46,8 @@ fn met(board: &Board, caller: usize) -> Option<u64> {
 fn one_caller_on_two_replicas(rt: HostRuntime) -> Result<(), Fail> {
     let alloc = rt.alloc();
     let mut board = Board::open(alloc, 1)?;
-    let rows = [
-        (Kind::TryExclusive { r: 0 }, true, 1),
-        (Kind::TryShared { r: 0 }, true, 2),
-        (Kind::BackOff { r: 0 }, true, 1),
-        (Kind::Downgrade { r: 1 }, false, 1),
-        (Kind::TryExclusive { r: 1 }, true, 1),
-        (Kind::StoreWord { r: 1, i: 0, v: 1 }, true, 1),
-        (Kind::Downgrade { r: 1 }, false, 1),
-    ];
-    for (kind, allowed, lock) in rows {
-        assert_eq!(rt; board.step(alloc, 0, kind)?, allowed, "{kind:?}");
-        assert_eq!(rt; lock_word(&board, 0), Some(lock), "{kind:?}");
-    }
-    assert_eq!(rt; met(&board, 0), Some(0));
+    let wrong = first_other_lock(alloc, &mut board, &TWO_REPLICAS)?;
+    assert_eq!(rt; (wrong, met(&board, 0)), (None, Some(0)));
     Ok(())
 }
 
@@ -175,10 +188,11 @@ const PERSIST_BEHIND_2: Kind = Kind::Persist { r: 2, i: 1680 };
 fn each_guard_fails_for_one_reason(rt: HostRuntime) -> Result<(), Fail> {
     let alloc = rt.alloc();
     let mut board = Board::open(alloc, 2)?;
-    assert_eq!(rt; board.first_wrong(alloc, &REFUSALS)?, None);
-    for (r, word) in [(0, 1), (1, 0), (2, 0), (3, 0)] {
-        assert_eq!(rt; lock_word(&board, r), Some(word), "replica {r}");
-    }
+    let wrong = board.first_wrong(alloc, &REFUSALS)?;
+    assert_eq!(rt;
+        (wrong, board.state.lock()),
+        (None, [1, 0, 0, 0].as_slice())
+    );
     Ok(())
 }
 
@@ -238,6 +252,27 @@ const SHARED: Right<'static> = (&[Kind::TryShared { r: 2 }], Kind::BackOff { r: 
 
 const PASSER: Right<'static> = (&[Kind::TryShared { r: 3 }], Kind::BackOff { r: 3 });
 
+const PAIRS: [(Right<'static>, Right<'static>); 4] = [
+    (EXCLUSIVE, SHARED),
+    (EXCLUSIVE, PASSER),
+    (DOWNGRADED, SHARED),
+    (DOWNGRADED, PASSER),
+];
+
+// The first pair of rights that may not be begun and ended in each order.
+fn first_pair(
+    alloc: Global,
+    board: &mut Board,
+    pairs: &[(Right<'_>, Right<'_>)],
+) -> Result<Option<usize>, AllocError> {
+    for (i, (a, b)) in pairs.iter().enumerate() {
+        if !in_each_order(alloc, board, *a, *b)? {
+            return Ok(Some(i));
+        }
+    }
+    Ok(None)
+}
+
 // A downgraded right has to end before an exclusive one can.
 const DOWNGRADED_FIRST: [Row; 11] = [
     (0, Kind::TryExclusive { r: 1 }, true),
@@ -259,22 +294,10 @@ fn rights_in_each_order(rt: HostRuntime) -> Result<(), Fail> {
     let alloc = rt.alloc();
     let mut board = Board::open(alloc, 2)?;
     let held = board.step(alloc, 1, Kind::TryExclusive { r: 3 })?;
-    assert!(rt; held);
-    for (i, (a, b)) in [
-        (EXCLUSIVE, SHARED),
-        (EXCLUSIVE, PASSER),
-        (DOWNGRADED, SHARED),
-        (DOWNGRADED, PASSER),
-    ]
-    .iter()
-    .enumerate()
-    {
-        assert!(rt; in_each_order(alloc, &mut board, *a, *b)?, "pair {i}");
-    }
-    assert_eq!(rt; board.first_wrong(alloc, &DOWNGRADED_FIRST)?, None);
-    for (r, word) in [(0, 1), (1, 0), (2, 0), (3, EXCLUSIVE_MARK)] {
-        assert_eq!(rt; lock_word(&board, r), Some(word), "replica {r}");
-    }
+    let pair = first_pair(alloc, &mut board, &PAIRS)?;
+    let wrong = board.first_wrong(alloc, &DOWNGRADED_FIRST)?;
+    assert_eq!(rt; (held, pair, wrong), (true, None, None));
+    assert_eq!(rt; board.state.lock(), [1, 0, 0, EXCLUSIVE_MARK].as_slice());
     Ok(())
 }
 
@@ -509,23 +532,42 @@ fn has_lists(locals: &[Local]) -> bool {
     loaded && stored && refused.refused.as_slice() == [1, 0].as_slice()
 }
 
+// The first of the ten scripts with a row that answers otherwise, with that row.
+fn first_wrong_script(
+    alloc: Global,
+    board: &mut Board,
+) -> Result<Option<(usize, usize)>, AllocError> {
+    for script in 0..10 {
+        let rows: &[Row] = match script {
+            0 => &BEGINNING,
+            9 => &END,
+            _ => &ROUND,
+        };
+        if let Some(row) = board.first_wrong(alloc, rows)? {
+            return Ok(Some((script, row)));
+        }
+    }
+    Ok(None)
+}
+
 #[test]
 fn three_callers_in_300_steps(rt: HostRuntime) -> Result<(), Fail> {
     let alloc = rt.alloc();
     let mut board = Board::open(alloc, 3)?;
-    assert_eq!(rt; board.first_wrong(alloc, &BEGINNING)?, None);
-    for round in 0..8 {
-        assert_eq!(rt; board.first_wrong(alloc, &ROUND)?, None, "round {round}");
-    }
-    assert_eq!(rt; board.first_wrong(alloc, &END)?, None);
-    let locks = board.state.lock().to_vec(alloc)?;
+    assert_eq!(rt; first_wrong_script(alloc, &mut board)?, None);
     assert_eq!(rt;
-        locks.as_slice(),
-        [1, 1, EXCLUSIVE_MARK + 1, 0, 1, 0].as_slice()
+        (
+            board.state.lock(),
+            first_replica(&board),
+            first_caller(&board),
+            has_lists(board.state.locals())
+        ),
+        (
+            [1, 1, EXCLUSIVE_MARK + 1, 0, 1, 0].as_slice(),
+            None,
+            None,
+            true
+        )
     );
-    assert_eq!(rt; first_replica(&board), None);
-    assert_eq!(rt; first_caller(&board), None);
-    let lists = has_lists(board.state.locals());
-    assert!(rt; lists);
     Ok(())
 }

@@ -15,7 +15,7 @@ ghost use Rattle.cx_core.specs.State.{EachScene, instance_of};
 use crate::images::is_full;
 use crate::replies::{Acknowledged, replies_of};
 use crate::state::CoreState;
-use crate::{lock_events, queue_events, region_events, root_events};
+use crate::{lock_events, queue_events, region_events, ring_events, root_events};
 use cx_base::Object;
 use cx_core::{Base, Event, Kind, Local, OBJECT_START};
 use std::alloc::{AllocError, Global};
@@ -112,6 +112,12 @@ fn step(
             root_events::raise(alloc, callers, words, local, code, told.answers)
         }
         Kind::Retire => Ok(root_events::retire(callers, words, local)),
+        Kind::Protect { p } => Ok(ring_events::protect(callers, words, local, p)),
+        Kind::Confirm => Ok(ring_events::confirm(callers, words, local)),
+        Kind::Unprotect => Ok(ring_events::unprotect(callers, words, local)),
+        Kind::CloseLow { target } => Ok(ring_events::close_low(callers, words, local, target)),
+        Kind::Scan { d } => Ok(ring_events::scan(callers, words, local, d)),
+        Kind::OpenFree => Ok(ring_events::open_free(callers, words, local)),
     }
 }
 

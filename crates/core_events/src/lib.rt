@@ -15,6 +15,9 @@ mod queue_events;
 mod queue_tests;
 mod region_events;
 mod replies;
+mod ring_events;
+#[cfg(test)]
+mod ring_tests;
 mod root_events;
 #[cfg(test)]
 mod root_tests;

@@ -5,8 +5,10 @@ use cx_core::Kind;
 use std::alloc::{AllocError, Global};
 use std::test::Fail;
 
-fn link_word(board: &Board, slot: usize) -> Option<u64> {
-    board.state.link().get(slot).copied()
+// The words of the first four link slots.
+fn first_links(board: &Board) -> [u64; 4] {
+    let word = |slot: usize| board.state.link().get(slot).copied().unwrap_or(u64::MAX);
+    [word(0), word(1), word(2), word(3)]
 }
 
 fn front(board: &Board, caller: usize) -> Option<u64> {
@@ -61,11 +63,11 @@ const TWO_CALLERS: [FrontRow; 9] = [
 fn two_callers_link(rt: HostRuntime) -> Result<(), Fail> {
     let alloc = rt.alloc();
     let mut board = Board::open(alloc, 2)?;
-    assert_eq!(rt; first_wrong(alloc, &mut board, &TWO_CALLERS)?, None);
-    assert_eq!(rt; link_word(&board, 0), Some(1));
-    assert_eq!(rt; link_word(&board, 1), Some(49));
-    assert_eq!(rt; link_word(&board, 2), Some(0));
-    assert_eq!(rt; board.state.free(), 0);
+    let wrong = first_wrong(alloc, &mut board, &TWO_CALLERS)?;
+    assert_eq!(rt;
+        (wrong, first_links(&board), board.state.free()),
+        (None, [1, 49, 0, 0], 0)
+    );
     Ok(())
 }
 
@@ -141,9 +143,11 @@ const LIMITS: [Row; 30] = [
 fn arguments_at_their_limits(rt: HostRuntime) -> Result<(), Fail> {
     let alloc = rt.alloc();
     let mut board = Board::open(alloc, 2)?;
-    assert_eq!(rt; board.first_wrong(alloc, &LIMITS)?, None);
-    assert_eq!(rt; ticket(&board, 0), Some(0));
-    assert_eq!(rt; ticket(&board, 1), None);
+    let wrong = board.first_wrong(alloc, &LIMITS)?;
+    assert_eq!(rt;
+        (wrong, ticket(&board, 0), ticket(&board, 1)),
+        (None, Some(0), None)
+    );
     Ok(())
 }
 
@@ -222,25 +226,45 @@ fn first_other(board: &Board) -> Option<usize> {
     None
 }
 
+// Each reads the entries of all three tickets, which stand in cells 32, 16 and 0: 117 steps. The first caller and ticket of which
+// not all steps are allowed.
+fn first_reader(alloc: Global, board: &mut Board) -> Result<Option<(u32, u64)>, AllocError> {
+    for caller in 0..3 {
+        for (t, k) in [(0, 32), (1, 16), (2, 0)] {
+            if reads(alloc, board, caller, t, k)? != 13 {
+                return Ok(Some((caller, t)));
+            }
+        }
+    }
+    Ok(None)
+}
+
+// Words 0, 1, 19 and 20 of caller 1's entry.
+fn entry_words(board: &Board) -> [u64; 4] {
+    let word = |i: usize| board
+        .state
+        .cell()
+        .get(145 * 16 + i)
+        .copied()
+        .unwrap_or(u64::MAX);
+    [word(0), word(1), word(19), word(20)]
+}
+
 #[test]
 fn three_callers_in_200_steps(rt: HostRuntime) -> Result<(), Fail> {
     let alloc = rt.alloc();
     let mut board = Board::open(alloc, 3)?;
-    assert_eq!(rt; three_announce(alloc, &mut board)?, 60);
-    assert_eq!(rt; first_wrong(alloc, &mut board, &THREE_CALLERS)?, None);
-    // each reads the entries of all three tickets, which stand in cells 32, 16 and 0: 117 steps
-    for caller in 0..3 {
-        for (t, k) in [(0, 32), (1, 16), (2, 0)] {
-            assert_eq!(rt; reads(alloc, &mut board, caller, t, k)?, 13);
-        }
-    }
-    assert_eq!(rt; first_other(&board), None);
-    for (slot, word) in [(0, 33), (1, 65), (2, 97), (3, 0)] {
-        assert_eq!(rt; link_word(&board, slot), Some(word));
-    }
-    // the words of caller 1's entry
-    for (i, word) in [(0, 1), (1, 101), (19, 119), (20, 0)] {
-        assert_eq!(rt; board.state.cell().get(145 * 16 + i).copied(), Some(word));
-    }
+    let announced = three_announce(alloc, &mut board)?;
+    let wrong = first_wrong(alloc, &mut board, &THREE_CALLERS)?;
+    let reader = first_reader(alloc, &mut board)?;
+    assert_eq!(rt; (announced, wrong, reader), (60, None, None));
+    assert_eq!(rt;
+        (
+            first_other(&board),
+            first_links(&board),
+            entry_words(&board)
+        ),
+        (None, [33, 65, 97, 0], [1, 101, 119, 0])
+    );
     Ok(())
 }

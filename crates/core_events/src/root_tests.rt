@@ -108,28 +108,60 @@ fn one_caller_publishes(rt: HostRuntime) -> Result<(), Fail> {
         (0, raises(3), true),
         (0, Kind::Retire, true),
     ];
-    assert_eq!(rt; board.first_wrong(alloc, &rows)?, None);
-    assert_eq!(rt; root(&board), ([3, 3], [None, None]));
-    assert_eq!(rt; board.state.lock(), [0, 1].as_slice());
-    assert_eq!(rt; answered(&board, 0), Some((0, 0)));
-    assert_eq!(rt; counts_of(&board, 0), Some([1, 0, 3, 1, 0]));
+    let wrong = board.first_wrong(alloc, &rows)?;
+    assert_eq!(rt;
+        (
+            wrong,
+            root(&board),
+            board.state.lock(),
+            answered(&board, 0),
+            counts_of(&board, 0)
+        ),
+        (
+            None,
+            ([3, 3], [None, None]),
+            [0, 1].as_slice(),
+            Some((0, 0)),
+            Some([1, 0, 3, 1, 0])
+        )
+    );
     Ok(())
+}
+
+// The first event of the race that answers otherwise or leaves another root.
+fn first_of_race(alloc: Global, board: &mut Board) -> Result<Option<usize>, AllocError> {
+    for (i, ((caller, kind, allowed), words, wins)) in RACE.iter().enumerate() {
+        if board.step(alloc, *caller, *kind)? != *allowed || root(board) != (*words, *wins) {
+            return Ok(Some(i));
+        }
+    }
+    Ok(None)
 }
 
 #[test]
 fn two_publishers_race(rt: HostRuntime) -> Result<(), Fail> {
     let alloc = rt.alloc();
     let mut board = before_the_race(alloc)?.expect(&rt, "each event is allowed");
-    for (i, ((caller, kind, allowed), words, wins)) in RACE.iter().enumerate() {
-        assert_eq!(rt; board.step(alloc, *caller, *kind)?, *allowed, "{i}");
-        assert_eq!(rt; root(&board), (*words, *wins), "{i}");
-    }
-    assert_eq!(rt; board.state.lock(), [0, 0, 1, 0].as_slice());
-    assert_eq!(rt; answered(&board, 0), Some((0, 5)));
-    assert_eq!(rt; answered(&board, 1), Some((1, 12)));
-    assert_eq!(rt; counts_of(&board, 0), Some([1, 0, 5, 1, 0]));
-    assert_eq!(rt; counts_of(&board, 1), Some([1, 0, 10, 2, 1]));
+    assert_eq!(rt; first_of_race(alloc, &mut board)?, None);
+    assert_eq!(rt;
+        (board.state.lock(), answered(&board, 0), answered(&board, 1)),
+        ([0, 0, 1, 0].as_slice(), Some((0, 5)), Some((1, 12)))
+    );
+    assert_eq!(rt;
+        (counts_of(&board, 0), counts_of(&board, 1)),
+        (Some([1, 0, 5, 1, 0]), Some([1, 0, 10, 2, 1]))
+    );
     Ok(())
+}
+
+// Whether so many events of the race are as they are written.
+fn makes(alloc: Global, board: &mut Board, events: usize) -> Result<bool, AllocError> {
+    for (row, _, _) in RACE.iter().take(events) {
+        if board.step(alloc, row.0, row.1)? != row.2 {
+            return Ok(false);
+        }
+    }
+    Ok(true)
 }
 
 // The state once so many events of the race were made.
@@ -137,12 +169,11 @@ fn in_the_race(alloc: Global, events: usize) -> Result<Option<Board>, AllocError
     let Some(mut board) = before_the_race(alloc)? else {
         return Ok(None);
     };
-    for (row, _, _) in RACE.iter().take(events) {
-        if board.step(alloc, row.0, row.1)? != row.2 {
-            return Ok(None);
-        }
-    }
-    Ok(Some(board))
+    Ok(if makes(alloc, &mut board, events)? {
+        Some(board)
+    } else {
+        None
+    })
 }
 
 // After the race CUR is code 10, which names replica 2 at place 2. Each refusal has one cause.
@@ -182,11 +213,23 @@ fn reads_answered_and_refused(rt: HostRuntime) -> Result<(), Fail> {
         (0, asks(10), false),
         (0, raises(10), true),
     ];
-    assert_eq!(rt; board.first_wrong(alloc, &rows)?, None);
-    assert_eq!(rt; counts_of(&board, 0), Some([1, 2, 10, 2, 0]));
-    assert_eq!(rt; seen_read(&board, 0, 0), Some([2, 12, 1]));
-    assert_eq!(rt; seen_read(&board, 0, 1), Some([2, 12, 1]));
-    assert_eq!(rt; root(&board), ([10, 10], [None, None]));
+    let wrong = board.first_wrong(alloc, &rows)?;
+    assert_eq!(rt;
+        (
+            wrong,
+            root(&board),
+            counts_of(&board, 0),
+            seen_read(&board, 0, 0),
+            seen_read(&board, 0, 1)
+        ),
+        (
+            None,
+            ([10, 10], [None, None]),
+            Some([1, 2, 10, 2, 0]),
+            Some([2, 12, 1]),
+            Some([2, 12, 1])
+        )
+    );
     Ok(())
 }
 
@@ -207,11 +250,23 @@ fn reads_only_at_the_code_found(rt: HostRuntime) -> Result<(), Fail> {
         // the code that won is its own no more
         (0, raises(5), false),
     ];
-    assert_eq!(rt; board.first_wrong(alloc, &rows)?, None);
-    assert_eq!(rt; root(&board), ([10, 10], [None, SECOND_WIN]));
-    assert_eq!(rt; board.state.lock(), [0, 2, 1, 0].as_slice());
-    assert_eq!(rt; answered(&board, 0), Some((0, 5)));
-    assert_eq!(rt; counts_of(&board, 0), Some([1, 0, 10, 1, 0]));
+    let wrong = board.first_wrong(alloc, &rows)?;
+    assert_eq!(rt;
+        (
+            wrong,
+            root(&board),
+            board.state.lock(),
+            answered(&board, 0),
+            counts_of(&board, 0)
+        ),
+        (
+            None,
+            ([10, 10], [None, SECOND_WIN]),
+            [0, 2, 1, 0].as_slice(),
+            Some((0, 5)),
+            Some([1, 0, 10, 1, 0])
+        )
+    );
     Ok(())
 }
 
@@ -238,9 +293,11 @@ fn a_read_before_any_update(rt: HostRuntime) -> Result<(), Fail> {
         (1, asks(0), true),
         (1, raises(0), true),
     ];
-    assert_eq!(rt; board.first_wrong(alloc, &rows)?, None);
-    assert_eq!(rt; counts_of(&board, 1), Some([0, 1, 0, 0, 0]));
-    assert_eq!(rt; seen_read(&board, 1, 0), Some([0, 0, 0]));
+    let wrong = board.first_wrong(alloc, &rows)?;
+    assert_eq!(rt;
+        (wrong, counts_of(&board, 1), seen_read(&board, 1, 0)),
+        (None, Some([0, 1, 0, 0, 0]), Some([0, 0, 0]))
+    );
     Ok(())
 }
 
@@ -265,18 +322,21 @@ fn each_guard_on_the_root(rt: HostRuntime) -> Result<(), Fail> {
         (0, Kind::BackOff { r: 1 }, true),
         (0, Kind::Publish, false),
     ];
-    assert_eq!(rt; board.first_wrong(alloc, &rows)?, None);
+    let wrong = board.first_wrong(alloc, &rows)?;
     assert_eq!(rt;
-        root(&board),
+        (wrong, root(&board)),
         (
-            [10, 0],
-            [
-                None,
-                Some(WonCode {
-                    code: 10,
-                    before: 0
-                })
-            ]
+            None,
+            (
+                [10, 0],
+                [
+                    None,
+                    Some(WonCode {
+                        code: 10,
+                        before: 0
+                    })
+                ]
+            )
         )
     );
     Ok(())
@@ -288,7 +348,6 @@ fn one_win_at_a_time(rt: HostRuntime) -> Result<(), Fail> {
     let alloc = rt.alloc();
     let mut board = in_the_race(alloc, 3)?.expect(&rt, "each event is as it is written");
     let ready = board.prepare(alloc, 0, 3, &AFTER_TWO)?;
-    assert!(rt; ready);
     let rows = [
         (0, Kind::Publish, false),
         // its own raise is to come, and that of caller 1 does not serve
@@ -301,23 +360,27 @@ fn one_win_at_a_time(rt: HostRuntime) -> Result<(), Fail> {
         (0, Kind::Retire, true),
         (0, Kind::Publish, true),
     ];
-    assert_eq!(rt; board.first_wrong(alloc, &rows)?, None);
+    let wrong = board.first_wrong(alloc, &rows)?;
     // its entry at ticket 0 is below place 1, and that of caller 1 at ticket 1 is not
-    assert_eq!(rt; answered(&board, 0), Some((0, 5)));
-    assert_eq!(rt; answered(&board, 1), None);
     assert_eq!(rt;
-        root(&board),
+        (ready, wrong, answered(&board, 0), answered(&board, 1)),
+        (true, None, Some((0, 5)), None)
+    );
+    assert_eq!(rt;
+        (root(&board), board.state.lock()),
         (
-            [11, 5],
-            [
-                Some(WonCode {
-                    code: 11,
-                    before: 5
-                }),
-                None
-            ]
+            (
+                [11, 5],
+                [
+                    Some(WonCode {
+                        code: 11,
+                        before: 5
+                    }),
+                    None
+                ]
+            ),
+            [0, 1, 1, 1].as_slice()
         )
     );
-    assert_eq!(rt; board.state.lock(), [0, 1, 1, 1].as_slice());
     Ok(())
 }
