@@ -193,8 +193,7 @@ class Picture:
         left, top = MARGIN, MARGIN
         put = []
         for row in self.rows:
-            full = top + row.height / 2 > tallest + MARGIN and row.kind != "power"
-            if full and columns > 1:
+            if columns > 1 and top + self.least_below(row) > tallest + MARGIN:
                 columns, left, top = columns - 1, left + self.column_width(), MARGIN
                 if row.kind != "head":
                     put.append(Row("lanes", row.life, self.report.lives[row.life].head, False, left, top, LANES_AGAIN))
@@ -204,6 +203,12 @@ class Picture:
             top += row.height
             self.bottom = max(self.bottom, top)
         self.rows = put
+
+    def least_below(self, row):
+        """How much of a column a row wants to begin in it: a life's first one some rows of the life, and a loss of power nothing."""
+        if row.kind == "power":
+            return 0
+        return row.height + 4 * self.look.row if row.kind == "head" else row.height / 2
 
     def column_width(self):
         return max(NARROWEST_COLUMN, self.first_lane + self.clients * self.look.lane) + COLUMN_GAP

@@ -436,7 +436,8 @@ class Explanations(unittest.TestCase):
             said, status = said_by(explain.main, ["--program", program, script])
             self.assertEqual((f"{script}, line 3, column 1: client", 1), (said.split("\n")[0], status))
             self.assertEqual(2, said_by(explain.main, ["--program", Path(folder) / "none", script])[1])
-            self.assertEqual((f"{folder}/no: No such file or directory\n", 2), said_by(explain.main, ["--program", program, f"{folder}/no"]))
+            none = f"{folder}/none"
+            self.assertEqual((f"{none}: No such file or directory\n", 2), said_by(explain.main, ["--program", program, none]))
             program.chmod(0o644)
             self.assertEqual((f"{program}: Permission denied\n", 2), said_by(explain.main, ["--program", program, script]))
 

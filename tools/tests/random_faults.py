@@ -78,9 +78,8 @@ def stop_client(choice, lines):
     """A stop line for some client, before a power line."""
     powers = [at for at, line in enumerate(lines) if line.startswith("power")]
     if powers:
-        lines.insert(
-            choice.choice(powers), f"stopped {choice.randrange(3)}.{choice.randint(1, 6)} at {choice.randrange(9)} {choice.choice(['kept', 'lost'])}"
-        )
+        name, steps, fate = f"{choice.randrange(3)}.{choice.randint(1, 6)}", choice.randrange(9), choice.choice(["kept", "lost"])
+        lines.insert(choice.choice(powers), f"stopped {name} at {steps} {fate}")
 
 
 def unanswer_last(choice, lines):

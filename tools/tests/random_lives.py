@@ -51,10 +51,10 @@ def command(choice):
 def script_text(choice, clients=1, lives=1, commands=20, cuts=False, most=None, steps=999):
     """A script of so many lives; where it is said, with at most so many commands of one client in a life."""
     lines = [f"lines {choice.choice([64, 64, 70, 1024])}"]
+    cut = choice.choice([0.4, 0.4, 1]) if cuts else 0
     for _ in range(lives):
         lines.append(f"life {clients} power {choice.randint(0, 9)}")
-        if cuts:
-            lines.extend(f"cut {client} {choice.randint(0, steps)}" for client in range(clients) if choice.random() < 0.4)
+        lines.extend(f"cut {client} {choice.randint(0, steps)}" for client in range(clients) if choice.random() < cut)
         made = [0] * clients
         for _ in range(commands):
             client = choice.randrange(clients)
@@ -229,7 +229,7 @@ def refusals(script, line):
 
 
 def compare(count, seen, program=PROGRAM):
-    """Runs so many scripts through the program; the first on which they disagree, with why, or None."""
+    """Runs so many scripts through the program; why they disagree on the first on which they do, with that script, or None."""
     for seed in range(count):
         choice = random.Random(seed)
         clients, lives = choice.randint(1, 8), choice.randint(1, 5)
@@ -239,7 +239,7 @@ def compare(count, seen, program=PROGRAM):
             script = spoiled(choice, script)
         why = disagreement(program, script, seen)
         if why:
-            return seed, why, script
+            return f"script {seed}: {why}\n{script.decode()}"
     return None
 
 
