@@ -183,7 +183,7 @@ class LifeJudge:
             named = [item.command for item in [*self.told.entries, *self.told.reads] if item.client == client]
             return max(named, default=1) - 1
         ended = self.stop_of.get(client) or self.full_of.get(client)
-        return ended.command - 1 if ended else len(self.commands[client])
+        return max(ended.command - 1, 0) if ended else len(self.commands[client])
 
     def judge_missing_entries(self, next_item):
         """Every command that changes the store and must have an answer has an entry."""

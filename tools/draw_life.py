@@ -1,17 +1,21 @@
 #!/usr/bin/env python3
 """Draws the lives of a report as an SVG.
 
-    draw_life.py REPORT [OUT.svg]
+    draw_life.py REPORT [-o FILE]
 
 The history runs downwards along one line. Each client has a lane beside it. An entry stands at its ticket, and a read at its
 place: behind all entries with lower tickets. Where power was lost the entries that were not kept stand in a hatched band, and
-the next life goes on from the last one kept. A report of more than 60 rows is drawn in columns and without texts.
+the next life goes on from the last one kept. A report of more than 60 rows is drawn in columns and without texts. The picture is
+as wide as its texts, from 480 to 800.
 
-Without OUT.svg the picture goes to standard output. Status 1 and `line N: WHY` where the report has a line that is none.
+Without -o the picture goes to standard output. It has a background of its own, so that it can be shown on a light page and on a dark one.
+Status 1 and `line N: WHY` where the report has a line that is none; status 2 where a file cannot be read or written, or the
+words are others.
 """
 import sys
 import unicodedata
 from dataclasses import dataclass
+from pathlib import Path
 from xml.sax.saxutils import escape, quoteattr
 
 from report_text import UNANSWERED, Entry, Fault, Full, Read, Stop, read_report, split_reply
@@ -77,6 +81,10 @@ NAMED = ("entry", "read", "ended")
 NARROWEST_COLUMN = 170
 LANES_AGAIN = 18
 LEAST_HEIGHT = 160
+NARROW = "fijlrt ,:()"
+NARROWEST = 480
+CODE_LETTER = 7.6
+LOST_WIDTH = 34
 
 
 @dataclass
@@ -142,7 +150,8 @@ class Picture:
         self.clients = max((life.head.clients for life in report.lives), default=1)
         self.look = WITH_TEXTS if len(self.rows) <= MOST_ROWS_WITH_TEXT else WITHOUT_TEXTS
         self.tickets_end, self.history, self.first_lane = self.gutter()
-        self.names = max((7.6 * len(row.item.name) for row in self.rows if row.kind in NAMED), default=0) + 14
+        self.names = max((CODE_LETTER * len(row.item.name) for row in self.rows if row.kind in NAMED), default=0) + 14
+        self.width = self.width_for_texts() if self.look.texts else WIDTH
         self.parts = []
         self.bottom = MARGIN
         self.put_rows()
@@ -161,6 +170,19 @@ class Picture:
             return TICKETS_END + more, HISTORY + more, FIRST_LANE + more
         return SMALL_TICKETS_END + more, SMALL_HISTORY + more, SMALL_FIRST_LANE + more
 
+    def width_for_texts(self):
+        """As wide as the longest row and the legend want it, up to WIDTH."""
+        start = MARGIN + self.first_lane + self.look.lane * (self.clients - 1) + 20
+        ends = [start + width_of(power_words(row.item)) + 90 for row in self.rows if row.kind == "power"]
+        ends += [start + self.names + width_of(ended_words(row.item)) for row in self.rows if row.kind == "ended"]
+        for row in self.rows:
+            if row.kind in ("entry", "read"):
+                letters = sum(map(columns_of, row.item.rest)) + 1
+                ends.append(start + self.names + CODE_LETTER * letters + (LOST_WIDTH if row.lost else 0))
+        kinds = {kind_of(row) for row in self.rows}
+        ends.append(MARGIN + sum(legend_width(words) for kind, words, _ in LEGEND if kind in kinds))
+        return min(WIDTH, max(NARROWEST, round(max(ends)) + MARGIN))
+
     def put_rows(self):
         """Gives each row its place: one column with texts, and else as many as fit beside each other."""
         heights = {"head": self.look.head, "cut": self.look.cut, "power": self.look.power}
@@ -171,8 +193,7 @@ class Picture:
         left, top = MARGIN, MARGIN
         put = []
         for row in self.rows:
-            full = top + row.height / 2 > tallest + MARGIN and row.kind != "power"
-            if full and columns > 1:
+            if columns > 1 and top + self.least_below(row) > tallest + MARGIN:
                 columns, left, top = columns - 1, left + self.column_width(), MARGIN
                 if row.kind != "head":
                     put.append(Row("lanes", row.life, self.report.lives[row.life].head, False, left, top, LANES_AGAIN))
@@ -182,6 +203,12 @@ class Picture:
             top += row.height
             self.bottom = max(self.bottom, top)
         self.rows = put
+
+    def least_below(self, row):
+        """How much of a column a row wants to begin in it: a life's first one some rows of the life, and a loss of power nothing."""
+        if row.kind == "power":
+            return 0
+        return row.height + 4 * self.look.row if row.kind == "head" else row.height / 2
 
     def column_width(self):
         return max(NARROWEST_COLUMN, self.first_lane + self.clients * self.look.lane) + COLUMN_GAP
@@ -262,7 +289,7 @@ class Picture:
     def draw_band(self, lost):
         left = lost[0].left + self.history - 8
         lanes_end = self.text_left(lost[0]) - 8
-        right = WIDTH - MARGIN if self.look.texts else lanes_end
+        right = self.width - MARGIN if self.look.texts else lanes_end
         top, height = lost[0].top, lost[-1].bottom - lost[0].top
         self.add(f'<rect x="{left:g}" y="{top:g}" width="{right - left:g}" height="{height:g}" fill="{BAND}"/>')
         self.add(f'<rect x="{left:g}" y="{top:g}" width="{lanes_end - left:g}" height="{height:g}" fill="url(#hatch)"/>')
@@ -335,15 +362,15 @@ class Picture:
         name = row.item.name
         command, reply = split_reply(row.item.line, row.item.rest)
         start = left + self.names
-        right = WIDTH - MARGIN - (34 if row.lost else 0)
-        asked, answered = fitted(command, reply, int((right - start) / 7.6))
+        right = self.width - MARGIN - (LOST_WIDTH if row.lost else 0)
+        asked, answered = fitted(command, reply, int((right - start) / CODE_LETTER))
         self.text(left, row.middle + 4, name, "code soft")
         self.add(
             f'<text x="{start:g}" y="{row.middle + 4:g}" class="code" xml:space="preserve">{clean(asked)}'
             f'<tspan class="soft"> = </tspan><tspan class="strong">{clean(answered)}</tspan></text>'
         )
         if row.lost:
-            self.text(WIDTH - MARGIN - 6, row.middle + 4, "lost", "small soft right")
+            self.text(self.width - MARGIN - 6, row.middle + 4, "lost", "small soft right")
 
     def draw_cut(self, row):
         y = row.top + self.look.cut / 2
@@ -357,27 +384,23 @@ class Picture:
         size = self.look.mark
         if isinstance(item, Stop):
             shape = f'<path d="M{-size} {-size}L{size} {size}M{-size} {size}L{size} {-size}" class="stop">{{title}}</path>'
-            words = f"stopped after {item.steps} steps: {item.fate}"
         else:
             size -= 0.5
             shape = f'<path d="M{-size} {-size}H{size}V{size}H{-size}Z" class="full">{{title}}</path>'
-            words = f"gave up: holder {item.holder}, need {item.need}, ticket {item.ticket}"
         self.mark(row, shape)
         if self.look.texts:
             left = self.text_left(row)
             self.text(left, row.middle + 4, item.name, "code soft")
-            self.text(left + self.names, row.middle + 4, words)
+            self.text(left + self.names, row.middle + 4, ended_words(item))
 
     def draw_power(self, row):
         power = row.item
         left, right = row.left + self.history - 8, self.text_left(row) - 8
         self.add(f'<path d="{zigzag(left, right, row.top + 14)}" class="power"><title>power loss</title></path>')
-        kept = f"{power.kept} of {power.entries}"
         if self.look.texts:
-            words = f"{kept} entries kept, {counted(power.documents, 'document')} (choice {power.choice})"
-            self.pair(self.text_left(row), row.top + 18, "Power loss", words)
+            self.pair(self.text_left(row), row.top + 18, "Power loss", power_words(power))
         else:
-            self.text(row.left + self.history + 10, row.top + 35, f"kept {kept}", "small")
+            self.text(row.left + self.history + 10, row.top + 35, f"kept {power.kept} of {power.entries}", "small")
             self.text(row.left + self.history + 10, row.top + 49, counted(power.documents, "document"), "small soft")
 
     def draw_legend(self):
@@ -388,21 +411,21 @@ class Picture:
             if kind in kinds:
                 self.add(f'<g transform="translate({x:g} {y:g})" class="legend">{shape}</g>')
                 self.text(x + 15, y + 4, words)
-                x += 15 + 6.8 * len(words) + 26
+                x += legend_width(words)
         self.bottom = y + 14
 
     def document(self):
         height = self.bottom + MARGIN / 2
-        lives = counted(len(self.report.lives), "life").replace("lifes", "lives")
+        lives = "1 life" if len(self.report.lives) == 1 else f"{len(self.report.lives)} lives"
         entries = sum(len(life.entries) for life in self.report.lives)
         return "\n".join(
             [
-                f'<svg xmlns="http://www.w3.org/2000/svg" width="{WIDTH}" height="{height:g}" viewBox="0 0 {WIDTH} {height:g}"'
+                f'<svg xmlns="http://www.w3.org/2000/svg" width="{self.width}" height="{height:g}" viewBox="0 0 {self.width} {height:g}"'
                 f" role=\"img\" aria-label={quoteattr(f'{lives} with {entries} entries')}>",
                 f"<style>{STYLE}</style>",
                 '<defs><pattern id="hatch" width="6" height="6" patternUnits="userSpaceOnUse" patternTransform="rotate(45)">'
                 f'<line x1="0" y1="0" x2="0" y2="6" stroke="{HATCH}" stroke-width="1.6"/></pattern></defs>',
-                f'<rect x="0.5" y="0.5" width="{WIDTH - 1}" height="{height - 1:g}" rx="6" fill="#ffffff" stroke="{RULE}"/>',
+                f'<rect x="0.5" y="0.5" width="{self.width - 1}" height="{height - 1:g}" rx="6" fill="#ffffff" stroke="{RULE}"/>',
                 *self.parts,
                 "</svg>\n",
             ]
@@ -411,6 +434,27 @@ class Picture:
 
 def counted(number, word):
     return f"{number} {word}" + ("" if number == 1 else "s")
+
+
+def width_of(words):
+    """About the width of words in the font of the legend."""
+    return sum(4.5 if letter in NARROW else 7.3 for letter in words)
+
+
+def legend_width(words):
+    """From one mark of the legend to the next."""
+    return 15 + width_of(words) + 24
+
+
+def power_words(power):
+    return f"{power.kept} of {power.entries} entries kept, {counted(power.documents, 'document')} (choice {power.choice})"
+
+
+def ended_words(item):
+    """How a client ended."""
+    if isinstance(item, Stop):
+        return f"stopped after {item.steps} steps: {item.fate}"
+    return f"gave up: holder {item.holder}, need {item.need}, ticket {item.ticket}"
 
 
 def diamond(size):
@@ -452,9 +496,7 @@ def described(item):
         return f"ticket {item.ticket}: {item.name} {item.rest}"
     if isinstance(item, Read):
         return f"read at place {item.place}: {item.name} {item.rest}"
-    if isinstance(item, Stop):
-        return f"{item.name} stopped after {item.steps} steps: {item.fate}"
-    return f"{item.name} gave up: holder {item.holder}, need {item.need}, ticket {item.ticket}"
+    return f"{item.name} {ended_words(item)}"
 
 
 def clean(words):
@@ -508,21 +550,34 @@ def drawn(data):
 
 
 def main(words):
-    if not 1 <= len(words) <= 2:
-        print("usage: draw_life.py REPORT [OUT.svg]", file=sys.stderr)
+    paths = paths_of(words)
+    if paths is None:
+        print("usage: draw_life.py REPORT [-o FILE]", file=sys.stderr)
         return 2
+    report, out = paths
     try:
-        with open(words[0], "rb") as file:
-            picture = drawn(file.read())
+        picture = drawn(Path(report).read_bytes())
+        if out:
+            Path(out).write_text(picture, encoding="utf-8")
+        else:
+            sys.stdout.write(picture)
+    except OSError as error:
+        print(f"{error.filename}: {error.strerror}", file=sys.stderr)
+        return 2
     except Fault as fault:
-        print(fault, file=sys.stderr)
+        print(f"{report}, {fault}", file=sys.stderr)
         return 1
-    if len(words) == 1:
-        sys.stdout.write(picture)
-        return 0
-    with open(words[1], "w", encoding="utf-8") as file:
-        file.write(picture)
     return 0
+
+
+def paths_of(words):
+    """The report and the file for its picture, or None for that; None where the words are others."""
+    out = None
+    if "-o" in words[:-1]:
+        at = words.index("-o")
+        out = words[at + 1]
+        words = words[:at] + words[at + 2 :]
+    return (words[0], out) if len(words) == 1 and words[0] != "-o" else None
 
 
 if __name__ == "__main__":

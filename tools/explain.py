@@ -3,11 +3,12 @@
 
     explain.py [--program PATH] SCRIPT
 
-The program is the one given, or the one built under crates/cx_tool/out. What it refuses is shown with its line, the place in
-the line, and the row of the grammar of docs/FORMATS.md that it breaks.
+The program is the one given, or the one built under crates/cx_tool/out. What it refuses is shown with its line, the column, which
+counts characters from 1, and the row of the grammar of docs/FORMATS.md that it breaks.
 
 Status 0 where the script is accepted, 1 where it is refused, 2 where the program could not be run or ended for another cause.
 """
+import re
 import subprocess
 import sys
 import unicodedata
@@ -18,6 +19,7 @@ from script_text import LARGEST_INPUT, Refusal, TooLong, raw_lines, read_script,
 BUILT = Path(__file__).resolve().parent.parent / "crates" / "cx_tool" / "out" / "cx_tool"
 HOW_TO_BUILD = "build it: cd crates/cx_tool && rt run -- run < ../../examples/first.script"
 SHOWN = 72
+REFUSAL = re.compile(rb"refused line ([1-9][0-9]{0,8}): ([a-z0-9]+)\n")
 
 LINES_ROW = "lines L            L is 64 to 16384; the first line that is not passed over, and nowhere else"
 LIFE_ROW = "life N power C     N is 1 to 8, C at most 2^64 - 1; begins a life, after the lines line"
@@ -92,7 +94,8 @@ def explanation(path, data, number, reason):
     raw = raw_lines(data)[number - 1]
     start, end, agreed = place_of_fault(data, number, reason)
     line, start, end = shown_line(raw, reason, start, end)
-    parts = [f"{path}, line {number}: {reason}", "", *with_caret(line, number, start, end), "", SENTENCES.get(reason, UNKNOWN), ""]
+    place = f"{path}, line {number}, column {start + 1}: {reason}"
+    parts = [place, "", *with_caret(line, number, start, end), "", SENTENCES.get(reason, UNKNOWN), ""]
     parts.append("By the grammar (docs/FORMATS.md, The script):")
     parts.extend("  " + row for row in rows_of(reason, raw.decode("utf-8", "replace")))
     if not agreed:
@@ -152,9 +155,9 @@ def explained(path, data, status, output):
     """The words on how the program ended, and the status of this one."""
     if status == 0:
         return f"{path}: accepted, {output.count(bytes([10]))} lines of report", 0
-    if status == 3:
-        _, _, number, reason = output.decode("ascii").split()
-        return explanation(path, data, int(number.rstrip(":")), reason), 1
+    refused = REFUSAL.fullmatch(output)
+    if status == 3 and refused and 1 <= int(refused[1]) <= len(raw_lines(data)):
+        return explanation(path, data, int(refused[1]), refused[2].decode()), 1
     return f"{path}: {OTHER_ENDS.get(status, f'the program ended with status {status}')}", 1 if status == 8 else 2
 
 
@@ -170,10 +173,10 @@ def main(words):
         return 2
     try:
         data = Path(words[0]).read_bytes()
+        ended = subprocess.run([program.resolve(), "run"], input=data, capture_output=True, check=False)
     except OSError as error:
-        print(f"{words[0]}: {error.strerror}")
+        print(f"{error.filename}: {error.strerror}")
         return 2
-    ended = subprocess.run([program.resolve(), "run"], input=data, capture_output=True, check=False)
     said, status = explained(words[0], data, ended.returncode, ended.stdout)
     print(said)
     return status

@@ -1,10 +1,4 @@
-"""Reports, read by docs/FORMATS.md: the lines of each life, in their order.
-
-Beside the lines that stand there it reads those of lives in which a client is stopped. Today's program does not write them:
-
-    T K.J COMMAND = unanswered          an entry whose client was stopped in this command
-    stopped K.J at S kept|lost          after the reads, by client: stopped after S steps; kept where the command's entry is
-    full K.J holder H need M ticket T   then, by client: gave up, since the stopped client H needs entries from M on, at most T
+"""Reports, read by docs/FORMATS.md alone: the lines of each life, in their order.
 
 Commands and replies are left together here, as `rest`: a judge knows the command from the script, and `split_reply` takes them
 apart without one.

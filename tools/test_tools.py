@@ -1,7 +1,7 @@
 #!/usr/bin/env python3
 """Tests of the tools: python3 tools/test_tools.py
 
-No network, and no program is needed; where it is built, random scripts are run through it too.
+No network, and no program is needed; where it is built, random scripts and the examples are run through it too.
 """
 import contextlib
 import io
@@ -18,13 +18,16 @@ from pathlib import Path
 TOOLS = Path(__file__).resolve().parent
 TESTS = TOOLS / "tests"
 ROWS = TESTS / "rows"
-PICTURES = TOOLS.parent / "docs" / "pictures"
-SHOP = TOOLS.parent / "examples" / "shop.script"
+ROOT = TOOLS.parent
+PICTURES = ROOT / "docs" / "pictures"
+EXAMPLES = ROOT / "examples"
 sys.path[:0] = [str(TOOLS), str(TESTS)]
 
 import check_report
 import draw_life
 import explain
+import plain_judge
+import random_faults
 import random_lives
 from report_text import Fault, read_report, split_reply
 from script_text import Refusal, TooLong, read_script
@@ -120,12 +123,34 @@ def judged(script, report):
     return check_report.judge(read_script(script), read_report(report))
 
 
+def why_refused(script, report):
+    """The line of a report at fault and why, or None where it is legal."""
+    try:
+        judged(script, report)
+    except Fault as fault:
+        return fault.line, fault.why
+    return None
+
+
 def first_refusal(script):
     try:
         read_script(script)
     except Refusal as refusal:
         return refusal.line, refusal.reason
     return None
+
+
+def shown_runs(page):
+    """The runs that a document shows: a block with a report beside its script, or one with the report of the example named last."""
+    for found in re.finditer(r"(?m)^(?: {4}.*\n)+", page):
+        lines = found[0].splitlines()
+        column = lines[0].find("life 0 clients ")
+        if column < 0:
+            continue
+        script = "".join(line[4:column].rstrip() + "\n" for line in lines).rstrip("\n")
+        if column == 4:
+            script = (EXAMPLES / re.findall(r"examples/(\w+\.script)", page[: found.start()])[-1]).read_text("utf-8")
+        yield script.encode(), "".join(line[column:] + "\n" for line in lines if line[column:]).encode()
 
 
 def said_by(main, words):
@@ -145,9 +170,23 @@ class LegalReports(unittest.TestCase):
                 self.assertTrue(judged(*row(name)).startswith("legal: "))
 
     def test_pictured_reports_are_legal(self):
-        for script, report in ((SHOP, "shop.report"), (PICTURES / "two_shops.script", "two_shops.report")):
-            with self.subTest(report):
-                self.assertTrue(judged(script.read_bytes(), (PICTURES / report).read_bytes()).startswith("legal: "))
+        reports = sorted(PICTURES.glob("*.report"))
+        self.assertGreaterEqual(len(reports), 2)
+        for report in reports:
+            with self.subTest(report.stem):
+                self.assertIsNone(why_refused((EXAMPLES / f"{report.stem}.script").read_bytes(), report.read_bytes()))
+
+    def test_reports_in_documents_are_legal(self):
+        shown = [run for page in [ROOT / "README.md", *ROOT.glob("docs/*.md")] for run in shown_runs(page.read_text("utf-8"))]
+        self.assertGreaterEqual(len(shown), 2)
+        for script, report in shown:
+            with self.subTest(report[:200]):
+                self.assertIsNone(why_refused(script, report))
+
+    def test_report_of_the_gate_is_legal(self):
+        """The run that the gate compares."""
+        crate = ROOT / "crates" / "cx_tool"
+        self.assertIsNone(why_refused((crate / "stdin").read_bytes(), (crate / "stdout").read_bytes()))
 
     def test_random_lives_are_legal(self):
         for seed in range(120):
@@ -161,9 +200,38 @@ class LegalReports(unittest.TestCase):
     def test_program_writes_legal_reports(self):
         if not random_lives.PROGRAM.exists():
             self.skipTest("the program is not built")
-        self.assertIsNone(random_lives.compare(100))
-        written = random_lives.answer_of_program(random_lives.PROGRAM, SHOP.read_bytes())
-        self.assertEqual((PICTURES / "shop.report").read_bytes(), written)
+        self.assertIsNone(random_lives.compare(100, random_lives.Seen()))
+        for example in EXAMPLES.glob("*.script"):
+            with self.subTest(example.stem):
+                script = example.read_bytes()
+                self.assertIsNone(why_refused(script, random_lives.answer_of_program(random_lives.PROGRAM, script)))
+
+
+class TwoJudges(unittest.TestCase):
+    """The judge that names a line, and the one that takes each condition by itself."""
+
+    def test_they_agree_on_reports_with_faults(self):
+        legal = refused = 0
+        for script, report in self.reports(1_200):
+            expected = plain_judge.is_legal(read_script(script), read_report(report))
+            legal, refused = legal + expected, refused + (not expected)
+            why = why_refused(script, report)
+            with self.subTest(why, report=report.decode()):
+                self.assertEqual(expected, why is None)
+                self.assertTrue(why is None or 1 <= why[0] <= report.count(b"\n") + 1)
+        self.assertGreater(min(legal, refused), 200)
+
+    def reports(self, count):
+        """Legal reports, of the rows among them, and most of them with faults."""
+        rows = [row(path.stem) for path in sorted(ROWS.glob("*.report"))]
+        for seed in range(count):
+            choice = random.Random(seed)
+            script, report = choice.choice(rows) if seed % 4 == 0 else self.random_lives(choice)
+            yield script, report if seed % 5 == 0 else random_faults.with_faults(choice, report)
+
+    def random_lives(self, choice):
+        script = random_lives.script_text(choice, choice.randint(1, 3), choice.randint(1, 2), choice.randint(1, 9), cuts=True, steps=9)
+        return script, random_lives.report_text(choice, read_script(script))
 
 
 class WrongReports(unittest.TestCase):
@@ -237,11 +305,18 @@ class Statuses(unittest.TestCase):
 
     def test_draw_life(self):
         with tempfile.TemporaryDirectory() as folder:
-            out = Path(folder) / "out.svg"
-            self.assertEqual(("", 0), said_by(draw_life.main, [ROWS / "room.report", out]))
-            self.assertEqual(draw_life.drawn(row("room")[1]), out.read_text(encoding="utf-8"))
-            self.assertEqual(1, said_by(draw_life.main, [ROWS / "room.script"])[1])
-            self.assertEqual(2, said_by(draw_life.main, [])[1])
+            out, report = Path(folder) / "out.svg", ROWS / "room.report"
+            picture = draw_life.drawn(row("room")[1])
+            self.assertEqual((picture, 0), said_by(draw_life.main, [report]))
+            for words in ([report, "-o", out], ["-o", out, report]):
+                self.assertEqual(("", 0), said_by(draw_life.main, words))
+                self.assertEqual(picture, out.read_text(encoding="utf-8"))
+                out.unlink()
+            script = ROWS / "room.script"
+            self.assertEqual((f"{script}, line 1: the line is none of a report\n", 1), said_by(draw_life.main, [script]))
+            self.assertEqual((f"{out}: No such file or directory\n", 2), said_by(draw_life.main, [out]))
+            for words in ([], ["-o"], [report, "-o"], [report, out], ["-o", out]):
+                self.assertEqual(("usage: draw_life.py REPORT [-o FILE]\n", 2), said_by(draw_life.main, words))
 
 
 class Scripts(unittest.TestCase):
@@ -329,7 +404,10 @@ class Explanations(unittest.TestCase):
             with self.subTest(reason):
                 said, status = explain.explained("a.script", script, 3, f"refused line {line}: {reason}\n".encode())
                 self.assertEqual(1, status)
-                self.assertEqual(f"a.script, line {line}: {reason}", said.split("\n")[0])
+                head = re.fullmatch(r"a\.script, line ([0-9]+), column ([0-9]+): ([a-z0-9]+)", said.split("\n")[0])
+                self.assertEqual((str(line), reason), (head[1], head[3]))
+                text = script.split(b"\n")[line - 1].decode("utf-8", "replace")
+                self.assertTrue(text[int(head[2]) - 1 :].startswith(marked), text)
                 self.assertIn(explain.SENTENCES[reason], said)
                 self.assertTrue(said.split("\n")[-1].startswith("  "))
                 self.assertTrue(self.marked(said).startswith(marked), self.marked(said))
@@ -345,8 +423,9 @@ class Explanations(unittest.TestCase):
 
     def test_other_ends(self):
         self.assertEqual(("a: accepted, 2 lines of report", 0), explain.explained("a", HEAD, 0, b"life\npower\n"))
-        for status, ended in ((8, 1), (2, 2), (6, 2), (-11, 2)):
+        for status, ended in ((8, 1), (2, 2), (6, 2), (-11, 2), (3, 2)):
             self.assertEqual(ended, explain.explained("a", HEAD, status, b"")[1])
+        self.assertEqual(("a: the program ended with status 3", 2), explain.explained("a", HEAD, 3, b"refused line 9: key\n"))
 
     def test_runs_the_program(self):
         with tempfile.TemporaryDirectory() as folder:
@@ -355,8 +434,12 @@ class Explanations(unittest.TestCase):
             os.chmod(program, 0o755)
             script.write_bytes(REFUSED["client"][0])
             said, status = said_by(explain.main, ["--program", program, script])
-            self.assertEqual((f"{script}, line 3: client", 1), (said.split("\n")[0], status))
+            self.assertEqual((f"{script}, line 3, column 1: client", 1), (said.split("\n")[0], status))
             self.assertEqual(2, said_by(explain.main, ["--program", Path(folder) / "none", script])[1])
+            none = f"{folder}/none"
+            self.assertEqual((f"{none}: No such file or directory\n", 2), said_by(explain.main, ["--program", program, none]))
+            program.chmod(0o644)
+            self.assertEqual((f"{program}: Permission denied\n", 2), said_by(explain.main, ["--program", program, script]))
 
     def test_program_gives_the_same_reasons(self):
         if not random_lives.PROGRAM.exists():
@@ -364,7 +447,7 @@ class Explanations(unittest.TestCase):
         for reason, (script, line, _) in REFUSED.items():
             if reason != "commands":
                 with self.subTest(reason):
-                    self.assertEqual((line, reason), random_lives.answer_of_program(random_lives.PROGRAM, script))
+                    self.assertEqual(random_lives.Refused(line, reason), random_lives.answer_of_program(random_lives.PROGRAM, script))
 
 
 class Pictures(unittest.TestCase):
@@ -417,7 +500,7 @@ class Pictures(unittest.TestCase):
                 self.assertEqual(self.expected(report), self.marks(draw_life.drawn(report)))
 
     def test_pictures_of_the_documents_are_these(self):
-        """After a change of the drawing: draw_life.py docs/pictures/NAME.report docs/pictures/NAME.svg"""
+        """After a change of the drawing: tools/draw_life.py docs/pictures/NAME.report -o docs/pictures/NAME.svg"""
         for report in PICTURES.glob("*.report"):
             with self.subTest(report.stem):
                 self.assertEqual(draw_life.drawn(report.read_bytes()), report.with_suffix(".svg").read_text(encoding="utf-8"))
@@ -440,8 +523,42 @@ class Pictures(unittest.TestCase):
                 for one, other in itertools.combinations(boxes, 2):
                     apart = one[2] <= other[0] or other[2] <= one[0] or one[3] <= other[1] or other[3] <= one[1]
                     self.assertTrue(apart, (one, other))
-                self.assertLessEqual(max((box[2] for box in boxes), default=0), draw_life.WIDTH)
-                self.assertGreaterEqual(min((box[0] for box in boxes), default=0), 0)
+
+    def test_all_lies_within_the_picture(self):
+        for name, report in self.reports():
+            picture = draw_life.drawn(report)
+            root = ElementTree.fromstring(picture)
+            wide, high = float(root.get("width")), float(root.get("height"))
+            self.assertEqual(f"0 0 {wide:g} {high:g}", root.get("viewBox"))
+            with self.subTest(name):
+                for element, x, y in self.elements(picture):
+                    for at_x, at_y in self.corners(element, x, y):
+                        self.assertTrue(0 <= at_x <= wide and 0 <= at_y <= high, ElementTree.tostring(element))
+
+    def corners(self, element, x, y):
+        """Points that bound an element: of the background's rectangle, of texts, lines, marks and paths; none for what is not drawn."""
+        kind = element.tag.rpartition("}")[2]
+        if kind == "text":
+            left, top, right, bottom, _ = self.box(element, x, y)
+            return [(left, top), (right, bottom)]
+        if kind == "circle":
+            radius = float(element.get("r")) + 1
+            return [(x - radius, y - radius), (x + radius, y + radius)]
+        if kind == "line" and element.get("class"):
+            return [(float(element.get(f"x{end}")), float(element.get(f"y{end}"))) for end in "12"]
+        if kind == "rect":
+            left, top = float(element.get("x")), float(element.get("y"))
+            return [(left, top), (left + float(element.get("width")), top + float(element.get("height")))]
+        return self.points(element.get("d"), x, y) if kind == "path" else []
+
+    def points(self, path, x, y):
+        """The points of a path of absolute moves and lines."""
+        found, at = [], [0.0, 0.0]
+        for letter, numbers in re.findall(r"([MLHV])([-0-9. ]+)", path):
+            parts = list(map(float, numbers.split()))
+            at = {"H": [parts[0], at[1]], "V": [at[0], parts[0]]}.get(letter, parts)
+            found.append((x + at[0], y + at[1]))
+        return found
 
     def box(self, element, x, y):
         """About the rectangle that a text takes, by letters as wide as those of common fonts, and its words."""

@@ -1,13 +1,15 @@
 #!/usr/bin/env python3
 """Random scripts, and random legal reports of many lives and clients.
 
-    random_lives.py COUNT [PROGRAM]     runs COUNT random scripts of one life of one client through the program: the report
-                                        of each must be legal, and the refusal of each the one that docs/FORMATS.md names
-    random_lives.py report CLIENTS LIVES COMMANDS SEED      writes a legal report, to draw
+    random_lives.py COUNT [PROGRAM]     runs COUNT random scripts of 1 to 5 lives of 1 to 8 clients through the program, with cuts,
+                                        and every other one with a fault: the report of each must be legal, and the
+                                        refusal of each the one that docs/FORMATS.md names
+    random_lives.py report CLIENTS LIVES COMMANDS SEED      writes a legal report, to draw, with COMMANDS commands in each life
 """
 import random
 import subprocess
 import sys
+from dataclasses import dataclass
 from pathlib import Path
 
 TOOLS = Path(__file__).resolve().parent.parent
@@ -15,10 +17,12 @@ sys.path.insert(0, str(TOOLS))
 
 import check_report
 from plain_store import Store
-from report_text import Fault, read_report
-from script_text import Refusal, read_script
+from report_text import UNANSWERED, Fault, read_report
+from script_text import Refusal, raw_lines, read_script
 
 PROGRAM = TOOLS.parent / "crates" / "cx_tool" / "out" / "cx_tool"
+CELLS = 16
+MOST_SECONDS = 120
 DOCUMENTS = ["0", "-3", "12", '"a text"', '{"name": "pear", "price": 95}', "[ 1, 2,3 ]", "null", "9223372036854775807", '"x = new"']
 PIECES = ["0", "1", " ", "  ", "put", "add", "-0", "01", "1.5", "{", "}", "[", '"', "key", "cut", "life", "lines", "\t", "\r", "#", "\x7f"]
 
@@ -47,10 +51,10 @@ def command(choice):
 def script_text(choice, clients=1, lives=1, commands=20, cuts=False, most=None, steps=999):
     """A script of so many lives; where it is said, with at most so many commands of one client in a life."""
     lines = [f"lines {choice.choice([64, 64, 70, 1024])}"]
+    cut = choice.choice([0.4, 0.4, 1]) if cuts else 0
     for _ in range(lives):
         lines.append(f"life {clients} power {choice.randint(0, 9)}")
-        if cuts:
-            lines.extend(f"cut {client} {choice.randint(0, steps)}" for client in range(clients) if choice.random() < 0.4)
+        lines.extend(f"cut {client} {choice.randint(0, steps)}" for client in range(clients) if choice.random() < cut)
         made = [0] * clients
         for _ in range(commands):
             client = choice.randrange(clients)
@@ -146,42 +150,96 @@ def report_text(choice, script):
     return "".join(line + "\n" for line in lines).encode()
 
 
+@dataclass
+class Seen:
+    """What a run over many scripts met."""
+
+    refused: int = 0
+    reports: int = 0
+    lives: int = 0
+    entries: int = 0
+    unanswered: int = 0
+    entries_lost: int = 0
+    reads: int = 0
+    stops_kept: int = 0
+    stops_lost: int = 0
+
+    def add(self, report):
+        self.reports += 1
+        for life in report.lives:
+            self.lives += 1
+            self.entries += len(life.entries)
+            self.unanswered += sum(entry.rest.endswith(f" = {UNANSWERED}") for entry in life.entries)
+            self.entries_lost += life.power.entries - life.power.kept
+            self.reads += len(life.reads)
+            kept = sum(stop.fate == "kept" for stop in life.stops)
+            self.stops_kept += kept
+            self.stops_lost += len(life.stops) - kept
+
+    def __str__(self):
+        return (
+            f"{self.refused} scripts refused alike; {self.reports} legal reports of {self.lives} lives: {self.entries} entries, "
+            f"{self.unanswered} of them unanswered and {self.entries_lost} lost, {self.reads} reads, "
+            f"{self.stops_kept + self.stops_lost} clients stopped, {self.stops_kept} in a command that was kept"
+        )
+
+
+@dataclass(frozen=True)
+class Refused:
+    """What the program says of a script that is none."""
+
+    line: int
+    reason: str
+
+
 def answer_of_program(program, script):
-    """What the program says of a script: its report, or the line and the reason of its refusal."""
-    ended = subprocess.run([program, "run"], input=script, capture_output=True, check=False)
+    """What the program says of a script: its report, or its refusal, or how else it ended."""
+    ended = subprocess.run([program, "run"], input=script, capture_output=True, check=False, timeout=MOST_SECONDS)
     if ended.returncode == 3:
         _, _, line, reason = ended.stdout.decode().split()
-        return int(line.rstrip(":")), reason
-    return ended.stdout
+        return Refused(int(line.rstrip(":")), reason)
+    return ended.stdout if ended.returncode == 0 else f"status {ended.returncode}"
 
 
-def disagreement(program, script):
+def disagreement(program, script, seen):
     """Where the program and the tools disagree on a script; else None."""
     answer = answer_of_program(program, script)
+    if isinstance(answer, str):
+        return answer
+    if isinstance(answer, Refused):
+        seen.refused += 1
+        return None if answer in refusals(script, answer.line) else f"{answer}, not one of {refusals(script, answer.line)}"
+    report = read_report(answer)
     try:
-        read = read_script(script)
-    except Refusal as refusal:
-        return None if answer == (refusal.line, refusal.reason) else f"{answer}, not {refusal.line} {refusal.reason}"
-    if isinstance(answer, tuple):
-        return None if answer[1] == "form" else f"{answer}, though this is a script"
-    try:
-        check_report.judge(read, read_report(answer))
-    except Fault as fault:
-        return str(fault)
+        check_report.judge(read_script(script), report)
+    except (Refusal, Fault) as why:
+        return f"{type(why).__name__} {why}"
+    seen.add(report)
     return None
 
 
-def compare(count, program=PROGRAM):
-    """Runs so many scripts through the program; the first on which they disagree, with why, or None."""
+def refusals(script, line):
+    """How a program may refuse the script: as docs/FORMATS.md says; or at this line, where a client's 17th command in a life stands."""
+    front = b"\n".join(raw_lines(script)[:line]) + b"\n"
+    try:
+        commands = [command for life in read_script(front).lives for command in life.commands]
+        return [Refused(line, "form")] if [c for c in commands if c.number > CELLS] == commands[-1:] else []
+    except Refusal as refusal:
+        return [Refused(refusal.line, refusal.reason)]
+
+
+def compare(count, seen, program=PROGRAM):
+    """Runs so many scripts through the program; why they disagree on the first on which they do, with that script, or None."""
     for seed in range(count):
         choice = random.Random(seed)
         clients, lives = choice.randint(1, 8), choice.randint(1, 5)
-        script = script_text(choice, clients, lives, choice.randint(0, 60), cuts=True, most=16, steps=choice.choice([99, 999, 19_999]))
+        steps = choice.choice([99, 999, 19_999])
+        script = script_text(choice, clients, lives, choice.randint(0, 60), cuts=True, most=CELLS, steps=steps)
         if seed % 2:
             script = spoiled(choice, script)
-        why = disagreement(program, script)
+        why = disagreement(program, script, seen)
         if why:
-            return seed, why, script
+            return f"script {seed}: {why}\n{script.decode()}"
     return None
 
 
@@ -191,8 +249,9 @@ def main(words):
         choice = random.Random(seed)
         sys.stdout.buffer.write(report_text(choice, read_script(script_text(choice, clients, lives, commands, cuts=True))))
         return 0
-    found = compare(int(words[0]), *words[1:])
-    print(found or f"{words[0]} scripts: the program and the tools agree")
+    seen = Seen()
+    found = compare(int(words[0]), seen, *words[1:])
+    print(found or seen)
     return 1 if found else 0
 
 
