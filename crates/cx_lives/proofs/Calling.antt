@@ -1,5 +1,5 @@
 -- What submits and drives come to one after another, as a worker sees them.
-use Rattle.std.proofs.Common.{◌≡◌, inl, inr, ℕ, List, [], ◌∷◌, ◌++◌, length, refl, ap, sym, ◌∙◌, Some, None}
+use Rattle.std.proofs.Common.{◌≡◌, inl, inr, ℕ, List, [], ◌∷◌, ◌++◌, length, refl, ap, sym, subst, ◌∙◌, Option, Some, None}
 use Rattle.std.proofs.lemmas.List.{append-nil}
 use Rattle.std.proofs.lemmas.Option.{same_Some}
 use Rattle.cx_core.specs.declared.local.Answer.{Answer}
@@ -7,6 +7,7 @@ use Rattle.cx_core.specs.declared.local.Linked.{Linked as OwnEntry}
 use Rattle.cx_core.specs.declared.local.FullNote.{FullNote}
 use Rattle.cx_rule.specs.Running.{Running}
 use Rattle.cx_rule.specs.Seats.{Seated}
+use Rattle.cx_service.specs.Callers.{StoppedSeat}
 use Rattle.cx_service.specs.Drives.{DriveHalted}
 use Rattle.cx_service.specs.Lookups.{ReadAnswered, ReadHalted, ReadPending}
 use Rattle.cx_service.specs.Submits.{SubmitAgain, SubmitFull, SubmitHalted, SubmitLinked, SubmitWorn, entry_at}
@@ -15,7 +16,7 @@ use Rattle.cx_turns.specs.declared.lookup.Seen.{Seen}
 use Rattle.cx_turns.specs.Answering.{with_answer, with_read}
 use Rattle.cx_lives.specs.declared.calls.Asked.{Asked}
 use Rattle.cx_lives.specs.declared.calls.Asked.TheVariants.{Done, Read, Worn, Halted}
-use Rattle.cx_lives.specs.Calls.{Asks, AsksDone, AsksRead, AsksWorn, Finishes, HaltsBeside, IsFinished, LinksEntry, one_read}
+use Rattle.cx_lives.specs.Calls.{Asks, AsksDone, AsksRead, AsksWorn, Finishes, Halts, IsFinished, LinksEntry, one_read}
 
 module _ {O : Type 0} (r : Running O) (op : List ℕ) (s u : Seated) (same : KeepsLists s u) where
   pub again_keeps : (tries most : ℕ) (v : Seated) → SubmitAgain r tries most u v → KeepsLists s v
@@ -43,15 +44,15 @@ module _ {O : Type 0} (r : Running O) (op : List ℕ) (s u : Seated) (same : Kee
     front = w.front;
   }
 
-  pub halts_beside : (most : ℕ) (v : Seated) → SubmitHalted r most u v → HaltsBeside r op s v
-  halts_beside most v h = record {
+  pub halts_beside : (most : ℕ) (v : StoppedSeat) → SubmitHalted r most u v → Halts r op s v.seat v.linked
+  halts_beside most v h = subst (Halts r op s v.seat) (sym h.linked) (record {
     caller = h.caller;
     number = h.keeps.number ∙ same.number;
     limit = h.keeps.limit ∙ same.limit;
     own = h.own ∙ same.own;
     answered = h.keeps.answered ∙ same.answered;
     reads = inl (h.keeps.reads ∙ same.reads);
-  }
+  })
 
   -- an entry that was linked, and driven on
   module _ (most : ℕ) (l : Seated) (linked : SubmitLinked r op most u l) where
@@ -76,7 +77,7 @@ module _ {O : Type 0} (r : Running O) (op : List ℕ) (s u : Seated) (same : Kee
     }
 
     -- no answer more, or one
-    answers_more : (v : Seated) → DriveHalted r l v → (more : List Answer) × (v.known.local.answered ≡ s.known.local.answered ++ more)
+    answers_more : (v : StoppedSeat) → DriveHalted r l v → (more : List Answer) × (v.seat.known.local.answered ≡ s.known.local.answered ++ more)
     answers_more v h =
         elim h.answered [
           | inl none ↦ ([], none ∙ linked.keeps.answered ∙ same.answered ∙ sym (append-nil s.known.local.answered))
@@ -87,13 +88,12 @@ module _ {O : Type 0} (r : Running O) (op : List ℕ) (s u : Seated) (same : Kee
     finished (Done v answer) f = done v answer f
     finished (Read v seen) f = absurd f
     finished (Worn v) f = absurd f
-    finished (Halted v None) f = absurd f
-    finished (Halted v (Some ticket)) f = (let more = answers_more v f.0 in record {
-      caller = f.0.caller;
-      links = links v ticket (same_Some linked.ticket ticket (sym linked.lends ∙ f.1)) f.0.keeps.number f.0.keeps.limit f.0.keeps.own f.0.keeps.reads;
+    finished (Halted v) f = (let more = answers_more v f in subst (Halts r op s v.seat) (sym f.linked) (record {
+      caller = f.caller;
+      links = links v.seat f.ticket (same_Some linked.ticket f.ticket (sym linked.lends ∙ f.is)) f.keeps.number f.keeps.limit f.keeps.own f.keeps.reads;
       more = more.0;
       answered = more.1;
-    })
+    }))
 
   -- what an operation comes to depends on the lists alone
   asks_same_links : (ticket : ℕ) (v : Seated) → LinksEntry op ticket u.known.local v.known.local → LinksEntry op ticket s.known.local v.known.local
@@ -112,6 +112,25 @@ module _ {O : Type 0} (r : Running O) (op : List ℕ) (s u : Seated) (same : Kee
   same_read seen =
       ap (λ n. with_read seen.place op seen.reply n u.known.local.seen_reads) (ap (λ (xs : List Answer). length xs) same.answered)
       ∙ ap (with_read seen.place op seen.reply (length s.known.local.answered)) same.reads
+
+  halts_same : (v : Seated) (linked : Option ℕ) → Halts r op u v linked → Halts r op s v linked
+  halts_same v None a = record {
+    caller = a.caller;
+    number = a.number ∙ same.number;
+    limit = a.limit ∙ same.limit;
+    own = a.own ∙ same.own;
+    answered = a.answered ∙ same.answered;
+    reads = elim a.reads [
+      | inl none ↦ inl (none ∙ same.reads)
+      | inr one ↦ inr (one.0, one.1 ∙ same_read one.0)
+    ];
+  }
+  halts_same v (Some ticket) a = record {
+    caller = a.caller;
+    links = asks_same_links ticket v a.links;
+    more = a.more;
+    answered = a.answered ∙ ap (λ (xs : List Answer). xs ++ a.more) same.answered;
+  }
 
   pub asks_same : (asked : Asked) → Asks r op u asked → Asks r op s asked
   asks_same (Done v answer) a = record {
@@ -132,23 +151,7 @@ module _ {O : Type 0} (r : Running O) (op : List ℕ) (s u : Seated) (same : Kee
     keeps = record { number = a.keeps.number ∙ same.number; limit = a.keeps.limit ∙ same.limit; own = a.keeps.own ∙ same.own; answered = a.keeps.answered ∙ same.answered; reads = a.keeps.reads ∙ same.reads };
     front = a.front;
   }
-  asks_same (Halted v None) a = record {
-    caller = a.caller;
-    number = a.number ∙ same.number;
-    limit = a.limit ∙ same.limit;
-    own = a.own ∙ same.own;
-    answered = a.answered ∙ same.answered;
-    reads = elim a.reads [
-      | inl none ↦ inl (none ∙ same.reads)
-      | inr one ↦ inr (one.0, one.1 ∙ same_read one.0)
-    ];
-  }
-  asks_same (Halted v (Some ticket)) a = record {
-    caller = a.caller;
-    links = asks_same_links ticket v a.links;
-    more = a.more;
-    answered = a.answered ∙ ap (λ (xs : List Answer). xs ++ a.more) same.answered;
-  }
+  asks_same (Halted v) a = halts_same v.seat v.linked a
 
 module _ {O : Type 0} (r : Running O) (op : List ℕ) (s u : Seated) where
   pub read_keeps : (tries : ℕ) → ReadPending r tries s u → KeepsLists s u
@@ -164,15 +167,16 @@ module _ {O : Type 0} (r : Running O) (op : List ℕ) (s u : Seated) where
     reads = a.reads;
   }
 
-  pub halts_reading : ReadHalted r op s u → HaltsBeside r op s u
-  halts_reading h = record {
-    caller = h.caller;
-    number = h.keeps.number;
-    limit = h.keeps.limit;
-    own = h.keeps.own;
-    answered = h.keeps.answered;
-    reads = elim h.reads [
-      | inl none ↦ inl none
-      | inr one ↦ inr (record { place = one.0; reply = one.1 }, one.2)
-    ];
-  }
+-- a read that halted
+pub halts_reading : {O : Type 0} (r : Running O) (op : List ℕ) (s : Seated) (v : StoppedSeat) → ReadHalted r op s v → Halts r op s v.seat v.linked
+halts_reading r op s v h = subst (Halts r op s v.seat) (sym h.linked) (record {
+  caller = h.caller;
+  number = h.keeps.number;
+  limit = h.keeps.limit;
+  own = h.keeps.own;
+  answered = h.keeps.answered;
+  reads = elim h.reads [
+    | inl none ↦ inl none
+    | inr one ↦ inr (record { place = one.0; reply = one.1 }, one.2)
+  ];
+})

@@ -8,6 +8,7 @@ use Rattle.cx_core.specs.declared.local.Local.{Local}
 use Rattle.cx_core.specs.declared.local.SeenRead.{SeenRead}
 use Rattle.cx_rule.specs.Running.{Running}
 use Rattle.cx_rule.specs.Seats.{Seated}
+use Rattle.cx_service.specs.Callers.{StoppedSeat}
 use Rattle.cx_service.specs.Closes.{seat_of}
 use Rattle.cx_service.specs.declared.close.Handed.{Handed}
 use Rattle.cx_service.specs.declared.close.Handed.TheVariants.{Idle, Stopped as StoppedCaller}
@@ -26,10 +27,10 @@ use Rattle.cx_lives.specs.declared.desk.Turn.{Turn}
 use Rattle.cx_lives.specs.declared.desk.Turn.TheVariants.{Next, Over}
 use Rattle.cx_lives.specs.declared.desk.Work.{Work}
 use Rattle.cx_lives.specs.declared.calls.Asked.TheVariants.{Halted}
-use Rattle.cx_lives.specs.Calls.{Asks, AsksDone, AsksRead, AsksWorn}
+use Rattle.cx_lives.specs.Calls.{Asks, AsksDone, AsksRead, AsksWorn, Halts}
 use Rattle.cx_lives.specs.Ends.{IsCallerIn, IsEndOf, IsNewIn, IsWorkOf, Turned}
 use Rattle.cx_lives.specs.Serving.{HasServed, IsServed}
-use Rattle.cx_lives.specs.Turns.{EntryTurn, ReadTurn, StopsIn, stop_line}
+use Rattle.cx_lives.specs.Turns.{EntryTurn, ReadTurn, StopsIn, stop_line, with_linked}
 use Rattle.cx_lives.proofs.Serving.{few_own, is_whole, named_within, serves_entry, serves_none, serves_read, stops_beside, stops_linked}
 
 -- what holds of what came out
@@ -101,16 +102,19 @@ module _ {O : Type 0} (life : Life) (r : Running O) (client n number : ℕ) (bef
       (inl (record { front = a.front; fewer = omega (arith, same, few_before, within) }))
 
   -- the client is stopped
-  pub stop_turned : (stopped : Seated) (linked : Option ℕ) (work : Work) → Asks r ws before (Halted stopped linked) → StopsIn client number stopped linked es rs work → IsWorkOf life r client work
-  stop_turned stopped None work a w =
-      work_is life r client work (StoppedCaller stopped) (Stopped (stop_line client number stopped)) w.handed w.end_is
-      (record { of = a.caller.of; by = a.number ∙ s.by; limit = a.limit ∙ s.limit; few = omega (arith, ap length a.own, few_before, within) })
-      (stops_beside life client n l es rs s number next op ws are named within stopped.known.local a.limit a.caller.limit work.entries.items work.reads.items a.number a.own a.answered a.reads w.entries_are w.reads_are)
-  stop_turned stopped (Some ticket) work a w =
-      let longer : length stopped.known.local.own ≡ length l.own + 1 = ap length a.links.own ∙ length-append l.own (a.links.entry ∷ []) in
-      work_is life r client work (StoppedCaller stopped) (Stopped (stop_line client number stopped)) w.handed w.end_is
-      (record { of = a.caller.of; by = a.links.number ∙ s.by; limit = a.links.limit ∙ s.limit; few = omega (arith, longer, few_before, within) })
-      (stops_linked life client n l es rs s number next op ws are named within stopped.known.local a.links.limit a.caller.limit ticket a.more work.entries.items work.reads.items a.links a.answered w.entries_are w.reads_are)
+  pub stop_turned : (stopped : StoppedSeat) (work : Work) → Asks r ws before (Halted stopped) → StopsIn client number stopped es rs work → IsWorkOf life r client work
+  stop_turned stopped work a w = by stopped.linked a w.entries_are
+    where
+      by : (linked : Option ℕ) → Halts r ws before stopped.seat linked → work.entries.items ≡ with_linked client number linked es → IsWorkOf life r client work
+      by None a lines =
+          work_is life r client work (StoppedCaller stopped) (Stopped (stop_line client number stopped)) w.handed w.end_is
+          (record { of = a.caller.of; by = a.number ∙ s.by; limit = a.limit ∙ s.limit; few = omega (arith, ap length a.own, few_before, within) })
+          (stops_beside life client n l es rs s number next op ws are named within stopped.seat.known.local a.limit a.caller.limit work.entries.items work.reads.items a.number a.own a.answered a.reads lines w.reads_are)
+      by (Some ticket) a lines =
+          let longer : length stopped.seat.known.local.own ≡ length l.own + 1 = ap length a.links.own ∙ length-append l.own (a.links.entry ∷ []) in
+          work_is life r client work (StoppedCaller stopped) (Stopped (stop_line client number stopped)) w.handed w.end_is
+          (record { of = a.caller.of; by = a.links.number ∙ s.by; limit = a.links.limit ∙ s.limit; few = omega (arith, longer, few_before, within) })
+          (stops_linked life client n l es rs s number next op ws are named within stopped.seat.known.local a.links.limit a.caller.limit ticket a.more work.entries.items work.reads.items a.links a.answered lines w.reads_are)
 
 -- a client that was answered all its commands
 pub whole_work : {O : Type 0} (life : Life) (r : Running O) (client n : ℕ) (desk : Desk) (work : Work) → IsServed life r client n desk → n ≡ length (own_ops client life.commands)

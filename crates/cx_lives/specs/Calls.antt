@@ -1,5 +1,5 @@
 -- What an operation comes to that a worker asks for, whether beside the queue or as an entry of it.
-use Rattle.std.specs.Prelude.{◌≡◌, ◌^◌, ◌⊎◌, ℕ, List, [], ◌∷◌, ◌++◌, length, Some, None}
+use Rattle.std.specs.Prelude.{◌≡◌, ◌^◌, ◌⊎◌, ℕ, List, [], ◌∷◌, ◌++◌, length, Option, Some, None}
 use Rattle.cx_core.specs.declared.local.Answer.{Answer}
 use Rattle.cx_core.specs.declared.local.Linked.{Linked}
 use Rattle.cx_core.specs.declared.local.Local.{Local}
@@ -67,13 +67,17 @@ pub record HaltsLinked {O : Type 0} (r : Running O) (op : List ℕ) (ticket : �
   pub more : List Answer
   pub answered : after.known.local.answered ≡ before.known.local.answered ++ more
 
+-- what the limit left of it, by the ticket that the caller has of a linked entry
+abbrev pub Halts : {O : Type 0} → Running O → List ℕ → Seated → Seated → Option ℕ → Type 0
+Halts r op before after None = HaltsBeside r op before after
+Halts r op before after (Some ticket) = HaltsLinked r op ticket before after
+
 -- what an operation comes to
 abbrev pub Asks : {O : Type 0} → Running O → List ℕ → Seated → Asked → Type 0
 Asks r op before (Done after answer) = AsksDone r op before after answer
 Asks r op before (Read after seen) = AsksRead r op before after seen
 Asks r op before (Worn after) = AsksWorn r before after
-Asks r op before (Halted after None) = HaltsBeside r op before after
-Asks r op before (Halted after (Some ticket)) = HaltsLinked r op ticket before after
+Asks r op before (Halted after) = Halts r op before after.seat after.linked
 
 -- the linked entry stands, unanswered, after turns or none
 pub record StaysLinked {O : Type 0} (r : Running O) (before after : Seated) : Type 0 where
@@ -93,5 +97,4 @@ abbrev pub Finishes : {O : Type 0} → Running O → Seated → Asked → Type 0
 Finishes r before (Done after answer) = IsFinished r before after answer
 Finishes r before (Read after seen) = ⊥
 Finishes r before (Worn after) = ⊥
-Finishes r before (Halted after None) = ⊥
-Finishes r before (Halted after (Some ticket)) = DriveHalted r before after × (unanswered_ticket before.known.local ≡ Some ticket)
+Finishes r before (Halted after) = DriveHalted r before after

@@ -1,7 +1,7 @@
 -- What a command's answer adds to a client's lines, and what a client is at its end.
 use Rattle.std.specs.Prelude.{◌≡◌, ℕ, false, List, [], ◌∷◌, ◌++◌, Option, None, Some}
 use Rattle.cx_core.specs.declared.local.Answer.{Answer}
-use Rattle.cx_rule.specs.Seats.{Seated}
+use Rattle.cx_service.specs.Callers.{StoppedSeat}
 use Rattle.cx_service.specs.declared.close.Handed.TheVariants.{Idle, Stopped as StoppedCaller}
 use Rattle.cx_turns.specs.declared.lookup.Seen.{Seen}
 use Rattle.doc_model.specs.declared.operations.Reply.{Reply}
@@ -52,8 +52,8 @@ ReadTurn client number seen desk (Next next) = AddsRead client number seen desk 
 ReadTurn client number seen desk (Over work) = GivesUp desk work × AreOfNoReply seen.reply
 
 -- the stop line of a client that is stopped in its command of this number
-abbrev pub stop_line : ℕ → ℕ → Seated → StopLine
-stop_line client number stopped = record { client = client; command = number; steps = stopped.known.local.limit; kept = false }
+abbrev pub stop_line : ℕ → ℕ → StoppedSeat → StopLine
+stop_line client number stopped = record { client = client; command = number; steps = stopped.seat.known.local.limit; kept = false }
 
 -- the lines with one more, without reply, where an entry is linked
 abbrev pub with_linked : ℕ → ℕ → Option ℕ → List JournalLine → List JournalLine
@@ -61,10 +61,9 @@ with_linked client number None entries = entries
 with_linked client number (Some ticket) entries =
     entries ++ record { ticket = ticket; client = client; command = number; reply = None } ∷ []
 
--- the client is stopped in its command of this number, whose entry has a ticket where it is linked
-pub record StopsIn (client number : ℕ) (stopped : Seated) (linked : Option ℕ) (entries : List JournalLine) (reads : List ReadLine)
-    (work : Work) : Type 0 where
+-- the client is stopped in its command of this number
+pub record StopsIn (client number : ℕ) (stopped : StoppedSeat) (entries : List JournalLine) (reads : List ReadLine) (work : Work) : Type 0 where
   pub handed : work.handed ≡ StoppedCaller stopped
   pub end_is : work.end ≡ Stopped (stop_line client number stopped)
-  pub entries_are : work.entries.items ≡ with_linked client number linked entries
+  pub entries_are : work.entries.items ≡ with_linked client number stopped.linked entries
   pub reads_are : work.reads.items ≡ reads

@@ -1,5 +1,4 @@
-//! A worker's calls of the service, each made again until it is answered. The worker links an entry before it drives it, so that it
-//! knows the entry's ticket whatever comes.
+//! A worker's calls of the service, each made again until it is answered.
 
 ghost use Rattle.std.specs.Prelude.{IsTrue};
 ghost use Rattle.cx_service.specs.Callers.{IsCallerOf, IsLinkedOf};
@@ -24,8 +23,8 @@ pub(crate) enum Asked {
     Read(Caller, Seen),
     /// There is no further ticket.
     Worn(Caller),
-    /// The step limit was reached; the ticket of its entry, where it is linked.
-    Halted(Stopped, Option<u64>),
+    /// The step limit was reached.
+    Halted(Stopped),
 }
 
 /// Asks for an operation: beside the queue where it only reads and the current replica can be read in 8 turns, and else as an entry
@@ -57,7 +56,7 @@ fn look<O: Object, R: Wait>(rt: &R, service: &Service<O>, caller: Caller, op: &[
     match service.try_read(caller, op, READ_TRIES) {
         ReadTried::Read(back, seen) => Asked::Read(back, seen),
         ReadTried::Pending(back) => queue(rt, service, back, op),
-        ReadTried::Halted(stopped) => Asked::Halted(stopped, None),
+        ReadTried::Halted(stopped) => Asked::Halted(stopped),
     }
 }
 
@@ -73,7 +72,7 @@ fn queue<O: Object, R: Wait>(rt: &R, service: &Service<O>, caller: Caller, op: &
             Submitted::Again(back) => caller = back,
             Submitted::Full(back, _) => caller = back,
             Submitted::Worn(back) => return Asked::Worn(back),
-            Submitted::Halted(stopped) => return Asked::Halted(stopped, None),
+            Submitted::Halted(stopped) => return Asked::Halted(stopped),
         }
     }
     unreachable!()
@@ -84,13 +83,12 @@ fn finish<O: Object, R: Wait>(rt: &R, service: &Service<O>, linked: Linked) -> A
     requires { IsLinkedOf service.now linked }
     ensures { Finishes service.now linked result }
 {
-    let ticket = linked.ticket();
     let mut linked = linked;
     for _ in rt.forever() {
         match service.drive(linked, TRIES) {
             Driven::Done(caller, answer) => return Asked::Done(caller, answer),
             Driven::Pending(back) => linked = back,
-            Driven::Halted(stopped) => return Asked::Halted(stopped, Some(ticket)),
+            Driven::Halted(stopped) => return Asked::Halted(stopped),
         }
     }
     unreachable!()

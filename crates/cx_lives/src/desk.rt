@@ -105,8 +105,8 @@ impl Desk {
                 };
                 Ok(Turn::Over(desk.over(End::Never)))
             }
-            Asked::Halted(stopped, linked) => {
-                let work = stopped_in(client, number, stopped, linked, entries, reads)?;
+            Asked::Halted(stopped) => {
+                let work = stopped_in(client, number, stopped, entries, reads)?;
                 Ok(Turn::Over(work))
             }
         }
@@ -184,14 +184,13 @@ fn stopped_in(
     client: u32,
     number: u64,
     stopped: Stopped,
-    linked: Option<u64>,
     entries: Vec<JournalLine>,
     reads: Vec<ReadLine>,
 ) -> Result<Work, AllocError>
-    ensures { IfOk result (StopsIn client number stopped linked entries.items reads.items) }
+    ensures { IfOk result (StopsIn client number stopped entries.items reads.items) }
 {
     let mut entries = entries;
-    if let Some(ticket) = linked {
+    if let Some(ticket) = stopped.linked() {
         entries.push(JournalLine {
             ticket,
             client,

@@ -1,15 +1,14 @@
 -- What announcing an operation leaves of a caller that halts in it.
-use Rattle.std.proofs.Common.{◌≡◌, ◌≤◌, ℕ, Bool, List, [], ◌∷◌, length, drop, true, false, ap, sym, inl, inr, arith, Result, Ok, Err, IfOk, OnErr, OnOk}
-use Rattle.std.specs.Result.{is_err}
-use Rattle.std.proofs.lemmas.Bool.{cases_eq, eq-eqb, false≢true, ne_eqb}
+use Rattle.std.proofs.Common.{◌≡◌, ◌≤◌, ℕ, Bool, List, [], ◌∷◌, length, drop, ap, sym, inl, inr, arith, Result, Ok, Err, OnErr}
+use Rattle.std.proofs.lemmas.Bool.{cases_eq, eq-eqb, ne_eqb}
 use Rattle.std.proofs.Common.{cond}
 use Rattle.cx_core.specs.QueueEvents.{cell_of}
 use Rattle.cx_rule.specs.Running.{Running}
 use Rattle.cx_rule.specs.Seats.{Seated}
 use Rattle.mutation_queue.specs.Cells.{HaltsIn, differing}
-use Rattle.cx_service.specs.Callers.{IsCallerOf}
-use Rattle.cx_service.specs.Submits.{SubmitHalted, stale}
-use Rattle.cx_service.proofs.Entering.{beside_submit, halts}
+use Rattle.cx_service.specs.Callers.{IsCallerOf, unlinked}
+use Rattle.cx_service.specs.Submits.{SubmitHalted}
+use Rattle.cx_service.proofs.Entering.{beside_submit, halts, stale}
 
 -- two lists differ at no more places than there are
 some_differ : (xs ys : List ℕ) → differing xs ys ≤ length ys
@@ -24,7 +23,7 @@ some_differ (x ∷ xs) (y ∷ ys) =
       | inr ne ↦ (let other = ap count (ne_eqb x y ne) in omega (arith, other, rest))
     ]
 
-pub halted_in : {O : Type 0} (r : Running O) (j most number : ℕ) (op : List ℕ) (s t : Seated) → IsCallerOf r (stale s) → 145 ≤ most → length op ≡ 144 → HaltsIn j (number ∷ op) s t → SubmitHalted r most (stale s) t
+pub halted_in : {O : Type 0} (r : Running O) (j most number : ℕ) (op : List ℕ) (s t : Seated) → IsCallerOf r (stale s) → 145 ≤ most → length op ≡ 144 → HaltsIn j (number ∷ op) s t → SubmitHalted r most (stale s) (unlinked t)
 halted_in r j most number op s t caller many long halted =
     let limit = ap (λ (x : Seated). x.known.local.limit) halted.rest in
     let few = some_differ (drop 1 (cell_of s.known.local j).words) op in
@@ -33,15 +32,7 @@ halted_in r j most number op s t caller many long halted =
     (omega (arith, limit, few, halted.limit.0, halted.short, many, long))
     halted.limit
 
--- what holds of an error, and of what is none
-pub on_is_err : {A E X : Type 0} (r : Result A E) → is_err r ≡ true → OnErr r X → X
-on_is_err (Ok a) e x = absurd (false≢true e)
-on_is_err (Err a) e x = x
-
-pub on_is_ok : {A E X : Type 0} (r : Result A E) → is_err r ≡ false → OnOk r X → X
-on_is_ok (Ok a) e x = x
-on_is_ok (Err a) e x = absurd (false≢true (sym e))
-
-pub if_is_ok : {A E : Type 0} (r : Result A E) (P : A → Type 0) → is_err r ≡ false → IfOk r P → (a : A) × P a
-if_is_ok (Ok a) P e x = (a, x)
-if_is_ok (Err a) P e x = absurd (false≢true (sym e))
+-- what holds in any case holds of an error
+pub if_any_err : {A E P : Type 0} (r : Result A E) → P → OnErr r P
+if_any_err (Ok a) p = tt
+if_any_err (Err e) p = p

@@ -36,6 +36,10 @@ module _ (place : ℕ) (l : Local) (order : HasCellsInOrder place l) (free : l.s
   pub not_further : (i : ℕ) → length l.own ≤ i → IsInUse l i → ⊥
   not_further i past used = subst (IsInUseAt l.seen_free) (order.further i past) used
 
+  -- the cell of the next entry is idle
+  pub next_idle : (j : ℕ) → length l.own ≤ j → IsIdle l j
+  next_idle j past = subst (IsIdleAt l.seen_free) (sym (order.further j past)) tt
+
   pub not_both : (i : ℕ) → IsIdle l i → IsInUse l i → ⊥
   not_both i idle used = both (cell_of l i).ticket idle used
     where

@@ -1,5 +1,5 @@
 -- A caller announces an operation in the cell of its next entry, and tries to link it.
-use Rattle.std.proofs.Common.{◌≡◌, ◌≢◌, ◌+◌, ◌<◌, ◌≤◌, ℕ, false, List, [], ◌∷◌, ◌++◌, length, get_or, slice_index, slice_range, take_all, sym, ap, subst, ◌∙◌, inl, inr, arith, Some, None, length-append}
+use Rattle.std.proofs.Common.{◌≡◌, ◌≢◌, ◌+◌, ◌<◌, ◌≤◌, ℕ, false, List, [], ◌∷◌, ◌++◌, length, get_or, slice_index, slice_range, take_all, refl, sym, ap, subst, ◌∙◌, inl, inr, arith, Some, None, length-append}
 use Rattle.std.specs.List.{slice_get}
 use Rattle.std.specs.Option.{option_map}
 use Rattle.std.proofs.Math.ListN.{get_or-eq_default}
@@ -14,15 +14,21 @@ use Rattle.cx_core.specs.Region.{slot_number}
 use Rattle.cx_core.proofs.Locals.{slice_get-last}
 use Rattle.cx_rule.specs.Running.{IsSeatOf, Running}
 use Rattle.cx_rule.specs.Seats.{IsAtLimit, Seated, unanswered_ticket}
-use Rattle.mutation_queue.specs.Links.{LinksAgain, LinksAt, LinksNone, IsWorn}
-use Rattle.cx_service.specs.Callers.{HasCellsInOrder, IsBetweenCalls, IsCallerOf, IsLinkedOf}
-use Rattle.cx_service.specs.Submits.{SubmitAgain, SubmitHalted, SubmitKeeps, SubmitLinked, SubmitWorn, entry_at}
+use Rattle.mutation_queue.specs.declared.linking.LinkTried.{LinkTried}
+use Rattle.mutation_queue.specs.declared.linking.LinkTried.TheVariants.{Again, Linked as LinkedAt, Worn}
+use Rattle.mutation_queue.specs.Links.{LinksAgain, LinksAt, LinksNone, IsWorn, Tried}
+use Rattle.cx_service.specs.Callers.{HasCellsInOrder, IsBetweenCalls, IsCallerOf, IsLinkedOf, unlinked}
+use Rattle.cx_service.specs.Submits.{EntersIn, SubmitAgain, SubmitHalted, SubmitKeeps, SubmitLinked, SubmitWorn, entry_at}
 use Rattle.cx_service.proofs.Cells.{default, order_kept, order_more}
 
 -- what no step of a submit changes: the seat but for its entries, cells and steps, its front, the slot last looked at, and what was
 -- loaded from CUR
 abbrev pub beside_submit : Seated → Seated
 beside_submit s = record s { known = record s.known { local = record s.known.local { own = []; cells = []; front = 0; seen_slot = None; seen_cur = 0; fresh = false; steps = 0 } } }
+
+-- a seat as if what was loaded from CUR were not fresh
+abbrev pub stale : Seated → Seated
+stale s = record s { known = record s.known { local = record s.known.local { fresh = false } } }
 
 module _ {O : Type 0} (r : Running O) (s v : Seated) (kept : beside_submit v ≡ beside_submit s) where
   number_kept : v.known.local.number ≡ s.known.local.number
@@ -74,9 +80,10 @@ module _ {O : Type 0} (r : Running O) (s v : Seated) (kept : beside_submit v ≡
   none_unanswered : (xs : List Linked) (n : ℕ) → length xs ≤ n → option_map (λ (x : Linked). x.ticket) (slice_get xs n) ≡ None
   none_unanswered xs n past = ap (option_map (λ (x : Linked). x.ticket)) (slice_get_past xs n past)
 
-  pub halts : (most : ℕ) → IsCallerOf r s → v.known.local.own ≡ s.known.local.own → s.known.local.front ≤ v.known.local.front → v.known.local.steps ≤ s.known.local.steps + most → IsAtLimit v.known.local → SubmitHalted r most s v
+  pub halts : (most : ℕ) → IsCallerOf r s → v.known.local.own ≡ s.known.local.own → s.known.local.front ≤ v.known.local.front → v.known.local.steps ≤ s.known.local.steps + most → IsAtLimit v.known.local → SubmitHalted r most s (unlinked v)
   halts most caller own front steps limit = record {
     caller = record { of = of_kept caller.of; limit = limit };
+    linked = refl;
     keeps = keeps most front steps;
     own = own;
     none = none_unanswered v.known.local.own (length v.known.local.answered)
@@ -128,7 +135,7 @@ module _ {O : Type 0} (r : Running O) (j : ℕ) (op : List ℕ) (s t : Seated) (
         (order_kept r.base.place s.known.local v.known.local caller.cells none_own (omega (arith, none.front, same_front))
         (λ k. ap (λ (x : Seated). (cell_of x.known.local k).ticket) none.same ∙ same_tickets k))
 
-    pub halts_linking : (most : ℕ) → v.known.local.steps ≤ s.known.local.steps + most → IsAtLimit v.known.local → SubmitHalted r most s v
+    pub halts_linking : (most : ℕ) → v.known.local.steps ≤ s.known.local.steps + most → IsAtLimit v.known.local → SubmitHalted r most s (unlinked v)
     halts_linking most steps limit = halts r s v none_kept most caller none_own (omega (arith, none.front, same_front)) steps limit
 
   pub again : (tries most : ℕ) (v : Seated) → LinksAgain r.callers tries t v → ¬ IsAtLimit s.known.local → v.known.local.steps ≤ s.known.local.steps + most → SubmitAgain r tries most s v
@@ -227,3 +234,9 @@ module _ {O : Type 0} (r : Running O) (j : ℕ) (op : List ℕ) (s t : Seated) (
     from = omega (arith, at.from, same_front);
     front = at.front;
   }
+
+  -- what tries to link it come to
+  pub entered : (tries most : ℕ) (v : Seated) (tried : LinkTried) → Tried r.callers j tries t v tried → ¬ IsAtLimit s.known.local → v.known.local.steps ≤ s.known.local.steps + most → EntersIn most r op tries s v tried
+  entered tries most v (LinkedAt ticket) links allowed steps = linked_at ticket most v links allowed steps
+  entered tries most v Again links allowed steps = again tries most v links allowed steps
+  entered tries most v Worn links allowed steps = worn most v links allowed steps

@@ -6,6 +6,8 @@ use Rattle.cx_core.specs.declared.local.Linked.{Linked}
 use Rattle.cx_core.specs.State.{Instance, one_more}
 use Rattle.cx_rule.specs.declared.rule.Noted.{Noted}
 use Rattle.mutation_queue.specs.Cells.{IsInUse}
+use Rattle.mutation_queue.specs.declared.linking.LinkTried.{LinkTried}
+use Rattle.mutation_queue.specs.declared.linking.LinkTried.TheVariants.{Again as TriedAgain, Linked as TriedLinked, Worn as TriedWorn}
 use Rattle.std.specs.List.{slice_get}
 use Rattle.cx_core.specs.QueueEvents.{IsIdle, cell_of}
 use Rattle.cx_rule.specs.Running.{Running}
@@ -14,9 +16,9 @@ use Rattle.cx_core.specs.declared.local.FullNote.{FullNote}
 use Rattle.cx_service.specs.declared.submit.Submitted.{Submitted}
 use Rattle.cx_service.specs.declared.submit.Submitted.TheVariants.{Linked as LinkedIs, Again, Full, Worn, Halted}
 use Rattle.cx_service.specs.Callers.{HasCellsInOrder, IsCallerOf}
-use Rattle.cx_service.specs.Submits.{IsNextCell, IsOwnNote, LooksForCell, SubmitFull, SubmitKeeps, SubmitsIn, entry_at, stale}
+use Rattle.cx_service.specs.Submits.{IsNextCell, IsOwnNote, LooksForCell, SubmitFull, SubmitKeeps, SubmitsIn, EntersIn, entry_at}
 use Rattle.cx_service.proofs.Cells.{all_held, not_both, order_kept}
-use Rattle.cx_service.proofs.Entering.{beside_submit, between, keeps}
+use Rattle.cx_service.proofs.Entering.{beside_submit, between, keeps, stale}
 
 -- what comes before an operation is announced: at most so many steps, which the limit allowed, that change no entry and no cell
 pub record Precedes (more : ℕ) (s t : Seated) : Type 0 where
@@ -116,10 +118,16 @@ module _ {O : Type 0} (r : Running O) (more : ℕ) (s t : Seated) (first : Prece
   }
   submits_then op tries m n (Halted v) most after = record {
     caller = after.caller;
-    keeps = keeps_then m n v most after.keeps;
+    linked = after.linked;
+    keeps = keeps_then m n v.seat most after.keeps;
     own = after.own ∙ first.own;
     none = after.none;
   }
+
+  pub enters_then : (op : List ℕ) (tries m n : ℕ) (v : Seated) (tried : LinkTried) → m + more ≤ n → EntersIn m r op tries t v tried → EntersIn n r op tries s v tried
+  enters_then op tries m n v (TriedLinked ticket) most after = submits_then op tries m n (LinkedIs v) most after
+  enters_then op tries m n v TriedAgain most after = submits_then op tries m n (Again v) most after
+  enters_then op tries m n v TriedWorn most after = submits_then op tries m n (Worn v) most after
 
 -- no cell is idle
 pub full_there : {O : Type 0} (r : Running O) (most : ℕ) (s t : Seated) (note : FullNote) → LooksForCell s t → IsCallerOf r s → IsCallerOf r t → length s.known.local.own ≡ 16 → ¬ IsAtLimit s.known.local → 1 ≤ most → IsOwnNote r t note →

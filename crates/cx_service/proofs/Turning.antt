@@ -13,13 +13,13 @@ use Rattle.cx_core.specs.Layout.{max_word}
 use Rattle.cx_core.specs.State.{one_more}
 use Rattle.cx_rule.specs.Running.{IsSeatOf, Running}
 use Rattle.cx_rule.specs.Seats.{IsAtLimit, Seated, unanswered_ticket}
-use Rattle.cx_service.specs.Callers.{IsBetweenCalls, IsCallerOf, IsLinkedOf}
+use Rattle.cx_service.specs.Callers.{IsBetweenCalls, IsCallerOf, IsLinkedOf, StoppedSeat}
 use Rattle.cx_service.specs.Drives.{DriveDone, DriveHalted, DriveKeeps, DrivePending, MeetsMore}
 use Rattle.cx_service.specs.Lookups.{ReadAnswered, ReadHalted, ReadKeeps, ReadPending}
 use Rattle.cx_service.proofs.Cells.{order_kept}
-use Rattle.cx_turns.specs.Answering.{AnswersEntry, AnswersRead, HaltsFor, MeetsRefusal, beside_lookup, beside_update, with_answer, with_read}
+use Rattle.cx_turns.specs.Answering.{AnswersEntry, AnswersRead, HaltsFor, beside_lookup, beside_update, with_answer, with_read}
 use Rattle.cx_turns.specs.declared.lookup.Seen.{Seen}
-use Rattle.cx_turns.specs.Turns.{IsAtRest}
+use Rattle.cx_turns.specs.Turns.{IsAtRest, TurnRefused}
 
 -- a refusal more, and refusals in turn after turn
 pub meets_one : (s v : Seated) → v.known.local.met ≡ one_more s.known.local.met → MeetsMore 1 s v
@@ -75,18 +75,25 @@ module _ {O : Type 0} (r : Running O) (s v : Seated) (linked : IsLinkedOf r s) (
       zero_more : (n : ℕ) → n + 0 ≡ n
       zero_more n = omega arith
 
-  pub turn_refused : ¬ IsAtLimit s.known.local → s.known.local.met ≤ max_word → MeetsRefusal s v → DrivePending r 1 s v
+  pub turn_refused : ¬ IsAtLimit s.known.local → s.known.local.met ≤ max_word → TurnRefused s v → DrivePending r 1 s v
   turn_refused allowed small refused = record {
-    caller = stands 1 refused.rest (ap (λ (xs : List Answer). length xs + 1) refused.answered);
+    caller = stands 1 refused.rest (ap (λ (xs : List Answer). length xs + 1) refused.refusal.answered);
     keeps = drive_keeps;
     allowed = allowed;
-    rises = rises_one s v small refused.met;
-    answered = refused.answered;
-    met = meets_one s v refused.met;
+    rises = rises_one s v small refused.refusal.met;
+    answered = refused.refusal.answered;
+    met = meets_one s v refused.refusal.met;
   }
 
-  pub turn_halted : (ticket : ℕ) → unanswered_ticket s.known.local ≡ Some ticket → HaltsFor ticket s v → DriveHalted r s v
-  turn_halted ticket is halts = record { caller = record { of = of; limit = halts.limit }; keeps = drive_keeps; ticket = ticket; is = is; answered = halts.answered }
+  pub turn_halted : (ticket : ℕ) → unanswered_ticket s.known.local ≡ Some ticket → HaltsFor ticket s v → DriveHalted r s (record { seat = v; linked = Some ticket })
+  turn_halted ticket is halts = record {
+    caller = record { of = of; limit = halts.limit };
+    keeps = drive_keeps;
+    ticket = ticket;
+    is = is;
+    linked = refl;
+    answered = halts.answered;
+  }
 
 -- one turn after others, in each of which a refusal was met
 module _ {O : Type 0} (r : Running O) (n : ℕ) (s u : Seated) (before : DrivePending r n s u) where
@@ -118,12 +125,13 @@ module _ {O : Type 0} (r : Running O) (n : ℕ) (s u : Seated) (before : DrivePe
     answered = d.answered ∙ ap (with_answer answer.ticket answer.reply) before.answered;
   }
 
-  halted_then : (v : Seated) → DriveHalted r u v → DriveHalted r s v
+  halted_then : (v : StoppedSeat) → DriveHalted r u v → DriveHalted r s v
   halted_then v h = record {
     caller = h.caller;
-    keeps = keeps_then v h.keeps;
+    keeps = keeps_then v.seat h.keeps;
     ticket = h.ticket;
     is = same_ticket ∙ h.is;
+    linked = h.linked;
     answered = elim h.answered [
       | inl none ↦ inl (none ∙ before.answered)
       | inr one ↦ inr (one.0, one.1 ∙ ap (with_answer h.ticket one.0) before.answered)
@@ -154,7 +162,7 @@ module _ {O : Type 0} (r : Running O) (n : ℕ) (s u : Seated) (on : DrivesOn r 
   pub drives_done : (v : Seated) (answer : Answer) → DriveDone r u v answer → DriveDone r s v answer
   drives_done v answer d = elim on.turns [ inl none ↦ subst (λ x. DriveDone r x v answer) none.1 d | inr some ↦ done_then r n s u some v answer d ]
 
-  pub drives_halted : (v : Seated) → DriveHalted r u v → DriveHalted r s v
+  pub drives_halted : (v : StoppedSeat) → DriveHalted r u v → DriveHalted r s v
   drives_halted v h = elim on.turns [ inl none ↦ subst (λ x. DriveHalted r x v) none.1 h | inr some ↦ halted_then r n s u some v h ]
 
 -- turns that are begun again
@@ -193,14 +201,14 @@ module _ {O : Type 0} (r : Running O) (op : List ℕ) (s v : Seated) (caller : I
     from = answers.from;
   }
 
-  pub read_refused : ¬ IsAtLimit s.known.local → s.known.local.met ≤ max_word → MeetsRefusal s v → ReadPending r 1 s v
+  pub read_refused : ¬ IsAtLimit s.known.local → s.known.local.met ≤ max_word → TurnRefused s v → ReadPending r 1 s v
   read_refused allowed small refused = record {
     caller = still refused.rest;
     keeps = read_keeps;
     allowed = allowed;
-    rises = rises_one s v small refused.met;
-    reads = refused.reads;
-    met = meets_one s v refused.met;
+    rises = rises_one s v small refused.refusal.met;
+    reads = refused.refusal.reads;
+    met = meets_one s v refused.refusal.met;
   }
 
 -- a caller without an unanswered entry
@@ -238,10 +246,11 @@ module _ {O : Type 0} (r : Running O) (op : List ℕ) (n : ℕ) (s u : Seated) (
     from = λ i x at. d.from i x (ap (λ (xs : List SeenRead). slice_get xs i) before.reads ∙ at);
   }
 
-  read_halted_then : (v : Seated) → ReadHalted r op u v → ReadHalted r op s v
+  read_halted_then : (v : StoppedSeat) → ReadHalted r op u v → ReadHalted r op s v
   read_halted_then v h = record {
     caller = h.caller;
-    keeps = read_keeps_then v h.keeps;
+    linked = h.linked;
+    keeps = read_keeps_then v.seat h.keeps;
     reads = elim h.reads [
       | inl none ↦ inl (none ∙ before.reads)
       | inr one ↦ inr (one.0, one.1, one.2 ∙ more_reads one.0 one.1)
@@ -272,5 +281,5 @@ module _ {O : Type 0} (r : Running O) (op : List ℕ) (n : ℕ) (s u : Seated) (
   pub looks_done : (v : Seated) (seen : Seen) → ReadAnswered r op u v seen → ReadAnswered r op s v seen
   looks_done v seen d = elim on.turns [ inl none ↦ subst (λ x. ReadAnswered r op x v seen) none.1 d | inr some ↦ read_done_then r op n s u some v seen d ]
 
-  pub looks_halted : (v : Seated) → ReadHalted r op u v → ReadHalted r op s v
+  pub looks_halted : (v : StoppedSeat) → ReadHalted r op u v → ReadHalted r op s v
   looks_halted v h = elim on.turns [ inl none ↦ subst (λ x. ReadHalted r op x v) none.1 h | inr some ↦ read_halted_then r op n s u some v h ]

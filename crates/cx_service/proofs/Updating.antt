@@ -8,6 +8,7 @@ use Rattle.cx_core.specs.Region.{slot_number}
 use Rattle.cx_rule.specs.Running.{Running}
 use Rattle.cx_rule.specs.Seats.{IsAtLimit, Seated}
 use Rattle.cx_core.specs.declared.local.FullNote.{FullNote}
+use Rattle.cx_service.specs.Callers.{StoppedSeat}
 use Rattle.cx_service.specs.Drives.{DriveDone, DriveHalted}
 use Rattle.cx_service.specs.Submits.{IsLeastTicket, SubmitAgain, SubmitFull, SubmitHalted, SubmitLinked, SubmitWorn, entry_at}
 use Rattle.cx_service.specs.Lookups.{ReadHalted, ReadPending}
@@ -68,18 +69,21 @@ module _ {O : Type 0} (r : Running O) (op : List ℕ) (s u : Seated) (same : Kee
     front = w.front;
   }
 
-  pub update_halted : (most : ℕ) (v : Seated) → SubmitHalted r most u v → UpdateHalted r op s v
+  pub update_halted : (most : ℕ) (v : StoppedSeat) → SubmitHalted r most u v → UpdateHalted r op s v
   update_halted most v h = record {
     caller = h.caller;
     number = h.keeps.number ∙ same.number;
-    lists = inl (record { number = h.keeps.number ∙ same.number; limit = h.keeps.limit ∙ same.limit; own = h.own ∙ same.own; answered = h.keeps.answered ∙ same.answered; reads = h.keeps.reads ∙ same.reads });
+    lists = inl (record {
+      none = h.linked;
+      keeps = record { number = h.keeps.number ∙ same.number; limit = h.keeps.limit ∙ same.limit; own = h.own ∙ same.own; answered = h.keeps.answered ∙ same.answered; reads = h.keeps.reads ∙ same.reads };
+    });
   }
 
   -- an entry that was linked, and driven on
-  module _ (most : ℕ) (l v : Seated) (linked : SubmitLinked r op most u l) where
-    links : (ticket : ℕ) → ticket ≡ linked.ticket → v.known.local.number ≡ l.known.local.number → v.known.local.limit ≡ l.known.local.limit → v.known.local.own ≡ l.known.local.own → v.known.local.seen_reads ≡ l.known.local.seen_reads →
+  module _ (most : ℕ) (l : Seated) (linked : SubmitLinked r op most u l) where
+    links : (v : Seated) (ticket : ℕ) → ticket ≡ linked.ticket → v.known.local.number ≡ l.known.local.number → v.known.local.limit ≡ l.known.local.limit → v.known.local.own ≡ l.known.local.own → v.known.local.seen_reads ≡ l.known.local.seen_reads →
         LinksEntry r op ticket s v
-    links ticket is number limit own reads = record {
+    links v ticket is number limit own reads = record {
       number = number ∙ linked.keeps.number ∙ same.number;
       limit = limit ∙ linked.keeps.limit ∙ same.limit;
       own = own ∙ linked.own ∙ ap (λ (xs : List OwnEntry). xs ++ entry_at r u.known.local op linked.ticket ∷ []) same.own
@@ -90,21 +94,22 @@ module _ {O : Type 0} (r : Running O) (op : List ℕ) (s u : Seated) (same : Kee
     before_answered : l.known.local.answered ≡ s.known.local.answered
     before_answered = linked.keeps.answered ∙ same.answered
 
-    pub update_done : (answer : Answer) → DriveDone r l v answer → UpdateDone r op s v answer
-    update_done answer d = record {
+    pub update_done : (v : Seated) (answer : Answer) → DriveDone r l v answer → UpdateDone r op s v answer
+    update_done v answer d = record {
       caller = d.caller;
       allowed = allowed_first linked.allowed;
-      links = links answer.ticket (same_Some answer.ticket linked.ticket (sym d.ticket ∙ linked.lends)) d.keeps.number d.keeps.limit d.keeps.own d.keeps.reads;
+      links = links v answer.ticket (same_Some answer.ticket linked.ticket (sym d.ticket ∙ linked.lends)) d.keeps.number d.keeps.limit d.keeps.own d.keeps.reads;
       answered = d.answered ∙ ap (with_answer answer.ticket answer.reply) before_answered;
     }
 
-    pub drive_halted : DriveHalted r l v → UpdateHalted r op s v
-    drive_halted h = record {
+    pub drive_halted : (v : StoppedSeat) → DriveHalted r l v → UpdateHalted r op s v
+    drive_halted v h = record {
       caller = h.caller;
       number = h.keeps.number ∙ linked.keeps.number ∙ same.number;
       lists = inr (record {
         ticket = h.ticket;
-        links = links h.ticket (same_Some h.ticket linked.ticket (sym h.is ∙ linked.lends)) h.keeps.number h.keeps.limit h.keeps.own h.keeps.reads;
+        linked = h.linked;
+        links = links v.seat h.ticket (same_Some h.ticket linked.ticket (sym h.is ∙ linked.lends)) h.keeps.number h.keeps.limit h.keeps.own h.keeps.reads;
         answered = elim h.answered [
           | inl none ↦ inl (none ∙ before_answered)
           | inr one ↦ inr (one.0, one.1 ∙ ap (with_answer h.ticket one.0) before_answered)
@@ -121,5 +126,5 @@ queued r op s u (WornRead v) refused entered = record { refused = u; pending = r
 queued r op s u (HaltedRead v) refused entered =
     record { caller = entered.caller; number = entered.number ∙ refused.keeps.number; lists = inr (record { refused = u; pending = refused; entered = entered }) }
 
-pub read_stops : {O : Type 0} (r : Running O) (op : List ℕ) (s v : Seated) → ReadHalted r op s v → ReadStops r op s v
+pub read_stops : {O : Type 0} (r : Running O) (op : List ℕ) (s : Seated) (v : StoppedSeat) → ReadHalted r op s v → ReadStops r op s v
 read_stops r op s v h = record { caller = h.caller; number = h.keeps.number; lists = inl h }

@@ -1,5 +1,5 @@
 -- What is known of a caller of a service between its calls.
-use Rattle.std.specs.Prelude.{◌≡◌, ◌+◌, ◌<◌, ◌≤◌, ℕ, length, slice_get, Some, None}
+use Rattle.std.specs.Prelude.{◌≡◌, ◌+◌, ◌<◌, ◌≤◌, ℕ, length, slice_get, Option, Some, None}
 use Rattle.cx_core.specs.declared.local.Linked.{Linked}
 use Rattle.cx_core.specs.declared.local.Local.{Local}
 use Rattle.cx_core.specs.QueueEvents.{cell_of}
@@ -34,6 +34,15 @@ IsCallerOf r seat = IsBetweenCalls 0 r seat
 -- one whose last entry is linked and not answered
 abbrev pub IsLinkedOf : {O : Type 0} → Running O → Seated → Type 0
 IsLinkedOf r seat = IsBetweenCalls 1 r seat
+
+-- a caller that is stopped: its seat, and the ticket of its linked entry that no call has answered
+pub record StoppedSeat : Type 0 where
+  pub seat : Seated
+  pub linked : Option ℕ
+
+-- one without such an entry
+abbrev pub unlinked : Seated → StoppedSeat
+unlinked seat = record { seat = seat; linked = None }
 
 -- one whose steps reached its limit
 pub record IsStoppedOf {O : Type 0} (r : Running O) (seat : Seated) : Type 0 where

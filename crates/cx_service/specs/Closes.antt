@@ -8,7 +8,7 @@ use Rattle.cx_service.specs.declared.close.Handed.TheVariants.{Idle, Linked, Sto
 abbrev pub seat_of : Handed → Seated
 seat_of (Idle seat) = seat
 seat_of (Linked seat) = seat
-seat_of (Stopped seat) = seat
+seat_of (Stopped stopped) = stopped.seat
 
 -- the seats of callers
 abbrev pub seats_of : List Handed → List Seated

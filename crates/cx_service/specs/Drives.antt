@@ -6,7 +6,7 @@ use Rattle.cx_rule.specs.Running.{Running}
 use Rattle.cx_rule.specs.Seats.{IsAtLimit, Seated, unanswered_ticket}
 use Rattle.cx_service.specs.declared.drive.Driven.{Driven}
 use Rattle.cx_service.specs.declared.drive.Driven.TheVariants.{Done, Pending, Halted}
-use Rattle.cx_service.specs.Callers.{IsCallerOf, IsLinkedOf, IsStoppedOf}
+use Rattle.cx_service.specs.Callers.{IsCallerOf, IsLinkedOf, IsStoppedOf, StoppedSeat}
 use Rattle.cx_turns.specs.Answering.{with_answer}
 
 -- at least so many refusals were met, where the count is not at its end
@@ -38,13 +38,16 @@ pub record DrivePending {O : Type 0} (r : Running O) (tries : ℕ) (before after
   pub rises : before.known.local.met ≤ after.known.local.met
   pub met : MeetsMore tries before after
 
--- A further step was to be made and the steps equal the limit. The entry stands, unanswered, or it was answered before.
-pub record DriveHalted {O : Type 0} (r : Running O) (before after : Seated) : Type 0 where
-  pub caller : IsStoppedOf r after
-  pub keeps : DriveKeeps before after
+-- A further step was to be made and the steps equal the limit. No call answered the entry, whose ticket the caller keeps. Before the
+-- raise that answers it the caller has no answer more, and behind that raise it has the entry's.
+pub record DriveHalted {O : Type 0} (r : Running O) (before : Seated) (after : StoppedSeat) : Type 0 where
+  pub caller : IsStoppedOf r after.seat
+  pub keeps : DriveKeeps before after.seat
   pub ticket : ℕ
   pub is : unanswered_ticket before.known.local ≡ Some ticket
-  pub answered : (after.known.local.answered ≡ before.known.local.answered) ⊎ ((reply : List ℕ) × (after.known.local.answered ≡ with_answer ticket reply before.known.local.answered))
+  pub linked : after.linked ≡ Some ticket
+  pub answered : (after.seat.known.local.answered ≡ before.known.local.answered)
+      ⊎ ((reply : List ℕ) × (after.seat.known.local.answered ≡ with_answer ticket reply before.known.local.answered))
 
 -- what a drive of a linked entry in so many turns comes to
 abbrev pub Drives : {O : Type 0} → Running O → ℕ → Seated → Driven → Type 0

@@ -1,12 +1,12 @@
 -- What a read beside the queue comes to.
-use Rattle.std.specs.Prelude.{◌≡◌, ◌<◌, ◌≤◌, ◌⊎◌, ℕ, List, length, slice_get, Some}
+use Rattle.std.specs.Prelude.{◌≡◌, ◌<◌, ◌≤◌, ◌⊎◌, ℕ, List, length, slice_get, Some, None}
 use Rattle.cx_core.specs.declared.local.Answer.{Answer}
 use Rattle.cx_core.specs.declared.local.SeenRead.{SeenRead}
 use Rattle.cx_rule.specs.Running.{Running}
 use Rattle.cx_rule.specs.Seats.{IsAtLimit, Seated}
 use Rattle.cx_service.specs.declared.lookup.ReadTried.{ReadTried}
 use Rattle.cx_service.specs.declared.lookup.ReadTried.TheVariants.{Read, Pending, Halted}
-use Rattle.cx_service.specs.Callers.{IsCallerOf, IsStoppedOf}
+use Rattle.cx_service.specs.Callers.{IsCallerOf, IsStoppedOf, StoppedSeat}
 use Rattle.cx_service.specs.Drives.{MeetsMore}
 use Rattle.cx_turns.specs.declared.lookup.Seen.{Seen}
 use Rattle.cx_turns.specs.Answering.{with_read}
@@ -38,12 +38,14 @@ pub record ReadPending {O : Type 0} (r : Running O) (tries : ℕ) (before after 
   pub reads : after.known.local.seen_reads ≡ before.known.local.seen_reads
   pub met : MeetsMore tries before after
 
--- A further step was to be made and the steps equal the limit. No read was answered, or this one was before.
-pub record ReadHalted {O : Type 0} (r : Running O) (op : List ℕ) (before after : Seated) : Type 0 where
-  pub caller : IsStoppedOf r after
-  pub keeps : ReadKeeps before after
-  pub reads : (after.known.local.seen_reads ≡ before.known.local.seen_reads)
-      ⊎ ((place : ℕ) × (reply : List ℕ) × (after.known.local.seen_reads ≡ with_read place op reply (length before.known.local.answered) before.known.local.seen_reads))
+-- A further step was to be made and the steps equal the limit. No read was answered, or this one was before. No entry is linked that
+-- no call has answered.
+pub record ReadHalted {O : Type 0} (r : Running O) (op : List ℕ) (before : Seated) (after : StoppedSeat) : Type 0 where
+  pub caller : IsStoppedOf r after.seat
+  pub linked : after.linked ≡ None
+  pub keeps : ReadKeeps before after.seat
+  pub reads : (after.seat.known.local.seen_reads ≡ before.known.local.seen_reads)
+      ⊎ ((place : ℕ) × (reply : List ℕ) × (after.seat.known.local.seen_reads ≡ with_read place op reply (length before.known.local.answered) before.known.local.seen_reads))
 
 -- what a read of this operation in so many turns comes to
 abbrev pub Looks : {O : Type 0} → Running O → List ℕ → ℕ → Seated → ReadTried → Type 0

@@ -1,5 +1,5 @@
 -- What submitting an operation comes to.
-use Rattle.std.specs.Prelude.{◌≡◌, ◌+◌, ◌*◌, ◌^◌, ◌<◌, ◌≤◌, ℕ, false, List, [], ◌∷◌, ◌++◌, length, slice_get, Option, Some, None}
+use Rattle.std.specs.Prelude.{◌≡◌, ◌+◌, ◌*◌, ◌^◌, ◌<◌, ◌≤◌, ℕ, List, [], ◌∷◌, ◌++◌, length, slice_get, Option, Some, None}
 use Rattle.cx_base.specs.Codes.{root_place_of}
 use Rattle.cx_core.specs.declared.local.Linked.{Linked as OwnEntry}
 use Rattle.cx_core.specs.declared.local.Local.{Local}
@@ -9,7 +9,9 @@ use Rattle.cx_rule.specs.Seats.{IsAtLimit, Seated, unanswered_ticket}
 use Rattle.cx_core.specs.declared.local.FullNote.{FullNote}
 use Rattle.cx_service.specs.declared.submit.Submitted.{Submitted}
 use Rattle.cx_service.specs.declared.submit.Submitted.TheVariants.{Linked, Again, Full, Worn, Halted}
-use Rattle.cx_service.specs.Callers.{IsCallerOf, IsLinkedOf, IsStoppedOf}
+use Rattle.cx_service.specs.Callers.{IsCallerOf, IsLinkedOf, IsStoppedOf, StoppedSeat}
+use Rattle.mutation_queue.specs.declared.linking.LinkTried.{LinkTried}
+use Rattle.mutation_queue.specs.declared.linking.LinkTried.TheVariants.{Linked as TriedLinked, Again as TriedAgain, Worn as TriedWorn}
 
 -- what each answer of a submit leaves as it was, a front that does not fall, and at most so many steps
 pub record SubmitKeeps (most : ℕ) (before after : Seated) : Type 0 where
@@ -83,11 +85,18 @@ pub record SubmitWorn {O : Type 0} (r : Running O) (most : ℕ) (before after : 
   pub front : after.known.local.front ≡ 2 ^ 40
 
 -- A further step was to be made and the steps equal the limit. Nothing was linked.
-pub record SubmitHalted {O : Type 0} (r : Running O) (most : ℕ) (before after : Seated) : Type 0 where
-  pub caller : IsStoppedOf r after
-  pub keeps : SubmitKeeps most before after
-  pub own : after.known.local.own ≡ before.known.local.own
-  pub none : unanswered_ticket after.known.local ≡ None
+pub record SubmitHalted {O : Type 0} (r : Running O) (most : ℕ) (before : Seated) (after : StoppedSeat) : Type 0 where
+  pub caller : IsStoppedOf r after.seat
+  pub linked : after.linked ≡ None
+  pub keeps : SubmitKeeps most before after.seat
+  pub own : after.seat.known.local.own ≡ before.known.local.own
+  pub none : unanswered_ticket after.seat.known.local ≡ None
+
+-- an operation that was announced and tried to be linked, in at most so many steps
+abbrev pub EntersIn : {O : Type 0} → ℕ → Running O → List ℕ → ℕ → Seated → Seated → LinkTried → Type 0
+EntersIn most r op tries before after (TriedLinked ticket) = SubmitLinked r op most before after
+EntersIn most r op tries before after TriedAgain = SubmitAgain r tries most before after
+EntersIn most r op tries before after TriedWorn = SubmitWorn r most before after
 
 -- a submit that makes at most so many steps
 abbrev pub SubmitsIn : {O : Type 0} → ℕ → Running O → List ℕ → ℕ → Seated → Submitted → Type 0
@@ -106,10 +115,6 @@ pub record LooksForCell (before after : Seated) : Type 0 where
   pub same : after ≡ record before { known = record before.known { local = record before.known.local { steps = after.known.local.steps } } }
   pub steps : after.known.local.steps ≤ before.known.local.steps + 1
   pub stood : IsAtLimit before.known.local → after ≡ before
-
--- a seat as if what was loaded from CUR were not fresh
-abbrev pub stale : Seated → Seated
-stale s = record s { known = record s.known { local = record s.known.local { fresh = false } } }
 
 -- the cell of the caller's next entry; where there is none a step was made
 abbrev pub IsNextCell : Local → Option ℕ → Type 0

@@ -9,4 +9,4 @@ seat_in (Linked seat) = seat
 seat_in (Again seat) = seat
 seat_in (Full seat note) = seat
 seat_in (Worn seat) = seat
-seat_in (Halted seat) = seat
+seat_in (Halted stopped) = stopped.seat

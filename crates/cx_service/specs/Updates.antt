@@ -1,5 +1,5 @@
 -- What an update comes to, and a read that may enter the queue.
-use Rattle.std.specs.Prelude.{◌≡◌, ◌^◌, ◌⊎◌, ℕ, List, [], ◌∷◌, ◌++◌, length}
+use Rattle.std.specs.Prelude.{◌≡◌, ◌^◌, ◌⊎◌, ℕ, List, [], ◌∷◌, ◌++◌, length, Some, None}
 use Rattle.cx_core.specs.declared.local.Answer.{Answer}
 use Rattle.cx_rule.specs.Running.{Running}
 use Rattle.cx_rule.specs.Seats.{IsAtLimit, Seated}
@@ -8,7 +8,7 @@ use Rattle.cx_service.specs.declared.update.ReadDone.{ReadDone}
 use Rattle.cx_service.specs.declared.update.ReadDone.TheVariants.{Read, Queued, Full as FullRead, Worn as WornRead, Halted as HaltedRead}
 use Rattle.cx_service.specs.declared.update.Updated.{Updated}
 use Rattle.cx_service.specs.declared.update.Updated.TheVariants.{Done, Full, Worn, Halted}
-use Rattle.cx_service.specs.Callers.{IsCallerOf, IsStoppedOf}
+use Rattle.cx_service.specs.Callers.{IsCallerOf, IsStoppedOf, StoppedSeat}
 use Rattle.cx_service.specs.Drives.{DriveDone, DriveHalted}
 use Rattle.cx_service.specs.Lookups.{ReadAnswered, ReadHalted, ReadPending}
 use Rattle.cx_service.specs.Submits.{IsOwnNote, entry_at}
@@ -51,17 +51,24 @@ pub record UpdateWorn {O : Type 0} (r : Running O) (before after : Seated) : Typ
   pub keeps : KeepsLists before after
   pub front : after.known.local.front ≡ 2 ^ 40
 
--- the entry was linked before the limit was come to, and is not answered, or is
-pub record HaltsLinked {O : Type 0} (r : Running O) (op : List ℕ) (before after : Seated) : Type 0 where
+-- nothing was linked before the limit was come to
+pub record HaltsUnlinked (before : Seated) (after : StoppedSeat) : Type 0 where
+  pub none : after.linked ≡ None
+  pub keeps : KeepsLists before after.seat
+
+-- The entry was linked before the limit was come to, and no call answered it. The caller has no answer more, or the entry's.
+pub record HaltsLinked {O : Type 0} (r : Running O) (op : List ℕ) (before : Seated) (after : StoppedSeat) : Type 0 where
   pub ticket : ℕ
-  pub links : LinksEntry r op ticket before after
-  pub answered : (after.known.local.answered ≡ before.known.local.answered) ⊎ ((reply : List ℕ) × (after.known.local.answered ≡ with_answer ticket reply before.known.local.answered))
+  pub linked : after.linked ≡ Some ticket
+  pub links : LinksEntry r op ticket before after.seat
+  pub answered : (after.seat.known.local.answered ≡ before.known.local.answered)
+      ⊎ ((reply : List ℕ) × (after.seat.known.local.answered ≡ with_answer ticket reply before.known.local.answered))
 
 -- A further step was to be made and the steps equal the limit.
-pub record UpdateHalted {O : Type 0} (r : Running O) (op : List ℕ) (before after : Seated) : Type 0 where
-  pub caller : IsStoppedOf r after
-  pub number : after.known.local.number ≡ before.known.local.number
-  pub lists : KeepsLists before after ⊎ HaltsLinked r op before after
+pub record UpdateHalted {O : Type 0} (r : Running O) (op : List ℕ) (before : Seated) (after : StoppedSeat) : Type 0 where
+  pub caller : IsStoppedOf r after.seat
+  pub number : after.seat.known.local.number ≡ before.known.local.number
+  pub lists : HaltsUnlinked before after ⊎ HaltsLinked r op before after
 
 -- what an update of this operation comes to
 abbrev pub Updates : {O : Type 0} → Running O → List ℕ → Seated → Updated → Type 0
@@ -84,9 +91,9 @@ pub record ReadQueues {O : Type 0} (r : Running O) (op : List ℕ) (before : Sea
   pub entered : Updates r op refused updated
 
 -- A further step was to be made and the steps equal the limit, beside the queue or once the read had entered it.
-pub record ReadStops {O : Type 0} (r : Running O) (op : List ℕ) (before after : Seated) : Type 0 where
-  pub caller : IsStoppedOf r after
-  pub number : after.known.local.number ≡ before.known.local.number
+pub record ReadStops {O : Type 0} (r : Running O) (op : List ℕ) (before : Seated) (after : StoppedSeat) : Type 0 where
+  pub caller : IsStoppedOf r after.seat
+  pub number : after.seat.known.local.number ≡ before.known.local.number
   pub lists : ReadHalted r op before after ⊎ ReadQueues r op before (Halted after)
 
 -- what a read of this operation comes to

@@ -39,18 +39,21 @@ impl Model for Linked {
     ghost invariant = { λ c. length c.seat.value.known.local.own ≡ length c.seat.value.known.local.answered + 1 };
 }
 
-/// A caller whose step limit was reached. It makes no further step.
+/// A caller whose step limit was reached. It makes no further step. Contracts see of it its seat, and the ticket of its linked entry
+/// that no call has answered.
 #[derive(Drop)]
 pub struct Stopped {
     pub(crate) seat: Box<CallerSeat>,
+    pub(crate) linked: Option<u64>,
 }
 
 impl Model for Stopped {
-    ghost use Rattle.cx_rule.specs.Seats.{IsAtLimit, Seated};
+    ghost use Rattle.cx_rule.specs.Seats.{IsAtLimit};
+    ghost use Rattle.cx_service.specs.Callers.{StoppedSeat};
 
-    ghost Value = { Seated };
+    ghost Value = { StoppedSeat };
 
-    ghost view = { λ c. c.seat.value };
+    ghost view = { λ c. record { seat = c.seat.value; linked = c.linked } };
 
     ghost invariant = { λ c. IsAtLimit c.seat.value.known.local };
 }
@@ -127,22 +130,22 @@ impl Linked {
 impl Stopped {
     /// The caller, from 0.
     pub fn number(&self) -> u32
-        ensures { result ≡ self.now.known.local.number }
+        ensures { result ≡ self.now.seat.known.local.number }
     {
         self.seat.number()
     }
 
     /// The steps made, which are as many as its limit.
     pub fn steps(&self) -> u64
-        ensures value { result ≡ self.now.known.local.steps }
-        ensures limit { result ≡ self.now.known.local.limit }
+        ensures value { result ≡ self.now.seat.known.local.steps }
+        ensures limit { result ≡ self.now.seat.known.local.limit }
     {
         self.seat.steps()
     }
 
     /// Every ticket from the base's place to below it is linked.
     pub fn front(&self) -> u64
-        ensures value { result ≡ self.now.known.local.front }
+        ensures value { result ≡ self.now.seat.known.local.front }
         ensures small { result ≤ 2 ^ 40 }
     {
         self.seat.front()
@@ -150,15 +153,16 @@ impl Stopped {
 
     /// The refusals met. This stays at 2^64 - 1 once there.
     pub fn met(&self) -> u64
-        ensures { result ≡ self.now.known.local.met }
+        ensures { result ≡ self.now.seat.known.local.met }
     {
         self.seat.met()
     }
 
-    /// The ticket of its linked entry that no call has answered.
+    /// The ticket of its linked entry that no call has answered, also where the durable root was raised above it before the limit was
+    /// come to.
     pub fn linked(&self) -> Option<u64>
-        ensures { result ≡ unanswered_ticket self.now.known.local }
+        ensures { result ≡ self.now.linked }
     {
-        self.seat.unanswered()
+        self.linked
     }
 }

@@ -70,6 +70,6 @@ fn as_seat(handed: Handed) -> CallerSeat
     match handed {
         Handed::Idle(Caller { seat }) => Box::into_inner(seat),
         Handed::Linked(Linked { seat }) => Box::into_inner(seat),
-        Handed::Stopped(Stopped { seat }) => Box::into_inner(seat),
+        Handed::Stopped(Stopped { seat, .. }) => Box::into_inner(seat),
     }
 }

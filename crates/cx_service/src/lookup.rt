@@ -55,7 +55,7 @@ impl<O: Object> Service<O> {
         match read_turn(&self.shared, at, op) {
             Ok(Some(seen)) => ReadTried::Read(Caller { seat }, seen),
             Ok(None) => ReadTried::Pending(Caller { seat }),
-            Err(Halt) => ReadTried::Halted(Stopped { seat }),
+            Err(Halt) => ReadTried::Halted(Stopped { seat, linked: None }),
         }
     }
 }

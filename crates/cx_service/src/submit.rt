@@ -1,10 +1,9 @@
 //! An operation is entered into the queue.
 
 ghost use Rattle.std.specs.Prelude.{◌≡◌, ◌+◌, ◌*◌, ◌<◌, ◌≤◌, IfOk, OnErr, length};
-ghost use Rattle.cx_rule.specs.Running.{IsSeatOf};
 ghost use Rattle.cx_rule.specs.Seats.{IsAtLimit};
-ghost use Rattle.cx_service.specs.Callers.{IsCallerOf};
-ghost use Rattle.cx_service.specs.Submits.{IsNextCell, IsOwnNote, LooksForCell, Submits, SubmitsIn, stale};
+ghost use Rattle.cx_service.specs.Callers.{IsCallerOf, unlinked};
+ghost use Rattle.cx_service.specs.Submits.{EntersIn, IsNextCell, IsOwnNote, LooksForCell, SubmitHalted, Submits, SubmitsIn};
 
 use crate::callers::{Caller, Linked, Stopped};
 use crate::service::Service;
@@ -41,7 +40,7 @@ impl<O: Object> Service<O> {
         let Caller { mut seat } = caller;
         let at = &mut *seat;
         let Ok(idle) = find_idle(&self.shared, at) else {
-            return Submitted::Halted(Stopped { seat });
+            return Submitted::Halted(Stopped { seat, linked: None });
         };
         let Some(cell) = idle else {
             let note = full_note(&self.shared, at);
@@ -50,46 +49,47 @@ impl<O: Object> Service<O> {
         self.enter(seat, cell, op, tries)
     }
 
-    /// Enters an operation in the cell of the caller's next entry. CUR is loaded first, so that the front is at least the
-    /// current place.
-    fn enter(&self, mut seat: Box<CallerSeat>, cell: u32, op: &[u64; 144], tries: u64) -> Submitted
-        requires caller { IsCallerOf self.now seat.value }
-        requires cell { (cell ≡ length seat.value.known.local.own) × (cell < 16) }
-        requires tries { 1 ≤ tries }
-        ensures { SubmitsIn (146 + 2 * tries) self.now op.now tries seat.value result }
-    {
-        let at = &mut *seat;
-        if self.shared.load_cur(at).is_err() {
-            return Submitted::Halted(Stopped { seat });
-        }
-        self.announce_and_link(seat, cell, op, tries)
-    }
-
-    /// Announces an operation in the cell of the caller's next entry, and tries to link it.
-    fn announce_and_link(
+    /// Enters an operation in the cell of the caller's next entry.
+    fn enter(
         &self,
         mut seat: Box<CallerSeat>,
         cell: u32,
         op: &[u64; 144],
         tries: u64,
     ) -> Submitted
-        requires seat { IsSeatOf self.now seat.value }
-        requires caller { IsCallerOf self.now (stale seat.value) }
+        requires caller { IsCallerOf self.now seat.value }
         requires cell { (cell ≡ length seat.value.known.local.own) × (cell < 16) }
         requires tries { 1 ≤ tries }
-        ensures { SubmitsIn (145 + 2 * tries) self.now op.now tries (stale seat.value) result }
+        ensures { SubmitsIn (146 + 2 * tries) self.now op.now tries seat.value result }
     {
         let at = &mut *seat;
-        if announce(&self.shared, at, cell, op).is_err() {
-            return Submitted::Halted(Stopped { seat });
-        }
-        match link(&self.shared, at, cell, tries) {
+        match announce_and_link(&self.shared, at, cell, op, tries) {
             Ok(LinkTried::Linked { ticket: _ }) => Submitted::Linked(Linked { seat }),
             Ok(LinkTried::Again) => Submitted::Again(Caller { seat }),
             Ok(LinkTried::Worn) => Submitted::Worn(Caller { seat }),
-            Err(Halt) => Submitted::Halted(Stopped { seat }),
+            Err(Halt) => Submitted::Halted(Stopped { seat, linked: None }),
         }
     }
+}
+
+/// Announces an operation in the cell of the caller's next entry, and tries to link it. CUR is loaded first, so that the front is at
+/// least the current place.
+fn announce_and_link<O: Object>(
+    shared: &Shared<O>,
+    seat: &mut CallerSeat,
+    cell: u32,
+    op: &[u64; 144],
+    tries: u64,
+) -> Result<LinkTried, Halt>
+    requires caller { IsCallerOf shared.now seat.old }
+    requires cell { (cell ≡ length seat.old.known.local.own) × (cell < 16) }
+    requires tries { 1 ≤ tries }
+    ensures entered { IfOk result (EntersIn (146 + 2 * tries) shared.now op.now tries seat.old seat.new) }
+    ensures halted { OnErr result (SubmitHalted shared.now (146 + 2 * tries) seat.old (unlinked seat.new)) }
+{
+    let _cur = shared.load_cur(seat)?;
+    announce(shared, seat, cell, op)?;
+    link(shared, seat, cell, tries)
 }
 
 /// The cell of the caller's next entry. Where none is idle, FREE is loaded and the cells are looked through again.

@@ -4,14 +4,13 @@ use Rattle.cx_base.specs.Codes.{root_place_of}
 use Rattle.cx_core.specs.declared.local.Answer.{Answer}
 use Rattle.cx_core.specs.declared.local.SeenRead.{SeenRead}
 use Rattle.cx_core.specs.RootEvents.{ShowsPlace}
-use Rattle.cx_core.specs.State.{one_more}
 use Rattle.cx_rule.specs.Raises.{TellsRead, TellsReply, known_answered}
 use Rattle.cx_rule.specs.Rule.{IsLawfulLocal}
 use Rattle.cx_rule.specs.Running.{IsSeatOf, Running, instance_at}
 use Rattle.cx_rule.specs.Seats.{IsAtLimit, Seated, unanswered_ticket}
 use Rattle.cx_turns.specs.declared.reading.Queried.{Queried}
 use Rattle.cx_turns.specs.declared.lookup.Seen.{Seen}
-use Rattle.cx_turns.specs.Turns.{IsAtRest, beside_turn}
+use Rattle.cx_turns.specs.Turns.{IsAtRest, TurnRefused, beside_turn}
 use Rattle.publish.specs.Publishing.{beside_publish, place_in}
 use Rattle.replica.specs.Held.{IsHeldShared}
 
@@ -61,17 +60,10 @@ pub record AnswersEntry (ticket : ℕ) (reply : List ℕ) (before after : Seated
   pub met : after.known.local.met ≡ before.known.local.met
   pub answered : after.known.local.answered ≡ with_answer ticket reply before.known.local.answered
 
--- A refusal was met: nothing is answered, and the caller is at rest.
-pub record MeetsRefusal (before after : Seated) : Type 0 where
-  pub rest : IsAtRest after.known.local
-  pub met : after.known.local.met ≡ one_more before.known.local.met
-  pub answered : after.known.local.answered ≡ before.known.local.answered
-  pub reads : after.known.local.seen_reads ≡ before.known.local.seen_reads
-
 -- what a turn for an entry with a ticket comes to
 abbrev pub TurnsFor : ℕ → Seated → Seated → Option (List ℕ) → Type 0
 TurnsFor ticket before after (Some reply) = AnswersEntry ticket reply before after
-TurnsFor ticket before after None = MeetsRefusal before after
+TurnsFor ticket before after None = TurnRefused before after
 
 -- The limit was come to: before the raise nothing is answered, and behind it the entry is.
 pub record HaltsFor (ticket : ℕ) (before after : Seated) : Type 0 where
@@ -95,7 +87,7 @@ pub record AnswersRead (op : List ℕ) (place : ℕ) (reply : List ℕ) (before 
 -- what a turn for a read comes to
 abbrev pub LooksUp : List ℕ → Seated → Seated → Option Seen → Type 0
 LooksUp op before after (Some found) = AnswersRead op found.place found.reply before after
-LooksUp op before after None = MeetsRefusal before after
+LooksUp op before after None = TurnRefused before after
 
 -- The limit was come to: before the raise no read is answered, and behind it this one is.
 pub record HaltsLookup (op : List ℕ) (before after : Seated) : Type 0 where

@@ -1,13 +1,12 @@
 -- A replica that is ready to be published.
 use Rattle.std.specs.Prelude.{◌≡◌, ◌<◌, ℕ, List, [], Option, Some, None}
-use Rattle.cx_core.specs.State.{one_more}
 use Rattle.cx_rule.specs.Fitting.{IsReplayedToPlace, SomeFits}
 use Rattle.cx_rule.specs.Running.{Running}
 use Rattle.cx_rule.specs.Seats.{Seated}
 use Rattle.cx_table.specs.Tokens.{IsDowngradedOf}
 use Rattle.cx_turns.specs.declared.preparing.Prepared.{Prepared}
 use Rattle.cx_turns.specs.Replaying.{ShowsReply}
-use Rattle.cx_turns.specs.Turns.{IsAtRest}
+use Rattle.cx_turns.specs.Turns.{TurnRefused}
 use Rattle.replica.specs.Replays.{noted_place}
 use Rattle.strong_trylock.specs.Held.{all_rights, no_rights}
 
@@ -24,11 +23,7 @@ pub record Prepares {O : Type 0} (r : Running O) (lawful : List ℕ → Type 0) 
   pub refused : after.known.local.refused ≡ []
   pub met : after.known.local.met ≡ before.known.local.met
 
--- each replica was refused: the caller is at rest again, and a refusal was met
-pub record PreparesNone (before after : Seated) : Type 0 where
-  pub rest : IsAtRest after.known.local
-  pub met : after.known.local.met ≡ one_more before.known.local.met
-
+-- what preparing one comes to; where each replica was refused, a refusal was met
 abbrev pub TriesPrepare : {O : Type 0} → Running O → (List ℕ → Type 0) → (List ℕ → List ℕ → List ℕ × List ℕ) → ℕ → Seated → Seated → Option Prepared → Type 0
 TriesPrepare r lawful step ticket before after (Some prepared) = Prepares r lawful step ticket before after prepared
-TriesPrepare r lawful step ticket before after None = PreparesNone before after
+TriesPrepare r lawful step ticket before after None = TurnRefused before after

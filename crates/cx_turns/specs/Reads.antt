@@ -3,11 +3,11 @@
 use Rattle.std.specs.Prelude.{◌≡◌, true, false, ℕ, List, Option, Some, None}
 use Rattle.cx_base.specs.Codes.{root_replica_of}
 use Rattle.cx_core.specs.RootEvents.{ShowsPlace}
-use Rattle.cx_core.specs.State.{one_more}
 use Rattle.cx_rule.specs.Raises.{TellsRead}
 use Rattle.cx_rule.specs.Running.{Running}
 use Rattle.cx_rule.specs.Seats.{Seated}
 use Rattle.cx_turns.specs.declared.reading.Queried.{Queried}
+use Rattle.cx_turns.specs.Turns.{MeetsRefusal}
 use Rattle.replica.specs.Held.{IsHeldShared}
 use Rattle.strong_trylock.specs.Held.{all_rights, no_rights}
 
@@ -29,13 +29,7 @@ pub record IsRead {O : Type 0} (lines : ℕ) (r : Running O) (lawful : List ℕ 
   pub reply : TellsRead lines lawful r.base step after.known op queried.reply
   pub met : after.known.local.met ≡ before.known.local.met
 
--- A read was refused: the replica is held exclusively, or is at another place. The caller has no right, one refusal more is met,
--- and what was seen of CUR is not used again.
-pub record IsRefused (before after : Seated) : Type 0 where
-  pub rights : all_rights after ≡ no_rights
-  pub fresh : after.known.local.fresh ≡ false
-  pub met : after.known.local.met ≡ one_more before.known.local.met
-
+-- what reading it comes to; it is refused where the replica is held exclusively, or is at another place
 abbrev pub ReadsCurrent : {O : Type 0} → ℕ → Running O → (List ℕ → Type 0) → (List ℕ → List ℕ → List ℕ × List ℕ) → List ℕ → Seated → Seated → Option Queried → Type 0
 ReadsCurrent lines r lawful step op before after (Some queried) = IsRead lines r lawful step op before after queried
-ReadsCurrent lines r lawful step op before after None = IsRefused before after
+ReadsCurrent lines r lawful step op before after None = MeetsRefusal before after

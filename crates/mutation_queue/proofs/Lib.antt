@@ -1,3 +1,4 @@
+pub mod Bases
 pub mod EntryReads
 mod OneOfEach
 mod Results

@@ -9,6 +9,7 @@ ghost use Rattle.service_tests.specs.Tests.{IsBack};
 use crate::calls::{Told, all_asked, asked};
 use crate::starting::{NO_LIMIT, has_rising_codes, two_closed, two_started};
 use crate::tasks::{adds, sum};
+use cx_base::root_place;
 use cx_base::tally::Tally;
 use cx_core::Base;
 use cx_service::{Caller, Handed, Service};
@@ -122,5 +123,61 @@ fn a_read_stops_at_each_step(rt: HostRuntime) -> Result<(), Fail> {
         limit = limit.wrapping_add(1);
     }
     assert!(rt; answered && limit > 3);
+    Ok(())
+}
+
+// What a caller that makes an update with a limit of steps is left with, and the place of the durable root then.
+#[derive(Clone, Copy, Debug, PartialEq, Eq, Drop)]
+enum Left {
+    Answered,
+    Stopped { linked: Option<u64>, durable: u64 },
+}
+
+// A caller makes an update with a limit of steps.
+fn left_at(alloc: Global, base: &Base, limit: u64) -> Result<Left, AllocError>
+    requires { LawfulBase 64 IsTally base.now }
+{
+    let (service, first, second) = two_started(alloc, &[limit, NO_LIMIT], base)?;
+    let (first, answered) = tried(&service, first, &[1000; 144]);
+    let linked = linked_of(&first);
+    let remains = two_closed(alloc, service, first, Handed::Idle(second))?;
+    if answered {
+        return Ok(Left::Answered);
+    }
+    let durable = remains.published.first().map_or(0, |code| root_place(2, *code));
+    Ok(Left::Stopped { linked, durable })
+}
+
+// The ticket of the linked entry that no call has answered.
+fn linked_of(handed: &Handed) -> Option<u64> {
+    match handed {
+        Handed::Idle(_) => None,
+        Handed::Linked(linked) => Some(linked.ticket()),
+        Handed::Stopped(stopped) => stopped.linked(),
+    }
+}
+
+#[test]
+fn a_stopped_caller_has_its_ticket(rt: HostRuntime) -> Result<(), Fail> {
+    let alloc = rt.alloc();
+    let base = Base::fresh(alloc, &Tally)?;
+    let mut raised = 0u64;
+    let mut limit = 0u64;
+    for _ in 0..2000 {
+        let Left::Stopped { linked, durable } = left_at(alloc, &base, limit)? else {
+            break;
+        };
+        let want = if limit < STEPS_TO_LINK {
+            None
+        } else {
+            Some(0)
+        };
+        assert!(rt; linked == want, "at {limit}");
+        raised = raised.wrapping_add(durable);
+        limit = limit.wrapping_add(1);
+    }
+    // once the raise of the durable root, which puts the reply into the caller's answers, was the last step allowed
+    assert!(rt; limit > STEPS_TO_LINK);
+    assert_eq!(rt; raised, 1);
     Ok(())
 }

@@ -16,7 +16,7 @@ pub record IsSame {O : Type 0} (r : Running O) (before after : Seated) : Type 0 
 abbrev pub IsHanded : {O : Type 0} → Running O → Handed → Type 0
 IsHanded r (Idle after) = IsCallerOf r after
 IsHanded r (Linked after) = IsSeatOf r after
-IsHanded r (Stopped after) = IsSeatOf r after
+IsHanded r (Stopped after) = IsSeatOf r after.seat
 
 -- so the same caller is handed back
 pub record IsHandedBy {O : Type 0} (r : Running O) (before : Seated) (handed : Handed) : Type 0 where

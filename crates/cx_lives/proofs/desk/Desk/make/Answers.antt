@@ -54,4 +54,4 @@ returns-in_ok-work-in-Halted g c =
     let n = c.args.number in
     let d = c.args.self in
     stop_turned c.args.life.now c.args.service.now c.args.command.now.client (n - 1) n d.caller d.entries.items d.reads.items c.requires.served.lists (omega (arith, c.requires.number)) c.args.command.now.op c.op_words-op.result
-    c.op_words-op.ensures c.requires.named c.requires.op c.amount_has_64_bits.ensures c.in-Halted.stopped c.in-Halted.linked c.in_ok-work-in-Halted.work c.in-Halted.ensures c.in_ok-work-in-Halted.ensures
+    c.op_words-op.ensures c.requires.named c.requires.op c.amount_has_64_bits.ensures c.in-Halted.stopped c.in_ok-work-in-Halted.work c.in-Halted.ensures c.in_ok-work-in-Halted.ensures

@@ -1,0 +1,101 @@
+use Rattle.std.proofs.Common.{◌≡◌, ◌+◌, ◌*◌, List, length, refl, ap, sym, subst, ◌∙◌, arith}
+use Rattle.std.proofs.lemmas.Result.{IfOk-weaker, on_err_weaker}
+use Rattle.cx_core.specs.declared.local.Linked.{Linked}
+use Rattle.cx_core.specs.QueueEvents.{next_number}
+use Rattle.cx_rule.specs.Running.{instance_at}
+use Rattle.cx_rule.specs.Seats.{IsAtLimit, Seated}
+use Rattle.mutation_queue.specs.Links.{Tried}
+use Rattle.cx_service.specs.declared.submit.Submitted.TheVariants.{Halted}
+use Rattle.cx_service.specs.Callers.{unlinked}
+use Rattle.cx_service.specs.Submits.{EntersIn}
+use Rattle.cx_service.proofs.Announced.{halted_in, if_any_err}
+use Rattle.cx_service.proofs.Cells.{next_idle}
+use Rattle.cx_service.proofs.Entering.{beside_submit, entered, halts, halts_linking, stale}
+use Rattle.cx_service.proofs.Looking.{caller_then, cur_loaded, enters_then, submits_then}
+use Rattle.cx_service.proofs.submit.announce_and_link.Goals as goal
+
+pub returns-in_err-_cur-clause-halted : goal.returns-in_err-_cur-clause-halted
+returns-in_err-_cur-clause-halted g c =
+    let s = c.args.seat.now in
+    let t = c.load_cur.new.seat in
+    let halted = c.in_err-_cur.ensures.halted in
+    let front = ap (λ (x : Seated). x.known.local.front) halted.same in
+    let steps = ap (λ (x : Seated). x.known.local.steps) halted.same in
+    if_any_err c.from_residual.result
+    (halts c.args.shared.now s t (ap beside_submit halted.same) (146 + 2 * c.args.tries) c.requires.caller (ap (λ (x : Seated). x.known.local.own) halted.same) (omega (arith, front)) (omega (arith, steps))
+        (subst (λ (x : Seated). IsAtLimit x.known.local) (sym halted.same) halted.limit))
+
+pub announce-requires-clause-cell : goal.announce-requires-clause-cell
+announce-requires-clause-cell g c =
+    let r = c.args.shared.now in
+    let s = c.args.seat.now in
+    let at = c.load_cur.new.seat in
+    let made = c.in_ok-_cur.ensures.made in
+    let first = cur_loaded (instance_at r g.O.Object.step g.O.Object.only_reads) s at c.in_ok-_cur._cur made.made made.allowed in
+    let caller = caller_then r 1 s (stale at) first c.requires.caller refl in
+    let next = c.requires.cell.0 ∙ ap (λ (xs : List Linked). length xs) (sym first.own) in
+    (c.requires.cell.1, next_idle r.base.place (stale at).known.local caller.cells caller.free c.args.cell (omega (arith, next)))
+
+pub returns-in_err-announce-clause-halted : goal.returns-in_err-announce-clause-halted
+returns-in_err-announce-clause-halted g c =
+    let r = c.args.shared.now in
+    let s = c.args.seat.now in
+    let at = c.load_cur.new.seat in
+    let t = c.announce.new.seat in
+    let made = c.in_ok-_cur.ensures.made in
+    let first = cur_loaded (instance_at r g.O.Object.step g.O.Object.only_reads) s at c.in_ok-_cur._cur made.made made.allowed in
+    let caller = caller_then r 1 s (stale at) first c.requires.caller refl in
+    if_any_err c.from_residual-in_err-announce.result
+    (submits_then r 1 s (stale at) first c.args.op.now c.args.tries (145 + 2 * c.args.tries) (146 + 2 * c.args.tries) (Halted (unlinked t)) (omega arith)
+        (halted_in r c.args.cell (145 + 2 * c.args.tries) (next_number r.base at.known.local) c.args.op.now at t caller (omega arith) c.told-op c.in_err-announce.ensures.halted))
+
+pub link-requires-clause-answered : goal.link-requires-clause-answered
+link-requires-clause-answered g c =
+    let r = c.args.shared.now in
+    let s = c.args.seat.now in
+    let at = c.load_cur.new.seat in
+    let made = c.in_ok-_cur.ensures.made in
+    let first = cur_loaded (instance_at r g.O.Object.step g.O.Object.only_reads) s at c.in_ok-_cur._cur made.made made.allowed in
+    let caller = caller_then r 1 s (stale at) first c.requires.caller refl in
+    let rest = c.in_ok-announce.ensures.announced.rest in
+    let answered = ap (λ (x : Seated). length x.known.local.answered) rest in
+    let own = ap (λ (x : Seated). length x.known.local.own) rest in
+    omega (arith, answered, own, caller.count)
+
+pub returns-clause-entered : goal.returns-clause-entered
+returns-clause-entered g c =
+    let r = c.args.shared.now in
+    let s = c.args.seat.now in
+    let at = c.load_cur.new.seat in
+    let t = c.announce.new.seat in
+    let v = c.link.new.seat in
+    let op = c.args.op.now in
+    let tries = c.args.tries in
+    let made = c.in_ok-_cur.ensures.made in
+    let first = cur_loaded (instance_at r g.O.Object.step g.O.Object.only_reads) s at c.in_ok-_cur._cur made.made made.allowed in
+    let caller = caller_then r 1 s (stale at) first c.requires.caller refl in
+    let next = c.requires.cell.0 ∙ ap (λ (xs : List Linked). length xs) (sym first.own) in
+    let done = c.in_ok-announce.ensures.announced in
+    IfOk-weaker c.link.result (Tried r.callers c.args.cell tries t v) (EntersIn (146 + 2 * tries) r op tries s v)
+    (λ tried links. enters_then r 1 s (stale at) first op tries (145 + 2 * tries) (146 + 2 * tries) v tried (omega arith)
+        (entered r c.args.cell op (stale at) t caller next c.requires.cell.1 c.told-op done.cell done.others done.rest tries (145 + 2 * tries) v tried links done.allowed (omega (arith, done.most, c.link.ensures.steps))))
+    c.link.ensures.tried
+
+pub returns-clause-halted : goal.returns-clause-halted
+returns-clause-halted g c =
+    let r = c.args.shared.now in
+    let s = c.args.seat.now in
+    let at = c.load_cur.new.seat in
+    let t = c.announce.new.seat in
+    let v = c.link.new.seat in
+    let op = c.args.op.now in
+    let tries = c.args.tries in
+    let made = c.in_ok-_cur.ensures.made in
+    let first = cur_loaded (instance_at r g.O.Object.step g.O.Object.only_reads) s at c.in_ok-_cur._cur made.made made.allowed in
+    let caller = caller_then r 1 s (stale at) first c.requires.caller refl in
+    let next = c.requires.cell.0 ∙ ap (λ (xs : List Linked). length xs) (sym first.own) in
+    let done = c.in_ok-announce.ensures.announced in
+    on_err_weaker c.link.result
+    (λ halted. submits_then r 1 s (stale at) first op tries (145 + 2 * tries) (146 + 2 * tries) (Halted (unlinked v)) (omega arith)
+        (halts_linking r c.args.cell op (stale at) t caller next c.requires.cell.1 c.told-op done.cell done.others done.rest v halted.0 (145 + 2 * tries) (omega (arith, done.most, c.link.ensures.steps)) halted.1))
+    c.link.ensures.halted
