@@ -1,5 +1,5 @@
 -- What announcing an operation leaves of a caller that halts in it.
-use Rattle.std.proofs.Common.{◌≡◌, ◌≤◌, ℕ, Bool, List, [], ◌∷◌, length, drop, ap, sym, inl, inr, arith, Result, Ok, Err, OnErr}
+use Rattle.std.proofs.Common.{◌≡◌, ◌≤◌, ℕ, Bool, List, [], ◌∷◌, length, drop, ap, inl, inr, arith, Result, Ok, Err, OnErr}
 use Rattle.std.proofs.lemmas.Bool.{cases_eq, eq-eqb, ne_eqb}
 use Rattle.std.proofs.Common.{cond}
 use Rattle.cx_core.specs.QueueEvents.{cell_of}

@@ -6,5 +6,5 @@ use Rattle.service_tests.proofs.rows.at_the_end.Goals as goal
 pub returns : goal.returns
 returns c =
     let fresh = c.in_ok-fresh in
-    let place = 1099511627776 in
+    let place : ℕ = 1099511627776 in
     moved 64 IsTally fresh.fresh place c.of.result fresh.ensures.lawful (omega (arith, fresh.ensures.place)) (omega arith) (c.of.ensures ∙ ap (λ (ws : List ℕ). set ws 0 place) c.into_vec-words.ensures)
