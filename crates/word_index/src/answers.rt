@@ -67,11 +67,7 @@ pub fn least_above<M: Memory, L: Ledger>(
 
 /// Reads the packed document of a node that `find` gave on these words into words that are 0, and gives the number of its bytes.
 /// `Halt` comes only where no access is left.
-pub fn read_document<M: Memory>(
-    mem: &mut M,
-    node: u64,
-    into: &mut [u64],
-) -> Result<u64, Halt>
+pub fn read_document<M: Memory>(mem: &mut M, node: u64, into: &mut [u64]) -> Result<u64, Halt>
     requires sized { IsPartLength (M.size mem.old) }
     requires node { Always (M.stands mem.old) (λ ws. HasNode ws node) }
     requires zero { into.old ≡ replicate 128 0 }
