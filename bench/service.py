@@ -1,13 +1,13 @@
 #!/usr/bin/env python3
-"""Processor time and steps of a service's updates and reads, on one thread, two and four, and of an update's parts on one.
+"""Processor time and steps of a service's updates and reads, on one thread, two and four, and of the parts of both on one.
 
 Build the program first: cd crates/service_bench && rt run
 A store of 1,024 lines has documents of 32 bytes at 100 keys. A service is made anew for each 16 updates of its callers; its
 making and closing are not counted. Each caller has a thread of its own. The least of several runs stands, since others load the
 machine. `--rounds N` sets how many.
 
-The parts are those of the same updates of one caller, made one after another on a thread of its own, between which the steps and the
-clock are read. What it takes to read the clock is in each part's time once.
+The parts are those of the same updates of one caller, and of 64 reads after them, made one after another on a thread of its own,
+between which the steps and the clock are read. What it takes to read the clock is in each part's time once.
 """
 import argparse
 import os
@@ -32,6 +32,14 @@ PARTS = {
     "raise": "raise",
     "retire": "retire",
 }
+READ_PARTS = {
+    "read_load_cur": "load CUR",
+    "read_take": "take the replica shared",
+    "read_place": "load its place",
+    "read_query": "query",
+    "read_raise": "raise",
+    "read_release": "release",
+}
 
 
 def lines_of(*words):
@@ -48,22 +56,28 @@ def run(threads, services, reads):
 
 
 def parts(services):
-    """What each part of an update took, in one run."""
+    """What each part of an update and of a read took, in one run."""
     return {words[0]: named(words[1:]) for words in map(str.split, lines_of("parts", 1, services, 0))}
 
 
-def parts_table(rounds, services):
-    """For each part how often it is done in an update, its steps and its least nanoseconds, and all of them."""
-    runs = [parts(services) for _ in range(rounds)]
-    updates = runs[0]["retire"]["times"]
+def parts_table(runs, call, of, last):
+    """For each part how often it is done in a call, its steps and its least nanoseconds, and all of them."""
+    calls = runs[0][last]["times"]
     rows = []
-    for part, words in PARTS.items():
+    for part, words in of.items():
         found = runs[0][part]
         nanos = min(got[part]["nanos"] for got in runs)
-        rows.append((words, found["times"] / updates, found["steps"] / updates, nanos / updates))
+        rows.append((words, found["times"] / calls, found["steps"] / calls, nanos / calls))
     rows.append(("all", 1, sum(row[2] for row in rows), sum(row[3] for row in rows)))
-    head = ["part", "times an update", "steps an update", "ns an update"]
+    head = [f"part of {call}", f"times {call}", f"steps {call}", f"ns {call}"]
     return [head] + [[words, f"{times:.2f}", f"{steps:.1f}", f"{nanos:.0f}"] for words, times, steps, nanos in rows]
+
+
+def beside(left, right):
+    """Two tables as one, whose rows stand side by side."""
+    blank = [[""] * len(rows[0]) for rows in (left, right)]
+    rows = max(len(left), len(right))
+    return [(left[i] if i < len(left) else blank[0]) + (right[i] if i < len(right) else blank[1]) for i in range(rows)]
 
 
 def least(rounds, threads, services, reads):
@@ -97,4 +111,5 @@ if __name__ == "__main__":
     head = ["threads", "reads in 100", "calls", "cpu ns a call", "wall ns a call", "submit steps", "drive steps", "read steps"]
     table([head] + [row(rounds, threads, 400 if reads < 100 else 25, reads) for threads in (1, 2, 4) for reads in (0, 50, 100)])
     print()
-    table(parts_table(rounds, 400))
+    runs = [parts(400) for _ in range(rounds)]
+    table(beside(parts_table(runs, "an update", PARTS, "retire"), parts_table(runs, "a read", READ_PARTS, "read_release")))

@@ -5,18 +5,21 @@ ghost use Rattle.std.specs.Option.{option_map_or};
 ghost use Rattle.cx_base.specs.Memory.{Always, Becomes, Framed, Reads};
 ghost use Rattle.cx_base.specs.Packing.{unpacked};
 ghost use Rattle.doc_model.specs.Meaning as meaning;
+ghost use Rattle.doc_model.specs.Words as spec;
 ghost use Rattle.doc_model.specs.Words.{IsOpOf, AreOfAnOp};
 ghost use Rattle.doc_model.specs.declared.operations.Op.{Op};
 ghost use Rattle.doc_model.specs.declared.operations.Reply.TheVariants.{Absent, Doc as TheDoc, Number};
 ghost use Rattle.doc_store.specs.StepOnWords.{IsReplyBy};
 ghost use Rattle.avl_words.specs.Lines.{IsPartLength};
 ghost use Rattle.index_checks.specs.Layout.{IsIndex};
+ghost use Rattle.word_index.specs.Answers.{IsNodeOf};
+ghost use Rattle.word_index.specs.Walk.{HasNode};
 
-use crate::word_parts::{document_reply, key_in, key_reply};
+use crate::word_parts::{key_in, key_reply};
 use cx_base::{Halt, Memory, Steps};
-use doc_model::{KIND_AT, Reply, reply_words};
+use doc_model::{DOCUMENT_AT, DOCUMENT_LENGTH_AT, KIND_AT, Reply, reply_words};
 use std::sync::ledger::{Blank, Ledger};
-use word_index::{Key, count, doc_at, find, least_above};
+use word_index::{Key, count, find, least_above, read_document};
 
 /// The document of a key.
 fn get<M: Memory, L: Ledger>(
@@ -36,11 +39,25 @@ fn get<M: Memory, L: Ledger>(
     let found = find(mem, key, visits)?;
     match found {
         None => Ok(reply_words(&Reply::Absent)),
-        Some(node) => {
-            let doc = doc_at(mem, node)?;
-            Ok(document_reply(&doc))
-        }
+        Some(node) => document_reply(mem, node),
     }
+}
+
+/// The words of the reply that is the document of a node, which is read where it stands in them.
+fn document_reply<M: Memory>(mem: &mut M, node: u64) -> Result<[u64; 144], Halt>
+    requires sized { IsPartLength (M.size mem.old) }
+    requires node { Always (M.stands mem.old) (λ ws. HasNode ws node) }
+    ensures done { IfOk result (λ reply. Reads (M.stands mem.old) (M.stands mem.new)
+        (λ ws. (pair : List ℕ × List ℕ) → IsNodeOf ws node pair → reply ≡ spec.reply_words (TheDoc pair.1))) }
+    ensures kept { Becomes (M.stands mem.old) (M.stands mem.new) ◌≡◌ }
+    ensures halts { OnErr result (M.left mem.new ≡ Some 0) }
+    ensures framed { Framed M.size M.fixed M.writable M.left mem.old mem.new }
+{
+    let mut reply = [0; 144];
+    let len = read_document(mem, node, &mut reply[DOCUMENT_AT..])?;
+    reply[KIND_AT] = 5;
+    reply[DOCUMENT_LENGTH_AT] = len;
+    Ok(reply)
 }
 
 /// The least key above a key.

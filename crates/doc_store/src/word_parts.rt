@@ -2,12 +2,10 @@
 
 ghost use Rattle.std.specs.Prelude.{◌≡◌, ℕ, List, slice_index, take, drop};
 ghost use Rattle.doc_model.specs.Words.{reply_words};
-ghost use Rattle.doc_model.specs.declared.operations.Reply.TheVariants.{Doc as TheDoc, Key as TheKey};
+ghost use Rattle.doc_model.specs.declared.operations.Reply.TheVariants.{Key as TheKey};
 ghost use Rattle.word_index.specs.Answers.{IsPackOf};
 
-use doc_model::{
-    DOCUMENT_AT, DOCUMENT_LENGTH_AT, KEY_AT, KEY_LENGTH_AT, packed_document_reply, packed_key_reply,
-};
+use doc_model::{DOCUMENT_AT, DOCUMENT_LENGTH_AT, KEY_AT, KEY_LENGTH_AT, packed_key_reply};
 use word_index::{Doc, Key};
 
 /// What stands where an operation's words have the key.
@@ -34,13 +32,6 @@ pub(crate) fn doc_in(op: &[u64; 144]) -> Doc
         len: op[DOCUMENT_LENGTH_AT],
         words,
     }
-}
-
-/// The words of a reply that is a document.
-pub(crate) fn document_reply(doc: &Doc) -> [u64; 144]
-    ensures { (document : List ℕ) → IsPackOf 128 doc.now.len doc.now.words document → result ≡ reply_words (TheDoc document) }
-{
-    packed_document_reply(doc.len, &doc.words)
 }
 
 /// The words of a reply that is a key.

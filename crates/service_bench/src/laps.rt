@@ -6,7 +6,7 @@ use std::io;
 use std::rt::Runtime;
 use std::time::{Clock, Instant};
 
-/// A part of an update.
+/// A part of an update, or of a read.
 #[derive(Clone, Copy, Debug, PartialEq, Eq, Drop)]
 pub enum Part {
     LoadCur,
@@ -22,6 +22,12 @@ pub enum Part {
     Publish,
     Raise,
     Retire,
+    ReadLoadCur,
+    ReadTake,
+    ReadPlace,
+    ReadQuery,
+    ReadRaise,
+    ReadRelease,
 }
 
 /// What a part took in all calls.
@@ -38,7 +44,7 @@ pub struct Laps {
     begun: Instant,
     nanos: u64,
     steps: u64,
-    costs: [Cost; 13],
+    costs: [Cost; 19],
 }
 
 impl Laps {
@@ -52,7 +58,7 @@ impl Laps {
                 times: 0,
                 steps: 0,
                 nanos: 0,
-            }; 13],
+            }; 19],
         })
     }
 
@@ -88,7 +94,7 @@ impl Laps {
 }
 
 /// The names of the parts, in their order.
-const NAMES: [&str; 13] = [
+const NAMES: [&str; 19] = [
     "load_cur",
     "announce",
     "link",
@@ -102,6 +108,12 @@ const NAMES: [&str; 13] = [
     "publish",
     "raise",
     "retire",
+    "read_load_cur",
+    "read_take",
+    "read_place",
+    "read_query",
+    "read_raise",
+    "read_release",
 ];
 
 // Where a part is in the order.
@@ -120,5 +132,11 @@ fn index(part: Part) -> usize {
         Part::Publish => 10,
         Part::Raise => 11,
         Part::Retire => 12,
+        Part::ReadLoadCur => 13,
+        Part::ReadTake => 14,
+        Part::ReadPlace => 15,
+        Part::ReadQuery => 16,
+        Part::ReadRaise => 17,
+        Part::ReadRelease => 18,
     }
 }

@@ -1,13 +1,14 @@
 //! Nanoseconds and steps of a service's calls. With no words it does nothing. `calls T N R L K` makes N services of T callers, one after
 //! another, over a store of L lines with documents at K keys (1,024 and 100 where they are not said), and in each lets every caller, on a
 //! thread of its own, make calls until it has linked 16 updates, or 4,096 calls. R calls in 100 are reads. It prints the calls of all,
-//! and what they took. `parts 1 N 0 L K` makes 16 updates of one caller in each of N tables, and prints for each part of an update how
-//! often it was done, its steps, and its nanoseconds of wall time.
+//! and what they took. `parts 1 N 0 L K` makes 16 updates and then 64 reads of one caller in each of N tables, and prints for each part of an
+//! update and of a read how often it was done, its steps, and its nanoseconds of wall time.
 #![tactic(auto)]
 
 mod base;
 mod calls;
 mod laps;
+mod lookups;
 mod operations;
 mod parts;
 mod tally;

@@ -1,6 +1,6 @@
-//! Updates of one caller as a service makes them, part by part.
+//! Updates and reads of one caller as a service makes them, part by part.
 
-ghost use Rattle.std.specs.Prelude.{◌≡◌, ◌<◌, ◌≤◌, IfOk, OnOk, length};
+ghost use Rattle.std.specs.Prelude.{◌≡◌, ◌<◌, ◌≤◌, IfOk, IsTrue, OnOk, length};
 ghost use Rattle.cx_core.specs.Base.{LawfulBase};
 ghost use Rattle.cx_rule.specs.Running.{IsSeatOf};
 ghost use Rattle.cx_service.specs.Callers.{IsCallerOf, IsLinkedOf};
@@ -8,6 +8,7 @@ ghost use Rattle.cx_service.specs.Submits.{stale};
 ghost use Rattle.doc_store.specs.ExactStep.{IsImage};
 
 use crate::laps::{Laps, Part};
+use crate::lookups::lookup;
 use crate::operations::Operations;
 use crate::turns::turn;
 use cx_base::{Halt, Object};
@@ -20,7 +21,7 @@ use std::io;
 use std::rt::Runtime;
 use std::time::Clock;
 
-/// What the parts of one caller's updates take, in so many tables, one after another.
+/// What the parts of one caller's updates and reads take, in so many tables, one after another.
 pub fn parted<R: Runtime>(
     rt: &R,
     alloc: Global,
@@ -59,7 +60,7 @@ fn table(
     }
 }
 
-// Makes the updates in turn.
+// Makes the updates in turn, and then the reads.
 fn call_in_turn(
     rt: &impl Clock,
     laps: &mut Laps,
@@ -72,7 +73,28 @@ fn call_in_turn(
     for op in operations.updates.iter() {
         update(rt, laps, shared, seat, op)?;
     }
+    for reading in operations.reads.iter() {
+        read(rt, laps, shared, seat, &reading.op)?;
+    }
     Ok(())
+}
+
+// A read.
+fn read<O: Object>(
+    rt: &impl Clock,
+    laps: &mut Laps,
+    shared: &Shared<O>,
+    seat: &mut CallerSeat,
+    op: &[u64; 144],
+) -> Result<(), Halt>
+    requires caller { IsCallerOf shared.now seat.old }
+    requires reads { IsTrue (O.only_reads shared.now.object op.now) }
+    ensures { OnOk result (IsCallerOf shared.now seat.new) }
+{
+    match lookup(rt, laps, shared, seat, op)? {
+        Some(_) => Ok(()),
+        None => Err(Halt),
+    }
 }
 
 // An update.

@@ -11,6 +11,7 @@ pub mod Writing
 pub mod Arrangements
 pub mod Splits
 pub mod KeyOrders
+pub mod WordsApart
 pub mod KeyPlaces
 pub mod Reaching
 pub mod Relaying

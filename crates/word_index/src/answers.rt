@@ -1,15 +1,16 @@
 //! What is asked of an index by a key.
 
-ghost use Rattle.std.specs.Prelude.{◌≡◌, ◌-◌, ◌≤◌, ℕ, true, false, IfOk, OnErr, Some};
+ghost use Rattle.std.specs.Prelude.{◌≡◌, ◌-◌, ◌≤◌, ℕ, List, true, false, IfOk, OnErr, Some, replicate};
 ghost use Rattle.cx_base.specs.Memory.{Always, Becomes, Framed, Reads};
 ghost use Rattle.cx_base.specs.Packing.{unpacked};
 ghost use Rattle.cx_base.specs.Store.{Store};
 ghost use Rattle.doc_model.specs.Meaning.{pairs_above};
 ghost use Rattle.avl_words.specs.Lines.{IsPartLength};
 ghost use Rattle.index_checks.specs.Layout.{IsIndex, StandsFor};
-ghost use Rattle.word_index.specs.Answers.{IsFound, IsLeast};
-ghost use Rattle.word_index.specs.Walk.{FewVisits};
+ghost use Rattle.word_index.specs.Answers.{IsFound, IsLeast, IsNodeOf, IsPackOf};
+ghost use Rattle.word_index.specs.Walk.{FewVisits, HasNode};
 
+use crate::blocks::read_text;
 use crate::nodes::key_at;
 use crate::texts::Key;
 use crate::walk::reach;
@@ -62,4 +63,19 @@ pub fn least_above<M: Memory, L: Ledger>(
     }
     let key = key_at(mem, end.above)?;
     Ok(Some(key))
+}
+
+/// Reads the packed document of a node that `find` gave on these words into words that are 0, and gives the number of its bytes.
+/// `Halt` comes only where no access is left.
+pub fn read_document<M: Memory>(mem: &mut M, node: u64, into: &mut [u64]) -> Result<u64, Halt>
+    requires sized { IsPartLength (M.size mem.old) }
+    requires node { Always (M.stands mem.old) (λ ws. HasNode ws node) }
+    requires zero { into.old ≡ replicate 128 0 }
+    ensures done { IfOk result (λ len. Reads (M.stands mem.old) (M.stands mem.new)
+        (λ ws. (pair : List ℕ × List ℕ) → IsNodeOf ws node pair → IsPackOf 128 len into.new pair.1)) }
+    ensures kept { Becomes (M.stands mem.old) (M.stands mem.new) ◌≡◌ }
+    ensures halts { OnErr result (M.left mem.new ≡ Some 0) }
+    ensures framed { Framed M.size M.fixed M.writable M.left mem.old mem.new }
+{
+    read_text(mem, node, 5, into)
 }

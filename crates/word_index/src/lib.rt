@@ -19,7 +19,7 @@ mod tests;
 mod texts;
 mod walk;
 
-pub use answers::{find, least_above};
+pub use answers::{find, least_above, read_document};
 pub use format::format_index;
 pub use index_checks::{
     lawful, lawful_words_have_one_store, pairs_of, words_stand_for_one_store,

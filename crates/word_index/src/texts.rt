@@ -1,7 +1,7 @@
 //! Keys and documents as packed words, and how keys are ordered.
 
-ghost use Rattle.std.specs.Prelude.{◌≡◌, ◌<◌, ◌≤◌, ℕ, slice_index};
-ghost use Rattle.cx_base.specs.Packing.{byte_at, unpacked};
+ghost use Rattle.std.specs.Prelude.{◌≡◌, ◌≢◌, ◌+◌, ◌*◌, ◌/◌, ◌%◌, ◌^◌, ◌<◌, ◌≤◌, ℕ, List, slice_index};
+ghost use Rattle.cx_base.specs.Packing.{unpacked};
 ghost use Rattle.cx_base.specs.Store.{key_cmp};
 
 use std::cmp::Ordering;
@@ -20,26 +20,31 @@ pub struct Doc {
     pub words: [u64; 128],
 }
 
-/// The byte at a place of some words.
-fn byte_in(words: &[u64; 8], at: usize) -> u64
-    requires { at < 64 }
-    ensures { result ≡ byte_at words.now at }
+/// The first byte at which two words differ.
+fn first_apart(left: u64, right: u64) -> u64
+    requires { left ≢ right }
+    ensures below { result < 8 }
+    ensures alike { (k : ℕ) → k < result → left / 2 ^ (8 * k) % 256 ≡ right / 2 ^ (8 * k) % 256 }
+    ensures apart { left / 2 ^ (8 * result) % 256 ≢ right / 2 ^ (8 * result) % 256 }
 {
-    (words[at / 8] >> (8 * (at % 8))) % 256
+    (left ^ right).trailing_zeros() as u64 / 8
 }
 
-/// How many words are the same at the front, of so many.
-fn words_alike(left: &[u64; 8], right: &[u64; 8], most: usize) -> usize
-    requires { most ≤ 8 }
-    ensures most { result ≤ most }
-    ensures alike { (k : ℕ) → k < result → slice_index left.now k ≡ slice_index right.now k }
+/// How keys of these lengths compare whose words before one place are the same, and these there, which differ.
+pub fn order_apart(at: usize, left: u64, right: u64, left_len: u64, right_len: u64) -> Ordering
+    requires at { at < 8 }
+    requires apart { left ≢ right }
+    ensures { (these those : List ℕ) → ((k : ℕ) → k < at → slice_index these k ≡ slice_index those k) → slice_index these at ≡ left → slice_index those at ≡ right
+        → result ≡ key_cmp (unpacked left_len these) (unpacked right_len those) }
 {
-    for k in 0..most {
-        if left[k] != right[k] {
-            return k;
-        }
+    let byte = first_apart(left, right);
+    if 8 * at as u64 + byte < left_len.min(right_len) {
+        let mine = (left >> (8 * byte)) % 256;
+        let other = (right >> (8 * byte)) % 256;
+        mine.cmp(&other)
+    } else {
+        left_len.cmp(&right_len)
     }
-    most
 }
 
 /// How one key's bytes compare with another's.
@@ -49,14 +54,11 @@ pub fn key_order(left: &Key, right: &Key) -> Ordering
     ensures { result
         ≡ key_cmp (unpacked left.now.len left.now.words) (unpacked right.now.len right.now.words) }
 {
-    let common = left.len.min(right.len) as usize;
-    // words that are the same hold the same bytes, so few bytes are taken out of their words
-    let whole = words_alike(&left.words, &right.words, common / 8);
-    for at in 8 * whole..common {
-        let mine = byte_in(&left.words, at);
-        let other = byte_in(&right.words, at);
+    for at in 0..left.len.min(right.len).div_ceil(8) as usize {
+        let mine = left.words[at];
+        let other = right.words[at];
         if mine != other {
-            return mine.cmp(&other);
+            return order_apart(at, mine, other, left.len, right.len);
         }
     }
     left.len.cmp(&right.len)

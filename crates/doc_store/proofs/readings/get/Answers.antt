@@ -1,10 +1,16 @@
+use Rattle.std.proofs.Common.{◌≡◌, ℕ, List}
+use Rattle.std.proofs.lemmas.Result.{IfOk-weaker}
+use Rattle.cx_base.specs.Memory.{Reads}
 use Rattle.cx_base.specs.Packing.{unpacked}
 use Rattle.cx_base.proofs.ReadLemmas.{Reads-weaker, Reads-then, always_read}
+use Rattle.doc_model.specs.Words.{reply_words}
+use Rattle.doc_model.specs.declared.operations.Reply.TheVariants.{Doc}
+use Rattle.word_index.specs.Answers.{IsNodeOf}
 use Rattle.doc_store.proofs.Answering.{has_node, get_none, get_some}
 use Rattle.doc_store.proofs.readings.get.Goals as goal
 
-pub doc_at-requires-clause-node : goal.doc_at-requires-clause-node
-doc_at-requires-clause-node g c =
+pub document_reply-requires-clause-node : goal.document_reply-requires-clause-node
+document_reply-requires-clause-node g c =
     let key = unpacked c.args.key.now.len c.args.key.now.words in
     always_read c.requires.lawful c.in_ok-found.ensures.done (λ ws i f. has_node ws key c.in_ok-found.found c.in-Some.node c.in-Some.is i f)
 
@@ -13,9 +19,9 @@ returns-in-None-clause-done g c =
     let key = unpacked c.args.key.now.len c.args.key.now.words in
     Reads-weaker c.in_ok-found.ensures.done (λ ws f. get_none ws key c.reply_words.result c.in_ok-found.found c.in-None.is c.reply_words.ensures f)
 
-pub returns-in_ok-doc-in-Some-clause-done : goal.returns-in_ok-doc-in-Some-clause-done
-returns-in_ok-doc-in-Some-clause-done g c =
+pub returns-in-Some-clause-done : goal.returns-in-Some-clause-done
+returns-in-Some-clause-done g c =
     let key = unpacked c.args.key.now.len c.args.key.now.words in
-    let doc = c.in_ok-doc-in-Some.doc in
-    Reads-then c.in_ok-found.ensures.done c.in_ok-doc-in-Some.ensures.done
-    (λ ws f d. get_some ws key c.document_reply.result c.in_ok-found.found c.in-Some.node doc.len doc.words c.in-Some.is c.document_reply.ensures f d)
+    IfOk-weaker c.document_reply.result
+    (λ reply. Reads (g.M.Memory.stands c.find.new.mem) (g.M.Memory.stands c.document_reply.new.mem) (λ ws. (pair : List ℕ × List ℕ) → IsNodeOf ws c.in-Some.node pair → reply ≡ reply_words (Doc pair.1))) _
+    (λ reply r. Reads-then c.in_ok-found.ensures.done r (λ ws f d. get_some ws key reply c.in_ok-found.found c.in-Some.node c.in-Some.is f d)) c.document_reply.ensures.done

@@ -3,3 +3,6 @@ use Rattle.service_bench.proofs.parts.call_in_turn.Given as goal
 
 abbrev pub invariant-loop-op : goal.invariant-loop-op
 invariant-loop-op g l = IsCallerOf l.shared l.seat
+
+abbrev pub invariant-loop-reading : goal.invariant-loop-reading
+invariant-loop-reading g l = IsCallerOf l.shared l.seat
