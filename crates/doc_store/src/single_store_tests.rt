@@ -1,22 +1,21 @@
 //! How often one operation stores each word.
 
-ghost use Rattle.std.specs.Prelude.{◌≡◌, ◌*◌, ◌<◌, IsTrue, IfOk, length};
-ghost use Rattle.cx_base.specs.Memory.{Always};
-ghost use Rattle.doc_store.specs.ExactStep.{IsImage};
+ghost use Rattle.std.specs.Prelude.{◌≡◌, ◌*◌, ◌^◌, ◌≤◌, IfOk, length};
 
 use crate::DocStore;
 use crate::mixed_tests::{Numbers, command};
 use crate::store_tests::{asked, opened};
 use cx_base::{Halt, Memory, VecMemory};
-use std::alloc::{AllocError, Global};
-use std::process::Abort;
+use std::alloc::Global;
 use std::test::Fail;
 
-/// A memory that counts the stores of each word since the last operation began.
+/// A memory that counts the stores of each word since the last operation began, and knows the words before it and now.
 #[derive(Drop)]
 struct Counting<M: Memory> {
     inner: M,
     stores: Vec<u64>,
+    before: Vec<u64>,
+    now: Vec<u64>,
 }
 
 impl<M: Memory> Memory for Counting<M> {
@@ -46,74 +45,82 @@ impl<M: Memory> Memory for Counting<M> {
         if let Some(count) = self.stores.get_mut(at as usize) {
             *count = count.saturating_add(1);
         }
+        if let Some(word) = self.now.get_mut(at as usize) {
+            *word = v;
+        }
         self.inner.store(at, v)
     }
 }
 
-/// What the stores of operations were.
-#[derive(Clone, Copy, Debug, PartialEq, Eq)]
-struct Tally {
-    stores: u64,
+/// The stores of operations, and how many of them were of a word that the same operation had stored before, or of one
+/// that was in the end as it had been.
+#[derive(Clone, Copy, Debug)]
+struct Stores {
+    all: u64,
     again: u64,
-    header: u64,
-    links: u64,
-    others: u64,
+    needless: u64,
 }
 
 /// Counts the stores of one operation, and begins to count anew.
-fn tally(stores: &mut [u64], so_far: Tally) -> Tally {
-    let mut all = so_far;
-    for (at, count) in stores.iter_mut().enumerate() {
-        let more = count.saturating_sub(1);
-        all.stores = all.stores.saturating_add(*count);
-        all.again = all.again.saturating_add(more);
-        if at < 8 {
-            all.header = all.header.saturating_add(more);
-        } else if at % 8 < 3 {
-            all.links = all.links.saturating_add(more);
-        } else {
-            all.others = all.others.saturating_add(more);
+fn counted(stores: &mut [u64], before: &mut [u64], now: &[u64], so_far: Stores) -> Stores {
+    let mut sum = so_far;
+    for ((count, was), is) in stores.iter_mut().zip(before.iter_mut()).zip(now) {
+        sum.all = sum.all.saturating_add(*count);
+        sum.again = sum.again.saturating_add(count.saturating_sub(1));
+        if *count > 0 && *was == *is {
+            sum.needless = sum.needless.saturating_add(1);
         }
         *count = 0;
+        *was = *is;
     }
-    all
+    sum
 }
 
 /// The stores of so many mixed commands.
-fn tallied(
-    store: &DocStore,
-    mem: &mut Counting<VecMemory>,
-    commands: u64,
-) -> Result<Tally, Halt>
-    requires size { length mem.old.inner.words.items ≡ 8 * store.now.lines }
+fn stores_of(store: &DocStore, mem: &mut Counting<VecMemory>, commands: u64) -> Result<Stores, Halt>
+    requires { length mem.old.inner.words.items ≡ 8 * store.now.lines }
 {
     opened(store, mem)?;
     let mut numbers = Numbers::of(7);
-    let mut all = Tally {
-        stores: 0,
+    let mut sum = Stores {
+        all: 0,
         again: 0,
-        header: 0,
-        links: 0,
-        others: 0,
+        needless: 0,
     };
-    tally(&mut mem.stores, all);
+    counted(&mut mem.stores, &mut mem.before, &mem.now, sum);
     for _ in 0..commands {
         asked(store, mem, &command(&mut numbers))?;
-        all = tally(&mut mem.stores, all);
+        sum = counted(&mut mem.stores, &mut mem.before, &mem.now, sum);
     }
-    Ok(all)
+    Ok(sum)
 }
 
+/// A memory of so many lines of words that say nothing.
+fn words_of_lines(alloc: Global, lines: u64) -> Result<Counting<VecMemory>, Fail>
+    requires { lines ≤ 2 ^ 14 }
+    ensures { IfOk result (λ c. length c.inner.words.items ≡ 8 * lines) }
+{
+    let size = 8 * lines as usize;
+    Ok(Counting {
+        inner: VecMemory::of(vec![in alloc; u64::MAX; size]?, None),
+        stores: vec![in alloc; 0; size]?,
+        before: vec![in alloc; u64::MAX; size]?,
+        now: vec![in alloc; u64::MAX; size]?,
+    })
+}
+
+// 256 lines are soon full, and 512 are not yet.
 #[test]
-fn each_word_is_stored_once(rt: HostRuntime) -> Result<(), Fail> {
-    let alloc = rt.alloc();
-    let store = DocStore::of(256);
-    let words = vec![in alloc; u64::MAX; 2048]?;
-    let mut mem = Counting {
-        inner: VecMemory::of(words, None),
-        stores: vec![in alloc; 0; 2048]?,
-    };
-    let all = tallied(&store, &mut mem, 1000).expect(&rt, "commands");
-    assert_eq!(rt; (all.stores, all.again, all.header, all.links, all.others), (0, 0, 0, 0, 0));
+fn an_operation_stores_each_word_that_changes_once(rt: HostRuntime) -> Result<(), Fail> {
+    let full = DocStore::of(256);
+    let mut mem = words_of_lines(rt.alloc(), 256)?;
+    let few = stores_of(&full, &mut mem, 1000).expect(&rt, "commands");
+    assert_eq!(rt; (few.again, few.needless), (0, 0));
+    assert!(rt; few.all > 2000);
+    let roomy = DocStore::of(512);
+    let mut mem = words_of_lines(rt.alloc(), 512)?;
+    let many = stores_of(&roomy, &mut mem, 300).expect(&rt, "commands");
+    assert_eq!(rt; (many.again, many.needless), (0, 0));
+    assert!(rt; many.all > 3000);
     Ok(())
 }

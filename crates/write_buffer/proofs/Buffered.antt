@@ -29,7 +29,7 @@ covers_more count at x places values under now p v free c e = record {
   long = c.long;
   held = λ i l. elim (cases_eq i count) [
     | inl same ↦ subst (λ k. slice_index now (slice_index (slice_set places count at) k) ≡ slice_index (slice_set values count x) k) (sym same)
-          (ap (slice_index now) (there places count at p) ∙ c.free at free ∙ e ∙ sym (there values count x v))
+        (ap (slice_index now) (there places count at p) ∙ c.free at free ∙ e ∙ sym (there values count x v))
     | inr other ↦ ap (slice_index now) (beside places count i at other) ∙ c.held i (let d : i ≢ count = other in omega (arith, l, d)) ∙ sym (beside values count i x other)
   ];
   free = λ a f. c.free a (λ i l e'. f i (omega (arith, l)) (beside places count i at (λ same. omega (arith, l, same)) ∙ e'));
@@ -44,11 +44,11 @@ covers_less count at x places values under now p v e c = record {
       ap (slice_index now) (sym (beside places count i at other)) ∙ c.held i (omega (arith, l)) ∙ beside values count i x other);
   free = λ a f. elim (cases_eq a at) [
     | inl same ↦ subst (λ k. slice_index now k ≡ slice_index under k) (sym same)
-          (ap (slice_index now) (sym (there places count at p)) ∙ c.held count (omega arith) ∙ there values count x v ∙ sym e)
+        (ap (slice_index now) (sym (there places count at p)) ∙ c.held count (omega arith) ∙ there values count x v ∙ sym e)
     | inr other ↦ c.free a (λ i l e'. elim (cases_eq i count) [
-        | inl same ↦ absurd (other (sym e' ∙ ap (slice_index (slice_set places count at)) same ∙ there places count at p))
-        | inr before ↦ f i (let d : i ≢ count = before in omega (arith, l, d)) (sym (beside places count i at before) ∙ e')
-      ])
+      | inl same ↦ absurd (other (sym e' ∙ ap (slice_index (slice_set places count at)) same ∙ there places count at p))
+      | inr before ↦ f i (let d : i ≢ count = before in omega (arith, l, d)) (sym (beside places count i at before) ∙ e')
+    ])
   ];
 }
 
@@ -60,7 +60,7 @@ covers_put count i at v places values under now l few e within apart c = record 
   long = length-set now at v ∙ c.long;
   held = λ j m. elim (cases_eq j i) [
     | inl same ↦ subst (λ k. slice_index (slice_set now at v) (slice_index places k) ≡ slice_index (slice_set values i v) k) (sym same)
-          (ap (slice_index (slice_set now at v)) e ∙ there now at v within ∙ sym (there values i v (omega (arith, l, few))))
+        (ap (slice_index (slice_set now at v)) e ∙ there now at v within ∙ sym (there values i v (omega (arith, l, few))))
     | inr other ↦ beside now at (slice_index places j) v (λ s. other (apart j i m l (s ∙ sym e))) ∙ c.held j m ∙ sym (beside values i j v other)
   ];
   free = λ a f. beside now at a v (λ s. f i l (e ∙ sym s)) ∙ c.free a f;
@@ -74,7 +74,7 @@ covers_both count at v places values under now within free c = record {
   held = λ i l. beside now at (slice_index places i) v (free i l) ∙ c.held i l;
   free = λ a f. elim (cases_eq a at) [
     | inl same ↦ subst (λ k. slice_index (slice_set now at v) k ≡ slice_index (slice_set under at v) k) (sym same)
-          (there now at v (let long = c.long in omega (arith, within, long)) ∙ sym (there under at v within))
+        (there now at v (let long = c.long in omega (arith, within, long)) ∙ sym (there under at v within))
     | inr other ↦ beside now at a v other ∙ c.free a f ∙ sym (beside under at a v other)
   ];
 }
@@ -133,20 +133,20 @@ module _ {Key : Type 0} where
         ];
         apart = λ i j l m e. elim (cases_eq i count) [
           | inl same ↦ elim (cases_eq j count) [
-              | inl also ↦ same ∙ sym also
-              | inr other ↦ absurd (free j (let d : j ≢ count = other in omega (arith, m, d))
-                    (sym (beside places count j at other) ∙ sym e ∙ ap (slice_index (slice_set places count at)) same ∙ there places count at p))
-            ]
+            | inl also ↦ same ∙ sym also
+            | inr other ↦ absurd (free j (let d : j ≢ count = other in omega (arith, m, d))
+                (sym (beside places count j at other) ∙ sym e ∙ ap (slice_index (slice_set places count at)) same ∙ there places count at p))
+          ]
           | inr other ↦ elim (cases_eq j count) [
-              | inl also ↦ absurd (free i (let d : i ≢ count = other in omega (arith, l, d))
-                    (sym (beside places count i at other) ∙ e ∙ ap (slice_index (slice_set places count at)) also ∙ there places count at p))
-              | inr neither ↦ h.apart i j (let d : i ≢ count = other in omega (arith, l, d)) (let d : j ≢ count = neither in omega (arith, m, d))
-                    (sym (beside places count i at other) ∙ e ∙ beside places count j at neither)
-            ]
+            | inl also ↦ absurd (free i (let d : i ≢ count = other in omega (arith, l, d))
+                (sym (beside places count i at other) ∙ e ∙ ap (slice_index (slice_set places count at)) also ∙ there places count at p))
+            | inr neither ↦ h.apart i j (let d : i ≢ count = other in omega (arith, l, d)) (let d : j ≢ count = neither in omega (arith, m, d))
+                (sym (beside places count i at other) ∙ e ∙ beside places count j at neither)
+          ]
         ];
         known = λ key u s i l. elim (cases_eq i count) [
           | inl same ↦ subst (λ k. slice_index u (slice_index (slice_set places count at) k) ≡ slice_index (slice_set found count x) k) (sym same)
-                (ap (slice_index u) (there places count at p) ∙ known key u s ∙ sym (there found count x f))
+              (ap (slice_index u) (there places count at p) ∙ known key u s ∙ sym (there found count x f))
           | inr other ↦ ap (slice_index u) (beside places count i at other) ∙ h.known key u s i (let d : i ≢ count = other in omega (arith, l, d)) ∙ sym (beside found count i x other)
         ];
       }
@@ -162,7 +162,7 @@ module _ {Key : Type 0} where
     within = h.within;
     small = λ j m. elim (cases_eq j i) [
       | inl same ↦ subst (λ k. slice_index (slice_set values i v) k < 2 ^ 64) (sym same)
-            (subst (λ n. n < 2 ^ 64) (sym (there values i v (let e = h.values_long in let f = h.few in omega (arith, l, e, f)))) fits)
+          (subst (λ n. n < 2 ^ 64) (sym (there values i v (let e = h.values_long in let f = h.few in omega (arith, l, e, f)))) fits)
       | inr other ↦ subst (λ n. n < 2 ^ 64) (sym (beside values i j v other)) (h.small j m)
     ];
     apart = h.apart;
@@ -329,7 +329,7 @@ covers_kept i count places found values before now l same known apart c = record
   long = c.long;
   held = λ j m. elim (cases_eq j i) [
     | inl e ↦ subst (λ k. slice_index now (slice_index places k) ≡ slice_index values k) (sym e)
-          (c.free (slice_index places i) (λ k o s. (let q = apart k i (omega (arith, o, l)) l s in omega (arith, o, q))) ∙ known ∙ sym same)
+        (c.free (slice_index places i) (λ k o s. (let q = apart k i (omega (arith, o, l)) l s in omega (arith, o, q))) ∙ known ∙ sym same)
     | inr other ↦ c.held j (let d : j ≢ i = other in omega (arith, m, d))
   ];
   free = λ a f. c.free a (λ j m. f j (omega (arith, m)));

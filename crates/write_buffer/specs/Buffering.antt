@@ -1,9 +1,9 @@
 -- Words of a memory that are held back from it.
-use Rattle.std.specs.Prelude.{◌≡◌, ◌≢◌, ◌^◌, ◌+◌, ◌<◌, ◌≤◌, ℕ, zero, suc, List, length, slice_index, slice_set, refl}
-use Rattle.std.proofs.Common.{sym, ap, subst, ◌∙◌, inl, inr, arith}
+use Rattle.std.specs.Prelude.{◌≡◌, ◌≢◌, ◌^◌, ◌<◌, ◌≤◌, ℕ, zero, suc, List, length, slice_index, slice_set, refl}
+use Rattle.std.proofs.Common.{sym, subst, ◌∙◌, inl, inr, arith}
 use Rattle.std.proofs.Math.Logic.{∥∥₁_map}
-use Rattle.std.proofs.lemmas.Bool.{cases_eq, cases_lt}
-use Rattle.std.proofs.lemmas.List.{length-set, get_or-set_same, get_or-set_other, set-set, set-get_or}
+use Rattle.std.proofs.lemmas.Bool.{cases_eq}
+use Rattle.std.proofs.lemmas.List.{length-set, get_or-set_same, get_or-set_other}
 use Rattle.cx_base.specs.Memory.{Words, Always}
 use Rattle.cx_base.specs.WordLaws.{Words-set}
 
@@ -68,10 +68,10 @@ covered_held (suc n) places values under within apart i l =
     let before = covered n places values under in
     elim (cases_eq i n) [
       | inl e ↦ subst (λ k. slice_index (slice_set before (slice_index places n) (slice_index values n)) (slice_index places k) ≡ slice_index values k) (sym e)
-            (get_or-set_same before (slice_index places n) (slice_index values n) 0 (let w = within n (omega arith) in omega (arith, w, covered_long n places values under)))
+          (get_or-set_same before (slice_index places n) (slice_index values n) 0 (let w = within n (omega arith) in omega (arith, w, covered_long n places values under)))
       | inr other ↦
-            get_or-set_other before (slice_index places n) (slice_index places i) (slice_index values n) 0 (λ e. other (apart i n l (omega arith) e))
-            ∙ covered_held n places values under (λ j m. within j (omega (arith, m))) (λ j k m o. apart j k (omega (arith, m)) (omega (arith, o))) i (let d : i ≢ n = other in omega (arith, l, d))
+          get_or-set_other before (slice_index places n) (slice_index places i) (slice_index values n) 0 (λ e. other (apart i n l (omega arith) e))
+          ∙ covered_held n places values under (λ j m. within j (omega (arith, m))) (λ j k m o. apart j k (omega (arith, m)) (omega (arith, o))) i (let d : i ≢ n = other in omega (arith, l, d))
     ]
 
 covered_words : (size n : ℕ) (places values under : List ℕ) → ((i : ℕ) → i < n → slice_index values i < 2 ^ 64) → Words size under → Words size (covered n places values under)

@@ -28,6 +28,7 @@ fn the_last_word_is_stored(rt: HostRuntime) -> Result<(), Fail> {
     let seen = stored_twice(&mut mem).expect(&rt, "stored");
     assert_eq!(rt; seen, 9);
     let words = mem.into_words();
+    assert_eq!(rt; words.len(), 16);
     assert_eq!(rt; (words[1], words[15], words[2]), (9, 8, 5));
     Ok(())
 }
