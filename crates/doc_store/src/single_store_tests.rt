@@ -1,6 +1,6 @@
 //! How often one operation stores each word.
 
-ghost use Rattle.std.specs.Prelude.{◌≡◌, ◌*◌, ◌^◌, ◌≤◌, IfOk, length};
+ghost use Rattle.std.specs.Prelude.{◌≡◌, ◌*◌, ◌^◌, ◌≤◌, IfOk, IsTrue, length};
 
 use crate::DocStore;
 use crate::mixed_tests::{Numbers, command};
@@ -77,8 +77,13 @@ fn counted(stores: &mut [u64], before: &mut [u64], now: &[u64], so_far: Stores) 
 }
 
 /// The stores of so many mixed commands.
-fn stores_of(store: &DocStore, mem: &mut Counting<VecMemory>, commands: u64) -> Result<Stores, Halt>
-    requires { length mem.old.inner.words.items ≡ 8 * store.now.lines }
+fn stores_of<M: Memory>(
+    store: &DocStore,
+    mem: &mut Counting<M>,
+    commands: u64,
+) -> Result<Stores, Halt>
+    requires size { M.size mem.old.inner ≡ 8 * store.now.lines }
+    requires writable { IsTrue (M.writable mem.old.inner) }
 {
     opened(store, mem)?;
     let mut numbers = Numbers::of(7);
