@@ -10,6 +10,8 @@ mod numbers;
 #[cfg(test)]
 mod order_tests;
 mod readings;
+#[cfg(test)]
+mod single_store_tests;
 mod step_laws;
 mod store;
 #[cfg(test)]

@@ -20,11 +20,15 @@ const KINDS: [u64; 10] = [1, 1, 1, 1, 2, 3, 3, 4, 5, 6];
 
 /// Numbers that look thrown.
 #[derive(Drop)]
-struct Numbers {
+pub(crate) struct Numbers {
     state: u64,
 }
 
 impl Numbers {
+    pub(crate) fn of(state: u64) -> Numbers {
+        Numbers { state }
+    }
+
     fn next(&mut self, below: u64) -> u64
         requires { 0 < below }
         ensures { result < below }
@@ -42,7 +46,7 @@ pub(crate) fn digit(n: u64) -> u8 {
 }
 
 /// The words of a command on one of 500 keys: a number, or up to 150 letters, is what is put.
-fn command(numbers: &mut Numbers) -> [u64; 144] {
+pub(crate) fn command(numbers: &mut Numbers) -> [u64; 144] {
     let kind = KINDS[numbers.next(10) as usize];
     let n = numbers.next(500);
     let key = [b'k', digit(n / 100), digit(n / 10), digit(n)];
@@ -133,7 +137,7 @@ fn mixed<M: Memory>(
 {
     opened(store, mem)?;
     let mut pairs = Pairs::new(alloc);
-    let mut numbers = Numbers { state: 7 };
+    let mut numbers = Numbers::of(7);
     for _ in 0..commands {
         let words = command(&mut numbers);
         let same = both(alloc, store, mem, &mut pairs, &words)?;

@@ -20,6 +20,7 @@ use crate::walk::seek_place;
 use avl_words::{Way, put, put_node, word};
 use cx_base::{Halt, Memory, Steps};
 use std::sync::ledger::Ledger;
+use write_buffer::{WriteBuffer, store_held};
 
 /// What `insert` did: the key is new, or its document was replaced, or there is no room and nothing has changed.
 #[derive(Clone, Copy, Debug, PartialEq, Eq)]
@@ -109,7 +110,7 @@ fn write_pair<M: Memory>(mem: &mut M, key: &Key, doc: &Doc) -> Result<u64, Halt>
 }
 
 /// Puts a new pair where the walk to its key ended at nothing.
-fn add<M: Memory>(mem: &mut M, way: &Way, key: &Key, doc: &Doc) -> Result<(), Halt>
+fn put_pair<M: Memory>(mem: &mut M, way: &Way, key: &Key, doc: &Doc) -> Result<(), Halt>
     requires sized { IsPartLength (M.size mem.old) }
     requires writable { IsTrue (M.writable mem.old) }
     requires key { IsPacked 8 key.now.len key.now.words }
@@ -126,6 +127,29 @@ fn add<M: Memory>(mem: &mut M, way: &Way, key: &Key, doc: &Doc) -> Result<(), Ha
     let pairs = word(mem, 0, 5)?;
     put(mem, 0, 5, pairs + 1)?;
     Ok(())
+}
+
+/// The same, with each word that changes stored once.
+fn add<M: Memory>(mem: &mut M, way: &Way, key: &Key, doc: &Doc) -> Result<(), Halt>
+    requires sized { IsPartLength (M.size mem.old) }
+    requires writable { IsTrue (M.writable mem.old) }
+    requires key { IsPacked 8 key.now.len key.now.words }
+    requires doc { IsPacked 128 doc.now.len doc.now.words }
+    requires can { Always (M.stands mem.old)
+        (λ ws. CanAdd ws way.now.nodes way.now.sides way.now.depth (unpacked key.now.len key.now.words, unpacked doc.now.len doc.now.words)) }
+    ensures exact { IfOk result (λ _. Becomes (M.stands mem.old) (M.stands mem.new)
+        (Adds way.now.nodes way.now.sides way.now.depth (unpacked key.now.len key.now.words, unpacked doc.now.len doc.now.words))) }
+    ensures halts { OnErr result (M.left mem.new ≡ Some 0) }
+    ensures framed { Framed M.size M.fixed M.writable M.left mem.old mem.new }
+{
+    let mut buffer = WriteBuffer::over(mem, 0);
+    put_pair(&mut buffer, way, key, doc)?;
+    let WriteBuffer {
+        inner: _,
+        line: _,
+        held,
+    } = buffer;
+    store_held(mem, &held)
 }
 
 /// Puts a document at a key, in words of so many lines. `NoRoom` comes exactly where the store would then need more

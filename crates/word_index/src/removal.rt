@@ -7,7 +7,7 @@ ghost use Rattle.avl_words.specs.Lines.{IsPartLength};
 ghost use Rattle.index_checks.specs.Layout.{IsIndex};
 ghost use Rattle.word_index.specs.Changes.{IsRemoved};
 ghost use Rattle.word_index.specs.Exact.{is_key_in, with_key_removed};
-ghost use Rattle.word_index.specs.Removal.{CanCut, Cuts};
+ghost use Rattle.word_index.specs.Removal.{CanCut, Cuts, TakesOut};
 ghost use Rattle.word_index.specs.Walk.{FewVisits, Walked};
 
 use crate::given_pairs::give_pair;
@@ -16,6 +16,7 @@ use crate::walk::seek_place;
 use avl_words::{Way, put, take_node, word};
 use cx_base::{Halt, Memory, Steps};
 use std::sync::ledger::Ledger;
+use write_buffer::{WriteBuffer, store_held};
 
 /// Takes the node at the end of a way out of the tree.
 fn cut<M: Memory>(mem: &mut M, way: &mut Way, node: u64) -> Result<(), Halt>
@@ -31,6 +32,41 @@ fn cut<M: Memory>(mem: &mut M, way: &mut Way, node: u64) -> Result<(), Halt>
     let pairs = word(mem, 0, 5)?;
     put(mem, 0, 5, pairs - 1)?;
     Ok(())
+}
+
+/// Takes the node at the end of a way out of the tree, and gives its lines back.
+fn cut_pair<M: Memory>(mem: &mut M, way: &mut Way, node: u64) -> Result<(), Halt>
+    requires sized { IsPartLength (M.size mem.old) }
+    requires writable { IsTrue (M.writable mem.old) }
+    requires arrays { (length way.old.nodes ≡ 64) × (length way.old.sides ≡ 64) }
+    requires can { Always (M.stands mem.old) (λ ws. CanCut ws way.old.nodes way.old.sides way.old.depth node) }
+    ensures exact { IfOk result (λ _. Becomes (M.stands mem.old) (M.stands mem.new) (TakesOut way.old.nodes way.old.sides way.old.depth node)) }
+    ensures halts { OnErr result (M.left mem.new ≡ Some 0) }
+    ensures framed { Framed M.size M.fixed M.writable M.left mem.old mem.new }
+{
+    cut(mem, way, node)?;
+    give_pair(mem, node)?;
+    Ok(())
+}
+
+/// The same, with each word that changes stored once.
+fn take_out<M: Memory>(mem: &mut M, way: &mut Way, node: u64) -> Result<(), Halt>
+    requires sized { IsPartLength (M.size mem.old) }
+    requires writable { IsTrue (M.writable mem.old) }
+    requires arrays { (length way.old.nodes ≡ 64) × (length way.old.sides ≡ 64) }
+    requires can { Always (M.stands mem.old) (λ ws. CanCut ws way.old.nodes way.old.sides way.old.depth node) }
+    ensures exact { IfOk result (λ _. Becomes (M.stands mem.old) (M.stands mem.new) (TakesOut way.old.nodes way.old.sides way.old.depth node)) }
+    ensures halts { OnErr result (M.left mem.new ≡ Some 0) }
+    ensures framed { Framed M.size M.fixed M.writable M.left mem.old mem.new }
+{
+    let mut buffer = WriteBuffer::over(mem, node);
+    cut_pair(&mut buffer, way, node)?;
+    let WriteBuffer {
+        inner: _,
+        line: _,
+        held,
+    } = buffer;
+    store_held(mem, &held)
 }
 
 /// Takes the pair of a key out, and says whether the key was there. `Halt` comes only where no access is left; the
@@ -57,7 +93,6 @@ pub fn remove<M: Memory, L: Ledger>(
     if spot.node == 0 {
         return Ok(false);
     }
-    cut(mem, &mut spot.way, spot.node)?;
-    give_pair(mem, spot.node)?;
+    take_out(mem, &mut spot.way, spot.node)?;
     Ok(true)
 }

@@ -15,6 +15,7 @@ use crate::taken::write_text;
 use crate::texts::Doc;
 use avl_words::{put, put_new, word};
 use cx_base::{Halt, Memory};
+use write_buffer::{WriteBuffer, store_held};
 
 /// Writes a document into the blocks of another of as many blocks.
 fn refill<M: Memory>(mem: &mut M, node: u64, first: u64, doc: &Doc) -> Result<(), Halt>
@@ -55,7 +56,7 @@ fn renew<M: Memory>(mem: &mut M, node: u64, first: u64, count: u64, doc: &Doc) -
 }
 
 /// Puts a document in place of a node's own: in the same blocks where it needs as many, and else in new ones.
-pub fn rewrite<M: Memory>(mem: &mut M, node: u64, doc: &Doc) -> Result<(), Halt>
+fn replace<M: Memory>(mem: &mut M, node: u64, doc: &Doc) -> Result<(), Halt>
     requires sized { IsPartLength (M.size mem.old) }
     requires writable { IsTrue (M.writable mem.old) }
     requires doc { IsPacked 128 doc.now.len doc.now.words }
@@ -73,4 +74,26 @@ pub fn rewrite<M: Memory>(mem: &mut M, node: u64, doc: &Doc) -> Result<(), Halt>
     } else {
         renew(mem, node, first, count, doc)
     }
+}
+
+/// The same, with each word that changes stored once.
+pub fn rewrite<M: Memory>(mem: &mut M, node: u64, doc: &Doc) -> Result<(), Halt>
+    requires sized { IsPartLength (M.size mem.old) }
+    requires writable { IsTrue (M.writable mem.old) }
+    requires doc { IsPacked 128 doc.now.len doc.now.words }
+    requires can { Always (M.stands mem.old)
+        (λ ws. CanRewrite ws node (unpacked doc.now.len doc.now.words)) }
+    ensures exact { IfOk result (λ _. Becomes (M.stands mem.old) (M.stands mem.new)
+        (λ old now. now ≡ with_rewritten (unpacked doc.now.len doc.now.words) node old)) }
+    ensures halts { OnErr result (M.left mem.new ≡ Some 0) }
+    ensures framed { Framed M.size M.fixed M.writable M.left mem.old mem.new }
+{
+    let mut buffer = WriteBuffer::over(mem, node);
+    replace(&mut buffer, node, doc)?;
+    let WriteBuffer {
+        inner: _,
+        line: _,
+        held,
+    } = buffer;
+    store_held(mem, &held)
 }

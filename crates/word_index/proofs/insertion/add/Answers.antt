@@ -1,34 +1,29 @@
-use Rattle.std.proofs.Common.{◌+◌, ◌^◌, ◌≤◌, refl, arith}
+use Rattle.std.proofs.Common.{◌≡◌, ap, sym, subst, ◌∙◌, rules}
+use Rattle.std.proofs.lemmas.Result.{IfOk-weaker}
+use Rattle.cx_base.specs.Memory.{Always, Becomes, Words}
+use Rattle.write_buffer.specs.Buffering.{Covers}
+use Rattle.write_buffer.proofs.Buffered.{always_over, becomes_behind}
 use Rattle.cx_base.specs.Packing.{unpacked}
-use Rattle.cx_base.proofs.MemoryLemmas.{Becomes-store, always_at_most, always_after, Becomes-loaded, Becomes-both}
-use Rattle.avl_words.specs.Lines.{with_word}
-use Rattle.word_index.proofs.Adding.{can_write, can_put_node, add_few, adds}
+use Rattle.word_index.specs.Insertion.{CanAdd, Adds}
 use Rattle.word_index.proofs.insertion.add.Goals as goal
 
-pub write_pair-requires-clause-room : goal.write_pair-requires-clause-room
-write_pair-requires-clause-room g c =
-    let w = c.args.way.now in
-    λ first now s. can_write now w.nodes w.sides w.depth (unpacked c.args.key.now.len c.args.key.now.words, unpacked c.args.doc.now.len c.args.doc.now.words) (c.requires.can first now s)
-
-pub put_node-requires-clause-can : goal.put_node-requires-clause-can
-put_node-requires-clause-can g c =
-    let w = c.args.way.now in
-    always_after c.requires.can c.in_ok-node.ensures.done (λ x z h p.
-    can_put_node x z w.nodes w.sides w.depth c.in_ok-node.node (unpacked c.args.key.now.len c.args.key.now.words, unpacked c.args.doc.now.len c.args.doc.now.words) h p)
-
-pub overflow_add-pairs : goal.overflow_add-pairs
-overflow_add-pairs g c =
-    let w = c.args.way.now in
-    let m = c.word.new.mem in
-    let n = c.in_ok-pairs.pairs in
-    let few : n ≤ 2 ^ 32 = always_at_most (g.M.Memory.stands m) (g.met.M.Memory.some_stands m) n (2 ^ 32)
-    (always_after c.requires.can (Becomes-loaded (Becomes-both c.in_ok-node.ensures.done c.in_ok-put_node.ensures.done) c.in_ok-pairs.ensures.done)
-    (λ x y h r. add_few x r.0.0 y w.nodes w.sides w.depth c.in_ok-node.node n (unpacked c.args.key.now.len c.args.key.now.words, unpacked c.args.doc.now.len c.args.doc.now.words) h r.0.1 r.0.2 r.1)) in
-    omega arith
+pub put_pair-requires-clause-can : goal.put_pair-requires-clause-can
+put_pair-requires-clause-can g c =
+    let b = c.over-buffer.result in
+    always_over (g.M.Memory.size b.inner.now) b.held.count b.held.places b.held.values c.over-buffer.ensures.none
+    (subst (λ m. Always (g.M.Memory.stands m) (λ ws. CanAdd ws c.args.way.now.nodes c.args.way.now.sides c.args.way.now.depth (unpacked c.args.key.now.len c.args.key.now.words, unpacked c.args.doc.now.len c.args.doc.now.words))) (sym c.over-buffer.ensures.inner) c.requires.can)
 
 pub returns-clause-exact : goal.returns-clause-exact
 returns-clause-exact g c =
-    let w = c.args.way.now in
-    let n = c.in_ok-pairs.pairs in
-    Becomes-store (Becomes-loaded (Becomes-both c.in_ok-node.ensures.exact c.in_ok-put_node.ensures.done) c.in_ok-pairs.ensures.done) c.in_ok-put.ensures.done
-    (λ first x y s r. adds x r.0.0 y (with_word 0 5 (n + 1) y) w.nodes w.sides w.depth c.in_ok-node.node n (unpacked c.args.key.now.len c.args.key.now.words, unpacked c.args.doc.now.len c.args.doc.now.words) r.0.1 r.0.2 r.1 refl)
+    let b = c.over-buffer.result in
+    let f = c.put_pair.new.mem in
+    let new = c.store_held.new.mem in
+    let same : c.mem-2-1.given.0 ≡ f.inner.now = search rules in
+    let size : g.M.Memory.size new ≡ g.M.Memory.size f.inner.now = c.store_held.ensures.framed.size_kept ∙ ap g.M.Memory.size same in
+    IfOk-weaker c.store_held.result (λ _. Becomes (g.M.Memory.stands c.mem-2-1.given.0) (g.M.Memory.stands new) (Covers f.held.count f.held.places f.held.values)) _
+    (λ _ d. subst (λ m. Becomes (g.M.Memory.stands m) (g.M.Memory.stands new) (Adds c.args.way.now.nodes c.args.way.now.sides c.args.way.now.depth (unpacked c.args.key.now.len c.args.key.now.words, unpacked c.args.doc.now.len c.args.doc.now.words))) c.over-buffer.ensures.inner
+    (becomes_behind (g.M.Memory.size b.inner.now) (g.M.Memory.size f.inner.now) b.held.count f.held.count b.held.places b.held.values f.held.places f.held.values c.over-buffer.ensures.none
+    (λ key now s. subst (λ n. Words n now) size (g.met.M.Memory.words new key now s))
+    c.in_ok-put_pair.ensures.exact
+    (subst (λ m. Becomes (g.M.Memory.stands m) (g.M.Memory.stands new) (Covers f.held.count f.held.places f.held.values)) same d)))
+    c.store_held.ensures.done

@@ -1,56 +1,30 @@
-use Rattle.std.proofs.Common.{◌≡◌, ◌≢◌, sym, ◌∙◌}
-use Rattle.cx_base.specs.Packing.{unpacked}
-use Rattle.cx_base.specs.Memory.{Becomes}
-use Rattle.cx_base.specs.Store.{blocks}
-use Rattle.cx_base.proofs.MemoryLemmas.{Becomes-then}
+use Rattle.std.proofs.Common.{◌≡◌, ap, sym, subst, ◌∙◌, rules}
 use Rattle.std.proofs.lemmas.Result.{IfOk-weaker}
-use Rattle.cx_base.proofs.ReadLemmas.{Reads-weaker, Reads-none, Reads-loaded, Becomes-from-read}
-use Rattle.avl_words.proofs.Memories.{always_said}
-use Rattle.word_index.specs.Exact.{with_refilled, with_renewed}
-use Rattle.word_index.proofs.DocumentChanges.{node_here}
-use Rattle.word_index.proofs.DocumentRuns.{blocks_of_words, old_counted, rewrite_refills, rewrite_renews}
+use Rattle.cx_base.specs.Memory.{Always, Becomes, Words}
+use Rattle.write_buffer.specs.Buffering.{Covers}
+use Rattle.write_buffer.proofs.Buffered.{always_over, becomes_behind}
+use Rattle.cx_base.specs.Packing.{unpacked}
+use Rattle.word_index.specs.Exact.{with_rewritten}
+use Rattle.word_index.specs.Rewriting.{CanRewrite}
 use Rattle.word_index.proofs.rewriting.rewrite.Goals as goal
 
-pub word-requires-clause-line : goal.word-requires-clause-line
-word-requires-clause-line g c = λ first now s. node_here now c.args.node _ (c.requires.can first now s)
+pub replace-requires-clause-can : goal.replace-requires-clause-can
+replace-requires-clause-can g c =
+    let b = c.over-buffer.result in
+    always_over (g.M.Memory.size b.inner.now) b.held.count b.held.places b.held.values c.over-buffer.ensures.none
+    (subst (λ m. Always (g.M.Memory.stands m) (λ ws. CanRewrite ws c.args.node (unpacked c.args.doc.now.len c.args.doc.now.words))) (sym c.over-buffer.ensures.inner) c.requires.can)
 
-pub word-requires-2-clause-line : goal.word-requires-2-clause-line
-word-requires-2-clause-line g c = always_said (Reads-weaker (Reads-loaded (Reads-none _ c.requires.can) c.in_ok-first.ensures.done) (λ ws p. node_here ws c.args.node _ p.0))
-
-pub refill-requires-clause-old : goal.refill-requires-clause-old
-refill-requires-clause-old g c =
-    let doc = c.args.doc.now in
-    let same = c.if-count-div_ceil.true ∙ sym (blocks_of_words doc.len c.div_ceil.result doc.words c.div_ceil.ensures) in
-    always_said (Reads-weaker (Reads-loaded (Reads-loaded (Reads-none _ c.requires.can) c.in_ok-first.ensures.done) c.in_ok-word.ensures.done) (λ ws p. record {
-      can = p.0.0;
-      first_is = p.0.1;
-      counted = old_counted ws c.args.node c.in_ok-word.field-0 c.div_ceil-count.result p.1 c.div_ceil-count.ensures ∙ same;
-    }))
-
-pub renew-requires-clause-old : goal.renew-requires-clause-old
-renew-requires-clause-old g c =
-    always_said (Reads-weaker (Reads-loaded (Reads-loaded (Reads-none _ c.requires.can) c.in_ok-first.ensures.done) c.in_ok-word.ensures.done) (λ ws p. record {
-      can = p.0.0;
-      first_is = p.0.1;
-      counted = old_counted ws c.args.node c.in_ok-word.field-0 c.div_ceil-count.result p.1 c.div_ceil-count.ensures;
-    }))
-
-pub returns-then-count-div_ceil-clause-exact : goal.returns-then-count-div_ceil-clause-exact
-returns-then-count-div_ceil-clause-exact g c =
-    let doc = c.args.doc.now in
-    let d = unpacked doc.len doc.words in
-    let same = c.if-count-div_ceil.true ∙ sym (blocks_of_words doc.len c.div_ceil.result doc.words c.div_ceil.ensures) in
-    let r = Reads-loaded (Reads-loaded (Reads-none _ c.requires.can) c.in_ok-first.ensures.done) c.in_ok-word.ensures.done in
-    IfOk-weaker c.refill.result (λ _. Becomes (g.M.Memory.stands c.word-2.new.mem) (g.M.Memory.stands c.refill.new.mem) (λ old now. now ≡ with_refilled d c.args.node old)) _
-    (λ _ b. Becomes-then (Becomes-from-read r) b (λ x y z p q. rewrite_refills x y z c.args.node c.div_ceil-count.result d p.0 (old_counted y c.args.node c.in_ok-word.field-0 c.div_ceil-count.result p.1.1 c.div_ceil-count.ensures) same q))
-    c.refill.ensures.exact
-
-pub returns-else-count-div_ceil-clause-exact : goal.returns-else-count-div_ceil-clause-exact
-returns-else-count-div_ceil-clause-exact g c =
-    let doc = c.args.doc.now in
-    let d = unpacked doc.len doc.words in
-    let other : c.div_ceil-count.result ≢ blocks d = λ e. c.if-count-div_ceil.false (e ∙ blocks_of_words doc.len c.div_ceil.result doc.words c.div_ceil.ensures) in
-    let r = Reads-loaded (Reads-loaded (Reads-none _ c.requires.can) c.in_ok-first.ensures.done) c.in_ok-word.ensures.done in
-    IfOk-weaker c.renew.result (λ _. Becomes (g.M.Memory.stands c.word-2.new.mem) (g.M.Memory.stands c.renew.new.mem) (λ old now. now ≡ with_renewed d c.args.node old)) _
-    (λ _ b. Becomes-then (Becomes-from-read r) b (λ x y z p q. rewrite_renews x y z c.args.node c.div_ceil-count.result d p.0 (old_counted y c.args.node c.in_ok-word.field-0 c.div_ceil-count.result p.1.1 c.div_ceil-count.ensures) other q))
-    c.renew.ensures.exact
+pub returns-clause-exact : goal.returns-clause-exact
+returns-clause-exact g c =
+    let b = c.over-buffer.result in
+    let f = c.replace.new.mem in
+    let new = c.store_held.new.mem in
+    let same : c.mem-2-1.given.0 ≡ f.inner.now = search rules in
+    let size : g.M.Memory.size new ≡ g.M.Memory.size f.inner.now = c.store_held.ensures.framed.size_kept ∙ ap g.M.Memory.size same in
+    IfOk-weaker c.store_held.result (λ _. Becomes (g.M.Memory.stands c.mem-2-1.given.0) (g.M.Memory.stands new) (Covers f.held.count f.held.places f.held.values)) _
+    (λ _ d. subst (λ m. Becomes (g.M.Memory.stands m) (g.M.Memory.stands new) (λ old now. now ≡ with_rewritten (unpacked c.args.doc.now.len c.args.doc.now.words) c.args.node old)) c.over-buffer.ensures.inner
+    (becomes_behind (g.M.Memory.size b.inner.now) (g.M.Memory.size f.inner.now) b.held.count f.held.count b.held.places b.held.values f.held.places f.held.values c.over-buffer.ensures.none
+    (λ key now s. subst (λ n. Words n now) size (g.met.M.Memory.words new key now s))
+    c.in_ok-replace.ensures.exact
+    (subst (λ m. Becomes (g.M.Memory.stands m) (g.M.Memory.stands new) (Covers f.held.count f.held.places f.held.values)) same d)))
+    c.store_held.ensures.done
