@@ -149,7 +149,7 @@ fn refusal(alloc: Global, line: u64, reason: Reason) -> Result<Vec<u8>, AllocErr
 }
 
 // The report of a script's lives, each run in turn, and their trails.
-#[tactic(auto, using(crate::proofs::Naming::names_of_lives))]
+#[tactic(auto, using(life_records::proofs::Naming::names_of_lives))]
 fn run_script<R: Threads + Wait + Sync, G: Gate + Sync>(
     rt: &R,
     alloc: Global,
