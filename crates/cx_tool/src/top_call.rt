@@ -126,8 +126,7 @@ fn text_of<R: Threads + Wait + Sync, G: Gate + Sync>(
     match read_script(alloc, bytes) {
         Ok(script) => {
             let (text, trails) = run_script(rt, alloc, &script, gate)?;
-            let status = Status::Fine;
-            Ok((text, Ended { status, trails }))
+            Ok((text, Ended::new(Status::Fine, trails)))
         }
         Err(TextFault::Refused { line, reason }) => {
             let text = refusal(alloc, line, reason)?;
