@@ -149,12 +149,7 @@ impl Desk {
             return Ok(Turn::Over(self.over(End::Never)));
         };
         let mut desk = self;
-        desk.reads.push(ReadLine {
-            client,
-            command: number,
-            place: seen.place,
-            reply,
-        })?;
+        desk.reads.push(read_line(client, number, seen, reply))?;
         Ok(Turn::Next(desk))
     }
 
@@ -210,6 +205,18 @@ fn stopped_in(
         reads,
         end: End::Stopped(line),
     })
+}
+
+// The line of a read that is answered, at the place that its caller has seen.
+fn read_line(client: u32, number: u64, seen: &Seen, reply: Reply) -> ReadLine
+    ensures { result ≡ record { client = client; command = number; place = seen.now.place; reply = reply } }
+{
+    ReadLine {
+        client,
+        command: number,
+        place: seen.place,
+        reply,
+    }
 }
 
 // The reply that has these words. `Err` is want of memory.

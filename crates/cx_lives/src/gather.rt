@@ -28,20 +28,20 @@ impl Gathered {
     {
         let Gathered {
             mut handed,
-            mut entries,
-            mut reads,
+            entries,
+            reads,
             stops,
             never,
         } = self;
         let Work {
             handed: caller,
-            entries: mut own_entries,
-            reads: mut own_reads,
+            entries: own_entries,
+            reads: own_reads,
             end,
         } = work;
         handed.push(caller)?;
-        entries.append(&mut own_entries)?;
-        reads.append(&mut own_reads)?;
+        let entries = joined(entries, own_entries)?;
+        let reads = joined(reads, own_reads)?;
         let (stops, never) = with_end(stops, never, end)?;
         Ok(Gathered {
             handed,
@@ -51,6 +51,16 @@ impl Gathered {
             never,
         })
     }
+}
+
+// One client's lines behind those of the clients before it.
+fn joined<T: Drop>(before: Vec<T>, own: Vec<T>) -> Result<Vec<T>, AllocError>
+    ensures { IfOk result (λ lines. lines.items ≡ before.items ++ own.items) }
+{
+    let mut lines = before;
+    let mut own = own;
+    lines.append(&mut own)?;
+    Ok(lines)
 }
 
 // With one client's end more.

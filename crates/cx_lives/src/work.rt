@@ -1,6 +1,6 @@
 //! What one client's worker does.
 
-ghost use Rattle.std.specs.Prelude.{◌≡◌, IfOk};
+ghost use Rattle.std.specs.Prelude.{◌≡◌, ◌<◌, IfOk, Some, length, slice_get};
 ghost use Rattle.life_records.specs.Limits.{IsLifeInLimits};
 ghost use Rattle.cx_lives.specs.Ends.{IsNewIn, IsWorkOf};
 
@@ -8,7 +8,7 @@ use crate::desk::{Desk, End, Turn, Work};
 use cx_base::Gate;
 use cx_service::{Caller, Service};
 use doc_store::DocStore;
-use life_records::Life;
+use life_records::{Command, Life};
 use std::alloc::{AllocError, Global};
 use std::sync::Wait;
 
@@ -32,8 +32,10 @@ pub(crate) fn serve<R: Wait, G: Gate>(
         entries: Vec::new(alloc),
         reads: Vec::new(alloc),
     };
+    let commands = life.commands.as_slice();
     let mut number = 0;
-    for command in life.commands.as_slice() {
+    for at in 0..commands.len() {
+        let command = command_at(commands, at);
         if command.client == client {
             number += 1;
             gate.pass(client, number, false);
@@ -46,4 +48,12 @@ pub(crate) fn serve<R: Wait, G: Gate>(
         }
     }
     Ok(desk.over(End::Whole))
+}
+
+// The command at a place of the script. Commands are made in the order of these places.
+fn command_at(commands: &[Command], at: usize) -> &Command
+    requires { at < length commands.now }
+    ensures { slice_get commands.now at ≡ Some result.now }
+{
+    &commands[at]
 }

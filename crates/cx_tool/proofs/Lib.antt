@@ -1,4 +1,3 @@
 pub mod Answering
-pub mod Naming
 pub mod Transfer
 pub mod WordsJudged

@@ -55,13 +55,17 @@ pub struct Ended {
 }
 
 impl Ended {
+    /// A run that ended so, with the trails of its lives. Every run ends by this.
+    pub(crate) fn new(status: Status, trails: Items<Trail>) -> Ended
+        ensures { result ≡ record { status = status; trails = trails } }
+    {
+        Ended { status, trails }
+    }
+
     /// A run that ended without lives.
     pub(crate) fn without_lives(alloc: Global, status: Status) -> Ended
         ensures { result ≡ record { status = status; trails = [] } }
     {
-        Ended {
-            status,
-            trails: Items::new(alloc),
-        }
+        Ended::new(status, Items::new(alloc))
     }
 }

@@ -126,8 +126,7 @@ fn text_of<R: Threads + Wait + Sync, G: Gate + Sync>(
     match read_script(alloc, bytes) {
         Ok(script) => {
             let (text, trails) = run_script(rt, alloc, &script, gate)?;
-            let status = Status::Fine;
-            Ok((text, Ended { status, trails }))
+            Ok((text, Ended::new(Status::Fine, trails)))
         }
         Err(TextFault::Refused { line, reason }) => {
             let text = refusal(alloc, line, reason)?;
@@ -149,7 +148,7 @@ fn refusal(alloc: Global, line: u64, reason: Reason) -> Result<Vec<u8>, AllocErr
 }
 
 // The report of a script's lives, each run in turn, and their trails.
-#[tactic(auto, using(crate::proofs::Naming::names_of_lives))]
+#[tactic(auto, using(life_records::proofs::Naming::names_of_lives))]
 fn run_script<R: Threads + Wait + Sync, G: Gate + Sync>(
     rt: &R,
     alloc: Global,

@@ -46,7 +46,7 @@ pub(crate) fn lived<R: Threads + Wait + Sync, G: Gate + Sync>(
     }
 }
 
-#[tactic(auto, using(crate::proofs::Naming::names_of_lives))]
+#[tactic(auto, using(life_records::proofs::Naming::names_of_lives))]
 fn script_lived<R: Threads + Wait + Sync, G: Gate + Sync>(
     rt: &R,
     alloc: Global,

@@ -4,9 +4,9 @@ use Rattle.cx_lives.specs.Serving.{IsServed}
 use Rattle.cx_lives.proofs.work.serve.Given as goal
 
 -- the client was answered its commands so far, and has no more among them
-abbrev pub invariant-loop-command : goal.invariant-loop-command
-invariant-loop-command g l = record {
+abbrev pub invariant-loop-at : goal.invariant-loop-at
+invariant-loop-at g l = record {
   served : IsServed l.life l.service l.client l.number l.desk;
-  count : l.number ≡ length (own_ops l.client (take l.command-index l.life.commands));
-  few : l.number ≤ l.command-index;
+  count : l.number ≡ length (own_ops l.client (take l.at l.life.commands));
+  few : l.number ≤ l.at;
 }
