@@ -50,13 +50,7 @@ impl<O: Object> Service<O> {
     }
 
     /// Enters an operation in the cell of the caller's next entry.
-    fn enter(
-        &self,
-        mut seat: Box<CallerSeat>,
-        cell: u32,
-        op: &[u64; 144],
-        tries: u64,
-    ) -> Submitted
+    fn enter(&self, mut seat: Box<CallerSeat>, cell: u32, op: &[u64; 144], tries: u64) -> Submitted
         requires caller { IsCallerOf self.now seat.value }
         requires cell { (cell ≡ length seat.value.known.local.own) × (cell < 16) }
         requires tries { 1 ≤ tries }

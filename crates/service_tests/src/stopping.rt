@@ -144,7 +144,10 @@ fn left_at(alloc: Global, base: &Base, limit: u64) -> Result<Left, AllocError>
     if answered {
         return Ok(Left::Answered);
     }
-    let durable = remains.published.first().map_or(0, |code| root_place(2, *code));
+    let durable = remains
+        .published
+        .first()
+        .map_or(0, |code| root_place(2, *code));
     Ok(Left::Stopped { linked, durable })
 }
 
@@ -167,11 +170,7 @@ fn a_stopped_caller_has_its_ticket(rt: HostRuntime) -> Result<(), Fail> {
         let Left::Stopped { linked, durable } = left_at(alloc, &base, limit)? else {
             break;
         };
-        let want = if limit < STEPS_TO_LINK {
-            None
-        } else {
-            Some(0)
-        };
+        let want = if limit < STEPS_TO_LINK { None } else { Some(0) };
         assert!(rt; linked == want, "at {limit}");
         raised = raised.wrapping_add(durable);
         limit = limit.wrapping_add(1);

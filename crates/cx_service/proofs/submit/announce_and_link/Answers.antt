@@ -23,7 +23,7 @@ returns-in_err-_cur-clause-halted g c =
     let steps = ap (λ (x : Seated). x.known.local.steps) halted.same in
     if_any_err c.from_residual.result
     (halts c.args.shared.now s t (ap beside_submit halted.same) (146 + 2 * c.args.tries) c.requires.caller (ap (λ (x : Seated). x.known.local.own) halted.same) (omega (arith, front)) (omega (arith, steps))
-        (subst (λ (x : Seated). IsAtLimit x.known.local) (sym halted.same) halted.limit))
+    (subst (λ (x : Seated). IsAtLimit x.known.local) (sym halted.same) halted.limit))
 
 pub announce-requires-clause-cell : goal.announce-requires-clause-cell
 announce-requires-clause-cell g c =
@@ -47,7 +47,7 @@ returns-in_err-announce-clause-halted g c =
     let caller = caller_then r 1 s (stale at) first c.requires.caller refl in
     if_any_err c.from_residual-in_err-announce.result
     (submits_then r 1 s (stale at) first c.args.op.now c.args.tries (145 + 2 * c.args.tries) (146 + 2 * c.args.tries) (Halted (unlinked t)) (omega arith)
-        (halted_in r c.args.cell (145 + 2 * c.args.tries) (next_number r.base at.known.local) c.args.op.now at t caller (omega arith) c.told-op c.in_err-announce.ensures.halted))
+    (halted_in r c.args.cell (145 + 2 * c.args.tries) (next_number r.base at.known.local) c.args.op.now at t caller (omega arith) c.told-op c.in_err-announce.ensures.halted))
 
 pub link-requires-clause-answered : goal.link-requires-clause-answered
 link-requires-clause-answered g c =
@@ -78,7 +78,7 @@ returns-clause-entered g c =
     let done = c.in_ok-announce.ensures.announced in
     IfOk-weaker c.link.result (Tried r.callers c.args.cell tries t v) (EntersIn (146 + 2 * tries) r op tries s v)
     (λ tried links. enters_then r 1 s (stale at) first op tries (145 + 2 * tries) (146 + 2 * tries) v tried (omega arith)
-        (entered r c.args.cell op (stale at) t caller next c.requires.cell.1 c.told-op done.cell done.others done.rest tries (145 + 2 * tries) v tried links done.allowed (omega (arith, done.most, c.link.ensures.steps))))
+    (entered r c.args.cell op (stale at) t caller next c.requires.cell.1 c.told-op done.cell done.others done.rest tries (145 + 2 * tries) v tried links done.allowed (omega (arith, done.most, c.link.ensures.steps))))
     c.link.ensures.tried
 
 pub returns-clause-halted : goal.returns-clause-halted
@@ -97,5 +97,5 @@ returns-clause-halted g c =
     let done = c.in_ok-announce.ensures.announced in
     on_err_weaker c.link.result
     (λ halted. submits_then r 1 s (stale at) first op tries (145 + 2 * tries) (146 + 2 * tries) (Halted (unlinked v)) (omega arith)
-        (halts_linking r c.args.cell op (stale at) t caller next c.requires.cell.1 c.told-op done.cell done.others done.rest v halted.0 (145 + 2 * tries) (omega (arith, done.most, c.link.ensures.steps)) halted.1))
+    (halts_linking r c.args.cell op (stale at) t caller next c.requires.cell.1 c.told-op done.cell done.others done.rest v halted.0 (145 + 2 * tries) (omega (arith, done.most, c.link.ensures.steps)) halted.1))
     c.link.ensures.halted
