@@ -1,16 +1,21 @@
 //! Words that are held back from a memory.
 
 ghost use Rattle.std.specs.Prelude.{◌≡◌, ◌+◌, ◌<◌, ◌≤◌, slice_index, slice_set};
-ghost use Rattle.write_buffer.specs.Buffering.{IsFree};
+ghost use Rattle.write_buffer.specs.Buffering.{AreHinted, IsFree};
+
+/// How many hints there are: as many words as 32 lines have, so that no hint is shared by words of other places in a line.
+const HINTS: u64 = 256;
 
 /// Words held back from a memory: the place of each, what the memory has there, and what it is to have. At most 128
-/// are held back.
+/// are held back. A hint that is not set says that no place of its remainder is among them, so that most places are not searched for.
 #[derive(Drop)]
 pub struct Held {
     pub count: usize,
     pub places: [u64; 128],
     pub found: [u64; 128],
     pub values: [u64; 128],
+    hints: [bool; 256],
+    ghost hinted: { AreHinted places count hints },
 }
 
 impl Held {
@@ -23,6 +28,7 @@ impl Held {
             places: [0; 128],
             found: [0; 128],
             values: [0; 128],
+            hints: [false; 256],
         }
     }
 
@@ -33,6 +39,9 @@ impl Held {
         ensures there { result < self.now.count → slice_index self.now.places result ≡ at }
         ensures free { result ≡ self.now.count → IsFree self.now.places self.now.count at }
     {
+        if !self.hints[(at % HINTS) as usize] {
+            return self.count;
+        }
         for i in 0..self.count {
             if self.places[i] == at {
                 return i;
@@ -53,6 +62,7 @@ impl Held {
         self.places[i] = at;
         self.found[i] = word;
         self.values[i] = word;
+        self.hints[(at % HINTS) as usize] = true;
         self.count = i + 1;
     }
 }
