@@ -17,7 +17,7 @@ subtract_learned-found-requires-clause-learns g c = λ words within.
     let known = known_of c.seat.inside.seat.me.0 in
     let can = subst (λ (s : Seated). CanRetire s.known.local.raised s.known.local.won) (sym c.seat.view_is) c.requires.guard in
     let holds : known.local.won ≡ Some (record { code = c.args.won.code; before = c.args.won.before }) =
-        subst (λ (s : Seated). s.known.local.won ≡ Some (record { code = c.args.won.code; before = c.args.won.before })) (sym c.seat.view_is) c.requires.won.holds in
+    subst (λ (s : Seated). s.known.local.won ≡ Some (record { code = c.args.won.code; before = c.args.won.before })) (sym c.seat.view_is) c.requires.won.holds in
     learns_shown (instance_at t g.O.Object.step g.O.Object.only_reads) Retire known words _ _ tt tt can
     (c.lock_at-word.ensures
     ∙ ap (λ (n : ℕ). lock_at c.self.inside.callers n) (c.from-r.ensures ∙ c.root_replica.ensures.value)
