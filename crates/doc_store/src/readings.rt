@@ -1,6 +1,6 @@
 //! The operations that only read, over words that stand for a store.
 
-ghost use Rattle.std.specs.Prelude.{◌≡◌, ◌≤◌, ◌<◌, ℕ, List, IfOk, OnErr, Some, length, replicate, slice_index, nat_le, ◌&&◌, true};
+ghost use Rattle.std.specs.Prelude.{◌≡◌, ◌≤◌, ◌<◌, ℕ, List, IfOk, OnErr, OnOk, Some, length, replicate, slice_index, nat_le, ◌&&◌, true};
 ghost use Rattle.std.specs.Option.{option_map_or};
 ghost use Rattle.cx_base.specs.Memory.{Always, Becomes, Framed, Reads};
 ghost use Rattle.cx_base.specs.Packing.{unpacked};
@@ -26,38 +26,41 @@ fn get<M: Memory, L: Ledger>(
     mem: &mut M,
     key: &Key,
     visits: &mut Steps<L>,
-) -> Result<[u64; 144], Halt>
+    reply: &mut [u64; 144],
+) -> Result<(), Halt>
     requires sized { IsPartLength (M.size mem.old) }
     requires lawful { Always (M.stands mem.old) IsIndex }
     requires key { key.now.len ≤ 64 }
-    ensures done { IfOk result (λ reply. Reads (M.stands mem.old) (M.stands mem.new)
-        (IsReplyBy (λ store. option_map_or TheDoc (meaning.document_at (unpacked key.now.len key.now.words) store) Absent) reply)) }
+    requires zero { reply.old ≡ replicate 144 0 }
+    ensures done { OnOk result (Reads (M.stands mem.old) (M.stands mem.new)
+        (IsReplyBy (λ store. option_map_or TheDoc (meaning.document_at (unpacked key.now.len key.now.words) store) Absent) reply.new)) }
     ensures kept { Becomes (M.stands mem.old) (M.stands mem.new) ◌≡◌ }
     ensures halts { OnErr result (M.left mem.new ≡ Some 0) }
     ensures framed { Framed M.size M.fixed M.writable M.left mem.old mem.new }
 {
     let found = find(mem, key, visits)?;
     match found {
-        None => Ok(reply_words(&Reply::Absent)),
-        Some(node) => document_reply(mem, node),
+        None => *reply = reply_words(&Reply::Absent),
+        Some(node) => document_reply(mem, node, reply)?,
     }
+    Ok(())
 }
 
-/// The words of the reply that is the document of a node, which is read where it stands in them.
-fn document_reply<M: Memory>(mem: &mut M, node: u64) -> Result<[u64; 144], Halt>
+/// Makes the reply that is the document of a node, which is read where it stands in the reply's words.
+fn document_reply<M: Memory>(mem: &mut M, node: u64, reply: &mut [u64; 144]) -> Result<(), Halt>
     requires sized { IsPartLength (M.size mem.old) }
     requires node { Always (M.stands mem.old) (λ ws. HasNode ws node) }
-    ensures done { IfOk result (λ reply. Reads (M.stands mem.old) (M.stands mem.new)
-        (λ ws. (pair : List ℕ × List ℕ) → IsNodeOf ws node pair → reply ≡ spec.reply_words (TheDoc pair.1))) }
+    requires zero { reply.old ≡ replicate 144 0 }
+    ensures done { OnOk result (Reads (M.stands mem.old) (M.stands mem.new)
+        (λ ws. (pair : List ℕ × List ℕ) → IsNodeOf ws node pair → reply.new ≡ spec.reply_words (TheDoc pair.1))) }
     ensures kept { Becomes (M.stands mem.old) (M.stands mem.new) ◌≡◌ }
     ensures halts { OnErr result (M.left mem.new ≡ Some 0) }
     ensures framed { Framed M.size M.fixed M.writable M.left mem.old mem.new }
 {
-    let mut reply = [0; 144];
     let len = read_document(mem, node, &mut reply[DOCUMENT_AT..])?;
     reply[KIND_AT] = 5;
     reply[DOCUMENT_LENGTH_AT] = len;
-    Ok(reply)
+    Ok(())
 }
 
 /// The least key above a key.
@@ -65,58 +68,64 @@ fn next<M: Memory, L: Ledger>(
     mem: &mut M,
     key: &Key,
     visits: &mut Steps<L>,
-) -> Result<[u64; 144], Halt>
+    reply: &mut [u64; 144],
+) -> Result<(), Halt>
     requires sized { IsPartLength (M.size mem.old) }
     requires lawful { Always (M.stands mem.old) IsIndex }
     requires key { key.now.len ≤ 64 }
-    ensures done { IfOk result (λ reply. Reads (M.stands mem.old) (M.stands mem.new)
-        (IsReplyBy (λ store. meaning.least_key (meaning.pairs_above (unpacked key.now.len key.now.words) store)) reply)) }
+    ensures done { OnOk result (Reads (M.stands mem.old) (M.stands mem.new)
+        (IsReplyBy (λ store. meaning.least_key (meaning.pairs_above (unpacked key.now.len key.now.words) store)) reply.new)) }
     ensures kept { Becomes (M.stands mem.old) (M.stands mem.new) ◌≡◌ }
     ensures halts { OnErr result (M.left mem.new ≡ Some 0) }
     ensures framed { Framed M.size M.fixed M.writable M.left mem.old mem.new }
 {
     let found = least_above(mem, key, visits)?;
     match found {
-        None => Ok(reply_words(&Reply::Absent)),
-        Some(least) => Ok(key_reply(&least)),
+        None => *reply = reply_words(&Reply::Absent),
+        Some(least) => *reply = key_reply(&least),
     }
+    Ok(())
 }
 
 /// The number of pairs.
-fn number<M: Memory>(mem: &mut M) -> Result<[u64; 144], Halt>
+fn number<M: Memory>(mem: &mut M, reply: &mut [u64; 144]) -> Result<(), Halt>
     requires sized { IsPartLength (M.size mem.old) }
     requires lawful { Always (M.stands mem.old) IsIndex }
-    ensures done { IfOk result (λ reply. Reads (M.stands mem.old) (M.stands mem.new)
-        (IsReplyBy (λ store. Number (length store)) reply)) }
+    ensures done { OnOk result (Reads (M.stands mem.old) (M.stands mem.new)
+        (IsReplyBy (λ store. Number (length store)) reply.new)) }
     ensures kept { Becomes (M.stands mem.old) (M.stands mem.new) ◌≡◌ }
     ensures halts { OnErr result (M.left mem.new ≡ Some 0) }
     ensures framed { Framed M.size M.fixed M.writable M.left mem.old mem.new }
 {
     let pairs = count(mem)?;
-    Ok(reply_words(&Reply::Number(pairs)))
+    *reply = reply_words(&Reply::Number(pairs));
+    Ok(())
 }
 
-/// The reply to an operation that only reads. `Halt` comes only where no access is left.
+/// The reply to an operation that only reads, in words that are 0: it is made where its caller has it, since a copy of its words costs
+/// as much as the walk. `Halt` comes only where no access is left.
 pub(crate) fn answer<M: Memory, L: Ledger>(
     mem: &mut M,
     op: &[u64; 144],
     visits: &mut Steps<L>,
-) -> Result<[u64; 144], Halt>
+    reply: &mut [u64; 144],
+) -> Result<(), Halt>
     requires sized { IsPartLength (M.size mem.old) }
     requires lawful { Always (M.stands mem.old) IsIndex }
     requires op { AreOfAnOp op.now }
+    requires zero { reply.old ≡ replicate 144 0 }
     requires reads { (nat_le 4 (slice_index op.now 0) && nat_le (slice_index op.now 0) 6) ≡ true }
-    ensures done { IfOk result (λ reply. Reads (M.stands mem.old) (M.stands mem.new)
-        (λ ws. (lines : ℕ) (o : Op) → IsOpOf op.now o → IsReplyBy (λ store. meaning.reply_to lines store o) reply ws)) }
+    ensures done { OnOk result (Reads (M.stands mem.old) (M.stands mem.new)
+        (λ ws. (lines : ℕ) (o : Op) → IsOpOf op.now o → IsReplyBy (λ store. meaning.reply_to lines store o) reply.new ws)) }
     ensures kept { Becomes (M.stands mem.old) (M.stands mem.new) ◌≡◌ }
     ensures halts { OnErr result (M.left mem.new ≡ Some 0) }
     ensures framed { Framed M.size M.fixed M.writable M.left mem.old mem.new }
 {
     let key = key_in(op);
     match op[KIND_AT] {
-        4 => get(mem, &key, visits),
-        5 => next(mem, &key, visits),
-        _ => number(mem),
+        4 => get(mem, &key, visits, reply),
+        5 => next(mem, &key, visits, reply),
+        _ => number(mem, reply),
     }
 }
 
@@ -140,5 +149,7 @@ pub(crate) fn answer_uncounted<M: Memory, L: Ledger>(
     ensures framed { Framed M.size M.fixed M.writable M.left mem.old mem.new }
 {
     let mut visits = Steps::<L>::open(blank);
-    answer(mem, op, &mut visits)
+    let mut reply = [0; 144];
+    answer(mem, op, &mut visits, &mut reply)?;
+    Ok(reply)
 }

@@ -147,7 +147,9 @@ fn step_uncounted<M: Memory, L: Ledger>(
 {
     let mut visits = Steps::<L>::open(blank);
     if is_reading(op[KIND_AT]) {
-        answer(mem, op, &mut visits)
+        let mut reply = [0; 144];
+        answer(mem, op, &mut visits, &mut reply)?;
+        Ok(reply)
     } else {
         change(mem, lines, op, &mut visits)
     }

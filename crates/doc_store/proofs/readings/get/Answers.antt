@@ -19,9 +19,7 @@ returns-in-None-clause-done g c =
     let key = unpacked c.args.key.now.len c.args.key.now.words in
     Reads-weaker c.in_ok-found.ensures.done (λ ws f. get_none ws key c.reply_words.result c.in_ok-found.found c.in-None.is c.reply_words.ensures f)
 
-pub returns-in-Some-clause-done : goal.returns-in-Some-clause-done
-returns-in-Some-clause-done g c =
+pub returns-in_ok-document_reply-in-Some-clause-done : goal.returns-in_ok-document_reply-in-Some-clause-done
+returns-in_ok-document_reply-in-Some-clause-done g c =
     let key = unpacked c.args.key.now.len c.args.key.now.words in
-    IfOk-weaker c.document_reply.result
-    (λ reply. Reads (g.M.Memory.stands c.find.new.mem) (g.M.Memory.stands c.document_reply.new.mem) (λ ws. (pair : List ℕ × List ℕ) → IsNodeOf ws c.in-Some.node pair → reply ≡ reply_words (Doc pair.1))) _
-    (λ reply r. Reads-then c.in_ok-found.ensures.done r (λ ws f d. get_some ws key reply c.in_ok-found.found c.in-Some.node c.in-Some.is f d)) c.document_reply.ensures.done
+    Reads-then c.in_ok-found.ensures.done c.in_ok-document_reply-in-Some.ensures.done (λ ws f d. get_some ws key c.document_reply.new.reply c.in_ok-found.found c.in-Some.node c.in-Some.is f d)
