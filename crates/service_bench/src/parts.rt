@@ -4,7 +4,7 @@ ghost use Rattle.std.specs.Prelude.{◌≡◌, ◌<◌, ◌≤◌, IfOk, IsTrue,
 ghost use Rattle.cx_core.specs.Base.{LawfulBase};
 ghost use Rattle.cx_rule.specs.Running.{IsSeatOf};
 ghost use Rattle.cx_service.specs.Callers.{IsCallerOf, IsLinkedOf};
-ghost use Rattle.cx_service.specs.Submits.{stale};
+ghost use Rattle.cx_service.proofs.Entering.{stale};
 ghost use Rattle.doc_store.specs.ExactStep.{IsImage};
 
 use crate::laps::{Laps, Part};

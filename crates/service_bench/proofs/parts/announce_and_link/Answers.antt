@@ -1,7 +1,7 @@
 use Rattle.std.proofs.Common.{◌+◌, arith, subst}
 use Rattle.mutation_queue.specs.Links.{Tried}
-use Rattle.cx_service.specs.Submits.{SubmitLinked, stale}
-use Rattle.cx_service.proofs.Entering.{linked_at}
+use Rattle.cx_service.specs.Submits.{SubmitLinked}
+use Rattle.cx_service.proofs.Entering.{linked_at, stale}
 use Rattle.service_bench.proofs.parts.announce_and_link.Given.{Over}
 use Rattle.service_bench.proofs.parts.announce_and_link.Goals as goal
 

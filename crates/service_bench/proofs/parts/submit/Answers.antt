@@ -1,7 +1,7 @@
 use Rattle.std.proofs.Common.{List, length, refl, ap, sym, ◌∙◌}
 use Rattle.cx_core.specs.declared.local.Linked.{Linked}
 use Rattle.cx_rule.specs.Running.{instance_at}
-use Rattle.cx_service.specs.Submits.{stale}
+use Rattle.cx_service.proofs.Entering.{stale}
 use Rattle.cx_service.proofs.Cells.{next_cell}
 use Rattle.cx_service.proofs.Looking.{Precedes, caller_then, cur_loaded}
 use Rattle.service_bench.proofs.parts.submit.Given.{Over}
