@@ -99,7 +99,7 @@ module _ {Key : Type 0} where
   }
 
   -- nothing is held back
-  pub held_none : {stands : Key → List ℕ → Type 0} (size : ℕ) (places found values : List ℕ) → length places ≡ 128 → length found ≡ 128 → length values ≡ 128 → IsHeld stands size 0 places found values
+  pub held_none : {stands : Key → List ℕ → Type 0} (size : ℕ) (places found values : List ℕ) → length places ≡ 192 → length found ≡ 192 → length values ≡ 192 → IsHeld stands size 0 places found values
   held_none size places found values p f v = record {
     few = omega arith;
     places_long = p;
@@ -112,7 +112,7 @@ module _ {Key : Type 0} where
   }
 
   -- one word more
-  pub held_more : {stands : Key → List ℕ → Type 0} (size count at x : ℕ) (places found values : List ℕ) → count < 128 → at < size → x < 2 ^ 64 → IsFree places count at → Always stands (λ u. slice_index u at ≡ x) →
+  pub held_more : {stands : Key → List ℕ → Type 0} (size count at x : ℕ) (places found values : List ℕ) → count < 192 → at < size → x < 2 ^ 64 → IsFree places count at → Always stands (λ u. slice_index u at ≡ x) →
       IsHeld stands size count places found values → IsHeld stands size (count + 1) (slice_set places count at) (slice_set found count x) (slice_set values count x)
   held_more size count at x places found values room inside fits free known h =
       let p : count < length places = (let e = h.places_long in omega (arith, e, room)) in
@@ -211,7 +211,7 @@ module _ {Key : Type 0} where
   }
 
   -- a load of a free word, which is held back from then on
-  pub shows_push : {old new : Key → List ℕ → Type 0} (size count at x : ℕ) (places found values : List ℕ) → count < 128 → IsHeld old size count places found values → IsFree places count at → Loaded at x old new →
+  pub shows_push : {old new : Key → List ℕ → Type 0} (size count at x : ℕ) (places found values : List ℕ) → count < 192 → IsHeld old size count places found values → IsFree places count at → Loaded at x old new →
       Loaded at x (Shows old size count places values) (Shows new size (count + 1) (slice_set places count at) (slice_set values count x))
   shows_push size count at x places found values room h free d =
       let p : count < length places = (let e = h.places_long in omega (arith, e, room)) in

@@ -30,10 +30,10 @@ pub record Covers (count : ℕ) (places values under now : List ℕ) : Type 0 wh
 
 -- The words held back of so many: each once, with what stands behind it.
 pub record IsHeld {Key : Type 0} (stands : Key → List ℕ → Type 0) (size count : ℕ) (places found values : List ℕ) : Type 0 where
-  pub few : count ≤ 128
-  pub places_long : length places ≡ 128
-  pub found_long : length found ≡ 128
-  pub values_long : length values ≡ 128
+  pub few : count ≤ 192
+  pub places_long : length places ≡ 192
+  pub found_long : length found ≡ 192
+  pub values_long : length values ≡ 192
   pub within : (i : ℕ) → i < count → slice_index places i < size
   pub small : (i : ℕ) → i < count → slice_index values i < 2 ^ 64
   pub apart : (i j : ℕ) → i < count → j < count → slice_index places i ≡ slice_index places j → i ≡ j

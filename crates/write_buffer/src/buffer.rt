@@ -66,7 +66,7 @@ impl<M: Memory> Memory for WriteBuffer<'_, M> {
         if i < self.held.count {
             return Ok(self.held.values[i]);
         }
-        if self.held.count == 128 || !is_buffered(at, self.line) {
+        if self.held.count == 192 || !is_buffered(at, self.line) {
             return Ok(word);
         }
         self.held.push(at, word);

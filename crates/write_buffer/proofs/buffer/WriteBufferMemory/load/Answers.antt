@@ -25,8 +25,8 @@ returns-clause-stands g c =
     let ge = c.if-i-self.false in
     let all : c.find-i.result ≡ h.count = omega (arith, within, ge) in
     let few = b.is.few in
-    let other : h.count ≢ 128 = c.if-self-eq128.false in
-    let room : h.count < 128 = omega (arith, few, other) in
+    let other : h.count ≢ 192 = c.if-self-eq192.false in
+    let room : h.count < 192 = omega (arith, few, other) in
     let x = c.in_ok-word.word in
     rw (c.push.ensures.count, c.push.ensures.places, c.push.ensures.values) (
     subst (λ n. Loaded c.args.at x (Shows (g.M.Memory.stands b.inner.now) size h.count h.places h.values) (Shows stands n (h.count + 1) (slice_set h.places h.count c.args.at) (slice_set h.values h.count x))) (sym c.in_ok-word.ensures.size)
