@@ -5,11 +5,12 @@ ghost use Rattle.cx_core.specs.declared.kinds.Kind.TheVariants.{WriteCell, Link,
 ghost use Rattle.cx_core.specs.Events.{Did};
 ghost use Rattle.cx_core.specs.Layout.{cell_count, link_at, replicas_at};
 ghost use Rattle.cx_core.specs.QueueEvents.{CanLink, IsIdle, next_number, exchanged, lost, ShowsOpen, ShowsTicket, cell_of, entry_in, linked, raised_front, seen_word};
+ghost use Rattle.cx_core.specs.RingEvents.{Protects};
 ghost use Rattle.cx_core.specs.State.{EachScene};
 
 use cx_base::{link_cell, link_code, link_ticket};
 use cx_core::layout::{CELL_WORDS, CELLS, FREE_AT, cell_at, cell_count, link_at};
-use cx_core::{Base, Entry, Linked, Local, OBJECT_START, SeenSlot, slot_start};
+use cx_core::{Base, Entry, Linked, Local, OBJECT_START, Protection, SeenSlot, slot_start};
 use std::alloc::AllocError;
 
 /// Whether a caller's cell may be written: it was never linked, or its ticket is below the greatest FREE found.
@@ -246,8 +247,19 @@ pub(crate) fn look(callers: u32, words: &[u64], local: &mut Local, s: u64) -> bo
     true
 }
 
-/// Loads a word of the cell that the slot last looked at shows with a ticket. The word found is no part of the local
-/// state.
+/// Whether a protection that is confirmed keeps a ticket.
+fn protects(protection: Protection, ticket: u64) -> bool
+    ensures { IsTrue result ↔ Protects ticket protection }
+{
+    match protection {
+        Protection::Unprotected => false,
+        Protection::Stated(_) => false,
+        Protection::Confirmed(p) => p <= ticket,
+    }
+}
+
+/// Loads a word of the cell that the slot last looked at shows with a ticket, which a confirmed protection has to keep. The word
+/// found is no part of the local state.
 pub(crate) fn read_cell(
     callers: u32,
     words: &[u64],
@@ -260,7 +272,11 @@ pub(crate) fn read_cell(
     requires few { callers ≤ 8 }
     ensures { (base : _) → EachScene callers base words.now (λ instance scene. Did result instance scene (ReadCell t k i) local.old local.new words.now) }
 {
-    if t >= local.front || i >= CELL_WORDS || !shows_ticket(callers, local.seen_slot, t, k) {
+    if t >= local.front
+        || i >= CELL_WORDS
+        || !shows_ticket(callers, local.seen_slot, t, k)
+        || !protects(local.protection, t)
+    {
         return false;
     }
     local.steps = local.steps.saturating_add(1);

@@ -71,7 +71,7 @@ fn two_callers_link(rt: HostRuntime) -> Result<(), Fail> {
     Ok(())
 }
 
-const LIMITS: [Row; 30] = [
+const LIMITS: [Row; 34] = [
     (
         0,
         Kind::WriteCell {
@@ -131,6 +131,11 @@ const LIMITS: [Row; 30] = [
     (0, Kind::Link { j: 1 }, false),
     (1, Kind::ReadCell { t: 0, k: 0, i: 0 }, false),
     (1, Kind::Look { s: 0 }, true),
+    // a word is read under a confirmed protection
+    (1, Kind::ReadCell { t: 0, k: 0, i: 144 }, false),
+    (1, Kind::Protect { p: 0 }, true),
+    (1, Kind::ReadCell { t: 0, k: 0, i: 144 }, false),
+    (1, Kind::Confirm, true),
     (1, Kind::ReadCell { t: 0, k: 0, i: 144 }, true),
     (1, Kind::ReadCell { t: 0, k: 0, i: 145 }, false),
     (1, Kind::ReadCell { t: 0, k: 1, i: 0 }, false),
@@ -170,19 +175,31 @@ fn three_announce(alloc: Global, board: &mut Board) -> Result<u64, AllocError> {
     Ok(allowed)
 }
 
-// A caller looks at a slot and reads words of the cell that it names: 13 steps.
-fn reads(alloc: Global, board: &mut Board, caller: u32, t: u64, k: u64) -> Result<u64, AllocError> {
+// A caller looks at a slot and reads so many words of the cell that it names. The steps that are allowed.
+fn reads(
+    alloc: Global,
+    board: &mut Board,
+    caller: u32,
+    t: u64,
+    k: u64,
+    words: u64,
+) -> Result<u64, AllocError> {
     let mut allowed = 0;
     if board.step(alloc, caller, Kind::Look { s: t })? {
         allowed = 1;
     }
-    for i in 0..12u64 {
+    for i in 0..words {
         let kind = Kind::ReadCell { t, k, i };
         if board.step(alloc, caller, kind)? && allowed < 13 {
             allowed += 1;
         }
     }
     Ok(allowed)
+}
+
+// A caller protects every ticket: 2 steps.
+fn protects_all(alloc: Global, board: &mut Board, caller: u32) -> Result<bool, AllocError> {
+    Ok(board.step(alloc, caller, Kind::Protect { p: 0 })? && board.step(alloc, caller, Kind::Confirm)?)
 }
 
 // Caller 2 is first and caller 1 second; caller 0 loses slot 0 and slot 1, and is third.
@@ -226,12 +243,15 @@ fn first_other(board: &Board) -> Option<usize> {
     None
 }
 
-// Each reads the entries of all three tickets, which stand in cells 32, 16 and 0: 117 steps. The first caller and ticket of which
-// not all steps are allowed.
+// Each protects the tickets and reads words of the entries of all three, which stand in cells 32, 16 and 0: 117 steps. The first
+// caller and ticket of which not all steps are allowed.
 fn first_reader(alloc: Global, board: &mut Board) -> Result<Option<(u32, u64)>, AllocError> {
     for caller in 0..3 {
-        for (t, k) in [(0, 32), (1, 16), (2, 0)] {
-            if reads(alloc, board, caller, t, k)? != 13 {
+        if !protects_all(alloc, board, caller)? {
+            return Ok(Some((caller, 0)));
+        }
+        for (t, k, words) in [(0, 32, 12), (1, 16, 12), (2, 0, 10)] {
+            if reads(alloc, board, caller, t, k, words)? != words + 1 {
                 return Ok(Some((caller, t)));
             }
         }

@@ -15,7 +15,7 @@ use Rattle.cx_core.specs.Merge.{scene_of}
 use Rattle.cx_core.specs.QueueEvents.{CanLink, IsIdle, ShowsTicket, exchanged, linked, lost, raised_front, seen_word, written}
 use Rattle.cx_core.specs.RegionEvents.{CanLoadAs, CanPersist, CanStore, loaded_by, persisted, stored_into}
 use Rattle.cx_core.specs.Rights.{held_words}
-use Rattle.cx_core.specs.RingEvents.{CanClose, IsNext, IsProtected, IsStated, IsUnprotected, bound_in, closing, confirmed, opened, scanned, stated}
+use Rattle.cx_core.specs.RingEvents.{CanClose, IsNext, IsProtected, IsStated, IsUnprotected, Protects, bound_in, closing, confirmed, opened, scanned, stated}
 use Rattle.cx_core.specs.RootEvents.{CanPublish, CanRaise, CanRetire, before_in, code_in, loaded_cur, outrun, published, raised_by}
 use Rattle.cx_core.specs.State.{Instance, Scene, State, one_more}
 
@@ -24,7 +24,7 @@ abbrev pub Guard : Instance → Scene → Kind → Local → Type 0
 Guard instance scene (WriteCell j i v) l = (j < 16) × (i < 145) × IsIdle l j × (v < 2 ^ 64)
 Guard instance scene (Link j) l = CanLink instance.callers instance.base l j
 Guard instance scene (Look s) l = s < cell_count instance.callers
-Guard instance scene (ReadCell t k i) l = (t < l.front) × (i < 145) × ShowsTicket instance.callers l.seen_slot t k
+Guard instance scene (ReadCell t k i) l = (t < l.front) × (i < 145) × ShowsTicket instance.callers l.seen_slot t k × Protects t l.protection
 Guard instance scene LoadFree l = Unit {0}
 Guard instance scene (TryExclusive r) l = CanTryExclusive instance.callers r l
 Guard instance scene (TryShared r) l = CanTryShared instance.callers r l

@@ -117,7 +117,7 @@ learns_of instance kind known words word new fits at sees locals law l of_caller
       new_is = seen.new_is;
       shows = seen.shows ∙ ap (λ (n : ℕ). shown (next instance scene kind l n)) (sym same);
       notes = notes-append instance law.history known.noted (noted_by kind found) noted
-          (subst (λ (n : ℕ). NotesHold instance law.history (noted_by kind n)) same (noted_hold instance kind state law caller l of_caller seen.guard still));
+          (subst (λ (n : ℕ). NotesHold instance law.history (noted_by kind n)) same (noted_hold instance kind state law caller l of_caller seen.guard));
       traced = subst (λ (n : ℕ). IsTraced instance law.history (accesses_after kind known n) (local_after instance scene kind l)) same
           (traced_next instance state law caller l of_caller known shows traced full kind seen.guard fits);
       fits = fits;
@@ -194,7 +194,7 @@ event_teaches instance kind s id known word new held view learns =
     let leaves = event_leaves instance kind s id known (known_after instance kind known found) word new held view learns in
     let state : State = record { words = s.words; locals = held.locals } in
     let learnt = learns held.locals held.law l mine.of_caller mine.shows mine.notes mine.traced held.still held.some in
-    let told = told_holds instance kind state held.law known.local.number l mine.of_caller learnt.guard held.still in
+    let told = told_holds instance kind state held.law known.local.number l mine.of_caller learnt.guard in
     let here : step_word instance kind l ≡ word = sym learnt.word_is in
     record {
       knows = refl;

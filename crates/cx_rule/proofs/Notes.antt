@@ -14,10 +14,9 @@ use Rattle.cx_core.specs.State.{Instance, State}
 use Rattle.core_queue.proofs.LiveLaws.{read_gives}
 use Rattle.cx_core.proofs.Locals.{linked_below}
 use Rattle.cx_rule.specs.declared.rule.Noted.{Noted}
-use Rattle.cx_rule.specs.Rule.{IsOfEntry, NotesHold, StandStill}
+use Rattle.cx_rule.specs.Rule.{IsOfEntry, NotesHold}
 use Rattle.cx_rule.specs.Seats.{noted_by}
-use Rattle.cx_rule.proofs.Still.{free_stands}
-use Rattle.cx_rule.proofs.Telling.{cell_of_entry}
+use Rattle.cx_rule.proofs.Telling.{cell_of_entry, guard_live}
 
 -- an item of two lists is one of the first or of the second
 pub slice_get-append : {X : Type 0} (xs ys : List X) (i : ℕ) (x : X) → slice_get (xs ++ ys) i ≡ Some x → (slice_get xs i ≡ Some x) ⊎ ((k : ℕ) × (slice_get ys k ≡ Some x))
@@ -43,22 +42,22 @@ notes_still instance history history' notes grows hold n noted at from =
     record { entry = was.entry; linked = grows noted.ticket was.entry was.linked; caller = was.caller; word = was.word }
 
 -- a word that was read is the entry's
-read_noted : (instance : Instance) (s : State) (law : Lawful instance s) (caller : ℕ) (l : Local) (t k i : ℕ) → slice_get s.locals caller ≡ Some l → Guard instance (scene_of instance s) (ReadCell t k i) l → StandStill instance s.words →
+read_noted : (instance : Instance) (s : State) (law : Lawful instance s) (caller : ℕ) (l : Local) (t k i : ℕ) → slice_get s.locals caller ≡ Some l → Guard instance (scene_of instance s) (ReadCell t k i) l →
     NotesHold instance law.history (record { ticket = t; caller = k / 16; index = i; word = slice_index s.words (cell_at instance.callers k i) } ∷ [])
-read_noted instance s law caller l t k i at guard still n noted there from =
+read_noted instance s law caller l t k i at guard n noted there from =
     let new : Noted = record { ticket = t; caller = k / 16; index = i; word = slice_index s.words (cell_at instance.callers k i) } in
     let is : new ≡ noted = first_of new n noted there in
     let behind = law.fronts.each caller l at in
     let ticket : instance.base.place ≤ t = subst (λ (x : Noted). instance.base.place ≤ x.ticket) (sym is) from in
-    let free = free_stands instance s.words still in
+    let free = guard_live instance s law caller l t k i at guard in
     let below = guard.0 in
     let to = behind.to in
     let linked = linked_below instance.base.place law.history t ticket (omega arith) in
     subst (IsOfEntry instance law.history) is (record {
       entry = linked.0;
       linked = linked.1;
-      caller = cell_of_entry instance s law caller l t k i at guard (subst (λ f. f ≤ t) (sym free) ticket) linked.0 linked.1;
-      word = sym (read_gives instance s law caller l t k i at guard (subst (λ f. f ≤ t) (sym free) ticket) linked.0 linked.1);
+      caller = cell_of_entry instance s law caller l t k i at guard free linked.0 linked.1;
+      word = sym (read_gives instance s law caller l t k i at guard free linked.0 linked.1);
     })
   where
     first_of : (x : Noted) (n : ℕ) (y : Noted) → slice_get (x ∷ []) n ≡ Some y → x ≡ y
@@ -66,28 +65,28 @@ read_noted instance s law caller l t k i at guard still n noted there from =
     first_of x (suc n) y at = absurd (none-some y at)
 
 -- the words that a step notes are the history's
-pub noted_hold : (instance : Instance) (kind : Kind) (s : State) (law : Lawful instance s) (caller : ℕ) (l : Local) → slice_get s.locals caller ≡ Some l → Guard instance (scene_of instance s) kind l → StandStill instance s.words →
+pub noted_hold : (instance : Instance) (kind : Kind) (s : State) (law : Lawful instance s) (caller : ℕ) (l : Local) → slice_get s.locals caller ≡ Some l → Guard instance (scene_of instance s) kind l →
     NotesHold instance law.history (noted_by kind (found_by instance kind l s.words))
-noted_hold instance (ReadCell t k i) s law caller l at guard still = read_noted instance s law caller l t k i at guard still
-noted_hold instance (WriteCell j i v) s law caller l at guard still = no_notes instance law.history
-noted_hold instance (Link j) s law caller l at guard still = no_notes instance law.history
-noted_hold instance (Look t) s law caller l at guard still = no_notes instance law.history
-noted_hold instance LoadFree s law caller l at guard still = no_notes instance law.history
-noted_hold instance (TryExclusive r) s law caller l at guard still = no_notes instance law.history
-noted_hold instance (TryShared r) s law caller l at guard still = no_notes instance law.history
-noted_hold instance (BackOff r) s law caller l at guard still = no_notes instance law.history
-noted_hold instance (Downgrade r) s law caller l at guard still = no_notes instance law.history
-noted_hold instance (ReleaseExclusive r) s law caller l at guard still = no_notes instance law.history
-noted_hold instance (LoadWord r i refused) s law caller l at guard still = no_notes instance law.history
-noted_hold instance (StoreWord r i v) s law caller l at guard still = no_notes instance law.history
-noted_hold instance (Persist r i) s law caller l at guard still = no_notes instance law.history
-noted_hold instance LoadCur s law caller l at guard still = no_notes instance law.history
-noted_hold instance Publish s law caller l at guard still = no_notes instance law.history
-noted_hold instance (Raise code read) s law caller l at guard still = no_notes instance law.history
-noted_hold instance Retire s law caller l at guard still = no_notes instance law.history
-noted_hold instance (Protect p) s law caller l at guard still = no_notes instance law.history
-noted_hold instance Confirm s law caller l at guard still = no_notes instance law.history
-noted_hold instance Unprotect s law caller l at guard still = no_notes instance law.history
-noted_hold instance (CloseLow target) s law caller l at guard still = no_notes instance law.history
-noted_hold instance (Scan d) s law caller l at guard still = no_notes instance law.history
-noted_hold instance OpenFree s law caller l at guard still = no_notes instance law.history
+noted_hold instance (ReadCell t k i) s law caller l at guard = read_noted instance s law caller l t k i at guard
+noted_hold instance (WriteCell j i v) s law caller l at guard = no_notes instance law.history
+noted_hold instance (Link j) s law caller l at guard = no_notes instance law.history
+noted_hold instance (Look t) s law caller l at guard = no_notes instance law.history
+noted_hold instance LoadFree s law caller l at guard = no_notes instance law.history
+noted_hold instance (TryExclusive r) s law caller l at guard = no_notes instance law.history
+noted_hold instance (TryShared r) s law caller l at guard = no_notes instance law.history
+noted_hold instance (BackOff r) s law caller l at guard = no_notes instance law.history
+noted_hold instance (Downgrade r) s law caller l at guard = no_notes instance law.history
+noted_hold instance (ReleaseExclusive r) s law caller l at guard = no_notes instance law.history
+noted_hold instance (LoadWord r i refused) s law caller l at guard = no_notes instance law.history
+noted_hold instance (StoreWord r i v) s law caller l at guard = no_notes instance law.history
+noted_hold instance (Persist r i) s law caller l at guard = no_notes instance law.history
+noted_hold instance LoadCur s law caller l at guard = no_notes instance law.history
+noted_hold instance Publish s law caller l at guard = no_notes instance law.history
+noted_hold instance (Raise code read) s law caller l at guard = no_notes instance law.history
+noted_hold instance Retire s law caller l at guard = no_notes instance law.history
+noted_hold instance (Protect p) s law caller l at guard = no_notes instance law.history
+noted_hold instance Confirm s law caller l at guard = no_notes instance law.history
+noted_hold instance Unprotect s law caller l at guard = no_notes instance law.history
+noted_hold instance (CloseLow target) s law caller l at guard = no_notes instance law.history
+noted_hold instance (Scan d) s law caller l at guard = no_notes instance law.history
+noted_hold instance OpenFree s law caller l at guard = no_notes instance law.history

@@ -227,7 +227,7 @@ put_shown instance OpenFree l found by = refl
 -- what the rule says of the word found
 pub told_shown : (instance : Instance) (kind : Kind) (l : Local) (found : ℕ) → Told instance kind l found → Told instance kind (shown l) found
 told_shown instance (Link j) l found told = record { names = told.names; later = told.later }
-told_shown instance (Look s) l found told = record { names = told.names; live = told.live }
+told_shown instance (Look s) l found told = record { names = told.names; greatest = told.greatest; live = told.live }
 told_shown instance (WriteCell j i v) l found told = tt
 told_shown instance (ReadCell t k i) l found told = tt
 told_shown instance LoadFree l found told = told
@@ -244,11 +244,11 @@ told_shown instance Publish l found told = told
 told_shown instance (Raise code read) l found told = tt
 told_shown instance Retire l found told = tt
 told_shown instance (Protect p) l found told = tt
-told_shown instance Confirm l found told = tt
+told_shown instance Confirm l found told = told
 told_shown instance Unprotect l found told = tt
 told_shown instance (CloseLow target) l found told = tt
-told_shown instance (Scan d) l found told = tt
-told_shown instance OpenFree l found told = tt
+told_shown instance (Scan d) l found told = told
+told_shown instance OpenFree l found told = told
 
 -- the rights of a local state are those of what is shown of it
 shown_rights : (l : Local) → SameRights l (shown l)

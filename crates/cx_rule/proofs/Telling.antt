@@ -1,5 +1,5 @@
 -- What the rule of the table says of the word that a step found.
-use Rattle.std.proofs.Common.{◌≡◌, ◌+◌, ◌-◌, ◌*◌, ◌/◌, ◌%◌, ◌<◌, ◌≤◌, ℕ, slice_index, refl, ap, sym, subst, ◌∙◌, arith, Option, Some, None}
+use Rattle.std.proofs.Common.{◌≡◌, ◌+◌, ◌-◌, ◌*◌, ◌/◌, ◌%◌, ◌<◌, ◌≤◌, ⊎_elim, inl, inr, ℕ, slice_index, refl, ap, sym, subst, ◌∙◌, arith, Option, Some, None}
 use Rattle.std.proofs.lemmas.Nat.{div-mul-add, mod-mul-add, mod_below}
 use Rattle.std.specs.List.{slice_get}
 use Rattle.cx_base.specs.Codes.{link_cell_of, link_code_of, link_ticket_of}
@@ -8,21 +8,22 @@ use Rattle.cx_core.specs.declared.kinds.Kind.{Kind}
 use Rattle.cx_core.specs.declared.kinds.Kind.TheVariants.{WriteCell, Link, Look, ReadCell, LoadFree, TryExclusive, TryShared, BackOff, Downgrade, ReleaseExclusive, LoadWord, StoreWord, Persist, LoadCur, Publish, Raise, Retire, Protect, Confirm, Unprotect, CloseLow, Scan, OpenFree}
 use Rattle.cx_core.specs.declared.local.Local.{Local}
 use Rattle.cx_core.specs.declared.local.SeenSlot.{SeenSlot}
+use Rattle.cx_core.specs.declared.local.Protection.{Protection}
+use Rattle.cx_core.specs.declared.local.Protection.TheVariants.{Unprotected, Stated, Confirmed}
 use Rattle.cx_core.specs.Events.{Guard, found_by}
 use Rattle.cx_core.specs.QueueEvents.{ShowsOpen, ShowsTicket, seen_word}
-use Rattle.cx_core.specs.Layout.{cell_count, free_at, link_at}
+use Rattle.cx_core.specs.Layout.{cell_count, free_at, link_at, need_at}
 use Rattle.cx_core.specs.Lawful.{Lawful, LinkWord}
 use Rattle.cx_core.specs.Lawful.LinkWord.{Never, Names}
 use Rattle.cx_core.specs.Merge.{IsLinked, scene_of}
+use Rattle.cx_core.specs.RingEvents.{Protects, need_word}
 use Rattle.cx_core.specs.State.{Instance, State}
 use Rattle.core_queue.proofs.CellLinks.{names_small}
 use Rattle.core_queue.proofs.Keeps.{linked_callers}
 use Rattle.core_queue.proofs.LinkLaws.{code_ticket}
 use Rattle.core_queue.proofs.QueueFrames.{queue_of}
 use Rattle.cx_core.proofs.Locals.{linked_below}
-use Rattle.cx_rule.specs.Rule.{StandStill}
 use Rattle.cx_rule.specs.Told.{LinkTold, LookTold, NamesTicket, Told}
-use Rattle.cx_rule.proofs.Still.{free_stands}
 
 -- the slot that a guard speaks of was seen
 ticket_seen : (callers : ℕ) (seen : Option SeenSlot) (ticket cell : ℕ) → ShowsTicket callers seen ticket cell → (x : SeenSlot) × (seen ≡ Some x) × ShowsTicket callers (Some x) ticket cell
@@ -75,62 +76,100 @@ names_ticket instance s law slot word (Names ticket entry j greatest below is) a
       cell = mod_below (word - 1) (cell_count instance.callers) (omega arith);
     }
 
-look_told : (instance : Instance) (s : State) (law : Lawful instance s) (caller : ℕ) (l : Local) (slot : ℕ) → slice_get s.locals caller ≡ Some l → slot < cell_count instance.callers → StandStill instance s.words →
+-- FREE is at most a ticket that a caller's confirmed protection keeps
+kept_free : (free ticket : ℕ) (o : Protection) → ((p : ℕ) → o ≡ Confirmed p → free ≤ p) → Protects ticket o → free ≤ ticket
+kept_free free ticket Unprotected kept protects = absurd protects
+kept_free free ticket (Stated p) kept protects = absurd protects
+kept_free free ticket (Confirmed p) kept protects = (let above = kept p refl in omega (arith, above, protects))
+
+-- a cell is read for a ticket at or above FREE
+pub guard_live : (instance : Instance) (s : State) (law : Lawful instance s) (caller : ℕ) (l : Local) (t k i : ℕ) → slice_get s.locals caller ≡ Some l → Guard instance (scene_of instance s) (ReadCell t k i) l →
+    slice_index s.words free_at ≤ t
+guard_live instance s law caller l t k i at guard = kept_free (slice_index s.words free_at) t l.protection (law.ring.each caller l at).kept guard.3
+
+-- where a slot has a linked ticket, its word names one that is at least as late
+greatest_named : (instance : Instance) (s : State) (law : Lawful instance s) (slot word t : ℕ) (e : Entry) → LinkWord instance law.history slot word → IsLinked instance.base.place law.history t e → t % cell_count instance.callers ≡ slot →
+    (0 < word) × (t ≤ link_ticket_of instance.callers word)
+greatest_named instance s law slot word t e (Never none zero) linked is_slot = absurd (none t e linked is_slot)
+greatest_named instance s law slot word t e (Names ticket entry j greatest below is) linked is_slot =
+    let by = linked_callers instance law.history s.words s.locals (queue_of law) ticket entry greatest.linked in
+    let within : 16 * entry.caller + j < 16 * instance.callers = omega (arith, by, below) in
+    let same : link_ticket_of instance.callers word ≡ ticket = ap (link_ticket_of instance.callers) is ∙ code_ticket instance.callers ticket (16 * entry.caller + j) within in
+    let least = greatest.greatest t e linked is_slot in
+    (omega (arith, is), omega (arith, same, least))
+
+look_told : (instance : Instance) (s : State) (law : Lawful instance s) (caller : ℕ) (l : Local) (slot : ℕ) → slice_get s.locals caller ≡ Some l → slot < cell_count instance.callers →
     LookTold instance slot l (slice_index s.words (link_at instance.callers slot))
-look_told instance s law caller l slot at below still = record {
+look_told instance s law caller l slot at below = record {
   names = names_ticket instance s law slot (slice_index s.words (link_at instance.callers slot)) (law.links.each slot below);
-  live = λ t from before is_slot. (
-      let to = (law.fronts.each caller l at).to in
-      let linked = linked_below instance.base.place law.history t from (omega arith) in
-      let free = free_stands instance s.words still in
-      let held = held_word instance s law t linked.0 (omega arith) linked.1 in
+  greatest = λ t from before is_slot. (
+      let linked = linked_at t from before in
+      greatest_named instance s law slot (slice_index s.words (link_at instance.callers slot)) t linked.0 (law.links.each slot below) linked.1 is_slot);
+  live = λ t from before is_slot protects. (
+      let linked = linked_at t from before in
+      let free = kept_free (slice_index s.words free_at) t l.protection (law.ring.each caller l at).kept protects in
+      let held = held_word instance s law t linked.0 free linked.1 in
       let cell = 16 * linked.0.caller + held.0 in
       let word : slice_index s.words (link_at instance.callers slot) ≡ link_code_of instance.callers t cell = ap (λ n. slice_index s.words (link_at instance.callers n)) (sym is_slot) ∙ held.2 in
       (omega (arith, word), ap (link_ticket_of instance.callers) word ∙ code_ticket instance.callers t cell held.3));
 }
+  where
+    linked_at : (t : ℕ) → instance.base.place ≤ t → t < l.front → (e : Entry) × IsLinked instance.base.place law.history t e
+    linked_at t from before = (let to = (law.fronts.each caller l at).to in linked_below instance.base.place law.history t from (omega arith))
 
-link_told : (instance : Instance) (s : State) (law : Lawful instance s) (caller : ℕ) (l : Local) → slice_get s.locals caller ≡ Some l → ShowsOpen instance.callers l.seen_slot l.front → StandStill instance s.words →
+link_told : (instance : Instance) (s : State) (law : Lawful instance s) (caller : ℕ) (l : Local) → slice_get s.locals caller ≡ Some l → ShowsOpen instance.callers l.seen_slot l.front →
     LinkTold instance l (slice_index s.words (link_at instance.callers (l.front % cell_count instance.callers)))
-link_told instance s law caller l at shows still =
+link_told instance s law caller l at shows =
     let one = law.shape.some in
     let q = cell_count instance.callers in
     let slot = l.front % q in
     let below : slot < q = mod_below l.front q (omega arith) in
     record {
       names = names_ticket instance s law slot (slice_index s.words (link_at instance.callers slot)) (law.links.each slot below);
-      later = λ above from apart. (
+      later = λ above apart. (
           let seen = open_seen instance.callers l.seen_slot l.front shows in
           let x = seen.0 in
           let word : seen_word l.seen_slot ≡ x.word = ap seen_word seen.1 in
-          let free = free_stands instance s.words still in
-          let live : slice_index s.words free_at ≤ link_ticket_of instance.callers x.word = subst (λ w. slice_index s.words free_at ≤ link_ticket_of instance.callers w) word (omega (arith, free, from)) in
-          let there = (law.cells.seen caller l at x seen.1).stands (subst (λ w. 0 < w) word above) live in
-          absurd (apart (ap (λ n. slice_index s.words (link_at instance.callers n)) (sym seen.2) ∙ there ∙ sym word)));
+          let here : link_at instance.callers slot ≡ link_at instance.callers x.slot = ap (link_at instance.callers) (sym seen.2) in
+          let found = λ (at_slot : ℕ). slice_index s.words at_slot in
+          elim ((law.cells.seen caller l at x seen.1).later (subst (λ w. 0 < w) word above)) [
+            | inl there ↦ absurd (apart (ap found here ∙ there ∙ sym word))
+            | inr past ↦ (
+                subst (λ n. 0 < n) (sym (ap found here)) past.0,
+                subst (λ n. link_ticket_of instance.callers (seen_word l.seen_slot) < link_ticket_of instance.callers n) (sym (ap found here))
+                (subst (λ w. link_ticket_of instance.callers w < link_ticket_of instance.callers (found (link_at instance.callers x.slot))) (sym word) past.1))
+          ]);
     }
 
+-- the word of the caller's own need
+own_need : (instance : Instance) (s : State) (law : Lawful instance s) (caller : ℕ) (l : Local) (d : ℕ) → slice_get s.locals caller ≡ Some l → d ≡ l.number → slice_index s.words (need_at d) ≡ need_word l.protection
+own_need instance s law caller l d at own =
+    let number = (law.shape.each caller l at).number in
+    ap (λ c. slice_index s.words (need_at c)) (own ∙ number) ∙ (law.ring.each caller l at).need
+
 -- what a step tells of the word found
-pub told_holds : (instance : Instance) (kind : Kind) (s : State) (law : Lawful instance s) (caller : ℕ) (l : Local) → slice_get s.locals caller ≡ Some l → Guard instance (scene_of instance s) kind l → StandStill instance s.words →
+pub told_holds : (instance : Instance) (kind : Kind) (s : State) (law : Lawful instance s) (caller : ℕ) (l : Local) → slice_get s.locals caller ≡ Some l → Guard instance (scene_of instance s) kind l →
     Told instance kind l (found_by instance kind l s.words)
-told_holds instance (WriteCell j i v) s law caller l at guard still = tt
-told_holds instance (Link j) s law caller l at guard still = link_told instance s law caller l at guard.4 still
-told_holds instance (Look slot) s law caller l at guard still = look_told instance s law caller l slot at guard still
-told_holds instance (ReadCell t k i) s law caller l at guard still = tt
-told_holds instance LoadFree s law caller l at guard still = free_stands instance s.words still
-told_holds instance (TryExclusive r) s law caller l at guard still = tt
-told_holds instance (TryShared r) s law caller l at guard still = tt
-told_holds instance (BackOff r) s law caller l at guard still = tt
-told_holds instance (Downgrade r) s law caller l at guard still = tt
-told_holds instance (ReleaseExclusive r) s law caller l at guard still = tt
-told_holds instance (LoadWord r i refused) s law caller l at guard still = tt
-told_holds instance (StoreWord r i v) s law caller l at guard still = tt
-told_holds instance (Persist r i) s law caller l at guard still = tt
-told_holds instance LoadCur s law caller l at guard still = (law.root.each caller l at).seen.most
-told_holds instance Publish s law caller l at guard still = (law.root.each caller l at).seen.most
-told_holds instance (Raise code read) s law caller l at guard still = tt
-told_holds instance Retire s law caller l at guard still = tt
-told_holds instance (Protect p) s law caller l at guard still = tt
-told_holds instance Confirm s law caller l at guard still = tt
-told_holds instance Unprotect s law caller l at guard still = tt
-told_holds instance (CloseLow target) s law caller l at guard still = tt
-told_holds instance (Scan d) s law caller l at guard still = tt
-told_holds instance OpenFree s law caller l at guard still = tt
+told_holds instance (WriteCell j i v) s law caller l at guard = tt
+told_holds instance (Link j) s law caller l at guard = link_told instance s law caller l at guard.4
+told_holds instance (Look slot) s law caller l at guard = look_told instance s law caller l slot at guard
+told_holds instance (ReadCell t k i) s law caller l at guard = tt
+told_holds instance LoadFree s law caller l at guard = (law.fronts.each caller l at).free
+told_holds instance (TryExclusive r) s law caller l at guard = tt
+told_holds instance (TryShared r) s law caller l at guard = tt
+told_holds instance (BackOff r) s law caller l at guard = tt
+told_holds instance (Downgrade r) s law caller l at guard = tt
+told_holds instance (ReleaseExclusive r) s law caller l at guard = tt
+told_holds instance (LoadWord r i refused) s law caller l at guard = tt
+told_holds instance (StoreWord r i v) s law caller l at guard = tt
+told_holds instance (Persist r i) s law caller l at guard = tt
+told_holds instance LoadCur s law caller l at guard = (law.root.each caller l at).seen.most
+told_holds instance Publish s law caller l at guard = (law.root.each caller l at).seen.most
+told_holds instance (Raise code read) s law caller l at guard = tt
+told_holds instance Retire s law caller l at guard = tt
+told_holds instance (Protect p) s law caller l at guard = tt
+told_holds instance Confirm s law caller l at guard = (law.fronts.each caller l at).low
+told_holds instance Unprotect s law caller l at guard = tt
+told_holds instance (CloseLow target) s law caller l at guard = tt
+told_holds instance (Scan d) s law caller l at guard = own_need instance s law caller l d at
+told_holds instance OpenFree s law caller l at guard = (law.fronts.each caller l at).free

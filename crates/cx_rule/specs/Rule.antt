@@ -17,7 +17,7 @@ use Rattle.cx_core.specs.declared.local.SeenRead.{SeenRead}
 use Rattle.cx_core.specs.History.{full_image}
 use Rattle.cx_core.specs.Lawful.{Lawful, LocalShape, OwnTickets}
 use Rattle.cx_core.specs.LawfulLocks.{FewRights}
-use Rattle.cx_core.specs.Layout.{lock_at, low_at, offer_at, replicas_at}
+use Rattle.cx_core.specs.Layout.{offer_at, replicas_at}
 use Rattle.cx_core.specs.Merge.{IsLinked}
 use Rattle.cx_core.specs.Region.{place_of, slot_number}
 use Rattle.cx_core.specs.Shown.{shown}
@@ -101,11 +101,10 @@ pub record IsBehindNotes (instance : Instance) (known : Known) : Type 0 where
   pub leads : NotesLead known.accesses first now
   pub shared : (h : HeldShared) → known.local.shared ≡ Some h → (words : List ℕ) × IsOrigin instance history words × NotesLead (loads_of h.loaded) words words
 
--- the words that no step call changes yet stay as they were opened: those from LOW on in front of the locks, and those of offers
--- and sets
+-- the words that no step call changes stay as they were opened: those of offers and sets
 abbrev pub StandStill : Instance → List ℕ → Type 0
 StandStill instance words =
-    (at : ℕ) → ((low_at ≤ at) × (at < lock_at instance.callers 0)) ⊎ ((offer_at instance.callers 0 ≤ at) × (at < replicas_at instance.callers)) →
+    (at : ℕ) → (offer_at instance.callers 0 ≤ at) × (at < replicas_at instance.callers) →
     slice_index words at ≡ slice_index (opening_words instance.callers instance.base) at
 
 pub record RuleHolds (instance : Instance) (s : atomic.State ℕ (List Known)) : Type 0 where

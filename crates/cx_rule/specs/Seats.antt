@@ -6,7 +6,7 @@ use Rattle.atomic_table.specs.Seated.{TableId}
 use Rattle.cx_core.specs.declared.kinds.Kind.{Kind}
 use Rattle.cx_base.specs.Codes.{root_place_of}
 use Rattle.cx_base.specs.Noted.{Note}
-use Rattle.cx_core.specs.declared.kinds.Kind.TheVariants.{WriteCell, ReadCell, TryExclusive, Downgrade, ReleaseExclusive, LoadWord, StoreWord, Persist, Raise, Protect, Confirm, Unprotect, CloseLow, Scan, OpenFree}
+use Rattle.cx_core.specs.declared.kinds.Kind.TheVariants.{WriteCell, ReadCell, TryExclusive, Downgrade, ReleaseExclusive, LoadWord, StoreWord, Persist, Raise}
 use Rattle.cx_core.specs.declared.local.Cell.{Cell}
 use Rattle.cx_core.specs.declared.local.Linked.{Linked}
 use Rattle.cx_core.specs.declared.local.Local.{Local}
@@ -43,17 +43,10 @@ SeenGuard instance (ReleaseExclusive r) l = IsClean instance.callers r l
 SeenGuard instance (LoadWord r i refused) l = CanLoad instance.callers (length instance.base.words) r i l
 SeenGuard instance kind l = Guard instance unseen kind l
 
--- What the rule asks of a kind beside its guard: a word that a step stores has 64 bits. Of the steps of the ring it speaks not at
--- all: the table makes none of them yet, and the rule says that LOW, FREE and the callers' needs stand still.
+-- what the rule asks of a kind beside its guard: a word that a step stores has 64 bits
 abbrev pub WordFits : Kind → Type 0
 WordFits (WriteCell j i v) = v < 2 ^ 64
 WordFits (StoreWord r i v) = v < 2 ^ 64
-WordFits (Protect p) = ⊥
-WordFits Confirm = ⊥
-WordFits Unprotect = ⊥
-WordFits (CloseLow target) = ⊥
-WordFits (Scan d) = ⊥
-WordFits OpenFree = ⊥
 WordFits _ = Unit {0}
 
 -- what a seat shows of its caller's local state after a step that found this word

@@ -2,10 +2,11 @@
 use Rattle.std.specs.Prelude.{◌≡◌, ◌≢◌, ◌%◌, ◌<◌, ◌≤◌, ℕ}
 use Rattle.cx_base.specs.Codes.{link_cell_of, link_ticket_of}
 use Rattle.cx_core.specs.declared.kinds.Kind.{Kind}
-use Rattle.cx_core.specs.declared.kinds.Kind.TheVariants.{Link, Look, LoadFree, LoadCur, Publish}
+use Rattle.cx_core.specs.declared.kinds.Kind.TheVariants.{Link, Look, LoadFree, LoadCur, Publish, Confirm, Scan, OpenFree}
 use Rattle.cx_core.specs.declared.local.Local.{Local}
 use Rattle.cx_core.specs.QueueEvents.{seen_word}
 use Rattle.cx_core.specs.Layout.{cell_count}
+use Rattle.cx_core.specs.RingEvents.{Protects, need_word}
 use Rattle.cx_core.specs.State.{Instance}
 
 -- a link word names a ticket of its slot from the base's place on, and a cell
@@ -14,23 +15,27 @@ pub record NamesTicket (instance : Instance) (s word : ℕ) : Type 0 where
   pub slot : link_ticket_of instance.callers word % cell_count instance.callers ≡ s
   pub cell : link_cell_of instance.callers word < cell_count instance.callers
 
--- the word of a slot that was looked at. The tickets below the front are linked; while no cell is given again, each still
--- stands in its slot.
+-- the word of a slot that was looked at. The tickets below the front are linked: the slot has none that is below one of them, and
+-- one that the caller's confirmed protection keeps still stands there.
 pub record LookTold (instance : Instance) (s : ℕ) (l : Local) (found : ℕ) : Type 0 where
   pub names : 0 < found → NamesTicket instance s found
-  pub live : (t : ℕ) → instance.base.place ≤ t → t < l.front → t % cell_count instance.callers ≡ s → (0 < found) × (link_ticket_of instance.callers found ≡ t)
+  pub greatest : (t : ℕ) → instance.base.place ≤ t → t < l.front → t % cell_count instance.callers ≡ s → (0 < found) × (t ≤ link_ticket_of instance.callers found)
+  pub live : (t : ℕ) → instance.base.place ≤ t → t < l.front → t % cell_count instance.callers ≡ s → Protects t l.protection → (0 < found) × (link_ticket_of instance.callers found ≡ t)
 
 -- the word that a link found. Where it is not the one seen, it names a later ticket.
 pub record LinkTold (instance : Instance) (l : Local) (found : ℕ) : Type 0 where
   pub names : 0 < found → NamesTicket instance (l.front % cell_count instance.callers) found
-  pub later : 0 < seen_word l.seen_slot → instance.base.place ≤ link_ticket_of instance.callers (seen_word l.seen_slot) → found ≢ seen_word l.seen_slot →
+  pub later : 0 < seen_word l.seen_slot → found ≢ seen_word l.seen_slot →
       (0 < found) × (link_ticket_of instance.callers (seen_word l.seen_slot) < link_ticket_of instance.callers found)
 
--- FREE is still the base's place, and CUR never falls
+-- FREE, LOW and CUR never fall, and the caller's own need is the one that it stated
 abbrev pub Told : Instance → Kind → Local → ℕ → Type 0
 Told instance (Link j) l found = LinkTold instance l found
 Told instance (Look s) l found = LookTold instance s l found
-Told instance LoadFree l found = found ≡ instance.base.place
+Told instance LoadFree l found = l.seen_free ≤ found
 Told instance LoadCur l found = l.seen_cur ≤ found
 Told instance Publish l found = l.seen_cur ≤ found
+Told instance Confirm l found = l.seen_low ≤ found
+Told instance (Scan d) l found = d ≡ l.number → found ≡ need_word l.protection
+Told instance OpenFree l found = l.seen_free ≤ found
 Told instance _ l found = Unit {0}
