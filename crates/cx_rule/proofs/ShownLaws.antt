@@ -224,6 +224,14 @@ put_shown instance (CloseLow target) l found by = refl
 put_shown instance (Scan d) l found by = refl
 put_shown instance OpenFree l found by = refl
 
+-- the rights of a local state are those of what is shown of it
+shown_rights : (l : Local) → SameRights l (shown l)
+shown_rights l = record { exclusive = on l.exclusive; shared = refl; passer = refl; downgraded = refl; won = refl }
+  where
+    on : (o : Option HeldExclusive) → option_map (λ (h : HeldExclusive). h.replica) (option_map blank o) ≡ option_map (λ (h : HeldExclusive). h.replica) o
+    on None = refl
+    on (Some h) = refl
+
 -- what the rule says of the word found
 pub told_shown : (instance : Instance) (kind : Kind) (l : Local) (found : ℕ) → Told instance kind l found → Told instance kind (shown l) found
 told_shown instance (Link j) l found told = record { names = told.names; later = told.later }
@@ -239,7 +247,7 @@ told_shown instance (ReleaseExclusive r) l found told = tt
 told_shown instance (LoadWord r i refused) l found told = tt
 told_shown instance (StoreWord r i v) l found told = tt
 told_shown instance (Persist r i) l found told = tt
-told_shown instance LoadCur l found told = told
+told_shown instance LoadCur l found told = record { most = told.most; apart = λ held. told.apart (sym (shown_rights l).exclusive ∙ held) }
 told_shown instance Publish l found told = told
 told_shown instance (Raise code read) l found told = tt
 told_shown instance Retire l found told = tt
@@ -249,14 +257,6 @@ told_shown instance Unprotect l found told = tt
 told_shown instance (CloseLow target) l found told = tt
 told_shown instance (Scan d) l found told = told
 told_shown instance OpenFree l found told = told
-
--- the rights of a local state are those of what is shown of it
-shown_rights : (l : Local) → SameRights l (shown l)
-shown_rights l = record { exclusive = on l.exclusive; shared = refl; passer = refl; downgraded = refl; won = refl }
-  where
-    on : (o : Option HeldExclusive) → option_map (λ (h : HeldExclusive). h.replica) (option_map blank o) ≡ option_map (λ (h : HeldExclusive). h.replica) o
-    on None = refl
-    on (Some h) = refl
 
 -- what the lawful state says of a local state by itself, it says of what is shown of it
 pub lawful_shown : (instance : Instance) (l : Local) → IsLawfulLocal instance l → IsLawfulLocal instance (shown l)

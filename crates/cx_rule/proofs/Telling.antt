@@ -2,7 +2,7 @@
 use Rattle.std.proofs.Common.{◌≡◌, ◌+◌, ◌-◌, ◌*◌, ◌/◌, ◌%◌, ◌<◌, ◌≤◌, ⊎_elim, inl, inr, ℕ, slice_index, refl, ap, sym, subst, ◌∙◌, arith, Option, Some, None}
 use Rattle.std.proofs.lemmas.Nat.{div-mul-add, mod-mul-add, mod_below}
 use Rattle.std.specs.List.{slice_get}
-use Rattle.cx_base.specs.Codes.{link_cell_of, link_code_of, link_ticket_of}
+use Rattle.cx_base.specs.Codes.{link_cell_of, link_code_of, link_ticket_of, root_replica_of}
 use Rattle.cx_core.specs.declared.entry.Entry.{Entry}
 use Rattle.cx_core.specs.declared.kinds.Kind.{Kind}
 use Rattle.cx_core.specs.declared.kinds.Kind.TheVariants.{WriteCell, Link, Look, ReadCell, LoadFree, TryExclusive, TryShared, BackOff, Downgrade, ReleaseExclusive, LoadWord, StoreWord, Persist, LoadCur, Publish, Raise, Retire, Protect, Confirm, Unprotect, CloseLow, Scan, OpenFree}
@@ -12,7 +12,7 @@ use Rattle.cx_core.specs.declared.local.Protection.{Protection}
 use Rattle.cx_core.specs.declared.local.Protection.TheVariants.{Unprotected, Stated, Confirmed}
 use Rattle.cx_core.specs.Events.{Guard, found_by}
 use Rattle.cx_core.specs.QueueEvents.{ShowsOpen, ShowsTicket, seen_word}
-use Rattle.cx_core.specs.Layout.{cell_count, free_at, link_at, need_at}
+use Rattle.cx_core.specs.Layout.{cell_count, cur_at, free_at, link_at, need_at}
 use Rattle.cx_core.specs.Lawful.{Lawful, LinkWord}
 use Rattle.cx_core.specs.Lawful.LinkWord.{Never, Names}
 use Rattle.cx_core.specs.Merge.{IsLinked, scene_of}
@@ -22,8 +22,10 @@ use Rattle.core_queue.proofs.CellLinks.{names_small}
 use Rattle.core_queue.proofs.Keeps.{linked_callers}
 use Rattle.core_queue.proofs.LinkLaws.{code_ticket}
 use Rattle.core_queue.proofs.QueueFrames.{queue_of}
+use Rattle.core_root.proofs.Unheld.{current_unheld}
+use Rattle.cx_core.proofs.Claims.{unheld_none}
 use Rattle.cx_core.proofs.Locals.{linked_below}
-use Rattle.cx_rule.specs.Told.{LinkTold, LookTold, NamesTicket, Told}
+use Rattle.cx_rule.specs.Told.{CurTold, LinkTold, LookTold, NamesTicket, Told}
 
 -- the slot that a guard speaks of was seen
 ticket_seen : (callers : ℕ) (seen : Option SeenSlot) (ticket cell : ℕ) → ShowsTicket callers seen ticket cell → (x : SeenSlot) × (seen ≡ Some x) × ShowsTicket callers (Some x) ticket cell
@@ -141,6 +143,15 @@ link_told instance s law caller l at shows =
           ]);
     }
 
+-- the code in CUR
+cur_told : (instance : Instance) (s : State) (law : Lawful instance s) (caller : ℕ) (l : Local) → slice_get s.locals caller ≡ Some l → CurTold instance l (slice_index s.words cur_at)
+cur_told instance s law caller l at =
+    let r = root_replica_of instance.callers (slice_index s.words cur_at) in
+    record {
+      most = (law.root.each caller l at).seen.most;
+      apart = λ held. unheld_none s.locals r (current_unheld instance.callers s.words s.locals law.shape.some law.locks).unheld caller l at held;
+    }
+
 -- the word of the caller's own need
 own_need : (instance : Instance) (s : State) (law : Lawful instance s) (caller : ℕ) (l : Local) (d : ℕ) → slice_get s.locals caller ≡ Some l → d ≡ l.number → slice_index s.words (need_at d) ≡ need_word l.protection
 own_need instance s law caller l d at own =
@@ -163,7 +174,7 @@ told_holds instance (ReleaseExclusive r) s law caller l at guard = tt
 told_holds instance (LoadWord r i refused) s law caller l at guard = tt
 told_holds instance (StoreWord r i v) s law caller l at guard = tt
 told_holds instance (Persist r i) s law caller l at guard = tt
-told_holds instance LoadCur s law caller l at guard = (law.root.each caller l at).seen.most
+told_holds instance LoadCur s law caller l at guard = cur_told instance s law caller l at
 told_holds instance Publish s law caller l at guard = (law.root.each caller l at).seen.most
 told_holds instance (Raise code read) s law caller l at guard = tt
 told_holds instance Retire s law caller l at guard = tt

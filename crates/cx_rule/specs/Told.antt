@@ -1,11 +1,12 @@
 -- What the rule of the table says of the word that a step found.
-use Rattle.std.specs.Prelude.{◌≡◌, ◌≢◌, ◌%◌, ◌<◌, ◌≤◌, ℕ}
-use Rattle.cx_base.specs.Codes.{link_cell_of, link_ticket_of}
+use Rattle.std.specs.Prelude.{◌≡◌, ◌≢◌, ◌%◌, ◌<◌, ◌≤◌, ℕ, Some}
+use Rattle.cx_base.specs.Codes.{link_cell_of, link_ticket_of, root_replica_of}
 use Rattle.cx_core.specs.declared.kinds.Kind.{Kind}
 use Rattle.cx_core.specs.declared.kinds.Kind.TheVariants.{Link, Look, LoadFree, LoadCur, Publish, Confirm, Scan, OpenFree}
 use Rattle.cx_core.specs.declared.local.Local.{Local}
 use Rattle.cx_core.specs.QueueEvents.{seen_word}
 use Rattle.cx_core.specs.Layout.{cell_count}
+use Rattle.cx_core.specs.Rights.{exclusive_on}
 use Rattle.cx_core.specs.RingEvents.{Protects, need_word}
 use Rattle.cx_core.specs.State.{Instance}
 
@@ -28,12 +29,17 @@ pub record LinkTold (instance : Instance) (l : Local) (found : ℕ) : Type 0 whe
   pub later : 0 < seen_word l.seen_slot → found ≢ seen_word l.seen_slot →
       (0 < found) × (link_ticket_of instance.callers (seen_word l.seen_slot) < link_ticket_of instance.callers found)
 
+-- the code found in CUR: CUR never falls, and nobody holds the replica that it names exclusively
+pub record CurTold (instance : Instance) (l : Local) (found : ℕ) : Type 0 where
+  pub most : l.seen_cur ≤ found
+  pub apart : exclusive_on l ≡ Some (root_replica_of instance.callers found) → ⊥
+
 -- FREE, LOW and CUR never fall, and the caller's own need is the one that it stated
 abbrev pub Told : Instance → Kind → Local → ℕ → Type 0
 Told instance (Link j) l found = LinkTold instance l found
 Told instance (Look s) l found = LookTold instance s l found
 Told instance LoadFree l found = l.seen_free ≤ found
-Told instance LoadCur l found = l.seen_cur ≤ found
+Told instance LoadCur l found = CurTold instance l found
 Told instance Publish l found = l.seen_cur ≤ found
 Told instance Confirm l found = l.seen_low ≤ found
 Told instance (Scan d) l found = d ≡ l.number → found ≡ need_word l.protection
