@@ -43,13 +43,18 @@ round_before t q within = sym (add-mod_right (t - q) q) ∙ ap (λ n. n % q) (le
 
 -- a look at the front's slot
 module _ (instance : Instance) (l : Local) (found : ℕ) (some : 1 ≤ instance.callers) (told : LookTold instance (l.front % cell_count instance.callers) l found) where
-  -- the ticket a round before, where it is one of this table, stands in the slot
-  before_stands : instance.base.place + cell_count instance.callers ≤ l.front → (0 < found) × (link_ticket_of instance.callers found + cell_count instance.callers ≡ l.front)
-  before_stands within =
-      let there = told.live (l.front - cell_count instance.callers) (omega arith) (omega arith) (round_before l.front (cell_count instance.callers) (omega arith)) in
-      (there.0, (let e = there.1 in omega arith))
-
   module _ (open_ : 0 < found → link_ticket_of instance.callers found < l.front) where
+    -- the ticket a round before, where it is one of this table, stands in the slot
+    before_stands : instance.base.place + cell_count instance.callers ≤ l.front → (0 < found) × (link_ticket_of instance.callers found + cell_count instance.callers ≡ l.front)
+    before_stands within =
+        let q = cell_count instance.callers in
+        let t = link_ticket_of instance.callers found in
+        let there = told.greatest (l.front - q) (omega arith) (omega arith) (round_before l.front q (omega arith)) in
+        let below = open_ there.0 in
+        let least = there.1 in
+        let mods = (told.names there.0).slot in
+        (there.0, elim (cases_lt l.front (t + q)) [ inl near ↦ absurd (same_slot t l.front q mods near below) | inr far ↦ omega arith ])
+
     -- the slot was never used in this table, or has the ticket a round before
     pub opens : ((found ≡ 0) × (l.front < instance.base.place + cell_count instance.callers)) ⊎ ((0 < found) × (link_ticket_of instance.callers found + cell_count instance.callers ≡ l.front))
     opens =
@@ -88,14 +93,14 @@ module _ (instance : Instance) (l : Local) (found : ℕ) (some : 1 ≤ instance.
         let t = link_ticket_of instance.callers found2 in
         let some2 : 0 < found2 = elim opens [
           | inl a ↦ (let zero = a.0 in omega arith)
-          | inr b ↦ (lost.later b.0 (told.names b.0).from ne).0
+          | inr b ↦ (lost.later b.0 ne).0
         ] in
         let of = lost.names some2 in
         let from = of.from in
         let mods : t % cell_count instance.callers ≡ l.front % cell_count instance.callers = of.slot ∙ ap (λ f. f % cell_count instance.callers) front_stays in
         let near : l.front < t + cell_count instance.callers = elim opens [
           | inl a ↦ (let b = a.1 in omega arith)
-          | inr b ↦ (let p = (lost.later b.0 (told.names b.0).from ne).1 in let e = b.1 in omega arith)
+          | inr b ↦ (let p = (lost.later b.0 ne).1 in let e = b.1 in omega arith)
         ] in
         (some2, elim (cases_lt t l.front) [ inl below ↦ absurd (same_slot t l.front (cell_count instance.callers) mods near below) | inr from_on ↦ from_on ])
 

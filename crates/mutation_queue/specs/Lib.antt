@@ -1,4 +1,6 @@
 pub mod Cells
+pub mod Collecting
 pub mod Entries
 pub mod Links
+pub mod Protections
 pub mod Tests

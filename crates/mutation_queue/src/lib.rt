@@ -1,10 +1,12 @@
 //! The queue of updates: a caller announces an entry in one of its cells, links it at the end of the queue, and reads the
-//! entries that are linked.
+//! entries that are linked, as long as it protects them. Cells that nobody protects are collected and written again.
 #![tactic(auto)]
 
 mod announcing;
 mod cells;
+mod collecting;
 mod linking;
+mod protecting;
 mod reading;
 #[cfg(test)]
 mod reading_tests;
@@ -13,5 +15,7 @@ mod tests;
 
 pub use announcing::announce;
 pub use cells::idle_cell;
+pub use collecting::Collected;
 pub use linking::{LinkTried, link};
+pub use protecting::Protected;
 pub use reading::entry;

@@ -2,6 +2,7 @@
 
 ghost use Rattle.std.specs.Prelude.{◌≡◌, ◌<◌, ◌≤◌, ◌/◌, ◌^◌, ℕ, IfOk, IsErr, OnErr, OnOk, length};
 ghost use Rattle.cx_core.specs.QueueEvents.{ShowsTicket};
+ghost use Rattle.cx_core.specs.RingEvents.{Protects};
 ghost use Rattle.cx_table.specs.Fitting.{Fitting};
 ghost use Rattle.cx_table.specs.Running.{IsSeatOf};
 ghost use Rattle.cx_table.specs.Seats.{IsAtLimit};
@@ -11,8 +12,8 @@ use cx_base::{Halt, Object, link_cell};
 use cx_core::layout::cell_count;
 use cx_table::{CallerSeat, Shared};
 
-/// Reads the entry with a ticket, which is linked: its number and its operation, in 146 steps. It gives the entry's
-/// caller. Each word is noted with the ticket, and a noted word is the history's: so the entry is one that may come there. `Halt`
+/// Reads the entry with a ticket, which is linked and which a confirmed protection of the caller keeps: its number and its operation,
+/// in 146 steps. It gives the entry's caller. Each word is noted with the ticket, and a noted word is the history's: so the entry is one that may come there. `Halt`
 /// comes exactly where a further step is to be made and the seat's steps equal its limit.
 pub fn entry<O: Object>(
     shared: &Shared<O>,
@@ -23,6 +24,7 @@ pub fn entry<O: Object>(
     requires seat { IsSeatOf shared.now seat.old }
     requires linked { ticket < seat.old.known.local.front }
     requires later { shared.now.base.place ≤ ticket }
+    requires protected { Protects ticket seat.old.known.local.protection }
     ensures read { IfOk result (λ caller. ReadsEntry caller ticket into.new seat.old seat.new) }
     ensures entry { IfOk result (λ caller. NotesEntry caller ticket into.new seat.new) }
     ensures halted { OnErr result (HaltsReading ticket seat.old seat.new) }
@@ -39,6 +41,7 @@ fn find_cell<O: Object>(shared: &Shared<O>, seat: &mut CallerSeat, ticket: u64) 
     requires seat { IsSeatOf shared.now seat.old }
     requires linked { ticket < seat.old.known.local.front }
     requires later { shared.now.base.place ≤ ticket }
+    requires protected { Protects ticket seat.old.known.local.protection }
     ensures found { IfOk result (λ cell. Looked shared.now.callers ticket cell seat.old seat.new) }
     ensures small { IfOk result (λ cell. cell < 128) }
     ensures below { OnOk result (ticket < 2 ^ 40) }
@@ -64,6 +67,7 @@ fn read_words<O: Object>(
     requires seat { IsSeatOf shared.now seat.old }
     requires linked { ticket < seat.old.known.local.front }
     requires shows { ShowsTicket shared.now.callers seat.old.known.local.seen_slot ticket cell }
+    requires protected { Protects ticket seat.old.known.local.protection }
     ensures read { OnOk result (seat.new ≡ with_read (cell / 16) ticket into.new seat.old) }
     ensures fits { OnOk result (Fitting shared.now.lines (O.lawful shared.now.object) shared.now.base seat.new.known) }
     ensures within { OnOk result ((n : ℕ) → n < 145 → EndsAfter n seat.old.known.local → ⊥) }

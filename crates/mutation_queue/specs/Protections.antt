@@ -1,0 +1,46 @@
+-- What protecting tickets comes to.
+use Rattle.std.specs.Prelude.{◌≡◌, ◌<◌, ◌≤◌, true, false, ℕ}
+use Rattle.cx_base.specs.Codes.{root_place_of}
+use Rattle.cx_core.specs.declared.local.Local.{Local}
+use Rattle.cx_core.specs.declared.local.Protection.TheVariants.{Confirmed, Unprotected}
+use Rattle.cx_core.specs.State.{one_more}
+use Rattle.cx_table.specs.Seats.{Seated}
+use Rattle.mutation_queue.specs.declared.protecting.Protected.{Protected}
+use Rattle.mutation_queue.specs.declared.protecting.Protected.TheVariants.{Behind, Kept}
+
+-- a seat but for its protection, the greatest LOW found, whether what was seen of CUR is fresh, and the counts of steps and refusals
+abbrev pub but_protected : Seated → Seated
+but_protected s = record s { known = record s.known { local = record s.known.local { protection = Unprotected; seen_low = 0; fresh = false; steps = 0; met = 0 } } }
+
+-- the code last loaded from CUR is in use, and its place is at most this one: a LOW above it shows that the code is outdated
+abbrev pub ShowsOutdated : ℕ → ℕ → Local → Type 0
+ShowsOutdated callers place l = (root_place_of callers l.seen_cur ≤ place) × (l.fresh ≡ true)
+
+-- what was seen of CUR is in use as before, and no refusal was met
+pub record MeetsNone (before after : Seated) : Type 0 where
+  pub fresh : after.known.local.fresh ≡ before.known.local.fresh
+  pub met : after.known.local.met ≡ before.known.local.met
+
+-- the tickets from a place on are protected
+pub record KeepsFrom (place : ℕ) (before after : Seated) : Type 0 where
+  pub same : but_protected after ≡ but_protected before
+  pub protection : after.known.local.protection ≡ Confirmed place
+  pub none : MeetsNone before after
+
+-- LOW is above the place, and no protection stands. Where that shows the code last loaded from CUR to be outdated, a refusal is met.
+pub record FallsBehind (callers place low : ℕ) (before after : Seated) : Type 0 where
+  pub same : but_protected after ≡ but_protected before
+  pub protection : after.known.local.protection ≡ Unprotected
+  pub above : place < low
+  pub seen : after.known.local.seen_low ≡ low
+  pub outdated : ShowsOutdated callers place before.known.local → (after.known.local.met ≡ one_more before.known.local.met) × (after.known.local.fresh ≡ false)
+  pub current : (ShowsOutdated callers place before.known.local → ⊥) → MeetsNone before after
+
+-- what protecting the tickets from a place on comes to
+abbrev pub TriesProtect : ℕ → ℕ → Seated → Seated → Protected → Type 0
+TriesProtect callers place before after Kept = KeepsFrom place before after
+TriesProtect callers place before after (Behind low) = FallsBehind callers place low before after
+
+-- the protection is given up by one step
+abbrev pub unprotected : Seated → Seated
+unprotected s = record s { known = record s.known { local = record s.known.local { protection = Unprotected; steps = one_more s.known.local.steps } } }
