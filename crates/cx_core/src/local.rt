@@ -103,12 +103,12 @@ pub struct WonCode {
     pub before: u64,
 }
 
-/// Why no cell of a caller is idle: another's need, or its own entries, keep its cells from being given again.
+/// Why no cell of a caller is idle: another caller's need keeps its cells from being given again.
 #[derive(Clone, Copy, Debug, PartialEq, Eq, Drop)]
 pub struct FullNote {
-    /// The caller that keeps them.
+    /// The other caller that keeps them: of the callers with the least need the least.
     pub holder: u32,
-    /// The place from which on entries are kept.
+    /// The place from which on that caller needs entries. It is at most `ticket`.
     pub need: u64,
     /// The least ticket of the caller's cells.
     pub ticket: u64,
