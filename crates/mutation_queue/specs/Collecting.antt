@@ -1,5 +1,5 @@
 -- What collecting cells comes to.
-use Rattle.std.specs.Prelude.{◌≡◌, ◌+◌, ◌<◌, ◌≤◌, false, ℕ, min, Some, None}
+use Rattle.std.specs.Prelude.{◌≡◌, ◌<◌, ◌≤◌, false, ℕ, min, Some, None}
 use Rattle.cx_core.specs.RingEvents.{need_word}
 use Rattle.cx_core.specs.State.{one_more}
 use Rattle.cx_table.specs.Seats.{Seated}

@@ -12,9 +12,10 @@ use cx_base::{Halt, Object, link_cell};
 use cx_core::layout::cell_count;
 use cx_table::{CallerSeat, Shared};
 
-/// Reads the entry with a ticket, which is linked and which a confirmed protection of the caller keeps: its number and its operation,
-/// in 146 steps. It gives the entry's caller. Each word is noted with the ticket, and a noted word is the history's: so the entry is one that may come there. `Halt`
-/// comes exactly where a further step is to be made and the seat's steps equal its limit.
+/// Reads the entry with a ticket, which is linked and which a confirmed protection of the caller keeps: its number and its
+/// operation, in 146 steps. It gives the entry's caller. Each word is noted with the ticket, and a noted word is the history's:
+/// so the entry is one that may come there. `Halt` comes exactly where a further step is to be made and the seat's steps equal
+/// its limit.
 pub fn entry<O: Object>(
     shared: &Shared<O>,
     seat: &mut CallerSeat,
