@@ -1,5 +1,7 @@
 -- What a step of a copy does to the seat.
-use Rattle.std.proofs.Common.{false, true, cond, nat_lt, IfSome, ◌≡◌, ◌+◌, ◌<◌, ℕ, Bool, All, List, refl, ap, sym, subst, ◌∙◌, append-nil, Option, Some, None, Result, Ok, Err, IfOk, OnErr, OnOk}
+use Rattle.std.proofs.Common.{false, true, cond, nat_lt, IfSome, ◌≡◌, ◌+◌, ◌<◌, ◌==◌, ℕ, Bool, All, List, [], ◌∷◌, ◌++◌, refl, ap, sym, subst, ◌∙◌, append-nil, Option, Some, None, Result, Ok, Err, IfOk, OnErr, OnOk}
+use Rattle.std.proofs.lemmas.List.Elements.{Contains-append_left}
+use Rattle.std.specs.List.{Contains}
 use Rattle.std.specs.Option.{option_map}
 use Rattle.std.specs.Result.{result_ok}
 use Rattle.cx_core.specs.declared.kinds.Kind.TheVariants.{LoadWord, StoreWord, TryShared}
@@ -11,14 +13,14 @@ use Rattle.cx_core.specs.Region.{region_words}
 use Rattle.cx_core.specs.RegionEvents.{loaded_into, stored_into}
 use Rattle.cx_core.specs.Rights.{held_dirty}
 use Rattle.cx_rule.specs.declared.rule.Known.{Known}
-use Rattle.cx_rule.specs.Fitting.{AgreeTo, Fitting, SomeFits}
+use Rattle.cx_rule.specs.Fitting.{AgreeTo, Fitting, SomeFits, loaded_of}
 use Rattle.cx_rule.specs.Running.{IsSeatOf, Running, instance_at}
 use Rattle.cx_rule.specs.Seats.{Seated, known_after}
 use Rattle.cx_rule.specs.Steps.{Halts, Steps}
 use Rattle.cx_rule.proofs.Copying.{agree_compared, agree_stored, known_compared}
 use Rattle.cx_table.specs.Right.{Right}
 use Rattle.cx_table.specs.Tokens.{IsExclusiveOf, IsSharedOf, TriedShared}
-use Rattle.replica.specs.Copies.{HoldsBoth, beside_copy, but_loads}
+use Rattle.replica.specs.Copies.{HoldsBoth, KeepsLoaded, beside_copy, but_loads}
 use Rattle.replica.specs.Held.{IsHeld, but_words}
 use Rattle.replica.specs.Laws.{shared_held}
 use Rattle.replica.proofs.Access.{beside, dirty_stored, replica_but_words, unstored}
@@ -141,3 +143,20 @@ module _ {O : Type 0} (lines : ℕ) (r : Running O) (step : O → List ℕ → L
         };
         shared = shared_held lines r lawful after source was.sized s.seat tried.2 fits;
       }
+
+-- what was loaded stays so through a load
+kept_loaded : (r i found : ℕ) (o : Option HeldShared) (x : ℕ × ℕ) → Contains (loaded_of o) x → Contains (loaded_of (option_map (loaded_into r i found) o)) x
+kept_loaded r i found None x has = has
+kept_loaded r i found (Some h) x has = by (h.replica == r)
+  where
+    by : (b : Bool) → Contains (cond b (h.loaded ++ (i, found) ∷ []) h.loaded) x
+    by true = Contains-append_left h.loaded ((i, found) ∷ []) x has
+    by false = has
+
+module _ {O : Type 0} (r : Running O) (step : O → List ℕ → List ℕ → List ℕ × List ℕ) (reads : O → List ℕ → Bool) (q at : ℕ) where
+  pub load_keeps : (found : ℕ) (before after : Seated) → Steps r step reads (LoadWord q at false) found before after → KeepsLoaded before after
+  load_keeps found before after s x has = subst (λ (t : Seated). Contains (loaded_of t.known.local.shared) x) (sym s.made) (kept_loaded q at found before.known.local.shared x has)
+
+  -- and through a store
+  pub store_keeps : (v : ℕ) (before after : Seated) → Steps r step reads (StoreWord q at v) 0 before after → KeepsLoaded before after
+  store_keeps v before after s x has = subst (λ (t : Seated). Contains (loaded_of t.known.local.shared) x) (sym s.made) has

@@ -1,18 +1,22 @@
 -- A replica over which another was copied, whose shared right was given back.
-use Rattle.std.proofs.Common.{false, ◌≡◌, ◌<◌, ℕ, Bool, cond, All, List, [], ◌∷◌, refl, ap, sym, subst, ◌∙◌, arith, Some, None}
-use Rattle.std.proofs.lemmas.List.Elements.{All-cons, All-nil}
+use Rattle.std.proofs.Common.{false, ◌≡◌, ◌<◌, ℕ, Bool, cond, All, List, [], ◌∷◌, slice_index, refl, ap, sym, subst, ◌∙◌, arith, Some, None}
+use Rattle.std.proofs.lemmas.List.Elements.{All-cons, All-contains, All-nil}
 use Rattle.std.proofs.lemmas.Option.{none-some}
-use Rattle.cx_base.specs.Noted.{Note}
+use Rattle.std.proofs.Math.Logic.{∥∥₁_elim}
+use Rattle.std.proofs.Props.{props}
+use Rattle.std.specs.List.{Contains}
+use Rattle.cx_base.specs.Noted.{Note, NotesLead}
+use Rattle.cx_core.specs.declared.entry.Base.{Base}
 use Rattle.cx_core.specs.declared.local.Local.{Local}
 use Rattle.cx_core.specs.LockEvents.{backed_off}
 use Rattle.cx_core.specs.Region.{region_words}
 use Rattle.cx_core.specs.Rights.{held_dirty, is_at}
 use Rattle.cx_core.specs.State.{one_more}
-use Rattle.cx_rule.specs.Fitting.{AgreeTo, Fitting, SomeFits, loaded_of, loads_of, word_noted}
+use Rattle.cx_rule.specs.Fitting.{AgreeTo, Fitting, SomeFits, SomeReadFits, loaded_of, loads_of, word_noted}
 use Rattle.cx_rule.specs.Running.{Running}
 use Rattle.cx_rule.specs.Seats.{Seated, place_noted}
 use Rattle.cx_rule.specs.Steps.{StepsCopied}
-use Rattle.cx_rule.proofs.Copying.{noted_place}
+use Rattle.cx_rule.proofs.Copying.{noted_place, noted_tells}
 use Rattle.cx_table.specs.Right.{Right}
 use Rattle.cx_table.specs.Tokens.{IsExclusiveOf}
 use Rattle.replica.specs.Copies.{HoldsBoth}
@@ -29,6 +33,19 @@ loads_store_none (x ∷ loaded) = All-cons (λ (note : Note). note.0 ≡ false) 
 -- a place that was noted is the one noted last, whatever was known before
 place_is : (accesses : List Note) (place v : ℕ) → word_noted None 0 accesses ≡ Some v → place_noted place accesses ≡ v
 place_is accesses place v is = noted_place accesses place v None (λ w e. absurd (none-some w e)) is
+
+-- each word loaded is the one that is there
+loads_there : (loaded : List (ℕ × ℕ)) (first now : List ℕ) → NotesLead (loads_of loaded) first now → All (λ (x : ℕ × ℕ). slice_index first x.0 ≡ x.1) loaded
+loads_there [] first now leads = All-nil (λ (x : ℕ × ℕ). slice_index first x.0 ≡ x.1)
+loads_there (x ∷ loaded) first now leads = All-cons (λ (y : ℕ × ℕ). slice_index first y.0 ≡ y.1) x loaded leads.0 (loads_there loaded first now leads.1)
+
+-- so all loads of one place give the same word
+loaded_once : (lines : ℕ) (lawful : List ℕ → Type 0) (base : Base) (loaded : List (ℕ × ℕ)) (v p : ℕ) → SomeReadFits lines lawful base loaded → word_noted None 0 (loads_of loaded) ≡ Some v → Contains loaded (0, p) → v ≡ p
+loaded_once lines lawful base loaded v p some last has = ∥∥₁_elim some (hlevel props) (λ f. (
+    let first = f.0 in
+    let fits = f.2.fits in
+    let there = All-contains (λ (x : ℕ × ℕ). slice_index first x.0 ≡ x.1) loaded (0, p) (loads_there loaded first f.1 fits.leads) has in
+    sym (noted_tells (region_words lines) (loads_of loaded) 0 v (omega arith) last first f.1 fits.origin.size.long fits.leads) ∙ ap (λ ws. slice_index ws 0) f.2.same ∙ there))
 
 module _ {O : Type 0} (lines : ℕ) (r : Running O) (step : O → List ℕ → List ℕ → List ℕ × List ℕ) (reads : O → List ℕ → Bool) (lawful : List ℕ → Type 0) (held source : Right) (found : ℕ) (before after : Seated)
     (both : HoldsBoth lines r lawful before held source) (copied : StepsCopied r step reads source.replica found before after) where
@@ -59,3 +76,9 @@ module _ {O : Type 0} (lines : ℕ) (r : Running O) (step : O → List ℕ → L
         unstored_image lines lawful r.base (step r.object) after.known (λ p. noted p ∙ sym (noted 0)) (subst StoresNone (sym accesses) (loads_store_none (loaded_of old.shared))),
         noted 0 ∙ sym (place_is before.known.accesses 0 first.0 first.1),
       )
+
+  -- which is the place that was loaded of the replica held shared
+  pub renewed_place : (p : ℕ) → AgreeTo before.known (region_words lines) → Contains (loaded_of old.shared) (0, p) → place_noted 0 after.known.accesses ≡ p
+  renewed_place p agree has =
+      let first = agree 0 (omega arith) in
+      ap (λ (s : Seated). place_noted 0 s.known.accesses) copied.made ∙ place_is (loads_of (loaded_of old.shared)) 0 first.0 first.2 ∙ loaded_once lines lawful r.base (loaded_of old.shared) first.0 p both.shared.some first.2 has

@@ -1,7 +1,9 @@
 -- A replica held shared that is copied over one held exclusively.
 use Rattle.std.specs.Prelude.{ℕ, List, [], None}
+use Rattle.std.specs.List.{Contains}
 use Rattle.std.specs.Option.{option_map}
 use Rattle.cx_core.specs.declared.local.HeldShared.{HeldShared}
+use Rattle.cx_rule.specs.Fitting.{loaded_of}
 use Rattle.cx_rule.specs.Running.{Running}
 use Rattle.cx_rule.specs.Seats.{Seated}
 use Rattle.cx_table.specs.Right.{Right}
@@ -29,3 +31,7 @@ beside_copy s = record s {
 -- the same with no replica held shared
 abbrev pub without_shared : Seated → Seated
 without_shared s = record s { known = record s.known { local = record s.known.local { shared = None } } }
+
+-- each word that was loaded of the replica held shared is among those loaded still
+abbrev pub KeepsLoaded : Seated → Seated → Type 0
+KeepsLoaded before after = (x : ℕ × ℕ) → Contains (loaded_of before.known.local.shared) x → Contains (loaded_of after.known.local.shared) x

@@ -1,11 +1,12 @@
 //! A replica held shared is copied over one held exclusively.
 
-ghost use Rattle.std.specs.Prelude.{◌≡◌, ◌+◌, ◌<◌, IfOk, OnErr, OnOk};
+ghost use Rattle.std.specs.Prelude.{◌≡◌, ◌+◌, ◌<◌, ℕ, IfOk, OnErr, OnOk};
+ghost use Rattle.std.specs.List.{Contains};
 ghost use Rattle.cx_core.specs.Region.{region_words};
-ghost use Rattle.cx_rule.specs.Fitting.{AgreeTo, AreEqual};
+ghost use Rattle.cx_rule.specs.Fitting.{AgreeTo, AreEqual, loaded_of};
 ghost use Rattle.cx_rule.specs.Running.{IsSeatOf};
 ghost use Rattle.cx_rule.specs.Seats.{IsAtLimit};
-ghost use Rattle.replica.specs.Copies.{HoldsBoth, beside_copy, without_shared};
+ghost use Rattle.replica.specs.Copies.{HoldsBoth, KeepsLoaded, beside_copy, without_shared};
 ghost use Rattle.replica.specs.Held.{IsHeld};
 ghost use Rattle.replica.specs.Replays.{IsImage, noted_place};
 
@@ -26,6 +27,7 @@ pub fn copy_from<O: Object>(
     ensures copied { OnOk result (AgreeTo seat.new.known (region_words (O.line_count shared.now.object))) }
     ensures equal { OnOk result (AreEqual (O.line_count shared.now.object) (O.lawful shared.now.object) shared.now.base seat.new.known) }
     ensures place { IfOk result (λ place. noted_place seat.new ≡ place) }
+    ensures loaded { OnOk result (KeepsLoaded seat.old seat.new) }
     ensures rest { beside_copy seat.new ≡ beside_copy seat.old }
     ensures halts { OnErr result (IsAtLimit seat.new.known.local) }
 {
@@ -38,7 +40,7 @@ pub fn copy_from<O: Object>(
 
 /// Copies a replica held shared over one held exclusively, and gives the shared right back. The words copied are then those
 /// that the exclusive right began with, so that its replica is the image after its place, and entries can be replayed on it. It
-/// gives that place. `Halt` comes only where the seat's steps equal its limit.
+/// gives that place, which is the one that was loaded of the replica held shared before, if it was. `Halt` comes only where the seat's steps equal its limit.
 pub fn renew_from<O: Object>(
     shared: &Shared<O>,
     seat: &mut CallerSeat,
@@ -49,6 +51,7 @@ pub fn renew_from<O: Object>(
     ensures held { OnOk result (IsHeld (O.line_count shared.now.object) shared.now (O.lawful shared.now.object) seat.new held.now) }
     ensures image { OnOk result (IsImage (O.line_count shared.now.object) (O.lawful shared.now.object) shared.now.base (O.step shared.now.object) seat.new.known) }
     ensures place { IfOk result (λ place. noted_place seat.new ≡ place) }
+    ensures placed { OnOk result ((p : ℕ) → Contains (loaded_of seat.old.known.local.shared) (0, p) → noted_place seat.new ≡ p) }
     ensures rest { OnOk result (beside_copy seat.new ≡ without_shared (beside_copy seat.old)) }
     ensures seat { IsSeatOf shared.now seat.new }
     ensures halts { OnErr result (IsAtLimit seat.new.known.local) }
@@ -71,6 +74,7 @@ fn copy_word<O: Object>(
     requires agree { AgreeTo seat.old.known at }
     ensures both { HoldsBoth (O.line_count shared.now.object) shared.now (O.lawful shared.now.object) seat.new held.now source.now }
     ensures agree { OnOk result (AgreeTo seat.new.known (at + 1)) }
+    ensures loaded { OnOk result (KeepsLoaded seat.old seat.new) }
     ensures rest { beside_copy seat.new ≡ beside_copy seat.old }
     ensures halts { OnErr result (IsAtLimit seat.new.known.local) }
 {

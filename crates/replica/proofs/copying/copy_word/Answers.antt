@@ -1,7 +1,7 @@
 use Rattle.std.proofs.Common.{arith, false, subst}
 use Rattle.cx_core.specs.declared.kinds.Kind.TheVariants.{LoadWord, StoreWord}
 use Rattle.cx_rule.specs.Steps.{Steps}
-use Rattle.replica.proofs.CopySteps.{copied_over, copied_same, load_both, store_both}
+use Rattle.replica.proofs.CopySteps.{copied_over, copied_same, load_both, load_keeps, store_both, store_keeps}
 use Rattle.replica.proofs.copying.copy_word.Goals as goal
 
 pub returns-in_err-word-clause-both : goal.returns-in_err-word-clause-both
@@ -58,3 +58,18 @@ returns-in_ok-store_word-clause-agree g c =
     (subst (λ q. Steps t g.O.Object.step g.O.Object.only_reads (LoadWord q c.args.at false) c.in_ok-word.word c.load_word.new.seat c.load_word-2.new.seat) c.replica-2.ensures c.in_ok-word.ensures.made)
     c.store_word.new.seat
     (subst (λ q. Steps t g.O.Object.step g.O.Object.only_reads (StoreWord q c.args.at c.in_ok-word.word) 0 c.load_word-2.new.seat c.store_word.new.seat) c.replica-then-old-word.ensures c.in_ok-store_word.ensures.made)
+
+pub returns-else-old-word-clause-loaded : goal.returns-else-old-word-clause-loaded
+returns-else-old-word-clause-loaded g c =
+    let t = c.args.shared.now in
+    let one = load_keeps t g.O.Object.step g.O.Object.only_reads c.replica.result c.args.at c.in_ok-old.old c.args.seat.now c.load_word.new.seat c.in_ok-old.ensures.made in
+    let two = load_keeps t g.O.Object.step g.O.Object.only_reads c.replica-2.result c.args.at c.in_ok-word.word c.load_word.new.seat c.load_word-2.new.seat c.in_ok-word.ensures.made in
+    λ x has. two x (one x has)
+
+pub returns-in_ok-store_word-clause-loaded : goal.returns-in_ok-store_word-clause-loaded
+returns-in_ok-store_word-clause-loaded g c =
+    let t = c.args.shared.now in
+    let one = load_keeps t g.O.Object.step g.O.Object.only_reads c.replica.result c.args.at c.in_ok-old.old c.args.seat.now c.load_word.new.seat c.in_ok-old.ensures.made in
+    let two = load_keeps t g.O.Object.step g.O.Object.only_reads c.replica-2.result c.args.at c.in_ok-word.word c.load_word.new.seat c.load_word-2.new.seat c.in_ok-word.ensures.made in
+    let three = store_keeps t g.O.Object.step g.O.Object.only_reads c.replica-then-old-word.result c.args.at c.in_ok-word.word c.load_word-2.new.seat c.store_word.new.seat c.in_ok-store_word.ensures.made in
+    λ x has. three x (two x (one x has))
