@@ -7,6 +7,7 @@ mod closing;
 mod copies;
 mod marks;
 mod mirror;
+mod ring;
 
 pub use closing::{copy_words, lead_on, mark_replica};
 pub use copies::Copies;

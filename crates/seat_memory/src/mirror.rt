@@ -16,7 +16,7 @@ ghost use Rattle.cx_rule.specs.declared.rule.Known.{Known};
 ghost use Rattle.cx_rule.specs.Seats.{IsAtLimit, known_local, place_noted, unseen};
 
 use cx_base::{Halt, link_ticket, root_code, root_place, root_replica};
-use cx_core::{HeldDowngraded, SeenSlot, WonCode};
+use cx_core::{HeldDowngraded, Protection, Scan, SeenNeed, SeenSlot, WonCode};
 
 /// What an exclusive right adds to a lock word.
 pub const EXCLUSIVE_MARK: u64 = 1 << 32;
@@ -70,6 +70,11 @@ pub struct Mirror {
     pub won: Option<WonCode>,
     pub raised: u64,
     pub floor: u64,
+    /// What keeps the cells from a ticket on from being given again.
+    pub protection: Protection,
+    /// The scan of the callers' needs that is not at its end, and what the last whole one found.
+    pub scan: Option<Scan>,
+    pub seen_need: Option<SeenNeed>,
     pub steps: u64,
     pub limit: u64,
     pub met: u64,
@@ -103,6 +108,9 @@ pub fn opening_mirror(callers: u32, place: u64, number: u32, limit: u64) -> Mirr
         won: None,
         raised: code,
         floor: place,
+        protection: Protection::Unprotected,
+        scan: None,
+        seen_need: None,
         steps: 0,
         limit,
         met: 0,

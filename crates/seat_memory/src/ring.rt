@@ -1,0 +1,152 @@
+//! How the steps of the ring change the numbers: what a caller needs is stated, confirmed and given up, and tickets are
+//! closed, scanned and opened.
+
+ghost use Rattle.std.specs.Prelude.{◌≡◌, ◌<◌, ◌≤◌, ℕ};
+ghost use Rattle.cx_core.specs.declared.kinds.Kind.TheVariants.{Protect, Confirm, Unprotect, CloseLow, Scan, OpenFree};
+ghost use Rattle.cx_core.specs.RingEvents.{bound_in, confirmed_by, least_in, lesser, scan_after, shows_outdated};
+ghost use Rattle.seat_memory.specs.Mirrors.{Follows, mirror_of};
+
+use crate::mirror::Mirror;
+use cx_base::root_place;
+use cx_core::{Protection, SeenNeed};
+
+/// The protection after LOW was found.
+fn confirmed_by(found: u64, protection: Protection) -> Protection
+    ensures { result ≡ confirmed_by found protection }
+{
+    match protection {
+        Protection::Stated(p) if found <= p => Protection::Confirmed(p),
+        other => other,
+    }
+}
+
+/// The least need found so far, and the least caller that had it.
+fn lesser(d: u64, found: u64, least: Option<SeenNeed>) -> SeenNeed
+    ensures { result ≡ lesser d found least }
+{
+    match least {
+        Some(least) if least.need <= found => least,
+        _ => SeenNeed {
+            need: found,
+            caller: d,
+        },
+    }
+}
+
+/// A scan after the need of its next caller was found.
+fn scan_after(d: u64, found: u64, scan: Option<cx_core::Scan>) -> Option<cx_core::Scan>
+    requires { d < 8 }
+    ensures { result ≡ scan_after d found scan }
+{
+    match scan {
+        None => None,
+        Some(scan) => Some(cx_core::Scan {
+            target: scan.target,
+            bound: scan.bound.min(found),
+            next: d + 1,
+            least: Some(lesser(d, found, scan.least)),
+        }),
+    }
+}
+
+/// The least need that a scan found.
+fn least_in(scan: Option<cx_core::Scan>) -> Option<SeenNeed>
+    ensures { result ≡ least_in scan }
+{
+    match scan {
+        None => None,
+        Some(scan) => scan.least,
+    }
+}
+
+impl Mirror {
+    /// A protection was stated.
+    pub fn protect(&mut self, p: u64)
+        ensures { (callers found : ℕ) → Follows callers (Protect p) found self.old self.new }
+    {
+        self.protection = Protection::Stated(p);
+        self.steps = self.steps.saturating_add(1);
+    }
+
+    /// Whether LOW was found above the place of a protection, though the code last loaded from CUR, which nothing ended the
+    /// use of, is at no place above that.
+    fn shows_outdated(&self, callers: u32, found: u64) -> bool
+        requires some { 1 ≤ callers }
+        requires few { callers ≤ 8 }
+        ensures { (l : _) → self.now ≡ mirror_of l → result ≡ shows_outdated callers l found l.protection }
+    {
+        match self.protection {
+            Protection::Stated(p) => {
+                p < found && root_place(callers, self.seen_cur) <= p && self.fresh
+            }
+            _ => false,
+        }
+    }
+
+    /// LOW was found.
+    pub fn confirm(&mut self, callers: u32, found: u64)
+        requires some { 1 ≤ callers }
+        requires few { callers ≤ 8 }
+        ensures { Follows callers Confirm found self.old self.new }
+    {
+        if self.shows_outdated(callers, found) {
+            self.met = self.met.saturating_add(1);
+            self.fresh = false;
+        }
+        self.seen_low = self.seen_low.max(found);
+        self.protection = confirmed_by(found, self.protection);
+        self.steps = self.steps.saturating_add(1);
+    }
+
+    /// A protection was given up.
+    pub fn unprotect(&mut self)
+        ensures { (callers found : ℕ) → Follows callers Unprotect found self.old self.new }
+    {
+        self.protection = Protection::Unprotected;
+        self.steps = self.steps.saturating_add(1);
+    }
+
+    /// LOW was raised to a target, which begins a scan.
+    pub fn close_low(&mut self, target: u64)
+        ensures { (callers found : ℕ) → Follows callers (CloseLow target) found self.old self.new }
+    {
+        self.scan = Some(cx_core::Scan {
+            target,
+            bound: target,
+            next: 0,
+            least: None,
+        });
+        self.steps = self.steps.saturating_add(1);
+    }
+
+    /// The need of caller `d` was found.
+    pub fn scan(&mut self, d: u64, found: u64)
+        requires { d < 8 }
+        ensures { (callers : ℕ) → Follows callers (Scan d) found self.old self.new }
+    {
+        self.scan = scan_after(d, found, self.scan);
+        self.steps = self.steps.saturating_add(1);
+    }
+
+    /// Below which no caller that was scanned needs a ticket, 0 where there is no scan.
+    pub fn bound(&self) -> u64
+        ensures { result ≡ bound_in self.now.scan }
+    {
+        match self.scan {
+            None => 0,
+            Some(scan) => scan.bound,
+        }
+    }
+
+    /// FREE was raised to the scan's bound, which ends the scan.
+    pub fn open_free(&mut self, found: u64)
+        ensures { (callers : ℕ) → Follows callers OpenFree found self.old self.new }
+    {
+        self.seen_free = self.seen_free.max(found.max(self.bound()));
+        self.seen_need = least_in(self.scan);
+        self.scan = None;
+        self.fresh = false;
+        self.steps = self.steps.saturating_add(1);
+        self.scans = self.scans.saturating_add(1);
+    }
+}
