@@ -237,6 +237,33 @@ impl<O: Object> Shared<O> {
         self.table.shared.fetch_sub::<Does<J>>(seat, word, k)
     }
 
+    /// A raise of a word to at least this one that is the event of this kind. It gives the word found.
+    pub(crate) fn max_event(
+        &self,
+        seat: &mut Seat<u8, View>,
+        kind: &Kind,
+        word: usize,
+        v: u64,
+    ) -> u64
+        requires event { IsEventOn self.now O.step O.only_reads kind.now word seat.old.table_id seat.old.me }
+        requires raises { Puts (instance_at self.now O.step O.only_reads) kind.now (known_of seat.old.me.0).local (λ x. max x v) }
+        ensures table { seat.new.table_id ≡ seat.old.table_id }
+        ensures taught { Teaches (instance_at self.now O.step O.only_reads) kind.now (known_of seat.old.me.0) result seat.new.me }
+    {
+        self.max_as::<Brand>(seat, kind, word, v)
+    }
+
+    fn max_as<J: Named>(&self, seat: &mut Seat<u8, View>, kind: &Kind, word: usize, v: u64) -> u64
+        requires table { seat.old.table_id ≡ self.now.table }
+        requires within { word < self.now.table.words }
+        requires allows { Allows (RuleHolds (instance_at self.now O.step O.only_reads)) self.now.table.slots seat.old.id seat.old.me word (λ x. max x v) J.tells }
+        ensures table { seat.new.table_id ≡ seat.old.table_id }
+        ensures told { J.tells result seat.new.me }
+    {
+        let _ = kind;
+        self.table.shared.fetch_max::<Does<J>>(seat, word, v)
+    }
+
     /// A raise of DUR by a code as what its caller noted tells what it answers, with a read that is answered or without. It
     /// gives the word found.
     pub(crate) fn raise_learned(
@@ -253,10 +280,10 @@ impl<O: Object> Shared<O> {
         ensures table { seat.new.table_id ≡ seat.old.table_id }
         ensures taught { (answers : List Answer) → IsRaiseLearned (instance_at self.now O.step O.only_reads) code answers (option_copied read.entry) (known_of seat.old.me.0) word → TeachesRaised (instance_at self.now O.step O.only_reads) code answers (option_copied read.entry) (known_of seat.old.me.0) seat.new.me }
     {
-        self.max_as::<Brand>(seat, word, code, read)
+        self.raise_as::<Brand>(seat, word, code, read)
     }
 
-    fn max_as<J: Named>(
+    fn raise_as<J: Named>(
         &self,
         seat: &mut Seat<u8, View>,
         word: usize,

@@ -9,6 +9,7 @@ mod make;
 mod raise_step;
 mod region_steps;
 mod remains;
+mod ring_steps;
 mod root_steps;
 mod seat;
 mod shared;

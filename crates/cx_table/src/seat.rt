@@ -8,7 +8,7 @@ ghost use Rattle.seat_memory.specs.Marks.{HasDirtyIn};
 ghost use Rattle.cx_rule.specs.Seats.{HasCells, IsWithinLimit, place_noted, unanswered_ticket};
 
 use atomic_table::Seat;
-use cx_core::{HeldDowngraded, SeenSlot, WonCode};
+use cx_core::{HeldDowngraded, Protection, SeenNeed, SeenSlot, WonCode};
 use cx_rule::View;
 use seat_memory::{Copies, Mirror};
 use std::marker::Model;
@@ -169,7 +169,6 @@ impl CallerSeat {
         self.mirror.fresh
     }
 
-    /// The replica whose exclusive right was turned into a shared one, and its place.
     /// The replica that the caller has downgraded, and its place.
     pub fn downgraded(&self) -> Option<HeldDowngraded>
         ensures { result ≡ self.now.known.local.downgraded }
@@ -196,6 +195,20 @@ impl CallerSeat {
         ensures { result ≡ self.now.known.local.floor }
     {
         self.mirror.floor
+    }
+
+    /// What keeps the cells from a ticket on from being given again, as the caller stated it.
+    pub fn protection(&self) -> Protection
+        ensures { result ≡ self.now.known.local.protection }
+    {
+        self.mirror.protection
+    }
+
+    /// The least need that the last whole scan found, and the least caller that had it.
+    pub fn seen_need(&self) -> Option<SeenNeed>
+        ensures { result ≡ self.now.known.local.seen_need }
+    {
+        self.mirror.seen_need
     }
 
     /// The scans ended. This stays at 2^64 - 1 once there.

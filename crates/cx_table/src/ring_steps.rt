@@ -1,0 +1,112 @@
+//! The step calls of the ring, in which cells come round again: what a caller needs is stated, confirmed and given up, and
+//! tickets are closed, scanned and opened. `Halt` comes exactly where the seat's steps equal its limit, and then nothing
+//! changes.
+
+ghost use Rattle.std.specs.Prelude.{OnErr, IfOk};
+ghost use Rattle.cx_core.specs.Events.{Guard};
+ghost use Rattle.cx_core.specs.declared.kinds.Kind.TheVariants.{Protect, Confirm, Unprotect, CloseLow, Scan, OpenFree};
+ghost use Rattle.cx_rule.specs.Running.{IsSeatOf, instance_at};
+ghost use Rattle.cx_rule.specs.Seats.{unseen};
+ghost use Rattle.cx_rule.specs.Steps.{Halts, Steps};
+
+use crate::seat::CallerSeat;
+use crate::shared::Shared;
+use cx_base::{Halt, Object};
+use cx_core::Kind;
+use cx_core::layout::{FREE_AT, LOW_AT, MAX_WORD, need_at};
+
+impl<O: Object> Shared<O> {
+    /// Stores in the caller's need that it needs the tickets from `p` on. It protects nothing before it is confirmed.
+    pub fn protect(&self, seat: &mut CallerSeat, p: u64) -> Result<(), Halt>
+        requires seat { IsSeatOf self.now seat.old }
+        requires guard { Guard (instance_at self.now O.step O.only_reads) unseen (Protect p) seat.old.known.local }
+        ensures made { IfOk result (λ _. Steps self.now O.step O.only_reads (Protect p) 0 seat.old seat.new) }
+        ensures halted { OnErr result (Halts self.now seat.old seat.new) }
+    {
+        let _ = &self.table;
+        seat.mirror.check()?;
+        let kind = Kind::Protect { p };
+        let word = need_at(seat.mirror.number);
+        self.store_event(&mut seat.seat, &kind, word, p);
+        seat.mirror.protect(p);
+        Ok(())
+    }
+
+    /// Loads LOW, which confirms the protection stated where it is at most its place: the tickets from there on are then not
+    /// closed.
+    pub fn confirm(&self, seat: &mut CallerSeat) -> Result<u64, Halt>
+        requires seat { IsSeatOf self.now seat.old }
+        requires guard { Guard (instance_at self.now O.step O.only_reads) unseen Confirm seat.old.known.local }
+        ensures made { IfOk result (λ found. Steps self.now O.step O.only_reads Confirm found seat.old seat.new) }
+        ensures halted { OnErr result (Halts self.now seat.old seat.new) }
+    {
+        let _ = &self.table;
+        seat.mirror.check()?;
+        let found = self.load_event(&mut seat.seat, &Kind::Confirm, LOW_AT);
+        seat.mirror.confirm(self.callers, found);
+        Ok(found)
+    }
+
+    /// Gives the caller's protection up: stores in its need that it needs no ticket.
+    pub fn unprotect(&self, seat: &mut CallerSeat) -> Result<(), Halt>
+        requires seat { IsSeatOf self.now seat.old }
+        requires guard { Guard (instance_at self.now O.step O.only_reads) unseen Unprotect seat.old.known.local }
+        ensures made { IfOk result (λ _. Steps self.now O.step O.only_reads Unprotect 0 seat.old seat.new) }
+        ensures halted { OnErr result (Halts self.now seat.old seat.new) }
+    {
+        let _ = &self.table;
+        seat.mirror.check()?;
+        let word = need_at(seat.mirror.number);
+        self.store_event(&mut seat.seat, &Kind::Unprotect, word, MAX_WORD);
+        seat.mirror.unprotect();
+        Ok(())
+    }
+
+    /// Raises LOW to a target, so that no protection below it is confirmed any more, and begins a scan of what the callers
+    /// need. It gives the word found.
+    pub fn close_low(&self, seat: &mut CallerSeat, target: u64) -> Result<u64, Halt>
+        requires seat { IsSeatOf self.now seat.old }
+        requires guard { Guard (instance_at self.now O.step O.only_reads) unseen (CloseLow target) seat.old.known.local }
+        ensures made { IfOk result (λ found. Steps self.now O.step O.only_reads (CloseLow target) found seat.old seat.new) }
+        ensures halted { OnErr result (Halts self.now seat.old seat.new) }
+    {
+        let _ = &self.table;
+        seat.mirror.check()?;
+        let kind = Kind::CloseLow { target };
+        let found = self.max_event(&mut seat.seat, &kind, LOW_AT, target);
+        seat.mirror.close_low(target);
+        Ok(found)
+    }
+
+    /// Loads the need of caller `d`, the next one of the caller's scan, which lowers the scan's bound to it.
+    pub fn scan(&self, seat: &mut CallerSeat, d: u64) -> Result<u64, Halt>
+        requires seat { IsSeatOf self.now seat.old }
+        requires guard { Guard (instance_at self.now O.step O.only_reads) unseen (Scan d) seat.old.known.local }
+        ensures made { IfOk result (λ found. Steps self.now O.step O.only_reads (Scan d) found seat.old seat.new) }
+        ensures halted { OnErr result (Halts self.now seat.old seat.new) }
+    {
+        let _ = &self.table;
+        seat.mirror.check()?;
+        let kind = Kind::Scan { d };
+        let word = need_at(d as u32);
+        let found = self.load_event(&mut seat.seat, &kind, word);
+        seat.mirror.scan(d, found);
+        Ok(found)
+    }
+
+    /// Raises FREE to the bound that the caller's scan of every need found, so that the cells of the tickets below it may be
+    /// written again, and ends the scan. It gives the word found.
+    pub fn open_free(&self, seat: &mut CallerSeat) -> Result<u64, Halt>
+        requires seat { IsSeatOf self.now seat.old }
+        requires guard { Guard (instance_at self.now O.step O.only_reads) unseen OpenFree seat.old.known.local }
+        ensures made { IfOk result (λ found. Steps self.now O.step O.only_reads OpenFree found seat.old seat.new) }
+        ensures halted { OnErr result (Halts self.now seat.old seat.new) }
+    {
+        let _ = &self.table;
+        seat.mirror.check()?;
+        let bound = seat.mirror.bound();
+        let found = self.max_event(&mut seat.seat, &Kind::OpenFree, FREE_AT, bound);
+        seat.mirror.open_free(found);
+        Ok(found)
+    }
+}
