@@ -1,6 +1,7 @@
 pub mod Bases
 pub mod EntryReads
 mod OneOfEach
+mod Opening
 mod Results
 mod Tries
 mod Updates

@@ -1,5 +1,7 @@
 -- What collecting cells comes to.
-use Rattle.std.specs.Prelude.{◌≡◌, ◌<◌, ◌≤◌, false, ℕ, min, Some, None}
+use Rattle.std.specs.Prelude.{◌≡◌, ◌<◌, ◌≤◌, false, ℕ, min, Option, Some, None}
+use Rattle.cx_core.specs.declared.local.Scan.{Scan}
+use Rattle.cx_core.specs.declared.local.SeenNeed.{SeenNeed}
 use Rattle.cx_core.specs.RingEvents.{need_word}
 use Rattle.cx_core.specs.State.{one_more}
 use Rattle.cx_table.specs.Seats.{Seated}
@@ -23,3 +25,23 @@ pub record Collects (callers target : ℕ) (before after : Seated) (found : Coll
   pub opened : min target found.need ≤ found.free
   pub holder : found.holder < callers
   pub own : found.holder ≡ before.known.local.number → found.need ≡ need_word before.known.local.protection
+
+-- a seat but for the scan under way and its steps
+abbrev pub but_scanned : Seated → Seated
+but_scanned s = record s { known = record s.known { local = record s.known.local { scan = None; steps = 0 } } }
+
+-- What a scan of the callers below one found: the bound is the least of the target and their needs, and the least need is noted with
+-- the least caller that had it. Where that is the caller which scans, it is the caller's own need.
+abbrev pub FindsLeast : ℕ → ℕ → ℕ → ℕ → ℕ → Option SeenNeed → Type 0
+FindsLeast target d number own bound None = (d ≡ 0) × (bound ≡ target)
+FindsLeast target d number own bound (Some least) = (least.caller < d) × (bound ≡ min target least.need) × (least.caller ≡ number → least.need ≡ own)
+
+-- a scan that has come to a caller
+abbrev pub ScansTo : ℕ → ℕ → ℕ → ℕ → Option Scan → Type 0
+ScansTo target d number own None = ⊥
+ScansTo target d number own (Some s) = (s.next ≡ d) × FindsLeast target d number own s.bound s.least
+
+-- LOW was raised to a target, and the needs of the callers below one were scanned
+pub record Scans (target d : ℕ) (before after : Seated) : Type 0 where
+  pub same : but_scanned after ≡ but_scanned before
+  pub scan : ScansTo target d before.known.local.number (need_word before.known.local.protection) after.known.local.scan

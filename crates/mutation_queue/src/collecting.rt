@@ -1,5 +1,15 @@
 //! Cells that nobody needs are opened, so that they can be written again.
 
+ghost use Rattle.std.specs.Prelude.{◌≡◌, ◌+◌, ◌^◌, ◌<◌, ◌≤◌, None, Some, IfOk, OnErr, OnOk};
+ghost use Rattle.cx_base.specs.Codes.{root_place_of};
+ghost use Rattle.cx_core.specs.declared.local.SeenNeed.{SeenNeed};
+ghost use Rattle.cx_table.specs.Running.{IsSeatOf};
+ghost use Rattle.cx_table.specs.Seats.{IsAtLimit};
+ghost use Rattle.mutation_queue.specs.Collecting.{Collects, Scans, but_collected};
+
+use cx_base::{Halt, Object};
+use cx_table::{CallerSeat, Shared};
+
 /// What collecting cells found.
 #[derive(Clone, Copy, Debug, PartialEq, Eq, Drop)]
 pub struct Collected {
@@ -8,4 +18,66 @@ pub struct Collected {
     /// The least caller that had the least need, and that need, which is 2^64 - 1 where no caller needs any.
     pub holder: u32,
     pub need: u64,
+}
+
+/// Collects cells: LOW is raised to a target, by which the tickets below it are closed, the need of each caller is scanned, and
+/// FREE is raised to the least of these and the target; cells with a ticket below FREE may then be written again. It makes as
+/// many steps as there are callers and three more. `Halt` comes exactly where a further step is to be made and the seat's steps
+/// equal its limit.
+pub fn collect<O: Object>(
+    shared: &Shared<O>,
+    seat: &mut CallerSeat,
+    target: u64,
+) -> Result<Collected, Halt>
+    requires seat { IsSeatOf shared.now seat.old }
+    requires target { target ≤ root_place_of shared.now.callers seat.old.known.local.seen_cur }
+    requires none { seat.old.known.local.scan ≡ None }
+    ensures allowed { OnOk result (¬ IsAtLimit seat.old.known.local) }
+    ensures collected { IfOk result (Collects shared.now.callers target seat.old seat.new) }
+    ensures halted { OnErr result (IsAtLimit seat.new.known.local) }
+    ensures rest { but_collected seat.new ≡ but_collected seat.old }
+    ensures steps { seat.new.known.local.steps ≤ seat.old.known.local.steps + shared.now.callers + 3 }
+    ensures seat { IsSeatOf shared.now seat.new }
+{
+    scan_needs(shared, seat, target)?;
+    shared.open_free(seat)?;
+    let free = shared.load_free(seat)?;
+    Ok(found_with(seat, free))
+}
+
+/// Raises LOW to a target and scans what each caller needs, one after another.
+fn scan_needs<O: Object>(shared: &Shared<O>, seat: &mut CallerSeat, target: u64) -> Result<(), Halt>
+    requires seat { IsSeatOf shared.now seat.old }
+    requires target { target ≤ root_place_of shared.now.callers seat.old.known.local.seen_cur }
+    requires none { seat.old.known.local.scan ≡ None }
+    ensures allowed { OnOk result (¬ IsAtLimit seat.old.known.local) }
+    ensures scans { OnOk result (Scans target shared.now.callers seat.old seat.new) }
+    ensures some { OnOk result ((1 ≤ shared.now.callers) × (shared.now.callers ≤ 8)) }
+    ensures halted { OnErr result (IsAtLimit seat.new.known.local) }
+    ensures rest { but_collected seat.new ≡ but_collected seat.old }
+    ensures steps { seat.new.known.local.steps ≤ seat.old.known.local.steps + shared.now.callers + 1 }
+    ensures seat { IsSeatOf shared.now seat.new }
+{
+    let callers = u64::from(shared.callers());
+    shared.close_low(seat, target)?;
+    for d in 0..callers {
+        shared.scan(seat, d)?;
+    }
+    Ok(())
+}
+
+/// What the last scan of the seat's caller found, and FREE as it was loaded.
+fn found_with(seat: &CallerSeat, free: u64) -> Collected
+    requires { (least : SeenNeed) × (seat.now.known.local.seen_need ≡ Some least) × (least.caller < 2 ^ 32) }
+    ensures free { result.free ≡ free }
+    ensures seen { seat.now.known.local.seen_need ≡ Some (record { need = result.need; caller = result.holder }) }
+{
+    let Some(least) = seat.seen_need() else {
+        unreachable!()
+    };
+    Collected {
+        free,
+        holder: least.caller as u32,
+        need: least.need,
+    }
 }

@@ -15,7 +15,7 @@ mod tests;
 
 pub use announcing::announce;
 pub use cells::idle_cell;
-pub use collecting::Collected;
+pub use collecting::{Collected, collect};
 pub use linking::{LinkTried, link};
-pub use protecting::Protected;
+pub use protecting::{Protected, protect, unprotect};
 pub use reading::entry;

@@ -1,5 +1,14 @@
 //! Tickets are protected while their entries are read.
 
+ghost use Rattle.std.specs.Prelude.{◌≡◌, ◌+◌, ◌^◌, ◌≤◌, IfOk, OnErr, OnOk};
+ghost use Rattle.cx_core.specs.RingEvents.{IsProtected, IsUnprotected};
+ghost use Rattle.cx_table.specs.Running.{IsSeatOf};
+ghost use Rattle.cx_table.specs.Seats.{IsAtLimit};
+ghost use Rattle.mutation_queue.specs.Protections.{TriesProtect, but_protected, unprotected};
+
+use cx_base::{Halt, Object};
+use cx_table::{CallerSeat, Shared};
+
 /// What protecting tickets came to.
 #[derive(Clone, Copy, Debug, PartialEq, Eq, Drop)]
 pub enum Protected {
@@ -7,4 +16,44 @@ pub enum Protected {
     Kept,
     /// The greatest LOW found is above the place, and no protection stands.
     Behind { low: u64 },
+}
+
+/// Protects the tickets from a place on: the place is stated, and LOW, below which tickets are closed, is loaded. Where LOW is at
+/// most the place, the protection is kept; where LOW is above it, the protection is given up again. It makes at most three steps.
+/// `Halt` comes exactly where a further step is to be made and the seat's steps equal its limit.
+pub fn protect<O: Object>(
+    shared: &Shared<O>,
+    seat: &mut CallerSeat,
+    place: u64,
+) -> Result<Protected, Halt>
+    requires seat { IsSeatOf shared.now seat.old }
+    requires place { place ≤ 2 ^ 40 }
+    requires none { IsUnprotected seat.old.known.local.protection }
+    ensures allowed { OnOk result (¬ IsAtLimit seat.old.known.local) }
+    ensures protected { IfOk result (TriesProtect shared.now.callers place seat.old seat.new) }
+    ensures halted { OnErr result (IsAtLimit seat.new.known.local) }
+    ensures rest { but_protected seat.new ≡ but_protected seat.old }
+    ensures steps { seat.new.known.local.steps ≤ seat.old.known.local.steps + 3 }
+    ensures seat { IsSeatOf shared.now seat.new }
+{
+    shared.protect(seat, place)?;
+    let low = shared.confirm(seat)?;
+    if low > place {
+        shared.unprotect(seat)?;
+        return Ok(Protected::Behind { low });
+    }
+    Ok(Protected::Kept)
+}
+
+/// Gives the protection up, which stands, in one step. `Halt` comes exactly where the seat's steps equal its limit.
+pub fn unprotect<O: Object>(shared: &Shared<O>, seat: &mut CallerSeat) -> Result<(), Halt>
+    requires seat { IsSeatOf shared.now seat.old }
+    requires stands { IsProtected seat.old.known.local.protection }
+    ensures allowed { OnOk result (¬ IsAtLimit seat.old.known.local) }
+    ensures given_up { OnOk result (seat.new ≡ unprotected seat.old) }
+    ensures halted { OnErr result (IsAtLimit seat.new.known.local) }
+    ensures rest { but_protected seat.new ≡ but_protected seat.old }
+    ensures seat { IsSeatOf shared.now seat.new }
+{
+    shared.unprotect(seat)
 }
