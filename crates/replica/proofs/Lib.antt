@@ -7,3 +7,4 @@ pub mod Persisting
 mod Renewing
 pub mod Updating
 pub mod Stepping
+pub mod Protecting

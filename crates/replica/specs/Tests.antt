@@ -1,6 +1,7 @@
 -- What the tests speak of.
 use Rattle.std.specs.Prelude.{◌≡◌, ◌<◌, ℕ, List, [], None, Result, Ok, Err}
 use Rattle.cx_core.specs.declared.local.Local.{Local}
+use Rattle.cx_core.specs.declared.local.Protection.TheVariants.{Unprotected}
 use Rattle.cx_core.specs.QueueEvents.{IsIdle}
 use Rattle.cx_rule.specs.Running.{IsSeatOf, Running}
 use Rattle.cx_rule.specs.Seats.{Seated}
@@ -25,18 +26,20 @@ pub record HasNoRight (l : Local) : Type 0 where
   pub downgraded : l.downgraded ≡ None
   pub won : l.won ≡ None
 
--- a caller without entries or rights, whose cell 0 is idle
+-- a caller without entries, rights or a protection, whose cell 0 is idle
 pub record IsNew {O : Type 0} (r : Running O) (seat : Seated) : Type 0 where
   pub of : IsSeatOf r seat
   pub idle : IsIdle seat.known.local 0
   pub own : seat.known.local.own ≡ []
   pub answered : seat.known.local.answered ≡ []
   pub free : HasNoRight seat.known.local
+  pub protection : seat.known.local.protection ≡ Unprotected
 
--- a caller without rights
+-- a caller without rights or a protection
 pub record IsFree {O : Type 0} (r : Running O) (seat : Seated) : Type 0 where
   pub of : IsSeatOf r seat
   pub free : HasNoRight seat.known.local
+  pub protection : seat.known.local.protection ≡ Unprotected
 
 -- where an entry was linked, the caller knows that it is
 abbrev pub KnowsLinked : Seated → LinkTried → Type 0
@@ -44,10 +47,11 @@ KnowsLinked seat (Linked ticket) = ticket < seat.known.local.front
 KnowsLinked seat Again = Unit {0}
 KnowsLinked seat Worn = Unit {0}
 
--- the tickets that are known to be linked, and what is downgraded, are the same
+-- the tickets that are known to be linked, what is downgraded, and the protection are the same
 pub record Keeps (before after : Seated) : Type 0 where
   pub front : after.known.local.front ≡ before.known.local.front
   pub downgraded : after.known.local.downgraded ≡ before.known.local.downgraded
+  pub protection : after.known.local.protection ≡ before.known.local.protection
 
 -- where a publication did not win, its right was given back
 abbrev pub GivenBack : ℕ → Seated → Result WonRight Right → Type 0

@@ -3,7 +3,9 @@
 ghost use Rattle.std.specs.Prelude.{◌≡◌, ◌+◌, ◌*◌, [], ◌∷◌, ◌≤◌, ◌<◌, IfOk, IfSome, OnOk, length};
 ghost use Rattle.cx_base.specs.Memory.{Words};
 ghost use Rattle.cx_core.specs.Base.{LawfulBase};
+ghost use Rattle.cx_core.specs.declared.local.Protection.TheVariants.{Confirmed, Unprotected};
 ghost use Rattle.cx_core.specs.Region.{region_words};
+ghost use Rattle.cx_core.specs.RingEvents.{Protects};
 ghost use Rattle.cx_rule.specs.Fitting.{IsNoted};
 ghost use Rattle.cx_rule.specs.Running.{IsSeatOf};
 ghost use Rattle.cx_table.specs.Tokens.{IsDowngradedOf};
@@ -18,7 +20,7 @@ use cx_base::tally::Tally;
 use cx_base::{Halt, Memory, Object};
 use cx_core::{Base, Entry};
 use cx_table::{CallerSeat, Downgraded, Exclusive, Shared, SharedHold};
-use mutation_queue::{LinkTried, announce, entry, link};
+use mutation_queue::{LinkTried, Protected, announce, entry, link, protect, unprotect};
 use std::alloc::{AllocError, Global};
 use std::test::Fail;
 
@@ -66,6 +68,7 @@ fn read_next<O: Object>(
     requires place { noted_place seat.old ≡ ticket }
     requires linked { ticket < seat.old.known.local.front }
     requires later { shared.now.base.place ≤ ticket }
+    requires protected { Protects ticket seat.old.known.local.protection }
     ensures ready { OnOk result (IsReady (O.line_count shared.now.object) shared.now (O.lawful shared.now.object) (O.step shared.now.object) held.now ticket seat.new) }
     ensures keeps { OnOk result (Keeps seat.old seat.new) }
     ensures entry { IfOk result (IsNotedEntry ticket seat.new) }
@@ -87,6 +90,7 @@ fn replay_ticket<O: Object>(
     requires place { noted_place seat.old ≡ ticket }
     requires linked { ticket < seat.old.known.local.front }
     requires later { shared.now.base.place ≤ ticket }
+    requires protected { Protects ticket seat.old.known.local.protection }
     ensures ready { OnOk result (IsReady (O.line_count shared.now.object) shared.now (O.lawful shared.now.object) (O.step shared.now.object) held.now (ticket + 1) seat.new) }
     ensures keeps { OnOk result (Keeps seat.old seat.new) }
 {
@@ -106,6 +110,7 @@ fn replay_to<O: Object>(
     requires linked { end ≤ seat.old.known.local.front }
     requires later { shared.now.base.place ≤ place }
     requires order { place ≤ end }
+    requires protected { seat.old.known.local.protection ≡ Confirmed place }
     ensures ready { OnOk result (IsReady (O.line_count shared.now.object) shared.now (O.lawful shared.now.object) (O.step shared.now.object) held.now end seat.new) }
     ensures keeps { OnOk result (Keeps seat.old seat.new) }
 {
@@ -113,6 +118,32 @@ fn replay_to<O: Object>(
         replay_ticket(shared, seat, held, ticket)?;
     }
     Ok(())
+}
+
+// Replays the entries from the place of a replica held exclusively up to a ticket, under a protection that is given up afterwards.
+// Nobody collects cells here, so that no caller is behind: one that is stops as if it was halted.
+fn replay_protected<O: Object>(
+    shared: &Shared<O>,
+    seat: &mut CallerSeat,
+    held: &Exclusive,
+    place: u64,
+    end: u64,
+) -> Result<(), Halt>
+    requires ready { IsReady (O.line_count shared.now.object) shared.now (O.lawful shared.now.object) (O.step shared.now.object) held.now place seat.old }
+    requires linked { end ≤ seat.old.known.local.front }
+    requires later { shared.now.base.place ≤ place }
+    requires order { place ≤ end }
+    requires none { seat.old.known.local.protection ≡ Unprotected }
+    ensures ready { OnOk result (IsReady (O.line_count shared.now.object) shared.now (O.lawful shared.now.object) (O.step shared.now.object) held.now end seat.new) }
+    ensures keeps { OnOk result (Keeps seat.old seat.new) }
+{
+    // tickets are few
+    let _front = seat.front();
+    let Protected::Kept = protect(shared, seat, place)? else {
+        return Err(Halt);
+    };
+    replay_to(shared, seat, held, place, end)?;
+    unprotect(shared, seat)
 }
 
 // Takes a replica, replays the entries up to a ticket on it, persists what was stored, and turns the right into a shared one.
@@ -138,7 +169,7 @@ pub(crate) fn renew<O: Object>(
     if place > end {
         return Ok(None);
     }
-    replay_to(shared, seat, &held, place, end)?;
+    replay_protected(shared, seat, &held, place, end)?;
     flush(shared, seat, &held)?;
     let (_, token) = shared.downgrade(seat, held)?;
     Ok(Some(token))
@@ -312,9 +343,10 @@ fn each_limit_halts_a_replay_or_not(rt: HostRuntime) -> Result<(), Fail> {
     let alloc = rt.alloc();
     let base = Base::fresh(alloc, &Tally)?;
     // the number and a word of the operation, which the cell does not have yet, and 2 steps to link; a try and the load of
-    // the place; 146 steps for the entry; for the full step the place loaded, Tally's load and store, the number loaded and
-    // stored, the reply loaded and its first word stored, the place stored; 4 words to persist; a downgrade
-    let all = 4 + 2 + 146 + (1 + 2 + 2 + 145 + 1) + 4 + 1;
+    // the place; 2 steps to protect it; 146 steps for the entry; for the full step the place loaded, Tally's load and store, the
+    // number loaded and stored, the reply loaded and its first word stored, the place stored; 1 step to give the protection up;
+    // 4 words to persist; a downgrade
+    let all = 4 + 2 + 2 + 146 + (1 + 2 + 2 + 145 + 1) + 1 + 4 + 1;
     for limit in 0..=all {
         let (shared, mut first, second) = made(alloc, Tally, &[limit, NO_LIMIT], &base)?;
         let _other = second;
