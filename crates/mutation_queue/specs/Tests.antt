@@ -1,5 +1,5 @@
 -- What the tests speak of.
-use Rattle.std.specs.Prelude.{◌≡◌, ◌+◌, ◌⊎◌, ℕ, List, [], ◌∷◌}
+use Rattle.std.specs.Prelude.{◌≡◌, ◌+◌, ◌⊎◌, ℕ, List, [], ◌∷◌, None}
 use Rattle.cx_core.specs.declared.entry.Entry.{Entry}
 use Rattle.cx_core.specs.declared.local.Linked.{Linked}
 use Rattle.cx_core.specs.declared.local.Local.{Local}
@@ -9,9 +9,10 @@ use Rattle.cx_table.specs.Seats.{Seated}
 use Rattle.mutation_queue.specs.declared.linking.LinkTried.{LinkTried}
 use Rattle.mutation_queue.specs.declared.linking.LinkTried.TheVariants.{Again, Linked as LinkedAt, Worn}
 
--- a caller without entries, whose cell 0 is idle
+-- a caller without entries, whose cell 0 is idle and which scans nothing
 pub record IsNew (l : Local) : Type 0 where
   pub idle : IsIdle l 0
+  pub scan : l.scan ≡ None
   pub own : l.own ≡ []
   pub answered : l.answered ≡ []
 

@@ -11,6 +11,8 @@ mod reading;
 #[cfg(test)]
 mod reading_tests;
 #[cfg(test)]
+mod ring_tests;
+#[cfg(test)]
 mod tests;
 
 pub use announcing::announce;

@@ -1,17 +1,19 @@
 //! An entry is read by the other caller.
 
 ghost use Rattle.std.specs.Prelude.{◌≡◌, ◌*◌, ◌<◌, ◌≤◌, OnErr, OnOk};
+ghost use Rattle.cx_core.specs.declared.local.Protection.TheVariants.{Confirmed};
 ghost use Rattle.cx_table.specs.Running.{IsSeatOf};
 
 use crate::tests::{NO_LIMIT, made, update};
-use crate::{LinkTried, entry};
+use crate::{LinkTried, Protected, entry, protect, unprotect};
 use cx_base::Halt;
 use cx_base::tally::Tally;
-use cx_core::Base;
+use cx_core::{Base, Protection};
 use cx_table::{CallerSeat, Shared};
 use std::test::Fail;
 
-// Reads the entry with a ticket, if the caller knows it to be linked.
+// Protects the tickets from one on, reads its entry and gives the protection up, if the caller knows it to be linked and protects
+// nothing yet.
 fn read(
     shared: &Shared<Tally>,
     seat: &mut CallerSeat,
@@ -22,11 +24,35 @@ fn read(
     requires later { shared.now.base.place ≤ ticket }
     ensures seat { IsSeatOf shared.now seat.new }
 {
-    if ticket < seat.front() {
-        Some(entry(shared, seat, ticket, into))
-    } else {
-        None
+    if ticket >= seat.front() {
+        return None;
     }
+    let Protection::Unprotected = seat.protection() else {
+        return None;
+    };
+    match protect(shared, seat, ticket) {
+        Ok(Protected::Kept) => Some(read_kept(shared, seat, ticket, into)),
+        Ok(Protected::Behind { .. }) => None,
+        Err(halt) => Some(Err(halt)),
+    }
+}
+
+// Reads the entry with a ticket from which on the caller protects, and gives the protection up.
+fn read_kept(
+    shared: &Shared<Tally>,
+    seat: &mut CallerSeat,
+    ticket: u64,
+    into: &mut [u64; 145],
+) -> Result<u32, Halt>
+    requires seat { IsSeatOf shared.now seat.old }
+    requires linked { ticket < seat.old.known.local.front }
+    requires later { shared.now.base.place ≤ ticket }
+    requires protection { seat.old.known.local.protection ≡ Confirmed ticket }
+    ensures seat { IsSeatOf shared.now seat.new }
+{
+    let caller = entry(shared, seat, ticket, into)?;
+    unprotect(shared, seat)?;
+    Ok(caller)
 }
 
 // Looks at a slot of a table of two callers.
@@ -73,12 +99,12 @@ fn each_reads_both_entries(rt: HostRuntime) -> Result<(), Fail> {
 fn a_reading_halts_at_each_limit(rt: HostRuntime) -> Result<(), Fail> {
     let alloc = rt.alloc();
     let base = Base::fresh(alloc, &Tally)?;
-    // 147 steps link an entry, and 146 read it
-    for limit in [147, 148, 200, 292, 293] {
+    // 147 steps link an entry, 2 protect it, 146 read it, and 1 gives the protection up
+    for limit in [147, 148, 149, 150, 200, 295, 296] {
         let (shared, first, _second) = made(alloc, &[limit, NO_LIMIT], &base)?;
         let (mut first, _) = update(&shared, first, &[5; 144], 2);
         let mut into = [0; 145];
-        let want = if limit < 293 { Err(Halt) } else { Ok(0) };
+        let want = if limit < 296 { Err(Halt) } else { Ok(0) };
         assert!(rt;
             read(&shared, &mut first, 0, &mut into) == Some(want),
             "at {limit}"

@@ -1,6 +1,6 @@
 //! Two callers on two threads, each limit of steps, a seat that stopped in the middle, and the end of tickets.
 
-ghost use Rattle.std.specs.Prelude.{◌≡◌, ◌<◌, ◌≤◌, [], ◌∷◌, IfOk, IfSome};
+ghost use Rattle.std.specs.Prelude.{◌≡◌, ◌^◌, ◌<◌, ◌≤◌, [], ◌∷◌, IfOk, IfSome};
 ghost use Rattle.cx_base.specs.Tally.{IsTally};
 ghost use Rattle.cx_core.specs.Base.{LawfulBase};
 ghost use Rattle.cx_core.specs.Merge.{IsHistory};
@@ -210,7 +210,8 @@ fn words_that_stand_there_are_not_written(rt: HostRuntime) -> Result<(), Fail> {
 #[test]
 fn no_ticket_is_left(rt: HostRuntime) -> Result<(), Fail> {
     let alloc = rt.alloc();
-    let base = near_the_end(alloc)?;
+    // one ticket is left
+    let base = base_at(alloc, (1 << 40) - 1)?;
     let (shared, first, second) = made(alloc, &[NO_LIMIT, NO_LIMIT], &base)?;
     let (first, one) = update(&shared, first, &[5; 144], 2);
     let (second, other) = update(&shared, second, &[7; 144], 2);
@@ -224,12 +225,13 @@ fn no_ticket_is_left(rt: HostRuntime) -> Result<(), Fail> {
     Ok(())
 }
 
-// The first base of Tally, at the last place from which a ticket is left.
-fn near_the_end(alloc: Global) -> Result<Base, AllocError>
-    ensures { IfOk result (LawfulBase 64 IsTally) }
+// The first base of Tally, at another place.
+pub(crate) fn base_at(alloc: Global, place: u64) -> Result<Base, AllocError>
+    requires { place ≤ 2 ^ 40 }
+    ensures lawful { IfOk result (LawfulBase 64 IsTally) }
+    ensures place { IfOk result (λ base. base.place ≡ place) }
 {
     let fresh = Base::fresh(alloc, &Tally)?;
-    let place = (1 << 40) - 1;
     let mut words = fresh.words.into_vec();
     words[0] = place;
     Ok(Base {
