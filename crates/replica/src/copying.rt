@@ -53,6 +53,7 @@ pub fn renew_from<O: Object>(
     ensures place { IfOk result (λ place. noted_place seat.new ≡ place) }
     ensures placed { OnOk result ((p : ℕ) → Contains (loaded_of seat.old.known.local.shared) (0, p) → noted_place seat.new ≡ p) }
     ensures rest { OnOk result (beside_copy seat.new ≡ without_shared (beside_copy seat.old)) }
+    ensures still { OnErr result (beside_copy seat.new ≡ beside_copy seat.old) }
     ensures seat { IsSeatOf shared.now seat.new }
     ensures halts { OnErr result (IsAtLimit seat.new.known.local) }
 {
