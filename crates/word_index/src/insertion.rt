@@ -129,7 +129,7 @@ fn put_pair<M: Memory>(mem: &mut M, way: &Way, key: &Key, doc: &Doc) -> Result<(
     Ok(())
 }
 
-/// The same, with each word that changes stored once.
+/// The same over a write buffer. Its room covers each change in at most 16,384 lines, so that there each word that changes is stored once.
 fn add<M: Memory>(mem: &mut M, way: &Way, key: &Key, doc: &Doc) -> Result<(), Halt>
     requires sized { IsPartLength (M.size mem.old) }
     requires writable { IsTrue (M.writable mem.old) }

@@ -49,7 +49,7 @@ fn cut_pair<M: Memory>(mem: &mut M, way: &mut Way, node: u64) -> Result<(), Halt
     Ok(())
 }
 
-/// The same, with each word that changes stored once.
+/// The same over a write buffer. Its room covers each change in at most 16,384 lines, so that there each word that changes is stored once.
 fn take_out<M: Memory>(mem: &mut M, way: &mut Way, node: u64) -> Result<(), Halt>
     requires sized { IsPartLength (M.size mem.old) }
     requires writable { IsTrue (M.writable mem.old) }

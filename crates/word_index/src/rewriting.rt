@@ -76,7 +76,7 @@ fn replace<M: Memory>(mem: &mut M, node: u64, doc: &Doc) -> Result<(), Halt>
     }
 }
 
-/// The same, with each word that changes stored once.
+/// The same over a write buffer. Its room covers each change in at most 16,384 lines, so that there each word that changes is stored once.
 pub fn rewrite<M: Memory>(mem: &mut M, node: u64, doc: &Doc) -> Result<(), Halt>
     requires sized { IsPartLength (M.size mem.old) }
     requires writable { IsTrue (M.writable mem.old) }

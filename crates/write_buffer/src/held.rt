@@ -6,14 +6,25 @@ ghost use Rattle.write_buffer.specs.Buffering.{AreHinted, IsFree};
 /// How many hints there are: as many words as 32 lines have, so that no hint is shared by words of other places in a line.
 const HINTS: u64 = 256;
 
+/// How many words are held back at most. That covers each change of an index in at most 16,384 lines, by a count by hand. A pair takes at
+/// least 3 lines, so a tree has at most 5,461 pairs; it is at most 17 high, since one 18 high has at least 6,764.
+///
+/// - A new pair: 139. Three words of each of the 22 lines that the longest pair takes, 5 of the header, and 4 for each of 17 nodes on
+///   the way: its links, its height, and that of its other child. The nodes that turn are among these.
+/// - A pair that goes: 130. A node loads 4 words on the way up from its higher side, and then does not turn; it loads at most 12 from
+///   its lower side, which is two levels down: links and heights of the three nodes that turn, and three heights. So 96 for 16 levels.
+///   Then the height of what is left, the 8 words of the node, a word of each of 21 lines of its key and document, and 4 of the header.
+/// - A document in place of another: 62. Three words of each of 19 lines, 3 of the header, and 2 of the node.
+const ROOM: usize = 192;
+
 /// Words held back from a memory: the place of each, what the memory has there, and what it is to have. At most 192
-/// are held back. A hint that is not set says that no place of its remainder is among them, so that most places are not searched for.
+/// are held back (`ROOM`). A hint that is not set says that no place of its remainder is among them, so that most places are not searched for.
 #[derive(Drop)]
 pub struct Held {
     pub count: usize,
-    pub places: [u64; 192],
-    pub found: [u64; 192],
-    pub values: [u64; 192],
+    pub places: [u64; ROOM],
+    pub found: [u64; ROOM],
+    pub values: [u64; ROOM],
     hints: [bool; 256],
     ghost hinted: { AreHinted places count hints },
 }
@@ -25,9 +36,9 @@ impl Held {
     {
         Held {
             count: 0,
-            places: [0; 192],
-            found: [0; 192],
-            values: [0; 192],
+            places: [0; ROOM],
+            found: [0; ROOM],
+            values: [0; ROOM],
             hints: [false; 256],
         }
     }
