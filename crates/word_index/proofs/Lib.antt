@@ -13,6 +13,7 @@ pub mod Splits
 pub mod KeyOrders
 pub mod WordsApart
 pub mod KeyPlaces
+pub mod KeyWords
 pub mod Reaching
 pub mod Relaying
 pub mod Cutting

@@ -2,7 +2,7 @@
 
 ghost use Rattle.std.specs.Prelude.{◌≡◌, ◌+◌, ◌*◌, ◌/◌, ◌%◌, ◌<◌, ◌≤◌, ◌≢◌, ℕ, List, IsTrue, IfOk, OnErr, Some, length, replicate};
 ghost use Rattle.cx_base.specs.Memory.{Always, Loaded, Stored, Becomes, Framed, Reads};
-ghost use Rattle.cx_base.specs.Packing.{packed};
+ghost use Rattle.cx_base.specs.Packing.{packed, packed_at};
 ghost use Rattle.avl_words.specs.Lines.{IsWithin, IsPartLength, word_of};
 ghost use Rattle.index_checks.specs.Blocks.{HasWords, IsText, HasText};
 ghost use Rattle.index_checks.specs.Layout.{Holds};
@@ -11,21 +11,29 @@ ghost use Rattle.word_index.specs.Answers.{IsPackOf};
 use avl_words::word;
 use cx_base::{Halt, Memory};
 
-/// The block line in which the word after the i-th one stands, where the i-th stands in `line`.
-fn line_after<M: Memory>(mem: &mut M, line: u64, i: usize) -> Result<u64, Halt>
+/// The block line in which the word behind one stands that is word `place` of `line`, from 0 to 6.
+fn line_after<M: Memory>(mem: &mut M, line: u64, place: u64) -> Result<u64, Halt>
     requires sized { IsPartLength (M.size mem.old) }
     requires line { Always (M.stands mem.old) (λ ws. IsWithin ws line) }
     ensures done { IfOk result (λ next. Reads (M.stands mem.old) (M.stands mem.new)
-        (λ ws. (i % 7 ≡ 6 → word_of ws line 0 ≡ next) × (i % 7 ≢ 6 → next ≡ line))) }
+        (λ ws. (place ≡ 6 → word_of ws line 0 ≡ next) × (place ≢ 6 → next ≡ line))) }
     ensures kept { Becomes (M.stands mem.old) (M.stands mem.new) ◌≡◌ }
     ensures halts { OnErr result (M.left mem.new ≡ Some 0) }
     ensures framed { Framed M.size M.fixed M.writable M.left mem.old mem.new }
 {
-    if i % 7 == 6 {
+    if place == 6 {
         word(mem, line, 0)
     } else {
         Ok(line)
     }
+}
+
+/// The place of the word behind one in its block.
+fn place_after(place: u64) -> u64
+    requires { place < 7 }
+    ensures { (i : ℕ) → place ≡ i % 7 → result ≡ (i + 1) % 7 }
+{
+    if place == 6 { 0 } else { place + 1 }
 }
 
 /// Reads the packed words of a chain of blocks, of which `count` have a byte in use.
@@ -46,11 +54,33 @@ fn read_words<M: Memory>(
     ensures framed { Framed M.size M.fixed M.writable M.left mem.old mem.new }
 {
     let mut line = first;
+    let mut place = 0;
     for i in 0..count {
-        into[i] = word(mem, line, 1 + (i % 7) as u64)?;
-        line = line_after(mem, line, i)?;
+        into[i] = word(mem, line, 1 + place)?;
+        line = line_after(mem, line, place)?;
+        place = place_after(place);
     }
     Ok(())
+}
+
+/// A word of a chain of blocks of which at most 8 words have a byte in use, and this one has. The first seven stand in the first block.
+pub fn early_word<M: Memory>(mem: &mut M, first: u64, at: usize) -> Result<u64, Halt>
+    requires sized { IsPartLength (M.size mem.old) }
+    requires at { at < 8 }
+    requires chain { Always (M.stands mem.old) (λ ws. (count : ℕ) × (at < count) × HasWords ws first count) }
+    ensures done { IfOk result (λ v. Reads (M.stands mem.old) (M.stands mem.new)
+        (λ ws. (lines bytes : List ℕ) → Holds ws first lines bytes → at < (length bytes + 7) / 8 → v ≡ packed_at bytes at)) }
+    ensures kept { Becomes (M.stands mem.old) (M.stands mem.new) ◌≡◌ }
+    ensures halts { OnErr result (M.left mem.new ≡ Some 0) }
+    ensures framed { Framed M.size M.fixed M.writable M.left mem.old mem.new }
+{
+    if at < 7 {
+        let low = word(mem, first, 1 + at as u64)?;
+        return Ok(low);
+    }
+    let second = word(mem, first, 0)?;
+    let high = word(mem, second, 1)?;
+    Ok(high)
 }
 
 /// Reads the bytes that a node names by its words `at` and `at + 1`, and gives their number.

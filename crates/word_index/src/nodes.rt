@@ -9,8 +9,8 @@ ghost use Rattle.index_checks.specs.Layout.{IsIndex, StandsFor};
 ghost use Rattle.word_index.specs.Answers.{IsPackOf, IsNodeOf};
 ghost use Rattle.word_index.specs.Walk.{HasNode};
 
-use crate::blocks::read_text;
-use crate::texts::{Doc, Key, key_order};
+use crate::blocks::{early_word, read_text};
+use crate::texts::{Doc, Key, order_apart};
 use avl_words::word;
 use cx_base::{Halt, Memory};
 use std::cmp::Ordering;
@@ -58,7 +58,7 @@ pub fn doc_at<M: Memory>(mem: &mut M, node: u64) -> Result<Doc, Halt>
     Ok(Doc { len, words })
 }
 
-/// How the key of a node compares with another key.
+/// How the key of a node compares with another key. Its words are compared where they stand, up to the first that differs.
 pub fn order_at<M: Memory>(mem: &mut M, node: u64, key: &Key) -> Result<Ordering, Halt>
     requires sized { IsPartLength (M.size mem.old) }
     requires node { Always (M.stands mem.old) (λ ws. HasNode ws node) }
@@ -69,6 +69,14 @@ pub fn order_at<M: Memory>(mem: &mut M, node: u64, key: &Key) -> Result<Ordering
     ensures halts { OnErr result (M.left mem.new ≡ Some 0) }
     ensures framed { Framed M.size M.fixed M.writable M.left mem.old mem.new }
 {
-    let other = key_at(mem, node)?;
-    Ok(key_order(&other, key))
+    let first = word(mem, node, 3)?;
+    let len = word(mem, node, 4)?;
+    for at in 0..len.min(key.len).div_ceil(8) as usize {
+        let other = early_word(mem, first, at)?;
+        let mine = key.words[at];
+        if other != mine {
+            return Ok(order_apart(at, other, mine, len, key.len));
+        }
+    }
+    Ok(len.cmp(&key.len))
 }

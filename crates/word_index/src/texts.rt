@@ -46,20 +46,3 @@ pub fn order_apart(at: usize, left: u64, right: u64, left_len: u64, right_len: u
         left_len.cmp(&right_len)
     }
 }
-
-/// How one key's bytes compare with another's.
-pub fn key_order(left: &Key, right: &Key) -> Ordering
-    requires left { left.now.len ≤ 64 }
-    requires right { right.now.len ≤ 64 }
-    ensures { result
-        ≡ key_cmp (unpacked left.now.len left.now.words) (unpacked right.now.len right.now.words) }
-{
-    for at in 0..left.len.min(right.len).div_ceil(8) as usize {
-        let mine = left.words[at];
-        let other = right.words[at];
-        if mine != other {
-            return order_apart(at, mine, other, left.len, right.len);
-        }
-    }
-    left.len.cmp(&right.len)
-}

@@ -1,5 +1,5 @@
 use Rattle.cx_base.proofs.MemoryLemmas.{Framed-then}
-use Rattle.std.proofs.Common.{◌≡◌, ◌≢◌, ◌<◌, length, arith, rules, subst}
+use Rattle.std.proofs.Common.{◌≡◌, ◌≢◌, ◌<◌, ◌+◌, ◌*◌, get_or, length, arith, rules, subst, sym, ap, ◌∙◌}
 use Rattle.std.proofs.lemmas.List.{length-set, get_or-set_other}
 use Rattle.cx_base.specs.Packing.{packed}
 use Rattle.cx_base.proofs.ReadLemmas.{kept_then, Reads-loaded, Reads-then, Reads-weaker}
@@ -14,7 +14,9 @@ loop-i-preserved g c =
     let below : c.loop-i.i < c.args.count = c.loop-i-test.true in
     let room : c.loop-i.i < length c.loop-i.into = omega (arith, i.room) in
     record {
-      done = Reads-then (Reads-loaded i.done w.done) a.done (λ ws pe q. read_more ws c.args.first c.args.count c.loop-i.i c.loop-i.line c.in_ok-line.line c.in_ok-into.field-0 c.loop-i.into below room pe.0 pe.1 q);
+      done = Reads-then (Reads-loaded i.done w.done) a.done (λ ws pe q. read_more ws c.args.first c.args.count c.loop-i.i c.loop-i.line c.in_ok-line.line c.in_ok-into.field-0 c.loop-i.into below room pe.0
+          (sym (ap (λ p. get_or ws (8 * c.loop-i.line + (1 + p)) 0) i.place) ∙ pe.1) (λ e. q.0 (i.place ∙ e), λ e. q.1 (λ p. e (sym i.place ∙ p))));
+      place = c.place_after-place.ensures c.loop-i.i i.place;
       rest = λ k past. (let ne : k ≢ c.loop-i.i = omega arith in rw get_or-set_other (i.rest k (omega arith)));
       room = rw length-set i.room;
       kept = kept_then (kept_then i.kept w.kept) a.kept;

@@ -1,4 +1,4 @@
-use Rattle.std.proofs.Common.{◌≡◌, ◌≤◌, ℕ, get_or, length}
+use Rattle.std.proofs.Common.{◌≡◌, ◌≤◌, ◌%◌, ℕ, get_or, length}
 use Rattle.cx_base.specs.Memory.{Becomes, Framed, Reads}
 use Rattle.avl_words.specs.Lines.{IsPartLength}
 use Rattle.index_checks.proofs.BlockReads.{ReadSoFar}
@@ -7,6 +7,7 @@ use Rattle.word_index.proofs.blocks.read_words.Given as goal
 abbrev pub invariant-loop-i : goal.invariant-loop-i
 invariant-loop-i g l = record {
   done : Reads (g.M.Memory.stands l.fn.mem) (g.M.Memory.stands l.mem) (ReadSoFar l.first l.count l.i l.line l.into);
+  place : l.place ≡ l.i % 7;
   rest : (k : ℕ) → l.i ≤ k → get_or l.into k 0 ≡ 0;
   room : l.count ≤ length l.into;
   kept : Becomes (g.M.Memory.stands l.fn.mem) (g.M.Memory.stands l.mem) ◌≡◌;
