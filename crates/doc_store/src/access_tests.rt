@@ -1,66 +1,28 @@
 //! How many accesses of the memory operations take, by the number of keys.
 
-ghost use Rattle.std.specs.Prelude.{◌≡◌, ◌*◌, ◌^◌, ◌<◌, ◌≤◌, IsTrue, IfOk, OnOk, length};
+ghost use Rattle.std.specs.Prelude.{◌≡◌, ◌*◌, ◌^◌, ◌<◌, ◌≤◌, IsTrue, IfOk, OnOk};
 ghost use Rattle.cx_base.specs.Memory.{Always};
 ghost use Rattle.doc_store.specs.ExactStep.{IsImage};
 
 use crate::DocStore;
+use crate::counting::{Counting, counted_words};
 use crate::mixed_tests::digit;
 use crate::store_tests::{asked, lay, opened, put_word};
-use cx_base::{Halt, Memory, VecMemory};
-use std::alloc::Global;
+use cx_base::{Halt, Memory};
 use std::process::Abort;
 use std::test::Fail;
 
-const PUT: u64 = 1;
+pub(crate) const PUT: u64 = 1;
 
-const DEL: u64 = 2;
+pub(crate) const DEL: u64 = 2;
 
 const GET: u64 = 4;
 
 /// A cost that is no less.
 const MANY: u64 = 1 << 32;
 
-/// A memory that counts its loads and its stores.
-#[derive(Drop)]
-struct Counting<M: Memory> {
-    inner: M,
-    loads: u64,
-    stores: u64,
-}
-
-impl<M: Memory> Memory for Counting<M> {
-    ghost size = { λ c. M.size c.inner };
-
-    ghost Fixed = { M.Fixed };
-
-    ghost fixed = { λ c. M.fixed c.inner };
-
-    ghost writable = { λ c. M.writable c.inner };
-
-    ghost left = { λ c. M.left c.inner };
-
-    ghost Key = { M.Key };
-
-    ghost stands = { λ c. M.stands c.inner };
-
-    ghost some_stands = { λ c. M.some_stands c.inner };
-
-    ghost words = { λ c. M.words c.inner };
-
-    fn load(&mut self, at: u64) -> Result<u64, Halt> {
-        self.loads = self.loads.saturating_add(1);
-        self.inner.load(at)
-    }
-
-    fn store(&mut self, at: u64, v: u64) -> Result<(), Halt> {
-        self.stores = self.stores.saturating_add(1);
-        self.inner.store(at, v)
-    }
-}
-
 /// The words of an operation on the n-th key of 16 bytes, with a document of so many letters.
-fn on_key(kind: u64, n: u64, letter: u8, len: usize) -> [u64; 144] {
+pub(crate) fn on_key(kind: u64, n: u64, letter: u8, len: usize) -> [u64; 144] {
     let mut key = *b"k000000000000000";
     let mut rest = n;
     for i in 0..15 {
@@ -141,21 +103,8 @@ fn most_loads<M: Memory>(store: &DocStore, mem: &mut Counting<M>, keys: u64) -> 
     Ok(most)
 }
 
-/// A store of so many lines over words that say nothing, counted.
-fn counted_words(alloc: Global, lines: u64) -> Result<Counting<VecMemory>, Fail>
-    requires { lines < 2 ^ 20 }
-    ensures { IfOk result (λ c. length c.inner.words.items ≡ 8 * lines) }
-{
-    let words = vec![in alloc; u64::MAX; 8 * lines as usize]?;
-    Ok(Counting {
-        inner: VecMemory::of(words, None),
-        loads: 0,
-        stores: 0,
-    })
-}
-
 /// The height of the root that the header names.
-fn height_in(words: &[u64]) -> Option<u64> {
+pub(crate) fn height_in(words: &[u64]) -> Option<u64> {
     let root = *words.get(1)?;
     words
         .get(root.saturating_mul(8).saturating_add(2) as usize)

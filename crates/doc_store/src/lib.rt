@@ -5,6 +5,8 @@
 mod access_tests;
 mod changes;
 #[cfg(test)]
+mod counting;
+#[cfg(test)]
 mod mixed_tests;
 mod numbers;
 #[cfg(test)]
