@@ -1,5 +1,5 @@
 -- What an exchange of CUR, and the release of a downgraded right, leave of the seat.
-use Rattle.std.proofs.Common.{◌≡◌, ◌≢◌, ◌==◌, ◌<◌, ◌≤◌, ◌*◌, inl, inr, ℕ, Bool, true, false, cond, ap, sym, subst, ◌∙◌, refl, arith, eq-eqb, List, ◌++◌, [], append-nil, Option, Some, None, Result, Ok, Err}
+use Rattle.std.proofs.Common.{◌≡◌, ◌≢◌, ◌==◌, ◌<◌, ◌≤◌, ◌*◌, ◌^◌, inl, inr, ℕ, Bool, true, false, cond, ap, sym, subst, ◌∙◌, refl, arith, eq-eqb, List, ◌++◌, [], append-nil, Option, Some, None, Result, Ok, Err}
 use Rattle.std.proofs.lemmas.Bool.{cases_Bool, eqb-true}
 use Rattle.std.proofs.Math.Nat.{div-lt_iff_lt-mul, le-max_left}
 use Rattle.cx_base.specs.Codes.{root_place_of}
@@ -25,6 +25,11 @@ may_publish callers code (Some h) below = below
 -- a code that is below a place is below the first code of that place
 pub below_place : (callers code place : ℕ) → 1 ≤ callers → root_place_of callers code < place → code < place * (2 * callers)
 below_place callers code place some below = (div-lt_iff_lt-mul {k = 2 * callers} {x = code} {y = place} (omega (arith, some))).0 below
+
+-- a count that may rise does not fall
+not_less : (n : ℕ) → n < 2 ^ 64 → (rises : Bool) → n ≤ cond rises (one_more n) n
+not_less n small true = omega arith
+not_less n small false = omega arith
 
 module _ {O : Type 0} (r : Running O) (step : O → List ℕ → List ℕ → List ℕ × List ℕ) (reads : O → List ℕ → Bool) (found : ℕ) (before after : Seated) (s : Steps r step reads Publish found before after) where
   -- the seat after the exchange, by whether it was won
@@ -56,6 +61,14 @@ module _ {O : Type 0} (r : Running O) (step : O → List ℕ → List ℕ → Li
 
   pub exchange_met : KeepsMet before after
   exchange_met = subst (KeepsMet before) (sym s.made) (met_by (found == before.known.local.seen_cur))
+
+  counted_by : before.known.local.met < 2 ^ 64 → (won : Bool) → before.known.local.met ≤ (by won).known.local.met
+  counted_by small true = omega arith
+  counted_by small false = not_less before.known.local.met small before.known.local.fresh
+
+  -- no refusal is taken back
+  pub exchange_counted : before.known.local.met < 2 ^ 64 → before.known.local.met ≤ after.known.local.met
+  exchange_counted small = subst (λ (t : Seated). before.known.local.met ≤ t.known.local.met) (sym s.made) (counted_by small (found == before.known.local.seen_cur))
 
   pub exchanged : (held : Right) (x : Result WonRight Right) → before.known.local.won ≡ None → TriedPublish r.callers before held after found x → Exchanges r.callers before after x
   exchanged held (Ok won) none tried =

@@ -57,6 +57,7 @@ pub record Turns {O : Type 0} (r : Running O) (first seat : Seated) (right : Rig
   pub front : first.known.local.front ≤ seat.known.local.front
   pub rest : beside_publish seat ≡ beside_publish first
   pub met : KeepsMet first seat
+  pub counted : first.known.local.met ≤ seat.known.local.met
   pub stale : first.known.local.fresh ≡ false → seat.known.local.fresh ≡ false
 
 -- a code was found in CUR whose place is not below the caller's own: the caller gave its right up

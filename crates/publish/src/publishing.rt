@@ -35,6 +35,7 @@ pub fn publish<O: Object>(
     ensures seat { IsSeatOf shared.now seat.new }
     ensures front { seat.old.known.local.front ≤ seat.new.known.local.front }
     ensures met { KeepsMet seat.old seat.new }
+    ensures counted { seat.old.known.local.met ≤ seat.new.known.local.met }
     ensures rest { beside_publish seat.new ≡ beside_publish seat.old }
     ensures halts { OnErr result (IsAtLimit seat.new.known.local) }
 {
@@ -64,6 +65,7 @@ fn pass<O: Object>(
     ensures seat { IsSeatOf shared.now seat.new }
     ensures front { seat.old.known.local.front ≤ seat.new.known.local.front }
     ensures met { KeepsMet seat.old seat.new }
+    ensures counted { seat.old.known.local.met ≤ seat.new.known.local.met }
     ensures rest { beside_publish seat.new ≡ beside_publish seat.old }
     ensures halts { OnErr result (IsAtLimit seat.new.known.local) }
 {
@@ -86,9 +88,12 @@ fn exchange<O: Object>(
     ensures seat { IsSeatOf shared.now seat.new }
     ensures front { seat.old.known.local.front ≤ seat.new.known.local.front }
     ensures met { KeepsMet seat.old seat.new }
+    ensures counted { seat.old.known.local.met ≤ seat.new.known.local.met }
     ensures rest { beside_publish seat.new ≡ beside_publish seat.old }
     ensures halts { OnErr result (IsAtLimit seat.new.known.local) }
 {
+    // counts are words
+    let _met = seat.met();
     let (_found, exchanged) = shared.publish(seat, held)?;
     Ok(exchanged)
 }
