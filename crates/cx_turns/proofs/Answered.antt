@@ -7,6 +7,7 @@ use Rattle.cx_base.specs.Codes.{root_place_of}
 use Rattle.cx_core.specs.declared.kinds.Kind.TheVariants.{Retire}
 use Rattle.cx_core.specs.declared.local.HeldDowngraded.{HeldDowngraded}
 use Rattle.cx_core.specs.declared.local.Linked.{Linked}
+use Rattle.cx_core.specs.declared.local.Protection.TheVariants.{Unprotected}
 use Rattle.cx_core.specs.RootEvents.{code_in, unanswered}
 use Rattle.cx_core.specs.State.{one_more}
 use Rattle.cx_core.proofs.RootCodes.{code_place}
@@ -89,23 +90,22 @@ module _ {O : Type 0} (r : Running O) (lawful : List ℕ → Type 0) (step : Lis
       (subst (λ t. TellsReply r.lines lawful r.base step seat.known t reply) (sym is) p.tells))
 
   -- what is ready once it is prepared
-  pub prepared_ready : (held : ℕ) (before after : Seated) → beside_turn after ≡ beside_turn before → IsAtRest before.known.local → unanswered_ticket before.known.local ≡ Some ticket → after.known.local.fresh ≡ false →
+  pub prepared_ready : (held : ℕ) (before after : Seated) → beside_turn after ≡ beside_turn before → IsAtRest before.known.local → unanswered_ticket before.known.local ≡ Some ticket → after.known.local.protection ≡ Unprotected →
       after.known.local.downgraded ≡ Some (record { replica = held; place = noted_place after }) → ticket < noted_place after → all_rights after ≡ record no_rights { downgraded = Some held } → TellsReply r.lines lawful r.base step after.known ticket reply →
       after.known.local.refused ≡ [] → IsReadyFor r lawful step ticket reply after
-  prepared_ready held before after same rest last stale on above rights tells refused = record {
+  prepared_ready held before after same rest last unprotected on above rights tells refused = record {
     rest = record {
       exclusive = none_of _ after.known.local.exclusive (ap (λ (a : AllRights). a.exclusive) rights);
       shared = none_of _ after.known.local.shared (ap (λ (a : AllRights). a.shared) rights);
       passer = ap (λ (a : AllRights). a.passer) rights;
       downgraded = refl;
       won = refl;
-      protection = ap (λ (s : Seated). s.known.local.protection) same ∙ rest.protection;
+      protection = unprotected;
       scan = ap (λ (s : Seated). s.known.local.scan) same ∙ rest.scan;
       refused = refused;
       fresh = refl;
     };
     none = ap (λ (a : AllRights). a.won) rights;
-    stale = stale;
     above = subst (λ o. ticket < place_in o) (sym on) above;
     tells = tells;
     last = ap (λ (s : Seated). unanswered_ticket s.known.local) same ∙ last;

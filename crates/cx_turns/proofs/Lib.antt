@@ -1,4 +1,5 @@
 pub mod Queries
+mod Kept
 pub mod ReadSteps
 mod Refusals
 mod Taken

@@ -14,6 +14,7 @@ use Rattle.cx_rule.specs.Running.{Running, instance_at}
 use Rattle.cx_rule.specs.Seats.{Seated, is_outdated, marked_load}
 use Rattle.cx_rule.specs.Steps.{Steps}
 use Rattle.cx_table.specs.Right.{Right}
+use Rattle.cx_turns.specs.Keeping.{HoldsCurrent}
 use Rattle.cx_turns.specs.Reads.{IsRead}
 use Rattle.cx_rule.specs.Raises.{TellsRead}
 use Rattle.replica.specs.Held.{IsHeldShared, LoadsShared, beside_shared}
@@ -41,11 +42,26 @@ shows_place : (callers code q : ℕ) (o : Option HeldShared) → option_map (λ 
 shows_place callers code q None there is has = absurd (none-some q there)
 shows_place callers code q (Some h) there is has = (same_Some h.replica q there ∙ is, has)
 
-module _ {O : Type 0} (lines : ℕ) (r : Running O) (step : List ℕ → List ℕ → List ℕ × List ℕ) (lawful : List ℕ → Type 0) (op : List ℕ) (hold : Right) (reply : List ℕ) (before after : Seated) where
-  -- the rights beside the shared one
-  with_shared : Seated → Option ℕ → AllRights
-  with_shared s shared = record (all_rights s) { shared = shared }
+-- the rights beside the shared one
+with_shared : Seated → Option ℕ → AllRights
+with_shared s shared = record (all_rights s) { shared = shared }
 
+-- where the place was loaded that the code names, the replica is held at it
+pub is_current : {O : Type 0} (lines : ℕ) (r : Running O) (lawful : List ℕ → Type 0) (hold : Right) (found : ℕ) (before after : Seated) → LoadsShared lines r lawful hold 0 found before after → hold.replica ≡ root_replica_of r.callers before.known.local.seen_cur →
+    found ≡ root_place_of r.callers before.known.local.seen_cur → before.known.local.fresh ≡ true → Contains (loaded_of after.known.local.shared) (0, found) → HoldsCurrent lines r lawful (record (all_rights before) { shared = None }) before after hold
+unfolding with_shared
+is_current lines r lawful hold found before after made here is fresh has =
+    let cur : after.known.local.seen_cur ≡ before.known.local.seen_cur = ap (λ (s : Seated). s.known.local.seen_cur) made.rest in
+    record {
+      held = made.still;
+      here = here ∙ ap (root_replica_of r.callers) (sym cur);
+      place = subst (λ n. Contains (loaded_of after.known.local.shared) (0, n)) (is ∙ ap (root_place_of r.callers) (sym cur)) has;
+      with = ap (with_shared after) made.still.right.holds ∙ ap (λ (s : Seated). with_shared s (Some hold.replica)) made.rest;
+      fresh = ap (λ (s : Seated). s.known.local.fresh) made.rest ∙ fresh;
+      met = ap (λ (s : Seated). s.known.local.met) made.rest;
+    }
+
+module _ {O : Type 0} (lines : ℕ) (r : Running O) (step : List ℕ → List ℕ → List ℕ × List ℕ) (lawful : List ℕ → Type 0) (op : List ℕ) (hold : Right) (reply : List ℕ) (before after : Seated) where
   -- a read of the replica that the code last loaded from CUR names, at that code's place
   pub is_read : (place : ℕ) → beside_shared hold.replica after ≡ beside_shared hold.replica before → IsHeldShared lines r lawful after hold → hold.replica ≡ root_replica_of r.callers before.known.local.seen_cur → place ≡ root_place_of r.callers before.known.local.seen_cur →
       all_rights before ≡ record no_rights { shared = Some hold.replica } → before.known.local.fresh ≡ true → Contains (loaded_of after.known.local.shared) (0, place) → TellsRead lines lawful r.base step after.known op reply →

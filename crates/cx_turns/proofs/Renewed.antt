@@ -1,10 +1,13 @@
 -- What a caller has that prepared a replica, and one to which each was refused.
-use Rattle.std.proofs.Common.{◌≡◌, ◌<◌, ℕ, Bool, List, [], ap, sym, subst, ◌∙◌, append-nil, Some, None}
+use Rattle.std.proofs.Common.{◌≡◌, ◌<◌, ℕ, Bool, List, ap, sym, subst, ◌∙◌, append-nil, Option, Some, None}
 use Rattle.cx_core.specs.declared.local.HeldDowngraded.{HeldDowngraded}
+use Rattle.cx_core.specs.declared.local.Protection.TheVariants.{Unprotected}
+use Rattle.cx_core.specs.Rights.{exclusive_on}
 use Rattle.cx_rule.specs.Fitting.{Fits, ReplayedTo, SomeFits}
 use Rattle.cx_rule.specs.Running.{Running}
 use Rattle.cx_rule.specs.Seats.{Seated}
 use Rattle.cx_table.specs.Right.{Right}
+use Rattle.cx_turns.specs.Keeping.{Others, no_others, others, unguarded}
 use Rattle.cx_turns.specs.Preparing.{Prepares}
 use Rattle.cx_turns.specs.Replaying.{IsBroughtUp, ShowsReply, beside_work}
 use Rattle.cx_turns.proofs.Working.{rights_kept}
@@ -12,10 +15,17 @@ use Rattle.replica.specs.Replays.{noted_place}
 use Rattle.strong_trylock.specs.Ends.{Downgrades}
 use Rattle.strong_trylock.specs.Held.{AllRights, all_rights, no_rights}
 
-pub renewed : {O : Type 0} (lines : ℕ) (r : Running O) (lawful : List ℕ → Type 0) (step : O → List ℕ → List ℕ → List ℕ × List ℕ) (reads : O → List ℕ → Bool) (ticket : ℕ) (before mid after : Seated) (held token : Right) (reply : List ℕ) →
-    all_rights before ≡ record no_rights { exclusive = Some held.replica } → before.known.local.refused ≡ [] → IsBroughtUp lines r lawful (step r.object) held ticket mid reply → beside_work mid ≡ beside_work before → Downgrades r step reads held.replica mid after token →
+-- all rights of a caller, by its exclusive one and the others
+with_others : Option ℕ → Others → AllRights
+with_others exclusive o = record { exclusive = exclusive; shared = o.shared; passer = o.passer; downgraded = o.downgraded; won = o.won }
+
+pub finished : {O : Type 0} (lines : ℕ) (r : Running O) (lawful : List ℕ → Type 0) (step : O → List ℕ → List ℕ → List ℕ × List ℕ) (reads : O → List ℕ → Bool) (ticket : ℕ) (before mid after : Seated) (held token : Right) (reply : List ℕ) →
+    others before.known.local ≡ no_others → exclusive_on before.known.local ≡ Some held.replica → IsBroughtUp lines r lawful (step r.object) held ticket mid reply → mid.known.local.protection ≡ Unprotected → beside_work (unguarded mid) ≡ beside_work (unguarded before) → Downgrades r step reads held.replica mid after token →
     Prepares r lawful (step r.object) ticket before after (record { held = token; reply = reply })
-renewed lines r lawful step reads ticket before mid after held token reply free none brought work d =
+unfolding with_others
+finished lines r lawful step reads ticket before mid after held token reply alone holds brought none work d =
+    let free : all_rights before ≡ record no_rights { exclusive = Some held.replica } =
+    ap (λ (o : Option ℕ). with_others o (others before.known.local)) holds ∙ ap (with_others (Some held.replica)) alone in
     let made = d.made.made in
     let accesses : after.known.accesses ≡ mid.known.accesses = ap (λ (s : Seated). s.known.accesses) made in
     let noted : after.known.noted ≡ mid.known.noted = ap (λ (s : Seated). s.known.noted) made ∙ append-nil mid.known.noted in
@@ -31,12 +41,13 @@ renewed lines r lawful step reads ticket before mid after held token reply free 
           ∙ ap (λ p. Some (let h : HeldDowngraded = record { replica = token.replica; place = p } in h)) (sym place);
       place = subst (λ p. ticket < p) (sym place) brought.place;
       rights = d.rights
-          ∙ ap (λ (x : AllRights). (let y : AllRights = record x { exclusive = None; downgraded = Some held.replica } in y)) (rights_kept before mid work ∙ free)
+          ∙ ap (λ (x : AllRights). (let y : AllRights = record x { exclusive = None; downgraded = Some held.replica } in y)) (rights_kept (unguarded before) (unguarded mid) work ∙ free)
           ∙ ap (λ q. (let y : AllRights = record no_rights { downgraded = Some q } in y)) (sym d.here);
       replayed = λ first now f. subst (λ p. ReplayedTo (step r.object) after.known.noted first p now) (sym place)
           (subst (λ ns. ReplayedTo (step r.object) ns first (noted_place mid) now) (sym noted) (brought.image.replayed first now (there first now f)));
       reply = λ first now f. subst (λ n. ShowsReply lines lawful r.base mid.known.accesses n reply) (sym number) brought.reply_is first now (there first now f);
       some = subst (λ xs. SomeFits r.lines lawful r.base xs) (sym accesses) (subst (λ n. SomeFits n lawful r.base mid.known.accesses) (sym lines_are) brought.is_held.some);
-      refused = ap (λ (s : Seated). s.known.local.refused) made ∙ ap (λ (s : Seated). s.known.local.refused) work ∙ none;
+      protection = ap (λ (s : Seated). s.known.local.protection) made ∙ none;
+      refused = ap (λ (s : Seated). s.known.local.refused) made ∙ ap (λ (s : Seated). s.known.local.refused) work ∙ ap (λ (o : Others). o.refused) alone;
       met = ap (λ (s : Seated). s.known.local.met) made ∙ ap (λ (s : Seated). s.known.local.met) work;
     }

@@ -35,7 +35,6 @@ with_answer ticket reply answers = answers ++ record { ticket = ticket; reply = 
 pub record IsReadyFor {O : Type 0} (r : Running O) (lawful : List ℕ → Type 0) (step : List ℕ → List ℕ → List ℕ × List ℕ) (ticket : ℕ) (reply : List ℕ) (seat : Seated) : Type 0 where
   pub rest : IsAtRest (beside_publish seat).known.local
   pub none : seat.known.local.won ≡ None
-  pub stale : seat.known.local.fresh ≡ false
   pub above : ticket < place_in seat.known.local.downgraded
   pub tells : TellsReply r.lines lawful r.base step seat.known ticket reply
   pub last : unanswered_ticket seat.known.local ≡ Some ticket
@@ -54,10 +53,10 @@ pub record AnswersBy {O : Type 0} (r : Running O) (step : O → List ℕ → Lis
   pub made : after ≡ record before { known = known_answered (instance_at r step reads) code (record { ticket = ticket; reply = reply } ∷ []) None before.known }
   pub seat : IsSeatOf r after
 
--- The caller's unanswered entry is answered with this reply, no refusal is met, and the caller is at rest.
+-- The caller's unanswered entry is answered with this reply, no refusal is taken back, and the caller is at rest.
 pub record AnswersEntry (ticket : ℕ) (reply : List ℕ) (before after : Seated) : Type 0 where
   pub rest : IsAtRest after.known.local
-  pub met : after.known.local.met ≡ before.known.local.met
+  pub met : before.known.local.met ≤ after.known.local.met
   pub answered : after.known.local.answered ≡ with_answer ticket reply before.known.local.answered
 
 -- what a turn for an entry with a ticket comes to

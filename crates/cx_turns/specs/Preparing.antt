@@ -1,5 +1,6 @@
 -- A replica that is ready to be published.
 use Rattle.std.specs.Prelude.{◌≡◌, ◌<◌, ℕ, List, [], Option, Some, None}
+use Rattle.cx_core.specs.declared.local.Protection.TheVariants.{Unprotected}
 use Rattle.cx_rule.specs.Fitting.{IsReplayedToPlace, SomeFits}
 use Rattle.cx_rule.specs.Running.{Running}
 use Rattle.cx_rule.specs.Seats.{Seated}
@@ -20,10 +21,11 @@ pub record Prepares {O : Type 0} (r : Running O) (lawful : List ℕ → Type 0) 
   pub replayed : IsReplayedToPlace r.lines lawful r.base step after.known
   pub reply : ShowsReply r.lines lawful r.base after.known.accesses after.known.local.number prepared.reply
   pub some : SomeFits r.lines lawful r.base after.known.accesses
+  pub protection : after.known.local.protection ≡ Unprotected
   pub refused : after.known.local.refused ≡ []
   pub met : after.known.local.met ≡ before.known.local.met
 
--- what preparing one comes to; where each replica was refused, a refusal was met
+-- what preparing one comes to; where the turn ends without one, a refusal was met
 abbrev pub TriesPrepare : {O : Type 0} → Running O → (List ℕ → Type 0) → (List ℕ → List ℕ → List ℕ × List ℕ) → ℕ → Seated → Seated → Option Prepared → Type 0
 TriesPrepare r lawful step ticket before after (Some prepared) = Prepares r lawful step ticket before after prepared
 TriesPrepare r lawful step ticket before after None = TurnRefused before after

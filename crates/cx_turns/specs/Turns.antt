@@ -32,14 +32,16 @@ pub record TurnRefused (before after : Seated) : Type 0 where
   pub refusal : MeetsRefusal before after
   pub rest : IsAtRest after.known.local
 
--- what no step of a turn changes before its raise: the seat but for the front, the slot last looked at, what was seen of CUR, the
--- rights and what was tried and noted of them, and the counts of steps and refusals
+-- what no step of a turn changes before its raise: the seat but for the front, the slot last looked at, the protection and the greatest
+-- LOW found, what was seen of CUR, the rights and what was tried and noted of them, and the counts of steps and refusals
 abbrev pub beside_turn : Seated → Seated
 beside_turn s = record s {
   known = record s.known {
     local = record s.known.local {
       front = 0;
       seen_slot = None;
+      protection = Unprotected;
+      seen_low = 0;
       seen_cur = 0;
       fresh = false;
       refused = [];

@@ -2,6 +2,7 @@
 //! the current one is read beside the queue.
 #![tactic(auto)]
 
+mod keeping;
 mod lookup;
 mod preparing;
 mod reading;

@@ -1,18 +1,20 @@
 //! A replica is made ready to be published.
 
-ghost use Rattle.std.specs.Prelude.{◌≡◌, ◌<◌, ◌≤◌, [], IfOk, OnErr, OnOk, Some};
+ghost use Rattle.std.specs.Prelude.{◌≡◌, ◌<◌, ◌≤◌, false, IfOk, OnErr, OnOk};
+ghost use Rattle.cx_core.specs.declared.local.Protection.TheVariants.{Unprotected};
 ghost use Rattle.cx_rule.specs.Running.{IsSeatOf};
 ghost use Rattle.cx_rule.specs.Seats.{IsAtLimit};
+ghost use Rattle.cx_turns.specs.Keeping.{IsKept, no_others, others};
 ghost use Rattle.cx_turns.specs.Preparing.{Prepares, TriesPrepare};
-ghost use Rattle.cx_turns.specs.Taking.{KeepsSeen};
 ghost use Rattle.cx_turns.specs.Turns.{IsAtRest, beside_turn};
 ghost use Rattle.replica.specs.Laws.{IsTaken};
-ghost use Rattle.strong_trylock.specs.Held.{all_rights, no_rights};
 
+use crate::keeping::keep;
 use crate::replaying::bring_up;
 use crate::taking::take_any;
 use cx_base::{Halt, Object};
 use cx_table::{CallerSeat, Downgraded, Exclusive, Shared};
+use replica::begin;
 use strong_trylock::downgrade;
 
 /// A replica that is ready to be published.
@@ -25,8 +27,9 @@ pub struct Prepared {
 }
 
 /// Takes a replica, whichever nobody holds, applies the queue's entries on it up to a ticket, makes it durable, and turns the
-/// right into a shared one. It gives `None` where each replica was refused. `Halt` comes only where the seat's steps equal its
-/// limit.
+/// right into a shared one. Where the replica is behind the ring, the current one is copied over it first. It gives `None` where each
+/// replica was refused, or the current one was, or where the replica is behind the ring after the copy too. `Halt` comes only where the
+/// seat's steps equal its limit.
 pub fn prepare<O: Object>(
     shared: &Shared<O>,
     seat: &mut CallerSeat,
@@ -39,11 +42,11 @@ pub fn prepare<O: Object>(
     ensures prepared { IfOk result (TriesPrepare shared.now (O.lawful shared.now.object) (O.step shared.now.object) ticket seat.old seat.new) }
     ensures halted { OnErr result (IsAtLimit seat.new.known.local) }
     ensures rest { beside_turn seat.new ≡ beside_turn seat.old }
-    ensures seen { KeepsSeen seat.old seat.new }
+    ensures front { seat.old.known.local.front ≤ seat.new.known.local.front }
     ensures seat { IsSeatOf shared.now seat.new }
 {
     match take_any(shared, seat)? {
-        Some(held) => Ok(Some(renew(shared, seat, held, ticket)?)),
+        Some(held) => renew(shared, seat, held, ticket),
         None => Ok(None),
     }
 }
@@ -54,15 +57,38 @@ fn renew<O: Object>(
     seat: &mut CallerSeat,
     held: Exclusive,
     ticket: u64,
-) -> Result<Prepared, Halt>
+) -> Result<Option<Prepared>, Halt>
     requires taken { IsTaken (O.line_count shared.now.object) shared.now (O.lawful shared.now.object) seat.old held }
-    requires free { all_rights seat.old ≡ record no_rights { exclusive = Some held.replica } }
-    requires refused { seat.old.known.local.refused ≡ [] }
+    requires alone { others seat.old.known.local ≡ no_others }
+    requires none { seat.old.known.local.protection ≡ Unprotected }
+    requires stale { seat.old.known.local.fresh ≡ false }
+    requires linked { ticket < seat.old.known.local.front }
+    ensures prepared { IfOk result (TriesPrepare shared.now (O.lawful shared.now.object) (O.step shared.now.object) ticket seat.old seat.new) }
+    ensures halted { OnErr result (IsAtLimit seat.new.known.local) }
+    ensures rest { beside_turn seat.new ≡ beside_turn seat.old }
+    ensures front { seat.old.known.local.front ≤ seat.new.known.local.front }
+    ensures seat { IsSeatOf shared.now seat.new }
+{
+    begin(shared, seat, &held)?;
+    match keep(shared, seat, held, ticket)? {
+        Some(held) => Ok(Some(finish(shared, seat, held, ticket)?)),
+        None => Ok(None),
+    }
+}
+
+/// Brings a replica that was kept up to a ticket, and turns the right into a shared one.
+fn finish<O: Object>(
+    shared: &Shared<O>,
+    seat: &mut CallerSeat,
+    held: Exclusive,
+    ticket: u64,
+) -> Result<Prepared, Halt>
+    requires kept { IsKept (O.line_count shared.now.object) shared.now (O.lawful shared.now.object) (O.step shared.now.object) ticket seat.old seat.old held }
     requires linked { ticket < seat.old.known.local.front }
     ensures prepared { IfOk result (Prepares shared.now (O.lawful shared.now.object) (O.step shared.now.object) ticket seat.old seat.new) }
     ensures halted { OnErr result (IsAtLimit seat.new.known.local) }
     ensures rest { beside_turn seat.new ≡ beside_turn seat.old }
-    ensures seen { KeepsSeen seat.old seat.new }
+    ensures front { seat.new.known.local.front ≡ seat.old.known.local.front }
     ensures seat { IsSeatOf shared.now seat.new }
 {
     let reply = bring_up(shared, seat, &held, ticket)?;

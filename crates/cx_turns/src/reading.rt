@@ -1,15 +1,18 @@
 //! The current replica is read beside the queue. `Halt` comes only where no access is left.
 
-ghost use Rattle.std.specs.Prelude.{◌≡◌, ◌^◌, ◌<◌, true, IfOk, IsTrue, OnErr, Some};
+ghost use Rattle.std.specs.Prelude.{◌≡◌, ◌^◌, ◌<◌, true, false, IfOk, IsTrue, None, OnErr, Some};
 ghost use Rattle.std.specs.List.{Contains};
 ghost use Rattle.cx_base.specs.Codes.{root_replica_of};
 ghost use Rattle.cx_base.specs.Memory.{Always, Becomes, Framed, Reads};
+ghost use Rattle.cx_core.specs.LockEvents.{CanTryShared};
 ghost use Rattle.cx_core.specs.Region.{object_part, region_words};
+ghost use Rattle.cx_core.specs.Rights.{exclusive_on, is_at};
 ghost use Rattle.cx_rule.specs.Fitting.{loaded_of};
 ghost use Rattle.cx_rule.specs.Running.{IsSeatOf};
 ghost use Rattle.cx_rule.specs.Seats.{IsAtLimit};
 ghost use Rattle.cx_rule.specs.Raises.{TellsRead};
-ghost use Rattle.cx_turns.specs.Reads.{ReadsCurrent, beside_read};
+ghost use Rattle.cx_turns.specs.Keeping.{HoldsCurrent, TakesCurrent};
+ghost use Rattle.cx_turns.specs.Reads.{IsRead, ReadsCurrent, beside_read};
 ghost use Rattle.cx_turns.specs.Turns.{beside_turn};
 ghost use Rattle.replica.specs.Held.{IsHeldShared, beside_shared};
 ghost use Rattle.strong_trylock.specs.Held.{all_rights, no_rights};
@@ -98,27 +101,69 @@ pub fn read_current<O: Object>(
     ensures unread { beside_read seat.new ≡ beside_read seat.old }
     ensures halts { OnErr result (IsAtLimit seat.new.known.local) }
 {
-    let _lines = shared.lines();
-    let replica = root_replica(shared.callers(), seat.seen_cur());
-    match try_shared(shared, seat, replica)? {
-        SharedTried::Got(hold) => read_taken(shared, seat, hold, op),
-        SharedTried::Held { found: _ } => Ok(None),
+    // callers are some
+    let _callers = shared.callers();
+    match take_current(shared, seat)? {
+        Some(hold) => Ok(Some(read_taken(shared, seat, hold, op)?)),
+        None => Ok(None),
     }
 }
 
-/// The same once the replica is held shared.
+/// The same once the replica is held shared at the code's place.
 fn read_taken<O: Object>(
     shared: &Shared<O>,
     seat: &mut CallerSeat,
     hold: SharedHold,
     op: &[u64; 144],
-) -> Result<Option<Queried>, Halt>
+) -> Result<Queried, Halt>
+    requires current { HoldsCurrent (O.line_count shared.now.object) shared.now (O.lawful shared.now.object) no_rights seat.old seat.old hold }
+    requires reads { IsTrue (O.only_reads shared.now.object op.now) }
+    ensures read { IfOk result (IsRead (O.line_count shared.now.object) shared.now (O.lawful shared.now.object) (O.step shared.now.object) op.now seat.old seat.new) }
+    ensures seat { IsSeatOf shared.now seat.new }
+    ensures unread { beside_read seat.new ≡ beside_read seat.old }
+    ensures halts { OnErr result (IsAtLimit seat.new.known.local) }
+{
+    let place = root_place(shared.callers(), seat.seen_cur());
+    let reply = query_held(shared, seat, &hold, place, op)?;
+    Ok(Queried { hold, reply })
+}
+
+/// Takes the replica shared that the code last loaded from CUR names, where nothing ended that code's use since, and loads its place.
+/// `None` comes exactly where another holds the replica exclusively or its place is not the code's. Then a refusal is met, and the caller
+/// has the rights that it had.
+pub(crate) fn take_current<O: Object>(
+    shared: &Shared<O>,
+    seat: &mut CallerSeat,
+) -> Result<Option<SharedHold>, Halt>
+    requires seat { IsSeatOf shared.now seat.old }
+    requires free { CanTryShared shared.now.callers (root_replica_of shared.now.callers seat.old.known.local.seen_cur) seat.old.known.local }
+    requires fresh { seat.old.known.local.fresh ≡ true }
+    ensures taken { IfOk result (TakesCurrent (O.line_count shared.now.object) shared.now (O.lawful shared.now.object) (all_rights seat.old) seat.old seat.new) }
+    ensures seat { IsSeatOf shared.now seat.new }
+    ensures rest { beside_turn seat.new ≡ beside_turn seat.old }
+    ensures unread { beside_read seat.new ≡ beside_read seat.old }
+    ensures halts { OnErr result (IsAtLimit seat.new.known.local) }
+{
+    let _lines = shared.lines();
+    let replica = root_replica(shared.callers(), seat.seen_cur());
+    match try_shared(shared, seat, replica)? {
+        SharedTried::Got(hold) => test_place(shared, seat, hold),
+        SharedTried::Held { found: _ } => Ok(None),
+    }
+}
+
+/// Loads the place of a replica held shared, and gives the right back where it is not that of the code last loaded from CUR, which names
+/// the replica.
+fn test_place<O: Object>(
+    shared: &Shared<O>,
+    seat: &mut CallerSeat,
+    hold: SharedHold,
+) -> Result<Option<SharedHold>, Halt>
     requires held { IsHeldShared (O.line_count shared.now.object) shared.now (O.lawful shared.now.object) seat.old hold }
     requires here { hold.replica ≡ root_replica_of shared.now.callers seat.old.known.local.seen_cur }
-    requires rights { all_rights seat.old ≡ record no_rights { shared = Some hold.replica } }
+    requires apart { is_at hold.replica (exclusive_on seat.old.known.local) ≡ false }
     requires fresh { seat.old.known.local.fresh ≡ true }
-    requires reads { IsTrue (O.only_reads shared.now.object op.now) }
-    ensures read { IfOk result (ReadsCurrent (O.line_count shared.now.object) shared.now (O.lawful shared.now.object) (O.step shared.now.object) op.now seat.old seat.new) }
+    ensures taken { IfOk result (TakesCurrent (O.line_count shared.now.object) shared.now (O.lawful shared.now.object) (record (all_rights seat.old) { shared = None }) seat.old seat.new) }
     ensures seat { IsSeatOf shared.now seat.new }
     ensures unread { beside_read seat.new ≡ beside_read seat.old }
     ensures halts { OnErr result (IsAtLimit seat.new.known.local) }
@@ -129,6 +174,5 @@ fn read_taken<O: Object>(
         release_shared(shared, seat, hold)?;
         return Ok(None);
     }
-    let reply = query_held(shared, seat, &hold, place, op)?;
-    Ok(Some(Queried { hold, reply }))
+    Ok(Some(hold))
 }

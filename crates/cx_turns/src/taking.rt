@@ -25,6 +25,7 @@ pub fn take_any<O: Object>(
     ensures taken { IfOk result (λ taken. TakesAny (O.line_count shared.now.object) shared.now (O.lawful shared.now.object) seat.old seat.new taken) }
     ensures halted { OnErr result (IsAtLimit seat.new.known.local) }
     ensures rest { beside_turn seat.new ≡ beside_turn seat.old }
+    ensures tries { beside_tries seat.new ≡ beside_tries seat.old }
     ensures seen { KeepsSeen seat.old seat.new }
     ensures seat { IsSeatOf shared.now seat.new }
 {

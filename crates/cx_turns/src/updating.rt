@@ -14,9 +14,11 @@ use cx_table::{CallerSeat, Downgraded, Shared, Won};
 use publish::{Published, make_durable, publish, retire};
 
 /// One turn for the caller's entry with a ticket, which is linked and not answered. A replica that nobody holds is brought up to the
-/// ticket, made durable and published, DUR is raised by the code that won or that was found in CUR, and where it won the replica before
-/// is given up. It gives the reply, or `None` where each replica was refused. `Halt` comes only where the seat's steps equal its
-/// limit.
+/// ticket under a protection of its place, where that is at most the ticket. Where its place is behind the ring, the current replica is
+/// copied over it first. It is made durable and published, DUR is raised by the code that won or that was found in CUR, and where it won
+/// the replica before is given up. No protection stands after the turn. It gives the reply, or `None` where each replica was refused, or
+/// the current one was held exclusively or at another place when it was to be copied, or was behind the ring after the copy. `Halt` comes
+/// only where the seat's steps equal its limit.
 pub fn update_turn<O: Object>(
     shared: &Shared<O>,
     seat: &mut CallerSeat,

@@ -10,5 +10,6 @@ loop-at-init g c =
       ready = record { is_held = c.requires.held; image = c.requires.image; place = sym at };
       later = subst (λ p. shared.base.place ≤ p) (sym at) (image_from (g.O.Object.line_count shared.object) (g.O.Object.lawful shared.object) shared.base (g.O.Object.step shared.object) c.args.seat.now.known c.requires.held.some c.requires.image);
       linked = c.requires.linked;
+      protected = λ t from to. c.requires.protected t (subst (λ p. p ≤ t) at from) to;
       work = refl;
     }

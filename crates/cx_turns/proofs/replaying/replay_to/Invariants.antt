@@ -1,4 +1,5 @@
-use Rattle.std.proofs.Common.{◌≡◌, ◌<◌, ◌≤◌}
+use Rattle.std.proofs.Common.{◌≡◌, ◌<◌, ◌≤◌, ℕ}
+use Rattle.cx_core.specs.RingEvents.{Protects}
 use Rattle.cx_turns.specs.Replaying.{beside_work}
 use Rattle.replica.specs.Tests.{IsReady}
 use Rattle.cx_turns.proofs.replaying.replay_to.Given as goal
@@ -8,5 +9,6 @@ invariant-loop-at g l = record {
   ready : IsReady (g.O.Object.line_count l.shared.object) l.shared (g.O.Object.lawful l.shared.object) (g.O.Object.step l.shared.object) l.held l.at l.seat;
   later : l.shared.base.place ≤ l.at;
   linked : l.ticket < l.seat.known.local.front;
+  protected : (t : ℕ) → l.at ≤ t → t ≤ l.ticket → Protects t l.seat.known.local.protection;
   work : beside_work l.seat ≡ beside_work l.fn.seat;
 }

@@ -1,0 +1,123 @@
+-- What the steps leave by which a replica is kept.
+use Rattle.std.proofs.Common.{◌≡◌, ◌<◌, ◌≤◌, true, false, ℕ, Bool, All, List, [], append-nil, ap, sym, subst, ◌∙◌, arith, Option, Some, None}
+use Rattle.std.specs.Option.{option_map}
+use Rattle.cx_base.specs.Codes.{root_place_of, root_replica_of}
+use Rattle.cx_core.specs.declared.kinds.Kind.TheVariants.{LoadCur}
+use Rattle.cx_core.specs.declared.local.HeldExclusive.{HeldExclusive}
+use Rattle.cx_core.specs.declared.local.HeldShared.{HeldShared}
+use Rattle.cx_core.specs.Region.{region_words}
+use Rattle.cx_core.specs.Rights.{held_dirty}
+use Rattle.cx_core.specs.State.{one_more}
+use Rattle.cx_rule.specs.Fitting.{SomeFits}
+use Rattle.cx_rule.specs.Running.{IsSeatOf, Running}
+use Rattle.cx_rule.specs.Seats.{Seated}
+use Rattle.cx_rule.specs.Steps.{Steps}
+use Rattle.cx_table.specs.Right.{Right}
+use Rattle.cx_turns.specs.Keeping.{Guards, IsAtImage, IsBehind, IsKept, Others, SeesCurrent, no_others, others}
+use Rattle.cx_turns.specs.Reads.{beside_read}
+use Rattle.cx_turns.specs.Turns.{IsAtRest, TurnRefused, beside_turn}
+use Rattle.mutation_queue.specs.Protections.{but_protected}
+use Rattle.publish.proofs.Options.{none_of}
+use Rattle.replica.specs.Copies.{HoldsBoth, beside_copy, but_loads, without_shared}
+use Rattle.replica.specs.Held.{IsHeld, IsHeldShared}
+use Rattle.replica.specs.Laws.{image_more}
+use Rattle.replica.specs.Replays.{IsImage, noted_place}
+use Rattle.strong_trylock.specs.Held.{AllRights, all_rights}
+
+-- a turn that ended at rest by one refusal
+pub turn_refused : (before after : Seated) → beside_turn after ≡ beside_turn before → IsAtRest after.known.local → after.known.local.met ≡ one_more before.known.local.met → TurnRefused before after
+turn_refused before after same rest met = record {
+  refusal = record {
+    rights = cc (rest.exclusive, rest.shared, rest.passer, rest.downgraded, rest.won);
+    fresh = rest.fresh;
+    met = met;
+    answered = ap (λ (s : Seated). s.known.local.answered) same;
+    reads = ap (λ (s : Seated). s.known.local.seen_reads) same;
+  };
+  rest = rest;
+}
+
+not_above : (a b : ℕ) → a ≡ b → b ≤ a
+not_above a b e = omega (arith, e)
+
+-- a replica at the place of the code that is in use shows it to be outdated, where it is behind
+pub behind_current : (callers : ℕ) (before after : Seated) → IsBehind callers before after → noted_place before ≡ root_place_of callers before.known.local.seen_cur → before.known.local.fresh ≡ true →
+    (after.known.local.met ≡ one_more before.known.local.met) × (after.known.local.fresh ≡ false)
+behind_current callers before after behind at fresh = behind.outdated (not_above (noted_place before) (root_place_of callers before.known.local.seen_cur) at, fresh)
+
+module _ {O : Type 0} (lines : ℕ) (r : Running O) (lawful : List ℕ → Type 0) (step : List ℕ → List ℕ → List ℕ × List ℕ) (before after : Seated) (held : Right) where
+  -- the replica held is the same, and so is what is noted of it
+  pub held_same : IsSeatOf r after → after.known.local.exclusive ≡ before.known.local.exclusive → after.known.local.number ≡ before.known.local.number → after.known.accesses ≡ before.known.accesses → IsHeld lines r lawful before held → IsHeld lines r lawful after held
+  held_same seat exclusive number accesses was = record {
+    sized = was.sized;
+    of = seat;
+    right = record { few = was.right.few; caller = was.right.caller ∙ sym number; holds = ap (option_map (λ (h : HeldExclusive). h.replica)) exclusive ∙ was.right.holds };
+    some = subst (SomeFits lines lawful r.base) (sym accesses) was.some;
+    dirty = subst (λ (o : Option HeldExclusive). All (λ i. i < region_words lines) (held_dirty o)) (sym exclusive) was.dirty;
+  }
+
+  pub image_same : after.known.accesses ≡ before.known.accesses → after.known.noted ≡ before.known.noted → IsImage lines lawful r.base step before.known → IsImage lines lawful r.base step after.known
+  image_same accesses noted image = image_more lines lawful r.base step before.known after.known [] accesses (noted ∙ sym (append-nil before.known.noted)) image
+
+  -- through protecting
+  pub protected_image : IsSeatOf r after → but_protected after ≡ but_protected before → IsAtImage lines r lawful step before held → IsAtImage lines r lawful step after held
+  protected_image seat same was =
+      let accesses = ap (λ (s : Seated). s.known.accesses) same in
+      record {
+        is_held = held_same seat (ap (λ (s : Seated). s.known.local.exclusive) same) (ap (λ (s : Seated). s.known.local.number) same) accesses was.is_held;
+        image = image_same accesses (ap (λ (s : Seated). s.known.noted) same) was.image;
+        alone = ap (λ (s : Seated). others s.known.local) same ∙ was.alone;
+      }
+
+  -- through a try of the current replica that was refused
+  pub missed_image : IsSeatOf r after → beside_read after ≡ beside_read before → all_rights after ≡ all_rights before → IsAtImage lines r lawful step before held → IsAtImage lines r lawful step after held
+  missed_image seat same rights was =
+      let with : AllRights → Seated → Others = λ a s. record { shared = a.shared; passer = a.passer; downgraded = a.downgraded; won = a.won; scan = s.known.local.scan; refused = s.known.local.refused } in
+      let accesses = ap (λ (s : Seated). s.known.accesses) same in
+      record {
+        is_held = held_same seat (ap (λ (s : Seated). s.known.local.exclusive) same) (ap (λ (s : Seated). s.known.local.number) same) accesses was.is_held;
+        image = image_same accesses (ap (λ (s : Seated). s.known.noted) same) was.image;
+        alone = ap (λ (a : AllRights). with a after) rights ∙ ap (with (all_rights before)) same ∙ was.alone;
+      }
+
+  -- and one that was not refused leaves both held
+  pub shared_beside : (source : Right) → IsSeatOf r after → beside_read after ≡ beside_read before → IsHeldShared lines r lawful after source → IsHeld lines r lawful before held → HoldsBoth lines r lawful after held source
+  shared_beside source seat same shared was = record {
+    exclusive = held_same seat (ap (λ (s : Seated). s.known.local.exclusive) same) (ap (λ (s : Seated). s.known.local.number) same) (ap (λ (s : Seated). s.known.accesses) same) was;
+    shared = shared;
+  }
+
+  -- a replica is kept once the entries are guarded
+  pub kept_at : (ticket : ℕ) (first : Seated) → Guards r.callers ticket before after true → before.known.local.met ≡ first.known.local.met → IsAtImage lines r lawful step after held → IsKept lines r lawful step ticket first after held
+  kept_at ticket first guards met at = record { at_image = at; guarded = guards.0; met = guards.1.met ∙ met }
+
+  -- through a copy, after which the shared right is given back
+  pub copied_image : (q : ℕ) → beside_copy after ≡ without_shared (beside_copy before) → others before.known.local ≡ record no_others { shared = Some q } → IsHeld lines r lawful after held → IsImage lines lawful r.base step after.known → IsAtImage lines r lawful step after held
+  copied_image q same was held image =
+      let shared : after.known.local.shared ≡ None = none_of but_loads after.known.local.shared (ap (λ (s : Seated). s.known.local.shared) same) in
+      let rest : Seated → Others = λ s. record (others s.known.local) { shared = None } in
+      record {
+        is_held = held;
+        image = image;
+        alone = ap (λ (o : Option HeldShared). (let x : Others = record (others after.known.local) { shared = option_map (λ (h : HeldShared). h.replica) o } in x)) shared
+            ∙ ap rest same
+            ∙ ap (λ (o : Others). (let x : Others = record o { shared = None } in x)) was;
+      }
+
+module _ {O : Type 0} (lines : ℕ) (r : Running O) (step : O → List ℕ → List ℕ → List ℕ × List ℕ) (reads : O → List ℕ → Bool) (lawful : List ℕ → Type 0) (before after : Seated) (held : Right) where
+  -- what is known once CUR was loaded
+  pub seen_current : (found : ℕ) → Steps r step reads LoadCur found before after → IsAtImage lines r lawful (step r.object) before held → SeesCurrent lines r lawful (step r.object) before after held
+  seen_current found s was =
+      let accesses : after.known.accesses ≡ before.known.accesses = ap (λ (t : Seated). t.known.accesses) s.made in
+      let cur : after.known.local.seen_cur ≡ found = ap (λ (t : Seated). t.known.local.seen_cur) s.made in
+      record {
+        at_image = record {
+          is_held = held_same lines r lawful (step r.object) before after held s.seat (ap (λ (t : Seated). t.known.local.exclusive) s.made) (ap (λ (t : Seated). t.known.local.number) s.made) accesses was.is_held;
+          image = image_same lines r lawful (step r.object) before after held accesses (ap (λ (t : Seated). t.known.noted) s.made ∙ append-nil before.known.noted) was.image;
+          alone = ap (λ (t : Seated). others t.known.local) s.made ∙ was.alone;
+        };
+        apart = λ e. s.told.apart (was.is_held.right.holds ∙ ap Some (e ∙ ap (root_replica_of r.callers) cur));
+        fresh = ap (λ (t : Seated). t.known.local.fresh) s.made;
+        protection = ap (λ (t : Seated). t.known.local.protection) s.made;
+        met = ap (λ (t : Seated). t.known.local.met) s.made;
+      }

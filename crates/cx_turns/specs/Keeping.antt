@@ -1,0 +1,104 @@
+-- What a replica that was just taken comes to before entries are read for it: it is kept, or the current one is copied over it, or the
+-- turn ends.
+use Rattle.std.specs.Prelude.{◌≡◌, ◌≢◌, ◌<◌, ◌⊎◌, true, false, ℕ, Bool, List, [], Option, Some, None}
+use Rattle.std.specs.List.{Contains}
+use Rattle.cx_base.specs.Codes.{root_place_of, root_replica_of}
+use Rattle.cx_core.specs.declared.local.Local.{Local}
+use Rattle.cx_core.specs.declared.local.Protection.TheVariants.{Confirmed, Unprotected}
+use Rattle.cx_core.specs.declared.local.Scan.{Scan}
+use Rattle.cx_core.specs.declared.local.WonCode.{WonCode}
+use Rattle.cx_core.specs.Rights.{downgraded_on, shared_on}
+use Rattle.cx_core.specs.State.{one_more}
+use Rattle.cx_rule.specs.Fitting.{loaded_of}
+use Rattle.cx_rule.specs.Running.{Running}
+use Rattle.cx_rule.specs.Seats.{Seated}
+use Rattle.cx_table.specs.Right.{Right}
+use Rattle.cx_turns.specs.Turns.{TurnRefused}
+use Rattle.mutation_queue.specs.Protections.{MeetsNone, ShowsOutdated}
+use Rattle.replica.specs.Held.{IsHeld, IsHeldShared}
+use Rattle.replica.specs.Replays.{IsImage, noted_place}
+use Rattle.strong_trylock.specs.Held.{AllRights, all_rights}
+
+-- the rights of a caller beside the exclusive one, its scan, and the replicas that were refused
+pub record Others : Type 0 where
+  pub shared : Option ℕ
+  pub passer : Option ℕ
+  pub downgraded : Option ℕ
+  pub won : Option WonCode
+  pub scan : Option Scan
+  pub refused : List ℕ
+
+abbrev pub others : Local → Others
+others l = record { shared = shared_on l; passer = l.passer; downgraded = downgraded_on l; won = l.won; scan = l.scan; refused = l.refused }
+
+-- there are none
+abbrev pub no_others : Others
+no_others = record { shared = None; passer = None; downgraded = None; won = None; scan = None; refused = [] }
+
+-- a replica is held exclusively that is the image after its place, and beside it the caller has no right and no scan, and nothing is
+-- refused
+pub record IsAtImage {O : Type 0} (lines : ℕ) (r : Running O) (lawful : List ℕ → Type 0) (step : List ℕ → List ℕ → List ℕ × List ℕ) (seat : Seated) (held : Right) : Type 0 where
+  pub is_held : IsHeld lines r lawful seat held
+  pub image : IsImage lines lawful r.base step seat.known
+  pub alone : others seat.known.local ≡ no_others
+
+-- The entries from the replica's place up to a ticket may be read: there is none, and no protection stands, or the tickets from the place
+-- on are protected.
+abbrev pub IsGuarded : ℕ → Seated → Type 0
+IsGuarded ticket seat =
+    ((ticket < noted_place seat) × (seat.known.local.protection ≡ Unprotected)) ⊎ (seat.known.local.protection ≡ Confirmed (noted_place seat))
+
+-- The replica held is one on which they are, and no refusal was met.
+pub record IsKept {O : Type 0} (lines : ℕ) (r : Running O) (lawful : List ℕ → Type 0) (step : List ℕ → List ℕ → List ℕ × List ℕ) (ticket : ℕ) (before after : Seated) (held : Right) : Type 0 where
+  pub at_image : IsAtImage lines r lawful step after held
+  pub guarded : IsGuarded ticket after
+  pub met : after.known.local.met ≡ before.known.local.met
+
+-- what keeping a replica comes to; it may end the turn, by one refusal
+abbrev pub TriesKeep : {O : Type 0} → ℕ → Running O → (List ℕ → Type 0) → (List ℕ → List ℕ → List ℕ × List ℕ) → ℕ → Seated → Seated → Option Right → Type 0
+TriesKeep lines r lawful step ticket before after (Some held) = IsKept lines r lawful step ticket before after held
+TriesKeep lines r lawful step ticket before after None = TurnRefused before after
+
+-- The place is behind the ring. Where that shows the code last loaded from CUR to be outdated, a refusal is met.
+pub record IsBehind (callers : ℕ) (before after : Seated) : Type 0 where
+  pub protection : after.known.local.protection ≡ Unprotected
+  pub outdated : ShowsOutdated callers (noted_place before) before.known.local → (after.known.local.met ≡ one_more before.known.local.met) × (after.known.local.fresh ≡ false)
+  pub current : (ShowsOutdated callers (noted_place before) before.known.local → ⊥) → MeetsNone before after
+
+-- what guarding the entries up to a ticket comes to
+abbrev pub Guards : ℕ → ℕ → Seated → Seated → Bool → Type 0
+Guards callers ticket before after true = IsGuarded ticket after × MeetsNone before after
+Guards callers ticket before after false = IsBehind callers before after
+
+-- a seat but for the protection and the steps
+abbrev pub unguarded : Seated → Seated
+unguarded s = record s { known = record s.known { local = record s.known.local { protection = Unprotected; steps = 0 } } }
+
+-- CUR was loaded: the replica that it names is not the one held exclusively
+pub record SeesCurrent {O : Type 0} (lines : ℕ) (r : Running O) (lawful : List ℕ → Type 0) (step : List ℕ → List ℕ → List ℕ × List ℕ) (before after : Seated) (held : Right) : Type 0 where
+  pub at_image : IsAtImage lines r lawful step after held
+  pub apart : held.replica ≢ root_replica_of r.callers after.known.local.seen_cur
+  pub fresh : after.known.local.fresh ≡ true
+  pub protection : after.known.local.protection ≡ before.known.local.protection
+  pub met : after.known.local.met ≡ before.known.local.met
+
+-- The replica that the code last loaded from CUR names is held shared beside these rights, at that code's place, and nothing ended that
+-- code's use.
+pub record HoldsCurrent {O : Type 0} (lines : ℕ) (r : Running O) (lawful : List ℕ → Type 0) (rights : AllRights) (before after : Seated) (hold : Right) : Type 0 where
+  pub held : IsHeldShared lines r lawful after hold
+  pub here : hold.replica ≡ root_replica_of r.callers after.known.local.seen_cur
+  pub place : Contains (loaded_of after.known.local.shared) (0, root_place_of r.callers after.known.local.seen_cur)
+  pub with : all_rights after ≡ record rights { shared = Some hold.replica }
+  pub fresh : after.known.local.fresh ≡ true
+  pub met : after.known.local.met ≡ before.known.local.met
+
+-- another holds it exclusively, or it is at another place: a refusal is met, and these rights are left
+pub record MissesCurrent (rights : AllRights) (before after : Seated) : Type 0 where
+  pub left : all_rights after ≡ rights
+  pub fresh : after.known.local.fresh ≡ false
+  pub met : after.known.local.met ≡ one_more before.known.local.met
+
+-- what taking it comes to
+abbrev pub TakesCurrent : {O : Type 0} → ℕ → Running O → (List ℕ → Type 0) → AllRights → Seated → Seated → Option Right → Type 0
+TakesCurrent lines r lawful rights before after (Some hold) = HoldsCurrent lines r lawful rights before after hold
+TakesCurrent lines r lawful rights before after None = MissesCurrent rights before after
