@@ -25,7 +25,7 @@ use strong_trylock::release;
 /// where it is behind the ring, the current replica is copied over it and its place is protected then. `None` comes where the current
 /// replica is held exclusively or is at another place, or where it is behind the ring by then. Then a refusal is met, and the caller is
 /// at rest.
-pub(crate) fn keep<O: Object>(
+pub fn keep<O: Object>(
     shared: &Shared<O>,
     seat: &mut CallerSeat,
     held: Exclusive,
@@ -163,7 +163,7 @@ fn give_up<O: Object>(
 }
 
 /// Removes the protection, where one stands.
-pub(crate) fn unguard<O: Object>(shared: &Shared<O>, seat: &mut CallerSeat) -> Result<(), Halt>
+pub fn unguard<O: Object>(shared: &Shared<O>, seat: &mut CallerSeat) -> Result<(), Halt>
     requires seat { IsSeatOf shared.now seat.old }
     ensures removed { OnOk result (unguarded seat.new ≡ unguarded seat.old) }
     ensures none { OnOk result (seat.new.known.local.protection ≡ Unprotected) }

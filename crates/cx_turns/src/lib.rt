@@ -10,6 +10,7 @@ mod replaying;
 mod taking;
 mod updating;
 
+pub use keeping::{keep, unguard};
 pub use lookup::{Seen, read_turn};
 pub use preparing::{Prepared, prepare};
 pub use reading::{Queried, query_held, query_part, read_current};

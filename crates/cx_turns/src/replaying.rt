@@ -71,9 +71,8 @@ fn settle<O: Object>(
 }
 
 /// Applies the entries from the place of a replica held exclusively up to a ticket, in order, each read from the queue while the
-/// caller's protection keeps it: where
-/// the place is above the ticket, none. The replica is the image after its place before and afterwards, and then its place is
-/// above the ticket. `Halt` comes only where the seat's steps equal its limit.
+/// caller's protection keeps it: where the place is above the ticket, none. The replica is the image after its place before and
+/// afterwards, and then its place is above the ticket. `Halt` comes only where the seat's steps equal its limit.
 pub fn replay_to<O: Object>(
     shared: &Shared<O>,
     seat: &mut CallerSeat,
