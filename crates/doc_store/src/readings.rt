@@ -17,9 +17,26 @@ ghost use Rattle.word_index.specs.Walk.{HasNode};
 
 use crate::word_parts::{key_in, key_reply};
 use cx_base::{Halt, Memory, Steps};
-use doc_model::{DOCUMENT_AT, DOCUMENT_LENGTH_AT, KIND_AT, Reply, reply_words};
+use doc_model::{DOCUMENT_AT, DOCUMENT_LENGTH_AT, KIND_AT, NUMBER_AT};
 use std::sync::ledger::{Blank, Ledger};
 use word_index::{Key, count, find, least_above, read_document};
+
+/// Makes the reply that a key is missing.
+fn absent_reply(reply: &mut [u64; 144])
+    requires zero { reply.old ≡ replicate 144 0 }
+    ensures { reply.new ≡ spec.reply_words Absent }
+{
+    reply[KIND_AT] = 4;
+}
+
+/// Makes the reply that is a number.
+fn number_reply(number: u64, reply: &mut [u64; 144])
+    requires zero { reply.old ≡ replicate 144 0 }
+    ensures { reply.new ≡ spec.reply_words (Number number) }
+{
+    reply[KIND_AT] = 11;
+    reply[NUMBER_AT] = number;
+}
 
 /// The document of a key.
 fn get<M: Memory, L: Ledger>(
@@ -40,7 +57,7 @@ fn get<M: Memory, L: Ledger>(
 {
     let found = find(mem, key, visits)?;
     match found {
-        None => *reply = reply_words(&Reply::Absent),
+        None => absent_reply(reply),
         Some(node) => document_reply(mem, node, reply)?,
     }
     Ok(())
@@ -73,6 +90,7 @@ fn next<M: Memory, L: Ledger>(
     requires sized { IsPartLength (M.size mem.old) }
     requires lawful { Always (M.stands mem.old) IsIndex }
     requires key { key.now.len ≤ 64 }
+    requires zero { reply.old ≡ replicate 144 0 }
     ensures done { OnOk result (Reads (M.stands mem.old) (M.stands mem.new)
         (IsReplyBy (λ store. meaning.least_key (meaning.pairs_above (unpacked key.now.len key.now.words) store)) reply.new)) }
     ensures kept { Becomes (M.stands mem.old) (M.stands mem.new) ◌≡◌ }
@@ -81,7 +99,7 @@ fn next<M: Memory, L: Ledger>(
 {
     let found = least_above(mem, key, visits)?;
     match found {
-        None => *reply = reply_words(&Reply::Absent),
+        None => absent_reply(reply),
         Some(least) => *reply = key_reply(&least),
     }
     Ok(())
@@ -91,6 +109,7 @@ fn next<M: Memory, L: Ledger>(
 fn number<M: Memory>(mem: &mut M, reply: &mut [u64; 144]) -> Result<(), Halt>
     requires sized { IsPartLength (M.size mem.old) }
     requires lawful { Always (M.stands mem.old) IsIndex }
+    requires zero { reply.old ≡ replicate 144 0 }
     ensures done { OnOk result (Reads (M.stands mem.old) (M.stands mem.new)
         (IsReplyBy (λ store. Number (length store)) reply.new)) }
     ensures kept { Becomes (M.stands mem.old) (M.stands mem.new) ◌≡◌ }
@@ -98,7 +117,7 @@ fn number<M: Memory>(mem: &mut M, reply: &mut [u64; 144]) -> Result<(), Halt>
     ensures framed { Framed M.size M.fixed M.writable M.left mem.old mem.new }
 {
     let pairs = count(mem)?;
-    *reply = reply_words(&Reply::Number(pairs));
+    number_reply(pairs, reply);
     Ok(())
 }
 

@@ -1,11 +1,5 @@
-use Rattle.std.proofs.Common.{◌≡◌, ℕ, List}
-use Rattle.std.proofs.lemmas.Result.{IfOk-weaker}
-use Rattle.cx_base.specs.Memory.{Reads}
 use Rattle.cx_base.specs.Packing.{unpacked}
 use Rattle.cx_base.proofs.ReadLemmas.{Reads-weaker, Reads-then, always_read}
-use Rattle.doc_model.specs.Words.{reply_words}
-use Rattle.doc_model.specs.declared.operations.Reply.TheVariants.{Doc}
-use Rattle.word_index.specs.Answers.{IsNodeOf}
 use Rattle.doc_store.proofs.Answering.{has_node, get_none, get_some}
 use Rattle.doc_store.proofs.readings.get.Goals as goal
 
@@ -17,7 +11,7 @@ document_reply-requires-clause-node g c =
 pub returns-in-None-clause-done : goal.returns-in-None-clause-done
 returns-in-None-clause-done g c =
     let key = unpacked c.args.key.now.len c.args.key.now.words in
-    Reads-weaker c.in_ok-found.ensures.done (λ ws f. get_none ws key c.reply_words.result c.in_ok-found.found c.in-None.is c.reply_words.ensures f)
+    Reads-weaker c.in_ok-found.ensures.done (λ ws f. get_none ws key c.absent_reply.new.reply c.in_ok-found.found c.in-None.is c.absent_reply.ensures f)
 
 pub returns-in_ok-document_reply-in-Some-clause-done : goal.returns-in_ok-document_reply-in-Some-clause-done
 returns-in_ok-document_reply-in-Some-clause-done g c =
