@@ -1,15 +1,15 @@
--- A caller announces an operation in the cell of its next entry, and tries to link it.
+-- A caller announces an operation in an idle cell, and tries to link it.
 use Rattle.std.proofs.Common.{◌≡◌, ◌≢◌, ◌+◌, ◌<◌, ◌≤◌, ℕ, false, List, [], ◌∷◌, ◌++◌, length, get_or, slice_index, slice_range, take_all, refl, sym, ap, subst, ◌∙◌, inl, inr, arith, Some, None, length-append}
 use Rattle.std.specs.List.{slice_get}
 use Rattle.std.specs.Option.{option_map}
 use Rattle.std.proofs.Math.ListN.{get_or-eq_default}
 use Rattle.std.proofs.lemmas.Bool.{cases_eq, cases_lt}
 use Rattle.std.proofs.lemmas.List.{get_or-set_other, get_or-set_same}
-use Rattle.std.proofs.lemmas.Option.{slice_get_past}
+use Rattle.std.proofs.lemmas.Option.{none-some, slice_get_past}
 use Rattle.cx_base.specs.Codes.{root_place_of}
 use Rattle.cx_core.specs.declared.local.Cell.{Cell}
 use Rattle.cx_core.specs.declared.local.Linked.{Linked}
-use Rattle.cx_core.specs.QueueEvents.{cell_of, entry_in, next_number}
+use Rattle.cx_core.specs.QueueEvents.{IsIdleAt, cell_of, entry_in, next_number}
 use Rattle.cx_core.specs.Region.{slot_number}
 use Rattle.cx_core.proofs.Locals.{slice_get-last}
 use Rattle.cx_rule.specs.Running.{IsSeatOf, Running}
@@ -17,14 +17,14 @@ use Rattle.cx_rule.specs.Seats.{IsAtLimit, Seated, unanswered_ticket}
 use Rattle.mutation_queue.specs.declared.linking.LinkTried.{LinkTried}
 use Rattle.mutation_queue.specs.declared.linking.LinkTried.TheVariants.{Again, Linked as LinkedAt, Worn}
 use Rattle.mutation_queue.specs.Links.{LinksAgain, LinksAt, LinksNone, IsWorn, Tried}
-use Rattle.cx_service.specs.Callers.{HasCellsInOrder, IsBetweenCalls, IsCallerOf, IsLinkedOf, unlinked}
+use Rattle.cx_service.specs.Callers.{HasOwnCells, IsBetweenCalls, IsCallerOf, IsLinkedOf, unlinked}
 use Rattle.cx_service.specs.Submits.{EntersIn, SubmitAgain, SubmitHalted, SubmitKeeps, SubmitLinked, SubmitWorn, entry_at}
-use Rattle.cx_service.proofs.Cells.{default, order_kept, order_more}
+use Rattle.cx_service.proofs.Cells.{default, own_kept, own_more}
 
--- what no step of a submit changes: the seat but for its entries, cells and steps, its front, the slot last looked at, and what was
--- loaded from CUR
+-- what no step of a submit changes: the seat but for its entries, cells, steps and scans, its front, the slot last looked at, what was
+-- found of FREE and of the callers' needs, and what was loaded from CUR
 abbrev pub beside_submit : Seated → Seated
-beside_submit s = record s { known = record s.known { local = record s.known.local { own = []; cells = []; front = 0; seen_slot = None; seen_cur = 0; fresh = false; steps = 0 } } }
+beside_submit s = record s { known = record s.known { local = record s.known.local { own = []; cells = []; front = 0; seen_slot = None; seen_free = 0; seen_need = None; seen_cur = 0; fresh = false; scan = None; steps = 0; scans = 0 } } }
 
 -- a seat as if what was loaded from CUR were not fresh
 abbrev pub stale : Seated → Seated
@@ -55,9 +55,9 @@ module _ {O : Type 0} (r : Running O) (s v : Seated) (kept : beside_submit v ≡
   }
 
   -- and its caller is in no call
-  pub between : (unanswered : ℕ) → IsCallerOf r s → v.known.local.fresh ≡ false → length v.known.local.own ≡ length s.known.local.own + unanswered → s.known.local.front ≤ v.known.local.front →
-      HasCellsInOrder r.base.place v.known.local → IsBetweenCalls unanswered r v
-  between unanswered caller fresh count front order = record {
+  pub between : (unanswered : ℕ) → IsCallerOf r s → v.known.local.fresh ≡ false → v.known.local.scan ≡ None → length v.known.local.own ≡ length s.known.local.own + unanswered → s.known.local.front ≤ v.known.local.front →
+      HasOwnCells v.known.local → IsBetweenCalls unanswered r v
+  between unanswered caller fresh scan count front cells = record {
     of = of_kept caller.of;
     rest = record {
       exclusive = ap (λ (x : Seated). x.known.local.exclusive) kept ∙ caller.rest.exclusive;
@@ -66,14 +66,13 @@ module _ {O : Type 0} (r : Running O) (s v : Seated) (kept : beside_submit v ≡
       downgraded = ap (λ (x : Seated). x.known.local.downgraded) kept ∙ caller.rest.downgraded;
       won = ap (λ (x : Seated). x.known.local.won) kept ∙ caller.rest.won;
       protection = ap (λ (x : Seated). x.known.local.protection) kept ∙ caller.rest.protection;
-      scan = ap (λ (x : Seated). x.known.local.scan) kept ∙ caller.rest.scan;
+      scan = scan;
       refused = ap (λ (x : Seated). x.known.local.refused) kept ∙ caller.rest.refused;
       fresh = fresh;
     };
     count = (let long = ap (λ (x : Seated). length x.known.local.answered) kept in omega (arith, count, long, caller.count));
-    free = ap (λ (x : Seated). x.known.local.seen_free) kept ∙ caller.free;
     front = omega (arith, caller.front, front);
-    cells = order;
+    cells = cells;
   }
 
   -- a caller whose entries are all answered has none that is not
@@ -90,24 +89,34 @@ module _ {O : Type 0} (r : Running O) (s v : Seated) (kept : beside_submit v ≡
         (let long = ap (λ (x : Seated). length x.known.local.answered) kept in let same = ap (λ (xs : List Linked). length xs) own in omega (arith, long, same, caller.count));
   }
 
+-- after an operation was announced each entry is answered, as before
+pub answered_still : (s t : Seated) → t ≡ record s { known = record s.known { local = record s.known.local { cells = t.known.local.cells; fresh = false; steps = t.known.local.steps } } } → length s.known.local.own ≡ length s.known.local.answered + 0 →
+    length t.known.local.answered ≡ length t.known.local.own
+answered_still s t rest count =
+    let answered : length t.known.local.answered ≡ length s.known.local.answered = ap (λ (x : Seated). length x.known.local.answered) rest in
+    let own : length t.known.local.own ≡ length s.known.local.own = ap (λ (x : Seated). length x.known.local.own) rest in
+    omega (arith, answered, own, count)
+
 -- an operation was announced in a cell
-module _ {O : Type 0} (r : Running O) (j : ℕ) (op : List ℕ) (s t : Seated) (caller : IsCallerOf r s) (next : j ≡ length s.known.local.own) (room : j < 16) (long : length op ≡ 144)
+module _ {O : Type 0} (r : Running O) (j : ℕ) (op : List ℕ) (s t : Seated) (caller : IsCallerOf r s) (room : j < 16) (long : length op ≡ 144)
     (cell : cell_of t.known.local j ≡ record (cell_of s.known.local j) { words = next_number r.base s.known.local ∷ op; ticket = None })
     (others : (k : ℕ) → k ≢ j → cell_of t.known.local k ≡ cell_of s.known.local k)
     (rest : t ≡ record s { known = record s.known { local = record s.known.local { cells = t.known.local.cells; fresh = false; steps = t.known.local.steps } } }) where
   announced_kept : beside_submit t ≡ beside_submit s
   announced_kept = ap beside_submit rest
 
-  -- no ticket is changed by it
-  same_tickets : (k : ℕ) → (cell_of t.known.local k).ticket ≡ (cell_of s.known.local k).ticket
-  same_tickets k =
+  -- the cell has no ticket, and other cells have the same
+  no_ticket : (cell_of t.known.local j).ticket ≡ None
+  no_ticket = ap (λ (x : Cell). x.ticket) cell
+
+  same_tickets : (k : ℕ) → k ≢ j → (cell_of t.known.local k).ticket ≡ (cell_of s.known.local k).ticket
+  same_tickets k ne = ap (λ (x : Cell). x.ticket) (others k ne)
+
+  no_more_tickets : (k n : ℕ) → (cell_of t.known.local k).ticket ≡ Some n → (cell_of s.known.local k).ticket ≡ Some n
+  no_more_tickets k n at =
       elim (cases_eq k j) [
-        | inl e ↦
-            ap (λ i. (cell_of t.known.local i).ticket) e
-            ∙ ap (λ (x : Cell). x.ticket) cell
-            ∙ sym (caller.cells.further j (omega (arith, next)))
-            ∙ ap (λ i. (cell_of s.known.local i).ticket) (sym e)
-        | inr ne ↦ ap (λ (x : Cell). x.ticket) (others k ne)
+        | inl e ↦ absurd (none-some n (sym no_ticket ∙ ap (λ i. (cell_of t.known.local i).ticket) (sym e) ∙ at))
+        | inr ne ↦ sym (same_tickets k ne) ∙ at
       ]
 
   same_own : t.known.local.own ≡ s.known.local.own
@@ -119,6 +128,12 @@ module _ {O : Type 0} (r : Running O) (j : ℕ) (op : List ℕ) (s t : Seated) (
   same_fresh : t.known.local.fresh ≡ false
   same_fresh = ap (λ (x : Seated). x.known.local.fresh) rest
 
+  no_scan : t.known.local.scan ≡ None
+  no_scan = ap (λ (x : Seated). x.known.local.scan) rest ∙ caller.rest.scan
+
+  same_scans : t.known.local.scans ≡ s.known.local.scans
+  same_scans = ap (λ (x : Seated). x.known.local.scans) rest
+
   -- nothing was linked
   module _ (v : Seated) (none : LinksNone t v) where
     none_kept : beside_submit v ≡ beside_submit s
@@ -129,11 +144,14 @@ module _ {O : Type 0} (r : Running O) (j : ℕ) (op : List ℕ) (s t : Seated) (
 
     none_caller : IsCallerOf r v
     none_caller =
-        between r s v none_kept 0 caller (ap (λ (x : Seated). x.known.local.fresh) none.same ∙ same_fresh)
+        between r s v none_kept 0 caller (ap (λ (x : Seated). x.known.local.fresh) none.same ∙ same_fresh) (ap (λ (x : Seated). x.known.local.scan) none.same ∙ no_scan)
         (let e = ap (λ (xs : List Linked). length xs) none_own in omega (arith, e))
         (omega (arith, none.front, same_front))
-        (order_kept r.base.place s.known.local v.known.local caller.cells none_own (omega (arith, none.front, same_front))
-        (λ k. ap (λ (x : Seated). (cell_of x.known.local k).ticket) none.same ∙ same_tickets k))
+        (own_kept s.known.local v.known.local caller.cells none_own (omega (arith, none.front, same_front))
+        (λ k n at. no_more_tickets k n (ap (λ (x : Seated). (cell_of x.known.local k).ticket) (sym none.same) ∙ at)))
+
+    none_scans : s.known.local.scans ≤ v.known.local.scans
+    none_scans = (let e = ap (λ (x : Seated). x.known.local.scans) none.same in omega (arith, e, same_scans))
 
     pub halts_linking : (most : ℕ) → v.known.local.steps ≤ s.known.local.steps + most → IsAtLimit v.known.local → SubmitHalted r most s (unlinked v)
     halts_linking most steps limit = halts r s v none_kept most caller none_own (omega (arith, none.front, same_front)) steps limit
@@ -143,7 +161,7 @@ module _ {O : Type 0} (r : Running O) (j : ℕ) (op : List ℕ) (s t : Seated) (
     caller = none_caller v links.none;
     keeps = keeps r s v (none_kept v links.none) most (omega (arith, links.none.front, same_front)) steps;
     allowed = allowed;
-    room = omega (arith, next, room);
+    scans = none_scans v links.none;
     own = none_own v links.none;
     front = omega (arith, links.front, same_front);
     cur = (let e = ap (λ (x : Seated). root_place_of r.callers x.known.local.seen_cur) links.none.same in omega (arith, e, links.cur));
@@ -155,9 +173,10 @@ module _ {O : Type 0} (r : Running O) (j : ℕ) (op : List ℕ) (s t : Seated) (
     caller = none_caller v links.none;
     keeps = keeps r s v (none_kept v links.none) most (omega (arith, links.none.front, same_front)) steps;
     allowed = allowed;
-    room = omega (arith, next, room);
+    scans = none_scans v links.none;
     own = none_own v links.none;
     front = links.front;
+    idle = (j, room, subst (IsIdleAt v.known.local.seen_free) (sym (ap (λ (x : Seated). (cell_of x.known.local j).ticket) links.none.same ∙ no_ticket)) tt);
   }
 
   -- the entry was linked
@@ -200,20 +219,20 @@ module _ {O : Type 0} (r : Running O) (j : ℕ) (op : List ℕ) (s t : Seated) (
     at_others k ne =
         ap (λ cells. (get_or cells k default).ticket) at.cells
         ∙ ap (λ (x : Cell). x.ticket) (get_or-set_other t.known.local.cells j k (record (cell_of t.known.local j) { ticket = Some ticket }) default ne)
-        ∙ same_tickets k
+        ∙ same_tickets k ne
 
-    at_order : HasCellsInOrder r.base.place v.known.local
-    at_order =
-        order_more r.base.place s.known.local v.known.local (entry_at r s.known.local op ticket) caller.cells caller.front (omega (arith, next, room)) at_own (omega (arith, at.from, same_front)) at.front
-        (λ k ne. at_others k (λ e. ne (e ∙ next)))
-        (ap (λ i. (cell_of v.known.local i).ticket) (sym next) ∙ at_here)
+    at_cells : HasOwnCells v.known.local
+    at_cells =
+        own_more s.known.local v.known.local (entry_at r s.known.local op ticket) j caller.cells at_own (omega (arith, at.from, same_front)) at.front
+        (λ k n ne there. sym (at_others k ne) ∙ there)
+        at_here
 
     at_caller : IsLinkedOf r v
     at_caller =
-        between r s v at_kept 1 caller (ap (λ (x : Seated). x.known.local.fresh) at.same ∙ same_fresh)
+        between r s v at_kept 1 caller (ap (λ (x : Seated). x.known.local.fresh) at.same ∙ same_fresh) (ap (λ (x : Seated). x.known.local.scan) at.same ∙ no_scan)
         (ap (λ (xs : List Linked). length xs) at_own ∙ length-append s.known.local.own (entry_at r s.known.local op ticket ∷ []))
         (omega (arith, at.from, at.front, same_front))
-        at_order
+        at_cells
 
     at_lends : unanswered_ticket v.known.local ≡ Some ticket
     at_lends =
@@ -227,7 +246,7 @@ module _ {O : Type 0} (r : Running O) (j : ℕ) (op : List ℕ) (s t : Seated) (
     caller = at_caller ticket v at;
     keeps = keeps r s v (at_kept ticket v at) most (omega (arith, at.from, at.front, same_front)) steps;
     allowed = allowed;
-    room = omega (arith, next, room);
+    scans = (let e = ap (λ (x : Seated). x.known.local.scans) at.same in omega (arith, e, same_scans));
     ticket = ticket;
     lends = at_lends ticket v at;
     own = at_own ticket v at;

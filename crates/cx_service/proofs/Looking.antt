@@ -1,24 +1,31 @@
 -- A cell is looked for before an operation is announced.
-use Rattle.std.proofs.Common.{◌≡◌, ◌+◌, ◌<◌, ◌≤◌, ℕ, false, List, [], ◌∷◌, ◌++◌, length, sym, ap, subst, ◌∙◌, arith, Option, Some, None, max, IfSome}
+use Rattle.std.proofs.Common.{◌≡◌, ◌+◌, ◌<◌, ◌≤◌, ◌^◌, ℕ, false, List, [], ◌∷◌, ◌++◌, length, refl, sym, ap, subst, ◌∙◌, arith, slice_index, slice_get, Some, None, Result, Ok, Err}
 use Rattle.std.proofs.lemmas.List.{append-nil}
+use Rattle.std.proofs.lemmas.Option.{same_Some}
+use Rattle.cx_base.specs.Codes.{root_place_of}
 use Rattle.cx_core.specs.declared.kinds.Kind.TheVariants.{LoadCur, LoadFree}
+use Rattle.cx_core.specs.declared.local.Cell.{Cell}
 use Rattle.cx_core.specs.declared.local.Linked.{Linked}
+use Rattle.cx_core.specs.Layout.{max_word}
+use Rattle.cx_core.specs.RingEvents.{need_word}
 use Rattle.cx_core.specs.State.{Instance, one_more}
 use Rattle.cx_rule.specs.declared.rule.Noted.{Noted}
 use Rattle.mutation_queue.specs.Cells.{IsInUse}
+use Rattle.mutation_queue.specs.Collecting.{Collects, but_collected}
+use Rattle.mutation_queue.specs.declared.collecting.Collected.{Collected}
 use Rattle.mutation_queue.specs.declared.linking.LinkTried.{LinkTried}
 use Rattle.mutation_queue.specs.declared.linking.LinkTried.TheVariants.{Again as TriedAgain, Linked as TriedLinked, Worn as TriedWorn}
-use Rattle.std.specs.List.{slice_get}
-use Rattle.cx_core.specs.QueueEvents.{IsIdle, cell_of}
+use Rattle.cx_core.specs.QueueEvents.{cell_of}
+use Rattle.cx_rule.specs.Rule.{IsLawfulLocal}
 use Rattle.cx_rule.specs.Running.{Running}
 use Rattle.cx_rule.specs.Seats.{IsAtLimit, Seated, stepped}
 use Rattle.cx_core.specs.declared.local.FullNote.{FullNote}
 use Rattle.cx_service.specs.declared.submit.Submitted.{Submitted}
 use Rattle.cx_service.specs.declared.submit.Submitted.TheVariants.{Linked as LinkedIs, Again, Full, Worn, Halted}
-use Rattle.cx_service.specs.Callers.{HasCellsInOrder, IsCallerOf}
-use Rattle.cx_service.specs.Submits.{IsNextCell, IsOwnNote, LooksForCell, SubmitFull, SubmitKeeps, SubmitsIn, EntersIn, entry_at}
-use Rattle.cx_service.proofs.Cells.{all_held, not_both, order_kept}
-use Rattle.cx_service.proofs.Entering.{beside_submit, between, keeps, stale}
+use Rattle.cx_service.specs.Callers.{IsCallerOf, unlinked}
+use Rattle.cx_service.specs.Submits.{AreTickets, EndsLooking, Enters, EntersIn, FindsCell, FindsNone, LooksForCell, NamesHolder, SubmitFull, SubmitHalted, SubmitKeeps, SubmitsIn, entry_at}
+use Rattle.cx_service.proofs.Cells.{answered_below, many_own, own_kept, used_ticket}
+use Rattle.cx_service.proofs.Entering.{beside_submit, between, halts, keeps, stale}
 
 -- what comes before an operation is announced: at most so many steps, which the limit allowed, that change no entry and no cell
 pub record Precedes (more : ℕ) (s t : Seated) : Type 0 where
@@ -26,27 +33,38 @@ pub record Precedes (more : ℕ) (s t : Seated) : Type 0 where
   pub own : t.known.local.own ≡ s.known.local.own
   pub cells : t.known.local.cells ≡ s.known.local.cells
   pub front : s.known.local.front ≤ t.known.local.front
+  pub scans : s.known.local.scans ≤ t.known.local.scans
   pub steps : t.known.local.steps ≤ s.known.local.steps + more
   pub stood : IsAtLimit s.known.local → t ≡ s
 
-pub looked_first : (s t : Seated) → LooksForCell s t → Precedes 1 s t
-looked_first s t looked = record {
-  kept = ap beside_submit looked.same;
-  own = ap (λ (x : Seated). x.known.local.own) looked.same;
-  cells = ap (λ (x : Seated). x.known.local.cells) looked.same;
-  front = (let e = ap (λ (x : Seated). x.known.local.front) looked.same in omega (arith, e));
-  steps = looked.steps;
-  stood = looked.stood;
-}
+-- what looking for a cell leaves
+module _ (most : ℕ) (s t : Seated) (looked : LooksForCell most s t) where
+  pub looked_kept : beside_submit t ≡ beside_submit s
+  looked_kept = ap beside_submit looked.same
+
+  pub looked_own : t.known.local.own ≡ s.known.local.own
+  looked_own = ap (λ (x : Seated). x.known.local.own) looked.same
+
+  pub looked_cells : t.known.local.cells ≡ s.known.local.cells
+  looked_cells = ap (λ (x : Seated). x.known.local.cells) looked.same
+
+  pub looked_front : t.known.local.front ≡ s.known.local.front
+  looked_front = ap (λ (x : Seated). x.known.local.front) looked.same
+
+  pub looked_first : EndsLooking s t → (IsAtLimit s.known.local → t ≡ s) → Precedes most s t
+  looked_first ends stood = record { kept = looked_kept; own = looked_own; cells = looked_cells; front = omega (arith, looked_front); scans = ends.scans; steps = looked.steps; stood = stood }
 
 module _ {O : Type 0} (r : Running O) (more : ℕ) (s t : Seated) (first : Precedes more s t) where
   -- its caller is in no call
-  pub caller_then : IsCallerOf r s → t.known.local.fresh ≡ false → IsCallerOf r t
-  caller_then caller fresh =
-      between r s t first.kept 0 caller fresh
+  pub caller_then : IsCallerOf r s → t.known.local.fresh ≡ false → t.known.local.scan ≡ None → IsCallerOf r t
+  caller_then caller fresh scan =
+      between r s t first.kept 0 caller fresh scan
       (let e = ap (λ (xs : List Linked). length xs) first.own in omega (arith, e))
       (omega (arith, first.front))
-      (order_kept r.base.place s.known.local t.known.local caller.cells first.own (omega (arith, first.front)) (λ j. ap (λ cells. (cell_of (record s.known.local { cells = cells }) j).ticket) first.cells))
+      (own_kept s.known.local t.known.local caller.cells first.own (omega (arith, first.front)) (λ j n at. same_tickets j ∙ at))
+    where
+      same_tickets : (j : ℕ) → (cell_of s.known.local j).ticket ≡ (cell_of t.known.local j).ticket
+      same_tickets j = ap (λ (cells : List Cell). (cell_of (record s.known.local { cells = cells }) j).ticket) (sym first.cells)
 
   allowed : ¬ IsAtLimit t.known.local → ¬ IsAtLimit s.known.local
   allowed free at = free (subst (λ (x : Seated). IsAtLimit x.known.local) (sym (first.stood at)) at)
@@ -67,13 +85,13 @@ module _ {O : Type 0} (r : Running O) (more : ℕ) (s t : Seated) (first : Prece
       ap (λ c. entry_at r (record t.known.local { number = c }) op ticket) (ap (λ (x : Seated). x.known.local.number) first.kept)
       ∙ ap (λ own. entry_at r (record s.known.local { own = own }) op ticket) first.own
 
-  -- what a submit from there comes to is what one from the beginning does
-  pub submits_then : (op : List ℕ) (tries m n : ℕ) (result : Submitted) → m + more ≤ n → SubmitsIn m r op tries t result → SubmitsIn n r op tries s result
+  -- what an entry from there comes to is what a submit from the beginning does
+  pub submits_then : (op : List ℕ) (tries m n : ℕ) (result : Submitted) → m + more ≤ n → Enters m r op tries t result → SubmitsIn n r op tries s result
   submits_then op tries m n (LinkedIs v) most after = record {
     caller = after.caller;
     keeps = keeps_then m n v most after.keeps;
     allowed = allowed after.allowed;
-    room = (let e = ap (λ (xs : List Linked). length xs) first.own in omega (arith, e, after.room));
+    scans = omega (arith, first.scans, after.scans);
     ticket = after.ticket;
     lends = after.lends;
     own = after.own ∙ ap (λ (xs : List Linked). xs ++ entry_at r t.known.local op after.ticket ∷ []) first.own ∙ ap (λ x. s.known.local.own ++ x ∷ []) (same_entry op after.ticket);
@@ -84,37 +102,21 @@ module _ {O : Type 0} (r : Running O) (more : ℕ) (s t : Seated) (first : Prece
     caller = after.caller;
     keeps = keeps_then m n v most after.keeps;
     allowed = allowed after.allowed;
-    room = (let e = ap (λ (xs : List Linked). length xs) first.own in omega (arith, e, after.room));
+    scans = omega (arith, first.scans, after.scans);
     own = after.own ∙ first.own;
     front = omega (arith, after.front, first.front);
     cur = after.cur;
     left = after.left;
   }
-  submits_then op tries m n (Full v note) most after = record {
-    caller = after.caller;
-    keeps = keeps_then m n v most after.keeps;
-    allowed = allowed after.allowed;
-    full = ap (λ (xs : List Linked). length xs) (sym first.own) ∙ after.full;
-    own = after.own ∙ first.own;
-    names = record {
-      holder = after.names.holder ∙ ap (λ (x : Seated). x.known.local.number) first.kept;
-      need = after.names.need;
-      ticket = (let least = after.names.ticket in record {
-        index = least.index;
-        entry = least.entry;
-        here = subst (λ (xs : List Linked). slice_get xs least.index ≡ Some least.entry) first.own least.here;
-        is = least.is;
-        least = λ i x there. least.least i x (subst (λ (xs : List Linked). slice_get xs i ≡ Some x) (sym first.own) there);
-      });
-    };
-  }
+  submits_then op tries m n (Full v note) most after = absurd after
   submits_then op tries m n (Worn v) most after = record {
     caller = after.caller;
     keeps = keeps_then m n v most after.keeps;
     allowed = allowed after.allowed;
-    room = (let e = ap (λ (xs : List Linked). length xs) first.own in omega (arith, e, after.room));
+    scans = omega (arith, first.scans, after.scans);
     own = after.own ∙ first.own;
     front = after.front;
+    idle = after.idle;
   }
   submits_then op tries m n (Halted v) most after = record {
     caller = after.caller;
@@ -129,43 +131,6 @@ module _ {O : Type 0} (r : Running O) (more : ℕ) (s t : Seated) (first : Prece
   enters_then op tries m n v TriedAgain most after = submits_then op tries m n (Again v) most after
   enters_then op tries m n v TriedWorn most after = submits_then op tries m n (Worn v) most after
 
--- no cell is idle
-pub full_there : {O : Type 0} (r : Running O) (most : ℕ) (s t : Seated) (note : FullNote) → LooksForCell s t → IsCallerOf r s → IsCallerOf r t → length s.known.local.own ≡ 16 → ¬ IsAtLimit s.known.local → 1 ≤ most → IsOwnNote r t note →
-    SubmitFull r most s t note
-full_there r most s t note looked caller now full free some names =
-    let first = looked_first s t looked in record {
-      caller = now;
-      keeps = keeps r s t first.kept most first.front (omega (arith, first.steps, some));
-      allowed = free;
-      full = full;
-      own = first.own;
-      names = record {
-        holder = names.holder ∙ ap (λ (x : Seated). x.known.local.number) first.kept;
-        need = names.need;
-        ticket = (let least = names.ticket in record {
-          index = least.index;
-          entry = least.entry;
-          here = subst (λ (xs : List Linked). slice_get xs least.index ≡ Some least.entry) first.own least.here;
-          is = least.is;
-          least = λ i x there. least.least i x (subst (λ (xs : List Linked). slice_get xs i ≡ Some x) (sym first.own) there);
-        });
-      };
-    }
-
--- FREE was loaded, and is what it was
-pub free_loaded : (instance : Instance) (s t : Seated) (found : ℕ) → t ≡ stepped instance LoadFree s found → found ≡ s.known.local.seen_free → ¬ IsAtLimit s.known.local → LooksForCell s t
-free_loaded instance s t found made same allowed =
-    let with = λ (f k : ℕ) (ns : List Noted). (let x : Seated = record s { known = record s.known { local = record s.known.local { seen_free = f; steps = k }; noted = ns } } in x) in
-    let l = s.known.local in
-    let most : max l.seen_free found ≡ l.seen_free = omega arith in
-    let e : t ≡ with l.seen_free (one_more l.steps) s.known.noted =
-    made ∙ ap (λ f. with f (one_more l.steps) (s.known.noted ++ [])) most ∙ ap (with l.seen_free (one_more l.steps)) (append-nil s.known.noted) in
-    let steps = ap (λ (x : Seated). x.known.local.steps) e in record {
-      same = e ∙ ap (λ k. with l.seen_free k s.known.noted) (sym steps);
-      steps = omega (arith, steps);
-      stood = λ at. absurd (allowed at);
-    }
-
 -- CUR was loaded
 pub cur_loaded : (instance : Instance) (s t : Seated) (found : ℕ) → t ≡ stepped instance LoadCur s found → ¬ IsAtLimit s.known.local → Precedes 1 s (stale t)
 cur_loaded instance s t found made allowed =
@@ -176,13 +141,131 @@ cur_loaded instance s t found made allowed =
       own = ap (λ (x : Seated). x.known.local.own) made;
       cells = ap (λ (x : Seated). x.known.local.cells) made;
       front = omega (arith, front);
+      scans = (let e = ap (λ (x : Seated). x.known.local.scans) made in omega (arith, e));
       steps = omega (arith, steps);
       stood = λ at. absurd (allowed at);
     }
 
--- all cells are in use, and were looked through again after at most one step
-pub none_again : (place : ℕ) (s t : Seated) (found : Option ℕ) → HasCellsInOrder place s.known.local → s.known.local.seen_free ≡ place → ((j : ℕ) → j < 16 → IsInUse s.known.local j) → ¬ IsAtLimit s.known.local → LooksForCell s t →
-    IfSome found (λ j. (j < 16) × IsIdle t.known.local j) → IsNextCell s.known.local found
-none_again place s t None order free used allowed looked idle = (all_held place s.known.local order free used, allowed)
-none_again place s t (Some j) order free used allowed looked idle =
-    absurd (not_both place s.known.local order free j (subst (λ (x : Seated). IsIdle x.known.local j) looked.same idle.1) (used j idle.0))
+-- and its caller is in no call then
+pub cur_caller : {O : Type 0} (r : Running O) (instance : Instance) (s t : Seated) (found : ℕ) → t ≡ stepped instance LoadCur s found → ¬ IsAtLimit s.known.local → IsCallerOf r s → IsCallerOf r (stale t)
+cur_caller r instance s t found made allowed caller = caller_then r 1 s (stale t) (cur_loaded instance s t found made allowed) caller refl (ap (λ (x : Seated). x.known.local.scan) made ∙ caller.rest.scan)
+
+-- FREE was loaded
+pub free_loaded : (instance : Instance) (s t : Seated) (found : ℕ) → t ≡ stepped instance LoadFree s found → LooksForCell 1 s t
+free_loaded instance s t found made =
+    let with = λ (ns : List Noted). (let x : Seated = record s { known = record s.known { noted = ns } } in x) in
+    let steps = ap (λ (x : Seated). x.known.local.steps) made in record {
+      same = ap but_collected made ∙ ap (λ ns. but_collected (with ns)) (append-nil s.known.noted);
+      steps = omega (arith, steps);
+    }
+
+-- and no scan is under way, as before
+pub free_ends : {O : Type 0} (r : Running O) (instance : Instance) (s t : Seated) (found : ℕ) → t ≡ stepped instance LoadFree s found → IsCallerOf r s → EndsLooking s t
+free_ends r instance s t found made caller = record {
+  scan = ap (λ (x : Seated). x.known.local.scan) made ∙ caller.rest.scan;
+  fresh = ap (λ (x : Seated). x.known.local.fresh) made ∙ caller.rest.fresh;
+  scans = (let e = ap (λ (x : Seated). x.known.local.scans) made in omega (arith, e));
+}
+
+-- nothing was done
+pub none_looked : (most : ℕ) (s : Seated) → LooksForCell most s s
+none_looked most s = record { same = refl; steps = omega arith }
+
+pub none_ends : {O : Type 0} (r : Running O) (s : Seated) → IsCallerOf r s → EndsLooking s s
+none_ends r s caller = record { scan = caller.rest.scan; fresh = caller.rest.fresh; scans = omega arith }
+
+-- one look after another
+pub looked_then : (m n k : ℕ) (s t v : Seated) → m + n ≤ k → LooksForCell m s t → LooksForCell n t v → LooksForCell k s v
+looked_then m n k s t v most a b = record { same = b.same ∙ a.same; steps = omega (arith, most, a.steps, b.steps) }
+
+pub ends_then : (s t v : Seated) → EndsLooking s t → EndsLooking t v → EndsLooking s v
+ends_then s t v a b = record { scan = b.scan; fresh = b.fresh; scans = omega (arith, a.scans, b.scans) }
+
+pub finds_then : (callers : ℕ) (s t v : Seated) (found : Result ℕ FullNote) → ¬ IsAtLimit s.known.local → EndsLooking s t → t.known.local.scans ≡ s.known.local.scans → FindsCell callers t v found → FindsCell callers s v found
+finds_then callers s t v (Ok cell) free ends scans finds = record { ends = ends_then s t v ends finds.ends; within = finds.within; idle = finds.idle }
+finds_then callers s t v (Err note) free ends scans finds = record { ends = ends_then s t v ends finds.ends; scans = finds.scans ∙ ap one_more scans; allowed = free; names = finds.names }
+
+-- a caller with all cells in use
+module _ {O : Type 0} (r : Running O) (s : Seated) (tickets : List ℕ) (caller : IsCallerOf r s) (are : AreTickets s.known.local tickets) where
+  -- each of the tickets is that of an own entry
+  own_ticket : (i : ℕ) → i < 16 → (k : ℕ) × (x : Linked) × (slice_get s.known.local.own k ≡ Some x) × (x.ticket ≡ slice_index tickets i)
+  own_ticket i within = (let at = are.each i within in caller.cells.own at.0 (slice_index tickets i) at.2)
+
+  pub ticket_small : (i : ℕ) → i < 16 → s.known.local.front ≤ 2 ^ 40 → slice_index tickets i < 2 ^ 40
+  ticket_small i within small = (let x = own_ticket i within in let below = caller.cells.to x.0 x.1 x.2 in let same = x.3 in omega (arith, below, same, small))
+
+  -- cells up to one of them may be given again
+  pub may_collect : (instance : Instance) → IsLawfulLocal instance s.known.local → (i : ℕ) → i < 16 → slice_index tickets i + 1 ≤ root_place_of instance.callers s.known.local.seen_cur
+  may_collect instance law i within =
+      let x = own_ticket i within in
+      let count : length s.known.local.own ≡ length s.known.local.answered = omega (arith, caller.count) in
+      let below = answered_below instance s.known.local law count x.0 x.1 x.2 in
+      let same = x.3 in
+      omega (arith, below, same)
+
+  -- and no cell is idle after it
+  module _ (v : Seated) (found : Collected) (instance : Instance) (law : IsLawfulLocal instance s.known.local) (collects : Collects r.callers (slice_index tickets 7 + 1) s v found) (used : (j : ℕ) → j < 16 → IsInUse v.known.local j) where
+    same_ticket : (j : ℕ) → (cell_of v.known.local j).ticket ≡ (cell_of s.known.local j).ticket
+    same_ticket j = ap (λ (x : Seated). (cell_of x.known.local j).ticket) collects.same
+
+    least_small : slice_index tickets 0 < 2 ^ 40
+    least_small = ticket_small 0 (omega arith) law.to
+
+    -- the least ticket is at or above FREE, which rose to the least need
+    need_low : found.need ≤ slice_index tickets 0
+    need_low =
+        let here = are.least.here in
+        let low = used_ticket v.known.local here.0 (used here.0 here.1) in
+        let is = same_Some low.0 (slice_index tickets 0) (sym low.1 ∙ same_ticket here.0 ∙ here.2) in
+        let eighth = are.each 7 (omega arith) in
+        let from = are.least.each eighth.0 eighth.1 in
+        let at = same_Some from.0 (slice_index tickets 7) (sym from.1 ∙ eighth.2) in
+        let above = low.2 in
+        let least = from.2 in
+        let free = collects.free in
+        let rose = collects.opened in
+        omega (arith, is, at, above, least, free, rose)
+
+    pub names_holder : NamesHolder r.callers v.known.local (record { holder = found.holder; need = found.need; ticket = slice_index tickets 0 })
+    names_holder = record {
+      holder = collects.holder;
+      other = λ e. (
+          let own = collects.own (e ∙ ap (λ (x : Seated). x.known.local.number) collects.same) in
+          let most = ap need_word caller.rest.protection in
+          let low = need_low in
+          let small = least_small in
+          absurd (omega (arith, own, most, low, small)));
+      seen = collects.seen;
+      need = need_low;
+      cells = record {
+        each = λ j within. (let at = are.least.each j within in (at.0, same_ticket j ∙ at.1, at.2));
+        here = (let at = are.least.here in (at.0, at.1, same_ticket at.0 ∙ at.2));
+      };
+    }
+
+-- a scan that ended
+pub collect_ends : (callers target : ℕ) (s v : Seated) (found : Collected) → s.known.local.scans ≤ max_word → Collects callers target s v found → EndsLooking s v
+collect_ends callers target s v found small collects = record { scan = collects.scan; fresh = collects.fresh; scans = (let e = collects.scans in omega (arith, small, e)) }
+
+-- the limit was come to
+pub halts_looking : {O : Type 0} (r : Running O) (most n : ℕ) (s t : Seated) → IsCallerOf r s → LooksForCell n s t → n ≤ most → IsAtLimit t.known.local → SubmitHalted r most s (unlinked t)
+halts_looking r most n s t caller looked few limit =
+    let front = looked_front n s t looked in
+    halts r s t (looked_kept n s t looked) most caller (looked_own n s t looked) (omega (arith, front)) (omega (arith, looked.steps, few)) limit
+
+-- no cell is idle
+pub full_there : {O : Type 0} (r : Running O) (most n : ℕ) (s t : Seated) (note : FullNote) → LooksForCell n s t → IsCallerOf r s → FindsNone r.callers s t note → n ≤ most → SubmitFull r most s t note
+full_there r most n s t note looked caller none few =
+    let first = looked_first n s t looked none.ends (λ at. absurd (none.allowed at)) in
+    let now = caller_then r n s t first caller none.ends.fresh none.ends.scan in record {
+      caller = now;
+      keeps = keeps r s t first.kept most first.front (omega (arith, first.steps, few));
+      allowed = none.allowed;
+      own = first.own;
+      scans = none.scans;
+      full = (
+          let many = many_own t.known.local now.cells (λ j within. (let at = none.names.cells.each j within in (at.0, at.1))) in
+          let e = ap (λ (xs : List Linked). length xs) first.own in
+          omega (arith, many, e));
+      names = none.names;
+    }

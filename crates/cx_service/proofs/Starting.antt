@@ -1,5 +1,5 @@
 -- Callers as they are made.
-use Rattle.std.proofs.Common.{◌≡◌, ◌<◌, ℕ, List, length, get_or, map, replicate, refl, sym, ap, subst, ◌∙◌, inl, inr, arith, All, None}
+use Rattle.std.proofs.Common.{◌≡◌, ◌<◌, ℕ, List, [], ◌∷◌, length, get_or, map, replicate, refl, sym, ap, subst, ◌∙◌, inl, inr, arith, All, None}
 use Rattle.std.specs.List.{range_with_len}
 use Rattle.std.proofs.Math.ListN.{get_or-eq_default}
 use Rattle.std.proofs.lemmas.Bool.{cases_lt}
@@ -37,15 +37,11 @@ opened r limits k of = record {
     fresh = refl;
   };
   count = refl;
-  free = refl;
   front = omega arith;
   cells = record {
-    few = omega arith;
-    held = λ i x there. absurd (none-some x there);
-    further = λ j past. blank_ticket j;
-    from = λ i x there. absurd (none-some x there);
+    own = λ j t at. absurd (none-some t (sym (blank_ticket j) ∙ at));
+    apart = λ j k t a b. absurd (none-some t (sym (blank_ticket j) ∙ a));
     to = λ i x there. absurd (none-some x there);
-    rise = λ i j x y a b less. absurd (none-some x a);
   };
 }
 
@@ -57,3 +53,10 @@ each_opened r limits seats is of =
     let within : k < r.callers = omega (arith, below, ap length is, length-map-range_with_len f 0 r.callers) in
     let at : get_or seats k d ≡ f k = ap (λ (xs : List Seated). get_or xs k d) is ∙ get_or-map-range_with_len f 0 r.callers k k d within (omega arith) in
     subst (IsCallerOf r) (sym at) (opened r limits k (subst (IsSeatOf r) at (of k d below))))
+
+-- what holds of each of one or two seats holds of the first, and of the second
+pub first_has : (P : Seated → Type 0) (seats : List Seated) (a : Seated) (more : List Seated) → seats ≡ a ∷ more → All P seats → P a
+first_has P seats a more is all = subst (All P) is all 0 a (omega arith)
+
+pub second_has : (P : Seated → Type 0) (seats : List Seated) (a b : Seated) → seats ≡ a ∷ b ∷ [] → All P seats → P b
+second_has P seats a b is all = subst (All P) is all 1 b (omega arith)

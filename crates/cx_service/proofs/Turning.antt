@@ -16,7 +16,7 @@ use Rattle.cx_rule.specs.Seats.{IsAtLimit, Seated, unanswered_ticket}
 use Rattle.cx_service.specs.Callers.{IsBetweenCalls, IsCallerOf, IsLinkedOf, StoppedSeat}
 use Rattle.cx_service.specs.Drives.{DriveDone, DriveHalted, DriveKeeps, DrivePending, MeetsMore}
 use Rattle.cx_service.specs.Lookups.{ReadAnswered, ReadHalted, ReadKeeps, ReadPending}
-use Rattle.cx_service.proofs.Cells.{order_kept}
+use Rattle.cx_service.proofs.Cells.{own_kept}
 use Rattle.cx_turns.specs.Answering.{AnswersEntry, AnswersRead, HaltsFor, beside_lookup, beside_update, with_answer, with_read}
 use Rattle.cx_turns.specs.declared.lookup.Seen.{Seen}
 use Rattle.cx_turns.specs.Turns.{IsAtRest, TurnRefused}
@@ -37,16 +37,15 @@ meets_then n s u v (inl a) (inl b) = inl (omega (arith, a, b))
 meets_then n s u v (inr a) (inl b) = inr (omega (arith, a, b))
 meets_then n s u v a (inr b) = inr b
 
--- a caller of which turns left the entries, the cells and FREE as they were, and of whose answers there are so many
-between_after : {O : Type 0} (r : Running O) (n m : ℕ) (s v : Seated) → IsBetweenCalls n r s → v.known.local.own ≡ s.known.local.own → v.known.local.cells ≡ s.known.local.cells → v.known.local.seen_free ≡ s.known.local.seen_free →
+-- a caller of which turns left the entries and the cells as they were, and of whose answers there are so many
+between_after : {O : Type 0} (r : Running O) (n m : ℕ) (s v : Seated) → IsBetweenCalls n r s → v.known.local.own ≡ s.known.local.own → v.known.local.cells ≡ s.known.local.cells →
     s.known.local.front ≤ v.known.local.front → IsSeatOf r v → IsAtRest v.known.local → length v.known.local.answered + m ≡ length s.known.local.answered + n → IsBetweenCalls m r v
-between_after r n m s v was own cells free front of rest answered = record {
+between_after r n m s v was own cells front of rest answered = record {
   of = of;
   rest = rest;
   count = (let long = ap (λ (xs : List Linked). length xs) own in omega (arith, long, answered, was.count));
-  free = free ∙ was.free;
   front = omega (arith, was.front, front);
-  cells = order_kept r.base.place s.known.local v.known.local was.cells own front (λ j. ap (λ (xs : List Cell). (slice_index_or xs j (record { words = []; ticket = None; set = []; offer = 0 })).ticket) cells);
+  cells = own_kept s.known.local v.known.local was.cells own front (λ j t at. ap (λ (xs : List Cell). (slice_index_or xs j (record { words = []; ticket = None; set = []; offer = 0 })).ticket) (sym cells) ∙ at);
 }
 
 module _ {O : Type 0} (r : Running O) (s v : Seated) (linked : IsLinkedOf r s) (rest : beside_update v ≡ beside_update s) (front : s.known.local.front ≤ v.known.local.front) (of : IsSeatOf r v) where
@@ -60,14 +59,14 @@ module _ {O : Type 0} (r : Running O) (s v : Seated) (linked : IsLinkedOf r s) (
 
   stands : (m : ℕ) → IsAtRest v.known.local → length v.known.local.answered + m ≡ length s.known.local.answered + 1 → IsBetweenCalls m r v
   stands m at answered =
-      between_after r 1 m s v linked (ap (λ (x : Seated). x.known.local.own) rest) (ap (λ (x : Seated). x.known.local.cells) rest) (ap (λ (x : Seated). x.known.local.seen_free) rest) front of at answered
+      between_after r 1 m s v linked (ap (λ (x : Seated). x.known.local.own) rest) (ap (λ (x : Seated). x.known.local.cells) rest) front of at answered
 
   pub turn_done : (ticket : ℕ) (reply : List ℕ) → unanswered_ticket s.known.local ≡ Some ticket → ¬ IsAtLimit s.known.local → AnswersEntry ticket reply s v → DriveDone r s v (record { ticket = ticket; reply = reply })
   turn_done ticket reply is allowed answers = record {
     caller = stands 0 answers.rest (ap (λ (xs : List Answer). length xs + 0) answers.answered ∙ ap (λ n. n + 0) (length-append s.known.local.answered _) ∙ zero_more (length s.known.local.answered + 1));
     keeps = drive_keeps;
     allowed = allowed;
-    met = (let same = answers.met in omega (arith, same));
+    met = answers.met;
     ticket = is;
     answered = answers.answered;
   }
@@ -187,7 +186,7 @@ module _ {O : Type 0} (r : Running O) (op : List ℕ) (s v : Seated) (caller : I
 
   still : IsAtRest v.known.local → IsCallerOf r v
   still at =
-      between_after r 0 0 s v caller (ap (λ (x : Seated). x.known.local.own) rest) (ap (λ (x : Seated). x.known.local.cells) rest) (ap (λ (x : Seated). x.known.local.seen_free) rest) front of at
+      between_after r 0 0 s v caller (ap (λ (x : Seated). x.known.local.own) rest) (ap (λ (x : Seated). x.known.local.cells) rest) front of at
       (ap (λ (x : Seated). length x.known.local.answered + 0) rest)
 
   pub read_done : (seen : Seen) → ¬ IsAtLimit s.known.local → AnswersRead op seen.place seen.reply s v → ReadAnswered r op s v seen

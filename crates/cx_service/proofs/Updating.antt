@@ -1,7 +1,8 @@
 -- What submits and drives come to one after another.
-use Rattle.std.proofs.Common.{◌≡◌, ◌+◌, inl, inr, ℕ, List, [], ◌∷◌, ◌++◌, length, refl, ap, sym, subst, ◌∙◌}
+use Rattle.std.proofs.Common.{◌≡◌, ◌+◌, ◌≤◌, arith, inl, inr, ℕ, List, [], ◌∷◌, ◌++◌, length, refl, ap, sym, subst, ◌∙◌}
 use Rattle.std.proofs.lemmas.Option.{same_Some}
-use Rattle.std.specs.List.{slice_get}
+use Rattle.std.proofs.lemmas.Bool.{cases_lt}
+use Rattle.cx_core.specs.Layout.{max_word}
 use Rattle.cx_core.specs.declared.local.Answer.{Answer}
 use Rattle.cx_core.specs.declared.local.Linked.{Linked as OwnEntry}
 use Rattle.cx_core.specs.Region.{slot_number}
@@ -10,7 +11,7 @@ use Rattle.cx_rule.specs.Seats.{IsAtLimit, Seated}
 use Rattle.cx_core.specs.declared.local.FullNote.{FullNote}
 use Rattle.cx_service.specs.Callers.{StoppedSeat}
 use Rattle.cx_service.specs.Drives.{DriveDone, DriveHalted}
-use Rattle.cx_service.specs.Submits.{IsLeastTicket, SubmitAgain, SubmitFull, SubmitHalted, SubmitLinked, SubmitWorn, entry_at}
+use Rattle.cx_service.specs.Submits.{SubmitAgain, SubmitFull, SubmitHalted, SubmitLinked, SubmitWorn, entry_at}
 use Rattle.cx_service.specs.Lookups.{ReadHalted, ReadPending}
 use Rattle.cx_service.specs.declared.update.ReadDone.{ReadDone}
 use Rattle.cx_service.specs.declared.update.ReadDone.TheVariants.{Read, Queued, Full as FullRead, Worn as WornRead, Halted as HaltedRead}
@@ -43,22 +44,17 @@ module _ {O : Type 0} (r : Running O) (op : List ℕ) (s u : Seated) (same : Kee
   pub again_stood : (tries most : ℕ) (v : Seated) → SubmitAgain r tries most u v → IsAtLimit s.known.local → v ≡ s
   again_stood tries most v a at = absurd (allowed_first a.allowed at)
 
-  least_kept : (ticket : ℕ) → IsLeastTicket u.known.local ticket → IsLeastTicket s.known.local ticket
-  least_kept ticket l = record {
-    index = l.index;
-    entry = l.entry;
-    here = ap (λ (xs : List OwnEntry). slice_get xs l.index) (sym same.own) ∙ l.here;
-    is = l.is;
-    least = λ i x at. l.least i x (ap (λ (xs : List OwnEntry). slice_get xs i) same.own ∙ at);
-  }
-
-  pub update_full : (most : ℕ) (v : Seated) (note : FullNote) → SubmitFull r most u v note → UpdateFull r s v note
-  update_full most v note f = record {
+  pub update_full : (most : ℕ) (v : Seated) (note : FullNote) → s.known.local.scans ≤ u.known.local.scans → SubmitFull r most u v note → UpdateFull r s v note
+  update_full most v note rise f = record {
     caller = f.caller;
     allowed = allowed_first f.allowed;
     keeps = record { number = f.keeps.number ∙ same.number; limit = f.keeps.limit ∙ same.limit; own = f.own ∙ same.own; answered = f.keeps.answered ∙ same.answered; reads = f.keeps.reads ∙ same.reads };
-    full = ap (λ (xs : List OwnEntry). length xs) (sym same.own) ∙ f.full;
-    names = record { holder = f.names.holder ∙ same.number; need = f.names.need; ticket = least_kept note.ticket f.names.ticket };
+    full = (let e = ap (λ (xs : List OwnEntry). length xs) same.own in omega (arith, e, f.full));
+    scans = elim (cases_lt (u.known.local.scans + 1) max_word) [
+      | inl below ↦ inl (let e = f.scans in omega (arith, e, below, rise))
+      | inr above ↦ inr (let e = f.scans in omega (arith, e, above))
+    ];
+    names = f.names;
   }
 
   pub update_worn : (most : ℕ) (v : Seated) → SubmitWorn r most u v → UpdateWorn r s v

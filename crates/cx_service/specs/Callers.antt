@@ -7,25 +7,19 @@ use Rattle.cx_rule.specs.Running.{IsSeatOf, Running}
 use Rattle.cx_rule.specs.Seats.{IsAtLimit, Seated}
 use Rattle.cx_turns.specs.Turns.{IsAtRest}
 
--- The caller's entries stand in its cells in order: entry i in cell i, and no further cell has a ticket. Their tickets rise,
--- from the base's place on, and are below the front.
-pub record HasCellsInOrder (place : ℕ) (l : Local) : Type 0 where
-  pub few : length l.own ≤ 16
-  pub held : (i : ℕ) (x : Linked) → slice_get l.own i ≡ Some x → (cell_of l i).ticket ≡ Some x.ticket
-  pub further : (j : ℕ) → length l.own ≤ j → (cell_of l j).ticket ≡ None
-  pub from : (i : ℕ) (x : Linked) → slice_get l.own i ≡ Some x → place ≤ x.ticket
+-- Each ticket of a caller's cells is that of an own entry, no two cells have the same, and own tickets are below the front.
+pub record HasOwnCells (l : Local) : Type 0 where
+  pub own : (j t : ℕ) → (cell_of l j).ticket ≡ Some t → (i : ℕ) × (x : Linked) × (slice_get l.own i ≡ Some x) × (x.ticket ≡ t)
+  pub apart : (j k t : ℕ) → (cell_of l j).ticket ≡ Some t → (cell_of l k).ticket ≡ Some t → j ≡ k
   pub to : (i : ℕ) (x : Linked) → slice_get l.own i ≡ Some x → x.ticket < l.front
-  pub rise : (i j : ℕ) (x y : Linked) → slice_get l.own i ≡ Some x → slice_get l.own j ≡ Some y → i < j → x.ticket < y.ticket
 
--- the seat of a caller of this service that is in no call, of whose entries so many are not answered. FREE is still the base's
--- place.
+-- the seat of a caller of this service that is in no call, of whose entries so many are not answered
 pub record IsBetweenCalls {O : Type 0} (unanswered : ℕ) (r : Running O) (seat : Seated) : Type 0 where
   pub of : IsSeatOf r seat
   pub rest : IsAtRest seat.known.local
   pub count : length seat.known.local.own ≡ length seat.known.local.answered + unanswered
-  pub free : seat.known.local.seen_free ≡ r.base.place
   pub front : r.base.place ≤ seat.known.local.front
-  pub cells : HasCellsInOrder r.base.place seat.known.local
+  pub cells : HasOwnCells seat.known.local
 
 -- a caller of this service with no call under way: each of its entries is answered
 abbrev pub IsCallerOf : {O : Type 0} → Running O → Seated → Type 0

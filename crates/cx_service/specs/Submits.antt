@@ -1,15 +1,17 @@
 -- What submitting an operation comes to.
-use Rattle.std.specs.Prelude.{◌≡◌, ◌+◌, ◌*◌, ◌^◌, ◌<◌, ◌≤◌, ℕ, List, [], ◌∷◌, ◌++◌, length, slice_get, Option, Some, None}
+use Rattle.std.specs.Prelude.{◌≡◌, ◌≢◌, ◌+◌, ◌*◌, ◌^◌, ◌<◌, ◌≤◌, false, ℕ, List, [], ◌∷◌, ◌++◌, length, slice_index, Some, None, Result, Ok, Err}
 use Rattle.cx_base.specs.Codes.{root_place_of}
 use Rattle.cx_core.specs.declared.local.Linked.{Linked as OwnEntry}
 use Rattle.cx_core.specs.declared.local.Local.{Local}
-use Rattle.cx_core.specs.QueueEvents.{next_number}
+use Rattle.cx_core.specs.QueueEvents.{IsIdle, cell_of, next_number}
+use Rattle.cx_core.specs.State.{one_more}
 use Rattle.cx_rule.specs.Running.{Running}
 use Rattle.cx_rule.specs.Seats.{IsAtLimit, Seated, unanswered_ticket}
 use Rattle.cx_core.specs.declared.local.FullNote.{FullNote}
 use Rattle.cx_service.specs.declared.submit.Submitted.{Submitted}
 use Rattle.cx_service.specs.declared.submit.Submitted.TheVariants.{Linked, Again, Full, Worn, Halted}
 use Rattle.cx_service.specs.Callers.{IsCallerOf, IsLinkedOf, IsStoppedOf, StoppedSeat}
+use Rattle.mutation_queue.specs.Collecting.{but_collected}
 use Rattle.mutation_queue.specs.declared.linking.LinkTried.{LinkTried}
 use Rattle.mutation_queue.specs.declared.linking.LinkTried.TheVariants.{Linked as TriedLinked, Again as TriedAgain, Worn as TriedWorn}
 
@@ -32,7 +34,7 @@ pub record SubmitLinked {O : Type 0} (r : Running O) (op : List ℕ) (most : ℕ
   pub caller : IsLinkedOf r after
   pub keeps : SubmitKeeps most before after
   pub allowed : ¬ IsAtLimit before.known.local
-  pub room : length before.known.local.own < 16
+  pub scans : before.known.local.scans ≤ after.known.local.scans
   pub ticket : ℕ
   pub lends : unanswered_ticket after.known.local ≡ Some ticket
   pub own : after.known.local.own ≡ before.known.local.own ++ entry_at r before.known.local op ticket ∷ []
@@ -44,45 +46,46 @@ pub record SubmitAgain {O : Type 0} (r : Running O) (tries most : ℕ) (before a
   pub caller : IsCallerOf r after
   pub keeps : SubmitKeeps most before after
   pub allowed : ¬ IsAtLimit before.known.local
-  pub room : length before.known.local.own < 16
+  pub scans : before.known.local.scans ≤ after.known.local.scans
   pub own : after.known.local.own ≡ before.known.local.own
   pub front : before.known.local.front + tries ≤ after.known.local.front
   pub cur : root_place_of r.callers after.known.local.seen_cur + tries ≤ after.known.local.front
   pub left : after.known.local.front < 2 ^ 40
 
--- the least ticket of a caller's entries
-pub record IsLeastTicket (l : Local) (ticket : ℕ) : Type 0 where
-  pub index : ℕ
-  pub entry : OwnEntry
-  pub here : slice_get l.own index ≡ Some entry
-  pub is : entry.ticket ≡ ticket
-  pub least : (i : ℕ) (x : OwnEntry) → slice_get l.own i ≡ Some x → ticket ≤ x.ticket
+-- all 16 cells hold tickets, and this is the least
+pub record HoldsFrom (l : Local) (ticket : ℕ) : Type 0 where
+  pub each : (j : ℕ) → j < 16 → (t : ℕ) × ((cell_of l j).ticket ≡ Some t) × (ticket ≤ t)
+  pub here : (j : ℕ) × (j < 16) × ((cell_of l j).ticket ≡ Some ticket)
 
--- the note of a caller that keeps its cells by its own entries: it names the caller itself, the base's place, at or above which all
--- tickets are, and the least of the caller's
-pub record IsOwnNote {O : Type 0} (r : Running O) (seat : Seated) (note : FullNote) : Type 0 where
-  pub holder : note.holder ≡ seat.known.local.number
-  pub need : note.need ≡ r.base.place
-  pub ticket : IsLeastTicket seat.known.local note.ticket
+-- Another caller keeps this one's cells: the need is the least that the last scan found, the holder the least caller that had it,
+-- and the need is at most the least ticket of the 16 cells.
+pub record NamesHolder (callers : ℕ) (l : Local) (note : FullNote) : Type 0 where
+  pub holder : note.holder < callers
+  pub other : note.holder ≢ l.number
+  pub seen : l.seen_need ≡ Some (record { need = note.need; caller = note.holder })
+  pub need : note.need ≤ note.ticket
+  pub cells : HoldsFrom l note.ticket
 
--- No cell is idle, since the caller linked 16 entries in this service, whose tickets are at or above FREE, which is still the
--- base's place.
+-- No cell is idle after a scan of this call: another caller's need keeps them. The caller linked at least 16 entries in this
+-- service.
 pub record SubmitFull {O : Type 0} (r : Running O) (most : ℕ) (before after : Seated) (note : FullNote) : Type 0 where
   pub caller : IsCallerOf r after
   pub keeps : SubmitKeeps most before after
   pub allowed : ¬ IsAtLimit before.known.local
-  pub full : length before.known.local.own ≡ 16
   pub own : after.known.local.own ≡ before.known.local.own
-  pub names : IsOwnNote r before note
+  pub scans : after.known.local.scans ≡ one_more before.known.local.scans
+  pub full : 16 ≤ length before.known.local.own
+  pub names : NamesHolder r.callers after.known.local note
 
--- There is no further ticket.
+-- A cell is idle, and there is no further ticket.
 pub record SubmitWorn {O : Type 0} (r : Running O) (most : ℕ) (before after : Seated) : Type 0 where
   pub caller : IsCallerOf r after
   pub keeps : SubmitKeeps most before after
   pub allowed : ¬ IsAtLimit before.known.local
-  pub room : length before.known.local.own < 16
+  pub scans : before.known.local.scans ≤ after.known.local.scans
   pub own : after.known.local.own ≡ before.known.local.own
   pub front : after.known.local.front ≡ 2 ^ 40
+  pub idle : (j : ℕ) × (j < 16) × IsIdle after.known.local j
 
 -- A further step was to be made and the steps equal the limit. Nothing was linked.
 pub record SubmitHalted {O : Type 0} (r : Running O) (most : ℕ) (before : Seated) (after : StoppedSeat) : Type 0 where
@@ -98,6 +101,14 @@ EntersIn most r op tries before after (TriedLinked ticket) = SubmitLinked r op m
 EntersIn most r op tries before after TriedAgain = SubmitAgain r tries most before after
 EntersIn most r op tries before after TriedWorn = SubmitWorn r most before after
 
+-- what entering an operation in an idle cell comes to, in at most so many steps
+abbrev pub Enters : {O : Type 0} → ℕ → Running O → List ℕ → ℕ → Seated → Submitted → Type 0
+Enters most r op tries before (Linked after) = SubmitLinked r op most before after
+Enters most r op tries before (Again after) = SubmitAgain r tries most before after
+Enters most r op tries before (Full after note) = ⊥
+Enters most r op tries before (Worn after) = SubmitWorn r most before after
+Enters most r op tries before (Halted after) = SubmitHalted r most before after
+
 -- a submit that makes at most so many steps
 abbrev pub SubmitsIn : {O : Type 0} → ℕ → Running O → List ℕ → ℕ → Seated → Submitted → Type 0
 SubmitsIn most r op tries before (Linked after) = SubmitLinked r op most before after
@@ -110,13 +121,37 @@ SubmitsIn most r op tries before (Halted after) = SubmitHalted r most before aft
 abbrev pub Submits : {O : Type 0} → Running O → List ℕ → ℕ → Seated → Submitted → Type 0
 Submits r op tries before submitted = SubmitsIn (200 + r.callers + 3 * tries) r op tries before submitted
 
--- a cell was looked for, by at most one step, which the limit allowed: nothing else is changed
-pub record LooksForCell (before after : Seated) : Type 0 where
-  pub same : after ≡ record before { known = record before.known { local = record before.known.local { steps = after.known.local.steps } } }
-  pub steps : after.known.local.steps ≤ before.known.local.steps + 1
-  pub stood : IsAtLimit before.known.local → after ≡ before
+-- A cell was looked for, in at most so many steps: nothing is changed but what was found of FREE and of the callers' needs, a scan
+-- under way, whether what was seen of CUR is fresh, and the counts of steps and scans.
+pub record LooksForCell (most : ℕ) (before after : Seated) : Type 0 where
+  pub same : but_collected after ≡ but_collected before
+  pub steps : after.known.local.steps ≤ before.known.local.steps + most
 
--- the cell of the caller's next entry; where there is none a step was made
-abbrev pub IsNextCell : Local → Option ℕ → Type 0
-IsNextCell l None = (length l.own ≡ 16) × (¬ IsAtLimit l)
-IsNextCell l (Some cell) = (cell ≡ length l.own) × (cell < 16)
+-- no scan is under way, and what was seen of CUR is not fresh
+pub record EndsLooking (before after : Seated) : Type 0 where
+  pub scan : after.known.local.scan ≡ None
+  pub fresh : after.known.local.fresh ≡ false
+  pub scans : before.known.local.scans ≤ after.known.local.scans
+
+-- no cell is idle, though what no caller needs was given again
+pub record FindsNone (callers : ℕ) (before after : Seated) (note : FullNote) : Type 0 where
+  pub ends : EndsLooking before after
+  pub scans : after.known.local.scans ≡ one_more before.known.local.scans
+  pub allowed : ¬ IsAtLimit before.known.local
+  pub names : NamesHolder callers after.known.local note
+
+-- an idle cell
+pub record FindsIdle (before after : Seated) (cell : ℕ) : Type 0 where
+  pub ends : EndsLooking before after
+  pub within : cell < 16
+  pub idle : IsIdle after.known.local cell
+
+-- what looking for an idle cell comes to
+abbrev pub FindsCell : ℕ → Seated → Seated → Result ℕ FullNote → Type 0
+FindsCell callers before after (Ok cell) = FindsIdle before after cell
+FindsCell callers before after (Err note) = FindsNone callers before after note
+
+-- the tickets of a caller's 16 cells, which all hold one, with the least first
+pub record AreTickets (l : Local) (tickets : List ℕ) : Type 0 where
+  pub each : (i : ℕ) → i < 16 → (j : ℕ) × (j < 16) × ((cell_of l j).ticket ≡ Some (slice_index tickets i))
+  pub least : HoldsFrom l (slice_index tickets 0)

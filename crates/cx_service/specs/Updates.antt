@@ -1,6 +1,7 @@
 -- What an update comes to, and a read that may enter the queue.
-use Rattle.std.specs.Prelude.{◌≡◌, ◌^◌, ◌⊎◌, ℕ, List, [], ◌∷◌, ◌++◌, length, Some, None}
+use Rattle.std.specs.Prelude.{◌≡◌, ◌^◌, ◌<◌, ◌≤◌, ◌⊎◌, ℕ, List, [], ◌∷◌, ◌++◌, length, Some, None}
 use Rattle.cx_core.specs.declared.local.Answer.{Answer}
+use Rattle.cx_core.specs.Layout.{max_word}
 use Rattle.cx_rule.specs.Running.{Running}
 use Rattle.cx_rule.specs.Seats.{IsAtLimit, Seated}
 use Rattle.cx_core.specs.declared.local.FullNote.{FullNote}
@@ -11,7 +12,7 @@ use Rattle.cx_service.specs.declared.update.Updated.TheVariants.{Done, Full, Wor
 use Rattle.cx_service.specs.Callers.{IsCallerOf, IsStoppedOf, StoppedSeat}
 use Rattle.cx_service.specs.Drives.{DriveDone, DriveHalted}
 use Rattle.cx_service.specs.Lookups.{ReadAnswered, ReadHalted, ReadPending}
-use Rattle.cx_service.specs.Submits.{IsOwnNote, entry_at}
+use Rattle.cx_service.specs.Submits.{NamesHolder, entry_at}
 use Rattle.cx_turns.specs.Answering.{with_answer}
 
 -- the caller's number, its limit and its lists are as they were
@@ -36,13 +37,15 @@ pub record UpdateDone {O : Type 0} (r : Running O) (op : List ℕ) (before after
   pub links : LinksEntry r op answer.ticket before after
   pub answered : after.known.local.answered ≡ with_answer answer.ticket answer.reply before.known.local.answered
 
--- The caller linked 16 entries in this service.
+-- No cell is idle after a scan of this call: another caller's need keeps them. The caller linked at least 16 entries in this
+-- service.
 pub record UpdateFull {O : Type 0} (r : Running O) (before after : Seated) (note : FullNote) : Type 0 where
   pub caller : IsCallerOf r after
   pub allowed : ¬ IsAtLimit before.known.local
   pub keeps : KeepsLists before after
-  pub full : length before.known.local.own ≡ 16
-  pub names : IsOwnNote r before note
+  pub full : 16 ≤ length before.known.local.own
+  pub scans : (before.known.local.scans < after.known.local.scans) ⊎ (after.known.local.scans ≡ max_word)
+  pub names : NamesHolder r.callers after.known.local note
 
 -- There is no further ticket.
 pub record UpdateWorn {O : Type 0} (r : Running O) (before after : Seated) : Type 0 where

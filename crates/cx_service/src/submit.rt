@@ -1,16 +1,20 @@
 //! An operation is entered into the queue.
 
-ghost use Rattle.std.specs.Prelude.{◌≡◌, ◌+◌, ◌*◌, ◌<◌, ◌≤◌, IfOk, OnErr, length};
+ghost use Rattle.std.specs.Prelude.{◌≡◌, ◌+◌, ◌*◌, ◌<◌, ◌≤◌, ℕ, IfOk, OnErr};
+ghost use Rattle.cx_core.specs.QueueEvents.{IsIdle};
+ghost use Rattle.cx_rule.specs.Rule.{IsLawfulLocal};
+ghost use Rattle.cx_rule.specs.Running.{instance_at};
 ghost use Rattle.cx_rule.specs.Seats.{IsAtLimit};
 ghost use Rattle.cx_service.specs.Callers.{IsCallerOf, unlinked};
-ghost use Rattle.cx_service.specs.Submits.{EntersIn, IsNextCell, IsOwnNote, LooksForCell, SubmitHalted, Submits, SubmitsIn};
+ghost use Rattle.cx_service.specs.Submits.{AreTickets, Enters, EntersIn, FindsCell, LooksForCell, SubmitHalted, Submits};
+ghost use Rattle.mutation_queue.specs.Cells.{IsInUse};
 
 use crate::callers::{Caller, Linked, Stopped};
 use crate::service::Service;
 use cx_base::{Halt, Object};
 use cx_core::FullNote;
 use cx_table::{CallerSeat, Shared};
-use mutation_queue::{LinkTried, announce, idle_cell, link};
+use mutation_queue::{LinkTried, announce, collect, idle_cell, link};
 
 /// What a submit comes to. It hands the caller back in each case.
 #[derive(Drop)]
@@ -19,7 +23,7 @@ pub enum Submitted {
     Linked(Linked),
     /// Each try found another's link.
     Again(Caller),
-    /// No cell of the caller is idle.
+    /// No cell of the caller is idle: the note names another caller that needs entries in them.
     Full(Caller, FullNote),
     /// There is no further ticket.
     Worn(Caller),
@@ -28,10 +32,11 @@ pub enum Submitted {
 }
 
 impl<O: Object> Service<O> {
-    /// Enters an operation into the queue, with so many tries to link it. `Full` comes exactly where the caller linked 16
-    /// entries in this service, before any other answer. `Worn` comes exactly where a cell was idle and the front is then
-    /// 2^40; else `Again` exactly where each of the tries found another's link. `Halted` comes exactly where a further step is
-    /// to be made and the steps equal the limit. It makes at most `200 + callers + 3 * tries` steps.
+    /// Enters an operation into the queue, with so many tries to link it. `Full` comes only where the count of scans rose in
+    /// this call, the caller's 16 cells all hold tickets, and another caller needs entries from the least of them on or from
+    /// before it: the note names that caller. `Worn` comes exactly where a cell was idle and the front is then 2^40; else
+    /// `Again` exactly where each of the tries found another's link. `Halted` comes exactly where a further step is to be made
+    /// and the steps equal the limit. It makes at most `200 + callers + 3 * tries` steps.
     pub fn submit(&self, caller: Caller, op: &[u64; 144], tries: u64) -> Submitted
         requires caller { IsCallerOf self.now caller }
         requires tries { 1 ≤ tries }
@@ -39,22 +44,19 @@ impl<O: Object> Service<O> {
     {
         let Caller { mut seat } = caller;
         let at = &mut *seat;
-        let Ok(idle) = find_idle(&self.shared, at) else {
-            return Submitted::Halted(Stopped { seat, linked: None });
-        };
-        let Some(cell) = idle else {
-            let note = full_note(&self.shared, at);
-            return Submitted::Full(Caller { seat }, note);
-        };
-        self.enter(seat, cell, op, tries)
+        match find_cell(&self.shared, at) {
+            Ok(Ok(cell)) => self.enter(seat, cell, op, tries),
+            Ok(Err(note)) => Submitted::Full(Caller { seat }, note),
+            Err(Halt) => Submitted::Halted(Stopped { seat, linked: None }),
+        }
     }
 
-    /// Enters an operation in the cell of the caller's next entry.
+    /// Enters an operation in an idle cell of the caller.
     fn enter(&self, mut seat: Box<CallerSeat>, cell: u32, op: &[u64; 144], tries: u64) -> Submitted
         requires caller { IsCallerOf self.now seat.value }
-        requires cell { (cell ≡ length seat.value.known.local.own) × (cell < 16) }
+        requires cell { (cell < 16) × IsIdle seat.value.known.local cell }
         requires tries { 1 ≤ tries }
-        ensures { SubmitsIn (146 + 2 * tries) self.now op.now tries seat.value result }
+        ensures { Enters (146 + 2 * tries) self.now op.now tries seat.value result }
     {
         let at = &mut *seat;
         match announce_and_link(&self.shared, at, cell, op, tries) {
@@ -66,8 +68,8 @@ impl<O: Object> Service<O> {
     }
 }
 
-/// Announces an operation in the cell of the caller's next entry, and tries to link it. CUR is loaded first, so that the front is at
-/// least the current place.
+/// Announces an operation in an idle cell of the caller, and tries to link it. CUR is loaded first, so that the front is at least the
+/// current place.
 fn announce_and_link<O: Object>(
     shared: &Shared<O>,
     seat: &mut CallerSeat,
@@ -76,7 +78,7 @@ fn announce_and_link<O: Object>(
     tries: u64,
 ) -> Result<LinkTried, Halt>
     requires caller { IsCallerOf shared.now seat.old }
-    requires cell { (cell ≡ length seat.old.known.local.own) × (cell < 16) }
+    requires cell { (cell < 16) × IsIdle seat.old.known.local cell }
     requires tries { 1 ≤ tries }
     ensures entered { IfOk result (EntersIn (146 + 2 * tries) shared.now op.now tries seat.old seat.new) }
     ensures halted { OnErr result (SubmitHalted shared.now (146 + 2 * tries) seat.old (unlinked seat.new)) }
@@ -86,30 +88,67 @@ fn announce_and_link<O: Object>(
     link(shared, seat, cell, tries)
 }
 
-/// The cell of the caller's next entry. Where none is idle, FREE is loaded and the cells are looked through again.
-fn find_idle<O: Object>(shared: &Shared<O>, seat: &mut CallerSeat) -> Result<Option<u32>, Halt>
+/// An idle cell of the caller, or a note why there is none. Where none is idle FREE is loaded, and where still none is idle
+/// cells are given again that no caller needs.
+fn find_cell<O: Object>(
+    shared: &Shared<O>,
+    seat: &mut CallerSeat,
+) -> Result<Result<u32, FullNote>, Halt>
     requires { IsCallerOf shared.now seat.old }
-    ensures looked { LooksForCell seat.old seat.new }
-    ensures found { IfOk result (IsNextCell seat.old.known.local) }
+    ensures looked { LooksForCell (shared.now.callers + 4) seat.old seat.new }
+    ensures stood { IsAtLimit seat.old.known.local → seat.new ≡ seat.old }
+    ensures found { IfOk result (FindsCell shared.now.callers seat.old seat.new) }
     ensures halted { OnErr result (IsAtLimit seat.new.known.local) }
 {
+    // scans are counted in a word
+    let _scans = seat.scans();
     if let Some(cell) = idle_cell(seat) {
-        return Ok(Some(cell));
+        return Ok(Ok(cell));
     }
     let _free = shared.load_free(seat)?;
-    Ok(idle_cell(seat))
+    if let Some(cell) = idle_cell(seat) {
+        return Ok(Ok(cell));
+    }
+    give_again(shared, seat)
 }
 
-/// The note of a caller whose own entries stand in all its cells.
-fn full_note<O: Object>(shared: &Shared<O>, seat: &CallerSeat) -> FullNote
-    requires caller { IsCallerOf shared.now seat.now }
-    requires full { length seat.now.known.local.own ≡ 16 }
-    ensures { IsOwnNote shared.now seat.now result }
+/// Gives cells of the caller again, all of which are in use, but those that some caller needs. An idle one, or a note of that
+/// caller.
+fn give_again<O: Object>(
+    shared: &Shared<O>,
+    seat: &mut CallerSeat,
+) -> Result<Result<u32, FullNote>, Halt>
+    requires caller { IsCallerOf shared.now seat.old }
+    requires lawful { IsLawfulLocal (instance_at shared.now O.step O.only_reads) seat.old.known.local }
+    requires used { (j : ℕ) → j < 16 → IsInUse seat.old.known.local j }
+    ensures looked { LooksForCell (shared.now.callers + 3) seat.old seat.new }
+    ensures found { IfOk result (FindsCell shared.now.callers seat.old seat.new) }
+    ensures halted { OnErr result (IsAtLimit seat.new.known.local) }
 {
-    let _ = shared;
-    FullNote {
-        holder: seat.number(),
-        need: seat.seen_free(),
-        ticket: seat.cell_ticket(0).unwrap(),
+    // scans are counted in a word
+    let _scans = seat.scans();
+    let tickets = cell_tickets(seat);
+    // as many cells at a time, so that a scan serves eight entries
+    let found = collect(shared, seat, tickets[7] + 1)?;
+    match idle_cell(seat) {
+        Some(cell) => Ok(Ok(cell)),
+        None => Ok(Err(FullNote {
+            holder: found.holder,
+            need: found.need,
+            ticket: tickets[0],
+        })),
     }
+}
+
+/// The tickets of the caller's cells, all of which are in use, in rising order.
+fn cell_tickets(seat: &CallerSeat) -> [u64; 16]
+    requires { (j : ℕ) → j < 16 → IsInUse seat.now.known.local j }
+    ensures { AreTickets seat.now.known.local result }
+{
+    let mut tickets = [0; 16];
+    for j in 0..16 {
+        tickets[j as usize] = seat.cell_ticket(j).unwrap();
+    }
+    tickets.sort_unstable();
+    tickets
 }

@@ -1,4 +1,5 @@
-//! Two callers submit and are handed back, at each limit of steps, and at the end of tickets; a service that is not started.
+//! Two callers submit and are handed back, at each limit of steps, and at the end of tickets; cells are given again, and kept by a
+//! caller that is stopped; a service that is not started.
 
 ghost use Rattle.std.specs.Prelude.{◌≡◌, ◌<◌, ◌≤◌, [], ◌∷◌, IfOk, IfSome};
 ghost use Rattle.cx_base.specs.Tally.{IsTally};
@@ -11,12 +12,13 @@ ghost use Rattle.cx_service.specs.Callers.{IsCallerOf};
 ghost use Rattle.cx_service.specs.Closes.{seat_of};
 ghost use Rattle.cx_service.specs.Tests.{seat_in};
 
-use crate::{Caller, Handed, Service, StartFault, Submitted};
+use crate::{Caller, Driven, Handed, Service, StartFault, Submitted, Updated};
 use cx_base::Items;
 use cx_base::tally::Tally;
 use cx_core::{Base, FullNote};
 use cx_table::Remains;
 use std::alloc::{AllocError, Global};
+use std::sync::Wait;
 use std::test::Fail;
 use std::thread::join;
 
@@ -221,6 +223,123 @@ fn near_the_end(alloc: Global) -> Result<Base, AllocError>
         place,
         words: Items::of(words),
     })
+}
+
+// A service of one caller.
+fn one_started(alloc: Global, base: &Base) -> Result<(Service<Tally>, Caller), AllocError>
+    requires { LawfulBase 64 IsTally base.now }
+    ensures { IfOk result (λ r. IsCallerOf r.0 r.1) }
+{
+    let Ok((service, callers)) = Service::start(alloc, Tally, 1, &[NO_LIMIT], base) else {
+        return Err(AllocError);
+    };
+    match one(callers) {
+        Some(caller) => Ok((service, caller)),
+        None => Err(AllocError),
+    }
+}
+
+// The item of a list of one.
+fn one(mut callers: Vec<Caller>) -> Option<Caller>
+    ensures { IfSome result (λ c. callers.items ≡ c ∷ []) }
+{
+    let caller = callers.pop()?;
+    if callers.is_empty() {
+        Some(caller)
+    } else {
+        None
+    }
+}
+
+// A caller submits and drives an operation, each with one try: the caller, and the ticket.
+fn answered(service: &Service<Tally>, caller: Caller, op: &[u64; 144]) -> Option<(Caller, u64)>
+    requires { IsCallerOf service.now caller }
+    ensures { IfSome result (λ r. IsCallerOf service.now r.0) }
+{
+    let Submitted::Linked(linked) = service.submit(caller, op, 1) else {
+        return None;
+    };
+    let Driven::Done(back, answer) = service.drive(linked, 1) else {
+        return None;
+    };
+    Some((back, answer.ticket))
+}
+
+// A caller does so again and again: the tickets are those from 0 on, and this is how many came before another answer.
+fn answered_in_order(service: &Service<Tally>, caller: Caller, times: u64) -> u64
+    requires { IsCallerOf service.now caller }
+{
+    let mut caller = caller;
+    for want in 0..times {
+        match answered(service, caller, &[want; 144]) {
+            Some((back, ticket)) if ticket == want => caller = back,
+            _ => return want,
+        }
+    }
+    times
+}
+
+#[test]
+fn cells_are_given_again(rt: HostRuntime) -> Result<(), Fail> {
+    let alloc = rt.alloc();
+    let base = Base::fresh(alloc, &Tally)?;
+    let (service, caller) = one_started(alloc, &base)?;
+    assert_eq!(rt; answered_in_order(&service, caller, 64), 64);
+    Ok(())
+}
+
+// Whether a caller that submits and drives an operation is stopped by its limit.
+fn is_stopped(service: &Service<Tally>, caller: Caller, op: &[u64; 144]) -> bool
+    requires { IsCallerOf service.now caller }
+{
+    match service.submit(caller, op, 1) {
+        Submitted::Linked(linked) => matches!(service.drive(linked, 1), Driven::Halted(_)),
+        Submitted::Halted(_) => true,
+        _ => false,
+    }
+}
+
+// A caller makes so many updates, and is told that it is full: the note.
+fn note_within<R: Wait>(
+    rt: &R,
+    service: &Service<Tally>,
+    caller: Caller,
+    times: u64,
+) -> Option<FullNote>
+    requires { IsCallerOf service.now caller }
+{
+    let mut caller = caller;
+    for _ in 0..times {
+        match service.update(rt, caller, &[5; 144]) {
+            Updated::Done(back, _) => caller = back,
+            Updated::Full(_, note) => return Some(note),
+            Updated::Worn(_) | Updated::Halted(_) => return None,
+        }
+    }
+    None
+}
+
+#[test]
+fn a_stopped_caller_keeps_cells(rt: HostRuntime) -> Result<(), Fail> {
+    let alloc = rt.alloc();
+    let base = Base::fresh(alloc, &Tally)?;
+    let mut kept = 0u64;
+    // from the link on, and some of the limits by which it is stopped while it reads its entry
+    for limit in 148..168u64 {
+        let (service, first, second) = started(alloc, &[NO_LIMIT, limit], &base)?;
+        assert!(rt; is_stopped(&service, second, &[7; 144]));
+        if let Some(note) = note_within(&rt, &service, first, 40) {
+            let want = FullNote {
+                holder: 1,
+                need: 0,
+                ticket: 1,
+            };
+            assert!(rt; note == want, "at {limit}");
+            kept = kept.wrapping_add(1);
+        }
+    }
+    assert!(rt; kept > 0 && kept < 20);
+    Ok(())
 }
 
 #[test]

@@ -25,7 +25,7 @@ const READ_TRIES: u64 = 8;
 pub enum Updated {
     /// The entry is applied and durable: its ticket, and the reply.
     Done(Caller, Answer),
-    /// No cell of the caller is idle.
+    /// No cell of the caller is idle: the note names another caller that needs entries in them.
     Full(Caller, FullNote),
     /// There is no further ticket.
     Worn(Caller),
@@ -40,7 +40,7 @@ pub enum ReadDone {
     Read(Caller, Seen),
     /// The read is answered as an entry of the queue: its ticket, and the reply.
     Queued(Caller, Answer),
-    /// No cell of the caller is idle.
+    /// No cell of the caller is idle: the note names another caller that needs entries in them.
     Full(Caller, FullNote),
     /// There is no further ticket.
     Worn(Caller),
@@ -50,7 +50,8 @@ pub enum ReadDone {
 
 impl<O: Object> Service<O> {
     /// Enters an operation into the queue and drives it to its answer. It tries again as long as others link before it, or hold all
-    /// replicas, and so it may wait for them. `Halted` comes exactly where a further step is to be made and the steps equal the limit.
+    /// replicas, and so it may wait for them. `Full` comes only where the count of scans rose in this call and another caller,
+    /// which the note names, needs the entries in the caller's cells. `Halted` comes exactly where a further step is to be made and the steps equal the limit.
     pub fn update<R: Wait>(&self, rt: &R, caller: Caller, op: &[u64; 144]) -> Updated
         requires { IsCallerOf self.now caller }
         ensures { Updates self.now op.now caller result }

@@ -1,7 +1,6 @@
-use Rattle.std.proofs.Common.{◌+◌, ◌*◌, List, length, refl, ap, sym, subst, ◌∙◌, arith}
+use Rattle.std.proofs.Common.{◌+◌, ◌*◌, ap, sym, subst, arith}
 use Rattle.std.proofs.lemmas.Result.{IfOk-weaker, on_err_weaker}
-use Rattle.cx_core.specs.declared.local.Linked.{Linked}
-use Rattle.cx_core.specs.QueueEvents.{next_number}
+use Rattle.cx_core.specs.QueueEvents.{IsIdle, next_number}
 use Rattle.cx_rule.specs.Running.{instance_at}
 use Rattle.cx_rule.specs.Seats.{IsAtLimit, Seated}
 use Rattle.mutation_queue.specs.Links.{Tried}
@@ -9,9 +8,8 @@ use Rattle.cx_service.specs.declared.submit.Submitted.TheVariants.{Halted}
 use Rattle.cx_service.specs.Callers.{unlinked}
 use Rattle.cx_service.specs.Submits.{EntersIn}
 use Rattle.cx_service.proofs.Announced.{halted_in, if_any_err}
-use Rattle.cx_service.proofs.Cells.{next_idle}
-use Rattle.cx_service.proofs.Entering.{beside_submit, entered, halts, halts_linking, stale}
-use Rattle.cx_service.proofs.Looking.{caller_then, cur_loaded, enters_then, submits_then}
+use Rattle.cx_service.proofs.Entering.{answered_still, beside_submit, entered, halts, halts_linking, stale}
+use Rattle.cx_service.proofs.Looking.{cur_caller, cur_loaded, enters_then, submits_then}
 use Rattle.cx_service.proofs.submit.announce_and_link.Goals as goal
 
 pub returns-in_err-_cur-clause-halted : goal.returns-in_err-_cur-clause-halted
@@ -27,14 +25,7 @@ returns-in_err-_cur-clause-halted g c =
 
 pub announce-requires-clause-cell : goal.announce-requires-clause-cell
 announce-requires-clause-cell g c =
-    let r = c.args.shared.now in
-    let s = c.args.seat.now in
-    let at = c.load_cur.new.seat in
-    let made = c.in_ok-_cur.ensures.made in
-    let first = cur_loaded (instance_at r g.O.Object.step g.O.Object.only_reads) s at c.in_ok-_cur._cur made.made made.allowed in
-    let caller = caller_then r 1 s (stale at) first c.requires.caller refl in
-    let next = c.requires.cell.0 ∙ ap (λ (xs : List Linked). length xs) (sym first.own) in
-    (c.requires.cell.1, next_idle r.base.place (stale at).known.local caller.cells caller.free c.args.cell (omega (arith, next)))
+    (c.requires.cell.0, subst (λ (x : Seated). IsIdle x.known.local c.args.cell) (sym c.in_ok-_cur.ensures.made.made) c.requires.cell.1)
 
 pub returns-in_err-announce-clause-halted : goal.returns-in_err-announce-clause-halted
 returns-in_err-announce-clause-halted g c =
@@ -44,7 +35,7 @@ returns-in_err-announce-clause-halted g c =
     let t = c.announce.new.seat in
     let made = c.in_ok-_cur.ensures.made in
     let first = cur_loaded (instance_at r g.O.Object.step g.O.Object.only_reads) s at c.in_ok-_cur._cur made.made made.allowed in
-    let caller = caller_then r 1 s (stale at) first c.requires.caller refl in
+    let caller = cur_caller r (instance_at r g.O.Object.step g.O.Object.only_reads) s at c.in_ok-_cur._cur made.made made.allowed c.requires.caller in
     if_any_err c.from_residual-in_err-announce.result
     (submits_then r 1 s (stale at) first c.args.op.now c.args.tries (145 + 2 * c.args.tries) (146 + 2 * c.args.tries) (Halted (unlinked t)) (omega arith)
     (halted_in r c.args.cell (145 + 2 * c.args.tries) (next_number r.base at.known.local) c.args.op.now at t caller (omega arith) c.told-op c.in_err-announce.ensures.halted))
@@ -55,12 +46,8 @@ link-requires-clause-answered g c =
     let s = c.args.seat.now in
     let at = c.load_cur.new.seat in
     let made = c.in_ok-_cur.ensures.made in
-    let first = cur_loaded (instance_at r g.O.Object.step g.O.Object.only_reads) s at c.in_ok-_cur._cur made.made made.allowed in
-    let caller = caller_then r 1 s (stale at) first c.requires.caller refl in
-    let rest = c.in_ok-announce.ensures.announced.rest in
-    let answered = ap (λ (x : Seated). length x.known.local.answered) rest in
-    let own = ap (λ (x : Seated). length x.known.local.own) rest in
-    omega (arith, answered, own, caller.count)
+    let caller = cur_caller r (instance_at r g.O.Object.step g.O.Object.only_reads) s at c.in_ok-_cur._cur made.made made.allowed c.requires.caller in
+    answered_still (stale at) c.announce.new.seat c.in_ok-announce.ensures.announced.rest caller.count
 
 pub returns-clause-entered : goal.returns-clause-entered
 returns-clause-entered g c =
@@ -73,12 +60,11 @@ returns-clause-entered g c =
     let tries = c.args.tries in
     let made = c.in_ok-_cur.ensures.made in
     let first = cur_loaded (instance_at r g.O.Object.step g.O.Object.only_reads) s at c.in_ok-_cur._cur made.made made.allowed in
-    let caller = caller_then r 1 s (stale at) first c.requires.caller refl in
-    let next = c.requires.cell.0 ∙ ap (λ (xs : List Linked). length xs) (sym first.own) in
+    let caller = cur_caller r (instance_at r g.O.Object.step g.O.Object.only_reads) s at c.in_ok-_cur._cur made.made made.allowed c.requires.caller in
     let done = c.in_ok-announce.ensures.announced in
     IfOk-weaker c.link.result (Tried r.callers c.args.cell tries t v) (EntersIn (146 + 2 * tries) r op tries s v)
     (λ tried links. enters_then r 1 s (stale at) first op tries (145 + 2 * tries) (146 + 2 * tries) v tried (omega arith)
-    (entered r c.args.cell op (stale at) t caller next c.requires.cell.1 c.told-op done.cell done.others done.rest tries (145 + 2 * tries) v tried links done.allowed (omega (arith, done.most, c.link.ensures.steps))))
+    (entered r c.args.cell op (stale at) t caller c.requires.cell.0 c.told-op done.cell done.others done.rest tries (145 + 2 * tries) v tried links done.allowed (omega (arith, done.most, c.link.ensures.steps))))
     c.link.ensures.tried
 
 pub returns-clause-halted : goal.returns-clause-halted
@@ -92,10 +78,9 @@ returns-clause-halted g c =
     let tries = c.args.tries in
     let made = c.in_ok-_cur.ensures.made in
     let first = cur_loaded (instance_at r g.O.Object.step g.O.Object.only_reads) s at c.in_ok-_cur._cur made.made made.allowed in
-    let caller = caller_then r 1 s (stale at) first c.requires.caller refl in
-    let next = c.requires.cell.0 ∙ ap (λ (xs : List Linked). length xs) (sym first.own) in
+    let caller = cur_caller r (instance_at r g.O.Object.step g.O.Object.only_reads) s at c.in_ok-_cur._cur made.made made.allowed c.requires.caller in
     let done = c.in_ok-announce.ensures.announced in
     on_err_weaker c.link.result
     (λ halted. submits_then r 1 s (stale at) first op tries (145 + 2 * tries) (146 + 2 * tries) (Halted (unlinked v)) (omega arith)
-    (halts_linking r c.args.cell op (stale at) t caller next c.requires.cell.1 c.told-op done.cell done.others done.rest v halted.0 (145 + 2 * tries) (omega (arith, done.most, c.link.ensures.steps)) halted.1))
+    (halts_linking r c.args.cell op (stale at) t caller c.requires.cell.0 c.told-op done.cell done.others done.rest v halted.0 (145 + 2 * tries) (omega (arith, done.most, c.link.ensures.steps)) halted.1))
     c.link.ensures.halted

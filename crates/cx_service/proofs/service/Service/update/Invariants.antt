@@ -1,13 +1,14 @@
-use Rattle.std.proofs.Common.{◌≡◌}
+use Rattle.std.proofs.Common.{◌≡◌, ◌≤◌}
 use Rattle.cx_rule.specs.Seats.{IsAtLimit}
 use Rattle.cx_service.specs.Callers.{IsCallerOf}
 use Rattle.cx_service.specs.Updates.{KeepsLists}
 use Rattle.cx_service.proofs.service.Service.update.Given as goal
 
--- the caller is in no call, and its lists are as they were; where it was at its limit no step was made
+-- the caller is in no call, its lists are as they were, and its scans are no fewer; where it was at its limit no step was made
 abbrev pub invariant-loop : goal.invariant-loop
 invariant-loop g l = record {
   caller : IsCallerOf l.self l.caller;
   keeps : KeepsLists l.fn.caller l.caller;
+  scans : l.fn.caller.known.local.scans ≤ l.caller.known.local.scans;
   stood : IsAtLimit l.fn.caller.known.local → l.caller ≡ l.fn.caller;
 }
