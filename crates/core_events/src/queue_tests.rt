@@ -199,7 +199,10 @@ fn reads(
 
 // A caller protects every ticket: 2 steps.
 fn protects_all(alloc: Global, board: &mut Board, caller: u32) -> Result<bool, AllocError> {
-    Ok(board.step(alloc, caller, Kind::Protect { p: 0 })? && board.step(alloc, caller, Kind::Confirm)?)
+    Ok(
+        board.step(alloc, caller, Kind::Protect { p: 0 })?
+            && board.step(alloc, caller, Kind::Confirm)?,
+    )
 }
 
 // Caller 2 is first and caller 1 second; caller 0 loses slot 0 and slot 1, and is third.

@@ -137,9 +137,10 @@ link_told instance s law caller l at shows =
           elim ((law.cells.seen caller l at x seen.1).later (subst (λ w. 0 < w) word above)) [
             | inl there ↦ absurd (apart (ap found here ∙ there ∙ sym word))
             | inr past ↦ (
-                subst (λ n. 0 < n) (sym (ap found here)) past.0,
-                subst (λ n. link_ticket_of instance.callers (seen_word l.seen_slot) < link_ticket_of instance.callers n) (sym (ap found here))
-                (subst (λ w. link_ticket_of instance.callers w < link_ticket_of instance.callers (found (link_at instance.callers x.slot))) (sym word) past.1))
+              subst (λ n. 0 < n) (sym (ap found here)) past.0,
+              subst (λ n. link_ticket_of instance.callers (seen_word l.seen_slot) < link_ticket_of instance.callers n) (sym (ap found here))
+                  (subst (λ w. link_ticket_of instance.callers w < link_ticket_of instance.callers (found (link_at instance.callers x.slot))) (sym word) past.1),
+            )
           ]);
     }
 
