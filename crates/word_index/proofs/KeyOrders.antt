@@ -6,6 +6,7 @@ use Rattle.std.specs.Cmp.Lexicographic.{slice_cmp}
 use Rattle.std.specs.declared.cmp.Ordering.{Ordering}
 use Rattle.std.specs.declared.cmp.Ordering.TheVariants.{Less, Equal, Greater}
 use Rattle.std.proofs.lemmas.List.FromFn.{get_or-map-range_with_len, length-range_with_len}
+use Rattle.std.proofs.lemmas.Bool.{cases_lt}
 use Rattle.std.proofs.lemmas.List.{length-map}
 use Rattle.cx_base.specs.Packing.{byte_at, unpacked}
 use Rattle.cx_base.specs.Store.{key_cmp}
@@ -72,3 +73,14 @@ module _ (left right : List ℕ) (n m : ℕ) where
       ∙ length_tells (unpacked n left) (unpacked m right) (λ k a b. (
       let inside : k < i = elim ends [ inl h ↦ omega (arith, long, a, h) | inr h ↦ omega (arith, other, b, h) ] in
       unpacked_at n left k (omega (arith, long, a)) ∙ same k inside ∙ sym (unpacked_at m right k (omega (arith, other, b)))))
+
+-- the same of bytes that are 0 behind the end
+pub early_at : (left right : List ℕ) (n m i x y : ℕ) → (n ≤ i → byte_at left i ≡ 0) → i < m → ((k : ℕ) → k < i → byte_at left k ≡ byte_at right k) → x ≡ byte_at left i → y ≡ byte_at right i → x ≢ y →
+    nat_cmp x y ≡ key_cmp (unpacked n left) (unpacked m right)
+early_at left right n m i x y none b same f g ne = elim (cases_lt i n) [
+  | inl h ↦ apart_at left right n m i x y h b same f g ne
+  | inr h ↦ (
+      let zero_is : x ≡ 0 = f ∙ none (omega (arith, h)) in
+      let less : x < y = omega (arith, zero_is, ne) in
+      sym (nat_cmp_is x y Less less) ∙ nat_cmp_is n m Less (omega (arith, h, b)) ∙ alike_to left right n m i (inl (omega (arith, h))) same)
+]

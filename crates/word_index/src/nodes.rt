@@ -1,6 +1,7 @@
 //! Nodes: the key and the document that each names, and the number of them.
 
 ghost use Rattle.std.specs.Prelude.{◌≡◌, ◌≤◌, ℕ, List, IfOk, OnErr, Some, length};
+ghost use Rattle.std.specs.Ordering.{nat_cmp};
 ghost use Rattle.cx_base.specs.Memory.{Always, Becomes, Framed, Reads};
 ghost use Rattle.cx_base.specs.Packing.{unpacked};
 ghost use Rattle.cx_base.specs.Store.{Store, key_cmp};
@@ -10,7 +11,7 @@ ghost use Rattle.word_index.specs.Answers.{IsPackOf, IsNodeOf};
 ghost use Rattle.word_index.specs.Walk.{HasNode};
 
 use crate::blocks::{early_word, read_text};
-use crate::texts::{Doc, Key, order_apart};
+use crate::texts::{Doc, Key, early_order, order_apart};
 use avl_words::word;
 use cx_base::{Halt, Memory};
 use std::cmp::Ordering;
@@ -58,8 +59,22 @@ pub fn doc_at<M: Memory>(mem: &mut M, node: u64) -> Result<Doc, Halt>
     Ok(Doc { len, words })
 }
 
+/// How the length of a node's key compares with a number.
+fn order_of_lengths<M: Memory>(mem: &mut M, node: u64, len: u64) -> Result<Ordering, Halt>
+    requires sized { IsPartLength (M.size mem.old) }
+    requires node { Always (M.stands mem.old) (λ ws. HasNode ws node) }
+    ensures done { IfOk result (λ order. Reads (M.stands mem.old) (M.stands mem.new)
+        (λ ws. (pair : List ℕ × List ℕ) → IsNodeOf ws node pair → order ≡ nat_cmp (length pair.0) len)) }
+    ensures kept { Becomes (M.stands mem.old) (M.stands mem.new) ◌≡◌ }
+    ensures halts { OnErr result (M.left mem.new ≡ Some 0) }
+    ensures framed { Framed M.size M.fixed M.writable M.left mem.old mem.new }
+{
+    let mine = word(mem, node, 4)?;
+    Ok(mine.cmp(&len))
+}
+
 /// How the key of a node compares with another key. Its words are compared where they stand, up to the first that differs.
-pub fn order_at<M: Memory>(mem: &mut M, node: u64, key: &Key) -> Result<Ordering, Halt>
+fn order_of_all<M: Memory>(mem: &mut M, node: u64, key: &Key) -> Result<Ordering, Halt>
     requires sized { IsPartLength (M.size mem.old) }
     requires node { Always (M.stands mem.old) (λ ws. HasNode ws node) }
     requires key { key.now.len ≤ 64 }
@@ -79,4 +94,38 @@ pub fn order_at<M: Memory>(mem: &mut M, node: u64, key: &Key) -> Result<Ordering
         }
     }
     Ok(len.cmp(&key.len))
+}
+
+/// The same. The length is loaded only where the other key ends before a byte differs, which saves a load at most visits; a key of more than
+/// 56 bytes is then compared anew.
+pub fn order_at<M: Memory>(mem: &mut M, node: u64, key: &Key) -> Result<Ordering, Halt>
+    requires sized { IsPartLength (M.size mem.old) }
+    requires node { Always (M.stands mem.old) (λ ws. HasNode ws node) }
+    requires key { key.now.len ≤ 64 }
+    ensures done { IfOk result (λ order. Reads (M.stands mem.old) (M.stands mem.new)
+        (λ ws. (pair : List ℕ × List ℕ) → IsNodeOf ws node pair → order ≡ key_cmp pair.0 (unpacked key.now.len key.now.words))) }
+    ensures kept { Becomes (M.stands mem.old) (M.stands mem.new) ◌≡◌ }
+    ensures halts { OnErr result (M.left mem.new ≡ Some 0) }
+    ensures framed { Framed M.size M.fixed M.writable M.left mem.old mem.new }
+{
+    let first = word(mem, node, 3)?;
+    for at in 0..key.len.div_ceil(8).min(7) as usize {
+        let other = word(mem, first, 1 + at as u64)?;
+        let mine = key.words[at];
+        if other != mine {
+            match early_order(at, other, mine, key.len) {
+                Some(order) => return Ok(order),
+                None => {
+                    let short = order_of_lengths(mem, node, key.len)?;
+                    return Ok(short);
+                }
+            }
+        }
+    }
+    if key.len <= 56 {
+        let ended = order_of_lengths(mem, node, key.len)?;
+        return Ok(ended);
+    }
+    let order = order_of_all(mem, node, key)?;
+    Ok(order)
 }

@@ -1,7 +1,8 @@
 //! Keys and documents as packed words, and how keys are ordered.
 
-ghost use Rattle.std.specs.Prelude.{◌≡◌, ◌≢◌, ◌+◌, ◌*◌, ◌/◌, ◌%◌, ◌^◌, ◌<◌, ◌≤◌, ℕ, List, slice_index};
-ghost use Rattle.cx_base.specs.Packing.{unpacked};
+ghost use Rattle.std.specs.Prelude.{◌≡◌, ◌≢◌, ◌+◌, ◌*◌, ◌/◌, ◌%◌, ◌^◌, ◌<◌, ◌≤◌, ℕ, List, MatchOption, slice_index};
+ghost use Rattle.std.specs.Ordering.{nat_cmp};
+ghost use Rattle.cx_base.specs.Packing.{byte_at, unpacked};
 ghost use Rattle.cx_base.specs.Store.{key_cmp};
 
 use std::cmp::Ordering;
@@ -44,5 +45,23 @@ pub fn order_apart(at: usize, left: u64, right: u64, left_len: u64, right_len: u
         mine.cmp(&other)
     } else {
         left_len.cmp(&right_len)
+    }
+}
+
+/// How a key compares with another whose words before one place are the same, and these there, which differ. Bytes behind the key's
+/// end are 0. `None` comes where the other has ended before they differ, so that the lengths tell.
+pub fn early_order(at: usize, left: u64, right: u64, right_len: u64) -> Option<Ordering>
+    requires at { at < 8 }
+    requires apart { left ≢ right }
+    ensures { (these those : List ℕ) (len : ℕ) → ((k : ℕ) → len ≤ k → k < 64 → byte_at these k ≡ 0) → ((k : ℕ) → k < at → slice_index these k ≡ slice_index those k) → slice_index these at ≡ left → slice_index those at ≡ right
+        → MatchOption result (nat_cmp len right_len ≡ key_cmp (unpacked len these) (unpacked right_len those)) (λ order. order ≡ key_cmp (unpacked len these) (unpacked right_len those)) }
+{
+    let byte = first_apart(left, right);
+    if 8 * at as u64 + byte < right_len {
+        let mine = (left >> (8 * byte)) % 256;
+        let other = (right >> (8 * byte)) % 256;
+        Some(mine.cmp(&other))
+    } else {
+        None
     }
 }

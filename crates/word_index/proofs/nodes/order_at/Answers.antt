@@ -1,19 +1,20 @@
-use Rattle.std.proofs.Common.{◌≡◌, ◌+◌, ◌*◌, ◌/◌, ◌<◌, ◌≤◌, ◌⊎◌, inl, inr, get_or, arith, rules}
-use Rattle.std.proofs.lemmas.Bool.{cases_lt}
+use Rattle.std.proofs.Common.{◌≡◌, ◌*◌, ◌<◌, ◌≤◌, ◌∙◌, get_or, refl, arith, rules}
+use Rattle.std.specs.Ordering.{nat_cmp}
+use Rattle.cx_base.specs.Packing.{unpacked}
+use Rattle.cx_base.specs.Store.{key_cmp}
 use Rattle.cx_base.proofs.MemoryLemmas.{Framed-then}
-use Rattle.cx_base.proofs.ReadLemmas.{kept_then, Reads-none, Reads-load, Reads-loaded, Reads-then, Reads-weaker, always_read}
-use Rattle.word_index.proofs.KeyWords.{compared_none, compared_chain, compared_more, compared_apart, compared_ends}
+use Rattle.cx_base.proofs.ReadLemmas.{kept_then, Reads-none, Reads-load, Reads-loaded, Reads-then, always_read}
+use Rattle.word_index.proofs.KeyWords.{begun_none, begun_within, begun_more, begun_tells, begun_ends}
 use Rattle.word_index.proofs.nodes.order_at.Goals as goal
 
 pub loop-at-init : goal.loop-at-init
 loop-at-init g c =
     let a = c.in_ok-first.ensures in
-    let b = c.in_ok-len.ensures in
     record {
-      done = Reads-load (Reads-loaded (Reads-none _ c.requires.node) a.done) b.done (λ ws p e. compared_none c.args.node c.in_ok-first.first c.in_ok-len.len c.args.key.now.words ws p.1 e);
-      kept = kept_then a.kept b.kept;
+      done = Reads-load (Reads-none _ c.requires.node) a.done (λ ws p e. begun_none c.args.node c.in_ok-first.first c.args.key.now.words ws e);
+      kept = a.kept;
       sized = search rules;
-      framed = Framed-then a.framed b.framed;
+      framed = a.framed;
     }
 
 pub loop-at-preserved : goal.loop-at-preserved
@@ -21,36 +22,40 @@ loop-at-preserved g c =
     let i = c.loop-at.invariant in
     let w = c.in_ok-other.ensures in
     let mine = c.args.key.now.words in
-    let below : c.loop-at.at < (c.in_ok-len.len + 7) / 8 = omega (arith, c.min.ensures, c.div_ceil-at-end.ensures) in
+    let low : c.loop-at.at < 7 = omega (arith, c.min-at-end.ensures, c.div_ceil.ensures) in
     let same : c.in_ok-other.other ≡ get_or mine c.loop-at.at 0 = omega (arith, c.if-other-mine.false) in
     record {
-      done = Reads-then i.done w.done (λ ws p q. compared_more c.args.node c.in_ok-first.first c.in_ok-len.len c.loop-at.at mine ws p c.in_ok-other.other below q same);
+      done = Reads-load i.done w.done (λ ws p e. begun_more c.args.node c.in_ok-first.first c.loop-at.at mine ws p c.in_ok-other.other low e same);
       kept = kept_then i.kept w.kept;
       sized = search rules;
       framed = Framed-then i.framed w.framed;
     }
 
-pub early_word-requires-clause-chain : goal.early_word-requires-clause-chain
-early_word-requires-clause-chain g c =
-    let below : c.loop-at.at < (c.in_ok-len.len + 7) / 8 = omega (arith, c.min.ensures, c.div_ceil-at-end.ensures) in
-    always_read c.requires.node c.loop-at.invariant.done (λ ws h p. compared_chain c.args.node c.in_ok-first.first c.in_ok-len.len c.loop-at.at c.args.key.now.words ws p h below)
+pub word-requires-in-loop-at-clause-line : goal.word-requires-in-loop-at-clause-line
+word-requires-in-loop-at-clause-line g c =
+    always_read c.requires.node c.loop-at.invariant.done (λ ws h p. begun_within c.args.node c.in_ok-first.first c.loop-at.at c.args.key.now.words ws p h)
 
-pub returns-then-other-mine-clause-done : goal.returns-then-other-mine-clause-done
-returns-then-other-mine-clause-done g c =
+pub returns-in-Some-clause-done : goal.returns-in-Some-clause-done
+returns-in-Some-clause-done g c =
     let key = c.args.key.now in
-    let below : c.loop-at.at < (c.in_ok-len.len + 7) / 8 = omega (arith, c.min.ensures, c.div_ceil-at-end.ensures) in
-    let few : c.loop-at.at < 8 = omega (arith, c.min.ensures, c.div_ceil-at-end.ensures, c.requires.key) in
-    Reads-then c.loop-at.invariant.done c.in_ok-other.ensures.done
-    (λ ws p q. compared_apart c.args.node c.in_ok-first.first c.in_ok-len.len c.loop-at.at key.words ws p c.in_ok-other.other below q key.len c.order_apart.result few c.order_apart.ensures)
+    let low : c.loop-at.at < 7 = omega (arith, c.min-at-end.ensures, c.div_ceil.ensures) in
+    Reads-load c.loop-at.invariant.done c.in_ok-other.ensures.done
+    (λ ws p e. begun_tells c.args.node c.in_ok-first.first c.loop-at.at key.words ws p c.in_ok-other.other low e (λ len b. c.in-Some.order ≡ key_cmp b (unpacked key.len key.words))
+    (λ these len behind same l. c.in-Some.ensures these key.words len behind same l refl))
 
-pub returns-clause-done : goal.returns-clause-done
-returns-clause-done g c =
+pub returns-in-None-clause-done : goal.returns-in-None-clause-done
+returns-in-None-clause-done g c =
     let key = c.args.key.now in
-    let len = c.in_ok-len.len in
+    let low : c.loop-at.at < 7 = omega (arith, c.min-at-end.ensures, c.div_ceil.ensures) in
+    Reads-then (Reads-loaded c.loop-at.invariant.done c.in_ok-other.ensures.done) c.in_ok-short-in-None.ensures.done
+    (λ ws pe s pair is. s pair is ∙ begun_tells c.args.node c.in_ok-first.first c.loop-at.at key.words ws pe.0 c.in_ok-other.other low pe.1 (λ len b. nat_cmp len key.len ≡ key_cmp b (unpacked key.len key.words))
+    (λ these len behind same l. c.in-None.ensures these key.words len behind same l refl) pair is)
+
+pub returns-then-key-le56-clause-done : goal.returns-then-key-le56-clause-done
+returns-then-key-le56-clause-done g c =
+    let key = c.args.key.now in
     let at = c.loop-at.at in
-    let few : at ≤ 8 = omega (arith, c.min.ensures, c.div_ceil-at-end.ensures, c.requires.key) in
-    let ends : len ≤ 8 * at ⊎ key.len ≤ 8 * at = elim (cases_lt key.len len) [
-      | inl h ↦ inr (omega (arith, c.min.ensures, c.div_ceil-at-end.ensures, c.loop-at-test.false, h))
-      | inr h ↦ inl (omega (arith, c.min.ensures, c.div_ceil-at-end.ensures, c.loop-at-test.false, h))
-    ] in
-    Reads-weaker c.loop-at.invariant.done (λ ws p. compared_ends c.args.node c.in_ok-first.first len at key.words ws p key.len c.cmp.result few ends c.cmp.ensures)
+    let few : at ≤ 8 = omega (arith, c.min-at-end.ensures, c.div_ceil.ensures) in
+    let ends : key.len ≤ 8 * at = omega (arith, c.min-at-end.ensures, c.div_ceil.ensures, c.loop-at-test.false, c.if-key-le56.true) in
+    Reads-then c.loop-at.invariant.done c.in_ok-ended.ensures.done
+    (λ ws p s pair is. s pair is ∙ begun_ends c.args.node c.in_ok-first.first at key.words ws p key.len few ends pair is)
