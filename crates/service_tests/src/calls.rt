@@ -33,8 +33,9 @@ pub(crate) fn submitted<O: Object>(
     for _turn in 0..turns {
         match service.submit(caller, op, 1) {
             Submitted::Linked(linked) => return Ok(linked),
-            Submitted::Again(back) => caller = back,
-            Submitted::Full(back, _) | Submitted::Worn(back) => return Err(Handed::Idle(back)),
+            // another caller needs the entries in the cells as long as it drives
+            Submitted::Again(back) | Submitted::Full(back, _) => caller = back,
+            Submitted::Worn(back) => return Err(Handed::Idle(back)),
             Submitted::Halted(stopped) => return Err(Handed::Stopped(stopped)),
         }
     }

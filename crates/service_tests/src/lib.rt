@@ -6,6 +6,8 @@ mod alone;
 #[cfg(test)]
 mod calls;
 #[cfg(test)]
+mod cells;
+#[cfg(test)]
 mod rows;
 #[cfg(test)]
 mod starting;

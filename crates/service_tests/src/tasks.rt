@@ -2,17 +2,17 @@
 
 use std::alloc::{AllocError, Global};
 
-/// The operations of one caller.
-pub(crate) const TASKS: usize = 20;
+/// The operations of one caller: its updates are more than it has cells.
+pub(crate) const TASKS: usize = 30;
 
 /// Operations of one kind.
 #[derive(Clone, Copy, Debug, PartialEq, Eq, Drop)]
 pub(crate) enum Work {
-    /// Of Tally: 16 updates and 4 reads of each caller.
+    /// Of Tally: 24 updates and 6 reads of each caller.
     Sums,
-    /// Of a document store: 16 updates and 4 reads of each caller.
+    /// Of a document store: 24 updates and 6 reads of each caller.
     Documents,
-    /// Of Tally: 16 updates and 4 reads of callers 0 and 1, and 20 reads of each other.
+    /// Of Tally: 24 updates and 6 reads of callers 0 and 1, and 30 reads of each other.
     Apart,
 }
 

@@ -141,8 +141,8 @@ fn sums_on_threads(rt: HostRuntime) -> Result<(), Fail> {
     for callers in [2, 4, 8] {
         let outcome = on_threads(&rt, rt.alloc(), Tally, callers, Work::Sums)?;
         let want = Outcome {
-            updates: Some(16 * u64::from(callers)),
-            reads: 4 * u64::from(callers),
+            updates: Some(24 * u64::from(callers)),
+            reads: 6 * u64::from(callers),
             codes: true,
         };
         assert_eq!(rt; outcome, want, "{callers} callers");
@@ -156,8 +156,8 @@ fn documents_on_threads(rt: HostRuntime) -> Result<(), Fail> {
         let store = DocStore::of(64);
         let outcome = on_threads(&rt, rt.alloc(), store, callers, Work::Documents)?;
         let want = Outcome {
-            updates: Some(16 * u64::from(callers)),
-            reads: 4 * u64::from(callers),
+            updates: Some(24 * u64::from(callers)),
+            reads: 6 * u64::from(callers),
             codes: true,
         };
         assert_eq!(rt; outcome, want, "{callers} callers");
@@ -169,8 +169,8 @@ fn documents_on_threads(rt: HostRuntime) -> Result<(), Fail> {
 fn readers_beside_updaters(rt: HostRuntime) -> Result<(), Fail> {
     let outcome = on_threads(&rt, rt.alloc(), Tally, 4, Work::Apart)?;
     let want = Outcome {
-        updates: Some(32),
-        reads: 48,
+        updates: Some(48),
+        reads: 72,
         codes: true,
     };
     assert_eq!(rt; outcome, want);
