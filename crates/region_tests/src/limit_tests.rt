@@ -15,10 +15,10 @@ ghost use Rattle.replica.specs.Tests.{IsFree, IsNew};
 use crate::commands::put;
 use crate::marking::Marking;
 use crate::tables::{NO_LIMIT, closed, made, of_replica, take, update};
+use crate::turns::replay_protected;
 use cx_base::{Halt, Object, VecMemory};
 use cx_core::{Base, Entry, full_step};
 use cx_table::{CallerSeat, Exclusive, Remains, Shared};
-use cx_turns::replay_to;
 use doc_store::DocStore;
 use mutation_queue::LinkTried;
 use replica::{begin, flush};
@@ -39,7 +39,7 @@ fn renew<O: Object>(
     ensures seat { IsSeatOf shared.now seat.new }
 {
     begin(shared, seat, &held)?;
-    replay_to(shared, seat, &held, ticket)?;
+    replay_protected(shared, seat, &held, ticket)?;
     flush(shared, seat, &held)?;
     downgrade(shared, seat, held)?;
     Ok(())
@@ -100,7 +100,8 @@ pub(crate) fn untouched(alloc: Global, words: &[u64]) -> Result<Image, AllocErro
     })
 }
 
-/// What the model has after so many accesses of a replica: those of the full step of an entry, and then persists.
+/// What the model has after so many steps: the accesses of the full step of an entry, one that gives the protection up, and then
+/// persists.
 pub(crate) fn modelled<O: Object>(
     alloc: Global,
     object: &O,
@@ -125,7 +126,7 @@ pub(crate) fn modelled<O: Object>(
             &volatile,
             &mut durable,
             &mut dirty,
-            left.saturating_sub(made),
+            left.saturating_sub(made).saturating_sub(1),
         );
     }
     Ok(Image {
@@ -217,7 +218,7 @@ fn whole_step<O: Object>(
 }
 
 // The steps before the full step of the first entry: its number and its words that are not 0, which the cell does not have yet, 2
-// to link, a try, the load of the place, and 146 for the entry.
+// to link, a try, the load of the place, 2 to protect it, and 146 for the entry.
 fn steps_before(op: &[u64; 144]) -> u64 {
     let mut announced = 1u64;
     for word in op {
@@ -225,7 +226,7 @@ fn steps_before(op: &[u64; 144]) -> u64 {
             announced = announced.saturating_add(1);
         }
     }
-    announced.saturating_add(2 + 2 + 146)
+    announced.saturating_add(2 + 2 + 2 + 146)
 }
 
 // What a caller with a limit comes to.
@@ -262,8 +263,8 @@ fn at_limit(alloc: Global, base: &Base, entry: &Entry, limit: u64) -> Result<Out
     })
 }
 
-// From no steps up to the first limit that does not halt: the steps before the full step, its accesses, one to persist each word
-// that it stores, and a downgrade. Before the first persist, all words that it stores are dirty.
+// From no steps up to the first limit that does not halt: the steps before the full step, its accesses, one that gives the protection
+// up, one to persist each word that it stores, and a downgrade. Before the first persist, all words that it stores are dirty.
 #[test]
 fn each_limit_leaves_the_words_of_the_model(rt: HostRuntime) -> Result<(), Fail> {
     let alloc = rt.alloc();
@@ -278,6 +279,7 @@ fn each_limit_leaves_the_words_of_the_model(rt: HostRuntime) -> Result<(), Fail>
     };
     let all = steps_before(&entry.op)
         .saturating_add(accesses)
+        .saturating_add(1)
         .saturating_add(stored as u64)
         .saturating_add(1);
     let mut most = 0;

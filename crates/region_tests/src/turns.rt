@@ -2,13 +2,17 @@
 
 ghost use Rattle.std.specs.Prelude.{◌≡◌, ◌*◌, ◌<◌, IfOk, IfSome, OnOk, Some, None, Ok};
 ghost use Rattle.cx_rule.specs.Running.{IsSeatOf};
+ghost use Rattle.replica.specs.Held.{IsHeld};
 ghost use Rattle.replica.specs.Laws.{IsTaken};
+ghost use Rattle.replica.specs.Replays.{IsImage};
 ghost use Rattle.region_tests.specs.Turns.{IsFlushedImage, TakesIt};
 ghost use Rattle.strong_trylock.specs.Held.{all_rights, no_rights};
 
 use cx_base::{Halt, Object};
+use cx_core::Protection;
 use cx_table::{CallerSeat, Downgraded, Exclusive, Shared};
 use cx_turns::replay_to;
+use mutation_queue::{Protected, protect, unprotect};
 use replica::{begin, flush};
 use strong_trylock::{ExclusiveTried, downgrade, release_downgraded, try_exclusive};
 
@@ -44,6 +48,41 @@ pub(crate) fn try_one<O: Object>(
     }
 }
 
+/// Brings a replica held exclusively up to a ticket: where its place is at most the ticket, the entries are read under a protection,
+/// which is given up again. Nobody collects cells here, so that no caller is behind, and none has a protection before: one that is, or
+/// has, stops as if it was halted.
+pub(crate) fn replay_protected<O: Object>(
+    shared: &Shared<O>,
+    seat: &mut CallerSeat,
+    held: &Exclusive,
+    ticket: u64,
+) -> Result<(), Halt>
+    requires held { IsHeld (O.line_count shared.now.object) shared.now (O.lawful shared.now.object) seat.old held.now }
+    requires image { IsImage (O.line_count shared.now.object) (O.lawful shared.now.object) shared.now.base (O.step shared.now.object) seat.old.known }
+    requires linked { ticket < seat.old.known.local.front }
+    ensures held { OnOk result (IsHeld (O.line_count shared.now.object) shared.now (O.lawful shared.now.object) seat.new held.now) }
+    ensures image { OnOk result (IsImage (O.line_count shared.now.object) (O.lawful shared.now.object) shared.now.base (O.step shared.now.object) seat.new.known) }
+    ensures rights { OnOk result (all_rights seat.new ≡ all_rights seat.old) }
+    ensures single { OnOk result (seat.new.known.local.downgraded ≡ seat.old.known.local.downgraded) }
+    ensures seat { IsSeatOf shared.now seat.new }
+{
+    // tickets are few
+    let _front = seat.front();
+    let place = seat.noted_place();
+    if place > ticket {
+        return Ok(());
+    }
+    let Protection::Unprotected = seat.protection() else {
+        return Err(Halt);
+    };
+    let Protected::Kept = protect(shared, seat, place)? else {
+        return Err(Halt);
+    };
+    replay_to(shared, seat, held, ticket)?;
+    unprotect(shared, seat)?;
+    Ok(())
+}
+
 /// The places of a replica before a turn and after it.
 pub(crate) type Places = (u64, u64);
 
@@ -64,7 +103,7 @@ fn bring_up<O: Object>(
     if ticket >= seat.front() {
         return Err(Halt);
     }
-    replay_to(shared, seat, held, ticket)?;
+    replay_protected(shared, seat, held, ticket)?;
     let after = seat.noted_place();
     flush(shared, seat, held)?;
     Ok((before, after))

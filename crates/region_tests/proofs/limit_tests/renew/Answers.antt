@@ -9,7 +9,7 @@ downgrade-requires-clause-clean g c =
     let right = c.in_ok-flush.ensures.held.right in
     let none : c.flush.new.seat.known.local.downgraded ≡ None =
     ap (λ (s : Seated). s.known.local.downgraded) c.in_ok-flush.ensures.persists.rest
-    ∙ ap (λ (s : Seated). s.known.local.downgraded) c.in_ok-replay_to.ensures.work
+    ∙ c.in_ok-replay_protected.ensures.single
     ∙ ap (λ (s : Seated). s.known.local.downgraded) c.in_ok-begin.ensures.rest
     ∙ c.requires.single in
     (right.few, right.holds, subst (λ (o : Option HeldDowngraded). IsNone o) (sym none) refl, c.in_ok-flush.ensures.clean)
