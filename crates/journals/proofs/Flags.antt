@@ -136,10 +136,6 @@ module _ (life : Life) (told flagged : LifeRecord) (same : IsSameButKept told fl
           of_client = t.of_client;
           need = t.need;
           cells = t.cells;
-          index = t.index;
-          least = t.least;
-          there = t.there;
-          at = t.at;
           stopped = sym (same_stopped line.note.holder told.stops flagged.stops same.stops) ∙ t.stopped;
         })
         told.fulls is.fulls);

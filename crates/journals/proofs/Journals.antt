@@ -1,8 +1,9 @@
 -- The lines of all clients by ticket are the journal of the history.
-use Rattle.std.proofs.Common.{◌≡◌, ◌+◌, ◌-◌, ◌<◌, ◌≤◌, ℕ, true, List, length, map, filter, slice_get, Some, sym, ap, subst, ◌∙◌, refl, arith}
+use Rattle.std.proofs.Common.{◌≡◌, ◌+◌, ◌-◌, ◌<◌, ◌≤◌, ℕ, true, List, length, map, filter, slice_get, Option, None, Some, sym, ap, subst, ◌∙◌, refl, arith}
 use Rattle.std.specs.Option.{option_map}
 use Rattle.std.proofs.lemmas.Bool.{eq-eqb}
-use Rattle.std.proofs.lemmas.List.Elements.{All-contains, All-nil, filter_passes}
+use Rattle.std.proofs.lemmas.List.Elements.{All-contains, filter_passes}
+use Rattle.std.specs.Prelude.{All}
 use Rattle.std.proofs.lemmas.List.Sorted.{IsPermutation-sym, length_permutation, All-permutation}
 use Rattle.std.proofs.lemmas.Option.{same_Some, slice_get-map}
 use Rattle.cx_core.specs.declared.entry.Entry.{Entry}
@@ -12,6 +13,7 @@ use Rattle.cx_core.specs.Merge.{IsHistory}
 use Rattle.cx_core.proofs.ListLemmas.{item_below}
 use Rattle.cx_core.proofs.MergeLemmas.{has_own, own_at, own_count}
 use Rattle.life_records.specs.declared.script.Life.{Life}
+use Rattle.life_records.specs.declared.record.FullLine.{FullLine}
 use Rattle.life_records.specs.declared.record.JournalLine.{JournalLine}
 use Rattle.life_records.specs.declared.record.LifeRecord.{LifeRecord}
 use Rattle.life_records.specs.declared.record.ReadLine.{ReadLine}
@@ -19,16 +21,26 @@ use Rattle.life_records.specs.declared.record.StopLine.{StopLine}
 use Rattle.life_records.specs.Scripts.{limit_in}
 use Rattle.journals.specs.Journal.{IsByTicket, IsRecordOf}
 use Rattle.journals.specs.Told.{IsTold, IsToldFull, IsToldStop}
-use Rattle.journals.specs.Works.{AreWorks, IsEnd, IsLineOf, IsStopOf, IsWork, by_entry, by_read, stop_of}
+use Rattle.journals.specs.Works.{AreWorks, IsEnd, IsLineOf, IsFullOf, IsStopOf, IsWork, by_entry, by_read, full_of, stop_of}
 use Rattle.journals.proofs.Lists.{Has, Rises, all_each, climbs_from, each_get, filter_has, get_has, has_contains, has_filter, has_get, has_map, has_moved, length_map, ranged, rises_filter, rises_from, same_items, zip_back, zip_has, zip_rises}
 use Rattle.journals.proofs.Owns.{own_rises}
-use Rattle.journals.proofs.Stops.{stop_is}
+use Rattle.journals.proofs.Firsts.{first_is}
+use Rattle.life_records.specs.Lives.{is_stopped}
 
 linked_is : (x : Linked) (ticket : ℕ) (entry : Entry) → x.ticket ≡ ticket → x.entry ≡ entry → x ≡ record { ticket = ticket; entry = entry }
 linked_is x ticket entry t e = ap (λ (k : ℕ). record { ticket = k; entry = x.entry }) t ∙ ap (λ (y : Entry). record { ticket = ticket; entry = y }) e
 
-module _ (life : Life) (place : ℕ) (history : List Entry) (locals : List Local) (entries journal : List JournalLine) (reads : List ReadLine) (stops : List StopLine)
-    (m : AreWorks life locals entries reads stops) (merged : IsHistory place history locals) (sorted : IsByTicket entries journal) where
+-- a client with a stop line was stopped, and one with a full line gave up
+pub stop_end : (life : Life) (client done : ℕ) (l : Local) (line : StopLine) (full : Option FullLine) → IsEnd life client done l (Some line) full → IsStopOf life client done l line
+stop_end life client done l line None end = end
+stop_end life client done l line (Some other) end = absurd end
+
+pub full_end : (life : Life) (client done : ℕ) (l : Local) (stop : Option StopLine) (line : FullLine) → IsEnd life client done l stop (Some line) → IsFullOf life client done l line
+full_end life client done l None line end = end
+full_end life client done l (Some other) line end = absurd end
+
+module _ (life : Life) (place : ℕ) (history : List Entry) (locals : List Local) (entries journal : List JournalLine) (reads : List ReadLine) (stops : List StopLine) (fulls : List FullLine)
+    (m : AreWorks life locals entries reads stops fulls) (merged : IsHistory place history locals) (sorted : IsByTicket entries journal) where
   abbrev ticket_of : JournalLine → ℕ
   ticket_of line = line.ticket
 
@@ -76,15 +88,17 @@ module _ (life : Life) (place : ℕ) (history : List Entry) (locals : List Local
       (λ z h. has_filter p journal z (has_moved entries journal z sorted.moved (filter_has p entries z h)) (passes entries z h))
 
   -- so the journal's lines are the clients', too
-  pub still_works : AreWorks life locals journal reads stops
+  pub still_works : AreWorks life locals journal reads stops fulls
   still_works = record {
-    each = λ i l at. subst (λ ls. IsWork life i l ls (filter (by_read i) reads) (stop_of i stops)) (sym (same_lines i l at)) (m.each i l at);
+    each = λ i l at. subst (λ ls. IsWork life i l ls (filter (by_read i) reads) (stop_of i stops) (full_of i fulls)) (sym (same_lines i l at)) (m.each i l at);
     of_entries = All-permutation (λ (x : JournalLine). x.client < length locals) entries journal sorted.moved m.of_entries;
     of_reads = m.of_reads;
     of_stops = m.of_stops;
+    of_fulls = m.of_fulls;
     long = length_permutation entries journal sorted.moved ∙ m.long;
     reads_in_order = m.reads_in_order;
     stops_in_order = m.stops_in_order;
+    fulls_in_order = m.fulls_in_order;
   }
 
   -- one line for each entry, at its ticket
@@ -114,13 +128,30 @@ module _ (life : Life) (place : ℕ) (history : List Entry) (locals : List Local
       let has = has_get stops k line at in
       let l = item_below locals line.client (All-contains (λ (x : StopLine). x.client < length locals) stops line m.of_stops (has_contains stops line has)) in
       let w = m.each line.client l.0 l.1 in
-      let stop : IsStopOf life line.client w.done l.0 line = subst (IsEnd life line.client w.done l.0) (stop_is stops line m.stops_in_order has) w.ends in
+      let stop : IsStopOf life line.client w.done l.0 line =
+      stop_end life line.client w.done l.0 line (full_of line.client fulls) (subst (λ (o : Option StopLine). IsEnd life line.client w.done l.0 o (full_of line.client fulls)) (first_is (λ (x : StopLine). x.client) stops line m.stops_in_order has) w.ends) in
       record { local = l.0; of_client = l.1; steps = stop.reached }
 
+  -- of a client that gave up the last scan and the cells are as its line says
+  gave_up_at : All (λ (line : FullLine). is_stopped line.note.holder stops ≡ true) fulls → (line : FullLine) (k : ℕ) → slice_get fulls k ≡ Some line → IsToldFull locals stops line
+  gave_up_at stopped line k at =
+      let has = has_get fulls k line at in
+      let l = item_below locals line.client (All-contains (λ (x : FullLine). x.client < length locals) fulls line m.of_fulls (has_contains fulls line has)) in
+      let w = m.each line.client l.0 l.1 in
+      let full : IsFullOf life line.client w.done l.0 line =
+      full_end life line.client w.done l.0 (stop_of line.client stops) line (subst (λ (o : Option FullLine). IsEnd life line.client w.done l.0 (stop_of line.client stops) o) (first_is (λ (x : FullLine). x.client) fulls line m.fulls_in_order has) w.ends) in
+      record {
+        local = l.0;
+        of_client = l.1;
+        need = full.seen;
+        cells = full.cells;
+        stopped = All-contains (λ (x : FullLine). is_stopped x.note.holder stops ≡ true) fulls line stopped (has_contains fulls line has);
+      }
+
   -- and a record of them is told by the history
-  pub journal_told : (told : LifeRecord) → IsRecordOf place locals journal reads stops told → length locals ≡ life.clients →
+  pub journal_told : All (λ (line : FullLine). is_stopped line.note.holder stops ≡ true) fulls → (told : LifeRecord) → IsRecordOf place locals journal reads stops fulls told → length locals ≡ life.clients →
       ((client : ℕ) (l : Local) → slice_get locals client ≡ Some l → l.limit ≡ limit_in client life.cuts) → IsTold life place history locals told
-  journal_told told is callers limits = record {
+  journal_told stopped told is callers limits = record {
     clients = is.clients;
     callers = callers;
     limits = limits;
@@ -130,5 +161,5 @@ module _ (life : Life) (place : ℕ) (history : List Entry) (locals : List Local
     entries = rw (is.journal_is, is.stops_are) line_at;
     reads = λ client l at. rw (is.reads_are, is.stops_are) ((m.each client l at).read_lines);
     stops = rw is.stops_are (all_each (IsToldStop locals) stops (each_get (IsToldStop locals) stops (λ k line at. stopped_at line k at)));
-    fulls = rw is.fulls (All-nil (IsToldFull locals told.stops));
+    fulls = rw (is.fulls_are, is.stops_are) (all_each (IsToldFull locals stops) fulls (each_get (IsToldFull locals stops) fulls (λ k line at. gave_up_at stopped line k at)));
   }

@@ -1,7 +1,6 @@
 -- A record is told by what a closed table leaves: by the history of its entries and the local states that its callers ended with.
-use Rattle.std.specs.Prelude.{◌≡◌, ◌+◌, ◌≤◌, ℕ, true, List, length, filter, slice_get, All, Some}
+use Rattle.std.specs.Prelude.{◌≡◌, ◌+◌, ℕ, true, List, length, filter, slice_get, All, Some}
 use Rattle.cx_core.specs.declared.entry.Entry.{Entry}
-use Rattle.cx_core.specs.declared.local.Cell.{Cell}
 use Rattle.cx_core.specs.declared.local.Local.{Local}
 use Rattle.life_records.specs.declared.script.Life.{Life}
 use Rattle.life_records.specs.declared.record.FullLine.{FullLine}
@@ -10,7 +9,7 @@ use Rattle.life_records.specs.declared.record.LifeRecord.{LifeRecord}
 use Rattle.life_records.specs.declared.record.StopLine.{StopLine}
 use Rattle.life_records.specs.Lives.{is_stopped}
 use Rattle.life_records.specs.Scripts.{limit_in}
-use Rattle.journals.specs.Works.{AreReadLines, IsLineOf, by_read, stop_of}
+use Rattle.journals.specs.Works.{AreReadLines, HoldsFrom, IsLineOf, by_read, stop_of}
 
 -- a client's stop line: its caller's steps equal its limit
 pub record IsToldStop (locals : List Local) (line : StopLine) : Type 0 where
@@ -24,11 +23,7 @@ pub record IsToldFull (locals : List Local) (stops : List StopLine) (line : Full
   pub local : Local
   pub of_client : slice_get locals line.client ≡ Some local
   pub need : local.seen_need ≡ Some (record { need = line.note.need; caller = line.note.holder })
-  pub cells : (j : ℕ) (cell : Cell) → slice_get local.cells j ≡ Some cell → (ticket : ℕ) × (cell.ticket ≡ Some ticket) × (line.note.ticket ≤ ticket)
-  pub index : ℕ
-  pub least : Cell
-  pub there : slice_get local.cells index ≡ Some least
-  pub at : least.ticket ≡ Some line.note.ticket
+  pub cells : HoldsFrom local line.note.ticket
   pub stopped : is_stopped line.note.holder stops ≡ true
 
 -- The record of a life is told by a history that began at a place, and by these local states.

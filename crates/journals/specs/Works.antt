@@ -6,14 +6,16 @@ use Rattle.cx_core.specs.declared.local.Linked.{Linked}
 use Rattle.cx_core.specs.declared.local.Local.{Local}
 use Rattle.cx_core.specs.declared.local.SeenRead.{SeenRead}
 use Rattle.cx_core.specs.Merge.{all_own}
+use Rattle.cx_core.specs.QueueEvents.{cell_of}
 use Rattle.doc_model.specs.declared.operations.Op.{Op}
 use Rattle.doc_model.specs.declared.operations.Reply.{Reply}
 use Rattle.doc_model.specs.Words.{op_words, reply_words}
 use Rattle.life_records.specs.declared.script.Life.{Life}
+use Rattle.life_records.specs.declared.record.FullLine.{FullLine}
 use Rattle.life_records.specs.declared.record.JournalLine.{JournalLine}
 use Rattle.life_records.specs.declared.record.ReadLine.{ReadLine}
 use Rattle.life_records.specs.declared.record.StopLine.{StopLine}
-use Rattle.life_records.specs.Lives.{IsReadBefore, IsStopBefore}
+use Rattle.life_records.specs.Lives.{IsFullBefore, IsReadBefore, IsStopBefore}
 use Rattle.life_records.specs.Scripts.{named_op, own_ops}
 
 -- the client's command of this number has these words
@@ -104,13 +106,34 @@ pub record IsStopOf (life : Life) (client done : ℕ) (l : Local) (line : StopLi
   pub limit : l.limit < 2 ^ 64 - 1
   pub kept : line.kept ≡ false
 
--- how a client ended: all its commands are answered, or it was stopped
-abbrev pub IsEnd : Life → ℕ → ℕ → Local → Option StopLine → Type 0
-IsEnd life client done l None = done ≡ length (own_ops client life.commands)
-IsEnd life client done l (Some line) = IsStopOf life client done l line
+-- all 16 cells of a caller hold tickets, and this is the least
+pub record HoldsFrom (l : Local) (ticket : ℕ) : Type 0 where
+  pub each : (j : ℕ) → j < 16 → (t : ℕ) × ((cell_of l j).ticket ≡ Some t) × (ticket ≤ t)
+  pub here : (j : ℕ) × (j < 16) × ((cell_of l j).ticket ≡ Some ticket)
+
+-- A client that gave up in the command behind those that it was answered: another caller, the one that its last scan found to need the
+-- least, keeps its cells, which hold entries of its own from the least ticket on. No two of them hold the same.
+pub record IsFullOf (life : Life) (client done : ℕ) (l : Local) (line : FullLine) : Type 0 where
+  pub client_is : line.client ≡ client
+  pub command : line.command ≡ done + 1
+  pub within : done < length (own_ops client life.commands)
+  pub other : line.note.holder ≢ client
+  pub need : line.note.need ≤ line.note.ticket
+  pub seen : l.seen_need ≡ Some (record { need = line.note.need; caller = line.note.holder })
+  pub cells : HoldsFrom l line.note.ticket
+  pub own : (j t : ℕ) → (cell_of l j).ticket ≡ Some t → (i : ℕ) × (x : Linked) × (slice_get l.own i ≡ Some x) × (x.ticket ≡ t)
+  pub apart : (j k t : ℕ) → (cell_of l j).ticket ≡ Some t → (cell_of l k).ticket ≡ Some t → j ≡ k
+
+-- how a client ended: all its commands are answered, or it was stopped, or it gave up
+abbrev pub IsEnd : Life → ℕ → ℕ → Local → Option StopLine → Option FullLine → Type 0
+IsEnd life client done l None None = done ≡ length (own_ops client life.commands)
+IsEnd life client done l (Some line) None = IsStopOf life client done l line
+IsEnd life client done l None (Some line) = IsFullOf life client done l line
+IsEnd life client done l (Some stop) (Some full) = ⊥
 
 -- What a client's lines are to its caller's lists.
-pub record IsWork (life : Life) (client : ℕ) (l : Local) (entries : List JournalLine) (reads : List ReadLine) (stop : Option StopLine) : Type 0 where
+pub record IsWork (life : Life) (client : ℕ) (l : Local) (entries : List JournalLine) (reads : List ReadLine) (stop : Option StopLine)
+    (full : Option FullLine) : Type 0 where
   pub by : l.number ≡ client
   pub entry_lines : AllZip (IsLineOf life client l.answered stop) l.own entries
   pub read_lines : AreReadLines life client stop l.seen_reads reads
@@ -122,7 +145,7 @@ pub record IsWork (life : Life) (client : ℕ) (l : Local) (entries : List Journ
   pub once : (command : ℕ) → 1 ≤ command → command ≤ done → lines_of command entries reads ≡ 1
   pub entries_done : All (IsDoneEntry done stop) entries
   pub reads_done : All (λ (line : ReadLine). (1 ≤ line.command) × (line.command ≤ done)) reads
-  pub ends : IsEnd life client done l stop
+  pub ends : IsEnd life client done l stop full
 
 -- whose lines they are
 abbrev pub by_entry : ℕ → JournalLine → Bool
@@ -131,17 +154,28 @@ by_entry client line = line.client == client
 abbrev pub by_read : ℕ → ReadLine → Bool
 by_read client line = line.client == client
 
--- the stop line of a client
+-- the first item of a client
+abbrev pub first_of : {X : Type 0} → (X → ℕ) → ℕ → List X → Option X
+first_of of client [] = None
+first_of of client (x ∷ xs) = if of x == client then Some x else first_of of client xs
+
+-- the stop line of a client, and its full line
 abbrev pub stop_of : ℕ → List StopLine → Option StopLine
-stop_of client [] = None
-stop_of client (line ∷ lines) = if line.client == client then Some line else stop_of client lines
+stop_of client stops = first_of (λ (line : StopLine). line.client) client stops
+
+abbrev pub full_of : ℕ → List FullLine → Option FullLine
+full_of client fulls = first_of (λ (line : FullLine). line.client) client fulls
 
 -- Of each caller the lines are those of its lists, and there are no others.
-pub record AreWorks (life : Life) (locals : List Local) (entries : List JournalLine) (reads : List ReadLine) (stops : List StopLine) : Type 0 where
-  pub each : (i : ℕ) (l : Local) → slice_get locals i ≡ Some l → IsWork life i l (filter (by_entry i) entries) (filter (by_read i) reads) (stop_of i stops)
+pub record AreWorks (life : Life) (locals : List Local) (entries : List JournalLine) (reads : List ReadLine) (stops : List StopLine)
+    (fulls : List FullLine) : Type 0 where
+  pub each : (i : ℕ) (l : Local) → slice_get locals i ≡ Some l →
+      IsWork life i l (filter (by_entry i) entries) (filter (by_read i) reads) (stop_of i stops) (full_of i fulls)
   pub of_entries : All (λ (line : JournalLine). line.client < length locals) entries
   pub of_reads : All (λ (line : ReadLine). line.client < length locals) reads
   pub of_stops : All (λ (line : StopLine). line.client < length locals) stops
+  pub of_fulls : All (λ (line : FullLine). line.client < length locals) fulls
   pub long : length entries ≡ length (all_own locals)
   pub reads_in_order : AllPairs IsReadBefore reads
   pub stops_in_order : AllPairs IsStopBefore stops
+  pub fulls_in_order : AllPairs IsFullBefore fulls

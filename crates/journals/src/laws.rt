@@ -1,9 +1,10 @@
 //! The laws of clients' lines: how they are put together, what a closed table tells of them, and what they come to.
 
-ghost use Rattle.std.specs.Prelude.{◌≡◌, [], ◌∷◌, ◌++◌, ℕ, Some, length, slice_get};
+ghost use Rattle.std.specs.Prelude.{◌≡◌, [], ◌∷◌, ◌++◌, ℕ, All, Some, true, length, slice_get};
 ghost use Rattle.std.specs.Option.{option_to_list};
 ghost use Rattle.cx_core.specs.Merge.{IsHistory};
 ghost use Rattle.life_records.specs.declared.script.Life.{Life};
+ghost use Rattle.life_records.specs.Lives.{is_stopped};
 ghost use Rattle.life_records.specs.Scripts.{limit_in};
 ghost use Rattle.journals.specs.Ended.{IsEnded, IsSameButKept};
 ghost use Rattle.journals.specs.Journal.{IsByTicket, IsRecordOf};
@@ -12,34 +13,36 @@ ghost use Rattle.journals.specs.Works.{AreWorks, IsWork};
 
 /// With no clients there are no lines.
 pub fn works_begin()
-    ensures { (life : Life) → AreWorks life [] [] [] [] }
+    ensures { (life : Life) → AreWorks life [] [] [] [] [] }
 {}
 
 /// The lines of the next client go behind those of all before it.
 pub fn works_go_on()
-    ensures { (life : Life) (locals l entries es reads rs stops stop : _) → AreWorks life locals entries reads stops →
-        IsWork life (length locals) l es rs stop →
-        AreWorks life (locals ++ l ∷ []) (entries ++ es) (reads ++ rs) (stops ++ option_to_list stop) }
+    ensures { (life : Life) (locals l entries es reads rs stops stop fulls full : _) → AreWorks life locals entries reads stops fulls →
+        IsWork life (length locals) l es rs stop full →
+        AreWorks life (locals ++ l ∷ []) (entries ++ es) (reads ++ rs) (stops ++ option_to_list stop) (fulls ++ option_to_list full) }
 {}
 
 /// Put by ticket, the lines are still those of the clients, and a record of them is told by the history that merges their callers'
-/// own lists.
+/// own lists, where each client that gave up names one that was stopped.
 pub fn journals_are_told()
-    ensures works { (life : Life) (place : ℕ) (history locals entries journal reads stops : _) →
-        AreWorks life locals entries reads stops → IsHistory place history locals → IsByTicket entries journal →
-        AreWorks life locals journal reads stops }
-    ensures told { (life : Life) (place : ℕ) (history locals entries journal reads stops : _) →
-        AreWorks life locals entries reads stops → IsHistory place history locals → IsByTicket entries journal →
-        (told : _) → IsRecordOf place locals journal reads stops told → length locals ≡ life.clients →
+    ensures works { (life : Life) (place : ℕ) (history locals entries journal reads stops fulls : _) →
+        AreWorks life locals entries reads stops fulls → IsHistory place history locals → IsByTicket entries journal →
+        AreWorks life locals journal reads stops fulls }
+    ensures told { (life : Life) (place : ℕ) (history locals entries journal reads stops fulls : _) →
+        AreWorks life locals entries reads stops fulls → IsHistory place history locals → IsByTicket entries journal →
+        All (λ line. is_stopped line.note.holder stops ≡ true) fulls →
+        (told : _) → IsRecordOf place locals journal reads stops fulls told → length locals ≡ life.clients →
         ((client : ℕ) (l : _) → slice_get locals client ≡ Some l → l.limit ≡ limit_in client life.cuts) →
         IsTold life place history locals told }
 {}
 
-/// Clients whose lines a history tells, none of whom gave up, have ended: each command is answered once, in order, up to a stop at
-/// the client's limit.
+/// Clients whose lines a history tells have ended: each command is answered once, in order, up to a stop at the client's limit or to
+/// one in which the client gave up, since a client that was stopped kept its cells.
 pub fn told_lives_have_ended()
-    ensures { (life : Life) (place : ℕ) (history locals told : _) → AreWorks life locals told.journal told.reads told.stops →
-        IsTold life place history locals told → told.fulls ≡ [] → IsEnded life told }
+    ensures { (life : Life) (place : ℕ) (history locals told : _) →
+        AreWorks life locals told.journal told.reads told.stops told.fulls →
+        IsTold life place history locals told → IsEnded life told }
 {}
 
 /// What a closed table tells of a record, and what its clients came to, stays when stop lines get their kept flags and the

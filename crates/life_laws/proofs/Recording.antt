@@ -29,7 +29,7 @@ use Rattle.doc_model.specs.declared.operations.Op.{Op}
 use Rattle.doc_model.specs.declared.operations.Reply.{Reply}
 use Rattle.doc_store.specs.ExactStep.{IsImage, is_op_in, op_in, reads_in, store_step}
 use Rattle.doc_store.specs.OpsRead.{op_is_read}
-use Rattle.journals.specs.Works.{HasWords, IsLineOf, IsLineReply, IsReadLine, IsWork, by_entry, by_read, stop_of, stops_in}
+use Rattle.journals.specs.Works.{HasWords, IsLineOf, IsLineReply, IsReadLine, IsWork, by_entry, by_read, full_of, stop_of, stops_in}
 use Rattle.life_laws.specs.Meanings.{AreLinesOf, MeanStores, store_instance}
 use Rattle.life_laws.specs.Recorded.{IsRecorded}
 use Rattle.life_laws.specs.Replies.{IsReplyValue}
@@ -137,7 +137,7 @@ module _ (lines callers : ℕ) (base : Base) (s : State) (store : Store) (life :
   replies i line at = reply_by i line line.reply at refl
 
   -- the work of a client, and the local state behind it
-  pub work_of : (client : ℕ) (seat : Seat client) → IsWork life client (shown seat.local) (filter (by_entry client) told.journal) (filter (by_read client) told.reads) (stop_of client is.stops)
+  pub work_of : (client : ℕ) (seat : Seat client) → IsWork life client (shown seat.local) (filter (by_entry client) told.journal) (filter (by_read client) told.reads) (stop_of client is.stops) (full_of client told.fulls)
   work_of client seat = is.works.each client (shown seat.local) seat.shows
 
   -- the own entry behind a line

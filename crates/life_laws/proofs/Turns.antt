@@ -13,7 +13,7 @@ use Rattle.cx_core.specs.declared.local.Linked.{Linked}
 use Rattle.core_answers.proofs.OwnLaws.{own_rises}
 use Rattle.doc_model.specs.declared.operations.Reply.{Reply}
 use Rattle.doc_store.specs.ExactStep.{IsImage}
-use Rattle.journals.specs.Works.{IsEntryBefore, IsSeenBefore, IsWork, StandsBetween, by_entry, by_read, stop_of}
+use Rattle.journals.specs.Works.{IsEntryBefore, IsSeenBefore, IsWork, StandsBetween, by_entry, by_read, full_of, stop_of}
 use Rattle.life_laws.specs.Meanings.{store_instance}
 use Rattle.life_laws.specs.Recorded.{IsRecorded}
 use Rattle.life_laws.proofs.Lists.{contained_in, filter_map_item, map_item, pair_items, some_made, zip_items}
@@ -36,7 +36,7 @@ module _ (lines callers : ℕ) (base : Base) (s : State) (store : Store) (life :
   ReadOf = Read lines callers base s store life told base_law law is
 
   module _ (client : ℕ) (seat : SeatOf client) where
-    abbrev work : IsWork life client (shown seat.local) (filter (by_entry client) told.journal) (filter (by_read client) told.reads) (stop_of client is.stops)
+    abbrev work : IsWork life client (shown seat.local) (filter (by_entry client) told.journal) (filter (by_read client) told.reads) (stop_of client is.stops) (full_of client told.fulls)
     work = work_of lines callers base s store life told base_law law is client seat
 
     -- two entries

@@ -30,7 +30,7 @@ pub record IsRecorded (instance : Instance) (s : State) (history : List Entry) (
   pub locals : List Local
   pub seats : map shown s.locals ≡ locals
   pub stops : List StopLine
-  pub works : AreWorks life locals told.journal told.reads stops
+  pub works : AreWorks life locals told.journal told.reads stops told.fulls
   pub is_told : IsTold life instance.base.place history locals told
   pub stands : StandsFor (object_part instance.base.words) 1 store
   pub limits : IsLifeInLimits life
