@@ -1,14 +1,13 @@
 -- What is added to a script, line by line.
-use Rattle.std.proofs.Common.{◌≡◌, ℕ, zero, suc, ◌+◌, ◌-◌, ◌<◌, List, [], ◌∷◌, ◌++◌, length, take, drop, Option, Some, None, Result, Ok, Err, refl, sym, ap, ◌∙◌, arith, inl, inr, true}
+use Rattle.std.proofs.Common.{◌≡◌, ℕ, zero, suc, ◌+◌, ◌-◌, ◌<◌, List, [], ◌∷◌, ◌++◌, length, take, drop, Option, Some, None, Result, Ok, Err, refl, sym, ap, ◌∙◌, arith, inl, inr}
 use Rattle.std.specs.Prelude.{option_and_then, slice_get}
 use Rattle.std.specs.Result.{result_ok}
 use Rattle.std.proofs.lemmas.Bool.{cases_Bool}
 use Rattle.std.proofs.lemmas.List.{append-nil, take-append-drop}
-use Rattle.doc_text.specs.Grammar.{is_passed_over, is_built, with_said, Adds, AddsAll, no_script, text_lines, AreLinesOf, IsScript, IsFirstFault}
+use Rattle.doc_text.specs.Grammar.{is_passed_over, with_said, Adds, AddsAll, no_script, text_lines, AreLinesOf, IsScript, IsFirstFault}
 use Rattle.doc_text.specs.Reading.{line_of, with_parsed, judged, with_line, with_lines}
 use Rattle.doc_text.specs.Refusal.{IsReason, IsReasonAt, IsFault, IsOkOr}
 use Rattle.doc_text.specs.declared.script_parts.Reason.{Reason}
-use Rattle.doc_text.specs.declared.script_parts.Reason.TheVariants as reasons
 use Rattle.life_records.specs.declared.script.Script.{Script}
 use Rattle.doc_text.specs.declared.script_parts.ScriptLine.{ScriptLine}
 use Rattle.doc_text.specs.declared.script_parts.TextFault.{TextFault}
@@ -20,16 +19,11 @@ use Rattle.doc_text.proofs.RefusalReasons.{why}
 -- ---- one line more
 
 read_some : (before : Script) (r : Result ScriptLine Reason) (after : Script) → result_ok (with_parsed before r) ≡ Some after
-    → (says : ScriptLine) × (r ≡ Ok says) × (is_built before says ≡ true) × (after ≡ with_said before says)
+    → (says : ScriptLine) × (r ≡ Ok says) × (after ≡ with_said before says)
 read_some before (Err reason) after e = absurd cc
 read_some before (Ok says) after e =
-    elim (cases_Bool (is_built before says)) [
-      | inl built ↦
-          let h : Some (with_said before says) ≡ Some after = rw built at e in
-          let same : with_said before says ≡ after = cc in
-          (says, refl, built, sym same)
-      | inr not_built ↦ let h : None ≡ Some after = rw not_built at e in absurd cc
-    ]
+    let same : with_said before says ≡ after = cc in
+    (says, refl, sym same)
 
 pub Adds-from : (before : Script) (line : List ℕ) (after : Script) → with_line before line ≡ Some after → Adds before line after
 unfolding judged
@@ -42,32 +36,24 @@ Adds-from before line after e =
       | inr said ↦
           let read : result_ok (with_parsed before (line_of before line)) ≡ Some after = rw said at e in
           let says = read_some before (line_of before line) after read in
-          inr (says.0, accepted before line says.0 says.1, says.2, says.3)
+          inr (says.0, accepted before line says.0 says.1, says.2)
     ]
 
 pub with_line-from : (before : Script) (line : List ℕ) (after : Script) → Adds before line after → with_line before line ≡ Some after
 unfolding judged
 with_line-from before line after (inl (passed, same)) = rw (passed, same) refl
-with_line-from before line after (inr (says, is, built, same)) =
-    rw (not_passed line says is.says_it, read_again before line says is, built, same) refl
+with_line-from before line after (inr (says, is, same)) =
+    rw (not_passed line says is.says_it, read_again before line says is, same) refl
 
 -- why a line is refused
 refused_read : (before : Script) (line : List ℕ) (r : Result ScriptLine Reason) (reason : Reason) → line_of before line ≡ r
     → with_parsed before r ≡ Err reason → IsReason before line reason
 refused_read before line (Err found) reason read e =
-    let same : found ≡ reason = cc in
-    inr (
+    let same : found ≡ reason = cc in (
       (λ says is. let both : Ok says ≡ Err found = sym (read_again before line says is) ∙ read in absurd cc),
       why before line reason (read ∙ ap Err same),
     )
-refused_read before line (Ok says) reason read e =
-    elim (cases_Bool (is_built before says)) [
-      | inl built ↦ let h : Ok (with_said before says) ≡ Err reason = rw built at e in absurd cc
-      | inr not_built ↦
-          let h : Err reasons.Form ≡ Err reason = rw not_built at e in
-          let same : reasons.Form ≡ reason = cc in
-          inl (sym same, (says, accepted before line says read, not_built))
-    ]
+refused_read before line (Ok says) reason read e = absurd cc
 
 pub refused_for : (before : Script) (line : List ℕ) (reason : Reason) → judged before line ≡ Err reason → IsReason before line reason
 unfolding judged

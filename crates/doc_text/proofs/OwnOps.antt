@@ -1,13 +1,11 @@
 -- The operations of each client among commands, one command after another.
-use Rattle.std.proofs.Common.{◌≡◌, ◌≢◌, ℕ, zero, suc, ◌+◌, ◌<◌, ◌≤◌, ◌==◌, List, [], ◌∷◌, ◌++◌, length, get_or, set, map, filter, slice_get, Option, None, Some, sym, ap, ◌∙◌, refl, inl, inr, ◌⊎◌, ⊎_elim, arith, take, ◌-◌, eqb, subst}
+use Rattle.std.proofs.Common.{◌≡◌, ◌≢◌, ℕ, zero, suc, ◌+◌, ◌<◌, ◌≤◌, ◌==◌, List, [], ◌∷◌, ◌++◌, length, get_or, set, map, filter, slice_get, Option, None, Some, sym, ap, ◌∙◌, refl, inl, inr, ◌⊎◌, ⊎_elim, arith, take, ◌-◌}
 use Rattle.std.specs.Option.{option_map, option_copied, IfSome, MatchOption}
-use Rattle.std.specs.List.{HoldsAt, count_by}
+use Rattle.std.specs.List.{HoldsAt}
 use Rattle.std.specs.Global.{Vec}
 use Rattle.std.specs.Borrow.{Bor}
-use Rattle.std.proofs.lemmas.Bool.{cases_Bool, eqb-true, eq-eqb, true≢false}
-use Rattle.std.proofs.lemmas.List.{map-append, append-nil, take_more, length-append, length-map}
+use Rattle.std.proofs.lemmas.List.{map-append, append-nil, take_more}
 use Rattle.std.proofs.lemmas.List.Elements.{filter-append}
-use Rattle.std.proofs.lemmas.List.Sums.{length-filter}
 use Rattle.std.proofs.lemmas.Option.{slice_get_within, slice_get_past, slice_get_read, slice_get-map}
 use Rattle.doc_model.specs.declared.operations.Op.{Op}
 use Rattle.life_records.specs.declared.script.Command.{Command}
@@ -47,26 +45,6 @@ own_ops-push_own : (commands : List Command) (command : Command)
     → own_ops command.client (commands ++ command ∷ []) ≡ own_ops command.client commands ++ command.op ∷ []
 own_ops-push_own commands command =
     own_ops-push command.client commands command ∙ ap (λ ops. own_ops command.client commands ++ ops) (own_ops_own command.client command refl)
-
--- how many there are
-pub own_ops_counted : (client : ℕ) (commands : List Command) → length (own_ops client commands) ≡ count_by (λ c. c.client == client) commands
-own_ops_counted client commands =
-    length-map (filter (λ c. c.client == client) commands) (λ (c : Command). c.op) ∙ length-filter (λ (c : Command). c.client == client) commands
-
--- with one more of a client that has fewer than 16, none has more than 16
-pub few_with_one_more : (commands : List Command) (command : Command) → length (own_ops command.client commands) < 16
-    → ((client : ℕ) → length (own_ops client commands) ≤ 16) → (client : ℕ) → length (own_ops client (commands ++ command ∷ [])) ≤ 16
-few_with_one_more commands command room few client =
-    elim (cases_Bool (eqb command.client client)) [
-      | inl hit ↦
-          let own : command.client ≡ client = eqb-true command.client client hit in
-          let longer : length (own_ops command.client (commands ++ command ∷ [])) ≡ length (own_ops command.client commands) + 1 =
-          ap (length {A = Op}) (own_ops-push_own commands command) ∙ length-append (own_ops command.client commands) (command.op ∷ []) in
-          subst (λ (n : ℕ). length (own_ops n (commands ++ command ∷ [])) ≤ 16) own (omega (arith, longer, room))
-      | inr miss ↦
-          let other : command.client ≢ client = λ same. true≢false (sym (eq-eqb command.client client same) ∙ miss) in
-          subst (λ (ops : List Op). length ops ≤ 16) (sym (own_ops-push_other client commands command other)) (few client)
-    ]
 
 -- one more command, with its operation at the end of its client's list
 pub AreOwnOps-more : (commands : List Command) (command : Command) (lists : List (Vec (Bor Op))) (before after : Vec (Bor Op))

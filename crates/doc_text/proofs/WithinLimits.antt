@@ -1,24 +1,23 @@
 -- Each script keeps the limits.
-use Rattle.std.proofs.Common.{◌≡◌, refl, sym, subst, ◌∙◌, ◌⊎◌, inl, inr, ℕ, ◌+◌, ◌<◌, ◌≤◌, ◌^◌, true, false, ◌==◌, List, [], ◌∷◌, ◌++◌, length, get_or, arith, Some}
+use Rattle.std.proofs.Common.{◌≡◌, refl, sym, subst, ◌∙◌, ◌⊎◌, inl, inr, ℕ, ◌+◌, ◌<◌, ◌≤◌, ◌^◌, false, ◌==◌, List, [], ◌∷◌, ◌++◌, length, get_or, arith, Some}
 use Rattle.std.specs.Prelude.{All, AllPairs}
-use Rattle.std.proofs.lemmas.Bool.{eq-eqb, ltb-true, true≢false}
+use Rattle.std.proofs.lemmas.Bool.{eq-eqb, true≢false}
 use Rattle.std.proofs.lemmas.List.{length-append}
 use Rattle.std.proofs.lemmas.List.Elements.{All-nil, All-push}
 use Rattle.std.proofs.lemmas.List.Folds.{list_any_at}
 use Rattle.std.proofs.lemmas.List.Quantifiers.{all_pairs_push}
 use Rattle.doc_model.specs.Meaning.{IsOp}
 use Rattle.life_records.specs.Limits.{IsCutOf, AreOfTwo, KeepsLimits}
-use Rattle.life_records.specs.Scripts.{command_count, has_cut, own_ops}
+use Rattle.life_records.specs.Scripts.{command_count, has_cut}
 use Rattle.life_records.specs.declared.script.Command.{Command}
 use Rattle.life_records.specs.declared.script.Cut.{Cut}
 use Rattle.life_records.specs.declared.script.Life.{Life}
 use Rattle.life_records.specs.declared.script.Script.{Script}
 use Rattle.doc_text.specs.declared.script_parts.ScriptLine.{ScriptLine}
 use Rattle.doc_text.specs.declared.script_parts.ScriptLine.TheVariants as forms
-use Rattle.doc_text.specs.Grammar.{Says, MayStand, is_built, has_few, last_life, with_command, with_cut, with_said, Adds, AddsAll, no_script, text_lines, IsScript}
-use Rattle.doc_text.specs.Limits.{AsksWithinLimits, AskWithinLimits, AreFew, IsBuilt}
+use Rattle.doc_text.specs.Grammar.{Says, MayStand, last_life, with_command, with_cut, with_said, Adds, AddsAll, no_script, text_lines, IsScript}
+use Rattle.doc_text.specs.Limits.{AsksWithinLimits, AskWithinLimits}
 use Rattle.doc_text.proofs.LastLives.{All-with_last, length-with_last, command_count-with_command, command_count-with_cut, command_count-begun}
-use Rattle.doc_text.proofs.OwnOps.{few_with_one_more}
 
 -- a life within its limits, but for what its commands ask for
 record IsFit (life : Life) : Type 0 where
@@ -137,7 +136,7 @@ said-within script line (forms.Command command) within says (some, (life, last, 
 
 line-within : (script : Script) (line : List ℕ) (after : Script) → IsWithin script → Adds script line after → IsWithin after
 line-within script line after within (inl (passed, same)) = subst IsWithin (sym same) within
-line-within script line after within (inr (says, is, built, same)) = subst IsWithin (sym same) (said-within script line says within is.says_it is.stands)
+line-within script line after within (inr (says, is, same)) = subst IsWithin (sym same) (said-within script line says within is.says_it is.stands)
 
 lines-within : (lines : List (List ℕ)) (script after : Script) → IsWithin script → AddsAll script lines after → IsWithin after
 lines-within [] script after within adds = subst IsWithin (sym adds) within
@@ -178,38 +177,3 @@ said_asks script (forms.Cut cut) asks ops =
 said_asks script (forms.Command command) asks ops =
     All-with_last (λ (life : Life). All (λ c. IsOp c.op) life.commands) (with_command command) script.lives
     (λ life last known. All-push (λ (c : Command). IsOp c.op) life.commands command known asks) ops
-
--- ---- the forms that are read today
-
--- a life begins without commands
-life-built : (script : Script) (clients choice : ℕ) → IsBuilt script → IsBuilt (with_said script (forms.Life clients choice))
-life-built script clients choice built =
-    let begun : Life = record { clients = clients; choice = choice; cuts = []; commands = [] } in
-    record { few = All-push AreFew script.lives begun built.few (λ client. omega arith) }
-
--- a command comes where its client has fewer than 16
-command-built : (script : Script) (command : Command) → IsBuilt script → is_built script (forms.Command command) ≡ true
-    → IsBuilt (with_said script (forms.Command command))
-command-built script command built is = record {
-  few = All-with_last AreFew (with_command command) script.lives (λ life last few.
-      let room : has_few command.client life ≡ true = rw last at is in
-      few_with_one_more life.commands command (ltb-true (length (own_ops command.client life.commands)) 16 room) few) built.few;
-}
-
-said-built : (script : Script) (says : ScriptLine) → IsBuilt script → is_built script says ≡ true → IsBuilt (with_said script says)
-said-built script (forms.Lines lines) built is = record { few = built.few }
-said-built script (forms.Life clients choice) built is = life-built script clients choice built
-said-built script (forms.Cut cut) built is = record { few = All-with_last AreFew (with_cut cut) script.lives (λ life last few. few) built.few }
-said-built script (forms.Command command) built is = command-built script command built is
-
-lines-built : (lines : List (List ℕ)) (script after : Script) → IsBuilt script → AddsAll script lines after → IsBuilt after
-lines-built [] script after built adds = subst IsBuilt (sym adds) built
-lines-built (line ∷ lines) script after built (between, inl (passed, same), more) = lines-built lines between after (subst IsBuilt (sym same) built) more
-lines-built (line ∷ lines) script after built (between, inr (says, is, form, same), more) =
-    lines-built lines between after (subst IsBuilt (sym same) (said-built script says built form)) more
-
-pub built-script : (text : List ℕ) (script : Script) → IsScript text script → IsBuilt script
-built-script text script is =
-    lines-built (text_lines text) no_script script (record {
-      few = All-nil AreFew;
-    }) is

@@ -1,13 +1,12 @@
 -- What a script is: the lines of a text, what a line says, where it may stand, and what lines say together.
-use Rattle.std.specs.Prelude.{◌≡◌, ◌⊎◌, ◌-◌, ◌^◌, ◌<◌, ◌≤◌, ℕ, Bool, true, false, ◌&&◌, ◌==◌, nat_lt, List, [], ◌∷◌, ◌++◌, length, take, codes, Option, None, Some, if◌then◌else◌}
-use Rattle.std.specs.Option.{option_map_or}
+use Rattle.std.specs.Prelude.{◌≡◌, ◌⊎◌, ◌-◌, ◌^◌, ◌<◌, ◌≤◌, ℕ, Bool, true, false, ◌&&◌, ◌==◌, List, [], ◌∷◌, ◌++◌, length, take, codes, Option, None, Some, if◌then◌else◌}
 use Rattle.std.specs.Fmt.{decimal, signed_decimal}
 use Rattle.std.specs.Str.{is_utf8}
 use Rattle.cx_base.specs.Store.{IsKey}
 use Rattle.doc_model.specs.Number.{is_i64}
 use Rattle.doc_model.specs.declared.operations.Op.{Op}
 use Rattle.doc_model.specs.declared.operations.Op.TheVariants.{Put, Del, Add, Get, Next, Count}
-use Rattle.life_records.specs.Scripts.{command_count, has_cut, own_ops}
+use Rattle.life_records.specs.Scripts.{command_count, has_cut}
 use Rattle.doc_text.specs.Document.{IsJsonOf}
 use Rattle.life_records.specs.declared.script.Command.{Command}
 use Rattle.life_records.specs.declared.script.Cut.{Cut}
@@ -93,17 +92,6 @@ pub record IsAccepted (before : Script) (line : List ℕ) (says : ScriptLine) : 
   pub says_it : Says says line
   pub stands : MayStand before says
 
--- whether a client has fewer than 16 commands in the life
-abbrev pub has_few : ℕ → Life → Bool
-has_few client life = nat_lt (length (own_ops client life.commands)) 16
-
--- The forms that are read today: all but a client's 17th command of a life.
-abbrev pub is_built : Script → ScriptLine → Bool
-is_built script (forms.Lines lines) = true
-is_built script (forms.Life clients choice) = true
-is_built script (forms.Cut cut) = true
-is_built script (forms.Command command) = option_map_or (has_few command.client) (last_life script.lives) true
-
 -- the lives with a change to the last
 abbrev pub with_last : (Life → Life) → List Life → List Life
 with_last change [] = []
@@ -128,7 +116,7 @@ with_said script (forms.Command command) = record script { lives = with_last (wi
 abbrev pub Adds : Script → List ℕ → Script → Type 0
 Adds before line after =
     ((is_passed_over line ≡ true) × (after ≡ before))
-    ⊎ ((says : ScriptLine) × IsAccepted before line says × (is_built before says ≡ true) × (after ≡ with_said before says))
+    ⊎ ((says : ScriptLine) × IsAccepted before line says × (after ≡ with_said before says))
 
 -- the script after more lines
 abbrev pub AddsAll : Script → List (List ℕ) → Script → Type 0

@@ -1,8 +1,6 @@
 -- The limits that each script that is read keeps, beside those of all scripts.
-use Rattle.std.specs.Prelude.{◌≤◌, ℕ, length, All}
+use Rattle.std.specs.Prelude.{All}
 use Rattle.doc_model.specs.Meaning.{IsOp}
-use Rattle.life_records.specs.Scripts.{own_ops}
-use Rattle.life_records.specs.declared.script.Life.{Life}
 use Rattle.life_records.specs.declared.script.Script.{Script}
 use Rattle.doc_text.specs.declared.script_parts.ScriptLine.{ScriptLine}
 use Rattle.doc_text.specs.declared.script_parts.ScriptLine.TheVariants as forms
@@ -17,11 +15,3 @@ AsksWithinLimits (forms.Command command) = IsOp command.op
 -- the same of all operations
 abbrev pub AskWithinLimits : Script → Type 0
 AskWithinLimits script = All (λ life. All (λ c. IsOp c.op) life.commands) script.lives
-
--- no client has more than 16 commands
-abbrev pub AreFew : Life → Type 0
-AreFew life = (client : ℕ) → length (own_ops client life.commands) ≤ 16
-
--- what the forms that are read today make: 16 commands a client of a life at the most
-pub record IsBuilt (script : Script) : Type 0 where
-  pub few : All AreFew script.lives

@@ -9,7 +9,7 @@ use Rattle.doc_model.specs.WordParts.{is_key}
 use Rattle.doc_model.specs.declared.operations.Op.{Op}
 use Rattle.doc_model.specs.declared.operations.Op.TheVariants.{Put, Del, Add, Get, Next, Count}
 use Rattle.doc_text.specs.Document.{document_of}
-use Rattle.doc_text.specs.Grammar.{Life, Script, is_passed_over, last_life, is_built, with_said}
+use Rattle.doc_text.specs.Grammar.{Life, Script, is_passed_over, last_life, with_said}
 use Rattle.life_records.specs.Scripts.{command_count, has_cut}
 use Rattle.doc_text.specs.Words.{first_word, rest_of, is_word}
 use Rattle.life_records.specs.declared.script.Cut.{Cut}
@@ -169,9 +169,9 @@ line_of before line =
     then (if before.lines == 0 then ok_or (option_map forms.Lines (header_of line)) reasons.Header else said_below before.lives line)
     else Err reasons.Utf8
 
--- the script with what was said, where its form is read
+-- the script with what was said
 abbrev pub with_parsed : Script → Result ScriptLine Reason → Result Script Reason
-with_parsed before (Ok says) = if is_built before says then Ok (with_said before says) else Err reasons.Form
+with_parsed before (Ok says) = Ok (with_said before says)
 with_parsed before (Err reason) = Err reason
 
 -- the script after one more line, or why the line is refused

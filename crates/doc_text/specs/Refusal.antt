@@ -1,12 +1,12 @@
 -- Why a line is refused: the first reason of a table that fits.
-use Rattle.std.specs.Prelude.{◌≡◌, ◌⊎◌, ◌-◌, ℕ, Bool, true, false, not, ◌&&◌, ◌==◌, nat_le, nat_lt, List, [], ◌∷◌, length, take, codes, slice_get, Option, None, Some, is_some, option_and_then, Result, Ok, Err, if◌then◌else◌}
+use Rattle.std.specs.Prelude.{◌≡◌, ◌-◌, ℕ, Bool, true, false, not, ◌&&◌, ◌==◌, nat_le, nat_lt, List, [], ◌∷◌, length, take, codes, slice_get, Option, None, Some, is_some, option_and_then, Result, Ok, Err, if◌then◌else◌}
 use Rattle.std.specs.Option.{option_map_or}
 use Rattle.std.specs.Str.{is_utf8}
 use Rattle.serde_json.specs.Read.{read as read_json}
 use Rattle.serde_json.specs.Written.{has_float, compact_text}
 use Rattle.doc_model.specs.Number.{integer_of}
 use Rattle.doc_model.specs.WordParts.{is_key}
-use Rattle.doc_text.specs.Grammar.{Script, Life, last_life, AreLinesOf, IsAccepted, is_built, IsFirstFault, text_lines}
+use Rattle.doc_text.specs.Grammar.{Script, Life, last_life, AreLinesOf, IsAccepted, IsFirstFault, text_lines}
 use Rattle.life_records.specs.Scripts.{command_count}
 use Rattle.doc_text.specs.Reading.{verb_of, header_of, life_of, cut_of, client_of}
 use Rattle.doc_text.specs.Words.{first_word, rest_of, is_word}
@@ -102,12 +102,9 @@ reasons_for script line =
     ∷ (nat_le 100000 (command_count script.lives), reasons.Commands)
     ∷ command_rows (rest_of line)
 
--- Why a line is refused: the whole grammar takes it, and its form is not read yet; or no line of the grammar is spelled
--- so and may stand here, and the reason is the first that fits.
+-- Why a line is refused: no line of the grammar is spelled so and may stand here, and the reason is the first that fits.
 abbrev pub IsReason : Script → List ℕ → Reason → Type 0
-IsReason before line reason =
-    ((reason ≡ reasons.Form) × ((says : ScriptLine) × IsAccepted before line says × (is_built before says ≡ false)))
-    ⊎ (((says : ScriptLine) → IsAccepted before line says → ⊥) × (first_that_fits (reasons_for before line) ≡ Some reason))
+IsReason before line reason = ((says : ScriptLine) → IsAccepted before line says → ⊥) × (first_that_fits (reasons_for before line) ≡ Some reason)
 
 -- why the line, counted from 1, may not stand behind those before it
 pub record IsReasonAt (text : List ℕ) (line : ℕ) (reason : Reason) : Type 0 where

@@ -1,11 +1,11 @@
 //! Scripts read from their text.
 
-ghost use Rattle.std.specs.Prelude.{◌≡◌, ◌==◌, ◌<◌, ◌∷◌, count_by, None, Some, Ok, Err, true, IfOk, IfErr, IfSome, OnOk, IsUtf8, IsTrue, length, option_and_then};
+ghost use Rattle.std.specs.Prelude.{◌≡◌, ◌<◌, ◌∷◌, None, Some, Ok, Err, true, IfOk, IfErr, IfSome, OnOk, IsUtf8, IsTrue, length, option_and_then};
 ghost use Rattle.std.specs.Option.{option_copied};
 ghost use Rattle.std.specs.Str.{is_utf8};
 ghost use Rattle.life_records.specs.Limits.{KeepsLimits};
-ghost use Rattle.doc_text.specs.Grammar.{Script, IsScript, MayStand, text_lines, last_life, has_few, is_built, with_said, no_script};
-ghost use Rattle.doc_text.specs.Limits.{AsksWithinLimits, AskWithinLimits, IsBuilt};
+ghost use Rattle.doc_text.specs.Grammar.{Script, IsScript, MayStand, text_lines, last_life, with_said, no_script};
+ghost use Rattle.doc_text.specs.Limits.{AsksWithinLimits, AskWithinLimits};
 ghost use Rattle.doc_text.specs.Reading.{without_return, said_by, cut_of, line_of, begun, said_below, judged, with_lines, outcome};
 ghost use Rattle.doc_text.specs.Refusal.{IsFault, IsOkOr};
 
@@ -23,9 +23,6 @@ const MAX_LIVES: usize = 1_000;
 /// The most commands of a script.
 const MAX_COMMANDS: usize = 100_000;
 
-/// The most commands of a client in a life that are read today.
-const MAX_OWN: usize = 16;
-
 /// Reads a script. It is Ok exactly for the texts of scripts, unless memory is wanting. Other texts are refused by
 /// the first line with which the lines so far are no script.
 pub fn read_script(alloc: Global, bytes: &[u8]) -> Result<Script, TextFault>
@@ -34,7 +31,6 @@ pub fn read_script(alloc: Global, bytes: &[u8]) -> Result<Script, TextFault>
     // What is a script is read.
     ensures only { (script : Script) → IsScript bytes.now script → IsOkOr script result }
     ensures limits { IfOk result KeepsLimits }
-    ensures built { IfOk result IsBuilt }
     // The line refused is the first with which the lines so far are no script.
     ensures refused { IfErr result (IsFault bytes.now) }
 {
@@ -122,9 +118,6 @@ impl Draft {
             Ok(says) => says,
             Err(reason) => return Ok(Some(reason)),
         };
-        if !self.is_built(&says) {
-            return Ok(Some(Reason::Form));
-        }
         self.add(alloc, says)?;
         Ok(None)
     }
@@ -177,19 +170,6 @@ impl Draft {
         ensures { option_copied result ≡ last_life self.now.lives }
     {
         self.lives.last()
-    }
-
-    /// Whether the form of a line is read already: all but a client's 17th command of a life.
-    fn is_built(&self, says: &ScriptLine) -> bool
-        ensures { result ≡ is_built self.now says.now }
-    {
-        match says {
-            ScriptLine::Lines(_) | ScriptLine::Life { .. } | ScriptLine::Cut(_) => true,
-            ScriptLine::Command(command) => match self.last_life() {
-                Some(life) => has_few(command.client, life),
-                None => true,
-            },
-        }
     }
 
     /// Adds what a line says that may stand here. `Err` is want of memory.
@@ -264,24 +244,6 @@ fn begun(count: usize, life: Option<ScriptLine>) -> Result<ScriptLine, Reason>
         Some(_) if count >= MAX_LIVES => Err(Reason::Lives),
         Some(says) => Ok(says),
     }
-}
-
-/// Whether a client has fewer commands in the life than may be today.
-#[tactic(auto, using(crate::proofs::OwnOps::own_ops_counted))]
-fn has_few(client: u32, life: &Life) -> bool
-    ensures { result ≡ has_few client life.now }
-{
-    own_count(client, life.commands.as_slice()) < MAX_OWN
-}
-
-/// The number of a client's commands.
-fn own_count(client: u32, commands: &[Command]) -> usize
-    ensures { result ≡ count_by (λ c. c.client == client) commands.now }
-{
-    commands
-        .iter()
-        .filter(|command| command.client == client)
-        .count()
 }
 
 /// What a line says that stands in a life and begins none, by its first word and the rest. So many commands stand before it.

@@ -49,8 +49,6 @@ pub enum Reason {
     Fraction,
     /// The document has more than 1,024 bytes.
     Long,
-    /// The line is of a form that is not read yet.
-    Form,
 }
 
 impl Reason {
@@ -74,7 +72,6 @@ impl Reason {
             Reason::Json => "json",
             Reason::Fraction => "fraction",
             Reason::Long => "long",
-            Reason::Form => "form",
         }
     }
 }

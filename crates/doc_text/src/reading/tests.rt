@@ -319,19 +319,20 @@ fn lives_and_cuts_are_read(rt: HostRuntime) -> Result<(), Fail> {
 }
 
 #[test]
-fn as_many_commands_of_a_client_as_may_be(rt: HostRuntime) -> Result<(), Fail> {
+fn a_client_may_have_any_number_of_commands(rt: HostRuntime) -> Result<(), Fail> {
     let text = spread(
         rt.alloc(),
         b"lines 64\nlife 2 power 0\n|0 get a\n1 count\n|",
-        16,
+        64,
     )?;
-    let rows: [(Outcome, &[u8]); 5] = [
-        (Outcome::Script(64, 1, 32), b""),
-        (Outcome::Refused(35, Reason::Form), b"0 get a\n|1 next\n"),
-        (Outcome::Refused(35, Reason::Command), b"0 push\n"),
-        (Outcome::Refused(35, Reason::Client), b"2 get a\n"),
-        // they are counted anew in each life
-        (Outcome::Script(64, 2, 33), b"life 1 power 0\n0 get a\n"),
+    let rows: [(Outcome, &[u8]); 4] = [
+        (Outcome::Script(64, 1, 128), b""),
+        (
+            Outcome::Script(64, 2, 130),
+            b"0 get a\nlife 1 power 0\n0 count\n",
+        ),
+        (Outcome::Refused(131, Reason::Command), b"0 push\n"),
+        (Outcome::Refused(131, Reason::Client), b"2 get a\n"),
     ];
     check(&rt, rt.alloc(), &text, &rows)
 }

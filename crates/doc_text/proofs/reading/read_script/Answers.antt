@@ -2,7 +2,7 @@ use Rattle.std.proofs.lemmas.Result.{err_from_is_err_and}
 use Rattle.std.proofs.Common.{◌∙◌, sym, ap, subst, Some}
 use Rattle.doc_text.specs.Grammar.{IsScript, no_script, text_lines}
 use Rattle.doc_text.specs.Limits.{AskWithinLimits}
-use Rattle.doc_text.proofs.WithinLimits.{limits-script, built-script}
+use Rattle.doc_text.proofs.WithinLimits.{limits-script}
 use Rattle.doc_text.proofs.Adding.{AddsAll-from, only_script, refused_only}
 use Rattle.doc_text.proofs.reading.read_script.Goals as goal
 
@@ -22,8 +22,3 @@ returns-clause-limits c =
     let is : IsScript c.args.bytes.now c.finish.result =
     AddsAll-from no_script (text_lines c.args.bytes.now) c.finish.result (c.in_ok-read_lines.ensures.script ∙ ap Some (sym c.finish.ensures)) in
     limits-script c.args.bytes.now c.finish.result is (subst AskWithinLimits (sym c.finish.ensures) c.in_ok-read_lines.ensures.limits)
-
-pub returns-clause-built : goal.returns-clause-built
-returns-clause-built c =
-    built-script c.args.bytes.now c.finish.result
-    (AddsAll-from no_script (text_lines c.args.bytes.now) c.finish.result (c.in_ok-read_lines.ensures.script ∙ ap Some (sym c.finish.ensures)))
