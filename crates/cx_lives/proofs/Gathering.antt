@@ -17,15 +17,18 @@ use Rattle.cx_service.specs.declared.close.Handed.{Handed}
 use Rattle.cx_table.specs.Remains.{AreSeats, locals_of}
 use Rattle.journals.specs.Works.{AreWorks, IsWork}
 use Rattle.life_records.specs.declared.script.Life.{Life}
+use Rattle.life_records.specs.declared.record.FullLine.{FullLine}
 use Rattle.life_records.specs.declared.record.JournalLine.{JournalLine}
 use Rattle.life_records.specs.declared.record.ReadLine.{ReadLine}
 use Rattle.life_records.specs.declared.record.StopLine.{StopLine}
 use Rattle.cx_lives.specs.declared.desk.End.{End}
-use Rattle.cx_lives.specs.declared.desk.End.TheVariants.{Whole, Stopped, Never}
+use Rattle.cx_lives.specs.declared.desk.End.TheVariants.{Whole, Stopped, Full, Never}
 use Rattle.cx_lives.specs.declared.desk.Work.{Work}
 use Rattle.cx_lives.specs.declared.gather.Gathered.{Gathered}
-use Rattle.cx_lives.specs.Ends.{AreNumbered, AreWorksOf, CannotBe, IsEndOf, IsWorkOf}
-use Rattle.cx_lives.specs.Gathering.{AddsWork, AreGathered, HasNever, IsLocalIn, is_never, stop_in}
+use Rattle.cx_lives.specs.Ends.{CannotBe, IsEndOf, IsWorkOf, full_in, stop_in}
+use Rattle.cx_lives.specs.Works.{AreNumbered, AreWorksOf, ServedOf}
+use Rattle.cx_lives.specs.declared.work.Served.{Served}
+use Rattle.cx_lives.specs.Gathering.{AddsWork, AreGathered, HasNever, IsLocalIn, is_never}
 
 abbrev number : Seated → ℕ
 number s = s.known.local.number
@@ -55,20 +58,23 @@ module _ (life : Life) (ls : List Local) (l : Local) where
   never_now : CannotBe life (length ls) l → HasNever life (ls ++ l ∷ [])
   never_now is = record { client = length ls; local = l; of_client = slice_get-last ls l; is = is }
 
-  module _ (es es' : List JournalLine) (rs rs' : List ReadLine) (ss : List StopLine)
-      (go_on : (stop : Option StopLine) → AreWorks life ls es rs ss → IsWork life (length ls) l es' rs' stop → AreWorks life (ls ++ l ∷ []) (es ++ es') (rs ++ rs') (ss ++ option_to_list stop)) where
-    works_more : (b : Bool) (end_ : End) → MatchBool b (HasNever life ls) (AreWorks life ls es rs ss) → IsEndOf life (length ls) l es' rs' end_
-        → MatchBool (b || is_never end_) (HasNever life (ls ++ l ∷ [])) (AreWorks life (ls ++ l ∷ []) (es ++ es') (rs ++ rs') (ss ++ stop_in end_))
+  module _ (es es' : List JournalLine) (rs rs' : List ReadLine) (ss : List StopLine) (fs : List FullLine)
+      (go_on : (stop : Option StopLine) (full : Option FullLine) → AreWorks life ls es rs ss fs → IsWork life (length ls) l es' rs' stop full
+      → AreWorks life (ls ++ l ∷ []) (es ++ es') (rs ++ rs') (ss ++ option_to_list stop) (fs ++ option_to_list full)) where
+    works_more : (b : Bool) (end_ : End) → MatchBool b (HasNever life ls) (AreWorks life ls es rs ss fs) → IsEndOf life (length ls) l es' rs' end_
+        → MatchBool (b || is_never end_) (HasNever life (ls ++ l ∷ [])) (AreWorks life (ls ++ l ∷ []) (es ++ es') (rs ++ rs') (ss ++ stop_in end_) (fs ++ full_in end_))
     works_more true end_ w e = never_stays w
-    works_more false Whole w e = go_on None w e
-    works_more false (Stopped line) w e = go_on (Some line) w e
+    works_more false Whole w e = go_on None None w e
+    works_more false (Stopped line) w e = go_on (Some line) None w e
+    works_more false (Full line) w e = go_on None (Some line) w e
     works_more false Never w e = never_now e
 
 -- what the laws of lines say of one client more
 abbrev pub GoesOn : Life → Type 0
 GoesOn life =
-    (locals : List Local) (l : Local) (entries es : List JournalLine) (reads rs : List ReadLine) (stops : List StopLine) (stop : Option StopLine) → AreWorks life locals entries reads stops →
-    IsWork life (length locals) l es rs stop → AreWorks life (locals ++ l ∷ []) (entries ++ es) (reads ++ rs) (stops ++ option_to_list stop)
+    (locals : List Local) (l : Local) (entries es : List JournalLine) (reads rs : List ReadLine) (stops : List StopLine) (stop : Option StopLine) (fulls : List FullLine) (full : Option FullLine) →
+    AreWorks life locals entries reads stops fulls → IsWork life (length locals) l es rs stop full →
+    AreWorks life (locals ++ l ∷ []) (entries ++ es) (reads ++ rs) (stops ++ option_to_list stop) (fulls ++ option_to_list full)
 
 pub gathered_more : {O : Type 0} (life : Life) (r : Running O) (before after : Gathered) (work : Work) → GoesOn life → AreGathered life r before → AddsWork before after work → IsWorkOf life r (length before.handed.items) work
     → AreGathered life r after
@@ -85,8 +91,8 @@ gathered_more life r before after work go_on g adds w =
     let last : number s ≡ 0 + n = w.caller.by ∙ omega arith in
     let own : IsLocalIn life n l = record { limit = w.caller.limit; few = w.caller.few } in
     let at_long = subst (λ k. IsEndOf life k l work.entries.items work.reads.items work.end) (sym long) w.ends in
-    let more = works_more life ls l before.entries.items work.entries.items before.reads.items work.reads.items before.stops.items
-    (λ stop. go_on ls l before.entries.items work.entries.items before.reads.items work.reads.items before.stops.items stop) before.never work.end g.works at_long in
+    let more = works_more life ls l before.entries.items work.entries.items before.reads.items work.reads.items before.stops.items before.fulls.items
+    (λ stop full. go_on ls l before.entries.items work.entries.items before.reads.items work.reads.items before.stops.items stop before.fulls.items full) before.never work.end g.works at_long in
     record {
       of = rw seats (All-push (IsSeatOf r) (seats_of hs) s g.of w.caller.of);
       numbers = ap (map number) seats ∙ map-append number (seats_of hs) (s ∷ []) ∙ ap (λ ks. ks ++ number s ∷ []) g.numbers ∙ ap (λ k. range_with_len 0 n ++ k ∷ []) last ∙ sym (range_more 0 n) ∙ ap (range_with_len 0) (sym longer);
@@ -94,26 +100,26 @@ gathered_more life r before after work go_on g adds w =
         | inl there ↦ g.each i x there
         | inr new ↦ subst (IsLocalIn life i) new.1 (subst (λ k. IsLocalIn life k l) (sym (new.0 ∙ long)) own)
       ];
-      works = rw (locals, adds.entries, adds.reads, adds.stops, adds.never) more;
+      works = rw (locals, adds.entries, adds.reads, adds.stops, adds.fulls, adds.never) more;
     }
 
-pub gathered_none : {O : Type 0} (life : Life) (r : Running O) (g : Gathered) → AreWorks life [] [] [] [] → g.handed.items ≡ [] → g.entries.items ≡ [] → g.reads.items ≡ [] → g.stops.items ≡ [] → g.never ≡ false → AreGathered life r g
-gathered_none life r g begin handed entries reads stops never = record {
+pub gathered_none : {O : Type 0} (life : Life) (r : Running O) (g : Gathered) → AreWorks life [] [] [] [] [] → g.handed.items ≡ [] → g.entries.items ≡ [] → g.reads.items ≡ [] → g.stops.items ≡ [] → g.fulls.items ≡ [] → g.never ≡ false → AreGathered life r g
+gathered_none life r g begin handed entries reads stops fulls never = record {
   of = rw handed (All-nil (IsSeatOf r));
   numbers = rw handed refl;
   each = rw handed (λ i x at. cc);
-  works = rw (never, handed, entries, reads, stops) begin;
+  works = rw (never, handed, entries, reads, stops, fulls) begin;
 }
 
 -- the works of callers from one on, by the callers' numbers
-pub numbered : {O : Type 0} (life : Life) (r : Running O) (k : ℕ) (callers : List Seated) (works : List (Result Work AllocError)) → length works ≡ length callers → map number callers ≡ range_with_len k (length callers)
+pub numbered : {O : Type 0} (life : Life) (r : Running O) (k : ℕ) (callers : List Seated) (works : List (Result Served AllocError)) → length works ≡ length callers → map number callers ≡ range_with_len k (length callers)
     → AreWorksOf life r callers works → AreNumbered life r k works
 numbered life r k [] [] long numbers each = tt
 numbered life r k [] (w ∷ ws) long numbers each = absurd (omega (arith, long))
 numbered life r k (s ∷ cs) [] long numbers each = absurd (omega (arith, long))
 numbered life r k (s ∷ cs) (w ∷ ws) long numbers each =
     let first : number s ≡ k = ap (λ (xs : List ℕ). get_or xs 0 0) numbers in (
-      subst (λ i. IfOk w (IsWorkOf life r i)) first (each 0 w s (omega arith)),
+      subst (λ i. IfOk w (ServedOf life r i)) first (each 0 w s (omega arith)),
       numbered life r (k + 1) cs ws (omega (arith, long)) (ap (λ (xs : List ℕ). drop 1 xs) numbers) (λ i d e within. each (suc i) d e (omega (arith, within))),
     )
 

@@ -161,7 +161,7 @@ module _ (lines : ℕ) (base : Base) (life : Life) (begun : Begun) (service : Ru
     locals = remains.trail.locals;
     seats = closed.shows;
     stops = told.stops;
-    works = rw (lost.flags.same.journal, lost.flags.same.reads) ran.works;
+    works = rw (lost.flags.same.journal, lost.flags.same.reads, lost.flags.same.fulls) ran.works;
     is_told =
         subst (λ (p : ℕ). IsTold life p closed.law.history remains.trail.locals flagged) (ap (λ (b : Base). b.place) is.from)
         (subst (λ (h : List Entry). IsTold life service.base.place h remains.trail.locals flagged) (sym closed.history) (retold service.base.place remains.trail.history ran.is_told));

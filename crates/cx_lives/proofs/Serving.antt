@@ -19,9 +19,10 @@ use Rattle.cx_turns.specs.Answering.{with_answer}
 use Rattle.doc_model.specs.declared.operations.Op.{Op}
 use Rattle.doc_model.specs.declared.operations.Reply.{Reply}
 use Rattle.doc_model.specs.Words.{op_words, reply_words}
-use Rattle.journals.specs.Works.{HasWords, IsDoneEntry, IsEntryBefore, IsLineOf, IsLineReply, IsReadLine, IsReplyAt, IsSeenBefore, IsStopOf, IsStoppedRead, IsWork, StandsBetween, lines_of, stops_in}
+use Rattle.journals.specs.Works.{HasWords, IsDoneEntry, IsEnd, IsEntryBefore, IsFullOf, IsLineOf, IsLineReply, IsReadLine, IsReplyAt, IsSeenBefore, IsStopOf, IsStoppedRead, IsWork, StandsBetween, lines_of, stops_in}
 use Rattle.life_records.specs.Scripts.{limit_in, named_op, own_ops}
 use Rattle.life_records.specs.declared.script.Life.{Life}
+use Rattle.life_records.specs.declared.record.FullLine.{FullLine}
 use Rattle.life_records.specs.declared.record.JournalLine.{JournalLine}
 use Rattle.life_records.specs.declared.record.ReadLine.{ReadLine}
 use Rattle.life_records.specs.declared.record.StopLine.{StopLine}
@@ -213,7 +214,7 @@ module _ (life : Life) (client n : ℕ) (l : Local) (es : List JournalLine) (rs 
 
         -- before its link
         pub stops_beside : (es' : List JournalLine) (rs' : List ReadLine) → l'.number ≡ l.number → l'.own ≡ l.own → l'.answered ≡ l.answered
-            → (l'.seen_reads ≡ l.seen_reads) ⊎ ((seen : Seen) × (l'.seen_reads ≡ one_read ws seen l)) → es' ≡ es → rs' ≡ rs → IsWork life client l' es' rs' (Some stop)
+            → (l'.seen_reads ≡ l.seen_reads) ⊎ ((seen : Seen) × (l'.seen_reads ≡ one_read ws seen l)) → es' ≡ es → rs' ≡ rs → IsWork life client l' es' rs' (Some stop) None
         stops_beside es' rs' same_number own answered reads entries lines =
             let left : (xs : List SeenRead) × (l'.seen_reads ≡ l.seen_reads ++ xs) × (length xs ≤ 1) × All (IsStoppedRead life client (Some stop)) xs =
             elim reads [
@@ -242,7 +243,7 @@ module _ (life : Life) (client n : ℕ) (l : Local) (es : List JournalLine) (rs 
 
         -- behind its link
         pub stops_linked : (ticket : ℕ) (more : List Answer) (es' : List JournalLine) (rs' : List ReadLine) → LinksEntry ws ticket l l' → l'.answered ≡ l.answered ++ more
-            → es' ≡ es ++ record { ticket = ticket; client = client; command = number; reply = None } ∷ [] → rs' ≡ rs → IsWork life client l' es' rs' (Some stop)
+            → es' ≡ es ++ record { ticket = ticket; client = client; command = number; reply = None } ∷ [] → rs' ≡ rs → IsWork life client l' es' rs' (Some stop) None
         stops_linked ticket more es' rs' links answered entries lines =
             let line : JournalLine = record { ticket = ticket; client = client; command = number; reply = None } in
             let new : IsLineOf life client (l.answered ++ more) (Some stop) links.entry line = record {
@@ -267,9 +268,9 @@ module _ (life : Life) (client n : ℕ) (l : Local) (es : List JournalLine) (rs 
               ends = is_stop;
             }
 
-  -- a client that was answered all its commands
-  pub is_whole : n ≡ length (own_ops client life.commands) → IsWork life client l es rs None
-  is_whole all = record {
+  -- a client all of whose entries are answered, as it ended
+  ended_answered : (full : Option FullLine) → n ≤ length (own_ops client life.commands) → IsEnd life client n l None full → IsWork life client l es rs None full
+  ended_answered full within end = record {
     by = s.by;
     entry_lines = zip_with (IsAnsweredLine life client l.answered) (IsLineOf life client l.answered None) (IsAnsweredEntry n) (λ x e h done. h.0) l.own es s.entry_lines s.entries_done;
     read_lines = record { told = l.seen_reads; left = []; are = sym (append-nil l.seen_reads); lines_are = s.read_lines; few = omega arith; stopped = All-nil (IsStoppedRead life client None) };
@@ -277,11 +278,36 @@ module _ (life : Life) (client n : ℕ) (l : Local) (es : List JournalLine) (rs 
     entries_in_turn = s.entries_in_turn;
     reads_in_turn = s.reads_in_turn;
     done = n;
-    within = omega arith;
+    within = within;
     once = s.once;
     entries_done = All-weaker (IsAnsweredEntry n) (IsDoneEntry n None) (λ e h. inl h) es s.entries_done;
     reads_done = s.reads_done;
-    ends = all;
+    ends = end;
+  }
+
+  -- a client that was answered all its commands
+  pub is_whole : n ≡ length (own_ops client life.commands) → IsWork life client l es rs None None
+  is_whole all = ended_answered None (omega arith) all
+
+  -- a client that gave up
+  pub is_given_up : (line : FullLine) → IsFullOf life client n l line → IsWork life client l es rs None (Some line)
+  is_given_up line full = ended_answered (Some line) (let less = full.within in omega arith) full
+
+  -- the same lines stand for the lists of a caller with the same lists
+  pub serves_still : (l' : Local) → l'.number ≡ l.number → l'.limit ≡ l.limit → l'.own ≡ l.own → l'.answered ≡ l.answered → l'.seen_reads ≡ l.seen_reads → HasServed life client n l' es rs
+  serves_still l' number limit own answered reads = record {
+    by = number ∙ s.by;
+    limit = limit ∙ s.limit;
+    entry_lines = rw (answered, own) s.entry_lines;
+    read_lines = rw reads s.read_lines;
+    between = rw reads s.between;
+    before = rw reads s.before;
+    entries_in_turn = s.entries_in_turn;
+    reads_in_turn = s.reads_in_turn;
+    once = s.once;
+    entries_done = s.entries_done;
+    reads_done = s.reads_done;
+    few = s.few;
   }
 
   -- it has at most one entry for each command

@@ -1,9 +1,10 @@
 -- What a command comes to, from what its operation came to.
-use Rattle.std.proofs.Common.{◌≡◌, ℕ, ◌+◌, ◌≤◌, List, [], ◌∷◌, ◌++◌, length, Option, None, Some, sym, ap, subst, ◌∙◌, refl, inl, inr, arith}
+use Rattle.std.proofs.Common.{◌≡◌, ℕ, ◌+◌, ◌-◌, ◌≤◌, List, [], ◌∷◌, ◌++◌, length, Option, None, Some, sym, ap, subst, ◌∙◌, refl, inl, inr, arith}
 use Rattle.std.specs.Prelude.{Contains, IfOk, Result, Ok, Err}
 use Rattle.std.proofs.lemmas.List.Elements.{Contains-push}
 use Rattle.std.proofs.lemmas.List.{length-append}
 use Rattle.cx_core.specs.declared.local.Answer.{Answer}
+use Rattle.cx_core.specs.declared.local.FullNote.{FullNote}
 use Rattle.cx_core.specs.declared.local.Local.{Local}
 use Rattle.cx_core.specs.declared.local.SeenRead.{SeenRead}
 use Rattle.cx_rule.specs.Running.{Running}
@@ -18,20 +19,22 @@ use Rattle.doc_model.specs.Meaning.{IsOp}
 use Rattle.doc_model.specs.Words.{HasIntegerAmount, IsOpOf, op_words}
 use Rattle.life_records.specs.Scripts.{named_op, own_ops}
 use Rattle.life_records.specs.declared.script.Life.{Life}
+use Rattle.journals.specs.Works.{IsFullOf}
+use Rattle.life_records.specs.declared.record.FullLine.{FullLine}
 use Rattle.life_records.specs.declared.record.JournalLine.{JournalLine}
 use Rattle.life_records.specs.declared.record.ReadLine.{ReadLine}
 use Rattle.cx_lives.specs.declared.desk.Desk.{Desk}
 use Rattle.cx_lives.specs.declared.desk.End.{End}
-use Rattle.cx_lives.specs.declared.desk.End.TheVariants.{Whole, Stopped, Never}
+use Rattle.cx_lives.specs.declared.desk.End.TheVariants.{Whole, Stopped, Full, Never}
 use Rattle.cx_lives.specs.declared.desk.Turn.{Turn}
-use Rattle.cx_lives.specs.declared.desk.Turn.TheVariants.{Next, Over}
+use Rattle.cx_lives.specs.declared.desk.Turn.TheVariants.{Next, Over, Full as FullTurn}
 use Rattle.cx_lives.specs.declared.desk.Work.{Work}
 use Rattle.cx_lives.specs.declared.calls.Asked.TheVariants.{Halted}
-use Rattle.cx_lives.specs.Calls.{Asks, AsksDone, AsksRead, AsksWorn, Halts}
-use Rattle.cx_lives.specs.Ends.{IsCallerIn, IsEndOf, IsNewIn, IsWorkOf, Turned}
+use Rattle.cx_lives.specs.Calls.{Asks, AsksDone, AsksFull, AsksRead, AsksWorn, Halts}
+use Rattle.cx_lives.specs.Ends.{IsCallerIn, IsEndOf, IsKeptOut, IsNewIn, IsWorkOf, Turned, full_in}
 use Rattle.cx_lives.specs.Serving.{HasServed, IsServed}
 use Rattle.cx_lives.specs.Turns.{EntryTurn, ReadTurn, StopsIn, stop_line, with_linked}
-use Rattle.cx_lives.proofs.Serving.{few_own, is_whole, named_within, serves_entry, serves_none, serves_read, stops_beside, stops_linked}
+use Rattle.cx_lives.proofs.Serving.{few_own, is_given_up, is_whole, named_within, serves_entry, serves_none, serves_read, serves_still, stops_beside, stops_linked}
 
 -- what holds of what came out
 pub if_ok : {T E : Type 0} (P Q : T → Type 0) → ((t : T) → P t → Q t) → (result : Result T E) → IfOk result P → IfOk result Q
@@ -70,13 +73,16 @@ module _ {O : Type 0} (life : Life) (r : Running O) (client n number : ℕ) (bef
     lists = rw (turned.caller, caller) (serves_entry life client n l es rs s number next op ws are named after.known.local desk'.entries.items desk'.reads.items answer turned.reply a.links a.answered turned.words
         (turned.entries ∙ ap (λ (xs : List JournalLine). xs ++ record { ticket = answer.ticket; client = client; command = number; reply = Some turned.reply } ∷ []) entries) (turned.reads ∙ reads));
   }
+  entry_turned after answer desk (FullTurn desk' note) a caller entries reads turned = absurd turned
   entry_turned after answer desk (Over work) a caller entries reads turned =
       let longer : length after.known.local.own ≡ length l.own + 1 = ap length a.links.own ∙ length-append l.own (a.links.entry ∷ []) in
       let told : Contains after.known.local.answered answer = rw a.answered (Contains-push l.answered answer) in
-      let own : Contains after.known.local.own a.links.entry = rw a.links.own (Contains-push l.own a.links.entry) in
-      work_is life r client work (Idle after) Never (turned.0.handed ∙ ap Idle caller) turned.0.end_is
-      (record { of = a.caller.of; by = a.links.number ∙ s.by; limit = a.links.limit ∙ s.limit; few = omega (arith, longer, few_before, within) })
-      (inr (inl (record { answer = answer; there = told; entry = a.links.entry; linked = own; at = a.links.at; op = op; is = is_op a.links.entry.entry.op a.links.op_is; bad = turned.1 })))
+      let own : Contains after.known.local.own a.links.entry = rw a.links.own (Contains-push l.own a.links.entry) in (
+        work_is life r client work (Idle after) Never (turned.0.handed ∙ ap Idle caller) turned.0.end_is
+            (record { of = a.caller.of; by = a.links.number ∙ s.by; limit = a.links.limit ∙ s.limit; few = omega (arith, longer, few_before, within) })
+            (inr (inl (record { answer = answer; there = told; entry = a.links.entry; linked = own; at = a.links.at; op = op; is = is_op a.links.entry.entry.op a.links.op_is; bad = turned.1 }))),
+        ap full_in turned.0.end_is,
+      )
 
   -- the read was answered
   pub read_turned : length l.own ≡ length l.answered → (after : Seated) (seen : Seen) (desk : Desk) (turn : Turn) → AsksRead r ws before after seen → desk.caller ≡ after → desk.entries.items ≡ es → desk.reads.items ≡ rs
@@ -86,24 +92,43 @@ module _ {O : Type 0} (life : Life) (r : Running O) (client n number : ℕ) (bef
     lists = rw (turned.caller, caller) (serves_read life client n l es rs s number next op ws are named even seen turned.reply turned.words after.known.local desk'.entries.items desk'.reads.items a.number a.limit a.own a.answered a.reads
         (turned.entries ∙ entries) (turned.reads ∙ ap (λ (xs : List ReadLine). xs ++ record { client = client; command = number; place = seen.place; reply = turned.reply } ∷ []) reads));
   }
+  read_turned even after seen desk (FullTurn desk' note) a caller entries reads turned = absurd turned
   read_turned even after seen desk (Over work) a caller entries reads turned =
       let x : SeenRead = record { place = seen.place; op = ws; reply = seen.reply; before = length l.answered } in
-      let told : Contains after.known.local.seen_reads x = rw a.reads (Contains-push l.seen_reads x) in
-      work_is life r client work (Idle after) Never (turned.0.handed ∙ ap Idle caller) turned.0.end_is
-      (record { of = a.caller.of; by = a.number ∙ s.by; limit = a.limit ∙ s.limit; few = omega (arith, ap length a.own, few_before, within) })
-      (inr (inr (record { read = x; there = told; op = op; is = is_op ws refl; bad = turned.1 })))
+      let told : Contains after.known.local.seen_reads x = rw a.reads (Contains-push l.seen_reads x) in (
+        work_is life r client work (Idle after) Never (turned.0.handed ∙ ap Idle caller) turned.0.end_is
+            (record { of = a.caller.of; by = a.number ∙ s.by; limit = a.limit ∙ s.limit; few = omega (arith, ap length a.own, few_before, within) })
+            (inr (inr (record { read = x; there = told; op = op; is = is_op ws refl; bad = turned.1 }))),
+        ap full_in turned.0.end_is,
+      )
 
   -- there was no further ticket
-  pub worn_turned : (after : Seated) (work : Work) → AsksWorn r before after → work.handed ≡ Idle after → work.end ≡ Never → IsWorkOf life r client work
+  pub worn_turned : (after : Seated) (work : Work) → AsksWorn r before after → work.handed ≡ Idle after → work.end ≡ Never → Turned life r client number (Over work)
   worn_turned after work a handed end_is =
-      let same : length after.known.local.own ≡ length l.own = ap length a.keeps.own in
-      work_is life r client work (Idle after) Never handed end_is
-      (record { of = a.caller.of; by = a.keeps.number ∙ s.by; limit = a.keeps.limit ∙ s.limit; few = omega (arith, same, few_before, within) })
-      (inl (record { front = a.front; fewer = omega (arith, same, few_before, within) }))
+      let same : length after.known.local.own ≡ length l.own = ap length a.keeps.own in (
+        work_is life r client work (Idle after) Never handed end_is
+            (record { of = a.caller.of; by = a.keeps.number ∙ s.by; limit = a.keeps.limit ∙ s.limit; few = omega (arith, same, few_before, within) })
+            (inl (record { front = a.front; fewer = omega (arith, same, few_before, within) })),
+        ap full_in end_is,
+      )
+
+  -- another caller keeps the cells, and nothing was answered
+  pub full_turned : (after : Seated) (note : FullNote) (desk : Desk) → AsksFull r before after note → desk.caller ≡ after → desk.entries.items ≡ es → desk.reads.items ≡ rs → Turned life r client number (FullTurn desk note)
+  full_turned after note desk a caller entries reads =
+      let same : n ≡ number - 1 = omega arith in
+      record {
+        served = record {
+          caller = rw caller a.caller;
+          lists =
+              rw (caller, entries, reads)
+              (subst (λ k. HasServed life client k after.known.local es rs) same (serves_still life client n l es rs s after.known.local a.keeps.number a.keeps.limit a.keeps.own a.keeps.answered a.keeps.reads));
+        };
+        names = rw caller a.names;
+      }
 
   -- the client is stopped
-  pub stop_turned : (stopped : StoppedSeat) (work : Work) → Asks r ws before (Halted stopped) → StopsIn client number stopped es rs work → IsWorkOf life r client work
-  stop_turned stopped work a w = by stopped.linked a w.entries_are
+  pub stop_turned : (stopped : StoppedSeat) (work : Work) → Asks r ws before (Halted stopped) → StopsIn client number stopped es rs work → Turned life r client number (Over work)
+  stop_turned stopped work a w = (by stopped.linked a w.entries_are, ap full_in w.end_is)
     where
       by : (linked : Option ℕ) → Halts r ws before stopped.seat linked → work.entries.items ≡ with_linked client number linked es → IsWorkOf life r client work
       by None a lines =
@@ -124,6 +149,32 @@ whole_work life r client n desk work s all handed entries reads end_is =
     work_is life r client work (Idle desk.caller) Whole handed end_is
     (record { of = s.caller.of; by = s.lists.by; limit = s.lists.limit; few = omega (arith, few_own life client n l desk.entries.items desk.reads.items s.lists) })
     (rw (entries, reads) (is_whole life client n l desk.entries.items desk.reads.items s.lists all))
+
+-- a client that gave up
+pub given_up_work : {O : Type 0} (life : Life) (r : Running O) (client n : ℕ) (desk : Desk) (work : Work) (line : FullLine) → IsServed life r client n desk → IsFullOf life client n desk.caller.known.local line
+    → work.handed ≡ Idle desk.caller → work.entries.items ≡ desk.entries.items → work.reads.items ≡ desk.reads.items → work.end ≡ Full line → IsWorkOf life r client work
+given_up_work life r client n desk work line s full handed entries reads end_is =
+    let l = desk.caller.known.local in
+    work_is life r client work (Idle desk.caller) (Full line) handed end_is
+    (record { of = s.caller.of; by = s.lists.by; limit = s.lists.limit; few = omega (arith, few_own life client n l desk.entries.items desk.reads.items s.lists, full.within) })
+    (rw (entries, reads) (is_given_up life client n l desk.entries.items desk.reads.items s.lists line full))
+
+-- the line with which a client would give up whose cells another caller keeps
+pub full_line : {O : Type 0} (life : Life) (r : Running O) (client n number : ℕ) (desk : Desk) (note : FullNote) (op : Op) → IsKeptOut life r client n desk note → number ≡ n + 1 → named_op life client number ≡ Some op
+    → IsFullOf life client n desk.caller.known.local (record { client = client; command = number; note = note })
+full_line life r client n number desk note op kept next named =
+    let l = desk.caller.known.local in
+    record {
+      client_is = refl;
+      command = next;
+      within = omega (arith, named_within life client number op named);
+      other = λ same. kept.names.other (same ∙ sym kept.served.lists.by);
+      need = kept.names.need;
+      seen = kept.names.seen;
+      cells = record { each = kept.names.cells.each; here = kept.names.cells.here };
+      own = kept.served.caller.cells.own;
+      apart = kept.served.caller.cells.apart;
+    }
 
 -- a client before its first command
 pub first_served : {O : Type 0} (life : Life) (r : Running O) (desk : Desk) → IsNewIn life r desk.caller → desk.entries.items ≡ [] → desk.reads.items ≡ [] → IsServed life r desk.caller.known.local.number 0 desk

@@ -1,7 +1,7 @@
 -- What a worker ends with.
-use Rattle.std.specs.Prelude.{◌≡◌, ◌^◌, ◌<◌, ◌≤◌, ◌⊎◌, ◌+◌, ℕ, List, [], ◌∷◌, length, Contains, None, Some, IfOk, Result, slice_index_or}
-use Rattle.std.specs.declared.alloc.AllocError.{AllocError}
+use Rattle.std.specs.Prelude.{◌≡◌, ◌^◌, ◌<◌, ◌≤◌, ◌⊎◌, ◌-◌, ℕ, List, [], ◌∷◌, length, Contains, None, Some}
 use Rattle.cx_core.specs.declared.local.Answer.{Answer}
+use Rattle.cx_core.specs.declared.local.FullNote.{FullNote}
 use Rattle.cx_core.specs.declared.local.Linked.{Linked}
 use Rattle.cx_core.specs.declared.local.Local.{Local}
 use Rattle.cx_core.specs.declared.local.SeenRead.{SeenRead}
@@ -9,17 +9,21 @@ use Rattle.cx_rule.specs.Running.{IsSeatOf, Running}
 use Rattle.cx_rule.specs.Seats.{Seated}
 use Rattle.cx_service.specs.Callers.{IsCallerOf}
 use Rattle.cx_service.specs.Closes.{seat_of}
+use Rattle.cx_service.specs.Submits.{NamesHolder}
 use Rattle.doc_model.specs.declared.operations.Op.{Op}
 use Rattle.doc_model.specs.Words.{AreOfNoReply, IsOpOf}
 use Rattle.journals.specs.Works.{IsWork}
 use Rattle.life_records.specs.Scripts.{limit_in, own_ops}
 use Rattle.life_records.specs.declared.script.Life.{Life}
+use Rattle.life_records.specs.declared.record.FullLine.{FullLine}
 use Rattle.life_records.specs.declared.record.JournalLine.{JournalLine}
 use Rattle.life_records.specs.declared.record.ReadLine.{ReadLine}
+use Rattle.life_records.specs.declared.record.StopLine.{StopLine}
 use Rattle.cx_lives.specs.declared.desk.End.{End}
-use Rattle.cx_lives.specs.declared.desk.End.TheVariants.{Whole, Stopped, Never}
+use Rattle.cx_lives.specs.declared.desk.End.TheVariants.{Whole, Stopped, Full, Never}
+use Rattle.cx_lives.specs.declared.desk.Desk.{Desk}
 use Rattle.cx_lives.specs.declared.desk.Turn.{Turn}
-use Rattle.cx_lives.specs.declared.desk.Turn.TheVariants.{Next, Over}
+use Rattle.cx_lives.specs.declared.desk.Turn.TheVariants.{Next, Over, Full as FullTurn}
 use Rattle.cx_lives.specs.declared.desk.Work.{Work}
 use Rattle.cx_lives.specs.Serving.{IsServed}
 
@@ -51,10 +55,11 @@ pub record IsBadRead (l : Local) : Type 0 where
 abbrev pub CannotBe : Life → ℕ → Local → Type 0
 CannotBe life client l = IsWorn life client l ⊎ (IsBadAnswer l ⊎ IsBadRead l)
 
--- how a worker ended: its client was answered all its commands, or was stopped; or its caller has what none can have
+-- how a worker ended: its client was answered all its commands, or was stopped, or gave up; or its caller has what none can have
 abbrev pub IsEndOf : Life → ℕ → Local → List JournalLine → List ReadLine → End → Type 0
-IsEndOf life client l entries reads Whole = IsWork life client l entries reads None
-IsEndOf life client l entries reads (Stopped line) = IsWork life client l entries reads (Some line)
+IsEndOf life client l entries reads Whole = IsWork life client l entries reads None None
+IsEndOf life client l entries reads (Stopped line) = IsWork life client l entries reads (Some line) None
+IsEndOf life client l entries reads (Full line) = IsWork life client l entries reads None (Some line)
 IsEndOf life client l entries reads Never = CannotBe life client l
 
 -- what is known of a client's caller however it ended: at most one entry for each command, and the limit of the client's cut
@@ -69,10 +74,29 @@ pub record IsWorkOf {O : Type 0} (life : Life) (r : Running O) (client : ℕ) (w
   pub caller : IsCallerIn life r client (seat_of work.handed)
   pub ends : IsEndOf life client (seat_of work.handed).known.local work.entries.items work.reads.items work.end
 
--- what a command of this number comes to
+-- the stop line of an end, and its full line
+abbrev pub stop_in : End → List StopLine
+stop_in Whole = []
+stop_in (Stopped line) = line ∷ []
+stop_in (Full line) = []
+stop_in Never = []
+
+abbrev pub full_in : End → List FullLine
+full_in Whole = []
+full_in (Stopped line) = []
+full_in (Full line) = line ∷ []
+full_in Never = []
+
+-- a client that was answered its first so many commands, and another caller keeps its cells
+pub record IsKeptOut {O : Type 0} (life : Life) (r : Running O) (client number : ℕ) (desk : Desk) (note : FullNote) : Type 0 where
+  pub served : IsServed life r client number desk
+  pub names : NamesHolder r.callers desk.caller.known.local note
+
+-- what a command of this number comes to; no client gives up in it
 abbrev pub Turned : {O : Type 0} → Life → Running O → ℕ → ℕ → Turn → Type 0
 Turned life r client number (Next desk) = IsServed life r client number desk
-Turned life r client number (Over work) = IsWorkOf life r client work
+Turned life r client number (Over work) = IsWorkOf life r client work × (full_in work.end ≡ [])
+Turned life r client number (FullTurn desk note) = IsKeptOut life r client (number - 1) desk note
 
 -- a caller of this service that made no call yet, with its client's limit
 pub record IsNewIn {O : Type 0} (life : Life) (r : Running O) (seat : Seated) : Type 0 where
@@ -81,14 +105,3 @@ pub record IsNewIn {O : Type 0} (life : Life) (r : Running O) (seat : Seated) : 
   pub answered : seat.known.local.answered ≡ []
   pub reads : seat.known.local.seen_reads ≡ []
   pub limit : seat.known.local.limit ≡ limit_in seat.known.local.number life.cuts
-
--- item i is the work of caller i, or its worker found no memory
-abbrev pub AreWorksOf : {O : Type 0} → Life → Running O → List Seated → List (Result Work AllocError) → Type 0
-AreWorksOf life r callers works =
-    (i : ℕ) (d : Result Work AllocError) (e : Seated) → i < length callers →
-    IfOk (slice_index_or works i d) (IsWorkOf life r (slice_index_or callers i e).known.local.number)
-
--- the works of the callers from one on, each where its worker found memory
-abbrev pub AreNumbered : {O : Type 0} → Life → Running O → ℕ → List (Result Work AllocError) → Type 0
-AreNumbered life r client [] = Unit {0}
-AreNumbered life r client (work ∷ works) = IfOk work (IsWorkOf life r client) × AreNumbered life r (client + 1) works

@@ -10,12 +10,11 @@ use Rattle.cx_table.specs.Remains.{locals_of}
 use Rattle.journals.specs.Works.{AreWorks}
 use Rattle.life_records.specs.Scripts.{limit_in, own_ops}
 use Rattle.life_records.specs.declared.script.Life.{Life}
-use Rattle.life_records.specs.declared.record.StopLine.{StopLine}
 use Rattle.cx_lives.specs.declared.desk.End.{End}
-use Rattle.cx_lives.specs.declared.desk.End.TheVariants.{Whole, Stopped, Never}
+use Rattle.cx_lives.specs.declared.desk.End.TheVariants.{Whole, Stopped, Full, Never}
 use Rattle.cx_lives.specs.declared.desk.Work.{Work}
 use Rattle.cx_lives.specs.declared.gather.Gathered.{Gathered}
-use Rattle.cx_lives.specs.Ends.{CannotBe}
+use Rattle.cx_lives.specs.Ends.{CannotBe, full_in, stop_in}
 
 -- some caller has what none can have
 pub record HasNever (life : Life) (locals : List Local) : Type 0 where
@@ -36,17 +35,12 @@ pub record AreGathered {O : Type 0} (life : Life) (r : Running O) (g : Gathered)
   pub numbers : map (λ (s : Seated). s.known.local.number) (seats_of g.handed.items) ≡ range_with_len 0 (length g.handed.items)
   pub each : EachLocal (locals_of (seats_of g.handed.items)) (IsLocalIn life)
   pub works : MatchBool g.never (HasNever life (locals_of (seats_of g.handed.items)))
-      (AreWorks life (locals_of (seats_of g.handed.items)) g.entries.items g.reads.items g.stops.items)
-
--- the stop line of an end
-abbrev pub stop_in : End → List StopLine
-stop_in Whole = []
-stop_in (Stopped line) = line ∷ []
-stop_in Never = []
+      (AreWorks life (locals_of (seats_of g.handed.items)) g.entries.items g.reads.items g.stops.items g.fulls.items)
 
 abbrev pub is_never : End → Bool
 is_never Whole = false
 is_never (Stopped line) = false
+is_never (Full line) = false
 is_never Never = true
 
 -- one client's work more
@@ -55,4 +49,5 @@ pub record AddsWork (before after : Gathered) (work : Work) : Type 0 where
   pub entries : after.entries.items ≡ before.entries.items ++ work.entries.items
   pub reads : after.reads.items ≡ before.reads.items ++ work.reads.items
   pub stops : after.stops.items ≡ before.stops.items ++ stop_in work.end
+  pub fulls : after.fulls.items ≡ before.fulls.items ++ full_in work.end
   pub never : after.never ≡ (before.never || is_never work.end)

@@ -1,5 +1,5 @@
 -- What a life that is run comes to.
-use Rattle.std.specs.Prelude.{◌≡◌, ◌+◌, ◌^◌, ◌≤◌, List, [], length, All}
+use Rattle.std.specs.Prelude.{◌≡◌, ◌+◌, ◌^◌, ◌≤◌, List, length, All}
 use Rattle.cx_rule.specs.Running.{Running, instance_at}
 use Rattle.cx_rule.specs.Seats.{Seated}
 use Rattle.cx_table.specs.Remains.{AreSeats, Leaves}
@@ -30,8 +30,7 @@ pub record HasRun (life : Life) (r : Running DocStore) (told : LifeRecord) (rema
   pub are : AreSeats r seats
   pub leaves : Leaves r (instance_at r (λ (store : DocStore). store_step store.lines) (λ (_ : DocStore). reads_in)) seats remains
   pub is_told : IsTold life r.base.place remains.trail.history remains.trail.locals told
-  pub works : AreWorks life remains.trail.locals told.journal told.reads told.stops
+  pub works : AreWorks life remains.trail.locals told.journal told.reads told.stops told.fulls
   pub choice : told.choice ≡ life.choice
   pub kept : told.kept ≡ 0
   pub documents : told.documents ≡ 0
-  pub fulls : told.fulls ≡ []

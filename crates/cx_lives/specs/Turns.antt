@@ -12,7 +12,7 @@ use Rattle.life_records.specs.declared.record.StopLine.{StopLine}
 use Rattle.cx_lives.specs.declared.desk.Desk.{Desk}
 use Rattle.cx_lives.specs.declared.desk.End.TheVariants.{Stopped, Never}
 use Rattle.cx_lives.specs.declared.desk.Turn.{Turn}
-use Rattle.cx_lives.specs.declared.desk.Turn.TheVariants.{Next, Over}
+use Rattle.cx_lives.specs.declared.desk.Turn.TheVariants.{Next, Over, Full}
 use Rattle.cx_lives.specs.declared.desk.Work.{Work}
 
 -- the reply has these words; where none has, there is no reply
@@ -38,18 +38,20 @@ pub record AddsRead (client number : ℕ) (seen : Seen) (desk next : Desk) : Typ
   pub reads : next.reads.items ≡ desk.reads.items ++ record { client = client; command = number; place = seen.place; reply = reply } ∷ []
 
 -- the client is at an end that cannot be, with the lines that it had
-pub record GivesUp (desk : Desk) (work : Work) : Type 0 where
+pub record IsNever (desk : Desk) (work : Work) : Type 0 where
   pub handed : work.handed ≡ Idle desk.caller
   pub end_is : work.end ≡ Never
 
 -- what an answer comes to, by whether its words are a reply's
 abbrev pub EntryTurn : ℕ → ℕ → Answer → Desk → Turn → Type 0
 EntryTurn client number answer desk (Next next) = AddsEntry client number answer desk next
-EntryTurn client number answer desk (Over work) = GivesUp desk work × AreOfNoReply answer.reply
+EntryTurn client number answer desk (Over work) = IsNever desk work × AreOfNoReply answer.reply
+EntryTurn client number answer desk (Full next note) = ⊥
 
 abbrev pub ReadTurn : ℕ → ℕ → Seen → Desk → Turn → Type 0
 ReadTurn client number seen desk (Next next) = AddsRead client number seen desk next
-ReadTurn client number seen desk (Over work) = GivesUp desk work × AreOfNoReply seen.reply
+ReadTurn client number seen desk (Over work) = IsNever desk work × AreOfNoReply seen.reply
+ReadTurn client number seen desk (Full next note) = ⊥
 
 -- the stop line of a client that is stopped in its command of this number
 abbrev pub stop_line : ℕ → ℕ → StoppedSeat → StopLine

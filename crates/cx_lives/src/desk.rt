@@ -11,10 +11,11 @@ ghost use Rattle.cx_lives.specs.Serving.{IsServed};
 ghost use Rattle.cx_lives.specs.Turns.{EntryTurn, IsReadAs, ReadTurn, StopsIn};
 
 use crate::calls::{Asked, ask};
+use cx_core::FullNote;
 use cx_service::{Answer, Caller, Handed, Seen, Service, Stopped};
 use doc_model::{Op, OpFault, Reply, op_words, reply_of};
 use doc_store::{DocStore, readings_are_those_operations};
-use life_records::{Command, JournalLine, Life, ReadLine, StopLine};
+use life_records::{Command, FullLine, JournalLine, Life, ReadLine, StopLine};
 use std::alloc::{AllocError, Global};
 use std::sync::Wait;
 
@@ -25,6 +26,8 @@ pub(crate) enum End {
     Whole,
     /// The client was stopped.
     Stopped(StopLine),
+    /// The client gave up, since another that was stopped keeps its cells.
+    Full(FullLine),
     /// What cannot be: there was no further ticket, or a reply whose words are of none.
     Never,
 }
@@ -46,15 +49,18 @@ pub(crate) struct Desk {
     pub(crate) reads: Vec<ReadLine>,
 }
 
-/// What a command comes to: the client goes on, or it is at its end.
+/// What a command comes to: the client goes on, or it is at its end, or the command is not begun, since another caller keeps the
+/// client's cells, as the note says.
 #[derive(Drop)]
 pub(crate) enum Turn {
     Next(Desk),
     Over(Work),
+    Full(Desk, FullNote),
 }
 
 impl Desk {
-    /// Makes the client's command of this number. `Err` is want of memory.
+    /// Makes the client's command of this number. Where no cell is idle it tries again, and hands the desk back after `most` Full answers
+    /// one after another; without such a number it tries without end. `Err` is want of memory.
     pub(crate) fn make<R: Wait>(
         self,
         rt: &R,
@@ -63,6 +69,7 @@ impl Desk {
         life: &Life,
         number: u64,
         command: &Command,
+        most: Option<u64>,
     ) -> Result<Turn, AllocError>
         requires served { IsServed life.now service.now command.now.client (number - 1) self }
         requires number { 1 ≤ number }
@@ -80,7 +87,7 @@ impl Desk {
         readings_are_those_operations();
         let client = command.client;
         let op = op_words(&command.op);
-        match ask(rt, service, caller, &op, command.op.only_reads()) {
+        match ask(rt, service, caller, &op, command.op.only_reads(), most) {
             Asked::Done(caller, answer) => {
                 let desk = Desk {
                     caller,
@@ -96,6 +103,14 @@ impl Desk {
                     reads,
                 };
                 desk.with_read(alloc, client, number, &seen)
+            }
+            Asked::Full(caller, note) => {
+                let desk = Desk {
+                    caller,
+                    entries,
+                    reads,
+                };
+                Ok(Turn::Full(desk, note))
             }
             Asked::Worn(caller) => {
                 let desk = Desk {

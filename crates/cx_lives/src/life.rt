@@ -19,16 +19,19 @@ use std::thread::Threads;
 /// answered or the client is stopped at its limit of steps. A worker whose thread cannot be started is run by the calling thread. Then
 /// the service is closed. Gives the record of the life before the loss of power, with nothing kept, and what the service leaves.
 ///
+/// A client's entries take its 16 cells in turn, and a worker tries again where no cell is idle, since another client keeps them. In a
+/// life with a cut line it leaves its client after 1,000 such answers to one command, one after another. Once all workers have ended,
+/// each client that was left goes on from that command, one client after another. It gives up in a command, which then has a full line,
+/// only where the client that keeps its cells was stopped, and makes no later one.
+///
 /// The gate is for tests that bring about an order among the clients: each worker passes it before each of its commands and behind it,
-/// also where the client was stopped in that command, with the client's number, the number of the command among the client's, from 1
-/// on, and which of the two it is. The gate holds a worker as long as its `pass` does not return. The record says what came, whatever
-/// the gate does. `OpenGate` holds none.
+/// also where the client was stopped or gave up in that command, with the client's number, the number of the command among the
+/// client's, from 1 on, and which of the two it is. The gate holds a worker as long as its `pass` does not return. The record says what
+/// came, whatever the gate does. `OpenGate` holds none.
 ///
 /// `Err` is want of memory, in a worker or behind them, and gives nothing back. There is no other refusal.
 ///
-/// The call waits: it does not return where the gate holds a worker for good. A worker tries again without end where no cell of its
-/// caller is idle, and each entry that a client links in a life takes one of 16. So each client of a life that the program runs has at
-/// most 16 commands that enter the queue: those that write, and those that only read where the read beside the queue was refused.
+/// The call waits: it does not return where the gate holds a worker for good. A client may have any number of commands.
 pub fn run_life<R: Threads + Wait + Sync, G: Gate + Sync>(
     rt: &R,
     alloc: Global,
@@ -46,8 +49,9 @@ pub fn run_life<R: Threads + Wait + Sync, G: Gate + Sync>(
         mut entries,
         reads,
         stops,
+        fulls,
         never,
-    } = gather(alloc, &service, life, works)?;
+    } = gather(rt, alloc, &service, life, gate, works)?;
     entries.sort_unstable_by_key(|line| line.ticket);
     journals_are_told();
     let _lines = service.lines();
@@ -63,7 +67,7 @@ pub fn run_life<R: Threads + Wait + Sync, G: Gate + Sync>(
         journal: Items::of(entries),
         reads: Items::of(reads),
         stops: Items::of(stops),
-        fulls: Items::new(alloc),
+        fulls: Items::of(fulls),
         choice: life.choice,
         kept: 0,
         documents: 0,

@@ -1,19 +1,45 @@
 //! What one client's worker does.
 
-ghost use Rattle.std.specs.Prelude.{◌≡◌, ◌<◌, IfOk, Some, length, slice_get};
+ghost use Rattle.std.specs.Prelude.{◌≡◌, ◌++◌, ◌<◌, All, IfOk, Some, length, slice_get, true};
+ghost use Rattle.cx_service.specs.declared.close.Handed.TheVariants.{Idle};
 ghost use Rattle.life_records.specs.Limits.{IsLifeInLimits};
-ghost use Rattle.cx_lives.specs.Ends.{IsNewIn, IsWorkOf};
+ghost use Rattle.life_records.specs.Lives.{is_stopped};
+ghost use Rattle.cx_lives.specs.declared.desk.End.TheVariants.{Full};
+ghost use Rattle.cx_lives.specs.Ends.{IsNewIn, IsWorkOf, full_in};
+ghost use Rattle.cx_lives.specs.Works.{IsFullLeft, IsLeftOf, ServedOf, stop_told, stops_left};
 
 use crate::desk::{Desk, End, Turn, Work};
 use cx_base::Gate;
 use cx_service::{Caller, Service};
 use doc_store::DocStore;
-use life_records::{Command, Life};
+use life_records::{Command, FullLine, Life, StopLine};
 use std::alloc::{AllocError, Global};
 use std::sync::Wait;
 
-/// Makes a client's commands in order, from the first one on until it is stopped, and passes the gate before each and behind it.
-/// `Err` is want of memory.
+/// The Full answers to one command, one after another, after which a worker of a life with a cut line leaves its client.
+const FULLS: u64 = 1_000;
+
+/// A client that is not at its end: its desk, the place in the script from which its commands are made, how many it was answered, and
+/// whether it passed the gate before the next one already.
+#[derive(Drop)]
+pub(crate) struct Left {
+    pub(crate) desk: Desk,
+    pub(crate) at: usize,
+    pub(crate) number: u64,
+    pub(crate) begun: bool,
+}
+
+/// What a worker comes to.
+#[derive(Drop)]
+pub(crate) enum Served {
+    /// The client is at its end.
+    Done(Work),
+    /// The client's next command was last answered Full. The line is the one that it has where it gives up.
+    Full(Left, FullLine),
+}
+
+/// Makes a client's commands in order, from the first one on until it is stopped, and passes the gate before each and behind it. In a
+/// life with a cut line it leaves the client after 1,000 Full answers one after another. `Err` is want of memory.
 pub(crate) fn serve<R: Wait, G: Gate>(
     rt: &R,
     alloc: Global,
@@ -21,33 +47,184 @@ pub(crate) fn serve<R: Wait, G: Gate>(
     life: &Life,
     gate: &G,
     caller: Caller,
-) -> Result<Work, AllocError>
+) -> Result<Served, AllocError>
     requires new { IsNewIn life.now service.now caller }
     requires life { IsLifeInLimits life.now }
-    ensures { IfOk result (IsWorkOf life.now service.now caller.known.local.number) }
+    ensures { IfOk result (ServedOf life.now service.now caller.known.local.number) }
 {
-    let client = caller.number();
-    let mut desk = Desk {
+    let desk = Desk {
         caller,
         entries: Vec::new(alloc),
         reads: Vec::new(alloc),
     };
+    let left = Left {
+        desk,
+        at: 0,
+        number: 0,
+        begun: false,
+    };
+    serve_on(rt, alloc, service, life, gate, left, most_fulls(life))
+}
+
+// The Full answers after which a worker leaves its client, where the life has a cut line.
+fn most_fulls(life: &Life) -> Option<u64> {
+    if life.cuts.is_empty() {
+        None
+    } else {
+        Some(FULLS)
+    }
+}
+
+// Makes the commands that are left, until one is answered Full `most` times one after another.
+fn serve_on<R: Wait, G: Gate>(
+    rt: &R,
+    alloc: Global,
+    service: &Service<DocStore>,
+    life: &Life,
+    gate: &G,
+    left: Left,
+    most: Option<u64>,
+) -> Result<Served, AllocError>
+    requires left { IsLeftOf life.now service.now left.desk.caller.known.local.number left }
+    requires life { IsLifeInLimits life.now }
+    ensures { IfOk result (ServedOf life.now service.now left.desk.caller.known.local.number) }
+{
+    let client = left.desk.caller.number();
+    let Left {
+        mut desk,
+        at: first,
+        mut number,
+        mut begun,
+    } = left;
     let commands = life.commands.as_slice();
-    let mut number = 0;
-    for at in 0..commands.len() {
+    for at in first..commands.len() {
         let command = command_at(commands, at);
         if command.client == client {
-            number += 1;
-            gate.pass(client, number, false);
-            let turn = desk.make(rt, alloc, service, life, number, command)?;
-            gate.pass(client, number, true);
+            let next = number + 1;
+            pass_before(gate, client, next, begun);
+            let turn = desk.make(rt, alloc, service, life, next, command, most)?;
+            pass_behind(gate, client, next, &turn);
             match turn {
-                Turn::Next(next) => desk = next,
-                Turn::Over(work) => return Ok(work),
+                Turn::Next(back) => {
+                    desk = back;
+                    number = next;
+                    begun = false;
+                }
+                Turn::Over(work) => return Ok(Served::Done(work)),
+                Turn::Full(back, note) => {
+                    let line = FullLine {
+                        client,
+                        command: next,
+                        note,
+                    };
+                    let left = Left {
+                        desk: back,
+                        at,
+                        number,
+                        begun: true,
+                    };
+                    return Ok(Served::Full(left, line));
+                }
             }
         }
     }
-    Ok(desk.over(End::Whole))
+    Ok(Served::Done(desk.over(End::Whole)))
+}
+
+// Passes the gate before a command, unless the client did so already.
+fn pass_before<G: Gate>(gate: &G, client: u32, number: u64, begun: bool) {
+    if !begun {
+        gate.pass(client, number, false);
+    }
+}
+
+// Passes the gate behind a command, unless it is still to be made.
+fn pass_behind<G: Gate>(gate: &G, client: u32, number: u64, turn: &Turn) {
+    match turn {
+        Turn::Next(_) | Turn::Over(_) => gate.pass(client, number, true),
+        Turn::Full(..) => {}
+    }
+}
+
+/// Goes on with a client that was left, until it is at its end. It gives up a command only where the client that keeps its cells was
+/// stopped: where that has one of these stop lines or one in the rest of the works. `Err` is want of memory.
+pub(crate) fn go_on<R: Wait, G: Gate>(
+    rt: &R,
+    alloc: Global,
+    service: &Service<DocStore>,
+    life: &Life,
+    gate: &G,
+    left: Left,
+    stops: &[StopLine],
+    rest: &[Result<Served, AllocError>],
+) -> Result<Work, AllocError>
+    requires left { IsLeftOf life.now service.now left.desk.caller.known.local.number left }
+    requires life { IsLifeInLimits life.now }
+    ensures work { IfOk result (IsWorkOf life.now service.now left.desk.caller.known.local.number) }
+    ensures stopped { IfOk result (λ work. All (λ line. is_stopped line.note.holder (stops.now ++ stops_left rest.now) ≡ true) (full_in work.end)) }
+{
+    let mut left = left;
+    for _ in rt.forever() {
+        match serve_on(rt, alloc, service, life, gate, left, Some(1))? {
+            Served::Done(work) => return Ok(work),
+            Served::Full(back, line) => {
+                if has_stopped(stops, rest, line.note.holder) {
+                    return Ok(give_up(gate, back, line));
+                }
+                left = back;
+            }
+        }
+    }
+    unreachable!()
+}
+
+// The end of a client that gives up, behind its command.
+fn give_up<G: Gate>(gate: &G, left: Left, line: FullLine) -> Work
+    ensures handed { result.handed ≡ Idle left.desk.caller }
+    ensures entries { result.entries ≡ left.desk.entries }
+    ensures reads { result.reads ≡ left.desk.reads }
+    ensures end_is { result.end ≡ Full line }
+{
+    gate.pass(line.client, line.command, true);
+    left.desk.over(End::Full(line))
+}
+
+// Whether a client was stopped, as one of these lines says or the rest of the works.
+fn has_stopped(stops: &[StopLine], rest: &[Result<Served, AllocError>], client: u32) -> bool
+    ensures { result ≡ is_stopped client (stops.now ++ stops_left rest.now) }
+{
+    is_told(stops, client) || is_left(rest, client)
+}
+
+fn is_told(stops: &[StopLine], client: u32) -> bool
+    ensures { result ≡ is_stopped client stops.now }
+{
+    stops.iter().any(|line| line.client == client)
+}
+
+#[tactic(auto, using(crate::proofs::Leaving::stopped_here, crate::proofs::Leaving::stopped_later, crate::proofs::Leaving::stopped_never))]
+fn is_left(rest: &[Result<Served, AllocError>], client: u32) -> bool
+    ensures { result ≡ is_stopped client (stops_left rest.now) }
+{
+    for served in rest {
+        if tells_stop(served, client) {
+            return true;
+        }
+    }
+    false
+}
+
+// Whether a worker's client is this one and was stopped.
+fn tells_stop(served: &Result<Served, AllocError>, client: u32) -> bool
+    ensures { result ≡ is_stopped client (stop_told served.now) }
+{
+    match served {
+        Ok(Served::Done(work)) => match &work.end {
+            End::Stopped(line) => line.client == client,
+            End::Whole | End::Full(_) | End::Never => false,
+        },
+        Ok(Served::Full(..)) | Err(AllocError) => false,
+    }
 }
 
 // The command at a place of the script. Commands are made in the order of these places.

@@ -2,10 +2,10 @@
 
 ghost use Rattle.std.specs.Prelude.{◌≡◌, All, IfOk, vec_len};
 ghost use Rattle.life_records.specs.Limits.{IsLifeInLimits};
-ghost use Rattle.cx_lives.specs.Ends.{AreWorksOf, IsNewIn, IsWorkOf};
+ghost use Rattle.cx_lives.specs.Ends.{IsNewIn};
+ghost use Rattle.cx_lives.specs.Works.{AreWorksOf, ServedOf};
 
-use crate::desk::Work;
-use crate::work::serve;
+use crate::work::{Served, serve};
 use cx_base::Gate;
 use cx_service::{Caller, Service};
 use doc_store::DocStore;
@@ -22,7 +22,7 @@ pub(crate) fn run_workers<R: Threads + Wait + Sync, G: Gate + Sync>(
     callers: Vec<Caller>,
     life: &Life,
     gate: &G,
-) -> Result<Vec<Result<Work, AllocError>>, AllocError>
+) -> Result<Vec<Result<Served, AllocError>>, AllocError>
     requires callers { All (IsNewIn life.now service.now) callers.items }
     requires life { IsLifeInLimits life.now }
     ensures len { IfOk result (λ works. vec_len works ≡ vec_len callers) }
@@ -33,9 +33,9 @@ pub(crate) fn run_workers<R: Threads + Wait + Sync, G: Gate + Sync>(
     map_vec(
         rt,
         callers,
-        &|caller: Caller| -> Result<Work, AllocError>
+        &|caller: Caller| -> Result<Served, AllocError>
             requires { IsNewIn life.now service.now caller × IsLifeInLimits life.now }
-            ensures { IfOk result (IsWorkOf life.entry.now service.entry.now caller.known.local.number) }
+            ensures { IfOk result (ServedOf life.entry.now service.entry.now caller.known.local.number) }
         { serve(rt, alloc, service, life, gate, caller) },
     )
 }

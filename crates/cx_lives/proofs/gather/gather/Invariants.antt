@@ -1,13 +1,18 @@
-use Rattle.std.proofs.Common.{◌≡◌, ◌+◌, length, vec_len}
-use Rattle.std.specs.Vec.Iter.{into_iter_items, into_iter_len}
-use Rattle.cx_lives.specs.Ends.{AreNumbered}
+use Rattle.std.proofs.Common.{◌≡◌, ◌+◌, ◌++◌, length}
+use Rattle.std.specs.Prelude.{vec_len}
 use Rattle.cx_lives.specs.Gathering.{AreGathered}
+use Rattle.cx_lives.specs.Works.{AreNumbered, stops_left}
+use Rattle.cx_lives.proofs.Leaving.{HoldersStopped}
 use Rattle.cx_lives.proofs.gather.gather.Given as goal
 
 -- the first clients are put together, and the others are left
-abbrev pub invariant-loop-work : goal.invariant-loop-work
-invariant-loop-work l = record {
+abbrev pub invariant-loop-alloc : goal.invariant-loop-alloc
+invariant-loop-alloc g l = record {
   gathered : AreGathered l.life l.service l.all;
-  rest : AreNumbered l.life l.service (length l.all.handed.items) (into_iter_items l.work-iterator);
-  count : length l.all.handed.items + into_iter_len l.work-iterator ≡ vec_len l.fn.works;
+  rest : AreNumbered l.life l.service (length l.all.handed.items) l.works.items;
+  count : length l.all.handed.items + length l.works.items ≡ vec_len l.fn.works;
+  stopped : HoldersStopped (l.all.stops.items ++ stops_left l.works.items) l.all.fulls.items;
 }
+
+abbrev pub decreases-loop-alloc : goal.decreases-loop-alloc
+decreases-loop-alloc g l = length l.works.items

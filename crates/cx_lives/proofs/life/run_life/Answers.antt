@@ -16,8 +16,8 @@ use Rattle.cx_lives.proofs.Gathering.{gathered_seats, locals_in, locals_long, nu
 use Rattle.cx_lives.proofs.Never.{never}
 use Rattle.cx_lives.proofs.life.run_life.Goals as goal
 
-pub gather-requires : goal.gather-requires
-gather-requires g c =
+pub gather-requires-clause-works : goal.gather-requires-clause-works
+gather-requires-clause-works g c =
     let callers = c.args.callers in
     let works = c.in_ok-works.works in
     let few = seats_long c.args.service callers.items c.requires.seats in
@@ -38,7 +38,7 @@ unreachable-requires g c =
     let gathered = c.in_ok-handed.ensures.gathered in
     let left = c.in-Ok.ensures.remains in
     let base = c.lines-lines.ensures.running.base in
-    let has : HasNever life ls = subst (λ b. MatchBool b (HasNever life ls) (AreWorks life ls f.entries.items f.reads.items f.stops.items)) c.if-never.true gathered.works in
+    let has : HasNever life ls = subst (λ b. MatchBool b (HasNever life ls) (AreWorks life ls f.entries.items f.reads.items f.stops.items f.fulls.items)) c.if-never.true gathered.works in
     never life r.lines r.object.lines (instance_at r (λ s. store_step s.lines) (λ _. reads_in)) refl base left.words left.whole left.state ls left.shows gathered.each c.requires.tickets has
 
 pub returns : goal.returns
@@ -52,33 +52,32 @@ returns g c =
     let left = c.in-Ok.ensures.remains in
     let history = c.in-Ok.remains.trail.history in
     let journal = c.sort_unstable_by_key.new.self.items in
-    let works : AreWorks life ls f.entries.items f.reads.items f.stops.items =
-    subst (λ b. MatchBool b (HasNever life ls) (AreWorks life ls f.entries.items f.reads.items f.stops.items)) c.if-never.false gathered.works in
+    let works : AreWorks life ls f.entries.items f.reads.items f.stops.items f.fulls.items =
+    subst (λ b. MatchBool b (HasNever life ls) (AreWorks life ls f.entries.items f.reads.items f.stops.items f.fulls.items)) c.if-never.false gathered.works in
     let sorted : IsByTicket f.entries.items journal = record {
       moved = c.sort_unstable_by_key.ensures.permutation;
       up = IsNonDecreasingBy-from_sort_by_key (λ (l : JournalLine). l.ticket) journal c.sort_unstable_by_key.ensures.sorted (λ a r q k. search rules);
     } in
     let laws = c.journals_are_told.ensures in
-    let still = laws.works life place history ls f.entries.items journal f.reads.items f.stops.items works left.merged sorted in
+    let still = laws.works life place history ls f.entries.items journal f.reads.items f.stops.items f.fulls.items works left.merged sorted in
     let clients : length ls ≡ life.clients = omega (arith, locals_long handed, c.in_ok-handed.ensures.all, c.in_ok-works.ensures.len, c.args.callers.ok.0, c.requires.clients) in
-    let made : LifeRecord = record { clients = life.clients; from = c.in-Ok.remains.first; journal = c.of.result; reads = c.of-2.result; stops = c.of-3.result; fulls = c.new.result; choice = life.choice; kept = 0; documents = 0 } in
-    let is : IsRecordOf place ls journal f.reads.items f.stops.items made = record {
+    let made : LifeRecord = record { clients = life.clients; from = c.in-Ok.remains.first; journal = c.of.result; reads = c.of-2.result; stops = c.of-3.result; fulls = c.of-4.result; choice = life.choice; kept = 0; documents = 0 } in
+    let is : IsRecordOf place ls journal f.reads.items f.stops.items f.fulls.items made = record {
       clients = sym clients;
       from = left.first;
       journal_is = c.of.ensures;
       reads_are = c.of-2.ensures;
       stops_are = c.of-3.ensures;
-      fulls = c.new.ensures;
+      fulls_are = c.of-4.ensures;
     } in
-    let told = laws.told life place history ls f.entries.items journal f.reads.items f.stops.items works left.merged sorted made is clients (λ client l at. (gathered.each client l at).limit) in
+    let told = laws.told life place history ls f.entries.items journal f.reads.items f.stops.items f.fulls.items works left.merged sorted c.in_ok-handed.ensures.stopped made is clients (λ client l at. (gathered.each client l at).limit) in
     record {
       seats = seats_of handed;
       are = gathered_seats life c.args.service c.args.callers.items f c.requires.seats (omega (arith, c.in_ok-handed.ensures.all, c.args.callers.ok.0, c.in_ok-works.ensures.len)) gathered;
       leaves = left;
       is_told = subst (λ (xs : List Local). IsTold life place history xs made) (sym left.locals) told;
-      works = rw (left.locals, c.of.ensures, c.of-2.ensures, c.of-3.ensures) still;
+      works = rw (left.locals, c.of.ensures, c.of-2.ensures, c.of-3.ensures, c.of-4.ensures) still;
       choice = refl;
       kept = refl;
       documents = refl;
-      fulls = c.new.ensures;
     }

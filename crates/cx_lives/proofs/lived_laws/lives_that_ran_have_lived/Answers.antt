@@ -24,7 +24,7 @@ returns c = λ life begun service told flagged remains image next based is ran l
     let retold = c.flags_may_be_set.ensures.told life told flagged lost.flags.same in
     let ended : IsEnded life flagged =
     c.flags_may_be_set.ensures.ended life told flagged lost.flags.same
-    (c.told_lives_have_ended.ensures life service.base.place remains.trail.history remains.trail.locals told ran.works ran.is_told ran.fulls) in
+    (c.told_lives_have_ended.ensures life service.base.place remains.trail.history remains.trail.locals told ran.works ran.is_told) in
     let rec_in = recorded lines base life begun service told flagged remains image next based is ran lost by closed (λ place history. retold place history remains.trail.locals) in
     let kept = kept_in lines base life begun service told flagged remains image next based is ran lost by closed (λ place history. retold place history remains.trail.locals) in
     lived lines base life begun service told flagged remains image next based is ran lost by closed (λ place history. retold place history remains.trail.locals) ended

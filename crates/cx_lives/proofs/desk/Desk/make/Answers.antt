@@ -4,7 +4,7 @@ use Rattle.doc_model.proofs.OpKinds.{op_words_fit}
 use Rattle.cx_lives.specs.declared.desk.Desk.{Desk}
 use Rattle.cx_lives.specs.Ends.{Turned}
 use Rattle.cx_lives.specs.Turns.{EntryTurn, ReadTurn}
-use Rattle.cx_lives.proofs.Turning.{entry_turned, if_ok, read_turned, stop_turned, worn_turned}
+use Rattle.cx_lives.proofs.Turning.{entry_turned, full_turned, if_ok, read_turned, stop_turned, worn_turned}
 use Rattle.cx_lives.proofs.desk.Desk.make.Goals as goal
 
 pub ask-requires-clause-reads : goal.ask-requires-clause-reads
@@ -41,6 +41,14 @@ returns-in-Read g c =
     (λ turn t. read_turned life r client (n - 1) n d.caller d.entries.items d.reads.items c.requires.served.lists (omega (arith, c.requires.number)) c.args.command.now.op c.op_words-op.result c.op_words-op.ensures c.requires.named
     c.requires.op c.amount_has_64_bits.ensures (omega (arith, c.requires.served.caller.count)) c.in-Read.caller c.in-Read.seen desk turn c.in-Read.ensures refl refl refl t)
     c.with_read.result c.with_read.ensures
+
+pub returns-in-Full : goal.returns-in-Full
+returns-in-Full g c =
+    let n = c.args.number in
+    let d = c.args.self in
+    let desk : Desk = record { caller = c.in-Full.caller; entries = d.entries; reads = d.reads } in
+    full_turned c.args.life.now c.args.service.now c.args.command.now.client (n - 1) n d.caller d.entries.items d.reads.items c.requires.served.lists (omega (arith, c.requires.number)) c.args.command.now.op c.op_words-op.result
+    c.op_words-op.ensures c.requires.named c.requires.op c.amount_has_64_bits.ensures c.in-Full.caller c.in-Full.note desk c.in-Full.ensures refl refl refl
 
 pub returns-in-Worn : goal.returns-in-Worn
 returns-in-Worn g c =

@@ -1,7 +1,7 @@
 use Rattle.std.proofs.Common.{◌≡◌, ◌≤◌, take, length}
 use Rattle.life_records.specs.Scripts.{own_ops}
 use Rattle.cx_lives.specs.Serving.{IsServed}
-use Rattle.cx_lives.proofs.work.serve.Given as goal
+use Rattle.cx_lives.proofs.work.serve_on.Given as goal
 
 -- the client was answered its commands so far, and has no more among them
 abbrev pub invariant-loop-at : goal.invariant-loop-at

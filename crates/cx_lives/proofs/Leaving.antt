@@ -1,0 +1,80 @@
+-- The stop lines of the works that are left.
+use Rattle.std.proofs.Common.{◌≡◌, ◌+◌, ◌<◌, ◌≤◌, ◌||◌, ◌==◌, ℕ, suc, Bool, true, false, List, [], ◌∷◌, ◌++◌, length, drop, get_or, Result, sym, ap, ◌∙◌, refl, arith}
+use Rattle.std.specs.Prelude.{All}
+use Rattle.std.specs.declared.alloc.AllocError.{AllocError}
+use Rattle.std.proofs.Math.Seq.{drop-cons}
+use Rattle.std.proofs.lemmas.List.{drop_all}
+use Rattle.std.proofs.lemmas.List.Elements.{All-append, All-cons, All-nil, All-weaker}
+use Rattle.life_records.specs.Lives.{is_stopped}
+use Rattle.life_records.specs.declared.record.FullLine.{FullLine}
+use Rattle.life_records.specs.declared.record.StopLine.{StopLine}
+use Rattle.cx_lives.specs.Works.{stop_told, stops_left}
+use Rattle.cx_lives.specs.declared.work.Served.{Served}
+
+-- a client is stopped in two lists of lines where it is in one of them
+pub stopped_both : (client : ℕ) (xs ys : List StopLine) → is_stopped client (xs ++ ys) ≡ is_stopped client xs || is_stopped client ys
+stopped_both client [] ys = refl
+stopped_both client (x ∷ xs) ys = ap (λ b. (x.client == client) || b) (stopped_both client xs ys) ∙ sym (or_assoc (x.client == client) (is_stopped client xs) (is_stopped client ys))
+  where
+    or_assoc : (a b c : Bool) → (a || b) || c ≡ a || (b || c)
+    or_assoc true b c = refl
+    or_assoc false b c = refl
+
+module _ (client i : ℕ) (works : List (Result Served AllocError)) (work : Result Served AllocError) (within : i < length works) (is : work ≡ get_or works i work) where
+  next_left : drop i works ≡ work ∷ drop (i + 1) works
+  next_left =
+      let next : suc i ≡ i + 1 = omega arith in
+      drop-cons works i work within ∙ ap (λ (w : Result Served AllocError). w ∷ drop (suc i) works) (sym is) ∙ ap (λ (n : ℕ). work ∷ drop n works) next
+
+  parts : is_stopped client (stops_left (drop i works)) ≡ is_stopped client (stop_told work) || is_stopped client (stops_left (drop (i + 1) works))
+  parts = ap (λ ws. is_stopped client (stops_left ws)) next_left ∙ stopped_both client (stop_told work) (stops_left (drop (i + 1) works))
+
+  -- the next one was stopped
+  pub stopped_here : (b : Bool) → is_stopped client (stop_told work) ≡ true → b ≡ is_stopped client (stops_left (drop i works)) → b ≡ true
+  stopped_here b here so_far = so_far ∙ parts ∙ ap (λ t. t || is_stopped client (stops_left (drop (i + 1) works))) here
+
+  -- or it was not, and is passed over
+  pub stopped_later : (b : Bool) → is_stopped client (stop_told work) ≡ false → b ≡ is_stopped client (stops_left (drop i works)) → b ≡ is_stopped client (stops_left (drop (i + 1) works))
+  stopped_later b here so_far = so_far ∙ parts ∙ ap (λ t. t || is_stopped client (stops_left (drop (i + 1) works))) here
+
+-- none is left
+pub stopped_never : (client i : ℕ) (works : List (Result Served AllocError)) (b : Bool) → length works ≤ i → b ≡ is_stopped client (stops_left (drop i works)) → b ≡ false
+stopped_never client i works b over so_far = so_far ∙ ap (λ ws. is_stopped client (stops_left ws)) (drop_all i works over)
+
+or_more : (a t s r : Bool) → (t ≡ true → s ≡ true) → a || (t || r) ≡ true → (a || s) || r ≡ true
+or_more true t s r f e = refl
+or_more false true s r f e = rw (f refl) refl
+or_more false false true r f e = refl
+or_more false false false r f e = e
+
+-- a client that was stopped stays so where one client's work is put to the others
+stopped_more : (client : ℕ) (before told now left : List StopLine) → (is_stopped client told ≡ true → is_stopped client now ≡ true) → is_stopped client (before ++ (told ++ left)) ≡ true → is_stopped client ((before ++ now) ++ left) ≡ true
+stopped_more client before told now left f e =
+    let a = is_stopped client before in
+    let t = is_stopped client told in
+    let s = is_stopped client now in
+    let k = is_stopped client left in
+    let was : a || (t || k) ≡ true = sym (stopped_both client before (told ++ left) ∙ ap (λ b. a || b) (stopped_both client told left)) ∙ e in
+    stopped_both client (before ++ now) left ∙ ap (λ b. b || k) (stopped_both client before now) ∙ or_more a t s k f was
+
+-- the holders of all full lines were stopped, as these stop lines say
+abbrev pub HoldersStopped : List StopLine → List FullLine → Type 0
+HoldersStopped stops fulls = All (λ (line : FullLine). is_stopped line.note.holder stops ≡ true) fulls
+
+-- they stay so where one client's work is put to the others, whose own full line names such a holder
+pub holders_more : (before now told left : List StopLine) (fulls more : List FullLine) → ((client : ℕ) → is_stopped client told ≡ true → is_stopped client now ≡ true) → HoldersStopped (before ++ (told ++ left)) fulls
+    → HoldersStopped (before ++ left) more → HoldersStopped ((before ++ now) ++ left) (fulls ++ more)
+holders_more before now told left fulls more f was new =
+    All-append (λ (line : FullLine). is_stopped line.note.holder ((before ++ now) ++ left) ≡ true) fulls more
+    (All-weaker (λ (line : FullLine). is_stopped line.note.holder (before ++ (told ++ left)) ≡ true) (λ (line : FullLine). is_stopped line.note.holder ((before ++ now) ++ left) ≡ true)
+    (λ line e. stopped_more line.note.holder before told now left (f line.note.holder) e) fulls was)
+    (All-weaker (λ (line : FullLine). is_stopped line.note.holder (before ++ left) ≡ true) (λ (line : FullLine). is_stopped line.note.holder ((before ++ now) ++ left) ≡ true)
+    (λ line e. stopped_more line.note.holder before [] now left (λ none. cc) e) more new)
+
+-- of no full line, and of one
+pub all_of_none : (stops : List StopLine) (fulls : List FullLine) → fulls ≡ [] → HoldersStopped stops fulls
+all_of_none stops fulls none = rw none (All-nil (λ (line : FullLine). is_stopped line.note.holder stops ≡ true))
+
+pub all_of_one : (stops : List StopLine) (fulls : List FullLine) (line : FullLine) → fulls ≡ line ∷ [] → is_stopped line.note.holder stops ≡ true → HoldersStopped stops fulls
+all_of_one stops fulls line one is =
+    rw one (All-cons (λ (l : FullLine). is_stopped l.note.holder stops ≡ true) line [] is (All-nil (λ (l : FullLine). is_stopped l.note.holder stops ≡ true)))

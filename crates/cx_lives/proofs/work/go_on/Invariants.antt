@@ -1,0 +1,6 @@
+use Rattle.cx_lives.specs.Works.{IsLeftOf}
+use Rattle.cx_lives.proofs.work.go_on.Given as goal
+
+-- the client is the one that was left
+abbrev pub invariant-loop : goal.invariant-loop
+invariant-loop g l = IsLeftOf l.life l.service l.fn.left.desk.caller.known.local.number l.left

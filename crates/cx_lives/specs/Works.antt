@@ -1,0 +1,52 @@
+-- What workers come to: their clients are at their ends, or are left.
+use Rattle.std.specs.Prelude.{◌≡◌, ◌+◌, ◌<◌, ◌≤◌, ℕ, List, [], ◌∷◌, ◌++◌, length, take, IfOk, Result, Ok, Err, slice_index_or}
+use Rattle.std.specs.declared.alloc.AllocError.{AllocError}
+use Rattle.cx_rule.specs.Running.{Running}
+use Rattle.cx_rule.specs.Seats.{Seated}
+use Rattle.journals.specs.Works.{IsFullOf}
+use Rattle.life_records.specs.Scripts.{own_ops}
+use Rattle.life_records.specs.declared.script.Life.{Life}
+use Rattle.life_records.specs.declared.record.FullLine.{FullLine}
+use Rattle.life_records.specs.declared.record.StopLine.{StopLine}
+use Rattle.cx_lives.specs.Ends.{IsWorkOf, full_in, stop_in}
+use Rattle.cx_lives.specs.Serving.{IsServed}
+use Rattle.cx_lives.specs.declared.work.Left.{Left}
+use Rattle.cx_lives.specs.declared.work.Served.{Served}
+use Rattle.cx_lives.specs.declared.work.Served.TheVariants.{Done, Full}
+
+-- a client that is left: it was answered its commands among the first so many of the script
+pub record IsLeftOf {O : Type 0} (life : Life) (r : Running O) (client : ℕ) (left : Left) : Type 0 where
+  pub served : IsServed life r client left.number left.desk
+  pub count : left.number ≡ length (own_ops client (take left.at life.commands))
+  pub few : left.number ≤ left.at
+
+-- one that would give up in its next command with this line
+pub record IsFullLeft {O : Type 0} (life : Life) (r : Running O) (client : ℕ) (left : Left) (line : FullLine) : Type 0 where
+  pub left_is : IsLeftOf life r client left
+  pub full : IsFullOf life client left.number left.desk.caller.known.local line
+
+-- what a worker comes to, whose client gave up in no command yet
+abbrev pub ServedOf : {O : Type 0} → Life → Running O → ℕ → Served → Type 0
+ServedOf life r client (Done work) = IsWorkOf life r client work × (full_in work.end ≡ [])
+ServedOf life r client (Full left line) = IsFullLeft life r client left line
+
+-- item i is what the worker of caller i comes to, or it found no memory
+abbrev pub AreWorksOf : {O : Type 0} → Life → Running O → List Seated → List (Result Served AllocError) → Type 0
+AreWorksOf life r callers works =
+    (i : ℕ) (d : Result Served AllocError) (e : Seated) → i < length callers →
+    IfOk (slice_index_or works i d) (ServedOf life r (slice_index_or callers i e).known.local.number)
+
+-- what the workers of the callers from one on come to, each where it found memory
+abbrev pub AreNumbered : {O : Type 0} → Life → Running O → ℕ → List (Result Served AllocError) → Type 0
+AreNumbered life r client [] = Unit {0}
+AreNumbered life r client (work ∷ works) = IfOk work (ServedOf life r client) × AreNumbered life r (client + 1) works
+
+-- the stop line that a worker tells, and those of all
+abbrev pub stop_told : Result Served AllocError → List StopLine
+stop_told (Ok (Done work)) = stop_in work.end
+stop_told (Ok (Full left line)) = []
+stop_told (Err e) = []
+
+abbrev pub stops_left : List (Result Served AllocError) → List StopLine
+stops_left [] = []
+stops_left (work ∷ works) = stop_told work ++ stops_left works
