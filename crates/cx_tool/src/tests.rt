@@ -147,11 +147,11 @@ const ROWS: [(&str, u8, &str); 35] = [
     ("0\n", 3, "refused line 3: command\n"),
     ("\n# x\nlife 1 power 0\n", 3, "refused line 3: header\n"),
     ("lines 64\n\n#\n0 get a\n", 3, "refused line 4: life\n"),
-    // a client has 16 commands in a life at most
+    // a client may have any number of commands in a life
     (
-        "0 get a\n0 get a\n0 get a\n0 get a\n0 get a\n0 get a\n0 get a\n0 get a\n0 get a\n0 get a\n0 get a\n0 get a\n0 get a\n0 get a\n0 get a\n0 get a\n0 get a\n",
-        3,
-        "refused line 19: form\n",
+        "0 add n 1\n0 add n 1\n0 add n 1\n0 add n 1\n0 add n 1\n0 add n 1\n0 add n 1\n0 add n 1\n0 add n 1\n0 add n 1\n0 add n 1\n0 add n 1\n0 add n 1\n0 add n 1\n0 add n 1\n0 add n 1\n0 add n 1\n",
+        0,
+        "life 0 clients 1 from 0\n0 0.1 add n 1 = sum 1\n1 0.2 add n 1 = sum 2\n2 0.3 add n 1 = sum 3\n3 0.4 add n 1 = sum 4\n4 0.5 add n 1 = sum 5\n5 0.6 add n 1 = sum 6\n6 0.7 add n 1 = sum 7\n7 0.8 add n 1 = sum 8\n8 0.9 add n 1 = sum 9\n9 0.10 add n 1 = sum 10\n10 0.11 add n 1 = sum 11\n11 0.12 add n 1 = sum 12\n12 0.13 add n 1 = sum 13\n13 0.14 add n 1 = sum 14\n14 0.15 add n 1 = sum 15\n15 0.16 add n 1 = sum 16\n16 0.17 add n 1 = sum 17\npower 0 kept 17 of 17 documents 1\n",
     ),
     // cuts
     (

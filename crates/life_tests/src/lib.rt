@@ -6,6 +6,8 @@ mod checker;
 #[cfg(test)]
 mod cut_beside;
 #[cfg(test)]
+mod cut_holders;
+#[cfg(test)]
 mod cut_updates;
 #[cfg(test)]
 mod many_clients;

@@ -12,13 +12,14 @@ use std::sync::Wait;
 use std::thread::Threads;
 
 /// What came of the lives of a script: the report, whether they are legal by the plain checker, how many commands were
-/// answered, and how many clients were stopped.
+/// answered, how many clients were stopped, and how many gave up.
 #[derive(Drop)]
 pub(crate) struct Outcome {
     report: Vec<u8>,
     pub(crate) legal: bool,
     pub(crate) answered: usize,
     pub(crate) stopped: usize,
+    pub(crate) gave_up: usize,
 }
 
 impl Outcome {
@@ -42,6 +43,7 @@ pub(crate) fn lived<R: Threads + Wait + Sync, G: Gate + Sync>(
             legal: false,
             answered: 0,
             stopped: 0,
+            gave_up: 0,
         }),
     }
 }
@@ -59,16 +61,19 @@ fn script_lived<R: Threads + Wait + Sync, G: Gate + Sync>(
     let records = lived.records.as_slice();
     let mut answered = 0usize;
     let mut stopped = 0usize;
+    let mut gave_up = 0usize;
     for told in records {
         let entries = told.journal.as_slice().iter();
         answered = answered.saturating_add(entries.filter(|line| line.reply.is_some()).count());
         answered = answered.saturating_add(told.reads.len());
         stopped = stopped.saturating_add(told.stops.len());
+        gave_up = gave_up.saturating_add(told.fulls.len());
     }
     Ok(Outcome {
         report: report(alloc, script, records)?,
         legal: are_legal(alloc, script, records)?,
         answered,
         stopped,
+        gave_up,
     })
 }

@@ -1,0 +1,60 @@
+//! A client is stopped in an update, maybe while it needs the other's entries, and the other makes so many that its cells are given again,
+//! or gives up.
+
+use crate::runs::lived;
+use cx_base::OpenGate;
+use std::alloc::{AllocError, Global};
+use std::sync::Wait;
+use std::test::Fail;
+use std::thread::Threads;
+
+// The client is stopped after numbers of steps below this one, so many apart. Alone it is answered within fewer.
+const STEPS: u64 = 1200;
+
+const APART: usize = 7;
+
+// The script: client 1 is stopped in its update after so many steps, beside 48 updates of client 0, and the next life reads what was left.
+fn script(alloc: Global, steps: u64) -> Result<String, AllocError> {
+    let mut text = format!(in alloc; "lines 64\nlife 2 power 1\ncut 1 {steps}\n1 put a 1\n")?;
+    for number in 0..48u32 {
+        let row = format!(in alloc; "0 put b {number}\n")?;
+        text.push_str(&row)?;
+    }
+    text.push_str("life 1 power 0\n0 get a\n0 get b\n")?;
+    Ok(text)
+}
+
+// What came of it: how often the other gave up, and the first number of steps with which the lives are not legal, or with which the other
+// is not answered and did not give up, with the report.
+#[derive(Debug, Drop)]
+struct Tried {
+    gave_up: usize,
+    fault: Option<(u64, String)>,
+}
+
+fn all_tried<R: Threads + Wait + Sync>(rt: &R, alloc: Global) -> Result<Tried, AllocError> {
+    let mut gave_up = 0usize;
+    for steps in (0..STEPS).step_by(APART) {
+        let got = lived(rt, alloc, &script(alloc, steps)?, &OpenGate)?;
+        let all = got.text().contains("get b = 47\n");
+        if !got.legal || all != (got.gave_up == 0) || got.gave_up > got.stopped {
+            let report = String::from_str(alloc, got.text())?;
+            return Ok(Tried {
+                gave_up,
+                fault: Some((steps, report)),
+            });
+        }
+        gave_up = gave_up.saturating_add(got.gave_up);
+    }
+    Ok(Tried {
+        gave_up,
+        fault: None,
+    })
+}
+
+#[test]
+fn another_gives_up_where_a_stopped_client_keeps_its_cells(rt: HostRuntime) -> Result<(), Fail> {
+    let tried = all_tried(&rt, rt.alloc())?;
+    assert!(rt; tried.fault.is_none() && tried.gave_up > 0, "{tried:?}");
+    Ok(())
+}
