@@ -38,7 +38,6 @@ COMMANDS_RULE = "a script           has at most 1,000 lives and 100,000 commands
 JSON_RULE = "JSON               a value as JSON has it, nested at most 127 deep"
 NUMBER_RULE = "JSON               each number in it is an integer of 64 bits, with a sign or without; -0 is none"
 LENGTH_RULE = "JSON               its compact text, without spaces between its parts, has at most 1,024 bytes"
-FORM_RULE = "not read yet       a client's 17th command in a life"
 
 SENTENCES = {
     "utf8": "The line is not UTF-8: the marked byte cannot stand there. Only empty lines and comments may have any bytes.",
@@ -54,7 +53,6 @@ SENTENCES = {
     "json": "The document is no JSON from the marked place on.",
     "fraction": "A number of the document is no integer within 64 bits. Fractions, exponents and -0 are not taken.",
     "long": "The document's compact text has more than 1,024 bytes.",
-    "form": "The line is right, but the program does not read lines of this form yet.",
 }
 UNKNOWN = "docs/FORMATS.md, as this tool knows it, has no such reason."
 OTHER_ENDS = {
@@ -85,7 +83,6 @@ def rows_of(reason, line):
         "json": command + [JSON_RULE],
         "fraction": command + [NUMBER_RULE],
         "long": command + [LENGTH_RULE],
-        "form": [FORM_RULE],
     }.get(reason, [])
 
 
@@ -116,8 +113,7 @@ def place_of_fault(data, number, reason):
             return 0, whole, False
     except TooLong:
         return 0, whole, False
-    # a line of a form that is not read is right by the grammar, so this reader has no fault to show in it
-    return 0, whole, reason == "form"
+    return 0, whole, False
 
 
 def shown_line(raw, reason, start, end):

@@ -49,7 +49,6 @@ REFUSED = {
     "json": (HEAD + b'0 put a {"b":}\n', 3, "}"),
     "fraction": (HEAD + b'0 put a {"price":1.5,"sold":2}\n', 3, "1.5"),
     "long": (HEAD + b'0 put a "' + b"t" * 1_023 + b'"\n', 3, '"' + "t" * 60),
-    "form": (HEAD + b"0 count\n" * 17, 19, "0 count"),
 }
 # lines and the reasons for which they are refused, with what is marked in them: where no lines line was read,
 HEADERS = {
@@ -323,7 +322,7 @@ class Scripts(unittest.TestCase):
     def test_first_reason(self):
         for reason, (script, line, _) in REFUSED.items():
             with self.subTest(reason):
-                self.assertEqual(None if reason == "form" else (line, reason), first_refusal(script))
+                self.assertEqual((line, reason), first_refusal(script))
 
     def test_lines_before_a_life(self):
         for front, lines in ((b"", HEADERS), (b"lines 64\n", FIRST_LIVES)):

@@ -21,7 +21,7 @@ from report_text import UNANSWERED, Fault, read_report
 from script_text import Refusal, raw_lines, read_script
 
 PROGRAM = TOOLS.parent / "crates" / "cx_tool" / "out" / "cx_tool"
-CELLS = 16
+MOST_COMMANDS = 200
 MOST_SECONDS = 120
 DOCUMENTS = ["0", "-3", "12", '"a text"', '{"name": "pear", "price": 95}', "[ 1, 2,3 ]", "null", "9223372036854775807", '"x = new"']
 PIECES = ["0", "1", " ", "  ", "put", "add", "-0", "01", "1.5", "{", "}", "[", '"', "key", "cut", "life", "lines", "\t", "\r", "#", "\x7f"]
@@ -163,6 +163,7 @@ class Seen:
     reads: int = 0
     stops_kept: int = 0
     stops_lost: int = 0
+    given_up: int = 0
 
     def add(self, report):
         self.reports += 1
@@ -175,12 +176,14 @@ class Seen:
             kept = sum(stop.fate == "kept" for stop in life.stops)
             self.stops_kept += kept
             self.stops_lost += len(life.stops) - kept
+            self.given_up += len(life.fulls)
 
     def __str__(self):
         return (
             f"{self.refused} scripts refused alike; {self.reports} legal reports of {self.lives} lives: {self.entries} entries, "
             f"{self.unanswered} of them unanswered and {self.entries_lost} lost, {self.reads} reads, "
-            f"{self.stops_kept + self.stops_lost} clients stopped, {self.stops_kept} in a command that was kept"
+            f"{self.stops_kept + self.stops_lost} clients stopped, {self.stops_kept} in a command that was kept, "
+            f"and {self.given_up} that gave up"
         )
 
 
@@ -219,11 +222,11 @@ def disagreement(program, script, seen):
 
 
 def refusals(script, line):
-    """How a program may refuse the script: as docs/FORMATS.md says; or at this line, where a client's 17th command in a life stands."""
+    """How a program may refuse the script: as docs/FORMATS.md says."""
     front = b"\n".join(raw_lines(script)[:line]) + b"\n"
     try:
-        commands = [command for life in read_script(front).lives for command in life.commands]
-        return [Refused(line, "form")] if [c for c in commands if c.number > CELLS] == commands[-1:] else []
+        read_script(front)
+        return []
     except Refusal as refusal:
         return [Refused(refusal.line, refusal.reason)]
 
@@ -234,7 +237,8 @@ def compare(count, seen, program=PROGRAM):
         choice = random.Random(seed)
         clients, lives = choice.randint(1, 8), choice.randint(1, 5)
         steps = choice.choice([99, 999, 19_999])
-        script = script_text(choice, clients, lives, choice.randint(0, 60), cuts=True, most=CELLS, steps=steps)
+        commands = choice.choice([60, 60, clients * MOST_COMMANDS])
+        script = script_text(choice, clients, lives, choice.randint(0, commands), cuts=True, most=MOST_COMMANDS, steps=steps)
         if seed % 2:
             script = spoiled(choice, script)
         why = disagreement(program, script, seen)
