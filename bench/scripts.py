@@ -3,7 +3,7 @@
 
 Build the program first: cd crates/cx_tool && rt run -- run < ../../examples/first.script
 
-A client has at most 16 commands in a life, so many commands are many lives of 8 clients, each with a service that is started and closed, and a
+Many commands are made in one life, by one client and by 8, and in many lives of 8 clients, each with a service that is started and closed, and a
 loss of power. Lives without commands show what that costs alone; a script of the same size in comments shows what reading its bytes
 costs alone. The texts of one line are as long as an input may be, and no documents, or short ones; of some the value would take many times
 the memory of its text.
@@ -37,9 +37,17 @@ def one_command(life):
     return [(0, b"add n 1")]
 
 
+def of_clients(clients, each, command):
+    """Each of so many clients has so many commands, of the numbers that follow each other."""
+    return lambda life: [(i % clients, command(life * clients * each + i)) for i in range(clients * each)]
+
+
 def of_all_clients(command):
-    """Each client has its 16 commands, of the numbers that follow each other."""
-    return lambda life: [(i % CLIENTS, command(life * CLIENTS * EACH + i)) for i in range(CLIENTS * EACH)]
+    return of_clients(CLIENTS, EACH, command)
+
+
+def short_update(i):
+    return b"add n%d 1" % (i % 100)
 
 
 def every_command(i):
@@ -95,6 +103,8 @@ if __name__ == "__main__":
         measure(f"a life of 8 clients without commands, {lines} lines", lives(lines, 1, CLIENTS, no_commands))
         measure(f"a life of 8 clients with 16 commands, {lines} lines", lives(lines, 1, CLIENTS, of_all_clients(every_command)))
     measure("1,000 lives of one client and one command, 64 lines", lives(64, 1000, 1, one_command))
+    measure("a life of one client with 100,000 short updates, 1,024 lines", lives(1024, 1, 1, of_clients(1, 100_000, short_update)))
+    measure("a life of 8 clients with 12,500 short updates, 1,024 lines", lives(1024, 1, CLIENTS, of_clients(CLIENTS, 12_500, short_update)))
     measure("100,000 commands of all kinds over 1,000 keys, 781 lives, 4,096 lines", lives(4096, 781, CLIENTS, of_all_clients(every_command)))
     measure("16 MiB of long documents, 130 lives", long_documents())
     measure("16,777,216 line feeds", b"\n" * 16_777_216)
