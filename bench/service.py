@@ -16,15 +16,15 @@ import sys
 
 BENCH = os.path.join(os.path.dirname(__file__), "..", "crates", "service_bench", "out", "service_bench")
 LEAST_ROUNDS = 9
-# each replica that is taken is brought up by the entries that it lacks, so two parts are done more than once in an update
+# a protection is kept before the entries are read and given up behind them, so that part is done twice in an update
 PARTS = {
     "load_cur": "load CUR",
     "announce": "announce",
     "link": "link",
     "take": "take a replica",
     "place": "load its place",
-    "read_entry": "read entries",
-    "apply": "apply entries",
+    "protect": "protect entries",
+    "replay": "read and apply entries",
     "own_outcome": "load own outcome",
     "flush": "flush",
     "downgrade": "downgrade",

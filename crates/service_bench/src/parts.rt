@@ -1,7 +1,8 @@
 //! Updates and reads of one caller as a service makes them, part by part.
 
-ghost use Rattle.std.specs.Prelude.{◌≡◌, ◌<◌, ◌≤◌, IfOk, IsTrue, OnOk, length};
+ghost use Rattle.std.specs.Prelude.{◌<◌, ◌≤◌, IfOk, IsTrue, OnOk};
 ghost use Rattle.cx_core.specs.Base.{LawfulBase};
+ghost use Rattle.cx_core.specs.QueueEvents.{IsIdle};
 ghost use Rattle.cx_rule.specs.Running.{IsSeatOf};
 ghost use Rattle.cx_service.specs.Callers.{IsCallerOf, IsLinkedOf};
 ghost use Rattle.cx_service.proofs.Entering.{stale};
@@ -21,7 +22,8 @@ use std::io;
 use std::rt::Runtime;
 use std::time::Clock;
 
-/// What the parts of one caller's updates and reads take, in so many tables, one after another.
+/// What the parts of one caller's updates and reads take, in so many tables, one after another. No cell is collected, so that the 16
+/// updates of a table each have a cell of their own.
 pub fn parted<R: Runtime>(
     rt: &R,
     alloc: Global,
@@ -113,7 +115,7 @@ fn update<O: Object>(
     drive(rt, laps, shared, seat)
 }
 
-// Enters an operation into the queue.
+// Enters an operation into the queue. Where no cell is idle it stops as if it was halted.
 fn submit<O: Object>(
     rt: &impl Clock,
     laps: &mut Laps,
@@ -132,7 +134,7 @@ fn submit<O: Object>(
     announce_and_link(rt, laps, shared, seat, cell, op)
 }
 
-// Announces an operation in the cell of the caller's next entry, and links it.
+// Announces an operation in an idle cell of the caller, and links it.
 fn announce_and_link<O: Object>(
     rt: &impl Clock,
     laps: &mut Laps,
@@ -143,7 +145,7 @@ fn announce_and_link<O: Object>(
 ) -> Result<(), Halt>
     requires seat { IsSeatOf shared.now seat.old }
     requires caller { IsCallerOf shared.now (stale seat.old) }
-    requires cell { (cell ≡ length seat.old.known.local.own) × (cell < 16) }
+    requires cell { (cell < 16) × IsIdle seat.old.known.local cell }
     ensures { OnOk result (IsLinkedOf shared.now seat.new) }
 {
     announce(shared, seat, cell, op)?;
