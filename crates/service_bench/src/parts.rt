@@ -1,6 +1,6 @@
 //! Updates and reads of one caller as a service makes them, part by part.
 
-ghost use Rattle.std.specs.Prelude.{◌<◌, ◌≤◌, IfOk, IsTrue, OnOk};
+ghost use Rattle.std.specs.Prelude.{◌≡◌, ◌<◌, ◌≤◌, [], ◌∷◌, IfOk, IfSome, IsTrue, OnOk};
 ghost use Rattle.cx_core.specs.Base.{LawfulBase};
 ghost use Rattle.cx_core.specs.QueueEvents.{IsIdle};
 ghost use Rattle.cx_rule.specs.Running.{IsSeatOf};
@@ -37,7 +37,7 @@ pub fn parted<R: Runtime>(
 {
     let mut laps = Laps::begin(rt)?;
     for n in 0..count {
-        let (shared, mut seat) = table(alloc, lines, base)?;
+        let (shared, mut seat) = table(alloc, lines, &[u64::MAX], base)?;
         let operations = Operations::of(alloc, shared.object(), keys, n)?;
         let _ = call_in_turn(rt, &mut laps, &shared, &mut seat, &operations);
     }
@@ -48,6 +48,7 @@ pub fn parted<R: Runtime>(
 fn table(
     alloc: Global,
     lines: u64,
+    limits: &[u64; 1],
     base: &Base,
 ) -> Result<(Shared<DocStore>, CallerSeat), AllocError>
     requires lines { (64 ≤ lines) × (lines ≤ 16384) }
@@ -55,11 +56,21 @@ fn table(
     ensures { IfOk result (λ r. IsCallerOf r.0 r.1) }
 {
     let store = DocStore::of(lines);
-    let (shared, mut seats) = Shared::make(alloc, store, 1, &[u64::MAX], base)?;
-    match seats.pop() {
+    let Ok((shared, seats)) = Shared::make(alloc, store, 1, limits, base) else {
+        return Err(AllocError);
+    };
+    match only(seats) {
         Some(seat) => Ok((shared, seat)),
         None => Err(AllocError),
     }
+}
+
+// The item of a list of one.
+fn only(mut seats: Vec<CallerSeat>) -> Option<CallerSeat>
+    ensures { IfSome result (λ seat. seats.items ≡ seat ∷ []) }
+{
+    let seat = seats.pop()?;
+    if seats.is_empty() { Some(seat) } else { None }
 }
 
 // Makes the updates in turn, and then the reads.
