@@ -1,4 +1,4 @@
-use Rattle.std.proofs.Common.{◌+◌, arith, subst}
+use Rattle.std.proofs.Common.{arith, subst}
 use Rattle.mutation_queue.specs.Links.{Tried}
 use Rattle.cx_service.specs.Submits.{SubmitLinked}
 use Rattle.cx_service.proofs.Entering.{answered_still, linked_at, stale}
