@@ -4,6 +4,8 @@ use Rattle.cx_core.specs.declared.local.Answer.{Answer}
 use Rattle.cx_core.specs.declared.local.SeenRead.{SeenRead}
 use Rattle.cx_rule.specs.Running.{Running}
 use Rattle.cx_rule.specs.Seats.{IsAtLimit, Seated}
+use Rattle.cx_service.specs.declared.lookup.Looked.{Looked}
+use Rattle.cx_service.specs.declared.lookup.Looked.TheVariants.{Ended, Found, Refused}
 use Rattle.cx_service.specs.declared.lookup.ReadTried.{ReadTried}
 use Rattle.cx_service.specs.declared.lookup.ReadTried.TheVariants.{Read, Pending, Halted}
 use Rattle.cx_service.specs.Callers.{IsCallerOf, IsStoppedOf, StoppedSeat}
@@ -52,3 +54,9 @@ abbrev pub Looks : {O : Type 0} → Running O → List ℕ → ℕ → Seated �
 Looks r op tries before (Read after seen) = ReadAnswered r op before after seen
 Looks r op tries before (Pending after) = ReadPending r tries before after
 Looks r op tries before (Halted after) = ReadHalted r op before after
+
+-- what one turn of it comes to, beside the reply
+abbrev pub LooksOnce : {O : Type 0} → Running O → List ℕ → List ℕ → Seated → Looked → Type 0
+LooksOnce r op reply before (Found after place) = ReadAnswered r op before after (record { place = place; reply = reply })
+LooksOnce r op reply before (Refused after) = ReadPending r 1 before after
+LooksOnce r op reply before (Ended after) = ReadHalted r op before after

@@ -2,7 +2,7 @@
 
 ghost use Rattle.std.specs.Prelude.{◌≤◌, IsTrue};
 ghost use Rattle.cx_service.specs.Callers.{IsCallerOf};
-ghost use Rattle.cx_service.specs.Lookups.{Looks};
+ghost use Rattle.cx_service.specs.Lookups.{Looks, LooksOnce};
 
 use crate::callers::{Caller, Stopped};
 use crate::service::Service;
@@ -20,6 +20,17 @@ pub enum ReadTried {
     Halted(Stopped),
 }
 
+/// What one turn for a read comes to, beside the reply.
+#[derive(Drop)]
+pub(crate) enum Looked {
+    /// The read is answered at this place.
+    Found(Caller, u64),
+    /// A refusal was met.
+    Refused(Caller),
+    /// The step limit was reached.
+    Ended(Stopped),
+}
+
 impl<O: Object> Service<O> {
     /// Answers an operation that only reads on the current replica, in at most so many turns, and does not enter the queue. `Read` is
     /// answered by a raise of the durable root alone: the reply is the object's after the entries below the place, all of which a loss
@@ -32,30 +43,31 @@ impl<O: Object> Service<O> {
         ensures { Looks self.now op.now tries caller result }
     {
         let mut caller = caller;
+        let mut reply = [0; 144];
         for _turn in 0..tries {
-            match self.read_once(caller, op) {
-                ReadTried::Pending(back) => caller = back,
-                ReadTried::Read(back, seen) => return ReadTried::Read(back, seen),
-                ReadTried::Halted(stopped) => return ReadTried::Halted(stopped),
+            match self.read_once(caller, op, &mut reply) {
+                Looked::Refused(back) => caller = back,
+                Looked::Found(back, place) => return ReadTried::Read(back, Seen { place, reply }),
+                Looked::Ended(stopped) => return ReadTried::Halted(stopped),
             }
         }
         ReadTried::Pending(caller)
     }
 
-    /// One turn of it.
-    fn read_once(&self, caller: Caller, op: &[u64; 144]) -> ReadTried
+    /// One turn of it, which makes the reply where the caller has it.
+    fn read_once(&self, caller: Caller, op: &[u64; 144], reply: &mut [u64; 144]) -> Looked
         requires caller { IsCallerOf self.now caller }
         requires reads { IsTrue (O.only_reads self.now.object op.now) }
-        ensures { Looks self.now op.now 1 caller result }
+        ensures { LooksOnce self.now op.now reply.new caller result }
     {
         let Caller { mut seat } = caller;
         let at = &mut *seat;
         // refusals are counted in a word
         let _met = at.met();
-        match read_turn(&self.shared, at, op) {
-            Ok(Some(seen)) => ReadTried::Read(Caller { seat }, seen),
-            Ok(None) => ReadTried::Pending(Caller { seat }),
-            Err(Halt) => ReadTried::Halted(Stopped { seat, linked: None }),
+        match read_turn(&self.shared, at, op, reply) {
+            Ok(Some(place)) => Looked::Found(Caller { seat }, place),
+            Ok(None) => Looked::Refused(Caller { seat }),
+            Err(Halt) => Looked::Ended(Stopped { seat, linked: None }),
         }
     }
 }

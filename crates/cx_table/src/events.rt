@@ -1,7 +1,6 @@
 //! An event of the core as one atomic step of the table, for each kind of atomic step.
 
 ghost use Rattle.std.specs.Prelude.{◌≡◌, ◌+◌, ◌-◌, ◌%◌, ◌^◌, ◌<◌, ◌==◌, ◌∷◌, [], ℕ, max, List, if◌then◌else◌};
-ghost use Rattle.std.specs.Option.{option_copied};
 ghost use Rattle.atomic_table.specs.Table.{Allows};
 ghost use Rattle.cx_core.specs.declared.local.Answer.{Answer};
 ghost use Rattle.cx_rule.specs.Raises.{IsRaiseLearned, TeachesRaised};
@@ -12,6 +11,7 @@ ghost use Rattle.cx_rule.specs.Seats.{kind_found, known_of};
 ghost use Rattle.cx_rule.specs.Steps.{IsBlind, IsCopyLearned, IsEventOn, IsLearned, IsStore, Puts, Teaches, TeachesCopied};
 ghost use Rattle.cx_core.specs.declared.local.Local.{Local};
 
+use crate::raise_step::AnsweredRead;
 use crate::shared::Shared;
 use atomic_table::{Play, Seat};
 use cx_base::Object;
@@ -271,14 +271,14 @@ impl<O: Object> Shared<O> {
         seat: &mut Seat<u8, View>,
         word: usize,
         code: u64,
-        read: Option<&([u64; 144], [u64; 144])>,
+        read: Option<AnsweredRead>,
     ) -> u64
         requires table { seat.old.table_id ≡ self.now.table }
         requires one { seat.old.me ≡ (known_of seat.old.me.0 ∷ [], []) }
         requires within { word < self.now.table.words }
-        requires learns { (answers : List Answer) × IsRaiseLearned (instance_at self.now O.step O.only_reads) code answers (option_copied read) (known_of seat.old.me.0) word }
+        requires learns { (answers : List Answer) × IsRaiseLearned (instance_at self.now O.step O.only_reads) code answers read (known_of seat.old.me.0) word }
         ensures table { seat.new.table_id ≡ seat.old.table_id }
-        ensures taught { (answers : List Answer) → IsRaiseLearned (instance_at self.now O.step O.only_reads) code answers (option_copied read.entry) (known_of seat.old.me.0) word → TeachesRaised (instance_at self.now O.step O.only_reads) code answers (option_copied read.entry) (known_of seat.old.me.0) seat.new.me }
+        ensures taught { (answers : List Answer) → IsRaiseLearned (instance_at self.now O.step O.only_reads) code answers read.entry (known_of seat.old.me.0) word → TeachesRaised (instance_at self.now O.step O.only_reads) code answers read.entry (known_of seat.old.me.0) seat.new.me }
     {
         self.raise_as::<Brand>(seat, word, code, read)
     }
@@ -288,7 +288,7 @@ impl<O: Object> Shared<O> {
         seat: &mut Seat<u8, View>,
         word: usize,
         code: u64,
-        read: Option<&([u64; 144], [u64; 144])>,
+        read: Option<AnsweredRead>,
     ) -> u64
         requires table { seat.old.table_id ≡ self.now.table }
         requires within { word < self.now.table.words }

@@ -19,6 +19,7 @@ mod tokens;
 
 pub use cx_rule::{CoreRule, Key, Known, Noted, View};
 pub use gather::{KeptTable, Room};
+pub use raise_step::AnsweredRead;
 pub use remains::{Remains, Trail};
 pub use seat::CallerSeat;
 pub use seat_memory::GROUP;

@@ -2,7 +2,6 @@
 //! equal its limit, and then nothing changes.
 
 ghost use Rattle.std.specs.Prelude.{List, OnErr, OnOk, IfOk};
-ghost use Rattle.std.specs.Option.{option_copied};
 ghost use Rattle.cx_base.specs.Codes.{root_place_of};
 ghost use Rattle.cx_core.specs.declared.local.Answer.{Answer};
 ghost use Rattle.cx_core.specs.RootEvents.{CanRaise};
@@ -15,30 +14,48 @@ use crate::seat::CallerSeat;
 use crate::shared::Shared;
 use cx_base::{Halt, Object};
 use cx_core::layout::DUR_AT;
+use std::marker::Model;
+
+/// A read that is to be answered: an operation that only reads, and the reply to it. It lends the words, since no step looks at
+/// them.
+#[derive(Drop)]
+pub struct AnsweredRead<'a> {
+    pub op: &'a [u64; 144],
+    pub reply: &'a [u64; 144],
+}
+
+impl<'a> Model for AnsweredRead<'a> {
+    ghost use Rattle.std.specs.Prelude.{List, ℕ};
+
+    ghost Value = { List ℕ × List ℕ };
+
+    ghost view = { λ s. (s.op.now, s.reply.now) };
+}
 
 impl<O: Object> Shared<O> {
     /// Raises DUR to a code, which is the one last found in CUR or the one that the caller won with. The caller's unanswered
     /// entry is answered where its ticket is below the code's place: its reply was read in the replica that was held
-    /// exclusively, above that ticket. A read, an operation and its reply, is answered at the code's place: the reply was read in
-    /// the replica that is held shared. It gives the word found.
+    /// exclusively, above that ticket. A read is answered at the code's place: the reply was read in the replica that is held
+    /// shared. It gives the word found.
     pub fn raise(
         &self,
         seat: &mut CallerSeat,
         code: u64,
-        read: Option<&([u64; 144], [u64; 144])>,
+        read: Option<AnsweredRead>,
     ) -> Result<u64, Halt>
         requires seat { IsSeatOf self.now seat.old }
-        requires guard { CanRaise (instance_at self.now O.step O.only_reads) code (op_in (option_copied read)) seat.old.known.local }
+        requires guard { CanRaise (instance_at self.now O.step O.only_reads) code (op_in read) seat.old.known.local }
         requires told { (answers : List Answer) × TellsAnswers self.now.lines (O.lawful self.now.object) self.now.base (O.step self.now.object) seat.old.known (root_place_of self.now.callers code) answers }
-        requires reads { TellsReads self.now.lines (O.lawful self.now.object) self.now.base (O.step self.now.object) seat.old.known (option_copied read) }
-        ensures made { IfOk result (λ _. (answers : List Answer) → TellsAnswers self.now.lines (O.lawful self.now.object) self.now.base (O.step self.now.object) seat.old.known (root_place_of self.now.callers code) answers → Raises self.now O.step O.only_reads code answers (option_copied read.entry) seat.old seat.new) }
+        requires reads { TellsReads self.now.lines (O.lawful self.now.object) self.now.base (O.step self.now.object) seat.old.known read }
+        ensures made { IfOk result (λ _. (answers : List Answer) → TellsAnswers self.now.lines (O.lawful self.now.object) self.now.base (O.step self.now.object) seat.old.known (root_place_of self.now.callers code) answers → Raises self.now O.step O.only_reads code answers read.entry seat.old seat.new) }
         ensures fits { OnOk result (Fitting self.now.lines (O.lawful self.now.object) self.now.base seat.new.known) }
         ensures halted { OnErr result (Halts self.now seat.old seat.new) }
     {
         let callers = self.callers;
+        let reads = read.is_some();
         seat.mirror.check()?;
         let found = self.raise_learned(&mut seat.seat, DUR_AT, code, read);
-        seat.mirror.raise(callers, code, read.is_some());
+        seat.mirror.raise(callers, code, reads);
         Ok(found)
     }
 }

@@ -1,5 +1,5 @@
 -- What a query on a part of a memory tells of the whole, and what is known of a replica's place.
-use Rattle.std.proofs.Common.{◌≡◌, ◌+◌, ◌==◌, ℕ, true, List, [], ◌++◌, length, take, drop, append-nil, refl, ap, sym, subst, ◌∙◌, arith, IsTrue, Some, Result, Ok, Err, IfOk, eq-eqb}
+use Rattle.std.proofs.Common.{◌≡◌, ◌+◌, ◌==◌, ℕ, true, List, [], ◌++◌, length, take, drop, append-nil, refl, ap, sym, subst, ◌∙◌, arith, IsTrue, Some, Result, Ok, Err, OnOk, eq-eqb}
 use Rattle.std.proofs.lemmas.Bool.{and_from, and_parts, eqb-true}
 use Rattle.std.proofs.lemmas.List.{length-drop, length-take-le, take-append-drop}
 use Rattle.std.proofs.lemmas.List.Folds.{list_any_at}
@@ -39,21 +39,21 @@ module _ {Key : Type 0} where
   }
 
   -- an object's query on a region's object part
-  pub part_queried : {E : Type 0} (old new : Key → List ℕ → Type 0) (step : List ℕ → List ℕ → List ℕ × List ℕ) (op : List ℕ) (result : Result (List ℕ) E) (len from' len' : ℕ) →
+  pub part_queried : {A E : Type 0} (old new : Key → List ℕ → Type 0) (step : List ℕ → List ℕ → List ℕ × List ℕ) (op reply : List ℕ) (result : Result A E) (len from' len' : ℕ) →
       from' ≡ 1168 → len' ≡ len → ((first : Key) (now : List ℕ) → new first now → length now ≡ 1168 + len) →
-      Becomes (Inside old 1168 len) (Inside new from' len') ◌≡◌ → IfOk result (λ reply. Always (Inside new from' len') (λ now. step now op ≡ (now, reply))) →
-      Becomes old new ◌≡◌ × IfOk result (λ reply. Reads old new (λ region. (step (object_part region) op).1 ≡ reply))
+      Becomes (Inside old 1168 len) (Inside new from' len') ◌≡◌ → OnOk result (Always (Inside new from' len') (λ now. step now op ≡ (now, reply))) →
+      Becomes old new ◌≡◌ × OnOk result (Reads old new (λ region. (step (object_part region) op).1 ≡ reply))
   unfolding object_part
-  part_queried {E = E} old new step op result len from' len' f l long kept done = (unmoved, by result told)
+  part_queried {A = A} {E = E} old new step op reply result len from' len' f l long kept done = (unmoved, by result told)
     where
       unmoved : Becomes old new ◌≡◌
       unmoved = part_unmoved old new 1168 len long (subst (λ m. Becomes (Inside old 1168 len) (Inside new 1168 m) ◌≡◌) l (subst (λ n. Becomes (Inside old 1168 len) (Inside new n len') ◌≡◌) f kept))
 
-      told : IfOk result (λ reply. Always (Inside new 1168 len) (λ now. step now op ≡ (now, reply)))
-      told = subst (λ m. IfOk result (λ reply. Always (Inside new 1168 m) (λ now. step now op ≡ (now, reply)))) l (subst (λ n. IfOk result (λ reply. Always (Inside new n len') (λ now. step now op ≡ (now, reply)))) f done)
+      told : OnOk result (Always (Inside new 1168 len) (λ now. step now op ≡ (now, reply)))
+      told = subst (λ m. OnOk result (Always (Inside new 1168 m) (λ now. step now op ≡ (now, reply)))) l (subst (λ n. OnOk result (Always (Inside new n len') (λ now. step now op ≡ (now, reply)))) f done)
 
-      by : (r : Result (List ℕ) E) → IfOk r (λ reply. Always (Inside new 1168 len) (λ now. step now op ≡ (now, reply))) → IfOk r (λ reply. Reads old new (λ region. (step (drop 1168 region) op).1 ≡ reply))
-      by (Ok reply) all = part_reads old new (λ part. (step part op).1 ≡ reply) 1168 len long unmoved (λ key part s. ap (λ p. p.1) (all key part s))
+      by : (r : Result A E) → OnOk r (Always (Inside new 1168 len) (λ now. step now op ≡ (now, reply))) → OnOk r (Reads old new (λ region. (step (drop 1168 region) op).1 ≡ reply))
+      by (Ok x) all = part_reads old new (λ part. (step part op).1 ≡ reply) 1168 len long unmoved (λ key part s. ap (λ p. p.1) (all key part s))
       by (Err e) all = tt
 
 same_pair : (x y : ℕ × ℕ) → is_same x y ≡ true → x ≡ y

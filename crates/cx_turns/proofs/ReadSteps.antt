@@ -65,7 +65,7 @@ module _ {O : Type 0} (lines : ℕ) (r : Running O) (step : List ℕ → List �
   -- a read of the replica that the code last loaded from CUR names, at that code's place
   pub is_read : (place : ℕ) → beside_shared hold.replica after ≡ beside_shared hold.replica before → IsHeldShared lines r lawful after hold → hold.replica ≡ root_replica_of r.callers before.known.local.seen_cur → place ≡ root_place_of r.callers before.known.local.seen_cur →
       all_rights before ≡ record no_rights { shared = Some hold.replica } → before.known.local.fresh ≡ true → Contains (loaded_of after.known.local.shared) (0, place) → TellsRead lines lawful r.base step after.known op reply →
-      IsRead lines r lawful step op before after (record { hold = hold; reply = reply })
+      IsRead lines r lawful step op reply before after hold
   unfolding with_shared
   is_read place rest held here at rights fresh has tells =
       let cur : after.known.local.seen_cur ≡ before.known.local.seen_cur = ap (λ (s : Seated). s.known.local.seen_cur) rest in
@@ -79,6 +79,6 @@ module _ {O : Type 0} (lines : ℕ) (r : Running O) (step : List ℕ → List �
             ∙ ap (λ (a : AllRights). (let b : AllRights = record a { shared = Some hold.replica } in b)) rights;
         fresh = ap (λ (s : Seated). s.known.local.fresh) rest ∙ fresh;
         shows = shows_place r.callers after.known.local.seen_cur hold.replica after.known.local.shared held.right.holds named (subst (λ n. Contains (loaded_of after.known.local.shared) (0, n)) there has);
-        reply = tells;
+        tells = tells;
         met = ap (λ (s : Seated). s.known.local.met) rest;
       }

@@ -1,5 +1,6 @@
 -- What a turn comes to that answers its caller's entry, and one that answers a read.
 use Rattle.std.specs.Prelude.{◌≡◌, ◌<◌, ◌≤◌, ◌⊎◌, true, false, ℕ, Bool, List, [], ◌∷◌, ◌++◌, length, slice_get, Option, Some, None}
+use Rattle.std.specs.Option.{option_map}
 use Rattle.cx_base.specs.Codes.{root_place_of}
 use Rattle.cx_core.specs.declared.local.Answer.{Answer}
 use Rattle.cx_core.specs.declared.local.SeenRead.{SeenRead}
@@ -8,7 +9,7 @@ use Rattle.cx_rule.specs.Raises.{TellsRead, TellsReply, known_answered}
 use Rattle.cx_rule.specs.Rule.{IsLawfulLocal}
 use Rattle.cx_rule.specs.Running.{IsSeatOf, Running, instance_at}
 use Rattle.cx_rule.specs.Seats.{IsAtLimit, Seated, unanswered_ticket}
-use Rattle.cx_turns.specs.declared.reading.Queried.{Queried}
+use Rattle.cx_table.specs.Right.{Right}
 use Rattle.cx_turns.specs.declared.lookup.Seen.{Seen}
 use Rattle.cx_turns.specs.Turns.{IsAtRest, TurnRefused, beside_turn}
 use Rattle.publish.specs.Publishing.{beside_publish, place_in}
@@ -83,6 +84,10 @@ pub record AnswersRead (op : List ℕ) (place : ℕ) (reply : List ℕ) (before 
   pub above : (i : ℕ) (x : Answer) → slice_get before.known.local.answered i ≡ Some x → x.ticket < place
   pub from : (i : ℕ) (x : SeenRead) → slice_get before.known.local.seen_reads i ≡ Some x → x.place ≤ place
 
+-- what was found where a reply was made at a place, or not
+abbrev pub seen_at : List ℕ → Option ℕ → Option Seen
+seen_at reply place = option_map (λ p. record { place = p; reply = reply }) place
+
 -- what a turn for a read comes to
 abbrev pub LooksUp : List ℕ → Seated → Seated → Option Seen → Type 0
 LooksUp op before after (Some found) = AnswersRead op found.place found.reply before after
@@ -102,10 +107,10 @@ pub record AnswersReadBy {O : Type 0} (r : Running O) (step : O → List ℕ →
 
 -- A read was found on the replica that the code last loaded from CUR names, and beside the shared right on it the caller is at rest,
 -- with each of its entries answered.
-pub record IsLookedUp {O : Type 0} (lines : ℕ) (r : Running O) (lawful : List ℕ → Type 0) (step : List ℕ → List ℕ → List ℕ × List ℕ) (op : List ℕ) (seat : Seated) (queried : Queried) : Type 0 where
-  pub held : IsHeldShared lines r lawful seat queried.hold
+pub record IsLookedUp {O : Type 0} (lines : ℕ) (r : Running O) (lawful : List ℕ → Type 0) (step : List ℕ → List ℕ → List ℕ × List ℕ) (op reply : List ℕ) (seat : Seated) (hold : Right) : Type 0 where
+  pub held : IsHeldShared lines r lawful seat hold
   pub rest : IsAtRest (record seat.known.local { shared = None; fresh = false })
   pub answered : unanswered_ticket seat.known.local ≡ None
   pub fresh : seat.known.local.fresh ≡ true
   pub shows : ShowsPlace r.callers seat.known.local.seen_cur seat.known.local.shared
-  pub reply : TellsRead lines lawful r.base step seat.known op queried.reply
+  pub tells : TellsRead lines lawful r.base step seat.known op reply

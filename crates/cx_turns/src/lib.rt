@@ -13,7 +13,7 @@ mod updating;
 pub use keeping::{keep, unguard};
 pub use lookup::{Seen, read_turn};
 pub use preparing::{Prepared, prepare};
-pub use reading::{Queried, query_held, query_part, read_current};
+pub use reading::{query_held, query_part, read_current};
 pub use replaying::{own_outcome, replay_to};
 pub use taking::take_any;
 pub use updating::update_turn;

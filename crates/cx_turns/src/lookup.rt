@@ -7,12 +7,12 @@ ghost use Rattle.cx_base.specs.Codes.{root_place_of};
 ghost use Rattle.cx_rule.specs.Running.{IsSeatOf, instance_at};
 ghost use Rattle.cx_rule.specs.Seats.{IsAtLimit, unanswered_ticket};
 ghost use Rattle.cx_rule.specs.Steps.{Halts};
-ghost use Rattle.cx_turns.specs.Answering.{AnswersRead, AnswersReadBy, HaltsLookup, IsLookedUp, LooksUp, beside_lookup};
+ghost use Rattle.cx_turns.specs.Answering.{AnswersRead, AnswersReadBy, HaltsLookup, IsLookedUp, LooksUp, beside_lookup, seen_at};
 ghost use Rattle.cx_turns.specs.Turns.{IsAtRest};
 
-use crate::reading::{Queried, read_current};
+use crate::reading::read_current;
 use cx_base::{Halt, Object, root_place};
-use cx_table::{CallerSeat, Shared};
+use cx_table::{AnsweredRead, CallerSeat, Shared, SharedHold};
 use publish::make_durable;
 use strong_trylock::release_shared;
 
@@ -24,53 +24,54 @@ pub struct Seen {
 }
 
 /// One turn for an operation that only reads, of a caller whose entries are all answered. CUR is loaded, its replica is read, and
-/// DUR raised by its code. `None` comes where another holds the replica exclusively or it is at another place by then. `Halt` comes
-/// only where the seat's steps equal its limit.
+/// DUR raised by its code. It gives the place that was read, and the reply is made where the caller has it, since each copy of its
+/// words costs a good part of the turn. `None` comes where another holds the replica exclusively or it is at another place by then.
+/// `Halt` comes only where the seat's steps equal its limit.
 pub fn read_turn<O: Object>(
     shared: &Shared<O>,
     seat: &mut CallerSeat,
     op: &[u64; 144],
-) -> Result<Option<Seen>, Halt>
+    reply: &mut [u64; 144],
+) -> Result<Option<u64>, Halt>
     requires seat { IsSeatOf shared.now seat.old }
     requires rest { IsAtRest seat.old.known.local }
     requires answered { unanswered_ticket seat.old.known.local ≡ None }
     requires reads { IsTrue (O.only_reads shared.now.object op.now) }
     ensures allowed { OnOk result (¬ IsAtLimit seat.old.known.local) }
-    ensures turned { IfOk result (LooksUp op.now seat.old seat.new) }
+    ensures turned { IfOk result (λ place. LooksUp op.now seat.old seat.new (seen_at reply.new place)) }
     ensures halted { OnErr result (HaltsLookup op.now seat.old seat.new) }
     ensures rest { beside_lookup seat.new ≡ beside_lookup seat.old }
     ensures front { seat.old.known.local.front ≤ seat.new.known.local.front }
     ensures seat { IsSeatOf shared.now seat.new }
 {
     shared.load_cur(seat)?;
-    let Some(queried) = read_current(shared, seat, op)? else {
+    let Some(hold) = read_current(shared, seat, op, reply)? else {
         return Ok(None);
     };
-    let reply = queried.reply;
     let place = root_place(shared.callers(), seat.seen_cur());
-    settle_read(shared, seat, queried, op)?;
-    Ok(Some(Seen { place, reply }))
+    settle_read(shared, seat, hold, op, reply)?;
+    Ok(Some(place))
 }
 
 /// Answers a read at the place of the code last loaded from CUR, and gives the shared right back under which it was found.
 fn settle_read<O: Object>(
     shared: &Shared<O>,
     seat: &mut CallerSeat,
-    queried: Queried,
+    hold: SharedHold,
     op: &[u64; 144],
+    reply: &[u64; 144],
 ) -> Result<(), Halt>
     requires seat { IsSeatOf shared.now seat.old }
-    requires read { IsLookedUp (O.line_count shared.now.object) shared.now (O.lawful shared.now.object) (O.step shared.now.object) op.now seat.old queried }
+    requires read { IsLookedUp (O.line_count shared.now.object) shared.now (O.lawful shared.now.object) (O.step shared.now.object) op.now reply.now seat.old hold }
     requires reads { IsTrue (O.only_reads shared.now.object op.now) }
-    ensures answered { OnOk result (AnswersRead op.now (root_place_of shared.now.callers seat.old.known.local.seen_cur) queried.reply seat.old seat.new) }
+    ensures answered { OnOk result (AnswersRead op.now (root_place_of shared.now.callers seat.old.known.local.seen_cur) reply.now seat.old seat.new) }
     ensures halted { OnErr result (HaltsLookup op.now seat.old seat.new) }
     ensures rest { beside_lookup seat.new ≡ beside_lookup seat.old }
     ensures front { seat.old.known.local.front ≤ seat.new.known.local.front }
     ensures seat { IsSeatOf shared.now seat.new }
 {
-    let Queried { hold, reply } = queried;
     let code = seat.seen_cur();
-    answer_read(shared, seat, code, &(*op, reply))?;
+    answer_read(shared, seat, code, op, reply)?;
     release_shared(shared, seat, hold)
 }
 
@@ -79,15 +80,16 @@ fn answer_read<O: Object>(
     shared: &Shared<O>,
     seat: &mut CallerSeat,
     code: u64,
-    read: &([u64; 144], [u64; 144]),
+    op: &[u64; 144],
+    reply: &[u64; 144],
 ) -> Result<(), Halt>
     requires seat { IsSeatOf shared.now seat.old }
     requires code { code ≡ seat.old.known.local.seen_cur }
     requires answered { unanswered_ticket seat.old.known.local ≡ None }
-    requires guard { CanAnswer (instance_at shared.now O.step O.only_reads) code seat.old.known.local (Some read.now.0) }
-    requires reply { TellsRead shared.now.lines (O.lawful shared.now.object) shared.now.base (O.step shared.now.object) seat.old.known read.now.0 read.now.1 }
-    ensures answered { OnOk result (AnswersReadBy shared.now O.step O.only_reads code read.now.0 read.now.1 seat.old seat.new) }
+    requires guard { CanAnswer (instance_at shared.now O.step O.only_reads) code seat.old.known.local (Some op.now) }
+    requires reply { TellsRead shared.now.lines (O.lawful shared.now.object) shared.now.base (O.step shared.now.object) seat.old.known op.now reply.now }
+    ensures answered { OnOk result (AnswersReadBy shared.now O.step O.only_reads code op.now reply.now seat.old seat.new) }
     ensures halted { OnErr result (Halts shared.now seat.old seat.new) }
 {
-    make_durable(shared, seat, code, Some(read))
+    make_durable(shared, seat, code, Some(AnsweredRead { op, reply }))
 }

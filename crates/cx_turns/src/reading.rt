@@ -1,6 +1,6 @@
 //! The current replica is read beside the queue. `Halt` comes only where no access is left.
 
-ghost use Rattle.std.specs.Prelude.{◌≡◌, ◌^◌, ◌<◌, true, false, IfOk, IsTrue, None, OnErr, Some};
+ghost use Rattle.std.specs.Prelude.{◌≡◌, ◌*◌, ◌^◌, ◌<◌, true, false, IfOk, IsTrue, None, OnErr, OnOk, Some};
 ghost use Rattle.std.specs.List.{Contains};
 ghost use Rattle.cx_base.specs.Codes.{root_replica_of};
 ghost use Rattle.cx_base.specs.Memory.{Always, Becomes, Framed, Reads};
@@ -26,24 +26,18 @@ use strong_trylock::{SharedTried, release_shared, try_shared};
 /// The word of a region that has the place.
 const PLACE_AT: u64 = 0;
 
-/// The answer to an operation that only reads, and the shared right under which it was found.
-#[derive(Drop)]
-pub struct Queried {
-    pub hold: SharedHold,
-    pub reply: [u64; 144],
-}
-
-/// Gives the object's reply to an operation that only reads, on the object part of a region, and stores nothing.
+/// Makes the object's reply to an operation that only reads, on the object part of a region, and stores nothing.
 pub fn query_part<O: Object, M: Memory>(
     object: &O,
     mem: &mut M,
     op: &[u64; 144],
-) -> Result<[u64; 144], Halt>
+    reply: &mut [u64; 144],
+) -> Result<(), Halt>
     requires size { M.size mem.old ≡ region_words (O.line_count object.now) }
     requires small { region_words (O.line_count object.now) < 2 ^ 64 }
     requires lawful { Always (M.stands mem.old) (λ region. O.lawful object.now (object_part region)) }
     requires reads { IsTrue (O.only_reads object.now op.now) }
-    ensures read { IfOk result (λ reply. Reads (M.stands mem.old) (M.stands mem.new) (λ region. (O.step object.now (object_part region) op.now).1 ≡ reply)) }
+    ensures read { OnOk result (Reads (M.stands mem.old) (M.stands mem.new) (λ region. (O.step object.now (object_part region) op.now).1 ≡ reply.new)) }
     ensures unchanged { Becomes (M.stands mem.old) (M.stands mem.new) ◌≡◌ }
     ensures halts { OnErr result (M.left mem.new ≡ Some 0) }
     ensures framed { Framed M.size M.fixed M.writable M.left mem.old mem.new }
@@ -54,10 +48,29 @@ pub fn query_part<O: Object, M: Memory>(
         from: OBJECT_START,
         len,
     };
-    object.query(&mut part, op)
+    query_into(object, &mut part, op, reply)
 }
 
-/// Gives the object's reply to an operation that only reads, on a replica held shared whose place was loaded. That the place was
+/// The object's query, whose reply is put where the caller has it.
+fn query_into<O: Object, M: Memory>(
+    object: &O,
+    mem: &mut M,
+    op: &[u64; 144],
+    reply: &mut [u64; 144],
+) -> Result<(), Halt>
+    requires size { M.size mem.old ≡ 8 * O.line_count object.now }
+    requires lawful { Always (M.stands mem.old) (O.lawful object.now) }
+    requires reads { IsTrue (O.only_reads object.now op.now) }
+    ensures done { OnOk result (Always (M.stands mem.new) (λ now. O.step object.now now op.now ≡ (now, reply.new))) }
+    ensures unchanged { Becomes (M.stands mem.old) (M.stands mem.new) ◌≡◌ }
+    ensures halts { OnErr result (M.left mem.new ≡ Some 0) }
+    ensures framed { Framed M.size M.fixed M.writable M.left mem.old mem.new }
+{
+    *reply = object.query(mem, op)?;
+    Ok(())
+}
+
+/// Makes the object's reply to an operation that only reads, on a replica held shared whose place was loaded. That the place was
 /// loaded stays known.
 pub fn query_held<O: Object>(
     shared: &Shared<O>,
@@ -65,13 +78,14 @@ pub fn query_held<O: Object>(
     held: &SharedHold,
     place: u64,
     op: &[u64; 144],
-) -> Result<[u64; 144], Halt>
+    reply: &mut [u64; 144],
+) -> Result<(), Halt>
     requires held { IsHeldShared (O.line_count shared.now.object) shared.now (O.lawful shared.now.object) seat.old held.now }
     requires place { Contains (loaded_of seat.old.known.local.shared) (0, place) }
     requires reads { IsTrue (O.only_reads shared.now.object op.now) }
     ensures held { IsHeldShared (O.line_count shared.now.object) shared.now (O.lawful shared.now.object) seat.new held.now }
     ensures place { Contains (loaded_of seat.new.known.local.shared) (0, place) }
-    ensures reply { IfOk result (λ reply. TellsRead (O.line_count shared.now.object) (O.lawful shared.now.object) shared.now.base (O.step shared.now.object) seat.new.known op.now reply) }
+    ensures reply { OnOk result (TellsRead (O.line_count shared.now.object) (O.lawful shared.now.object) shared.now.base (O.step shared.now.object) seat.new.known op.now reply.new) }
     ensures rest { beside_shared held.now.replica seat.new ≡ beside_shared held.now.replica seat.old }
     ensures halts { OnErr result (IsAtLimit seat.new.known.local) }
 {
@@ -80,22 +94,25 @@ pub fn query_held<O: Object>(
         object,
         &mut ReadRegion::placed(shared, seat, held, place),
         op,
+        reply,
     )
 }
 
 /// Reads the replica that the code last loaded from CUR names, where nothing ended that code's use since. It takes the replica
-/// shared, loads its place, and where that is the code's place answers an operation that only reads. `None` comes exactly where
-/// another holds the replica exclusively or its place is another one. Then a refusal is met, and the caller has no right.
+/// shared, loads its place, and where that is the code's place makes the reply to an operation that only reads, and gives the right
+/// under which it was found. `None` comes exactly where another holds the replica exclusively or its place is another one. Then a
+/// refusal is met, and the caller has no right.
 pub fn read_current<O: Object>(
     shared: &Shared<O>,
     seat: &mut CallerSeat,
     op: &[u64; 144],
-) -> Result<Option<Queried>, Halt>
+    reply: &mut [u64; 144],
+) -> Result<Option<SharedHold>, Halt>
     requires seat { IsSeatOf shared.now seat.old }
     requires free { all_rights seat.old ≡ no_rights }
     requires fresh { seat.old.known.local.fresh ≡ true }
     requires reads { IsTrue (O.only_reads shared.now.object op.now) }
-    ensures read { IfOk result (ReadsCurrent (O.line_count shared.now.object) shared.now (O.lawful shared.now.object) (O.step shared.now.object) op.now seat.old seat.new) }
+    ensures read { IfOk result (ReadsCurrent (O.line_count shared.now.object) shared.now (O.lawful shared.now.object) (O.step shared.now.object) op.now reply.new seat.old seat.new) }
     ensures seat { IsSeatOf shared.now seat.new }
     ensures rest { beside_turn seat.new ≡ beside_turn seat.old }
     ensures unread { beside_read seat.new ≡ beside_read seat.old }
@@ -104,7 +121,7 @@ pub fn read_current<O: Object>(
     // callers are some
     let _callers = shared.callers();
     match take_current(shared, seat)? {
-        Some(hold) => Ok(Some(read_taken(shared, seat, hold, op)?)),
+        Some(hold) => Ok(Some(read_taken(shared, seat, hold, op, reply)?)),
         None => Ok(None),
     }
 }
@@ -115,17 +132,18 @@ fn read_taken<O: Object>(
     seat: &mut CallerSeat,
     hold: SharedHold,
     op: &[u64; 144],
-) -> Result<Queried, Halt>
+    reply: &mut [u64; 144],
+) -> Result<SharedHold, Halt>
     requires current { HoldsCurrent (O.line_count shared.now.object) shared.now (O.lawful shared.now.object) no_rights seat.old seat.old hold }
     requires reads { IsTrue (O.only_reads shared.now.object op.now) }
-    ensures read { IfOk result (IsRead (O.line_count shared.now.object) shared.now (O.lawful shared.now.object) (O.step shared.now.object) op.now seat.old seat.new) }
+    ensures read { IfOk result (IsRead (O.line_count shared.now.object) shared.now (O.lawful shared.now.object) (O.step shared.now.object) op.now reply.new seat.old seat.new) }
     ensures seat { IsSeatOf shared.now seat.new }
     ensures unread { beside_read seat.new ≡ beside_read seat.old }
     ensures halts { OnErr result (IsAtLimit seat.new.known.local) }
 {
     let place = root_place(shared.callers(), seat.seen_cur());
-    let reply = query_held(shared, seat, &hold, place, op)?;
-    Ok(Queried { hold, reply })
+    query_held(shared, seat, &hold, place, op, reply)?;
+    Ok(hold)
 }
 
 /// Takes the replica shared that the code last loaded from CUR names, where nothing ended that code's use since, and loads its place.

@@ -153,22 +153,22 @@ pub(crate) fn answer_uncounted<M: Memory, L: Ledger>(
     mem: &mut M,
     op: &[u64; 144],
     blank: Blank,
-) -> Result<[u64; 144], Halt>
+    reply: &mut [u64; 144],
+) -> Result<(), Halt>
     requires name { blank.name ≡ L.name }
     requires parts { blank.parts ≡ L.parts }
     requires some { 0 < L.parts }
+    requires zero { reply.old ≡ replicate 144 0 }
     requires sized { IsPartLength (M.size mem.old) }
     requires lawful { Always (M.stands mem.old) IsIndex }
     requires op { AreOfAnOp op.now }
     requires reads { (nat_le 4 (slice_index op.now 0) && nat_le (slice_index op.now 0) 6) ≡ true }
-    ensures done { IfOk result (λ reply. Reads (M.stands mem.old) (M.stands mem.new)
-        (λ ws. (lines : ℕ) (o : Op) → IsOpOf op.now o → IsReplyBy (λ store. meaning.reply_to lines store o) reply ws)) }
+    ensures done { OnOk result (Reads (M.stands mem.old) (M.stands mem.new)
+        (λ ws. (lines : ℕ) (o : Op) → IsOpOf op.now o → IsReplyBy (λ store. meaning.reply_to lines store o) reply.new ws)) }
     ensures kept { Becomes (M.stands mem.old) (M.stands mem.new) ◌≡◌ }
     ensures halts { OnErr result (M.left mem.new ≡ Some 0) }
     ensures framed { Framed M.size M.fixed M.writable M.left mem.old mem.new }
 {
     let mut visits = Steps::<L>::open(blank);
-    let mut reply = [0; 144];
-    answer(mem, op, &mut visits, &mut reply)?;
-    Ok(reply)
+    answer(mem, op, &mut visits, reply)
 }

@@ -90,7 +90,9 @@ impl Object for DocStore {
     }
 
     fn query<M: Memory>(&self, mem: &mut M, op: &[u64; 144]) -> Result<[u64; 144], Halt> {
-        answer_uncounted::<M, Brand>(mem, op, Blank::new(1))
+        let mut reply = [0; 144];
+        answer_uncounted::<M, Brand>(mem, op, Blank::new(1), &mut reply)?;
+        Ok(reply)
     }
 
     fn check(&self, alloc: Global, words: &[u64]) -> Result<bool, AllocError> {

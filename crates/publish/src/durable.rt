@@ -1,7 +1,6 @@
 //! DUR is raised, by which alone callers are answered, and a win is retired.
 
 ghost use Rattle.std.specs.Prelude.{◌≤◌, List, OnErr, OnOk};
-ghost use Rattle.std.specs.Option.{option_copied};
 ghost use Rattle.cx_base.specs.Codes.{root_place_of};
 ghost use Rattle.cx_core.specs.declared.local.Answer.{Answer};
 ghost use Rattle.cx_core.specs.RootEvents.{CanRaise};
@@ -13,22 +12,22 @@ ghost use Rattle.cx_table.specs.Tokens.{IsWonOf};
 ghost use Rattle.strong_trylock.specs.Ends.{MakesOne};
 
 use cx_base::{Halt, Object};
-use cx_table::{CallerSeat, Shared, Won};
+use cx_table::{AnsweredRead, CallerSeat, Shared, Won};
 
 /// Raises DUR to a code, in one step, by which alone callers are answered: the caller's unanswered entry where its ticket is below the
-/// code's place, and a read, an operation and its reply, where one is given. The code is the one last found in CUR, or the one that
+/// code's place, and a read, where one is given. The code is the one last found in CUR, or the one that
 /// the caller won with. `Halt` comes exactly where the seat's steps equal its limit.
 pub fn make_durable<O: Object>(
     shared: &Shared<O>,
     seat: &mut CallerSeat,
     code: u64,
-    read: Option<&([u64; 144], [u64; 144])>,
+    read: Option<AnsweredRead>,
 ) -> Result<(), Halt>
     requires seat { IsSeatOf shared.now seat.old }
-    requires guard { CanRaise (instance_at shared.now O.step O.only_reads) code (op_in (option_copied read)) seat.old.known.local }
+    requires guard { CanRaise (instance_at shared.now O.step O.only_reads) code (op_in read) seat.old.known.local }
     requires told { (answers : List Answer) × TellsAnswers shared.now.lines (O.lawful shared.now.object) shared.now.base (O.step shared.now.object) seat.old.known (root_place_of shared.now.callers code) answers }
-    requires reads { TellsReads shared.now.lines (O.lawful shared.now.object) shared.now.base (O.step shared.now.object) seat.old.known (option_copied read) }
-    ensures made { OnOk result ((answers : List Answer) → TellsAnswers shared.now.lines (O.lawful shared.now.object) shared.now.base (O.step shared.now.object) seat.old.known (root_place_of shared.now.callers code) answers → Raises shared.now O.step O.only_reads code answers (option_copied read.entry) seat.old seat.new) }
+    requires reads { TellsReads shared.now.lines (O.lawful shared.now.object) shared.now.base (O.step shared.now.object) seat.old.known read }
+    ensures made { OnOk result ((answers : List Answer) → TellsAnswers shared.now.lines (O.lawful shared.now.object) shared.now.base (O.step shared.now.object) seat.old.known (root_place_of shared.now.callers code) answers → Raises shared.now O.step O.only_reads code answers read.entry seat.old seat.new) }
     ensures halted { OnErr result (Halts shared.now seat.old seat.new) }
 {
     shared.raise(seat, code, read)?;

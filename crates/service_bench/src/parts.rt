@@ -104,7 +104,8 @@ fn read<O: Object>(
     requires reads { IsTrue (O.only_reads shared.now.object op.now) }
     ensures { OnOk result (IsCallerOf shared.now seat.new) }
 {
-    match lookup(rt, laps, shared, seat, op)? {
+    let mut reply = [0; 144];
+    match lookup(rt, laps, shared, seat, op, &mut reply)? {
         Some(_) => Ok(()),
         None => Err(Halt),
     }

@@ -14,6 +14,6 @@ pub returns-clause-read : goal.returns-clause-read
 returns-clause-read g c =
     let t = c.args.shared.now in
     let at : c.root_place-place.result ≡ root_place_of t.callers c.args.seat.now.known.local.seen_cur = cc (c.root_place-place.ensures, c.callers.ensures.value, c.seen_cur.ensures) in
-    let q = c.in_ok-reply.ensures in
+    let q = c.in_ok-query_held.ensures in
     let is = c.requires.current in
-    is_read (g.O.Object.line_count t.object) t (g.O.Object.step t.object) (g.O.Object.lawful t.object) c.args.op.now c.args.hold c.in_ok-reply.reply c.args.seat.now c.query_held.new.seat c.root_place-place.result q.rest q.held is.here at is.with is.fresh q.place q.reply
+    is_read (g.O.Object.line_count t.object) t (g.O.Object.step t.object) (g.O.Object.lawful t.object) c.args.op.now c.args.hold c.query_held.new.reply c.args.seat.now c.query_held.new.seat c.root_place-place.result q.rest q.held is.here at is.with is.fresh q.place q.reply

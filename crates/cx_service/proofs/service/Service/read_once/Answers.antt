@@ -4,7 +4,8 @@ use Rattle.cx_rule.specs.Seats.{Seated}
 use Rattle.cx_service.specs.Callers.{IsCallerOf}
 use Rattle.cx_service.specs.Lookups.{ReadAnswered, ReadPending}
 use Rattle.cx_service.proofs.Turning.{all_answered, read_done, read_refused}
-use Rattle.cx_turns.specs.Answering.{LooksUp}
+use Rattle.cx_turns.specs.declared.lookup.Seen.{Seen}
+use Rattle.cx_turns.specs.Answering.{LooksUp, seen_at}
 use Rattle.cx_service.proofs.service.Service.read_once.Goals as goal
 
 pub returns-in-Ok-Some : goal.returns-in-Ok-Some
@@ -12,9 +13,11 @@ returns-in-Ok-Some g c =
     let s = c.deref_mut-at.result.now in
     let is = c.deref_mut-at.ensures.value ∙ c.caller.view_is in
     let v = c.read_turn.new.seat in
-    subst (λ (x : Seated). ReadAnswered c.args.self.now c.args.op.now x v c.in-Ok-Some.seen) is
+    let reply = c.read_turn.new.reply in
+    let seen : Seen = record { place = c.in-Ok-Some.place; reply = reply } in
+    subst (λ (x : Seated). ReadAnswered c.args.self.now c.args.op.now x v seen) is
     (read_done c.args.self.now c.args.op.now s v (subst (IsCallerOf c.args.self.now) (sym is) c.requires.caller) c.read_turn.ensures.rest c.read_turn.ensures.front (subst (λ (t : Running _). IsSeatOf t v) c.self.view_is c.read_turn.ensures.seat)
-    c.in-Ok-Some.seen c.in-Ok-Some.ensures.allowed (subst (LooksUp c.args.op.now s v) c.in-Ok-Some.field-0-is c.in-Ok-Some.ensures.turned))
+    seen c.in-Ok-Some.ensures.allowed (subst (λ o. LooksUp c.args.op.now s v (seen_at reply o)) c.in-Ok-Some.field-0-is c.in-Ok-Some.ensures.turned))
 
 pub returns-in-Ok-None : goal.returns-in-Ok-None
 returns-in-Ok-None g c =
@@ -23,7 +26,7 @@ returns-in-Ok-None g c =
     let v = c.read_turn.new.seat in
     subst (λ (x : Seated). ReadPending c.args.self.now 1 x v) is
     (read_refused c.args.self.now c.args.op.now s v (subst (IsCallerOf c.args.self.now) (sym is) c.requires.caller) c.read_turn.ensures.rest c.read_turn.ensures.front (subst (λ (t : Running _). IsSeatOf t v) c.self.view_is c.read_turn.ensures.seat)
-    c.in-Ok-None.ensures.allowed (omega (arith, c.met-met.ensures)) (subst (LooksUp c.args.op.now s v) c.in-Ok-None.field-0-is c.in-Ok-None.ensures.turned))
+    c.in-Ok-None.ensures.allowed (omega (arith, c.met-met.ensures)) (subst (λ o. LooksUp c.args.op.now s v (seen_at c.read_turn.new.reply o)) c.in-Ok-None.field-0-is c.in-Ok-None.ensures.turned))
 
 pub read_turn-requires-clause-answered : goal.read_turn-requires-clause-answered
 read_turn-requires-clause-answered g c =

@@ -1,9 +1,12 @@
 use Rattle.std.proofs.Common.{subst}
-use Rattle.cx_service.specs.Lookups.{Looks}
+use Rattle.cx_turns.specs.declared.lookup.Seen.{Seen}
+use Rattle.cx_service.specs.Lookups.{LooksOnce}
 use Rattle.cx_service.proofs.Turning.{looks_done}
 use Rattle.cx_service.proofs.service.Service.try_read.Goals as goal
 
-pub returns-in-Read : goal.returns-in-Read
-returns-in-Read g c =
-    looks_done c.args.self.now c.args.op.now c.loop-turn._turn c.args.caller c.loop-turn.caller c.loop-turn.invariant c.in-Read.back c.in-Read.seen
-    (subst (Looks c.args.self.now c.args.op.now 1 c.loop-turn.caller) c.in-Read.is c.read_once.ensures)
+pub returns-in-Found : goal.returns-in-Found
+returns-in-Found g c =
+    let reply = c.read_once.new.reply in
+    let seen : Seen = record { place = c.in-Found.place; reply = reply } in
+    looks_done c.args.self.now c.args.op.now c.loop-turn._turn c.args.caller c.loop-turn.caller c.loop-turn.invariant c.in-Found.back seen
+    (subst (LooksOnce c.args.self.now c.args.op.now reply c.loop-turn.caller) c.in-Found.is c.read_once.ensures)

@@ -1,5 +1,4 @@
 use Rattle.std.specs.Prelude.{List}
-use Rattle.std.specs.Option.{option_copied}
 use Rattle.cx_core.specs.declared.local.Answer.{Answer}
 use Rattle.cx_rule.specs.Raises.{IsRaiseLearned, TeachesRaised}
 use Rattle.cx_rule.specs.Running.{instance_at}
@@ -7,4 +6,4 @@ use Rattle.cx_rule.specs.Seats.{known_of}
 use Rattle.cx_table.proofs.shared.Shared.raise_learned.Given as goal
 
 abbrev pub ghosts-raise_as : goal.ghosts-raise_as
-ghosts-raise_as g a = record { tells = λ _ after. (answers : List Answer) → IsRaiseLearned (instance_at a.self.now g.O.Object.step g.O.Object.only_reads) a.code answers (option_copied a.read) (known_of a.seat.now.me.0) a.word → TeachesRaised (instance_at a.self.now g.O.Object.step g.O.Object.only_reads) a.code answers (option_copied a.read) (known_of a.seat.now.me.0) after }
+ghosts-raise_as g a = record { tells = λ _ after. (answers : List Answer) → IsRaiseLearned (instance_at a.self.now g.O.Object.step g.O.Object.only_reads) a.code answers a.read (known_of a.seat.now.me.0) a.word → TeachesRaised (instance_at a.self.now g.O.Object.step g.O.Object.only_reads) a.code answers a.read (known_of a.seat.now.me.0) after }
