@@ -21,7 +21,6 @@ pub use cx_rule::{CoreRule, Key, Known, Noted, View};
 pub use gather::{KeptTable, Room};
 pub use remains::{Remains, Trail};
 pub use seat::CallerSeat;
-pub use seat_memory::GROUP;
 pub use shared::Shared;
 pub use threads::cross_threads;
 pub use tokens::{Downgraded, Exclusive, Passer, SharedHold, SharedRight, Won};
