@@ -28,8 +28,8 @@ const SOURCE: u32 = 1;
 
 const TARGET: u32 = 2;
 
-// Takes a replica shared beside one held exclusively.
-fn share_beside<O: Object>(
+/// Takes a replica shared beside one held exclusively.
+pub(crate) fn share_beside<O: Object>(
     shared: &Shared<O>,
     seat: &mut CallerSeat,
     held: &Exclusive,
@@ -209,14 +209,7 @@ fn persisted(alloc: Global, base: &Base, entry: &Entry) -> Result<Image, AllocEr
     requires caller { entry.now.caller < 8 }
 {
     let none = Vec::from_elem(alloc, false, base.words.len())?;
-    modelled(
-        alloc,
-        &DocStore::of(64),
-        base,
-        entry,
-        1 << 20,
-        &none,
-    )
+    modelled(alloc, &DocStore::of(64), base, entry, 1 << 20, &none)
 }
 
 // How many limits of steps within a copy were tried, each fourth from one on, until all were or one left something else.

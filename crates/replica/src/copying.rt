@@ -173,7 +173,7 @@ fn store_line<O: Object>(
 }
 
 /// Stores a word of the replica held exclusively.
-fn store_copied<O: Object>(
+pub(crate) fn store_copied<O: Object>(
     shared: &Shared<O>,
     seat: &mut CallerSeat,
     held: &Exclusive,
