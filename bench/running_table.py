@@ -51,6 +51,7 @@ if __name__ == "__main__":
     time_of("repeat", 300_000)
     time_of("link", 3_000)
     time_of("flush", 100)
+    time_of("copy", 100)
     for work in ("load", "store", "persist"):
         time_of(work, 1_000_000, runs=40)
     for work in ("add", "put"):

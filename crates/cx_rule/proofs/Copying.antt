@@ -1,23 +1,21 @@
 -- Copying a replica that is held shared over one that is held exclusively, word by word, and releasing it.
-use Rattle.std.proofs.Common.{false, true, ◌≡◌, ◌≢◌, ◌+◌, ◌*◌, ◌==◌, ◌<◌, ◌⊎◌, inl, inr, ℕ, Bool, cond, List, [], ◌∷◌, ◌++◌, length, set, slice_index, refl, ap, sym, subst, ◌∙◌, arith, eq-eqb, ne_eqb, Option, Some, None}
+use Rattle.std.proofs.Common.{false, true, ◌≡◌, ◌≢◌, ◌*◌, ◌==◌, ◌<◌, ◌⊎◌, inl, inr, ℕ, cond, List, [], ◌∷◌, length, set, slice_index, refl, ap, sym, subst, ◌∙◌, eq-eqb, ne_eqb, Option, Some, None}
 use Rattle.std.proofs.lemmas.Bool.{cases_eq}
-use Rattle.std.proofs.lemmas.List.{ext_get_or, get_or-set_other, get_or-set_same, length-set, map-append}
+use Rattle.std.proofs.lemmas.List.{ext_get_or, get_or-set_other, get_or-set_same, length-set}
 use Rattle.std.proofs.lemmas.Option.{none-some, same_Some}
-use Rattle.std.specs.Option.{option_map}
 use Rattle.cx_base.specs.Noted.{Note, NotesLead}
 use Rattle.cx_core.specs.declared.entry.Base.{Base}
-use Rattle.cx_core.specs.declared.kinds.Kind.TheVariants.{BackOff, LoadWord, StoreWord}
+use Rattle.cx_core.specs.declared.kinds.Kind.TheVariants.{BackOff}
 use Rattle.cx_core.specs.declared.local.HeldShared.{HeldShared}
 use Rattle.cx_core.specs.declared.local.Local.{Local}
 use Rattle.cx_core.specs.Events.{new_word, step_word}
 use Rattle.cx_core.specs.Region.{region_words}
-use Rattle.cx_core.specs.RegionEvents.{loaded_into}
-use Rattle.cx_core.specs.Rights.{exclusive_on, is_at, shared_on}
+use Rattle.cx_core.specs.Rights.{shared_on}
 use Rattle.cx_core.specs.State.{Instance, State}
 use Rattle.cx_core.proofs.HeldLists.{mapped}
 use Rattle.cx_rule.specs.declared.rule.Known.{Known}
 use Rattle.cx_rule.specs.Fitting.{AgreeTo, AreEqual, TellsWord, loaded_of, loads_of, word_noted}
-use Rattle.cx_rule.specs.Seats.{known_after, place_noted}
+use Rattle.cx_rule.specs.Seats.{place_noted}
 use Rattle.cx_rule.specs.Steps.{IsCopyLearned}
 use Rattle.cx_rule.proofs.Behind.{shared_there}
 use Rattle.cx_rule.proofs.Keeps.{learns_shown}
@@ -32,10 +30,10 @@ leads_length ((true, at, v) ∷ accesses) first now leads = leads_length accesse
 abbrev IsThere : Option ℕ → ℕ → List ℕ → Type 0
 IsThere word i ws = (v : ℕ) → word ≡ Some v → slice_index ws i ≡ v
 
-here_or : {X : Type 0} (at i : ℕ) (a b : X) → at ≡ i → cond (at == i) a b ≡ a
+pub here_or : {X : Type 0} (at i : ℕ) (a b : X) → at ≡ i → cond (at == i) a b ≡ a
 here_or at i a b same = ap (λ c. cond c a b) (eq-eqb at i same)
 
-or_there : {X : Type 0} (at i : ℕ) (a b : X) → at ≢ i → cond (at == i) a b ≡ b
+pub or_there : {X : Type 0} (at i : ℕ) (a b : X) → at ≢ i → cond (at == i) a b ≡ b
 or_there at i a b apart = ap (λ c. cond c a b) (ne_eqb at i apart)
 
 there_more : (word : Option ℕ) (at i u : ℕ) (ws ws' : List ℕ) → IsThere word i ws → (at ≡ i → slice_index ws' i ≡ u) → (at ≢ i → slice_index ws' i ≡ slice_index ws i) → IsThere (cond (at == i) (Some u) word) i ws'
@@ -105,97 +103,3 @@ learns_copied instance r known word small on at agree words within locals law l 
       traced = record { first = there.0; now = there.0; origin = there.1; leads = leads; held = λ x has. sym now ∙ t.held x has };
       fits = plain.fits;
     }
-
--- an access says nothing of another word
-abbrev SameBut : ℕ → List Note → List Note → Type 0
-SameBut n notes notes' = (i : ℕ) → i ≢ n → word_noted None i notes' ≡ word_noted None i notes
-
-noted_more : (accesses : List Note) (word : Option ℕ) (i : ℕ) (stores : Bool) (at v : ℕ) → word_noted word i (accesses ++ (stores, at, v) ∷ []) ≡ cond (at == i) (Some v) (word_noted word i accesses)
-noted_more [] word i stores at v = refl
-noted_more ((s, a, w) ∷ accesses) word i stores at v = noted_more accesses (cond (a == i) (Some w) word) i stores at v
-
-noted_here : (accesses : List Note) (stores : Bool) (at v : ℕ) → word_noted None at (accesses ++ (stores, at, v) ∷ []) ≡ Some v
-noted_here accesses stores at v = noted_more accesses None at stores at v ∙ here_or at at (Some v) (word_noted None at accesses) refl
-
-noted_other : (accesses : List Note) (stores : Bool) (at v : ℕ) → SameBut at accesses (accesses ++ (stores, at, v) ∷ [])
-noted_other accesses stores at v i apart = noted_more accesses None i stores at v ∙ or_there at i (Some v) (word_noted None i accesses) (λ e. apart (sym e))
-
--- what is noted of the replica held shared after a load
-loads_more : (loaded : List (ℕ × ℕ)) (at v : ℕ) → loads_of (loaded ++ (at, v) ∷ []) ≡ loads_of loaded ++ (false, at, v) ∷ []
-loads_more loaded at v = map-append (λ (x : ℕ × ℕ). (false, x.0, x.1)) loaded ((at, v) ∷ [])
-
-abbrev after_load : ℕ → ℕ → ℕ → Option HeldShared → List Note
-after_load r at v o = loads_of (loaded_of (option_map (loaded_into r at v) o))
-
-loads_other : (o : Option HeldShared) (r at v : ℕ) → SameBut at (loads_of (loaded_of o)) (after_load r at v o)
-loads_other None r at v i apart = refl
-loads_other (Some h) r at v i apart = by (h.replica == r)
-  where
-    by : (b : Bool) → word_noted None i (loads_of (cond b (h.loaded ++ (at, v) ∷ []) h.loaded)) ≡ word_noted None i (loads_of h.loaded)
-    by true = ap (word_noted None i) (loads_more h.loaded at v) ∙ noted_other (loads_of h.loaded) false at v i apart
-    by false = refl
-
-loads_here : (o : Option HeldShared) (r at v : ℕ) → option_map (λ (h : HeldShared). h.replica) o ≡ Some r → word_noted None at (after_load r at v o) ≡ Some v
-loads_here None r at v on = absurd (none-some r on)
-loads_here (Some h) r at v on =
-    ap (λ (b : Bool). word_noted None at (loads_of (cond b (h.loaded ++ (at, v) ∷ []) h.loaded))) (eq-eqb h.replica r (same_Some h.replica r on))
-    ∙ ap (word_noted None at) (loads_more h.loaded at v)
-    ∙ noted_here (loads_of h.loaded) false at v
-
-still_shared : (o : Option HeldShared) (r at v : ℕ) → option_map (λ (h : HeldShared). h.replica) (option_map (loaded_into r at v) o) ≡ option_map (λ (h : HeldShared). h.replica) o
-still_shared None r at v = refl
-still_shared (Some h) r at v = refl
-
--- what is noted of the replica held exclusively after a load
-abbrev with_load : Bool → List Note → ℕ → ℕ → List Note
-with_load b accesses at v = cond b (accesses ++ (false, at, v) ∷ []) accesses
-
-load_other : (b : Bool) (accesses : List Note) (at v : ℕ) → SameBut at accesses (with_load b accesses at v)
-load_other true accesses at v = noted_other accesses false at v
-load_other false accesses at v = λ i apart. refl
-
-load_again : (b : Bool) (accesses : List Note) (at v : ℕ) → word_noted None at accesses ≡ Some v → word_noted None at (with_load b accesses at v) ≡ Some v
-load_again true accesses at v is = noted_here accesses false at v
-load_again false accesses at v is = is
-
-agree_still : (k k' : Known) (n : ℕ) → SameBut n k.accesses k'.accesses → SameBut n (loads_of (loaded_of k.local.shared)) (loads_of (loaded_of k'.local.shared)) → AgreeTo k n → AgreeTo k' n
-agree_still k k' n same same' agree i below =
-    let a = agree i below in
-    let apart : i ≢ n = λ e. (let now : i ≡ n = e in absurd (omega (arith, now, below))) in
-    (a.0, same i apart ∙ a.1, same' i apart ∙ a.2)
-
-agree_next : (k : Known) (n v : ℕ) → AgreeTo k n → word_noted None n k.accesses ≡ Some v → word_noted None n (loads_of (loaded_of k.local.shared)) ≡ Some v → AgreeTo k (n + 1)
-agree_next k n v agree here here' i below = elim (cases_eq i n) [
-  | inl e ↦ (v, ap (λ m. word_noted None m k.accesses) e ∙ here, ap (λ m. word_noted None m (loads_of (loaded_of k.local.shared))) e ∙ here')
-  | inr ne ↦ agree i (omega (arith, below, ne))
-]
-
--- what a caller knows after it loaded word n of the replica h, held exclusively, and then of the replica s, held shared
-abbrev pub known_compared : Instance → ℕ → ℕ → ℕ → ℕ → ℕ → Known → Known
-known_compared instance h s n u v k = known_after instance (LoadWord s n false) (known_after instance (LoadWord h n false) k u) v
-
-module _ (instance : Instance) (h s n u v : ℕ) (k : Known) (agree : AgreeTo k n) (held : exclusive_on k.local ≡ Some h) (shared : shared_on k.local ≡ Some s) where
-  abbrev mid : Known
-  mid = known_after instance (LoadWord h n false) k u
-
-  compared : AgreeTo (known_compared instance h s n u v k) n
-  compared =
-      agree_still mid (known_compared instance h s n u v k) n (load_other (is_at s (exclusive_on k.local)) mid.accesses n v) (loads_other mid.local.shared s n v)
-      (agree_still k mid n (load_other (is_at h (exclusive_on k.local)) k.accesses n u) (loads_other k.local.shared h n u) agree)
-
-  source_noted : word_noted None n (loads_of (loaded_of (known_compared instance h s n u v k).local.shared)) ≡ Some v
-  source_noted = loads_here mid.local.shared s n v (still_shared k.local.shared h n u ∙ shared)
-
-  held_noted : word_noted None n mid.accesses ≡ Some u
-  held_noted = ap (λ (o : Option ℕ). word_noted None n (with_load (is_at h o) k.accesses n u)) held ∙ ap (λ (b : Bool). word_noted None n (with_load b k.accesses n u)) (eq-eqb h h refl) ∙ noted_here k.accesses false n u
-
-  -- where the two words are the same, the two replicas agree in one word more
-  pub agree_compared : u ≡ v → AgreeTo (known_compared instance h s n u v k) (n + 1)
-  agree_compared same = agree_next (known_compared instance h s n u v k) n v compared (load_again (is_at s (exclusive_on k.local)) mid.accesses n v (held_noted ∙ ap Some same)) source_noted
-
-  -- else they do where the source's word is stored over the other
-  pub agree_stored : AgreeTo (known_after instance (StoreWord h n v) (known_compared instance h s n u v k) 0) (n + 1)
-  agree_stored =
-      let both = known_compared instance h s n u v k in
-      let now = known_after instance (StoreWord h n v) both 0 in
-      agree_next now n v (agree_still both now n (noted_other both.accesses true n v) (λ i apart. refl) compared) (noted_here both.accesses true n v) source_noted

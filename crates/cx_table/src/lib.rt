@@ -22,7 +22,6 @@ pub use gather::{KeptTable, Room};
 pub use raise_step::AnsweredRead;
 pub use remains::{Remains, Trail};
 pub use seat::CallerSeat;
-pub use seat_memory::GROUP;
 pub use shared::Shared;
 pub use threads::cross_threads;
 pub use tokens::{Downgraded, Exclusive, Passer, SharedHold, SharedRight, Won};

@@ -1,10 +1,9 @@
 //! A caller's seat: its right to step, and the numbers of its local state that code reads.
 
-ghost use Rattle.std.specs.Prelude.{◌≡◌, ◌+◌, ◌*◌, ◌^◌, ◌<◌, ◌≤◌, ◌↔◌, IsTrue, length, slice_index};
+ghost use Rattle.std.specs.Prelude.{◌≡◌, ◌+◌, ◌*◌, ◌^◌, ◌<◌, ◌≤◌, ◌↔◌, ℕ, IfNone, IfSome, IsTrue, length, slice_index};
 ghost use Rattle.std.specs.List.{Contains};
 ghost use Rattle.cx_core.specs.Rights.{held_dirty};
 ghost use Rattle.cx_core.specs.QueueEvents.{cell_of};
-ghost use Rattle.seat_memory.specs.Marks.{HasDirtyIn};
 ghost use Rattle.cx_rule.specs.Seats.{HasCells, IsWithinLimit, place_noted, unanswered_ticket};
 
 use atomic_table::Seat;
@@ -118,13 +117,14 @@ impl CallerSeat {
         self.copy.marks()[i as usize]
     }
 
-    /// Whether one of the 64 words from `64 * group` on was stored and not persisted, of the replica that the caller holds
-    /// exclusively.
-    pub fn has_dirty(&self, group: u64) -> bool
-        requires { 64 * group < self.now.region }
-        ensures { IsTrue result ↔ HasDirtyIn self.now.region group (held_dirty self.now.known.local.exclusive) }
+    /// Some word of the replica that the caller holds exclusively that was stored and not persisted. It is looked for among the
+    /// words stored last, and then in lines that were stored to, so the time does not grow with the region for up to 512 words.
+    pub fn some_dirty(&mut self) -> Option<u64>
+        ensures same { self.new ≡ self.old }
+        ensures some { IfSome result (λ at. (at < self.old.region) × Contains (held_dirty self.old.known.local.exclusive) at) }
+        ensures none { IfNone result ((at : ℕ) → at < self.old.region → ¬ Contains (held_dirty self.old.known.local.exclusive) at) }
     {
-        self.copy.has_dirty(group)
+        self.copy.some_dirty()
     }
 
     /// The place that was loaded or stored last of the replica that the caller holds exclusively, 0 where none was.

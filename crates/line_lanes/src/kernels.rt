@@ -38,6 +38,15 @@ pub fn touched(addresses: &[u64], out: &mut [bool])
     ensures { MarksLines (TouchesLine addresses.now) out.new }
 {
     out.fill(false);
+    add_touched(addresses, out);
+}
+
+/// Marks the lines in which some address lies, and leaves every other as it is.
+#[inline]
+pub fn add_touched(addresses: &[u64], out: &mut [bool])
+    requires { All (λ address. address < 8 * length out.old) addresses.now }
+    ensures { AddsMarks (is_touched addresses.now) out.old out.new }
+{
     let whole = addresses.len() / 8;
     for eight in 0..whole {
         mark_eight(u64x8::from_slice(&addresses[8 * eight..]), out);

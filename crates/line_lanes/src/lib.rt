@@ -7,4 +7,4 @@ mod plain;
 #[cfg(test)]
 mod tests;
 
-pub use kernels::{differing, touched};
+pub use kernels::{add_touched, differing, touched};

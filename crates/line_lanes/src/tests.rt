@@ -2,7 +2,7 @@
 
 ghost use Rattle.std.specs.Prelude.{◌*◌, ◌<◌, ◌≤◌, All, length};
 
-use crate::{differing, plain, touched};
+use crate::{add_touched, differing, plain, touched};
 use std::process::Abort;
 use std::test::Fail;
 
@@ -33,6 +33,13 @@ fn no_address_touches_no_line(rt: HostRuntime) {
     let mut out = [true; 2];
     touched(&[], &mut out);
     assert_eq!(rt; out, [false, false]);
+}
+
+#[test]
+fn marks_that_were_there_stay(rt: HostRuntime) {
+    let mut out = [true, false, false];
+    add_touched(&[8, 15], &mut out);
+    assert_eq!(rt; out, [true, true, false]);
 }
 
 #[test]

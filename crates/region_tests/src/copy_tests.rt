@@ -28,8 +28,8 @@ const SOURCE: u32 = 1;
 
 const TARGET: u32 = 2;
 
-// Takes a replica shared beside one held exclusively.
-fn share_beside<O: Object>(
+/// Takes a replica shared beside one held exclusively.
+pub(crate) fn share_beside<O: Object>(
     shared: &Shared<O>,
     seat: &mut CallerSeat,
     held: &Exclusive,
@@ -112,21 +112,27 @@ fn at_limit(alloc: Global, base: &Base, op: &[u64; 144], limit: u64) -> Result<O
     })
 }
 
-// Two loads for each word, and a store of each word that differs, so many steps: the words of the replica that is copied over, and
-// their marks. It gives the steps that are left then.
-fn copy_plainly(from: &[u64], target: &mut Image, steps: u64) -> u64 {
+// The loads of a line of both replicas.
+const LINE_LOADS: u64 = 16;
+
+// The words and the marks of the replica that is copied over, after so many steps.
+fn copy_plainly(from: &[u64], target: &mut Image, steps: u64) {
     let mut left = steps;
-    for ((word, into), mark) in from
-        .iter()
-        .zip(target.volatile.iter_mut())
-        .zip(target.dirty.iter_mut())
+    for ((words, into), marks) in from
+        .chunks(8)
+        .zip(target.volatile.chunks_mut(8))
+        .zip(target.dirty.chunks_mut(8))
     {
-        let needed = if *word == *into { 2 } else { 3 };
-        if left < needed {
-            return 0;
-        }
-        left -= needed;
-        if *word != *into {
+        left = copy_line(words, into, marks, left);
+    }
+}
+
+// The loads of a line, and a store of each word that differs, so many steps. It gives the steps that are left then.
+fn copy_line(words: &[u64], into: &mut [u64], marks: &mut [bool], steps: u64) -> u64 {
+    let mut left = steps.saturating_sub(LINE_LOADS);
+    for ((word, into), mark) in words.iter().zip(into.iter_mut()).zip(marks.iter_mut()) {
+        if *word != *into && left > 0 {
+            left -= 1;
             *into = *word;
             *mark = true;
         }
@@ -178,7 +184,7 @@ fn a_whole_copy_gives_the_place(rt: HostRuntime) -> Result<(), Fail> {
     let alloc = rt.alloc();
     let base = Base::fresh(alloc, &DocStore::of(64))?;
     let entry = entry();
-    let source = modelled(alloc, &DocStore::of(64), &base, &entry, 1 << 20)?;
+    let source = persisted(alloc, &base, &entry)?;
     let whole = at_limit(alloc, &base, &entry.op, NO_LIMIT)?;
     let differ = differing(base.words.as_slice(), source.volatile.as_slice());
     let Some((before, place)) = whole.copied else {
@@ -196,11 +202,21 @@ fn a_whole_copy_gives_the_place(rt: HostRuntime) -> Result<(), Fail> {
     Ok(())
 }
 
+// The replica that is copied: an entry was replayed on it, and all words that it stores are durable.
+fn persisted(alloc: Global, base: &Base, entry: &Entry) -> Result<Image, AllocError>
+    requires base { LawfulBase 64 (IsImage 64) base.now }
+    requires place { base.now.place ≡ 0 }
+    requires caller { entry.now.caller < 8 }
+{
+    let none = Vec::from_elem(alloc, false, base.words.len())?;
+    modelled(alloc, &DocStore::of(64), base, entry, 1 << 20, &none)
+}
+
 // How many limits of steps within a copy were tried, each fourth from one on, until all were or one left something else.
 fn limits_tried(alloc: Global, from: u64) -> Result<Option<u64>, AllocError> {
     let base = Base::fresh(alloc, &DocStore::of(64))?;
     let entry = entry();
-    let source = modelled(alloc, &DocStore::of(64), &base, &entry, 1 << 20)?;
+    let source = persisted(alloc, &base, &entry)?;
     let whole = at_limit(alloc, &base, &entry.op, NO_LIMIT)?;
     let Some((before, _)) = whole.copied else {
         return Ok(None);

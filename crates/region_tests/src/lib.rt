@@ -6,6 +6,8 @@ mod commands;
 #[cfg(test)]
 mod copy_tests;
 #[cfg(test)]
+mod flush_tests;
+#[cfg(test)]
 mod limit_tests;
 #[cfg(test)]
 mod marking;

@@ -101,13 +101,14 @@ pub(crate) fn untouched(alloc: Global, words: &[u64]) -> Result<Image, AllocErro
 }
 
 /// What the model has after so many steps: the accesses of the full step of an entry, one that gives the protection up, and then
-/// persists.
+/// persists, first of those words that are not among these.
 pub(crate) fn modelled<O: Object>(
     alloc: Global,
     object: &O,
     base: &Base,
     entry: &Entry,
     left: u64,
+    last: &[bool],
 ) -> Result<Image, AllocError>
     requires base { LawfulBase (O.line_count object.now) (O.lawful object.now) base.now }
     requires place { base.now.place ≡ 0 }
@@ -122,12 +123,10 @@ pub(crate) fn modelled<O: Object>(
     let volatile = plain.into_words();
     let mut durable = Vec::from_slice(alloc, words)?;
     if stepped {
-        persist_first(
-            &volatile,
-            &mut durable,
-            &mut dirty,
-            left.saturating_sub(made).saturating_sub(1),
-        );
+        let count = left.saturating_sub(made).saturating_sub(1);
+        let none = Vec::from_elem(alloc, false, words.len())?;
+        let more = persist_some(&volatile, &mut durable, &mut dirty, last, count);
+        persist_some(&volatile, &mut durable, &mut dirty, &none, more);
     }
     Ok(Image {
         volatile,
@@ -158,20 +157,28 @@ fn step_marked<O: Object>(
     full_step(object, &mut memory, entry).is_ok()
 }
 
-// Persists the first dirty words, so many.
-fn persist_first(volatile: &[u64], durable: &mut [u64], dirty: &mut [bool], count: u64) {
+// Persists dirty words that are not among these, at most so many. It gives how many more could be persisted.
+fn persist_some(
+    volatile: &[u64],
+    durable: &mut [u64],
+    dirty: &mut [bool],
+    last: &[bool],
+    count: u64,
+) -> u64 {
     let mut left = count;
-    for ((from, into), mark) in volatile
+    for (((from, into), mark), last) in volatile
         .iter()
         .zip(durable.iter_mut())
         .zip(dirty.iter_mut())
+        .zip(last.iter())
     {
-        if *mark && left > 0 {
+        if *mark && !*last && left > 0 {
             *into = *from;
             *mark = false;
             left -= 1;
         }
     }
+    left
 }
 
 /// Whether a table of two callers was left with these words and marks of each replica.
@@ -238,7 +245,8 @@ struct Outcome {
     dirty: usize,
 }
 
-// Runs an update with a limit of steps, closes the table, and compares what it left with the model.
+// Runs an update with a limit of steps, closes the table, and compares what it left with the model. Which dirty words are
+// persisted first is not promised, so the model begins with those that the table left clean.
 fn at_limit(alloc: Global, base: &Base, entry: &Entry, limit: u64) -> Result<Outcome, AllocError>
     requires base { LawfulBase 64 (IsImage 64) base.now }
     requires place { base.now.place ≡ 0 }
@@ -247,11 +255,14 @@ fn at_limit(alloc: Global, base: &Base, entry: &Entry, limit: u64) -> Result<Out
     let (shared, mut first, second) = made(alloc, DocStore::of(64), &[limit, NO_LIMIT], base)?;
     let done = update_and_renew(&shared, &mut first, &entry.op, 1) == Ok(true);
     let steps = first.steps();
-    let left = limit.saturating_sub(steps_before(&entry.op));
-    let image = modelled(alloc, &DocStore::of(64), base, entry, left)?;
     let Some(left) = closed(alloc, shared, first, second)? else {
         return Err(AllocError);
     };
+    let Some(last) = of_replica(&left.dirty, 1, base.words.len()) else {
+        return Err(AllocError);
+    };
+    let more = limit.saturating_sub(steps_before(&entry.op));
+    let image = modelled(alloc, &DocStore::of(64), base, entry, more, last)?;
     let other = untouched(alloc, base.words.as_slice())?;
     let same = is_left(&left, [&other, &image, &other, &other]);
     let dirty = left.dirty.iter().filter(|mark| **mark).count();

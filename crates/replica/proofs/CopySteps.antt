@@ -1,7 +1,5 @@
 -- What a step of a copy does to the seat.
-use Rattle.std.proofs.Common.{false, true, cond, nat_lt, IfSome, ◌≡◌, ◌+◌, ◌<◌, ◌==◌, ℕ, Bool, All, List, [], ◌∷◌, ◌++◌, refl, ap, sym, subst, ◌∙◌, append-nil, Option, Some, None, Result, Ok, Err, IfOk, OnErr, OnOk}
-use Rattle.std.proofs.lemmas.List.Elements.{Contains-append_left}
-use Rattle.std.specs.List.{Contains}
+use Rattle.std.proofs.Common.{false, true, cond, nat_lt, IfSome, ◌≡◌, ◌<◌, ℕ, Bool, All, List, refl, ap, sym, subst, ◌∙◌, append-nil, Option, Some, None, Result, Ok, Err, IfOk, OnErr, OnOk}
 use Rattle.std.specs.Option.{option_map}
 use Rattle.std.specs.Result.{result_ok}
 use Rattle.cx_core.specs.declared.kinds.Kind.TheVariants.{LoadWord, StoreWord, TryShared}
@@ -12,15 +10,13 @@ use Rattle.cx_core.specs.LockEvents.{exclusive_mark, passing, shared_by}
 use Rattle.cx_core.specs.Region.{region_words}
 use Rattle.cx_core.specs.RegionEvents.{loaded_into, stored_into}
 use Rattle.cx_core.specs.Rights.{held_dirty}
-use Rattle.cx_rule.specs.declared.rule.Known.{Known}
-use Rattle.cx_rule.specs.Fitting.{AgreeTo, Fitting, SomeFits, loaded_of}
+use Rattle.cx_rule.specs.Fitting.{Fitting, SomeFits}
 use Rattle.cx_rule.specs.Running.{IsSeatOf, Running, instance_at}
 use Rattle.cx_rule.specs.Seats.{Seated, known_after}
 use Rattle.cx_rule.specs.Steps.{Halts, Steps}
-use Rattle.cx_rule.proofs.Copying.{agree_compared, agree_stored, known_compared}
 use Rattle.cx_table.specs.Right.{Right}
 use Rattle.cx_table.specs.Tokens.{IsExclusiveOf, IsSharedOf, TriedShared}
-use Rattle.replica.specs.Copies.{HoldsBoth, KeepsLoaded, beside_copy, but_loads}
+use Rattle.replica.specs.Copies.{HoldsBoth, beside_copy, but_loads, known_compared}
 use Rattle.replica.specs.Held.{IsHeld, but_words}
 use Rattle.replica.specs.Laws.{shared_held}
 use Rattle.replica.proofs.Access.{beside, dirty_stored, replica_but_words, unstored}
@@ -89,21 +85,11 @@ module _ {O : Type 0} (lines : ℕ) (r : Running O) (step : O → List ℕ → L
       both_still both s.seat rest fits
       (subst (λ (t : Seated). All (λ i. i < region_words lines) (held_dirty t.known.local.exclusive)) (sym s.made) (dirty_stored (λ i. i < region_words lines) at v before.known.local.exclusive below both.exclusive.dirty))
 
-module _ {O : Type 0} (r : Running O) (step : O → List ℕ → List ℕ → List ℕ × List ℕ) (reads : O → List ℕ → Bool) (held source : Right) (at old word : ℕ) (before mid after : Seated) (agree : AgreeTo before.known at) (right : IsExclusiveOf r.callers before held) (from : IsSharedOf r.callers before source)
-    (first : Steps r step reads (LoadWord held.replica at false) old before mid) (second : Steps r step reads (LoadWord source.replica at false) word mid after) where
-  compared : after.known ≡ known_compared (instance_at r step reads) held.replica source.replica at old word before.known
-  compared = ap (λ (s : Seated). s.known) second.made ∙ ap (λ (s : Seated). known_after (instance_at r step reads) (LoadWord source.replica at false) s.known word) first.made
-
-  -- a word that was found to be the same agrees
-  pub copied_same : old ≡ word → AgreeTo after.known (at + 1)
-  copied_same same =
-      subst (λ (k : Known). AgreeTo k (at + 1)) (sym compared) (agree_compared (instance_at r step reads) held.replica source.replica at old word before.known agree right.holds from.holds same)
-
-  -- and so does one that was stored over another
-  pub copied_over : (last : Seated) → Steps r step reads (StoreWord held.replica at word) 0 after last → AgreeTo last.known (at + 1)
-  copied_over last third =
-      subst (λ (k : Known). AgreeTo k (at + 1)) (sym (ap (λ (s : Seated). s.known) third.made ∙ ap (λ (k : Known). known_after (instance_at r step reads) (StoreWord held.replica at word) k 0) compared))
-      (agree_stored (instance_at r step reads) held.replica source.replica at old word before.known agree right.holds from.holds)
+-- what is known after a word was loaded of both
+pub compared : {O : Type 0} (r : Running O) (step : O → List ℕ → List ℕ → List ℕ × List ℕ) (reads : O → List ℕ → Bool) (h s at u v : ℕ) (before mid after : Seated) → Steps r step reads (LoadWord h at false) u before mid → Steps r step reads (LoadWord s at false) v mid after →
+    after.known ≡ known_compared (instance_at r step reads) h s at u v before.known
+compared r step reads h s at u v before mid after first second =
+    ap (λ (t : Seated). t.known) second.made ∙ ap (λ (t : Seated). known_after (instance_at r step reads) (LoadWord s at false) t.known v) first.made
 
 module _ {O E : Type 0} (lines : ℕ) (r : Running O) (step : O → List ℕ → List ℕ → List ℕ × List ℕ) (reads : O → List ℕ → Bool) (lawful : List ℕ → Type 0) (held source : Right) (q at : ℕ) (before after : Seated) (both : HoldsBoth lines r lawful before held source) where
   -- both rights stay after a load and after a store, whether the step was made or refused
@@ -143,20 +129,3 @@ module _ {O : Type 0} (lines : ℕ) (r : Running O) (step : O → List ℕ → L
         };
         shared = shared_held lines r lawful after source was.sized s.seat tried.2 fits;
       }
-
--- what was loaded stays so through a load
-kept_loaded : (r i found : ℕ) (o : Option HeldShared) (x : ℕ × ℕ) → Contains (loaded_of o) x → Contains (loaded_of (option_map (loaded_into r i found) o)) x
-kept_loaded r i found None x has = has
-kept_loaded r i found (Some h) x has = by (h.replica == r)
-  where
-    by : (b : Bool) → Contains (cond b (h.loaded ++ (i, found) ∷ []) h.loaded) x
-    by true = Contains-append_left h.loaded ((i, found) ∷ []) x has
-    by false = has
-
-module _ {O : Type 0} (r : Running O) (step : O → List ℕ → List ℕ → List ℕ × List ℕ) (reads : O → List ℕ → Bool) (q at : ℕ) where
-  pub load_keeps : (found : ℕ) (before after : Seated) → Steps r step reads (LoadWord q at false) found before after → KeepsLoaded before after
-  load_keeps found before after s x has = subst (λ (t : Seated). Contains (loaded_of t.known.local.shared) x) (sym s.made) (kept_loaded q at found before.known.local.shared x has)
-
-  -- and through a store
-  pub store_keeps : (v : ℕ) (before after : Seated) → Steps r step reads (StoreWord q at v) 0 before after → KeepsLoaded before after
-  store_keeps v before after s x has = subst (λ (t : Seated). Contains (loaded_of t.known.local.shared) x) (sym s.made) has

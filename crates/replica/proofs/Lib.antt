@@ -1,5 +1,6 @@
 pub mod Access
-pub mod CopySteps
+pub mod LineCopies
+mod CopySteps
 mod Reading
 mod RegionLaws
 pub mod Replaying

@@ -1,7 +1,7 @@
 -- What a persisted word does to a replica held exclusively.
-use Rattle.std.proofs.Common.{◌≡◌, ◌≢◌, ◌+◌, ◌<◌, ◌≤◌, ◌==◌, ℕ, Bool, true, false, cond, All, List, [], ◌∷◌, filter, refl, ap, sym, subst, ◌∙◌, arith, append-nil, eq-eqb, Option, Some, None}
-use Rattle.std.proofs.lemmas.Bool.{false≢true}
-use Rattle.std.proofs.lemmas.List.Elements.{All-contains_itself, All-filter, All-nil, filter_passes}
+use Rattle.std.proofs.Common.{◌≡◌, ◌<◌, ◌≤◌, ◌==◌, inl, inr, ℕ, suc, length, Bool, true, false, cond, All, List, [], ◌∷◌, filter, refl, ap, sym, subst, ◌∙◌, arith, append-nil, eq-eqb, Option, Some, None}
+use Rattle.std.proofs.lemmas.Bool.{cases_eq, ne_eqb}
+use Rattle.std.proofs.lemmas.List.Elements.{All-filter, All-nil, Contains-append_cases, Contains-push_cases}
 use Rattle.std.specs.List.{Contains}
 use Rattle.std.specs.Option.{option_map}
 use Rattle.cx_core.specs.declared.kinds.Kind.TheVariants.{Persist}
@@ -14,23 +14,36 @@ use Rattle.cx_rule.specs.Running.{Running}
 use Rattle.cx_rule.specs.Seats.{Seated}
 use Rattle.cx_rule.specs.Steps.{Steps}
 use Rattle.cx_table.specs.Right.{Right}
-use Rattle.replica.specs.Flushes.{CleanBelow, Persists}
+use Rattle.replica.specs.Flushes.{Persists}
 use Rattle.replica.specs.Held.{IsHeld, beside_held, but_loaded, but_words}
 use Rattle.replica.proofs.Access.{beside, still_exclusive}
 
--- among numbers from one on without that one, all are from the next on
-from_next : (xs : List ℕ) (at : ℕ) → All (λ x. at ≤ x) xs → All (λ x. x ≢ at) xs → All (λ x. at + 1 ≤ x) xs
-from_next xs at from off k d below = (let a = from k d below in let b = off k d below in omega arith)
+abbrev other_than : ℕ → ℕ → Bool
+other_than at x = cond (x == at) false true
 
-pub not_dirty : (xs : List ℕ) (at : ℕ) → (Contains xs at → ⊥) → All (λ x. at ≤ x) xs → All (λ x. at + 1 ≤ x) xs
-not_dirty xs at off from = from_next xs at from (λ k d below e. off (subst (Contains xs) e (All-contains_itself xs k d below)))
+-- a list is shorter without a number that is in it
+left_off : (xs : List ℕ) (at : ℕ) → Contains xs at → length (filter (other_than at) xs) < length xs
+left_off [] at there = (let below = there.1 in absurd (omega (arith, below)))
+left_off (x ∷ xs) at there = elim (cases_eq x at) [
+  | inl e ↦ (
+      let rest = count_most (other_than at) xs in
+      let off : length (filter (other_than at) (x ∷ xs)) ≡ length (filter (other_than at) xs) = ap (λ (b : Bool). length (cond (cond b false true) (x ∷ filter (other_than at) xs) (filter (other_than at) xs))) (eq-eqb x at e) in
+      omega (arith, rest, off))
+  | inr ne ↦ (
+      let on : length (filter (other_than at) (x ∷ xs)) ≡ suc (length (filter (other_than at) xs)) = ap (λ (b : Bool). length (cond (cond b false true) (x ∷ filter (other_than at) xs) (filter (other_than at) xs))) (ne_eqb x at ne) in
+      let later : Contains xs at = elim (Contains-append_cases (x ∷ []) xs at there) [ inl here ↦ absurd (ne (one_item x at here)) | inr rest ↦ rest ] in
+      let rest = left_off xs at later in
+      omega (arith, rest, on))
+]
+  where
+    count_most : (p : ℕ → Bool) (ys : List ℕ) → length (filter p ys) ≤ length ys
+    count_most p [] = omega arith
+    count_most p (y ∷ ys) =
+        let rest = count_most p ys in
+        elim (p y) as (λ b. length (cond b (y ∷ filter p ys) (filter p ys)) ≤ suc (length ys)) [ true ↦ omega (arith, rest) | false ↦ omega (arith, rest) ]
 
--- a number without which a list was left is not in it
-left_off : (xs : List ℕ) (at : ℕ) → All (λ x. at ≤ x) xs → All (λ x. at + 1 ≤ x) (filter (λ x. cond (x == at) false true) xs)
-left_off xs at from =
-    let p : ℕ → Bool = λ x. cond (x == at) false true in
-    from_next (filter p xs) at (All-filter p (λ x. at ≤ x) xs from)
-    (λ k d below e. false≢true (ap (λ b. cond b false true) (sym (eq-eqb _ at e)) ∙ filter_passes p xs k d below))
+    one_item : (y z : ℕ) → Contains (y ∷ []) z → y ≡ z
+    one_item y z here = elim (Contains-push_cases [] y z here) [ inl none ↦ (let below = none.1 in absurd (omega (arith, below))) | inr same ↦ same ]
 
 dirty_persisted : (P Q : List ℕ → Type 0) (at : ℕ) (o : Option HeldExclusive) → P [] → ((xs : List ℕ) → Q xs → P (filter (λ x. cond (x == at) false true) xs)) → Q (held_dirty o) → P (held_dirty (option_map (persisted at) o))
 dirty_persisted P Q at None none step q = none
@@ -64,16 +77,15 @@ module _ {O : Type 0} (lines : ℕ) (r : Running O) (step : O → List ℕ → L
         dirty = dirty_after Below Below s (All-nil (λ i. i < region_words lines)) (λ xs all. All-filter (λ x. cond (x == at) false true) (λ i. i < region_words lines) xs all) of.dirty;
       }
 
-  pub clean_persisted : Steps r step reads (Persist held.replica at) 0 before after → CleanBelow at before → CleanBelow (at + 1) after
-  clean_persisted s clean = dirty_after (All (λ i. at + 1 ≤ i)) (All (λ i. at ≤ i)) s (All-nil (λ i. at + 1 ≤ i)) (λ xs from. left_off xs at from) clean
+  pub fewer_persisted : Steps r step reads (Persist held.replica at) 0 before after → Contains (held_dirty before.known.local.exclusive) at → length (held_dirty after.known.local.exclusive) < length (held_dirty before.known.local.exclusive)
+  fewer_persisted s dirty =
+      subst (λ (t : Seated). length (held_dirty t.known.local.exclusive) < length (held_dirty before.known.local.exclusive)) (sym s.made) (by before.known.local.exclusive dirty)
+    where
+      by : (o : Option HeldExclusive) → Contains (held_dirty o) at → length (held_dirty (option_map (persisted at) o)) < length (held_dirty o)
+      by None none = (let below = none.1 in absurd (omega (arith, below)))
+      by (Some h) there = left_off h.dirty at there
 
--- where each dirty word is one of the region and none is among the first so many, which are all, none is dirty
-pub none_left : (from words : ℕ) (o : Option HeldExclusive) → words ≤ from → All (λ i. from ≤ i) (held_dirty o) → All (λ i. i < words) (held_dirty o) → held_dirty o ≡ []
-none_left from words o all above below = by (held_dirty o) above below
-  where
-    by : (xs : List ℕ) → All (λ i. from ≤ i) xs → All (λ i. i < words) xs → xs ≡ []
-    by [] above below = refl
-    by (x ∷ xs) above below = (
-        let least : from ≤ x = above 0 0 (omega arith) in
-        let most : x < words = below 0 0 (omega arith) in
-        absurd (omega arith))
+-- where each dirty word is one of the region and no word of the region is dirty, none is
+pub none_left : (region words : ℕ) (dirty : List ℕ) → region ≡ words → All (λ i. i < words) dirty → ((at : ℕ) → at < region → ¬ Contains dirty at) → dirty ≡ []
+none_left region words [] same all none = refl
+none_left region words (x ∷ xs) same all none = (let below : x < words = all 0 0 (omega arith) in absurd (none x (omega (arith, below, same)) (0, omega arith, refl)))

@@ -1,11 +1,16 @@
 -- A replica held shared that is copied over one held exclusively.
-use Rattle.std.specs.Prelude.{ℕ, List, [], None}
+use Rattle.std.specs.Prelude.{◌≡◌, ◌≢◌, ◌+◌, ◌<◌, ◌≤◌, ◌⊎◌, ℕ, false, List, [], length, slice_index, Some, None}
 use Rattle.std.specs.List.{Contains}
 use Rattle.std.specs.Option.{option_map}
+use Rattle.cx_base.specs.Noted.{Note, NotesLead}
+use Rattle.cx_core.specs.declared.kinds.Kind.TheVariants.{LoadWord}
+use Rattle.cx_core.specs.Rights.{held_dirty}
+use Rattle.cx_core.specs.State.{Instance}
+use Rattle.cx_rule.specs.declared.rule.Known.{Known}
 use Rattle.cx_core.specs.declared.local.HeldShared.{HeldShared}
-use Rattle.cx_rule.specs.Fitting.{loaded_of}
+use Rattle.cx_rule.specs.Fitting.{AgreeTo, loaded_of, loads_of, word_noted}
 use Rattle.cx_rule.specs.Running.{Running}
-use Rattle.cx_rule.specs.Seats.{Seated}
+use Rattle.cx_rule.specs.Seats.{Seated, known_after}
 use Rattle.cx_table.specs.Right.{Right}
 use Rattle.replica.specs.Held.{IsHeld, IsHeldShared, but_words}
 
@@ -35,3 +40,40 @@ without_shared s = record s { known = record s.known { local = record s.known.lo
 -- each word that was loaded of the replica held shared is among those loaded still
 abbrev pub KeepsLoaded : Seated → Seated → Type 0
 KeepsLoaded before after = (x : ℕ × ℕ) → Contains (loaded_of before.known.local.shared) x → Contains (loaded_of after.known.local.shared) x
+
+-- the loads noted of the replica held shared
+abbrev pub read_notes : Known → List Note
+read_notes known = loads_of (loaded_of known.local.shared)
+
+-- Each word that became dirty differed. Whatever words the notes lead to from the same first words, the replica held
+-- exclusively had another word there before than the replica held shared has.
+abbrev pub DirtiesDiffering : ℕ → Known → Known → Type 0
+DirtiesDiffering region before after =
+    (at : ℕ) → Contains (held_dirty after.local.exclusive) at →
+    Contains (held_dirty before.local.exclusive) at
+    ⊎ ((first was now read : List ℕ) → length read ≡ region → NotesLead before.accesses first was → NotesLead after.accesses first now → NotesLead (read_notes after) read read → slice_index was at ≢ slice_index read at)
+
+-- what a caller knows after it loaded a word of the replica h, held exclusively, and then of the replica s, held shared
+abbrev pub known_compared : Instance → ℕ → ℕ → ℕ → ℕ → ℕ → Known → Known
+known_compared instance h s at u v k = known_after instance (LoadWord s at false) (known_after instance (LoadWord h at false) k u) v
+
+-- a word was loaded of both: it is u in the replica held exclusively and v in the one held shared
+pub record IsSeen (at u v : ℕ) (known : Known) : Type 0 where
+  pub source : word_noted None at (read_notes known) ≡ Some v
+  pub same : u ≡ v → word_noted None at known.accesses ≡ Some v
+  pub was : (first now : List ℕ) → NotesLead known.accesses first now → slice_index now at ≡ u
+
+-- so were the words of these lists, from one on up to below another
+abbrev pub AreSeen : ℕ → ℕ → ℕ → List ℕ → List ℕ → Known → Type 0
+AreSeen from least n us vs known = (i : ℕ) → least ≤ i → i < n → IsSeen (from + i) (slice_index us i) (slice_index vs i) known
+
+-- of a copy that began with what was known before, the words below n are copied, and those from n on are as they were
+pub record IsCopiedTo (n region : ℕ) (before now : Known) : Type 0 where
+  pub agree : AgreeTo now n
+  pub rest : (first was is : List ℕ) → NotesLead before.accesses first was → NotesLead now.accesses first is → (i : ℕ) → n ≤ i → slice_index is i ≡ slice_index was i
+  pub dirty : DirtiesDiffering region before now
+  pub loaded : (x : ℕ × ℕ) → Contains (loaded_of before.local.shared) x → Contains (loaded_of now.local.shared) x
+
+-- a copy goes on from one word to another, whenever it began
+abbrev pub CopiesOn : ℕ → ℕ → Known → Known → Type 0
+CopiesOn n m before after = (region : ℕ) (first : Known) → m ≤ region → IsCopiedTo n region first before → IsCopiedTo m region first after

@@ -1,12 +1,8 @@
 -- A replica held exclusively whose stored words are persisted.
-use Rattle.std.specs.Prelude.{◌≡◌, ◌≤◌, ℕ, All, []}
+use Rattle.std.specs.Prelude.{◌≡◌, ℕ, []}
 use Rattle.cx_core.specs.Rights.{held_dirty}
 use Rattle.cx_rule.specs.Seats.{Seated}
 use Rattle.replica.specs.Held.{beside_held}
-
--- the dirty words are not among the first
-abbrev pub CleanBelow : ℕ → Seated → Type 0
-CleanBelow n seat = All (λ at. n ≤ at) (held_dirty seat.known.local.exclusive)
 
 -- no word is dirty
 abbrev pub IsFlushed : Seated → Type 0

@@ -1,21 +1,27 @@
 //! A replica held shared is copied over one held exclusively.
 
-ghost use Rattle.std.specs.Prelude.{◌≡◌, ◌+◌, ◌<◌, ℕ, IfOk, OnErr, OnOk};
+ghost use Rattle.std.specs.Prelude.{◌≡◌, ◌+◌, ◌<◌, ◌≤◌, ℕ, IfOk, OnErr, OnOk};
 ghost use Rattle.std.specs.List.{Contains};
+ghost use Rattle.cx_core.specs.declared.kinds.Kind.TheVariants.{StoreWord};
 ghost use Rattle.cx_core.specs.Region.{region_words};
 ghost use Rattle.cx_rule.specs.Fitting.{AgreeTo, AreEqual, loaded_of};
-ghost use Rattle.cx_rule.specs.Running.{IsSeatOf};
-ghost use Rattle.cx_rule.specs.Seats.{IsAtLimit};
-ghost use Rattle.replica.specs.Copies.{HoldsBoth, KeepsLoaded, beside_copy, without_shared};
+ghost use Rattle.cx_rule.specs.Running.{IsSeatOf, instance_at};
+ghost use Rattle.cx_rule.specs.Seats.{IsAtLimit, known_after};
+ghost use Rattle.replica.specs.Copies.{AreSeen, CopiesOn, DirtiesDiffering, HoldsBoth, KeepsLoaded, beside_copy, known_compared, without_shared};
 ghost use Rattle.replica.specs.Held.{IsHeld};
 ghost use Rattle.replica.specs.Replays.{IsImage, noted_place};
 
 use cx_base::{Halt, Object};
 use cx_core::{HEAD_LINES, LINE_WORDS};
 use cx_table::{CallerSeat, Exclusive, Shared, SharedHold};
+use line_lanes::differing;
 
-/// Copies a replica held shared over one held exclusively, word by word, and stores only the words that differ. Then whatever
-/// fits the one is what fits the other. It gives their place. `Halt` comes only where the seat's steps equal its limit.
+/// The words of a line.
+const LINE: usize = LINE_WORDS as usize;
+
+/// Copies a replica held shared over one held exclusively, line by line, and stores only the words that differ. Then whatever
+/// fits the one is what fits the other, and each word that became dirty differed, so it lies in a line that differed. It gives
+/// their place. `Halt` comes only where the seat's steps equal its limit.
 pub fn copy_from<O: Object>(
     shared: &Shared<O>,
     seat: &mut CallerSeat,
@@ -26,14 +32,14 @@ pub fn copy_from<O: Object>(
     ensures both { HoldsBoth (O.line_count shared.now.object) shared.now (O.lawful shared.now.object) seat.new held.now source.now }
     ensures copied { OnOk result (AgreeTo seat.new.known (region_words (O.line_count shared.now.object))) }
     ensures equal { OnOk result (AreEqual (O.line_count shared.now.object) (O.lawful shared.now.object) shared.now.base seat.new.known) }
+    ensures differed { OnOk result (DirtiesDiffering (region_words (O.line_count shared.now.object)) seat.old.known seat.new.known) }
     ensures place { IfOk result (λ place. noted_place seat.new ≡ place) }
     ensures loaded { OnOk result (KeepsLoaded seat.old seat.new) }
     ensures rest { beside_copy seat.new ≡ beside_copy seat.old }
     ensures halts { OnErr result (IsAtLimit seat.new.known.local) }
 {
-    let words = LINE_WORDS * (HEAD_LINES + shared.lines());
-    for at in 0..words {
-        copy_word(shared, seat, held, source, at)?;
+    for line in 0..HEAD_LINES + shared.lines() {
+        copy_line(shared, seat, held, source, LINE_WORDS * line)?;
     }
     Ok(seat.noted_place())
 }
@@ -62,27 +68,127 @@ pub fn renew_from<O: Object>(
     Ok(place)
 }
 
-/// Copies a word, where the words before it were copied.
-fn copy_word<O: Object>(
+/// The words of a line, of the replica held exclusively and of the one held shared.
+#[derive(Debug, Drop)]
+struct LinePair {
+    held: [u64; LINE],
+    source: [u64; LINE],
+}
+
+/// Copies a line, where the lines before it were copied: both are loaded, and where they differ, the words that differ are stored.
+fn copy_line<O: Object>(
+    shared: &Shared<O>,
+    seat: &mut CallerSeat,
+    held: &Exclusive,
+    source: &SharedHold,
+    from: u64,
+) -> Result<(), Halt>
+    requires both { HoldsBoth (O.line_count shared.now.object) shared.now (O.lawful shared.now.object) seat.old held.now source.now }
+    requires from { from + 8 ≤ region_words (O.line_count shared.now.object) }
+    ensures both { HoldsBoth (O.line_count shared.now.object) shared.now (O.lawful shared.now.object) seat.new held.now source.now }
+    ensures copied { OnOk result (CopiesOn from (from + 8) seat.old.known seat.new.known) }
+    ensures rest { beside_copy seat.new ≡ beside_copy seat.old }
+    ensures halts { OnErr result (IsAtLimit seat.new.known.local) }
+{
+    let pair = load_line(shared, seat, held, source, from)?;
+    let mut differs = [false];
+    differing(&pair.held, &pair.source, &mut differs);
+    if differs[0] {
+        store_line(shared, seat, held, source, from, &pair)?;
+    }
+    Ok(())
+}
+
+/// Loads a line of both replicas.
+fn load_line<O: Object>(
+    shared: &Shared<O>,
+    seat: &mut CallerSeat,
+    held: &Exclusive,
+    source: &SharedHold,
+    from: u64,
+) -> Result<LinePair, Halt>
+    requires both { HoldsBoth (O.line_count shared.now.object) shared.now (O.lawful shared.now.object) seat.old held.now source.now }
+    requires from { from + 8 ≤ region_words (O.line_count shared.now.object) }
+    ensures both { HoldsBoth (O.line_count shared.now.object) shared.now (O.lawful shared.now.object) seat.new held.now source.now }
+    ensures seen { IfOk result (λ pair. AreSeen from 0 8 pair.held pair.source seat.new.known) }
+    ensures copied { OnOk result (CopiesOn from from seat.old.known seat.new.known) }
+    ensures rest { beside_copy seat.new ≡ beside_copy seat.old }
+    ensures halts { OnErr result (IsAtLimit seat.new.known.local) }
+{
+    let mut pair = LinePair {
+        held: [0; LINE],
+        source: [0; LINE],
+    };
+    for i in 0..LINE {
+        let (old, new) = load_both(shared, seat, held, source, from + i as u64)?;
+        pair.held[i] = old;
+        pair.source[i] = new;
+    }
+    Ok(pair)
+}
+
+/// Loads a word of both replicas.
+fn load_both<O: Object>(
     shared: &Shared<O>,
     seat: &mut CallerSeat,
     held: &Exclusive,
     source: &SharedHold,
     at: u64,
-) -> Result<(), Halt>
+) -> Result<(u64, u64), Halt>
     requires both { HoldsBoth (O.line_count shared.now.object) shared.now (O.lawful shared.now.object) seat.old held.now source.now }
     requires at { at < region_words (O.line_count shared.now.object) }
-    requires agree { AgreeTo seat.old.known at }
     ensures both { HoldsBoth (O.line_count shared.now.object) shared.now (O.lawful shared.now.object) seat.new held.now source.now }
-    ensures agree { OnOk result (AgreeTo seat.new.known (at + 1)) }
-    ensures loaded { OnOk result (KeepsLoaded seat.old seat.new) }
+    ensures known { IfOk result (λ words. seat.new.known ≡ known_compared (instance_at shared.now O.step O.only_reads) held.now.replica source.now.replica at words.0 words.1 seat.old.known) }
     ensures rest { beside_copy seat.new ≡ beside_copy seat.old }
     ensures halts { OnErr result (IsAtLimit seat.new.known.local) }
 {
     let old = shared.load_word(seat, held.replica() as u64, at, false)?;
-    let word = shared.load_word(seat, source.replica() as u64, at, false)?;
-    if old != word {
-        shared.store_word(seat, held.replica() as u64, at, word)?;
+    let new = shared.load_word(seat, source.replica() as u64, at, false)?;
+    Ok((old, new))
+}
+
+/// Stores the words of a line that differ, where both lines were loaded.
+fn store_line<O: Object>(
+    shared: &Shared<O>,
+    seat: &mut CallerSeat,
+    held: &Exclusive,
+    source: &SharedHold,
+    from: u64,
+    pair: &LinePair,
+) -> Result<(), Halt>
+    requires both { HoldsBoth (O.line_count shared.now.object) shared.now (O.lawful shared.now.object) seat.old held.now source.now }
+    requires from { from + 8 ≤ region_words (O.line_count shared.now.object) }
+    requires seen { AreSeen from 0 8 pair.now.held pair.now.source seat.old.known }
+    ensures both { HoldsBoth (O.line_count shared.now.object) shared.now (O.lawful shared.now.object) seat.new held.now source.now }
+    ensures copied { OnOk result (CopiesOn from (from + 8) seat.old.known seat.new.known) }
+    ensures rest { beside_copy seat.new ≡ beside_copy seat.old }
+    ensures halts { OnErr result (IsAtLimit seat.new.known.local) }
+{
+    for i in 0..LINE {
+        if pair.held[i] != pair.source[i] {
+            store_copied(shared, seat, held, source, from + i as u64, pair.source[i])?;
+        }
     }
+    Ok(())
+}
+
+/// Stores a word of the replica held exclusively.
+pub(crate) fn store_copied<O: Object>(
+    shared: &Shared<O>,
+    seat: &mut CallerSeat,
+    held: &Exclusive,
+    source: &SharedHold,
+    at: u64,
+    word: u64,
+) -> Result<(), Halt>
+    requires both { HoldsBoth (O.line_count shared.now.object) shared.now (O.lawful shared.now.object) seat.old held.now source.now }
+    requires at { at < region_words (O.line_count shared.now.object) }
+    ensures both { HoldsBoth (O.line_count shared.now.object) shared.now (O.lawful shared.now.object) seat.new held.now source.now }
+    ensures known { OnOk result (seat.new.known ≡ known_after (instance_at shared.now O.step O.only_reads) (StoreWord held.now.replica at word) seat.old.known 0) }
+    ensures rest { beside_copy seat.new ≡ beside_copy seat.old }
+    ensures halts { OnErr result (IsAtLimit seat.new.known.local) }
+{
+    let _ = source;
+    shared.store_word(seat, held.replica() as u64, at, word)?;
     Ok(())
 }

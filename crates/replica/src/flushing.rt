@@ -1,15 +1,16 @@
 //! What was stored into a replica held exclusively is persisted.
 
-ghost use Rattle.std.specs.Prelude.{◌≡◌, ◌+◌, ◌*◌, ◌<◌, OnErr, OnOk};
+ghost use Rattle.std.specs.Prelude.{◌≡◌, ◌<◌, length, OnErr, OnOk};
+ghost use Rattle.std.specs.List.{Contains};
 ghost use Rattle.cx_core.specs.Region.{region_words};
+ghost use Rattle.cx_core.specs.Rights.{held_dirty};
 ghost use Rattle.cx_rule.specs.Seats.{IsAtLimit};
-ghost use Rattle.replica.specs.Flushes.{CleanBelow, IsFlushed, Persists};
+ghost use Rattle.replica.specs.Flushes.{IsFlushed, Persists};
 ghost use Rattle.replica.specs.Held.{IsHeld};
 ghost use Rattle.replica.specs.Replays.{IsImage};
 
 use cx_base::{Halt, Object};
-use cx_core::{HEAD_LINES, LINE_WORDS};
-use cx_table::{CallerSeat, Exclusive, GROUP, Shared};
+use cx_table::{CallerSeat, Exclusive, Shared};
 
 /// Persists every dirty word of a replica held exclusively, one step each. Then none is dirty. It loads and stores none, so
 /// that what was replayed stays so. `Halt` comes only where a word is dirty and the seat's steps equal its limit.
@@ -25,40 +26,13 @@ pub fn flush<O: Object>(
     ensures image { IsImage (O.line_count shared.now.object) (O.lawful shared.now.object) shared.now.base (O.step shared.now.object) seat.old.known → IsImage (O.line_count shared.now.object) (O.lawful shared.now.object) shared.now.base (O.step shared.now.object) seat.new.known }
     ensures halts { OnErr result (IsAtLimit seat.new.known.local) }
 {
-    let words = LINE_WORDS * (HEAD_LINES + shared.lines());
-    for group in 0..words.div_ceil(GROUP) {
-        flush_group(shared, seat, held, group)?;
-    }
-    Ok(())
-}
-
-/// Persists the dirty words of a group, and passes over one that has none.
-fn flush_group<O: Object>(
-    shared: &Shared<O>,
-    seat: &mut CallerSeat,
-    held: &Exclusive,
-    group: u64,
-) -> Result<(), Halt>
-    requires held { IsHeld (O.line_count shared.now.object) shared.now (O.lawful shared.now.object) seat.old held.now }
-    requires group { 64 * group < region_words (O.line_count shared.now.object) }
-    requires clean { CleanBelow (64 * group) seat.old }
-    ensures held { IsHeld (O.line_count shared.now.object) shared.now (O.lawful shared.now.object) seat.new held.now }
-    ensures clean { OnOk result (CleanBelow (64 * group + 64) seat.new) }
-    ensures persists { Persists held.now.replica seat.old seat.new }
-    ensures halts { OnErr result (IsAtLimit seat.new.known.local) }
-{
-    if !seat.has_dirty(group) {
-        return Ok(());
-    }
-    let from = GROUP * group;
-    let words = LINE_WORDS * (HEAD_LINES + shared.lines());
-    for at in from..words.min(from + GROUP) {
+    while let Some(at) = seat.some_dirty() {
         persist_dirty(shared, seat, held, at)?;
     }
     Ok(())
 }
 
-/// Persists a word where it is dirty.
+/// Persists a dirty word.
 fn persist_dirty<O: Object>(
     shared: &Shared<O>,
     seat: &mut CallerSeat,
@@ -67,14 +41,12 @@ fn persist_dirty<O: Object>(
 ) -> Result<(), Halt>
     requires held { IsHeld (O.line_count shared.now.object) shared.now (O.lawful shared.now.object) seat.old held.now }
     requires at { at < region_words (O.line_count shared.now.object) }
-    requires clean { CleanBelow at seat.old }
+    requires dirty { Contains (held_dirty seat.old.known.local.exclusive) at }
     ensures held { IsHeld (O.line_count shared.now.object) shared.now (O.lawful shared.now.object) seat.new held.now }
-    ensures clean { OnOk result (CleanBelow (at + 1) seat.new) }
+    ensures fewer { OnOk result (length (held_dirty seat.new.known.local.exclusive) < length (held_dirty seat.old.known.local.exclusive)) }
     ensures persists { Persists held.now.replica seat.old seat.new }
     ensures halts { OnErr result (IsAtLimit seat.new.known.local) }
 {
-    if seat.is_dirty(at) {
-        shared.persist(seat, held.replica() as u64, at)?;
-    }
+    shared.persist(seat, held.replica() as u64, at)?;
     Ok(())
 }

@@ -4,7 +4,7 @@ pub mod MirrorLaws
 mod Refused
 pub mod Copying
 pub mod Raising
-pub mod Counting
+pub mod Covering
 pub mod OpeningSeats
 mod Carrying
 pub mod Chaining

@@ -2,7 +2,7 @@
 //! replica held exclusively that are to be persisted have to be known without a load, and so have those of the caller's
 //! cells, of which only the words that differ are written.
 
-ghost use Rattle.std.specs.Prelude.{◌≡◌, ◌+◌, ◌*◌, ◌<◌, ◌==◌, ◌↔◌, ℕ, IfOk, IsTrue, false, true, if◌then◌else◌, length, replicate, slice_get, slice_index, slice_set, Some, None};
+ghost use Rattle.std.specs.Prelude.{◌≡◌, ◌≢◌, ◌+◌, ◌*◌, ◌<◌, ◌==◌, ℕ, IfOk, IfSome, IfNone, false, true, if◌then◌else◌, length, replicate, slice_get, slice_index, slice_set, Some, None};
 ghost use Rattle.seat_memory.specs.Copies.{blank_copy};
 
 use crate::marks::Marks;
@@ -118,12 +118,13 @@ impl Copies {
         self.dirty.as_slice()
     }
 
-    /// Whether a word of a group of 64 is dirty.
-    pub fn has_dirty(&self, group: u64) -> bool
-        requires { 64 * group < length self.now.dirty }
-        ensures { IsTrue result ↔ ((i : ℕ) × (i < 64) × (slice_get self.now.dirty (64 * group + i) ≡ Some true)) }
+    /// Some dirty word.
+    pub fn some_dirty(&mut self) -> Option<u64>
+        ensures same { self.new ≡ self.old }
+        ensures some { IfSome result (λ at. slice_get self.old.dirty at ≡ Some true) }
+        ensures none { IfNone result ((at : ℕ) → slice_get self.old.dirty at ≢ Some true) }
     {
-        self.dirty.has_any(group)
+        self.dirty.some_marked()
     }
 
     /// The words of a region.

@@ -11,5 +11,4 @@ mod ring;
 
 pub use closing::{copy_words, lead_on, mark_replica};
 pub use copies::Copies;
-pub use marks::GROUP;
 pub use mirror::{EXCLUSIVE_MARK, Mirror, is_at, opening_mirror};

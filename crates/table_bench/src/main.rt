@@ -1,17 +1,20 @@
 //! Nanoseconds of the calls of the running table, on one thread and on two, and a table to be weighed from outside. With
 //! no words it does nothing. `look N T`, `announce N T`, `link N T`, `load N T`, `store N T` and `persist N T` do a call N times
 //! on each of T threads and print the nanoseconds that it took; the last three are of words of replicas held, one for each thread.
-//! `repeat N` announces entries N times that differ by one word, and `flush N` makes a dozen words of a large replica durable N
-//! times, each on one thread. `add N` and `put N` do the full steps of N entries, which add to a sum or put documents of 32 bytes
-//! at 100 keys of a store of 1,024 lines, on a replica held and over plain words, and print the nanoseconds of both. `table` makes
-//! a table of 8 callers and 16,384 lines, and waits for a line of input.
+//! `repeat N` announces entries N times that differ by one word, `flush N` makes a dozen words of a large replica durable N times,
+//! and `copy N` copies a large replica N times over one that differs in a dozen lines, each on one thread. `add N` and `put N` do
+//! the full steps of N entries, which add to a sum or put documents of 32 bytes at 100 keys of a store of 1,024 lines, on a replica
+//! held and over plain words, and print the nanoseconds of both. `table` makes a table of 8 callers and 16,384 lines, and waits for
+//! a line of input.
 #![tactic(auto)]
 
+mod copies;
 mod entries;
 mod held;
 mod replays;
 mod works;
 
+use crate::copies::copies;
 use crate::entries::Work;
 use crate::held::{Access, accesses};
 use crate::replays::replays;
@@ -56,6 +59,7 @@ fn run<R: Runtime + Threads + Sync>(rt: &R, alloc: Global, words: &[String]) -> 
         "link" => links(rt, alloc, count, two)?,
         "repeat" => repeats(rt, alloc, count)?,
         "flush" => flushes(rt, alloc, count)?,
+        "copy" => copies(rt, alloc, count)?,
         _ => return table(rt, alloc),
     };
     println!(rt; "{nanoseconds}")?;

@@ -230,8 +230,8 @@ fn store_dozen<O: Object>(
     Ok(())
 }
 
-// A table of one caller over a store of 16,384 lines, and its seat.
-fn large(alloc: Global) -> Result<(Shared<DocStore>, CallerSeat), AllocError>
+/// A table of one caller over a store of 16,384 lines, and its seat.
+pub fn large(alloc: Global) -> Result<(Shared<DocStore>, CallerSeat), AllocError>
     ensures seat { IfOk result (λ r. IsFree r.0 r.1) }
     ensures callers { IfOk result (λ r. r.0.callers ≡ 1) }
     ensures lines { IfOk result (λ r. r.0.object.lines ≡ 16384) }

@@ -1,17 +1,10 @@
-use Rattle.std.proofs.Common.{◌≡◌, ◌*◌, ◌/◌, length, arith, ◌∙◌}
-use Rattle.line_lanes.proofs.TouchedLines.{eight_within, marked_more, marked_whole}
+use Rattle.std.proofs.Common.{◌≡◌, ◌<◌, slice_index_or, false, length, arith}
+use Rattle.std.proofs.lemmas.Grind.{common_steps}
+use Rattle.line_lanes.proofs.TouchedLines.{marked_alone}
 use Rattle.line_lanes.proofs.kernels.touched.Goals as goal
-
-pub mark_eight-requires : goal.mark_eight-requires
-mark_eight-requires c k d inside =
-    let same : length c.loop-eight.out ≡ length c.args.out.now = c.loop-eight.auto.out ∙ c.fill.auto.self in
-    let here = eight_within c.args.addresses.now (8 * c.loop-eight.eight) (length c.args.out.now) c.requires k d inside in
-    omega arith
-
-pub loop-eight-preserved : goal.loop-eight-preserved
-loop-eight-preserved c line within =
-    marked_more c.args.addresses.now c.loop-eight.eight line _ _ (c.loop-eight.invariant line (omega arith)) (c.mark_eight.ensures line within)
 
 pub returns : goal.returns
 returns c line within =
-    marked_whole c.args.addresses.now (8 * c.loop-eight.eight) (8 * (length c.args.addresses.now / 8)) line _ _ (omega arith) (c.loop-eight.invariant line (omega arith)) (c.mark_left.ensures line within)
+    let same : line < length c.fill.new.self = omega (arith, c.add_touched.auto.out) in
+    let none : slice_index_or c.fill.new.self line false ≡ false = grind (arith, common_steps, c.fill.ensures.clones) in
+    marked_alone c.args.addresses.now line _ _ none (c.add_touched.ensures line within)

@@ -1,10 +1,13 @@
-use Rattle.std.proofs.Common.{arith, ◌*◌}
+use Rattle.std.proofs.Common.{◌≡◌, sym, subst, ◌∙◌, []}
 use Rattle.cx_core.specs.Region.{region_words}
+use Rattle.cx_core.specs.Rights.{held_dirty}
+use Rattle.cx_rule.specs.Seats.{Seated}
 use Rattle.replica.proofs.Persisting.{none_left}
 use Rattle.replica.proofs.flushing.flush.Goals as goal
 
 pub returns-clause-clean : goal.returns-clause-clean
 returns-clause-clean g c =
-    none_left (64 * c.loop-group.group) (region_words (g.O.Object.line_count c.args.shared.now.object)) c.loop-group.seat.known.local.exclusive
-    (omega (arith, c.lines.ensures.value, c.requires.sized.lines_are, c.loop-group-test.false, c.div_ceil-group-end.ensures))
-    c.loop-group.invariant.clean c.loop-group.invariant.held.dirty
+    let seat = c.loop-at.seat in
+    let held = c.loop-at.invariant.held in
+    subst (λ (s : Seated). held_dirty s.known.local.exclusive ≡ []) (sym c.in_default.ensures.same)
+    (none_left seat.region (region_words (g.O.Object.line_count c.args.shared.now.object)) (held_dirty seat.known.local.exclusive) (held.of.region ∙ held.sized.region) held.dirty c.in_default.ensures.none)

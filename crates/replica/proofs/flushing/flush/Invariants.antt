@@ -1,12 +1,14 @@
-use Rattle.std.proofs.Common.{◌*◌}
-use Rattle.replica.specs.Flushes.{CleanBelow, Persists}
+use Rattle.std.proofs.Common.{length}
+use Rattle.cx_core.specs.Rights.{held_dirty}
+use Rattle.replica.specs.Flushes.{Persists}
 use Rattle.replica.specs.Held.{IsHeld}
 use Rattle.replica.proofs.flushing.flush.Given as goal
 
--- the groups so far are clean
-abbrev pub invariant-loop-group : goal.invariant-loop-group
-invariant-loop-group g l = record {
+abbrev pub invariant-loop-at : goal.invariant-loop-at
+invariant-loop-at g l = record {
   held : IsHeld (g.O.Object.line_count l.shared.object) l.shared (g.O.Object.lawful l.shared.object) l.seat l.held;
-  clean : CleanBelow (64 * l.group) l.seat;
   persists : Persists l.held.replica l.fn.seat l.seat;
 }
+
+abbrev pub decreases-loop-at : goal.decreases-loop-at
+decreases-loop-at g l = length (held_dirty l.seat.known.local.exclusive)

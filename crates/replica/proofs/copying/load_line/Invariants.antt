@@ -1,0 +1,14 @@
+use Rattle.std.proofs.Common.{◌≡◌, length}
+use Rattle.replica.specs.Copies.{AreSeen, CopiesOn, HoldsBoth, beside_copy}
+use Rattle.replica.proofs.copying.load_line.Given as goal
+
+-- the words so far were loaded of both
+abbrev pub invariant-loop-i : goal.invariant-loop-i
+invariant-loop-i g l = record {
+  held_long : length l.pair.held ≡ 8;
+  source_long : length l.pair.source ≡ 8;
+  both : HoldsBoth (g.O.Object.line_count l.shared.object) l.shared (g.O.Object.lawful l.shared.object) l.seat l.held l.source;
+  seen : AreSeen l.from 0 l.i l.pair.held l.pair.source l.seat.known;
+  copied : CopiesOn l.from l.from l.fn.seat.known l.seat.known;
+  rest : beside_copy l.seat ≡ beside_copy l.fn.seat;
+}

@@ -1,0 +1,12 @@
+use Rattle.std.proofs.Common.{◌≡◌, ◌+◌}
+use Rattle.replica.specs.Copies.{AreSeen, CopiesOn, HoldsBoth, beside_copy}
+use Rattle.replica.proofs.copying.store_line.Given as goal
+
+-- the words so far are copied, and the others are as they were loaded
+abbrev pub invariant-loop-i : goal.invariant-loop-i
+invariant-loop-i g l = record {
+  both : HoldsBoth (g.O.Object.line_count l.shared.object) l.shared (g.O.Object.lawful l.shared.object) l.seat l.held l.source;
+  seen : AreSeen l.from l.i 8 l.pair.held l.pair.source l.seat.known;
+  copied : CopiesOn l.from (l.from + l.i) l.fn.seat.known l.seat.known;
+  rest : beside_copy l.seat ≡ beside_copy l.fn.seat;
+}
