@@ -1,17 +1,21 @@
 #!/usr/bin/env python3
-"""Our service beside what a user would take instead: a table in markdown, and a plot.
+"""Our service beside what a user would take instead: a page in markdown with words, a table and a plot.
 
-    performance.py [--svg FILE] [--rounds N] [--ms M] [--services S] [--threads 1,2,4] [--reads 0,50,..] [--sizes LINESxKEYS,..]
+    performance.py [--doc FILE] [--rounds N] [--ms M] [--threads 1,2,4] [--reads 0,50,..] [--sizes LINESxKEYS,..]
 
 Build the programs first: cd crates/service_bench && rt run
                           cd bench/peers && cargo build --release --offline
 
+`--doc docs/PERFORMANCE.md` writes the page there, and the plot into `pictures` beside it; else the page is printed. All takes some 5 minutes.
+
 In each round the service and each peer run in turn, so that what else the machine does is met by all alike; who begins changes from
 round to round. A figure is the median over rounds of the ratio within a round. Throughput is calls by wall time in the callers'
-threads, and processor time is that of those threads: making and filling a store is not counted. S services are made one after
-another, and a peer runs for M milliseconds. A size that some program does not take is left out, and said.
+threads, and processor time is that of those threads: making and filling a store is not counted. Each runs for about M milliseconds:
+the service makes one store, and as many updates as a short run before told. A size that some program does not take is left out, and
+said.
 """
 import argparse
+import functools
 import itertools
 import os
 import statistics
@@ -20,6 +24,7 @@ import sys
 from dataclasses import dataclass
 
 from performance_plot import Panel, drawn
+from performance_words import advice, comparison, short, size_words, thread_words
 
 HERE = os.path.dirname(os.path.abspath(__file__))
 SERVICE = os.path.join(HERE, "..", "crates", "service_bench", "out", "service_bench")
@@ -32,8 +37,9 @@ FORMS = {
     "btree_rwlock": "BTreeMap, RwLock",
 }
 LEAST_ROUNDS = 9
-# what service_bench runs where it does not say
-OWN_SIZE = (1024, 100)
+# the updates of each caller in the short run that tells how many a longer one has; of reads alone it makes as many
+FIRST_UPDATES = 500
+PICTURE = os.path.join("pictures", "performance.svg")
 
 
 @dataclass(frozen=True)
@@ -59,27 +65,38 @@ def said_by(words):
     return {name: int(number) for name, number in zip(line[::2], line[1::2])}
 
 
-def words_of(form, setting, services, ms):
+def service_words(setting, updates):
+    return [SERVICE, "calls", setting.threads, updates, setting.reads, setting.lines, setting.keys]
+
+
+@functools.cache
+def updates_of(setting, ms):
+    """The updates of each caller of the service that take about so many milliseconds; where all calls are reads, the reads."""
+    said = said_by(service_words(setting, FIRST_UPDATES))
+    return max(1, FIRST_UPDATES * ms * 1_000_000 * setting.threads // max(said["wall"], 1))
+
+
+def words_of(form, setting, ms):
     """A program's words for a run."""
     if form == OURS:
-        return [SERVICE, "calls", setting.threads, services, setting.reads, setting.lines, setting.keys]
+        return service_words(setting, updates_of(setting, ms))
     named = [word for name, value in vars(setting).items() for word in (f"--{name}", value)]
     return [PEERS, "run", "--form", form, "--ms", ms, *named]
 
 
 def taken(lines, keys):
-    """Whether the programs run so many lines and keys: service_bench says them back, or has one size alone."""
+    """Whether the programs run so many lines and keys; service_bench says them back."""
     setting = Setting(lines, keys, 1, 50)
     try:
-        said, _ = (said_by(words_of(form, setting, 1, 1)) for form in (OURS, REGION))
+        said, _ = said_by(service_words(setting, 1)), said_by(words_of(REGION, setting, 1))
     except subprocess.CalledProcessError:
         return False
-    return (said.get("lines", OWN_SIZE[0]), said.get("keys", OWN_SIZE[1])) == (lines, keys)
+    return (said["lines"], said["keys"]) == (lines, keys)
 
 
 def ran(form, setting, options):
     """Runs a form once."""
-    said = said_by(words_of(form, setting, options.services, options.ms))
+    said = said_by(words_of(form, setting, options.ms))
     calls = said["updates"] + said["reads"]
     if not (calls and said["wall"] and said["cpu"]):
         sys.exit(f"{form} made no calls, or took no time: {setting}, {said}")
@@ -99,13 +116,6 @@ def rounds_of(setting, options, run=ran):
 def median_ratio(rounds, form, base, value=lambda run: run.rate):
     """The median over rounds of what a form did, where 1 is what the base did in the same round."""
     return statistics.median(value(each[form]) / value(each[base]) for each in rounds)
-
-
-def short(number):
-    """A number with three digits, or all before the point; with two where it is below 1."""
-    if number >= 100:
-        return f"{number:,.0f}"
-    return f"{number:.1f}" if number >= 10 else f"{number:.2f}" if number >= 1 else f"{number:.2g}"
 
 
 def row(setting, rounds):
@@ -131,8 +141,7 @@ def panels(measured):
     """A panel for each size and number of threads: each form's throughput by that of the region under a mutex."""
     found = {}
     for setting, rounds in measured.items():
-        title = f"{setting.threads} thread" + ("s" if setting.threads > 1 else "")
-        place = (f"{setting.lines:,} lines, {setting.keys:,} keys", title)
+        place = (f"{setting.lines:,} lines, {setting.keys:,} keys", thread_words(setting.threads))
         panel = found.setdefault(place, Panel(*place, {form: [] for form in FORMS if form != REGION}))
         for form, points in panel.lines.items():
             points.append((setting.reads, median_ratio(rounds, form, REGION)))
@@ -140,9 +149,57 @@ def panels(measured):
 
 
 def machine():
-    with open("/proc/cpuinfo") as file:
+    with open("/proc/cpuinfo", encoding="utf-8") as file:
         names = [line.split(":", 1)[1].strip() for line in file if line.startswith("model name")]
     return f"{os.cpu_count()} processors, {names[0] if names else os.uname().machine}, load {os.getloadavg()[0]:.1f} before"
+
+
+def shares(measured, peer):
+    """For each size and number of threads the throughput of the service by that of a peer, for each share of reads."""
+    found = {}
+    for setting, rounds in measured.items():
+        place = (setting.lines, setting.keys), setting.threads
+        found.setdefault(place, {})[setting.reads] = median_ratio(rounds, OURS, peer)
+    return found
+
+
+def page(measured, options, where, left_out):
+    """The page: words, the table, and where it was measured."""
+    lines = [
+        "# Performance",
+        "",
+        "A service beside what a user would take instead: the words of one region under a mutex, each changed word also stored in a durable copy, "
+        "and a `BTreeMap` under a lock, which is not durable. Updates put a document of 32 bytes at a key that is there, reads get one.",
+        "",
+        "## Which to take",
+        "",
+        "\n\n".join(advice(shares(measured, REGION))),
+        "",
+        "The service makes as many calls as each of the others, or more:",
+        "",
+        comparison({FORMS[peer]: shares(measured, peer) for peer in FORMS if peer != OURS}),
+        "",
+        f"![Throughput by share of reads]({PICTURE})",
+        "",
+        "## The figures",
+        "",
+        f"{where}. Medians of {options.rounds} rounds of {options.ms} milliseconds, in which all run in turn (`bench/performance.py`; the others "
+        "are `bench/peers`). Our service: thousands of calls a second, and in brackets the nanoseconds of processor time of a call. The others: "
+        "how many times as many calls a second, and in brackets how many times that processor time.",
+        "",
+        markdown(measured),
+    ]
+    for size in left_out:
+        lines += ["", f"Not measured: {size_words(*size)}, which not all programs take."]
+    if options.rounds < LEAST_ROUNDS:
+        lines += ["", f"A try: figures take {LEAST_ROUNDS} rounds or more."]
+    return "\n".join(lines) + "\n"
+
+
+def written(name, text):
+    os.makedirs(os.path.dirname(name) or ".", exist_ok=True)
+    with open(name, "w", encoding="utf-8") as file:
+        file.write(text)
 
 
 def numbers(text):
@@ -155,10 +212,9 @@ def pairs(text):
 
 def options_of(words):
     parser = argparse.ArgumentParser(description=__doc__, formatter_class=argparse.RawDescriptionHelpFormatter)
-    parser.add_argument("--svg", metavar="FILE")
+    parser.add_argument("--doc", metavar="FILE")
     parser.add_argument("--rounds", type=int, default=LEAST_ROUNDS)
     parser.add_argument("--ms", type=int, default=100)
-    parser.add_argument("--services", type=int, default=100)
     parser.add_argument("--threads", type=numbers, default=[1, 2, 4])
     parser.add_argument("--reads", type=numbers, default=[0, 50, 90, 99, 100])
     parser.add_argument("--sizes", type=pairs, default=[(1024, 100), (16384, 100), (16384, 1000)])
@@ -177,18 +233,14 @@ def main(words):
         setting = Setting(*size, threads, reads)
         print("measured now:", *(f"{name} {value}" for name, value in vars(setting).items()), file=sys.stderr)
         measured[setting] = rounds_of(setting, options)
-    print(f"{where}. Medians of {options.rounds} rounds.")
-    print("Our service: thousands of calls a second, and in brackets the nanoseconds of processor time of a call.")
-    print("The others: how many times as many calls a second, and in brackets how many times that processor time.\n")
-    print(markdown(measured))
-    for lines, keys in options.sizes:
-        if (lines, keys) not in sizes:
-            print(f"\nNot measured: {lines:,} lines with {keys:,} keys, which not all programs take.")
-    if options.rounds < LEAST_ROUNDS:
-        print(f"\nA try: figures take {LEAST_ROUNDS} rounds or more.")
-    if options.svg and measured:
-        with open(options.svg, "w", encoding="utf-8") as file:
-            file.write(drawn(panels(measured), FORMS, REGION))
+    if not measured:
+        sys.exit("no size was measured")
+    text = page(measured, options, where, [size for size in options.sizes if size not in sizes])
+    if options.doc:
+        written(options.doc, text)
+        written(os.path.join(os.path.dirname(options.doc), PICTURE), drawn(panels(measured), FORMS, REGION))
+    else:
+        print(text, end="")
 
 
 if __name__ == "__main__":

@@ -2,12 +2,12 @@
 """Processor time and steps of a service's updates and reads, on one thread, two and four, and of the parts of both on one.
 
 Build the program first: cd crates/service_bench && rt run
-A store of 1,024 lines has documents of 32 bytes at 100 keys. A service is made anew for each 16 updates of its callers; its
-making and closing are not counted. Each caller has a thread of its own. The least of several runs stands, since others load the
-machine. `--rounds N` sets how many.
+A store of 1,024 lines has documents of 32 bytes at 100 keys. One service runs long enough that its callers' cells come round again many
+times; its making and closing are not counted. Each caller has a thread of its own. The least of several runs stands, since others load
+the machine. `--rounds N` sets how many.
 
-The parts are those of the same updates of one caller, and of 64 reads after them, made one after another on a thread of its own,
-between which the steps and the clock are read. What it takes to read the clock is in each part's time once.
+The parts are those of 16 updates of one caller, and of 64 reads after them, made one after another on a thread of its own, between
+which the steps and the clock are read. What it takes to read the clock is in each part's time once.
 """
 import argparse
 import os
@@ -16,6 +16,8 @@ import sys
 
 BENCH = os.path.join(os.path.dirname(__file__), "..", "crates", "service_bench", "out", "service_bench")
 LEAST_ROUNDS = 9
+# the updates of each caller, and its reads where it only reads
+UPDATES, LOOKS = 10_000, 200_000
 # a protection is kept before the entries are read and given up behind them, so that part is done twice in an update
 PARTS = {
     "load_cur": "load CUR",
@@ -51,13 +53,13 @@ def named(words):
     return {name: int(number) for name, number in zip(words[::2], words[1::2])}
 
 
-def run(threads, services, reads):
-    return named(lines_of("calls", threads, services, reads)[0].split())
+def run(threads, updates, reads):
+    return named(lines_of("calls", threads, updates, reads)[0].split())
 
 
-def parts(services):
+def parts(tables):
     """What each part of an update and of a read took, in one run."""
-    return {words[0]: named(words[1:]) for words in map(str.split, lines_of("parts", 1, services, 0))}
+    return {words[0]: named(words[1:]) for words in map(str.split, lines_of("parts", 1, tables, 0))}
 
 
 def parts_table(runs, call, of, last):
@@ -80,14 +82,14 @@ def beside(left, right):
     return [(left[i] if i < len(left) else blank[0]) + (right[i] if i < len(right) else blank[1]) for i in range(rows)]
 
 
-def least(rounds, threads, services, reads):
+def least(rounds, threads, updates, reads):
     """The run with the least processor time of a call."""
-    runs = [run(threads, services, reads) for _ in range(rounds)]
+    runs = [run(threads, updates, reads) for _ in range(rounds)]
     return min(runs, key=lambda got: got["cpu"] / (got["updates"] + got["reads"]))
 
 
-def row(rounds, threads, services, reads):
-    got = least(rounds, threads, services, reads)
+def row(rounds, threads, reads):
+    got = least(rounds, threads, UPDATES if reads < 100 else LOOKS, reads)
     calls = got["updates"] + got["reads"]
     updates, looks = max(got["updates"], 1), max(got["reads"], 1)
     return [
@@ -109,7 +111,7 @@ if __name__ == "__main__":
     parser.add_argument("--rounds", type=int, default=LEAST_ROUNDS)
     rounds = parser.parse_args().rounds
     head = ["threads", "reads in 100", "calls", "cpu ns a call", "wall ns a call", "submit steps", "drive steps", "read steps"]
-    table([head] + [row(rounds, threads, 400 if reads < 100 else 25, reads) for threads in (1, 2, 4) for reads in (0, 50, 100)])
+    table([head] + [row(rounds, threads, reads) for threads in (1, 2, 4) for reads in (0, 50, 100)])
     print()
     runs = [parts(400) for _ in range(rounds)]
     table(beside(parts_table(runs, "an update", PARTS, "retire"), parts_table(runs, "a read", READ_PARTS, "read_release")))

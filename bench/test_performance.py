@@ -1,5 +1,5 @@
 #!/usr/bin/env python3
-"""Tests of the table and the plot of performance.py, without a measurement."""
+"""Tests of the table, the words and the plot of performance.py, without a measurement."""
 import itertools
 import re
 import unittest
@@ -7,6 +7,7 @@ import xml.etree.ElementTree as ElementTree
 
 import performance
 import performance_plot
+import performance_words
 from performance import FORMS, OURS, REGION, Ran, Setting
 
 SVG = "{http://www.w3.org/2000/svg}"
@@ -54,6 +55,34 @@ class Measuring(unittest.TestCase):
         lines = performance.markdown(measured(SIZES, [1, 2, 4], lambda form, reads: 1 + form)).split("\n")
         self.assertEqual(2 + 45, len(lines))
         self.assertEqual({9}, {line.count("|") for line in lines})
+
+
+class Words(unittest.TestCase):
+    def figures(self, ratio):
+        return performance.shares(measured(SIZES, [1, 2, 4], ratio), REGION)
+
+    def test_least_share_has_no_loss_above_it(self):
+        self.assertEqual(90, performance_words.least_share({0: 2.0, 50: 0.9, 90: 1.0, 100: 3.0}))
+        self.assertEqual(0, performance_words.least_share({0: 1.0, 100: 1.0}))
+        self.assertIsNone(performance_words.least_share({0: 9.0, 100: 0.99}))
+
+    def test_share_is_that_of_the_worst_size(self):
+        figures = {((64, 8), 2): {0: 0.1, 50: 2.0, 100: 2.0}, ((128, 8), 2): {0: 0.1, 50: 0.5, 100: 2.0}, ((64, 8), 1): {100: 0.1}}
+        self.assertEqual({1: None, 2: 100}, performance_words.shares_at_all_sizes(figures))
+
+    def test_advice_follows_the_figures(self):
+        never, _ = performance_words.advice(self.figures(lambda form, reads: 0.2))
+        self.assertIn("no reason", never)
+        some, mutex = performance_words.advice(self.figures(lambda form, reads: 0.25 + reads / 100))
+        self.assertIn("from 90 reads in 100 up on 4 threads", some)
+        self.assertIn("makes 0.25 times", mutex)
+        self.assertEqual(1, len(performance_words.advice(self.figures(lambda form, reads: 2.0))))
+
+    def test_page_has_a_row_for_each_size_and_peer(self):
+        found = measured(SIZES, [1, 2, 4], lambda form, reads: 1.5)
+        page = performance.page(found, performance.options_of([]), "a machine", [(64, 1000)])
+        self.assertEqual(9, page.count("| always | always | always |"))
+        self.assertIn("Not measured: 64 lines and 1,000 keys", page)
 
 
 class Pictures(unittest.TestCase):

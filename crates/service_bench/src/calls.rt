@@ -2,47 +2,60 @@
 
 ghost use Rattle.std.specs.Prelude.{◌≡◌, ◌+◌, ◌≤◌, All, IfOk, IfSome};
 ghost use Rattle.cx_core.specs.Base.{LawfulBase};
-ghost use Rattle.cx_service.specs.Callers.{IsCallerOf};
+ghost use Rattle.cx_service.specs.Callers.{IsCallerOf, IsLinkedOf};
 ghost use Rattle.doc_store.specs.ExactStep.{IsImage};
 
 use crate::base::filled;
 use crate::laps::Laps;
-use crate::operations::{MOST_KEYS, Operations, Reading};
+use crate::operations::{MOST_KEYS, Reading, Updates, readings};
 use crate::parts::parted;
 use crate::tally::{Tally, since, thread_time};
 use cx_core::Base;
-use cx_service::{Caller, Driven, ReadTried, Service, Submitted};
+use cx_service::{Answer, Caller, Driven, Linked, ReadTried, Seen, Service, Submitted};
 use doc_store::DocStore;
 use std::alloc::{AllocError, Global};
 use std::io;
 use std::rt::Runtime;
-use std::thread::{Threads, map_vec};
+use std::thread::{Threads, map_vec, yield_now};
 use std::time::{Clock, CpuClock, Instant};
 
-/// The most calls of a caller in a service.
-const CALLS: u64 = 4096;
+/// The reads that a caller makes in turn.
+const READINGS: u64 = 256;
 
 /// Nanoseconds in which all callers of a service are made ready.
-const AHEAD: u64 = 1_000_000;
+const AHEAD: u64 = 10_000_000;
 
 /// How often a caller looks at the clock at most until it begins.
 const LOOKS: u64 = 1 << 24;
+
+/// How often a caller begins a call again at most.
+const TIMES: u64 = 1 << 24;
 
 /// A store, and who calls.
 #[derive(Clone, Copy, Debug, Drop)]
 pub struct Setting {
     pub threads: u64,
+    /// The updates of each caller.
+    pub updates: u64,
     /// Of 100 calls so many are reads.
     pub reads: u64,
     pub lines: u64,
     pub keys: u64,
 }
 
-/// Makes so many services, one after another, and lets their callers call.
-pub fn services<R: Runtime + Threads + CpuClock + Sync>(
+impl Setting {
+    // The calls of each caller. Where all are reads, they are as many as the updates else.
+    fn calls(&self) -> u64 {
+        let updates_in = 100u64.saturating_sub(self.reads);
+        let calls = self.updates.saturating_mul(100).checked_div(updates_in);
+        calls.unwrap_or(self.updates)
+    }
+}
+
+/// Makes a service, and lets its callers call.
+pub fn called<R: Runtime + Threads + CpuClock + Sync>(
     rt: &R,
     alloc: Global,
-    count: u64,
     setting: &Setting,
 ) -> io::Result<Tally> {
     let mut all = Tally::none();
@@ -51,13 +64,10 @@ pub fn services<R: Runtime + Threads + CpuClock + Sync>(
         return Ok(all);
     }
     let base = filled_store(alloc, setting)?;
-    for n in 0..count {
-        let (service, callers) = started(alloc, callers, setting.lines, &base)?;
-        let operations = Operations::of(alloc, service.object(), setting.keys, n)?;
-        let tallies = each_calls(rt, &service, callers, &operations, setting.reads)?;
-        for tally in tallies.iter() {
-            all.add(tally);
-        }
+    let (service, callers) = started(alloc, callers, setting.lines, &base)?;
+    let tallies = each_calls(rt, alloc, &service, callers, setting)?;
+    for tally in tallies.iter() {
+        all.add(tally);
     }
     Ok(all)
 }
@@ -102,10 +112,10 @@ fn started(
 // Lets each caller call, on a thread of its own. All begin together, a while after this.
 fn each_calls<R: Threads + Clock + CpuClock + Sync>(
     rt: &R,
+    alloc: Global,
     service: &Service<DocStore>,
     callers: Vec<Caller>,
-    operations: &Operations,
-    reads: u64,
+    setting: &Setting,
 ) -> io::Result<Vec<Tally>>
     requires { All (IsCallerOf service.now) callers.items }
 {
@@ -115,7 +125,7 @@ fn each_calls<R: Threads + Clock + CpuClock + Sync>(
         callers,
         &|caller: Caller|
             requires { IsCallerOf service.now caller }
-        { timed(rt, service, caller, operations, reads, ready) },
+        { timed(rt, alloc, service, caller, setting, ready) },
     )?)
 }
 
@@ -131,39 +141,47 @@ fn wait(rt: &impl Clock, ready: Instant) {
 // Lets a caller call, and tells what that took.
 fn timed<R: Clock + CpuClock>(
     rt: &R,
+    alloc: Global,
     service: &Service<DocStore>,
     caller: Caller,
-    operations: &Operations,
-    reads: u64,
+    setting: &Setting,
     ready: Instant,
 ) -> Tally
     requires { IsCallerOf service.now caller }
 {
     let mut tally = Tally::none();
+    let seed = u64::from(caller.number());
+    let mut updates = Updates::of(setting.keys, seed);
+    let Ok(reads) = readings(alloc, service.object(), setting.keys, seed, READINGS) else {
+        return tally;
+    };
     wait(rt, ready);
     let Ok(begun) = Instant::now(rt) else {
         return tally;
     };
     let used = thread_time(rt).unwrap_or(0);
-    call_in_turn(service, caller, operations, reads, &mut tally);
+    call_in_turn(service, caller, setting, &mut updates, &reads, &mut tally);
     tally.cpu = thread_time(rt).unwrap_or(0).wrapping_sub(used);
     tally.wall = since(rt, begun).unwrap_or(0);
     tally
 }
 
-// Calls in turn.
+// Makes the calls. Callers begin at other ones of 100, so that not all update at once.
 fn call_in_turn(
     service: &Service<DocStore>,
     caller: Caller,
-    operations: &Operations,
-    reads: u64,
+    setting: &Setting,
+    updates: &mut Updates,
+    reads: &[Reading],
     tally: &mut Tally,
 )
     requires { IsCallerOf service.now caller }
 {
+    let from = u64::from(caller.number()).wrapping_mul(29);
     let mut caller = caller;
-    for i in 0..CALLS {
-        match call(service, caller, operations, i * 37 % 100 < reads, tally) {
+    for i in 0..setting.calls() {
+        let is_read = from.wrapping_add(i).wrapping_mul(37) % 100 < setting.reads;
+        match call(service, caller, updates, reads, is_read, tally) {
             Some(back) => caller = back,
             None => return,
         }
@@ -174,19 +192,20 @@ fn call_in_turn(
 fn call(
     service: &Service<DocStore>,
     caller: Caller,
-    operations: &Operations,
-    read: bool,
+    updates: &mut Updates,
+    reads: &[Reading],
+    is_read: bool,
     tally: &mut Tally,
 ) -> Option<Caller>
     requires { IsCallerOf service.now caller }
     ensures { IfSome result (IsCallerOf service.now) }
 {
-    if read {
-        let reading = operations.reads.get((tally.reads % 64) as usize)?;
+    if is_read {
+        let reading = reads.get((tally.reads % READINGS) as usize)?;
         read_once(service, caller, reading, tally)
     } else {
-        let op = operations.updates.get(tally.updates as usize)?;
-        update_once(service, caller, op, tally)
+        updates.renew();
+        update_once(service, caller, &updates.op, tally)
     }
 }
 
@@ -201,15 +220,30 @@ fn read_once(
     ensures { IfSome result (IsCallerOf service.now) }
 {
     let before = caller.steps();
-    let ReadTried::Read(caller, seen) = service.try_read(caller, &reading.op, 1024) else {
-        return None;
-    };
+    let (caller, seen) = look(service, caller, reading)?;
     tally.reads = tally.reads.wrapping_add(1);
     tally.read_steps = tally
         .read_steps
         .wrapping_add(caller.steps().wrapping_sub(before));
     tally.sum = tally.sum.wrapping_add(seen.reply[0]);
     Some(caller)
+}
+
+// Reads, and again as long as others hold the current replica.
+fn look(service: &Service<DocStore>, caller: Caller, reading: &Reading) -> Option<(Caller, Seen)>
+    requires { IsCallerOf service.now caller }
+    ensures { IfSome result (λ r. IsCallerOf service.now r.0) }
+{
+    let mut caller = caller;
+    for _ in 0..TIMES {
+        match service.try_read(caller, &reading.op, 64) {
+            ReadTried::Read(back, seen) => return Some((back, seen)),
+            ReadTried::Pending(back) => caller = back,
+            ReadTried::Halted(_) => return None,
+        }
+        yield_now();
+    }
+    None
 }
 
 // An update.
@@ -223,13 +257,9 @@ fn update_once(
     ensures { IfSome result (IsCallerOf service.now) }
 {
     let before = caller.steps();
-    let Submitted::Linked(linked) = service.submit(caller, op, 64) else {
-        return None;
-    };
+    let linked = enter(service, caller, op)?;
     let between = linked.steps();
-    let Driven::Done(caller, answer) = service.drive(linked, 1024) else {
-        return None;
-    };
+    let (caller, answer) = drive(service, linked)?;
     tally.updates = tally.updates.wrapping_add(1);
     tally.submit_steps = tally
         .submit_steps
@@ -239,4 +269,38 @@ fn update_once(
         .wrapping_add(caller.steps().wrapping_sub(between));
     tally.sum = tally.sum.wrapping_add(answer.reply[0]);
     Some(caller)
+}
+
+// Enters an operation, and again as long as others link before it, or need the entries in the caller's cells.
+fn enter(service: &Service<DocStore>, caller: Caller, op: &[u64; 144]) -> Option<Linked>
+    requires { IsCallerOf service.now caller }
+    ensures { IfSome result (IsLinkedOf service.now) }
+{
+    let mut caller = caller;
+    for _ in 0..TIMES {
+        match service.submit(caller, op, 64) {
+            Submitted::Linked(linked) => return Some(linked),
+            Submitted::Again(back) | Submitted::Full(back, _) => caller = back,
+            Submitted::Worn(_) | Submitted::Halted(_) => return None,
+        }
+        yield_now();
+    }
+    None
+}
+
+// Drives an entry to its answer, and again as long as others hold all replicas.
+fn drive(service: &Service<DocStore>, linked: Linked) -> Option<(Caller, Answer)>
+    requires { IsLinkedOf service.now linked }
+    ensures { IfSome result (λ r. IsCallerOf service.now r.0) }
+{
+    let mut linked = linked;
+    for _ in 0..TIMES {
+        match service.drive(linked, 64) {
+            Driven::Done(caller, answer) => return Some((caller, answer)),
+            Driven::Pending(back) => linked = back,
+            Driven::Halted(_) => return None,
+        }
+        yield_now();
+    }
+    None
 }

@@ -1,8 +1,8 @@
-//! Nanoseconds and steps of a service's calls. With no words it does nothing. `calls T N R L K` makes N services of T callers, one after
-//! another, over a store of L lines with documents at K keys (1,024 and 100 where they are not said), and in each lets every caller, on a
-//! thread of its own, make calls until it has linked 16 updates, or 4,096 calls. R calls in 100 are reads. It prints the calls of all,
-//! and what they took. `parts 1 N 0 L K` makes 16 updates and then 64 reads of one caller in each of N tables, and prints for each part of an
-//! update and of a read how often it was done, its steps, and its nanoseconds of wall time.
+//! Nanoseconds and steps of a service's calls. With no words it does nothing. `calls T U R L K` makes a service of T callers over a store of L
+//! lines with documents at K keys (1,024 and 100 where they are not said), and lets every caller, on a thread of its own, make U updates,
+//! and reads between them, so that R calls in 100 are reads; where all are, it makes U of them. It prints the calls of all, and what they
+//! took, without the making of the service. `parts 1 N 0 L K` makes 16 updates and then 64 reads of one caller in each of N tables, and
+//! prints for each part of an update and of a read how often it was done, its steps, and its nanoseconds of wall time.
 #![tactic(auto)]
 
 mod base;
@@ -14,7 +14,7 @@ mod parts;
 mod tally;
 mod turns;
 
-use crate::calls::{Setting, parts, services};
+use crate::calls::{Setting, called, parts};
 use std::alloc::Global;
 use std::process::ExitCode;
 use std::rt::Runtime;
@@ -50,13 +50,14 @@ fn run<R: Runtime + Threads + CpuClock + Sync>(
     let count = number(words.get(2));
     let setting = Setting {
         threads: number(words.get(1)),
+        updates: count,
         reads: number(words.get(3)),
         lines: words.get(4).map_or(1024, |word| number(Some(word))),
         keys: words.get(5).map_or(100, |word| number(Some(word))),
     };
     match work.as_str() {
         "parts" => parts(rt, alloc, count, &setting)?.print(rt),
-        "calls" => services(rt, alloc, count, &setting)?.print(rt, setting.lines, setting.keys),
+        "calls" => called(rt, alloc, &setting)?.print(rt, setting.lines, setting.keys),
         _ => Ok(()),
     }
 }

@@ -18,37 +18,47 @@ pub struct Reading {
     ghost reads: { IsTrue (reads_in op) },
 }
 
-/// What a caller asks for in turn.
+/// Updates without end, each of which puts a new document at a key that looks thrown.
 #[derive(Drop)]
-pub struct Operations {
-    pub updates: Vec<[u64; 144]>,
-    pub reads: Vec<Reading>,
+pub struct Updates {
+    random: Random,
+    keys: u64,
+    pub op: [u64; 144],
 }
 
-impl Operations {
-    /// Operations of a caller, which begin at a seed: 16 updates, each of which puts a new document, and 64 reads of a document, at
-    /// keys that look thrown.
-    pub fn of(
-        alloc: Global,
-        store: &DocStore,
-        keys: u64,
-        seed: u64,
-    ) -> Result<Operations, AllocError> {
-        let mut random = Random { state: seed };
-        let mut updates = Vec::new(alloc);
-        let mut reads = Vec::new(alloc);
-        let keys = keys.max(1);
-        for _ in 0..16 {
-            let key = random.next() % keys;
-            updates.push(put(key, random.next()))?;
+impl Updates {
+    /// Updates that begin at a seed.
+    pub fn of(keys: u64, seed: u64) -> Updates {
+        Updates {
+            random: Random { state: seed },
+            keys: keys.max(1),
+            op: put(0, 0),
         }
-        for _ in 0..64 {
-            if let Some(reading) = get(store, random.next() % keys) {
-                reads.push(reading)?;
-            }
-        }
-        Ok(Operations { updates, reads })
     }
+
+    /// Goes on to the next update. Only the words that change are written.
+    pub fn renew(&mut self) {
+        let key = self.random.below(self.keys);
+        put_in(&mut self.op, key, self.random.next());
+    }
+}
+
+/// The first so many reads of a document from a seed on, at keys that look thrown.
+pub fn readings(
+    alloc: Global,
+    store: &DocStore,
+    keys: u64,
+    seed: u64,
+    count: u64,
+) -> Result<Vec<Reading>, AllocError> {
+    let mut random = Random { state: seed };
+    let mut reads = Vec::new(alloc);
+    for _ in 0..count {
+        if let Some(reading) = get(store, random.below(keys)) {
+            reads.push(reading)?;
+        }
+    }
+    Ok(reads)
 }
 
 /// Numbers that repeat late.
@@ -66,6 +76,11 @@ impl Random {
             .wrapping_add(1_442_695_040_888_963_407);
         self.state >> 32
     }
+
+    // The next number below a bound, 0 where none is.
+    fn below(&mut self, bound: u64) -> u64 {
+        self.next().checked_rem(bound).unwrap_or(0)
+    }
 }
 
 // A read of a key.
@@ -82,10 +97,16 @@ fn get(store: &DocStore, key: u64) -> Option<Reading> {
 pub fn put(key: u64, number: u64) -> [u64; 144] {
     let mut op = keyed(1, key);
     op[DOCUMENT_LENGTH_AT] = 32;
+    put_in(&mut op, key, number);
+    op
+}
+
+// Makes an operation that puts a document at a key one that puts another at another.
+fn put_in(op: &mut [u64; 144], key: u64, number: u64) {
+    op[KEY_AT + 1] = digits(key);
     for i in 0..4 {
         op[DOCUMENT_AT + i] = letters(number.wrapping_add(i as u64));
     }
-    op
 }
 
 // The operation of a kind with a key of 16 bytes, which is a number below 10,000 in decimal.
@@ -94,24 +115,25 @@ fn keyed(kind: u64, key: u64) -> [u64; 144] {
     op[KIND_AT] = kind;
     op[KEY_LENGTH_AT] = 16;
     op[KEY_AT] = ZEROS;
-    op[KEY_AT + 1] = ZEROS
+    op[KEY_AT + 1] = digits(key);
+    op
+}
+
+// The last eight bytes of a key, of which four are digits of a number.
+fn digits(key: u64) -> u64 {
+    ZEROS
         + (key / 1000 % 10 << 32)
         + (key / 100 % 10 << 40)
         + (key / 10 % 10 << 48)
-        + (key % 10 << 56);
-    op
+        + (key % 10 << 56)
 }
 
 /// Eight digits `0`.
 const ZEROS: u64 = 0x3030_3030_3030_3030;
 
-// Eight letters for the low 32 bits of a number, `a` to `p` for four bits each.
+// Eight letters, which are others for each number below 2^32.
 fn letters(number: u64) -> u64 {
-    let mut left = number;
-    let mut word = 0;
-    for _ in 0..8 {
-        word = word << 8 | 0x61 + left % 16;
-        left /= 16;
-    }
-    word
+    let low = number & 0x0f0f_0f0f;
+    let high = number >> 4 & 0x0f0f_0f0f;
+    0x6060_6060_6060_6060 | high << 32 | low
 }

@@ -10,7 +10,7 @@ ghost use Rattle.doc_store.specs.ExactStep.{IsImage};
 
 use crate::laps::{Laps, Part};
 use crate::lookups::lookup;
-use crate::operations::Operations;
+use crate::operations::{Reading, Updates, readings};
 use crate::turns::turn;
 use cx_base::{Halt, Object};
 use cx_core::Base;
@@ -21,6 +21,12 @@ use std::alloc::{AllocError, Global};
 use std::io;
 use std::rt::Runtime;
 use std::time::Clock;
+
+/// The updates of a table, one for each cell of its caller.
+const UPDATES: u64 = 16;
+
+/// The reads of a table.
+const READS: u64 = 64;
 
 /// What the parts of one caller's updates and reads take, in so many tables, one after another. No cell is collected, so that the 16
 /// updates of a table each have a cell of their own.
@@ -38,8 +44,9 @@ pub fn parted<R: Runtime>(
     let mut laps = Laps::begin(rt)?;
     for n in 0..count {
         let (shared, mut seat) = table(alloc, lines, &[u64::MAX], base)?;
-        let operations = Operations::of(alloc, shared.object(), keys, n)?;
-        let _ = call_in_turn(rt, &mut laps, &shared, &mut seat, &operations);
+        let reads = readings(alloc, shared.object(), keys, n, READS)?;
+        let mut updates = Updates::of(keys, n);
+        let _ = call_in_turn(rt, &mut laps, &shared, &mut seat, &mut updates, &reads);
     }
     Ok(laps)
 }
@@ -79,14 +86,16 @@ fn call_in_turn(
     laps: &mut Laps,
     shared: &Shared<DocStore>,
     seat: &mut CallerSeat,
-    operations: &Operations,
+    updates: &mut Updates,
+    reads: &[Reading],
 ) -> Result<(), Halt>
     requires { IsCallerOf shared.now seat.old }
 {
-    for op in operations.updates.iter() {
-        update(rt, laps, shared, seat, op)?;
+    for _ in 0..UPDATES {
+        updates.renew();
+        update(rt, laps, shared, seat, &updates.op)?;
     }
-    for reading in operations.reads.iter() {
+    for reading in reads {
         read(rt, laps, shared, seat, &reading.op)?;
     }
     Ok(())

@@ -1,38 +1,101 @@
-//! An object alone, over a vector of words.
+//! An object alone, over a vector of words, held against what callers were told and what a closed service leaves.
 
 ghost use Rattle.std.specs.Prelude.{◌≡◌, ◌*◌, ◌<◌, ◌^◌, IfOk, IsTrue, OnOk};
 ghost use Rattle.cx_base.specs.Memory.{Always};
 
 use crate::calls::Told;
-use cx_base::{Halt, Memory, Object, VecMemory};
+use crate::tasks::Work;
+use cx_base::{Halt, Memory, Object, VecMemory, root_replica};
+use cx_core::{HEAD_LINES, LINE_WORDS, OBJECT_START, slot_start};
+use cx_table::Remains;
 use std::alloc::{AllocError, Global};
 
-/// Whether what callers were told from a fresh base on is what the object alone replies to the updates in the order of their
-/// tickets, and to each read after the updates below its place. The tickets are the numbers from 0 on, each once: how many.
-pub(crate) fn updates_told<O: Object>(
+/// An object alone after the updates of callers.
+#[derive(Drop)]
+pub(crate) struct Alone {
+    /// How many updates were made.
+    pub(crate) updates: u64,
+    words: Vec<u64>,
+}
+
+/// The object alone, after each caller's operations from a fresh base on, in the order of the tickets: the tickets are the numbers from
+/// 0 on, each once, each caller's updates and reads stand in the order of its calls, each reply is the object's, and each read is made
+/// after the updates below its place. `None` where it is not so.
+pub(crate) fn made_alone<O: Object>(
     alloc: Global,
     object: &O,
-    log: &mut [Told],
-) -> Result<Option<u64>, AllocError> {
-    log.sort_unstable_by_key(|told| (told.at, !told.beside));
+    work: Work,
+    logs: &[Vec<Told>],
+) -> Result<Option<Alone>, AllocError> {
     let Some(count) = object.lines().checked_mul(8) else {
         return Err(AllocError);
     };
     let mut memory = VecMemory::of(vec![in alloc; 0; count as usize]?, None);
-    Ok(replies_from_opening(object, &mut memory, log).unwrap_or(None))
+    let mut done = Vec::from_elem(alloc, 0, logs.len())?;
+    let updates = replies_from_opening(object, &mut memory, work, logs, &mut done).unwrap_or(None);
+    Ok(updates.map(|updates| Alone {
+        updates,
+        words: memory.into_words(),
+    }))
 }
 
-// The same over a memory, from the opening image on.
+impl Alone {
+    /// Whether the region that a closed service published last is this one: its place, each caller's slot and the object part.
+    pub(crate) fn is_left(&self, remains: &Remains, logs: &[Vec<Told>]) -> bool {
+        let Some(region) = last_region(remains) else {
+            return false;
+        };
+        region.first() == Some(&self.updates)
+            && region.get(OBJECT_START as usize..) == Some(self.words.as_slice())
+            && (0..8u32).all(|caller| is_slot(region, caller, logs.get(caller as usize)))
+    }
+}
+
+// The words of the region that a closed service published last.
+fn last_region(remains: &Remains) -> Option<&[u64]> {
+    let code = *remains.published.last()?;
+    let callers = remains.callers;
+    if callers < 1 || callers > 8 {
+        return None;
+    }
+    let length = remains
+        .lines
+        .checked_add(HEAD_LINES)?
+        .checked_mul(LINE_WORDS)?;
+    let from = length.checked_mul(u64::from(root_replica(callers, code)))?;
+    let end = from.checked_add(length)?;
+    remains.volatile.get(from as usize..end as usize)
+}
+
+// Whether the slot of a caller has the number of its updates and the reply to the last of them.
+fn is_slot(region: &[u64], caller: u32, log: Option<&Vec<Told>>) -> bool {
+    if caller >= 8 {
+        return false;
+    }
+    let at = slot_start(caller) as usize;
+    let Some((number, reply)) = region.get(at..).and_then(|slot| slot.split_first()) else {
+        return false;
+    };
+    let told = log.map_or(&[][..], |log| log.as_slice());
+    let last = told.iter().rev().find(|told| !told.beside);
+    let want = last.map_or([0; 144], |told| told.reply);
+    *number == told.iter().filter(|told| !told.beside).count() as u64
+        && reply.get(..144) == Some(&want[..])
+}
+
+// The same over a memory, from the opening image on. Of each caller so many calls were made before.
 fn replies_from_opening<O: Object, M: Memory>(
     object: &O,
     mem: &mut M,
-    log: &[Told],
+    work: Work,
+    logs: &[Vec<Told>],
+    done: &mut [usize],
 ) -> Result<Option<u64>, Halt>
     requires size { M.size mem.old ≡ 8 * O.line_count object.now }
     requires writable { IsTrue (M.writable mem.old) }
 {
     opened(object, mem)?;
-    replies_in_order(object, mem, log)
+    replies_in_order(object, mem, work, logs, done)
 }
 
 // Makes the opening image.
@@ -62,26 +125,54 @@ fn replied<O: Object, M: Memory>(
     object.run(mem, op)
 }
 
-// From a lawful image on: the updates, where each is at the next ticket, each read is at the next ticket too, and the replies are
-// these.
+// A call that comes next, with its caller and its number among the caller's: one at this place, a read before an update.
+fn next_of<'a>(
+    logs: &'a [Vec<Told>],
+    done: &[usize],
+    place: u64,
+) -> Option<(usize, usize, &'a Told)> {
+    for beside in [true, false] {
+        for (caller, (log, k)) in logs.iter().zip(done).enumerate() {
+            if let Some(told) = log.get(*k) {
+                if told.at == place && told.beside == beside {
+                    return Some((caller, *k, told));
+                }
+            }
+        }
+    }
+    None
+}
+
+// From a lawful image on: each call at its place has the reply of the object.
 fn replies_in_order<O: Object, M: Memory>(
     object: &O,
     mem: &mut M,
-    log: &[Told],
+    work: Work,
+    logs: &[Vec<Told>],
+    done: &mut [usize],
 ) -> Result<Option<u64>, Halt>
     requires size { M.size mem.old ≡ 8 * O.line_count object.now }
     requires writable { IsTrue (M.writable mem.old) }
     requires lawful { Always (M.stands mem.old) (O.lawful object.now) }
 {
-    let mut next = 0u64;
-    for told in log {
-        let reply = replied(object, mem, &told.op)?;
-        if told.at != next || told.reply != reply {
+    let calls = logs
+        .iter()
+        .fold(0usize, |sum, log| sum.saturating_add(log.len()));
+    let mut place = 0u64;
+    for _ in 0..calls {
+        let Some((caller, k, told)) = next_of(logs, done, place) else {
+            return Ok(None);
+        };
+        let reply = replied(object, mem, &work.task(caller as u64, k as u64))?;
+        if told.reply != reply {
             return Ok(None);
         }
+        if let Some(count) = done.get_mut(caller) {
+            *count = k.saturating_add(1);
+        }
         if !told.beside {
-            next = next.wrapping_add(1);
+            place = place.wrapping_add(1);
         }
     }
-    Ok(Some(next))
+    Ok(Some(place))
 }

@@ -5,15 +5,16 @@ ghost use Rattle.cx_service.specs.Callers.{IsCallerOf, IsLinkedOf};
 ghost use Rattle.cx_service.specs.Closes.{seat_of};
 ghost use Rattle.service_tests.specs.Tests.{IsBack};
 
+use crate::tasks::Work;
 use cx_base::Object;
 use cx_service::{Answer, Caller, Driven, Handed, Linked, ReadTried, Seen, Service, Submitted};
+use std::thread::yield_now;
 
 /// What a caller was answered of an operation: of an update the ticket, of a read beside the queue the place; and the reply.
 #[derive(Clone, Copy, Debug, PartialEq, Eq, Drop)]
 pub(crate) struct Told {
     pub(crate) beside: bool,
     pub(crate) at: u64,
-    pub(crate) op: [u64; 144],
     pub(crate) reply: [u64; 144],
 }
 
@@ -33,8 +34,12 @@ pub(crate) fn submitted<O: Object>(
     for _turn in 0..turns {
         match service.submit(caller, op, 1) {
             Submitted::Linked(linked) => return Ok(linked),
+            Submitted::Again(back) => caller = back,
             // another caller needs the entries in the cells as long as it drives
-            Submitted::Again(back) | Submitted::Full(back, _) => caller = back,
+            Submitted::Full(back, _) => {
+                caller = back;
+                yield_now();
+            }
             Submitted::Worn(back) => return Err(Handed::Idle(back)),
             Submitted::Halted(stopped) => return Err(Handed::Stopped(stopped)),
         }
@@ -56,7 +61,10 @@ pub(crate) fn driven<O: Object>(
     let mut linked = linked;
     for _turn in 0..turns {
         match service.drive(linked, 1) {
-            Driven::Pending(back) => linked = back,
+            Driven::Pending(back) => {
+                linked = back;
+                yield_now();
+            }
             Driven::Done(caller, answer) => return Ok((caller, answer)),
             Driven::Halted(stopped) => return Err(Handed::Stopped(stopped)),
         }
@@ -80,7 +88,10 @@ pub(crate) fn looked<O: Object>(
     let mut caller = caller;
     for _turn in 0..turns {
         match service.try_read(caller, op, 1) {
-            ReadTried::Pending(back) => caller = back,
+            ReadTried::Pending(back) => {
+                caller = back;
+                yield_now();
+            }
             ReadTried::Read(back, seen) => return Ok((back, seen)),
             ReadTried::Halted(stopped) => return Err(Handed::Stopped(stopped)),
         }
@@ -104,21 +115,15 @@ pub(crate) fn asked<O: Object>(
         return asked_beside(service, caller, op, turns);
     }
     match submitted(service, caller, op, turns) {
-        Ok(linked) => told_by_drive(service, linked, op, turns),
+        Ok(linked) => told_by_drive(service, linked, turns),
         Err(handed) => Err(handed),
     }
 }
 
 // The note of what was told.
-fn noted(beside: bool, at: u64, op: &[u64; 144], reply: &[u64; 144]) -> Told {
-    let op = *op;
+fn noted(beside: bool, at: u64, reply: &[u64; 144]) -> Told {
     let reply = *reply;
-    Told {
-        beside,
-        at,
-        op,
-        reply,
-    }
+    Told { beside, at, reply }
 }
 
 // Reads beside the queue.
@@ -137,7 +142,7 @@ fn asked_beside<O: Object>(
     match looked(service, caller, op, turns) {
         Ok((caller, seen)) => {
             let reply = seen.reply;
-            let told = noted(true, seen.place, op, &reply);
+            let told = noted(true, seen.place, &reply);
             Ok((caller, told))
         }
         Err(handed) => Err(handed),
@@ -148,7 +153,6 @@ fn asked_beside<O: Object>(
 fn told_by_drive<O: Object>(
     service: &Service<O>,
     linked: Linked,
-    op: &[u64; 144],
     turns: u64,
 ) -> Result<(Caller, Told), Handed>
     requires { IsLinkedOf service.now linked }
@@ -159,19 +163,19 @@ fn told_by_drive<O: Object>(
     match driven(service, linked, turns) {
         Ok((caller, answer)) => {
             let reply = answer.reply;
-            let told = noted(false, answer.ticket, op, &reply);
+            let told = noted(false, answer.ticket, &reply);
             Ok((caller, told))
         }
         Err(handed) => Err(handed),
     }
 }
 
-/// Asks for operations one after another, each in at most so many turns, and notes what is told. `Err` is the caller that was not
-/// answered, or for whose note no memory was left.
+/// Asks for the caller's operations one after another, each in at most so many turns, and notes what is told. `Err` is the caller that
+/// was not answered, or for whose note no memory was left.
 pub(crate) fn all_asked<O: Object>(
     service: &Service<O>,
     caller: Caller,
-    ops: &[[u64; 144]],
+    work: Work,
     turns: u64,
     log: &mut Vec<Told>,
 ) -> Result<Caller, Handed>
@@ -181,8 +185,9 @@ pub(crate) fn all_asked<O: Object>(
     ensures back { IfErr result (λ h. IsBack service.now caller (seat_of h)) }
 {
     let mut caller = caller;
-    for op in ops {
-        match asked(service, caller, op, turns) {
+    let number = u64::from(caller.number());
+    for k in 0..work.count() {
+        match asked(service, caller, &work.task(number, k), turns) {
             Ok((back, told)) => {
                 if log.push(told).is_err() {
                     return Err(Handed::Idle(back));

@@ -6,7 +6,7 @@ ghost use Rattle.cx_core.specs.Base.{LawfulBase};
 
 use crate::calls::{all_asked, asked};
 use crate::starting::{NO_LIMIT, one_started, two_closed, two_started};
-use crate::tasks::{adds, sum};
+use crate::tasks::{Work, adds, sum};
 use cx_base::Items;
 use cx_base::tally::Tally;
 use cx_core::Base;
@@ -46,8 +46,12 @@ fn a_caller_alone_is_never_full(rt: HostRuntime) -> Result<(), Fail> {
     let alloc = rt.alloc();
     let base = Base::fresh(alloc, &Tally)?;
     let (service, caller) = one_started(alloc, NO_LIMIT, &base)?;
+    let work = Work::Adds {
+        amount: 3,
+        count: 64,
+    };
     let mut log = Vec::new(alloc);
-    if all_asked(&service, caller, &[adds(3); 64], 1, &mut log).is_err() {
+    if all_asked(&service, caller, work, 1, &mut log).is_err() {
         panic!(rt; "an update was not answered in one turn");
     }
     assert_eq!(rt; log.len(), 64);

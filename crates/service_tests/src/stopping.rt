@@ -8,7 +8,7 @@ ghost use Rattle.service_tests.specs.Tests.{IsBack};
 
 use crate::calls::{Told, all_asked, asked};
 use crate::starting::{NO_LIMIT, has_rising_codes, two_closed, two_started};
-use crate::tasks::{adds, sum};
+use crate::tasks::{Work, adds, sum};
 use cx_base::root_place;
 use cx_base::tally::Tally;
 use cx_core::Base;
@@ -64,7 +64,11 @@ fn updated(service: &Service<Tally>, caller: Caller, log: &mut Vec<Told>) -> Han
     requires { IsCallerOf service.now caller }
     ensures { IsBack service.now caller (seat_of result) }
 {
-    match all_asked(service, caller, &[adds(1); 16], 2, log) {
+    let work = Work::Adds {
+        amount: 1,
+        count: 16,
+    };
+    match all_asked(service, caller, work, 2, log) {
         Ok(caller) => Handed::Idle(caller),
         Err(handed) => handed,
     }

@@ -1,43 +1,40 @@
 //! What the callers ask for.
 
-use std::alloc::{AllocError, Global};
-
-/// The operations of one caller: its updates are more than it has cells.
-pub(crate) const TASKS: usize = 30;
-
 /// Operations of one kind.
 #[derive(Clone, Copy, Debug, PartialEq, Eq, Drop)]
 pub(crate) enum Work {
+    /// Of Tally: so many updates that add a number.
+    Adds { amount: u64, count: u64 },
     /// Of Tally: 24 updates and 6 reads of each caller.
     Sums,
     /// Of a document store: 24 updates and 6 reads of each caller.
     Documents,
     /// Of Tally: 24 updates and 6 reads of callers 0 and 1, and 30 reads of each other.
     Apart,
+    /// Of a document store: 20,000 updates of each caller over 60 keys, and a read behind each 50 of them.
+    Long,
 }
 
-/// The operations of so many callers, of caller 0 first.
-pub(crate) fn tasks(
-    alloc: Global,
-    work: Work,
-    callers: u32,
-) -> Result<Vec<[u64; 144]>, AllocError> {
-    let mut all = Vec::new(alloc);
-    for caller in 0..callers {
-        for k in 0..TASKS as u64 {
-            all.push(task(work, u64::from(caller), k))?;
+impl Work {
+    /// How many operations each caller has.
+    pub(crate) fn count(self) -> u64 {
+        match self {
+            Work::Adds { amount: _, count } => count,
+            Work::Sums | Work::Documents | Work::Apart => 30,
+            Work::Long => 20_400,
         }
     }
-    Ok(all)
-}
 
-// Operation k of a caller.
-fn task(work: Work, caller: u64, k: u64) -> [u64; 144] {
-    match work {
-        Work::Documents => document_task(caller, k),
-        Work::Apart if caller >= 2 => sum(),
-        Work::Sums | Work::Apart if k % 5 == 4 => sum(),
-        Work::Sums | Work::Apart => adds(caller.wrapping_mul(1000).wrapping_add(k)),
+    /// Operation k of a caller.
+    pub(crate) fn task(self, caller: u64, k: u64) -> [u64; 144] {
+        match self {
+            Work::Adds { amount, count: _ } => adds(amount),
+            Work::Documents => document_task(caller, k),
+            Work::Long => long_task(caller, k),
+            Work::Apart if caller >= 2 => sum(),
+            Work::Sums | Work::Apart if k % 5 == 4 => sum(),
+            Work::Sums | Work::Apart => adds(caller.wrapping_mul(1000).wrapping_add(k)),
+        }
     }
 }
 
@@ -92,8 +89,55 @@ fn document_task(caller: u64, k: u64) -> [u64; 144] {
     } else {
         UPDATES[(step % 11) as usize]
     };
-    words_of(row)
+    let (kind, key, document, number) = row;
+    words_of(kind, key.as_bytes(), document.as_bytes(), number)
 }
+
+const DIGITS: [u8; 10] = *b"0123456789";
+
+// A digit of a number.
+fn digit(number: u64) -> u8 {
+    DIGITS[(number % 10) as usize]
+}
+
+// Operation k of a caller of a document store in a long run. Of 8 updates 4 put a document, 3 add and one deletes.
+fn long_task(caller: u64, k: u64) -> [u64; 144] {
+    let mixed = caller
+        .wrapping_mul(20_400)
+        .wrapping_add(k)
+        .wrapping_mul(0x9e37_79b9_7f4a_7c15);
+    let number = mixed >> 32;
+    let key = [b'k', digit(number % 60 / 10), digit(number % 60)];
+    if k % 51 == 50 {
+        return match number / 60 % 3 {
+            0 => words_of(6, b"", b"", 0),
+            1 => words_of(5, &key, b"", 0),
+            _ => words_of(4, &key, b"", 0),
+        };
+    }
+    match number / 60 % 8 {
+        0..2 => words_of(
+            1,
+            &key,
+            &[b'7', digit(number / 480), digit(number / 4800)],
+            0,
+        ),
+        2..4 => words_of(
+            1,
+            &key,
+            LONG_DOCUMENTS[(number / 480 % 3) as usize].as_bytes(),
+            0,
+        ),
+        4..7 => words_of(3, &key, b"", number / 480),
+        _ => words_of(2, &key, b"", 0),
+    }
+}
+
+const LONG_DOCUMENTS: [&str; 3] = [
+    "{\"a\":[1,2,3],\"b\":null}",
+    "\"a document of more than one block, which takes two lines\"",
+    "\"a document that takes three lines of the store, since it goes on and on, as documents do that are written to be long\"",
+];
 
 fn put_word(words: &mut [u64], at: usize, word: u64) {
     if let Some(place) = words.get_mut(at) {
@@ -110,15 +154,14 @@ fn lay(words: &mut [u64], from: usize, bytes: &[u8]) {
     }
 }
 
-// The words of a row.
-fn words_of(row: Row) -> [u64; 144] {
-    let (kind, key, document, number) = row;
+// The words of an operation.
+fn words_of(kind: u64, key: &[u8], document: &[u8], number: u64) -> [u64; 144] {
     let mut words = [0; 144];
     put_word(&mut words, 0, kind);
     put_word(&mut words, 1, key.len() as u64);
     put_word(&mut words, 2, document.len() as u64);
     put_word(&mut words, 3, number);
-    lay(&mut words, 8, key.as_bytes());
-    lay(&mut words, 16, document.as_bytes());
+    lay(&mut words, 8, key);
+    lay(&mut words, 16, document);
     words
 }

@@ -6,10 +6,10 @@ ghost use Rattle.cx_service.specs.Callers.{IsCallerOf};
 ghost use Rattle.cx_service.specs.Closes.{seat_of, seats_of};
 ghost use Rattle.service_tests.specs.Tests.{IsBack};
 
-use crate::alone::updates_told;
+use crate::alone::made_alone;
 use crate::calls::{Told, all_asked};
 use crate::starting::{all_closed, all_started, has_rising_codes};
-use crate::tasks::{TASKS, Work, tasks};
+use crate::tasks::Work;
 use cx_base::Object;
 use cx_base::tally::Tally;
 use cx_service::{Caller, Handed, Service};
@@ -29,19 +29,12 @@ struct Worked {
 }
 
 // A caller asks for its operations.
-fn work<O: Object>(
-    alloc: Global,
-    service: &Service<O>,
-    caller: Caller,
-    ops: &[[u64; 144]],
-) -> Worked
+fn make_calls<O: Object>(alloc: Global, service: &Service<O>, caller: Caller, work: Work) -> Worked
     requires { IsCallerOf service.now caller }
     ensures { IsBack service.now caller (seat_of result.caller) }
 {
-    let from = TASKS * caller.number() as usize;
-    let own = ops.get(from..from + TASKS).unwrap_or(&[]);
     let mut log = Vec::new(alloc);
-    let caller = match all_asked(service, caller, own, TURNS, &mut log) {
+    let caller = match all_asked(service, caller, work, TURNS, &mut log) {
         Ok(caller) => Handed::Idle(caller),
         Err(handed) => handed,
     };
@@ -54,7 +47,7 @@ fn each_works<O: Object + Send + Sync, R: Threads + Sync>(
     alloc: Global,
     service: &Service<O>,
     callers: Vec<Caller>,
-    ops: &[[u64; 144]],
+    work: Work,
 ) -> Result<Vec<Worked>, AllocError>
     requires { All (IsCallerOf service.now) callers.items }
     ensures long { IfOk result (λ v. vec_len v ≡ vec_len callers) }
@@ -66,7 +59,7 @@ fn each_works<O: Object + Send + Sync, R: Threads + Sync>(
         &|caller: Caller| -> Worked
             requires { IsCallerOf service.now caller }
             ensures { IsBack service.entry.now caller (seat_of result.caller) }
-        { work(alloc, service, caller, ops) },
+        { make_calls(alloc, service, caller, work) },
     )
 }
 
@@ -76,39 +69,41 @@ fn all_work<O: Object + Send + Sync, R: Threads + Sync>(
     alloc: Global,
     service: &Service<O>,
     callers: Vec<Caller>,
-    ops: &[[u64; 144]],
+    work: Work,
 ) -> Result<Vec<Worked>, AllocError>
     requires each { All (IsCallerOf service.now) callers.items }
     requires all { AreSeats service.now callers.items }
     ensures { IfOk result (λ v. AreSeats service.now (map (λ w. seat_of w.caller) v.items)) }
 {
-    let all = each_works(rt, alloc, service, callers, ops)?;
+    let all = each_works(rt, alloc, service, callers, work)?;
     Ok(all)
 }
 
 // Takes what callers did apart.
-fn parted(alloc: Global, all: Vec<Worked>, log: &mut Vec<Told>) -> Result<Vec<Handed>, AllocError>
+fn parted(
+    alloc: Global,
+    all: Vec<Worked>,
+    logs: &mut Vec<Vec<Told>>,
+) -> Result<Vec<Handed>, AllocError>
     ensures { IfOk result (λ h. seats_of h.items ≡ map (λ w. seat_of w.caller) all.items) }
 {
     let mut callers = Vec::new(alloc);
     for worked in all {
-        let Worked {
-            caller,
-            log: mut own,
-        } = worked;
+        let Worked { caller, log } = worked;
         callers.push(caller)?;
-        log.append(&mut own)?;
+        logs.push(log)?;
     }
     Ok(callers)
 }
 
-// What came of callers on threads: the updates, where the object alone replies the same, the reads, and whether the published codes
-// rise.
+// What came of callers on threads: the updates, where the object alone replies the same, the reads, whether the published codes rise, and
+// whether the region published last is the object's after them.
 #[derive(Clone, Copy, Debug, PartialEq, Eq, Drop)]
 struct Outcome {
     updates: Option<u64>,
     reads: u64,
     codes: bool,
+    region: bool,
 }
 
 // Callers of a service ask for operations on threads of their own, and the service is closed.
@@ -121,18 +116,21 @@ fn on_threads<O: Object + Send + Sync, R: Threads + Sync>(
 ) -> Result<Outcome, AllocError>
     requires { callers ≤ 8 }
 {
-    let ops = tasks(alloc, work, callers)?;
     let (service, seats) = all_started(alloc, object, callers)?;
-    let all = all_work(rt, alloc, &service, seats, &ops)?;
-    let mut log = Vec::new(alloc);
-    let handed = parted(alloc, all, &mut log)?;
-    let updates = updates_told(alloc, service.object(), &mut log)?;
-    let reads = log.iter().filter(|told| told.beside).count() as u64;
+    let all = all_work(rt, alloc, &service, seats, work)?;
+    let mut logs = Vec::new(alloc);
+    let handed = parted(alloc, all, &mut logs)?;
+    let alone = made_alone(alloc, service.object(), work, &logs)?;
+    let reads = logs
+        .iter()
+        .map(|log| log.iter().filter(|told| told.beside).count() as u64);
+    let reads = reads.fold(0, |sum: u64, own| sum.wrapping_add(own));
     let remains = all_closed(alloc, service, handed)?;
     Ok(Outcome {
-        updates,
+        updates: alone.as_ref().map(|alone| alone.updates),
         reads,
         codes: has_rising_codes(&remains),
+        region: alone.is_some_and(|alone| alone.is_left(&remains, &logs)),
     })
 }
 
@@ -144,6 +142,7 @@ fn sums_on_threads(rt: HostRuntime) -> Result<(), Fail> {
             updates: Some(24 * u64::from(callers)),
             reads: 6 * u64::from(callers),
             codes: true,
+            region: true,
         };
         assert_eq!(rt; outcome, want, "{callers} callers");
     }
@@ -159,6 +158,7 @@ fn documents_on_threads(rt: HostRuntime) -> Result<(), Fail> {
             updates: Some(24 * u64::from(callers)),
             reads: 6 * u64::from(callers),
             codes: true,
+            region: true,
         };
         assert_eq!(rt; outcome, want, "{callers} callers");
     }
@@ -172,6 +172,21 @@ fn readers_beside_updaters(rt: HostRuntime) -> Result<(), Fail> {
         updates: Some(48),
         reads: 72,
         codes: true,
+        region: true,
+    };
+    assert_eq!(rt; outcome, want);
+    Ok(())
+}
+
+#[test]
+fn a_long_run_on_threads(rt: HostRuntime) -> Result<(), Fail> {
+    let store = DocStore::of(256);
+    let outcome = on_threads(&rt, rt.alloc(), store, 4, Work::Long)?;
+    let want = Outcome {
+        updates: Some(80_000),
+        reads: 1_600,
+        codes: true,
+        region: true,
     };
     assert_eq!(rt; outcome, want);
     Ok(())
