@@ -10,6 +10,7 @@ pub mod LastLives
 pub mod LifeTexts
 pub mod LineCompleteness
 pub mod LineSoundness
+pub mod Loads
 pub mod Measures
 pub mod OwnOps
 pub mod PlainReplies
@@ -17,5 +18,6 @@ pub mod ReadTexts
 pub mod Records
 pub mod RefusalReasons
 pub mod Spaces
+pub mod Sums
 pub mod UnspacedWords
 pub mod WithinLimits

@@ -1,4 +1,5 @@
 pub mod Document
+pub mod Generated
 pub mod Grammar
 pub mod Index
 pub mod Limits
@@ -7,6 +8,7 @@ pub mod Reading
 pub mod Reasons
 pub mod Refusal
 pub mod Report
+pub mod Summary
 pub mod Words
 pub use Rattle.doc_model.specs.Meaning
 pub use Rattle.doc_model.specs.Number

@@ -280,7 +280,7 @@ fn write_number(out: &mut Vec<u8>, number: u64) -> Result<(), AllocError>
 }
 
 // A text and a number.
-fn write_labelled(out: &mut Vec<u8>, label: &[u8], number: u64) -> Result<(), AllocError>
+pub(crate) fn write_labelled(out: &mut Vec<u8>, label: &[u8], number: u64) -> Result<(), AllocError>
     ensures { OnOk result (out.new.items ≡ out.old.items ++ (label.now ++ decimal number)) }
 {
     out.extend_from_slice(label)?;

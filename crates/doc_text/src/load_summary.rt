@@ -1,0 +1,54 @@
+//! What a load came to.
+
+ghost use Rattle.std.specs.Prelude.{◌≡◌, ◌++◌, ◌<◌, ◌≤◌, ◌^◌, IfOk, OnOk, length};
+ghost use Rattle.std.specs.Fmt.{signed_decimal};
+ghost use Rattle.doc_text.specs.Summary.{integer_sum, number_in, summary_text};
+
+use crate::printing::write_labelled;
+use doc_model::{Pair, integer_of};
+use itoa::Buffer;
+use life_records::LifeRecord;
+use std::alloc::{AllocError, Global};
+
+/// A life in four lines: its clients, the entries of its history, and, where it left these pairs, their number and the sum of the
+/// documents that are 64-bit integers. `Err` is want of memory.
+pub fn summary(alloc: Global, told: &LifeRecord, pairs: &[Pair]) -> Result<Vec<u8>, AllocError>
+    ensures { IfOk result (λ text. text.items ≡ summary_text told.now pairs.now) }
+{
+    let mut out = Vec::new(alloc);
+    write_labelled(&mut out, b"clients ", u64::from(told.clients))?;
+    write_labelled(&mut out, b"\nupdates ", told.journal.len() as u64)?;
+    write_labelled(&mut out, b"\ndocuments ", pairs.len() as u64)?;
+    out.extend_from_slice(b"\nsum ")?;
+    write_wide(&mut out, sum_of(pairs))?;
+    out.extend_from_slice(b"\n")?;
+    Ok(out)
+}
+
+// The sum of the documents that are integers. So many of 64 bits are within 128.
+fn sum_of(pairs: &[Pair]) -> i128
+    ensures { result ≡ integer_sum pairs.now }
+{
+    let mut sum = 0i128;
+    for pair in pairs {
+        sum += i128::from(number_in(pair));
+    }
+    sum
+}
+
+// The integer that a document is, and 0 where it is none.
+fn number_in(pair: &Pair) -> i64
+    ensures { result ≡ number_in pair.now }
+{
+    integer_of(pair.doc.as_slice()).unwrap_or(0)
+}
+
+fn write_wide(out: &mut Vec<u8>, number: i128) -> Result<(), AllocError>
+    ensures { OnOk result (out.new.items ≡ out.old.items ++ signed_decimal number) }
+{
+    let mut digits = Buffer::new();
+    out.extend_from_slice(digits.format(number).as_bytes())
+}
+
+#[cfg(test)]
+mod tests;
