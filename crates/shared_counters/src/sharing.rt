@@ -1,4 +1,4 @@
-//! Counters that two threads share.
+//! Counters that two threads share, over a loss of power.
 
 ghost use Rattle.std.specs.Prelude.{◌≡◌, [], ◌∷◌, IfOk, IfSome};
 ghost use Rattle.cx_core.specs.Base.{LawfulBase};
@@ -7,13 +7,14 @@ ghost use Rattle.cx_table.specs.Remains.{locals_of};
 ghost use Rattle.bounded_counters.specs.Counters.{IsCounters};
 ghost use Rattle.cx_service.specs.Callers.{IsCallerOf};
 ghost use Rattle.cx_service.specs.Closes.{seat_of};
-ghost use Rattle.shared_counters.specs.Sharing.{ArePair, IsHanded, IsHandedBy, IsSame, Started};
+ghost use Rattle.shared_counters.specs.Sharing.{ArePair, IsClosed, IsHanded, IsHandedBy, IsKeptOf, IsOpenedBy, IsSame, Started};
 
 use bounded_counters::{Counters, add_words, operations_are_read, read_words};
 use cx_base::root_place;
 use cx_core::Base;
 use cx_service::{Caller, Handed, ReadDone, Service, Updated};
 use cx_table::Remains;
+use recovery::{ImageFault, closed_tables_are_whole, closed_tables_recover, crash_image, recover};
 use std::alloc::{AllocError, Global};
 use std::sync::Wait;
 use std::thread::{Threads, join};
@@ -28,14 +29,37 @@ pub struct Counted {
     pub place: u64,
 }
 
-/// Two threads add to a counter that they share, and one reads it.
-pub fn count_together<R: Wait + Threads + Sync>(
+/// Two threads count together in a service, then the power is lost, and two count on in a service that starts from what was kept:
+/// what was counted in the one and in the other.
+pub fn count_over_a_loss<R: Wait + Threads + Sync>(
     rt: &R,
     alloc: Global,
-) -> Result<Counted, AllocError> {
-    let counters = Counters::of(64, 1_000_000);
-    let base = Base::fresh(alloc, &counters)?;
-    let (service, first, second) = started(alloc, counters, &base)?;
+) -> Result<(Counted, Counted), AllocError> {
+    let base = Base::fresh(alloc, &counters())?;
+    let (before, remains) = count_together(rt, alloc, &base)?;
+    let kept = recovered(alloc, &remains, 0)?;
+    let (after, _remains) = count_together(rt, alloc, &kept)?;
+    Ok((before, after))
+}
+
+/// The counters that are shared.
+fn counters() -> Counters
+    ensures lines { result.lines ≡ 64 }
+    ensures bound { result.bound ≡ 1000000 }
+{
+    Counters::of(64, 1_000_000)
+}
+
+/// Two threads add to a counter that they share, and one reads it. The service starts from a base, and is closed.
+fn count_together<R: Wait + Threads + Sync>(
+    rt: &R,
+    alloc: Global,
+    base: &Base,
+) -> Result<(Counted, Remains), AllocError>
+    requires { LawfulBase 64 (IsCounters 64 1000000) base.now }
+    ensures { IfOk result (λ r. IsClosed 64 1000000 r.1) }
+{
+    let (service, first, second) = started(alloc, base)?;
     let shared = &service;
     let (first, second) = join(
         rt,
@@ -44,10 +68,25 @@ pub fn count_together<R: Wait + Threads + Sync>(
     );
     let (first, count) = total(rt, &service, first);
     let remains = closed(alloc, service, first, second)?;
-    Ok(Counted {
-        count,
-        place: last_place(&remains),
-    })
+    let place = last_place(&remains);
+    Ok((Counted { count, place }, remains))
+}
+
+/// What a loss of power keeps, by choice: a base from which the next service starts, with all that was answered in it. No image that is
+/// left is refused, so `Err` is want of memory.
+fn recovered(alloc: Global, remains: &Remains, choice: u64) -> Result<Base, AllocError>
+    requires { IsClosed 64 1000000 remains.now }
+    ensures lawful { IfOk result (LawfulBase 64 (IsCounters 64 1000000)) }
+    ensures kept { (closed : IsClosed 64 1000000 remains.now) → IfOk result (IsKeptOf closed choice) }
+{
+    closed_tables_are_whole::<Counters>();
+    closed_tables_recover::<Counters>();
+    let image = crash_image(alloc, remains, choice)?;
+    match recover(alloc, &counters(), &image) {
+        Ok(base) => Ok(base),
+        Err(ImageFault::Memory) => Err(AllocError),
+        Err(_) => unreachable!(),
+    }
 }
 
 /// Adds 1 to counter 0 ten times.
@@ -84,16 +123,12 @@ fn total<R: Wait>(rt: &R, service: &Service<Counters>, handed: Handed) -> (Hande
 }
 
 /// A service of two callers over the counters.
-fn started(
-    alloc: Global,
-    counters: Counters,
-    base: &Base,
-) -> Result<(Service<Counters>, Caller, Caller), AllocError>
-    requires lines { counters.lines ≡ 64 }
-    requires base { LawfulBase counters.lines (IsCounters counters.lines counters.bound) base.now }
-    ensures { IfOk result (λ r. Started r.0 r.1 r.2) }
+fn started(alloc: Global, base: &Base) -> Result<(Service<Counters>, Caller, Caller), AllocError>
+    requires { LawfulBase 64 (IsCounters 64 1000000) base.now }
+    ensures callers { IfOk result (λ r. Started r.0 r.1 r.2) }
+    ensures opened { IfOk result (λ r. IsOpenedBy 64 1000000 r.0) }
 {
-    let Ok((service, callers)) = Service::start(alloc, counters, 2, &[NO_LIMIT; 2], base) else {
+    let Ok((service, callers)) = Service::start(alloc, counters(), 2, &[NO_LIMIT; 2], base) else {
         return Err(AllocError);
     };
     match two(callers) {
@@ -122,11 +157,16 @@ fn closed(
     first: Handed,
     second: Handed,
 ) -> Result<Remains, AllocError>
-    requires { ArePair service (seat_of first) (seat_of second) }
-    ensures { IfOk result (λ r. IsHistory service.base.place r.trail.history (locals_of (seat_of first ∷ seat_of second ∷ []))) }
+    requires pair { ArePair service (seat_of first) (seat_of second) }
+    requires opened { IsOpenedBy 64 1000000 service }
+    ensures history { IfOk result (λ r. IsHistory service.base.place r.trail.history (locals_of (seat_of first ∷ seat_of second ∷ []))) }
+    ensures closed { IfOk result (IsClosed 64 1000000) }
 {
     let callers = vec![in alloc; first, second]?;
-    service.close(alloc, callers).map_err(|_| AllocError)
+    let Ok(remains) = service.close(alloc, callers) else {
+        return Err(AllocError);
+    };
+    Ok(remains)
 }
 
 /// The place of the code that was published last.
