@@ -1,6 +1,6 @@
 //! The operations that only read, over words that stand for a store.
 
-ghost use Rattle.std.specs.Prelude.{◌≡◌, ◌≤◌, ◌<◌, ℕ, List, IfOk, OnErr, OnOk, Some, length, replicate, slice_index, nat_le, ◌&&◌, true};
+ghost use Rattle.std.specs.Prelude.{◌≡◌, ◌≤◌, ◌<◌, ℕ, List, OnErr, OnOk, Some, length, replicate, slice_index, nat_le, ◌&&◌, true};
 ghost use Rattle.std.specs.Option.{option_map_or};
 ghost use Rattle.cx_base.specs.Memory.{Always, Becomes, Framed, Reads};
 ghost use Rattle.cx_base.specs.Packing.{unpacked};

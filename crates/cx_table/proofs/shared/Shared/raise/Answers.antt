@@ -1,8 +1,8 @@
-use Rattle.std.proofs.Common.{Bor, ℕ, List, ap, subst, ◌∙◌}
+use Rattle.std.proofs.Common.{ap, subst, ◌∙◌}
 use Rattle.cx_rule.specs.Running.{IsRunning, Running}
 use Rattle.cx_rule.specs.Seats.{Seated, known_of}
 use Rattle.cx_table.proofs.Handing.{laws_at}
-use Rattle.seat_memory.proofs.Raising.{dur_within, raise_learned, raised_fits, raised_made, some_map}
+use Rattle.seat_memory.proofs.Raising.{dur_within, raise_learned, raised_fits, raised_made}
 use Rattle.seat_memory.specs.Raised.{raised_mirror}
 use Rattle.cx_table.proofs.shared.Shared.raise.Goals as goal
 
