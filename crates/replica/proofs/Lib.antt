@@ -1,6 +1,6 @@
 pub mod Access
-pub mod LineCopies
-mod CopySteps
+mod LineCopies
+pub mod CopySteps
 mod Reading
 mod RegionLaws
 pub mod Replaying
