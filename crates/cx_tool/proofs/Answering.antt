@@ -1,6 +1,7 @@
 -- What was written with a status, from what was written of a text.
-use Rattle.std.proofs.Common.{◌≡◌, refl, sym, subst, inl, inr, ℕ, ◌<◌, List, length, [], arith, Option, Some, None, IfSome}
-use Rattle.cx_tool.specs.Answer.{HasNone, IsRun, Owed, Answers, IsReport, IsRefusal, IsExact, HasCause, Wrote}
+use Rattle.std.proofs.Common.{◌≡◌, refl, ◌∙◌, sym, subst, inl, inr, ℕ, ◌<◌, List, length, [], ◌∷◌, codes, arith, Option, Some, None, IfSome}
+use Rattle.std.specs.Fmt.{decimal}
+use Rattle.cx_tool.specs.Answer.{HasNone, IsLoadOf, IsLoadStatus, IsRun, Owed, Answers, IsReport, IsRefusal, IsExact, HasCause, Wrote}
 use Rattle.cx_rule.specs.Ending.{Ending}
 use Rattle.cx_tool.specs.declared.status.Ended.{Ended}
 use Rattle.cx_tool.specs.Output.{Appends}
@@ -52,7 +53,8 @@ none-written text ended result before after faults faults' none (inr failed) = �
 -- what is owed for the bytes is owed for what the source told
 owed-told : (words : List (List ℕ)) (told : Option (List ℕ)) (bytes text : List ℕ) (trails : List Ending) (status : Status) → IfSome told (λ all. bytes ≡ all) → Owed words (Some bytes) status trails text → Owed words told status trails text
 owed-told words (Some all) bytes text trails status same owed = subst (λ (b : List ℕ). Owed words (Some b) status trails text) same owed
-owed-told words None bytes text trails Fine same owed = (owed.0, tt)
+owed-told words None bytes text trails Fine same (inl run) = inl (run.0, tt)
+owed-told words None bytes text trails Fine same (inr load) = inr load
 owed-told words None bytes text trails Usage same owed = owed
 owed-told words None bytes text trails Refused same owed = (owed.0, tt)
 owed-told words None bytes text trails TooLong same owed = (owed.0, tt, owed.2)
@@ -82,16 +84,25 @@ cause-read ReadFault reads reads' writes writes' h other = absurd (other refl)
 cause-read Memory reads reads' writes writes' h other = tt
 cause-read BadImage reads reads' writes writes' h other = tt
 
--- the status is the one that the input calls for
-pub exact-from-answers : (told : Option (List ℕ)) (status : Status) (trails : List Ending) (words : List (List ℕ)) (before after : Option (List ℕ)) → IsRun words → Answers words told status trails before after → IfSome told (λ input. IsExact input status)
-exact-from-answers None status trails words before after run a = tt
-exact-from-answers (Some input) Fine trails words before after run a =
-    let report : IsReport input trails a.0 = a.1.1 in
+-- the command `run` is no load
+pub run-no-load : (words : List (List ℕ)) (from clients ops : ℕ) → IsRun words → IsLoadOf words from clients ops → ⊥
+run-no-load words from clients ops run load =
+    let bad : codes "run" ∷ [] ≡ codes "load" ∷ decimal from ∷ decimal clients ∷ decimal ops ∷ [] = sym run ∙ load.are in cc
+
+exact-from-fine : (input : List ℕ) (trails : List Ending) (words : List (List ℕ)) (text : List ℕ) → IsRun words → Owed words (Some input) Fine trails text → IsExact input Fine
+exact-from-fine input trails words text run (inl owed) =
+    let report : IsReport input trails text = owed.1 in
     record {
       long = λ long. absurd (omega (arith, report.short));
       script = λ script short is. inl refl;
       other = λ short none. absurd (none report.script report.read);
     }
+exact-from-fine input trails words text run (inr load) = absurd (run-no-load words load.from load.clients load.ops run load.asked)
+
+-- the status is the one that the input calls for
+pub exact-from-answers : (told : Option (List ℕ)) (status : Status) (trails : List Ending) (words : List (List ℕ)) (before after : Option (List ℕ)) → IsRun words → Answers words told status trails before after → IfSome told (λ input. IsExact input status)
+exact-from-answers None status trails words before after run a = tt
+exact-from-answers (Some input) Fine trails words before after run a = exact-from-fine input trails words a.0 run a.1
 exact-from-answers (Some input) Usage trails words before after run a = absurd (a.1.0 run)
 exact-from-answers (Some input) Refused trails words before after run a =
     let refusal : IsRefusal input a.0 = a.1.1 in
@@ -111,3 +122,14 @@ exact-from-answers (Some input) ReadFault trails words before after run a = reco
 exact-from-answers (Some input) WriteFault trails words before after run a = record { long = λ long. inr tt; script = λ script short is. inr tt; other = λ short none. inr tt }
 exact-from-answers (Some input) Memory trails words before after run a = record { long = λ long. inr tt; script = λ script short is. inr tt; other = λ short none. inr tt }
 exact-from-answers (Some input) BadImage trails words before after run a = absurd a
+
+-- how a load ends that was written, or whose writing failed
+pub load-status-written : (text : List ℕ) (ended result : Ended) (before after : Option (List ℕ)) (faults faults' : ℕ) → ended.status ≡ Fine → Wrote text ended result before after faults faults' → IsLoadStatus result.status
+load-status-written text ended result before after faults faults' fine (inl wrote) = inl (subst (λ (e : Ended). e.status ≡ Fine) (sym wrote.0) fine)
+load-status-written text ended result before after faults faults' fine (inr failed) = inr (inl failed.0)
+
+-- such an end tells of no fault of the source
+pub no-read-fault : (status : Status) → IsLoadStatus status → status ≡ ReadFault → ⊥
+no-read-fault status (inl fine) read = let bad : Fine ≡ ReadFault = sym fine ∙ read in cc
+no-read-fault status (inr (inl failed)) read = let bad : WriteFault ≡ ReadFault = sym failed ∙ read in cc
+no-read-fault status (inr (inr memory)) read = let bad : Memory ≡ ReadFault = sym memory ∙ read in cc

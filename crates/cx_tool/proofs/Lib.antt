@@ -1,3 +1,5 @@
 pub mod Answering
+pub mod Forms
+pub mod Loading
 pub mod Transfer
 pub mod WordsJudged

@@ -1,31 +1,34 @@
 -- Which words the parser of the command line refuses.
-use Rattle.std.proofs.Common.{◌≡◌, ◌⊎◌, inl, inr, ◌∙◌, ◌==◌, refl, sym, ap, ap₂, subst, ℕ, Bool, true, false, List, [], ◌∷◌, map, codes, arith, Option, Some, None, is_some, All, String, Global, string_bytes, if◌then◌else◌, ◌||◌}
+use Rattle.std.proofs.Common.{◌≡◌, ◌⊎◌, inl, inr, ◌∙◌, refl, sym, ap, subst, ℕ, false, List, [], ◌∷◌, ◌++◌, codes, arith, Option, Some, None, All, append_assoc, append-nil, fold, length, get_or, ◌<◌}
 use Rattle.std.specs.Bool.{Decides}
-use Rattle.std.specs.Borrow.{Bor}
 use Rattle.std.specs.Str.{bytes_eq}
+use Rattle.std.proofs.lemmas.Bool.{cases_Bool}
+use Rattle.std.proofs.lemmas.List.Elements.{All-head, All-tail}
 use Rattle.std.proofs.lemmas.Slice.Eq.{bytes_eq-Decides}
-use Rattle.clap.specs.Faults.{fault_of, word_fault, turn_fault, walk_fault, step_fault, settle_fault, defaults_fault, check_fault, entered_fault}
+use Rattle.clap.specs.Faults.{fault_of, word_fault, walk_fault, entered_fault, level_fault}
 use Rattle.clap.specs.Lexer.{long_of, short_of}
 use Rattle.clap.specs.Kinds.{Kinds, IsAmong, or_else}
-use Rattle.clap.specs.Simple.{App, Shape, built, entered}
-use Rattle.clap.specs.Walk.{Held, Rule, Step, Walk, Waiting, idle, value, word_met, walked, walk_from, nothing_held, settled, finished, after_step, to_positional, arg_by_index}
+use Rattle.clap.specs.Simple.{Shape, built, built_leaf, inherited, names_of, new_shape}
+use Rattle.clap.specs.Walk.{Held, Names, Rule, Text, Walk, idle, value, word_met, walk, walked, walk_from, nothing_held}
 use Rattle.clap.specs.declared.error.kind.ErrorKind.{ErrorKind}
-use Rattle.clap.specs.declared.error.kind.ErrorKind.TheVariants.{UnknownArgument, InvalidValue, OutOfMemory}
+use Rattle.clap.specs.declared.error.kind.ErrorKind.TheVariants.{InvalidSubcommand, MissingRequiredArgument, OutOfMemory, UnknownArgument}
 use Rattle.clap.proofs.OnLiterals.{clap_on_literals}
-use Rattle.cx_tool.specs.Answer.{IsRun, run_words}
-use Rattle.cx_tool.specs.CommandLine.{begins_with_hyphen, program}
+use Rattle.cx_tool.specs.CommandLine.{HasForm, begins_with_hyphen, load_app, program}
 
 -- without a command the words are refused
-pub none_missing : (commands : Bor (List (Bor (List ℕ)))) → fault_of (program commands) [] ≡ [] → ⊥
+pub none_missing : fault_of program [] ≡ [] → ⊥
 unfolding clap_on_literals
-none_missing commands e = cc
+none_missing e = cc
 
--- the command is taken
-pub run_taken : (p q : ℕ × ℕ) → fault_of (program (record { ref_ptr = p; now = record { ref_ptr = q; now = codes "run" } ∷ [] })) run_words ≡ []
+-- the command `run` is taken
+pub run_taken : fault_of program (codes "run" ∷ []) ≡ []
 unfolding clap_on_literals
-run_taken p q = refl
+run_taken = refl
 
--- a word that is no flag
+-- a word that does not begin with a hyphen, and one that is no flag
+abbrev IsPlain : List ℕ → Type 0
+IsPlain w = begins_with_hyphen w ≡ false
+
 record IsPlainWord (w : List ℕ) : Type 0 where
   dashes : bytes_eq w (45 ∷ 45 ∷ []) ≡ false
   long : long_of w ≡ None
@@ -34,6 +37,22 @@ record IsPlainWord (w : List ℕ) : Type 0 where
 plain : (w : List ℕ) → begins_with_hyphen w ≡ false → IsPlainWord w
 plain [] h = record { dashes = refl; long = refl; short = refl }
 plain (x ∷ xs) h = record { dashes = rw (h) refl; long = rw (h) refl; short = rw (h) refl }
+
+nth_plain : (words : List (List ℕ)) → All IsPlain words → (i : ℕ) → i < length words → IsPlainWord (get_or words i [])
+nth_plain words are i lt = plain (get_or words i []) (are i [] lt)
+
+-- and so is `load` with three words more
+load_taken : (a b c : List ℕ) → IsPlainWord a → IsPlainWord b → IsPlainWord c → fault_of program (codes "load" ∷ a ∷ b ∷ c ∷ []) ≡ []
+unfolding clap_on_literals
+load_taken a b c p q r = rw (p.dashes, p.long, p.short, q.dashes, q.long, q.short, r.dashes, r.long, r.short) refl
+
+-- behind a command the walk goes on with the words that follow it
+fold_stopped : (c : List Rule) (names : Names) (w : Walk) (name : Text) (past rest : List Text)
+    → fold (walked c names) (record w { stopped = Some (name, past) }) rest ≡ record w { stopped = Some (name, past ++ rest) }
+unfolding walked
+fold_stopped c names w name past [] = ap (λ (ps : List Text). record w { stopped = Some (name, ps) }) (sym (append-nil past))
+fold_stopped c names w name past (v ∷ rest) =
+    fold_stopped c names w name (past ++ v ∷ []) rest ∙ ap (λ (ps : List Text). record w { stopped = Some (name, ps) }) (append_assoc past (v ∷ []) rest)
 
 plain_met : (c : List Rule) (position : ℕ) (w : List ℕ) (h : Held) → IsPlainWord w → word_met c [] false idle position w h ≡ (h, value)
 plain_met c position w h p = rw (p.dashes, p.long, p.short) refl
@@ -49,85 +68,127 @@ none_then : (a b : Kinds) → a ≡ [] → or_else a b ≡ [] → b ≡ []
 none_then [] b is e = e
 none_then (k ∷ ks) b is e = cc
 
-abbrev top : Bor (List (Bor (List ℕ))) → Shape
-top commands = (built (program commands)).top
+abbrev top : Shape
+top = (built program).top
 
-abbrev at_start : Walk
-at_start = walk_from nothing_held
+abbrev labels : Names
+labels = names_of (built program)
 
--- where the walk stands behind the first word
-abbrev behind_one : Bor (List (Bor (List ℕ))) → List ℕ → Walk
-behind_one commands w = to_positional (top commands).rules (arg_by_index (top commands).rules 1) w at_start nothing_held
+-- the subcommands, as they are built
+abbrev run_level : Shape
+run_level = built_leaf (inherited top (new_shape (codes "run")))
 
-walked_one : (commands : Bor (List (Bor (List ℕ)))) (w : List ℕ) → IsPlainWord w → walked (top commands).rules [] at_start w ≡ behind_one commands w
+abbrev load_level : Shape
+load_level = built_leaf (inherited top load_app.top)
+
+-- no argument follows `run`
+run_strays : (v : List ℕ) (more : List (List ℕ)) → IsPlainWord v → level_fault run_level [] nothing_held (v ∷ more) false [] ≡ UnknownArgument ∷ []
+unfolding clap_on_literals
+run_strays v more p = rw (p.dashes, p.long, p.short) refl
+
+run_alone : (rest : List (List ℕ)) → All IsPlain rest → level_fault run_level [] nothing_held rest false [] ≡ [] → rest ≡ []
+run_alone [] plain e = refl
+run_alone (v ∷ more) plain e =
+    let strays : UnknownArgument ∷ [] ≡ [] = sym (run_strays v more (nth_plain (v ∷ more) plain 0 (omega arith))) ∙ e in cc
+
+-- three numbers follow `load`
+load_needs_from : level_fault load_level [] nothing_held [] false [] ≡ MissingRequiredArgument ∷ []
+unfolding clap_on_literals
+load_needs_from = refl
+
+load_needs_clients : (a : List ℕ) → IsPlainWord a → level_fault load_level [] nothing_held (a ∷ []) false [] ≡ MissingRequiredArgument ∷ []
+unfolding clap_on_literals
+load_needs_clients a p = rw (p.dashes, p.long, p.short) refl
+
+load_needs_ops : (a b : List ℕ) → IsPlainWord a → IsPlainWord b → level_fault load_level [] nothing_held (a ∷ b ∷ []) false [] ≡ MissingRequiredArgument ∷ []
+unfolding clap_on_literals
+load_needs_ops a b p q = rw (p.dashes, p.long, p.short, q.dashes, q.long, q.short) refl
+
+load_strays : (a b c d : List ℕ) (more : List (List ℕ)) → IsPlainWord a → IsPlainWord b → IsPlainWord c → IsPlainWord d → level_fault load_level [] nothing_held (a ∷ b ∷ c ∷ d ∷ more) false [] ≡ UnknownArgument ∷ []
+unfolding clap_on_literals
+load_strays a b c d more p q r s = rw (p.dashes, p.long, p.short, q.dashes, q.long, q.short, r.dashes, r.long, r.short, s.dashes, s.long, s.short) refl
+
+load_three : (rest : List (List ℕ)) → All IsPlain rest → level_fault load_level [] nothing_held rest false [] ≡ [] → (a b c : List ℕ) × (rest ≡ a ∷ b ∷ c ∷ [])
+load_three [] plain e = let needs : MissingRequiredArgument ∷ [] ≡ [] = sym load_needs_from ∙ e in cc
+load_three (a ∷ []) plain e =
+    let needs : MissingRequiredArgument ∷ [] ≡ [] = sym (load_needs_clients a (nth_plain (a ∷ []) plain 0 (omega arith))) ∙ e in cc
+load_three (a ∷ b ∷ []) plain e =
+    let ws : List (List ℕ) = a ∷ b ∷ [] in
+    let needs : MissingRequiredArgument ∷ [] ≡ [] = sym (load_needs_ops a b (nth_plain ws plain 0 (omega arith)) (nth_plain ws plain 1 (omega arith))) ∙ e in cc
+load_three (a ∷ b ∷ c ∷ []) plain e = (a, b, c, refl)
+load_three (a ∷ b ∷ c ∷ d ∷ more) plain e =
+    let ws : List (List ℕ) = a ∷ b ∷ c ∷ d ∷ more in
+    let strays : UnknownArgument ∷ [] ≡ [] =
+    sym (load_strays a b c d more (nth_plain ws plain 0 (omega arith)) (nth_plain ws plain 1 (omega arith)) (nth_plain ws plain 2 (omega arith)) (nth_plain ws plain 3 (omega arith))) ∙ e in cc
+
+-- behind the word of a command its own arguments decide
+after_run : (rest : List (List ℕ)) → fault_of program (codes "run" ∷ rest) ≡ [] → level_fault run_level [] nothing_held rest false [] ≡ []
 unfolding walked
-walked_one commands w p = ap (λ (m : Held × Step). after_step (top commands).rules w at_start m.0 m.1) (plain_met (top commands).rules 1 w nothing_held p)
+after_run rest e =
+    let walks : walk_fault top labels (walk_from nothing_held) (codes "run" ∷ rest) ≡ [] = none_first _ _ e in
+    let below : entered_fault (built program) (walk top.rules labels nothing_held (codes "run" ∷ rest)).stopped ≡ [] =
+    none_first _ _ (none_then (walk_fault top labels (walk_from nothing_held) (codes "run" ∷ rest)) _ walks e) in
+    let stops : (walk top.rules labels nothing_held (codes "run" ∷ rest)).stopped ≡ Some (codes "run", rest) =
+    ap (λ (w : Walk). w.stopped) (fold_stopped top.rules labels (walk_from nothing_held) (codes "run") [] rest) in
+    subst (λ (stop : Option (Text × List Text)). entered_fault (built program) stop ≡ []) stops below
 
-first_passes : (commands : Bor (List (Bor (List ℕ)))) (w : List ℕ) → IsPlainWord w → turn_fault (top commands) [] at_start w ≡ []
-first_passes commands w p = ap₂ (λ (k : Kinds) (m : Held × Step). or_else k (step_fault (top commands) 1 m.0 m.1)) (plain_fault (top commands) w nothing_held p) (plain_met (top commands).rules 1 w nothing_held p)
+after_load : (rest : List (List ℕ)) → fault_of program (codes "load" ∷ rest) ≡ [] → level_fault load_level [] nothing_held rest false [] ≡ []
+unfolding walked
+after_load rest e =
+    let walks : walk_fault top labels (walk_from nothing_held) (codes "load" ∷ rest) ≡ [] = none_first _ _ e in
+    let below : entered_fault (built program) (walk top.rules labels nothing_held (codes "load" ∷ rest)).stopped ≡ [] =
+    none_first _ _ (none_then (walk_fault top labels (walk_from nothing_held) (codes "load" ∷ rest)) _ walks e) in
+    let stops : (walk top.rules labels nothing_held (codes "load" ∷ rest)).stopped ≡ Some (codes "load", rest) =
+    ap (λ (w : Walk). w.stopped) (fold_stopped top.rules labels (walk_from nothing_held) (codes "load") [] rest) in
+    subst (λ (stop : Option (Text × List Text)). entered_fault (built program) stop ≡ []) stops below
 
-second_strays : (commands : Bor (List (Bor (List ℕ)))) (w v : List ℕ) → IsPlainWord v → turn_fault (top commands) [] (behind_one commands w) v ≡ UnknownArgument ∷ []
-second_strays commands w v p =
-    ap₂ (λ (k : Kinds) (m : Held × Step). or_else k (step_fault (top commands) 2 m.0 m.1)) (plain_fault (top commands) v (behind_one commands w).held p) (plain_met (top commands).rules 2 v (behind_one commands w).held p)
+-- a first word that names no command is refused
+strays : (w : List ℕ) (rest : List (List ℕ)) → IsPlainWord w → bytes_eq (codes "run") w ≡ false → bytes_eq (codes "load") w ≡ false → fault_of program (w ∷ rest) ≡ UnknownArgument ∷ InvalidSubcommand ∷ []
+unfolding clap_on_literals
+strays w rest p no_run no_load = rw (no_run, no_load, p.dashes, p.long, p.short) refl
 
-two_refused : (commands : Bor (List (Bor (List ℕ)))) (w v : List ℕ) (more : List (List ℕ)) → IsPlainWord w → IsPlainWord v → fault_of (program commands) (w ∷ v ∷ more) ≡ [] → ⊥
-unfolding walk_fault
-two_refused commands w v more p q e =
-    let walk : walk_fault (top commands) [] at_start (w ∷ v ∷ more) ≡ [] = none_first _ _ e in
-    let rest : walk_fault (top commands) [] (walked (top commands).rules [] at_start w) (v ∷ more) ≡ [] = none_then (turn_fault (top commands) [] at_start w) _ (first_passes commands w p) walk in
-    let there : walk_fault (top commands) [] (behind_one commands w) (v ∷ more) ≡ [] = subst (λ (x : Walk). walk_fault (top commands) [] x (v ∷ more) ≡ []) (walked_one commands w p) rest in
-    let none : turn_fault (top commands) [] (behind_one commands w) v ≡ [] = none_first _ _ there in
-    let bad : UnknownArgument ∷ [] ≡ [] = sym (second_strays commands w v q) ∙ none in cc
+other_refused : (w : List ℕ) (rest : List (List ℕ)) → IsPlainWord w → bytes_eq (codes "run") w ≡ false → bytes_eq (codes "load") w ≡ false → fault_of program (w ∷ rest) ≡ [] → ⊥
+other_refused w rest p no_run no_load e =
+    let bad : UnknownArgument ∷ InvalidSubcommand ∷ [] ≡ [] = sym (strays w rest p no_run no_load) ∙ e in cc
 
--- the faults behind a walk
-abbrev after_walk : App → Walk → Kinds
-after_walk a w =
-    or_else (entered_fault a w.stopped) (or_else (settle_fault a.top.rules a.top.args_override_self w.held)
-    (or_else (defaults_fault (settled a.top.rules w.held).rows a.top.rules) (check_fault a.top (finished a.top.rules w.held) (is_some (entered a w.stopped)))))
+named_run : (w : List ℕ) (rest : List (List ℕ)) → All IsPlain rest → codes "run" ≡ w → fault_of program (w ∷ rest) ≡ [] → w ∷ rest ≡ codes "run" ∷ []
+named_run w rest plain is e =
+    let alone : rest ≡ [] = run_alone rest plain (after_run rest (subst (λ (v : List ℕ). fault_of program (v ∷ rest) ≡ []) (sym is) e)) in cc
 
-chosen : (b : Bool) (k : ErrorKind) → or_else (if b || false then [] else k ∷ []) [] ≡ [] → b ≡ true
-chosen true k e = refl
-chosen false k e = cc
+named_load : (w : List ℕ) (rest : List (List ℕ)) → All IsPlain rest → codes "load" ≡ w → fault_of program (w ∷ rest) ≡ [] → (a b c : List ℕ) × (w ∷ rest ≡ codes "load" ∷ a ∷ b ∷ c ∷ [])
+named_load w rest plain is e =
+    let three = load_three rest plain (after_load rest (subst (λ (v : List ℕ). fault_of program (v ∷ rest) ≡ []) (sym is) e)) in
+    (three.0, three.1, three.2, cc)
 
-one_is : (p : ℕ × ℕ) (name : Bor (List ℕ)) (w : List ℕ) → IsPlainWord w → fault_of (program (record { ref_ptr = p; now = name ∷ [] })) (w ∷ []) ≡ [] → name.now ≡ w
-unfolding walk_fault
-one_is p name w plain e =
-    let commands : Bor (List (Bor (List ℕ))) = record { ref_ptr = p; now = name ∷ [] } in
-    let a : App = built (program commands) in
-    let walk : walk_fault (top commands) [] at_start (w ∷ []) ≡ [] = none_first _ _ e in
-    let after : after_walk a (walked (top commands).rules [] at_start w) ≡ [] = none_then (walk_fault (top commands) [] at_start (w ∷ [])) _ walk e in
-    let there : after_walk a (behind_one commands w) ≡ [] = subst (λ (x : Walk). after_walk a x ≡ []) (walked_one commands w plain) after in
-    let settles : settle_fault a.top.rules a.top.args_override_self (behind_one commands w).held ≡ [] = none_first _ _ there in
-    let d : Decides (bytes_eq name.now w) (name.now ≡ w) = bytes_eq-Decides name.now w in
-    d.0 (chosen (bytes_eq name.now w) InvalidValue settles)
+-- words that pass are those of a command
+pub passes_only_forms : (words : List (List ℕ)) → All IsPlain words → fault_of program words ≡ [] → (words ≡ codes "run" ∷ []) ⊎ ((a b c : List ℕ) × (words ≡ codes "load" ∷ a ∷ b ∷ c ∷ []))
+passes_only_forms [] no_hyphen e = absurd (none_missing e)
+passes_only_forms (w ∷ rest) no_hyphen e =
+    let others : All IsPlain rest = All-tail IsPlain w rest no_hyphen in
+    let is_run : Decides (bytes_eq (codes "run") w) (codes "run" ≡ w) = bytes_eq-Decides (codes "run") w in
+    let is_load : Decides (bytes_eq (codes "load") w) (codes "load" ≡ w) = bytes_eq-Decides (codes "load") w in
+    elim (cases_Bool (bytes_eq (codes "run") w)) [
+      | inl run ↦ inl (named_run w rest others (is_run.0 run) e)
+      | inr no_run ↦ elim (cases_Bool (bytes_eq (codes "load") w)) [
+        | inl load ↦ inr (named_load w rest others (is_load.0 load) e)
+        | inr no_load ↦ absurd (other_refused w rest (plain w (All-head IsPlain w rest no_hyphen)) no_run no_load e)
+      ]
+    ]
 
--- words that pass are the command
-pub passes_only_run : (p : ℕ × ℕ) (names : List (Bor (List ℕ))) (words : List (String Global)) → map (λ (c : Bor (List ℕ)). c.now) names ≡ codes "run" ∷ [] → All (λ (w : String Global). begins_with_hyphen (string_bytes w) ≡ false) words
-    → fault_of (program (record { ref_ptr = p; now = names })) (map string_bytes words) ≡ [] → IsRun (map string_bytes words)
-passes_only_run p names [] are no_hyphen e = absurd (none_missing (record { ref_ptr = p; now = names }) e)
-passes_only_run p names (w ∷ v ∷ more) are no_hyphen e =
-    absurd (two_refused (record { ref_ptr = p; now = names }) (string_bytes w) (string_bytes v) (map string_bytes more) (plain (string_bytes w) (no_hyphen 0 w (omega arith))) (plain (string_bytes v) (no_hyphen 1 w (omega arith))) e)
-passes_only_run p [] (w ∷ []) are no_hyphen e = cc
-passes_only_run p (name ∷ other ∷ names) (w ∷ []) are no_hyphen e = cc
-passes_only_run p (name ∷ []) (w ∷ []) are no_hyphen e =
-    let same : name.now ≡ string_bytes w = one_is p name (string_bytes w) (plain (string_bytes w) (no_hyphen 0 w (omega arith))) e in
-    cc
-
--- and the command passes
-pub run_passes : (p : ℕ × ℕ) (names : List (Bor (List ℕ))) (words : List (List ℕ)) → map (λ (c : Bor (List ℕ)). c.now) names ≡ codes "run" ∷ [] → IsRun words → fault_of (program (record { ref_ptr = p; now = names })) words ≡ []
-run_passes p [] words are is = cc
-run_passes p (name ∷ other ∷ names) words are is = cc
-run_passes p (name ∷ []) words are is =
-    let named : name.now ≡ codes "run" = cc in
-    subst (λ (n : List ℕ). fault_of (program (record { ref_ptr = p; now = record { ref_ptr = name.ref_ptr; now = n } ∷ [] })) words ≡ []) (sym named)
-    (subst (λ (ws : List (List ℕ)). fault_of (program (record { ref_ptr = p; now = record { ref_ptr = name.ref_ptr; now = codes "run" } ∷ [] })) ws ≡ []) (sym is) (run_taken p name.ref_ptr))
+-- and those of a command pass
+pub forms_pass : (words : List (List ℕ)) → All IsPlain words → (words ≡ codes "run" ∷ []) ⊎ ((a b c : List ℕ) × (words ≡ codes "load" ∷ a ∷ b ∷ c ∷ [])) → fault_of program words ≡ []
+forms_pass words no_hyphen (inl run) = subst (λ (ws : List (List ℕ)). fault_of program ws ≡ []) (sym run) run_taken
+forms_pass words no_hyphen (inr load) =
+    let ws : List (List ℕ) = codes "load" ∷ load.0 ∷ load.1 ∷ load.2 ∷ [] in
+    let here : All IsPlain ws = subst (λ (ws : List (List ℕ)). All IsPlain ws) load.3 no_hyphen in
+    subst (λ (ws : List (List ℕ)). fault_of program ws ≡ []) (sym load.3)
+    (load_taken load.0 load.1 load.2 (nth_plain ws here 1 (omega arith)) (nth_plain ws here 2 (omega arith)) (nth_plain ws here 3 (omega arith)))
 
 none_among : (kind : ErrorKind) (kinds : Kinds) → kinds ≡ [] → IsAmong kind kinds → ⊥
 none_among kind [] none among = among
 none_among kind (k ∷ kinds) none among = cc
 
--- so that words of which a fault has another kind than want of memory are not the command
-pub refused_not_run : (p : ℕ × ℕ) (names : List (Bor (List ℕ))) (words : List (List ℕ)) (kind : ErrorKind) → map (λ (c : Bor (List ℕ)). c.now) names ≡ codes "run" ∷ []
-    → (kind ≡ OutOfMemory) ⊎ IsAmong kind (fault_of (program (record { ref_ptr = p; now = names })) words) → (kind ≡ OutOfMemory → ⊥) → IsRun words → ⊥
-refused_not_run p names words kind are (inl memory) other is = other memory
-refused_not_run p names words kind are (inr among) other is = none_among kind _ (run_passes p names words are is) among
+-- so that words of which a fault has another kind than want of memory are not those of a command
+pub refused_has_no_form : (words : List (List ℕ)) (kind : ErrorKind) → (kind ≡ OutOfMemory) ⊎ IsAmong kind (fault_of program words) → (kind ≡ OutOfMemory → ⊥) → HasForm words → ⊥
+refused_has_no_form words kind (inl memory) other has = other memory
+refused_has_no_form words kind (inr among) other has = none_among kind _ (forms_pass words has.plain has.form) among

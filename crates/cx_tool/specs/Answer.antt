@@ -2,6 +2,7 @@
 use Rattle.std.specs.Prelude.{◌≡◌, ◌⊎◌, ◌<◌, ◌≤◌, ℕ, List, [], ◌∷◌, ◌++◌, length, codes, Option, IfSome}
 use Rattle.std.specs.Fmt.{decimal}
 use Rattle.cx_base.specs.Outside.{Rose}
+use Rattle.cx_base.specs.Store.{Store}
 use Rattle.cx_rule.specs.Ending.{Ending}
 use Rattle.cx_lives.specs.Lives.{AreTold}
 use Rattle.life_records.specs.declared.script.Script.{Script}
@@ -10,8 +11,11 @@ use Rattle.doc_text.specs.Grammar.{IsScript, IsFirstFault}
 use Rattle.doc_text.specs.Refusal.{IsReasonAt}
 use Rattle.doc_text.specs.Reasons.{reason_text}
 use Rattle.doc_text.specs.declared.script_parts.Reason.{Reason}
-use Rattle.life_records.specs.Lives.{AreLegalLives}
+use Rattle.doc_text.specs.Generated.{IsLoad, generated_life, generated_script}
+use Rattle.life_records.specs.Lives.{AreLegalLives, store_at}
+use Rattle.life_records.specs.declared.script.Life.{Life}
 use Rattle.doc_text.specs.Report.{report_of}
+use Rattle.doc_text.specs.Summary.{summary_text}
 use Rattle.cx_tool.specs.Output.{Appends, AppendsFront}
 use Rattle.cx_tool.specs.declared.status.Ended.{Ended}
 use Rattle.cx_tool.specs.declared.status.Status.{Status}
@@ -24,9 +28,25 @@ run_words = codes "run" ∷ []
 abbrev pub IsRun : List (List ℕ) → Type 0
 IsRun words = words ≡ run_words
 
+-- the words are the command `load` with these numbers, which are within its limits
+pub record IsLoadOf (words : List (List ℕ)) (from clients ops : ℕ) : Type 0 where
+  pub within : IsLoad from clients ops
+  pub are : words ≡ codes "load" ∷ decimal from ∷ decimal clients ∷ decimal ops ∷ []
+
+-- the words are the command `load` with some numbers
+pub record NamesLoad (words : List (List ℕ)) : Type 0 where
+  pub from : ℕ
+  pub clients : ℕ
+  pub ops : ℕ
+  pub is : IsLoadOf words from clients ops
+
+-- the store that a first life leaves
+abbrev pub store_left : ℕ → Life → LifeRecord → Store
+store_left lines life told = store_at lines [] life told.journal told.kept
+
 -- the texts that stand for no report
 abbrev pub usage_text : List ℕ
-usage_text = codes "usage: cx_tool run\n"
+usage_text = codes "usage: cx_tool run | load FROM CLIENTS OPS\n"
 
 abbrev pub refused_text : ℕ → Reason → List ℕ
 refused_text line reason = codes "refused line " ++ decimal line ++ codes ": " ++ reason_text reason ++ codes "\n"
@@ -44,6 +64,18 @@ pub record IsReport (input : List ℕ) (trails : List Ending) (text : List ℕ) 
   pub told : AreTold script.lines script.lives records trails
   pub report : text ≡ report_of script records
 
+-- The text tells in four lines of a legal life of the script that the words ask for. The life is told by the trail of the service that
+-- ran it, and the documents and their sum are those of the store that it left.
+pub record IsSummary (words : List (List ℕ)) (trails : List Ending) (text : List ℕ) : Type 0 where
+  pub from : ℕ
+  pub clients : ℕ
+  pub ops : ℕ
+  pub asked : IsLoadOf words from clients ops
+  pub record_of : LifeRecord
+  pub lives : AreLegalLives (generated_script from clients ops) (record_of ∷ [])
+  pub told : AreTold (generated_script from clients ops).lines (generated_script from clients ops).lives (record_of ∷ []) trails
+  pub summary : text ≡ summary_text record_of (store_left (generated_script from clients ops).lines (generated_life from clients ops) record_of)
+
 -- The text names the first line of the input with which its lines are no script, and the first reason that fits.
 pub record IsRefusal (input text : List ℕ) : Type 0 where
   pub short : length input ≤ 16777216
@@ -57,8 +89,8 @@ pub record IsRefusal (input text : List ℕ) : Type 0 where
 -- The status and the whole text that words and input call for, where the source told the input, with the trails of the lives that
 -- were run.
 abbrev pub Owed : List (List ℕ) → Option (List ℕ) → Status → List Ending → List ℕ → Type 0
-Owed words told Fine trails text = IsRun words × IfSome told (λ input. IsReport input trails text)
-Owed words told Usage trails text = (IsRun words → ⊥) × (text ≡ usage_text)
+Owed words told Fine trails text = (IsRun words × IfSome told (λ input. IsReport input trails text)) ⊎ IsSummary words trails text
+Owed words told Usage trails text = (IsRun words → ⊥) × (NamesLoad words → ⊥) × (text ≡ usage_text)
 Owed words told Refused trails text = IsRun words × IfSome told (λ input. IsRefusal input text)
 Owed words told TooLong trails text = IsRun words × IfSome told (λ input. 16777216 < length input) × (text ≡ too_long_text)
 Owed words told ReadFault trails text = ⊥
@@ -104,6 +136,10 @@ pub record IsExact (input : List ℕ) (status : Status) : Type 0 where
   pub long : 16777216 < length input → IsStatus TooLong status
   pub script : (script : Script) → length input ≤ 16777216 → IsScript input script → IsStatus Fine status
   pub other : length input ≤ 16777216 → ((script : Script) → IsScript input script → ⊥) → IsStatus Refused status
+
+-- a status that a load may end with
+abbrev pub IsLoadStatus : Status → Type 0
+IsLoadStatus status = (status ≡ Fine) ⊎ ((status ≡ WriteFault) ⊎ (status ≡ Memory))
 
 -- what faults a status tells of
 abbrev pub HasCause : Status → ℕ → ℕ → ℕ → ℕ → Type 0

@@ -1,21 +1,57 @@
 //! What the words behind the program's name are, as the command line's parser reads them.
 
-ghost use Rattle.std.specs.Prelude.{◌≡◌, ◌↔◌, map, string_bytes, ℕ, List, [], ◌∷◌, codes, All, Any, IfOk, IsTrue, true, false};
+ghost use Rattle.std.specs.Prelude.{◌≡◌, ◌↔◌, map, string_bytes, All, Any, IfOk, IsTrue, true, false};
 ghost use Rattle.clap.specs.Faults.{fault_of};
 ghost use Rattle.clap.specs.Kinds.{FailsBy};
-ghost use Rattle.cx_tool.specs.Answer.{IsRun};
-ghost use Rattle.cx_tool.specs.CommandLine.{IsJudged, begins_with_hyphen, program};
+ghost use Rattle.clap.specs.Words.{app_of, rule_of};
+ghost use Rattle.clap.specs.declared.builder.command.Command.TheViews.{out-Command as fields_of};
+ghost use Rattle.cx_tool.specs.CommandLine.{Asks, HasForm, IsJudged, begins_with_hyphen, load_app, number_rule, program};
 
+use crate::load::Load;
 use clap::error::ErrorKind;
 use clap::{Arg, ArgAction, ArgMatches, Command, Error};
 use std::alloc::{AllocError, Global};
 
-/// The commands.
-static COMMANDS: [&str; 1] = ["run"];
+/// What the words ask for.
+#[derive(Drop)]
+pub(crate) enum Asked {
+    /// That a script is run.
+    Run,
+    /// That a script is made and run.
+    Load(Load),
+    /// Nothing: they are no command.
+    Nothing,
+}
 
-/// Whether the words are the command `run`. A word that begins with a hyphen is in no command. `Err` is want of memory.
-pub(crate) fn names_run(alloc: Global, words: &[String]) -> Result<bool, AllocError>
-    ensures { IfOk result (λ is. IsTrue is ↔ IsRun (map string_bytes words.now)) }
+/// Reads the words of a command. `Err` is want of memory.
+pub(crate) fn read_words(alloc: Global, words: &[String]) -> Result<Asked, AllocError>
+    ensures { IfOk result (Asks (map string_bytes words.now)) }
+{
+    if have_form(alloc, words)? {
+        Ok(asked_by(words))
+    } else {
+        Ok(Asked::Nothing)
+    }
+}
+
+// What words ask for that have the form of a command: `run` alone, or `load` and three more.
+fn asked_by(words: &[String]) -> Asked
+    requires { HasForm (map string_bytes words.now) }
+    ensures { Asks (map string_bytes words.now) result }
+{
+    match words {
+        [_load, from, clients, ops] => match Load::read(from, clients, ops) {
+            Some(load) => Asked::Load(load),
+            None => Asked::Nothing,
+        },
+        _ => Asked::Run,
+    }
+}
+
+// Whether the words have the form of a command. A word that begins with a hyphen is in none. `Err` is want of
+// memory.
+fn have_form(alloc: Global, words: &[String]) -> Result<bool, AllocError>
+    ensures { IfOk result (λ is. IsTrue is ↔ HasForm (map string_bytes words.now)) }
 {
     if has_option(words) {
         return Ok(false);
@@ -50,9 +86,9 @@ fn has_option(words: &[String]) -> bool
     false
 }
 
-// Whether the words are the one argument of the program, which is a command; with the kind of the fault where they are not.
+// Whether the words are those of a command; with the kind of the fault where they are not.
 fn parse(alloc: Global, words: &[String]) -> Result<(), ErrorKind>
-    ensures { (commands : _) × (map (λ c. c.now) commands.now ≡ codes "run" ∷ []) × IsJudged (fault_of (program commands) (map string_bytes words.now)) result }
+    ensures { IsJudged (fault_of program (map string_bytes words.now)) result }
 {
     match matches(alloc, words) {
         Ok(_matches) => Ok(()),
@@ -60,17 +96,37 @@ fn parse(alloc: Global, words: &[String]) -> Result<(), ErrorKind>
     }
 }
 
-// Reads the words as the one argument of the program, which is a command.
-fn matches<'a>(alloc: Global, words: &'a [String]) -> Result<ArgMatches<'a>, Error>
-    ensures { (commands : _) × (map (λ c. c.now) commands.now ≡ codes "run" ∷ []) × FailsBy (fault_of (program commands) (map string_bytes words.entry.now)) result }
+// A number that a command wants.
+fn number(alloc: Global, name: &str) -> Arg<'_>
+    ensures rule { rule_of result ≡ number_rule name.entry.now }
+    ensures local { result.global ≡ false }
 {
-    let command = Arg::new(alloc, "command")
-        .required(true)
-        .action(ArgAction::Set)
-        .value_parser(COMMANDS.as_slice());
+    Arg::new(alloc, name).required(true).action(ArgAction::Set)
+}
+
+// The command `load` with its three numbers.
+fn load_command<'a>(alloc: Global) -> Result<Command<'a>, AllocError>
+    ensures app { IfOk result (λ command. app_of command ≡ load_app) }
+    ensures local { IfOk result (λ command. (fields_of command).has_globals ≡ false) }
+{
+    Command::new(alloc, "load")
+        .arg(number(alloc, "from"))?
+        .arg(number(alloc, "clients"))?
+        .arg(number(alloc, "ops"))
+}
+
+// Reads the words as those of a command.
+fn matches<'a>(alloc: Global, words: &'a [String]) -> Result<ArgMatches<'a>, Error>
+    ensures { FailsBy (fault_of program (map string_bytes words.entry.now)) result }
+{
+    let run = Command::new(alloc, "run");
+    let load = load_command(alloc)?;
     Command::new(alloc, "cx_tool")
         .no_binary_name(true)
         .disable_help_flag(true)
-        .arg(command)?
+        .disable_help_subcommand(true)
+        .subcommand_required(true)
+        .subcommand(run)?
+        .subcommand(load)?
         .try_get_matches_from(words)
 }

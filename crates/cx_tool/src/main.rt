@@ -1,10 +1,11 @@
-//! Runs a script of clients over the document store, and writes a report of what happened.
+//! Runs a script of clients over the document store, one that is read or one that is made, and writes what happened.
 #![tactic(auto)]
 
 mod arguments;
 mod command_line;
 mod counted_source;
 mod input;
+mod load;
 mod output;
 mod standard;
 mod status;

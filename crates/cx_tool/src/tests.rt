@@ -11,6 +11,7 @@ use std::thread::Threads;
 
 mod faults;
 mod lives;
+mod loads;
 mod passing;
 
 const HEAD: &str = "lines 64\nlife 1 power 0\n";
@@ -26,18 +27,21 @@ struct Ran {
     trails: usize,
 }
 
-fn words_of(alloc: Global, words: &[&str]) -> Result<Vec<String>, AllocError> {
-    let mut all = Vec::new(alloc);
-    for word in words {
-        all.push(String::from_str(alloc, *word)?)?;
+/// The words of a line that commas separate. An empty line has none.
+fn words_of(alloc: Global, line: &str) -> Result<Vec<String>, AllocError> {
+    let mut words = Vec::new(alloc);
+    if !line.is_empty() {
+        for word in line.split(',') {
+            words.push(String::from_str(alloc, word)?)?;
+        }
     }
-    Ok(all)
+    Ok(words)
 }
 
 /// A run over a source and a sink: its exit code and how many trails it left.
 fn run_over<R: Threads + Wait + Sync + AllocGlobal, S: Source, K: Sink, G: Gate + Sync>(
     rt: &R,
-    words: &[&str],
+    words: &str,
     source: &mut S,
     sink: &mut K,
     gate: &G,
@@ -50,7 +54,7 @@ fn run_over<R: Threads + Wait + Sync + AllocGlobal, S: Source, K: Sink, G: Gate 
 
 fn run_past<R: Threads + Wait + Sync + AllocGlobal, G: Gate + Sync>(
     rt: &R,
-    words: &[&str],
+    words: &str,
     input: &[u8],
     gate: &G,
 ) -> Result<Ran, AllocError> {
@@ -68,7 +72,7 @@ fn run_past<R: Threads + Wait + Sync + AllocGlobal, G: Gate + Sync>(
 
 fn run_of<R: Threads + Wait + Sync + AllocGlobal>(
     rt: &R,
-    words: &[&str],
+    words: &str,
     input: &[u8],
 ) -> Result<Ran, AllocError> {
     run_past(rt, words, input, &OpenGate)
@@ -189,47 +193,19 @@ fn each_input_has_its_status_and_text(rt: HostRuntime) -> Result<(), Fail> {
             bytes.extend_from_slice(HEAD.as_bytes())?;
         }
         bytes.extend_from_slice(input.as_bytes())?;
-        let ran = run_of(&rt, &["run"], &bytes)?;
+        let ran = run_of(&rt, "run", &bytes)?;
         assert_eq!(rt; ran.code, code, "at {input:?}");
         assert_eq!(rt; ran.written.as_slice(), text.as_bytes(), "at {input:?}");
         // as many trails as lives with a report, and none without
         let trails = if code == 0 { lives_of(&bytes) } else { 0 };
         assert_eq!(rt; ran.trails, trails, "at {input:?}");
     }
-    let ran = run_of(&rt, &["run"], b"lines 64\n\xff\n")?;
+    let ran = run_of(&rt, "run", b"lines 64\n\xff\n")?;
     assert_eq!(rt; ran.code, 3);
     assert_eq!(rt;
         ran.written.as_slice(),
         b"refused line 2: utf8\n".as_slice()
     );
-    Ok(())
-}
-
-#[test]
-fn other_words_are_refused_unread(rt: HostRuntime) -> Result<(), Fail> {
-    let rows: [&[&str]; 10] = [
-        &["walk"],
-        &[],
-        &["run", "x"],
-        &["run", "--help"],
-        &["run "],
-        &["--help"],
-        &["Run"],
-        // what is not built yet, and what never will be
-        &["load", "0", "2", "3"],
-        &["load", "07", "4", "2"],
-        &["load", "7", "9", "2"],
-    ];
-    let alloc = rt.alloc();
-    for words in rows {
-        let mut source = SureSource::new(Vec::from_slice(alloc, HEAD.as_bytes())?);
-        let mut sink = SureSink::new(Vec::with_capacity(alloc, ROOM)?);
-        let ended = run_over(&rt, words, &mut source, &mut sink, &OpenGate)?;
-        assert_eq!(rt; ended, (2, 0));
-        assert_eq!(rt; sink.written(), b"usage: cx_tool run\n".as_slice());
-        let mut rest = [0; 64];
-        assert_eq!(rt; source.read(&mut rest), Ok(HEAD.len()));
-    }
     Ok(())
 }
 
@@ -248,7 +224,7 @@ fn an_input_has_a_largest_size(rt: HostRuntime) -> Result<(), Fail> {
     for (size, code, text) in rows {
         let mut source = SureSource::new(line_feeds(alloc, size)?);
         let mut sink = SureSink::new(Vec::with_capacity(alloc, ROOM)?);
-        let ended = run_over(&rt, &["run"], &mut source, &mut sink, &OpenGate)?;
+        let ended = run_over(&rt, "run", &mut source, &mut sink, &OpenGate)?;
         assert_eq!(rt; ended, (code, 0));
         assert_eq!(rt; sink.written(), text.as_bytes());
     }

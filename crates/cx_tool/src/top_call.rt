@@ -1,6 +1,6 @@
 //! The top call: words and input in, status and text out.
 
-ghost use Rattle.std.specs.Prelude.{◌≡◌, ◌⊎◌, ◌≤◌, ℕ, List, map, string_bytes, length, IfOk, IfSome};
+ghost use Rattle.std.specs.Prelude.{◌≡◌, ◌⊎◌, ◌≤◌, ℕ, List, Option, map, string_bytes, length, IfOk, IfSome};
 ghost use Rattle.doc_text.specs.Grammar.{IsScript};
 ghost use Rattle.doc_text.specs.Report.{report_of};
 ghost use Rattle.life_records.specs.Limits.{KeepsLimits};
@@ -8,11 +8,12 @@ ghost use Rattle.life_records.specs.Lives.{AreLegalLives};
 ghost use Rattle.life_records.specs.declared.record.LifeRecord.{LifeRecord};
 ghost use Rattle.cx_lives.specs.Lives.{AreTold};
 ghost use Rattle.cx_tool.specs.Input.{TookAtMost};
-ghost use Rattle.cx_tool.specs.Answer.{run_words, IsRun, IsExact, Owed, Answers, HasCause, HasNone, Wrote, refused_text};
+ghost use Rattle.cx_tool.specs.Answer.{run_words, IsRun, IsLoadOf, IsLoadStatus, NamesLoad, IsExact, Owed, Answers, HasCause, HasNone, Wrote, refused_text};
 ghost use Rattle.cx_tool.specs.declared.status.Status.TheVariants.{Usage, WriteFault, Memory};
 
-use crate::command_line::names_run;
+use crate::command_line::{Asked, read_words};
 use crate::input::{Input, read_uncounted};
+use crate::load::{Load, load_text};
 use crate::output::write_text;
 use crate::status::{Ended, Status};
 use cx_base::{Gate, Items, Sink, Source};
@@ -26,9 +27,13 @@ use std::sync::Wait;
 use std::sync::ledger::Blank;
 use std::thread::Threads;
 
+/// What is written where the words are no command.
+const USAGE: &[u8] = b"usage: cx_tool run | load FROM CLIENTS OPS\n";
+
 /// Runs the command that the words name. With `run` it reads a script from the source, runs its lives and writes the
-/// report; a text that stands for no report is written in its place where the words or the input are refused. The
-/// whole text is made before its first byte is written. Every outcome is a status. It may wait.
+/// report; with `load` and three numbers it makes a script, runs it and tells of it in four lines, and nothing is read. A
+/// text that stands for no report is written in its place where the words or the input are refused. The whole text is
+/// made before its first byte is written. Every outcome is a status. It may wait.
 pub fn cx_run<R: Threads + Wait + Sync, S: Source, K: Sink, G: Gate + Sync>(
     rt: &R,
     alloc: Global,
@@ -37,23 +42,25 @@ pub fn cx_run<R: Threads + Wait + Sync, S: Source, K: Sink, G: Gate + Sync>(
     sink: &mut K,
     gate: &G,
 ) -> Ended
-    // What was written is what the status says: with `Fine` the report of legal lives of the script that the input is, each told by
-    // the trail of the service that ran it.
+    // What was written is what the status says: with `Fine` the report of legal lives of the script that the input is, or the lines
+    // on a legal life of the script that `load` makes, each told by the trail of the service that ran it.
     ensures answer { Answers (map string_bytes words.now) (S.left source.old) result.status result.trails (K.written sink.old) (K.written sink.new) }
     ensures none { HasNone result }
     // Which status the input calls for.
     ensures exact { IsRun (map string_bytes words.now) → IfSome (S.left source.old) (λ input. IsExact input result.status) }
-    ensures usage { (IsRun (map string_bytes words.now) → ⊥) → (result.status ≡ Usage) ⊎ ((result.status ≡ WriteFault) ⊎ (result.status ≡ Memory)) }
+    ensures load { NamesLoad (map string_bytes words.now) → IsLoadStatus result.status }
+    ensures usage { (IsRun (map string_bytes words.now) → ⊥) → (NamesLoad (map string_bytes words.now) → ⊥) → (result.status ≡ Usage) ⊎ ((result.status ≡ WriteFault) ⊎ (result.status ≡ Memory)) }
     // A fault is told only where the object that was handed in counted one.
     ensures cause { HasCause result.status (S.faults source.old) (S.faults source.new) (K.faults sink.old) (K.faults sink.new) }
     ensures taken { TookAtMost 16777217 (S.left source.old) (S.left source.new) }
     ensures unread { (IsRun (map string_bytes words.now) → ⊥) → S.left source.new ≡ S.left source.old }
 {
-    match names_run(alloc, words) {
-        Ok(true) => run(rt, alloc, source, sink, gate),
-        Ok(false) => {
+    match read_words(alloc, words) {
+        Ok(Asked::Run) => run(rt, alloc, source, sink, gate),
+        Ok(Asked::Load(load)) => run_load(rt, alloc, &load, sink, gate),
+        Ok(Asked::Nothing) => {
             let ended = Ended::without_lives(alloc, Status::Usage);
-            write_answer(alloc, sink, b"usage: cx_tool run\n", ended)
+            write_answer(alloc, sink, USAGE, ended)
         }
         Err(_) => Ended::without_lives(alloc, Status::Memory),
     }
@@ -66,6 +73,25 @@ fn write_answer<K: Sink>(alloc: Global, sink: &mut K, text: &[u8], ended: Ended)
     match write_text(sink, text) {
         Ok(()) => ended,
         Err(_) => Ended::without_lives(alloc, Status::WriteFault),
+    }
+}
+
+// The command `load`.
+fn run_load<R: Threads + Wait + Sync, K: Sink, G: Gate + Sync>(
+    rt: &R,
+    alloc: Global,
+    load: &Load,
+    sink: &mut K,
+    gate: &G,
+) -> Ended
+    ensures answer { (words : List (List ℕ)) (told : Option (List ℕ)) → IsLoadOf words load.now.from load.now.clients load.now.ops → Answers words told result.status result.trails (K.written sink.old) (K.written sink.new) }
+    ensures none { HasNone result }
+    ensures status { IsLoadStatus result.status }
+    ensures cause { HasCause result.status 0 0 (K.faults sink.old) (K.faults sink.new) }
+{
+    match load_text(rt, alloc, load, gate) {
+        Err(_) => Ended::without_lives(alloc, Status::Memory),
+        Ok((text, trails)) => { write_answer(alloc, sink, &text, Ended::new(Status::Fine, trails)) }
     }
 }
 

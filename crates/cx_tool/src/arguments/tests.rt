@@ -76,6 +76,9 @@ fn words_that_are_not_utf8_are_no_command(rt: HostRuntime) -> Result<(), Fail> {
     let mut sink = SureSink::new(Vec::with_capacity(alloc, 64)?);
     let ended = cx_run(&rt, alloc, &words, &mut source, &mut sink, &OpenGate);
     assert_eq!(rt; ended.status.code(), 2);
-    assert_eq!(rt; sink.written(), b"usage: cx_tool run\n".as_slice());
+    assert_eq!(rt;
+        sink.written(),
+        b"usage: cx_tool run | load FROM CLIENTS OPS\n".as_slice()
+    );
     Ok(())
 }

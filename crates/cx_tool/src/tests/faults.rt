@@ -39,25 +39,62 @@ fn sink(alloc: Global, chunk: usize, fails: &[u64]) -> Result<VecSink, AllocErro
     ))
 }
 
-/// The status, the trails and the bytes of a run of the script over such ends.
+/// The status, the trails and the bytes of a run over such ends.
 fn run_of<R: Threads + Wait + Sync + AllocGlobal>(
     rt: &R,
+    words: &str,
     mut source: VecSource,
     mut sink: VecSink,
 ) -> Result<(u8, usize, Vec<u8>), AllocError> {
-    let (code, trails) = run_over(rt, &["run"], &mut source, &mut sink, &OpenGate)?;
+    let (code, trails) = run_over(rt, words, &mut source, &mut sink, &OpenGate)?;
     Ok((code, trails, Vec::from_slice(rt.alloc(), sink.written())?))
 }
 
 #[test]
 fn a_fault_of_the_second_call_is_told(rt: HostRuntime) -> Result<(), Fail> {
     let alloc = rt.alloc();
-    let (code, trails, written) = run_of(&rt, source(alloc, 8, &[2])?, sink(alloc, 5, &[])?)?;
+    let (code, trails, written) = run_of(
+        &rt,
+        "run",
+        source(alloc, 8, &[2])?,
+        sink(alloc, 5, &[])?,
+    )?;
     assert_eq!(rt; (code, trails), (4, 0));
     assert_eq!(rt; written.as_slice(), b"".as_slice());
-    let (code, trails, written) = run_of(&rt, source(alloc, 8, &[])?, sink(alloc, 5, &[2])?)?;
+    let (code, trails, written) = run_of(
+        &rt,
+        "run",
+        source(alloc, 8, &[])?,
+        sink(alloc, 5, &[2])?,
+    )?;
     assert_eq!(rt; (code, trails), (5, 0));
     assert_eq!(rt; written.as_slice(), b"life ".as_slice());
+    Ok(())
+}
+
+#[test]
+fn a_load_meets_no_fault_of_its_source(rt: HostRuntime) -> Result<(), Fail> {
+    let alloc = rt.alloc();
+    let words = "load,0,2,3";
+    let (code, trails, written) = run_of(
+        &rt,
+        words,
+        source(alloc, 8, &[1])?,
+        sink(alloc, 5, &[])?,
+    )?;
+    assert_eq!(rt; (code, trails), (0, 1));
+    assert_eq!(rt;
+        written.as_slice(),
+        b"clients 2\nupdates 6\ndocuments 6\nsum 105\n".as_slice()
+    );
+    let (code, trails, written) = run_of(
+        &rt,
+        words,
+        source(alloc, 8, &[])?,
+        sink(alloc, 5, &[2])?,
+    )?;
+    assert_eq!(rt; (code, trails), (5, 0));
+    assert_eq!(rt; written.as_slice(), b"clien".as_slice());
     Ok(())
 }
 
@@ -68,6 +105,7 @@ fn a_fault_at_each_read_leaves_nothing_written(rt: HostRuntime) -> Result<(), Fa
     for call in 1..=LENGTHS.0 + 1 {
         let (code, trails, written) = run_of(
             &rt,
+            "run",
             source(alloc, 1, &[call])?,
             sink(alloc, 64, &[])?,
         )?;
@@ -83,6 +121,7 @@ fn a_fault_at_each_write_leaves_a_front_of_the_report(rt: HostRuntime) -> Result
     for call in 1..=LENGTHS.1 {
         let (code, trails, written) = run_of(
             &rt,
+            "run",
             source(alloc, 64, &[])?,
             sink(alloc, 1, &[call])?,
         )?;
@@ -101,6 +140,7 @@ fn a_fault_of_a_call_that_is_not_made_is_none(rt: HostRuntime) -> Result<(), Fai
     let (reads, writes) = LENGTHS;
     let (code, trails, written) = run_of(
         &rt,
+        "run",
         source(alloc, 1, &[reads + 2])?,
         sink(alloc, 1, &[writes + 1])?,
     )?;
@@ -112,7 +152,7 @@ fn a_fault_of_a_call_that_is_not_made_is_none(rt: HostRuntime) -> Result<(), Fai
 #[test]
 fn a_sink_without_room_fails(rt: HostRuntime) -> Result<(), Fail> {
     let alloc = rt.alloc();
-    for words in [&["run"], &["walk"]] {
+    for words in ["run", "walk", "load,0,2,3"] {
         let mut source = source(alloc, 64, &[])?;
         let mut sink = VecSink::new(Vec::new(alloc), 64, Vec::new(alloc));
         let ended = run_over(&rt, words, &mut source, &mut sink, &OpenGate)?;

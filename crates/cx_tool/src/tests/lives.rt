@@ -32,7 +32,7 @@ fn keys_and_documents_have_a_largest_length(rt: HostRuntime) -> Result<(), Fail>
         let report = format!(in alloc;
             "life 0 clients 1 from 0\n0 0.1 {command} = new\npower 0 kept 1 of 1 documents 1\n"
         )?;
-        let ran = run_of(&rt, &["run"], input.as_bytes())?;
+        let ran = run_of(&rt, "run", input.as_bytes())?;
         assert_eq!(rt; ran.code, code);
         let text = if code == 0 { report.as_str() } else { refusal };
         assert_eq!(rt; ran.written.as_slice(), text.as_bytes());
@@ -51,7 +51,7 @@ fn a_longest_document_takes_19_lines(rt: HostRuntime) -> Result<(), Fail> {
     let report = format!(in alloc;
         "life 0 clients 1 from 0\n0 0.1 put a \"{long}\" = new\n1 0.2 put b \"{long}\" = new\n2 0.3 put c \"{long}\" = new\n3 0.4 put d 0 = noroom\npower 0 kept 4 of 4 documents 3\n"
     )?;
-    let ran = run_of(&rt, &["run"], input.as_bytes())?;
+    let ran = run_of(&rt, "run", input.as_bytes())?;
     assert_eq!(rt; ran.code, 0);
     assert_eq!(rt; ran.written.as_slice(), report.as_bytes());
     Ok(())
@@ -88,7 +88,7 @@ fn a_life_goes_on_with_what_the_one_before_left(rt: HostRuntime) -> Result<(), F
         report.push_str(&format!(in alloc; "{ticket} 0.{} {put} = {reply}\n", ticket % 16 + 1)?)?;
     }
     report.push_str("power 0 kept 7 of 7 documents 21\n")?;
-    let ran = run_of(&rt, &["run"], input.as_bytes())?;
+    let ran = run_of(&rt, "run", input.as_bytes())?;
     assert_eq!(rt; (ran.code, ran.trails), (0, 2));
     assert_eq!(rt; ran.written.as_slice(), report.as_bytes());
     Ok(())
@@ -103,7 +103,7 @@ fn two_adds_have_two_orders(rt: HostRuntime) -> Result<(), Fail> {
     for _ in 0..20 {
         let ran = run_of(
             &rt,
-            &["run"],
+            "run",
             b"lines 64\nlife 2 power 0\n0 add n 1\n1 add n 1\n",
         )?;
         assert_eq!(rt; (ran.code, ran.trails), (0, 1));
@@ -179,7 +179,7 @@ fn shops_report(alloc: Global, order: [&str; 4]) -> Result<String, AllocError> {
 #[test]
 fn two_shops_sell_in_any_order(rt: HostRuntime) -> Result<(), Fail> {
     for _ in 0..20 {
-        let ran = run_of(&rt, &["run"], SHOPS.as_bytes())?;
+        let ran = run_of(&rt, "run", SHOPS.as_bytes())?;
         assert_eq!(rt; (ran.code, ran.trails), (0, 2));
         let mut known = false;
         for order in ORDERS {

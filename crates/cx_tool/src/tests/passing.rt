@@ -51,7 +51,7 @@ fn recording(alloc: Global, room: usize) -> Result<RecordingGate, AllocError> {
 fn each_command_passes_the_gate_before_and_after_it(rt: HostRuntime) -> Result<(), Fail> {
     let gate = recording(rt.alloc(), 8)?;
     let script = b"lines 64\nlife 1 power 0\n0 put a 1\n0 put a 2\n0 get a\n";
-    assert_eq!(rt; run_past(&rt, &["run"], script, &gate)?.code, 0);
+    assert_eq!(rt; run_past(&rt, "run", script, &gate)?.code, 0);
     let want = [
         (0, 1, false),
         (0, 1, true),
@@ -107,7 +107,7 @@ fn a_client_that_is_held_comes_second(rt: HostRuntime) -> Result<(), Fail> {
     let script = b"lines 64\nlife 2 power 0\n0 add n 1\n1 add n 1\n";
     let report =
         b"life 0 clients 2 from 0\n0 1.1 add n 1 = sum 1\n1 0.1 add n 1 = sum 2\npower 0 kept 2 of 2 documents 1\n";
-    let ran = run_past(&rt, &["run"], script, &gate)?;
+    let ran = run_past(&rt, "run", script, &gate)?;
     assert!(rt; gate.turns_left.load(Ordering::SeqCst) > 0);
     assert_eq!(rt; ran.code, 0);
     assert_eq!(rt; ran.written.as_slice(), report.as_slice());

@@ -1,7 +1,6 @@
 use Rattle.std.proofs.Common.{refl, subst, sym}
 use Rattle.cx_tool.specs.Answer.{Owed, run_words, too_long_text}
 use Rattle.cx_tool.specs.declared.status.Ended.{Ended}
-use Rattle.cx_tool.specs.declared.status.Status.TheVariants.{TooLong}
 use Rattle.cx_tool.proofs.Answering.{answers-written}
 use Rattle.cx_tool.proofs.top_call.run.Goals as goal
 
