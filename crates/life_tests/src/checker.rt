@@ -2,7 +2,7 @@
 //! operation means.
 
 use doc_model::{Op, Pairs, Reply};
-use life_records::{FullLine, JournalLine, Life, LifeRecord, Script, StopLine};
+use life_records::{FullLine, JournalLine, Life, LifeRecord, ReadLine, Script, StopLine};
 use std::alloc::{AllocError, Global};
 
 /// Whether the records are of legal lives of the script: the first from place 0 and the empty store on, and each next one from the place
@@ -22,16 +22,18 @@ pub(crate) fn are_legal(
         if told.clients != life.clients || told.choice != life.choice || told.from != place {
             return Ok(false);
         }
-        if !(is_in_order(life, told) && has_ended_all(life, told) && stops_are_legal(life, told)) {
+        let own = own_ops(alloc, life)?;
+        let answers = answers_of(alloc, told)?;
+        if !(is_in_order(&own, told) && has_ended_all(life, &own, told, &answers)) {
             return Ok(false);
         }
-        if !(is_in_turn(alloc, told)? && is_kept(alloc, told)?) {
+        if !(stops_are_legal(&own, life, told) && is_in_turn(&answers) && is_kept(told, &answers)) {
             return Ok(false);
         }
-        if !replies_are_the_stores(alloc, script.lines, &past, life, told)? {
+        if !replies_are_the_stores(alloc, script.lines, &past, &own, told)? {
             return Ok(false);
         }
-        push_kept(&mut past, life, told)?;
+        push_kept(&mut past, &own, told)?;
         if told.documents != store_after(alloc, script.lines, &past)?.len() as u64 {
             return Ok(false);
         }
@@ -40,35 +42,35 @@ pub(crate) fn are_legal(
     Ok(true)
 }
 
-// A client's command of this number, from 1, where the client is one of the life's.
-fn op_of(life: &Life, client: u32, command: u64) -> Option<&Op> {
-    if client >= life.clients {
-        return None;
+// The operations of each client's commands.
+fn own_ops(alloc: Global, life: &Life) -> Result<Vec<Vec<&Op>>, AllocError> {
+    let mut own = Vec::new(alloc);
+    for _ in 0..life.clients {
+        own.push(Vec::new(alloc))?;
     }
+    for command in life.commands.as_slice() {
+        if let Some(ops) = own.get_mut(command.client as usize) {
+            ops.push(&command.op)?;
+        }
+    }
+    Ok(own)
+}
+
+// A client's command of this number, from 1, where the client is one of the life's.
+fn op_of<'a>(own: &[Vec<&'a Op>], client: u32, command: u64) -> Option<&'a Op> {
     let before = command.checked_sub(1)?;
-    let mut own = life
-        .commands
-        .as_slice()
-        .iter()
-        .filter(|c| c.client == client);
-    own.nth(before as usize).map(|c| &c.op)
+    own.get(client as usize)?.get(before as usize).copied()
 }
 
-fn has_op(life: &Life, client: u32, command: u64) -> bool {
-    op_of(life, client, command).is_some()
-}
-
-// The number of a client's commands.
-fn own_count(life: &Life, client: u32) -> u64 {
-    let commands = life.commands.as_slice().iter();
-    commands.filter(|c| c.client == client).count() as u64
+fn has_op(own: &[Vec<&Op>], client: u32, command: u64) -> bool {
+    op_of(own, client, command).is_some()
 }
 
 // The tickets go up by one from the place on, and the lines of each kind stand in their order and name commands.
-fn is_in_order(life: &Life, told: &LifeRecord) -> bool {
+fn is_in_order(own: &[Vec<&Op>], told: &LifeRecord) -> bool {
     let mut ticket = told.from;
     for line in told.journal.as_slice() {
-        if line.ticket != ticket || !has_op(life, line.client, line.command) {
+        if line.ticket != ticket || !has_op(own, line.client, line.command) {
             return false;
         }
         ticket = ticket.saturating_add(1);
@@ -76,7 +78,7 @@ fn is_in_order(life: &Life, told: &LifeRecord) -> bool {
     let mut last = None;
     for line in told.reads.as_slice() {
         let name = (line.client, line.command);
-        if last >= Some(name) || !has_op(life, line.client, line.command) {
+        if last >= Some(name) || !has_op(own, line.client, line.command) {
             return false;
         }
         last = Some(name);
@@ -98,9 +100,10 @@ fn is_in_order(life: &Life, told: &LifeRecord) -> bool {
     true
 }
 
-fn has_ended_all(life: &Life, told: &LifeRecord) -> bool {
+fn has_ended_all(life: &Life, own: &[Vec<&Op>], told: &LifeRecord, answers: &[Answer]) -> bool {
     for client in 0..life.clients {
-        if !(entries_rise(told, client) && has_ended(life, told, client)) {
+        let commands = own.get(client as usize).map_or(0, |ops| ops.len() as u64);
+        if !(entries_rise(told, client) && has_ended(commands, told, client, answers)) {
             return false;
         }
     }
@@ -133,40 +136,27 @@ fn has_full(told: &LifeRecord, client: u32, command: u64) -> bool {
     fulls.any(|l| l.client == client && l.command == command)
 }
 
-// The number of answers to a command, in the history and beside it.
-fn answers_to(told: &LifeRecord, client: u32, command: u64) -> usize {
-    let entries = told.journal.as_slice().iter();
-    let reads = told.reads.as_slice().iter();
-    entries
-        .filter(|l| l.client == client && l.command == command && l.reply.is_some())
-        .count()
-        .saturating_add(
-            reads
-                .filter(|l| l.client == client && l.command == command)
-                .count(),
-        )
+// The number of a client's answers, where they are to its commands from 1 on, one to each.
+fn answered_in_turn(client: u32, answers: &[Answer]) -> Option<u64> {
+    let mut answered = 0u64;
+    for answer in answers {
+        if answer.client == client {
+            answered = answered.saturating_add(1);
+            if answer.command != answered {
+                return None;
+            }
+        }
+    }
+    Some(answered)
 }
 
 // Each of a client's commands up to a number has exactly one answer, and no other command has a line but for the next one, in which the
 // client was stopped or gave up. Else the client has no more commands.
-fn has_ended(life: &Life, told: &LifeRecord, client: u32) -> bool {
-    let mut answered = 0u64;
-    for line in told.journal.as_slice() {
-        if line.client == client && line.reply.is_some() {
-            answered = answered.saturating_add(1);
-        }
-    }
-    for line in told.reads.as_slice() {
-        if line.client == client {
-            answered = answered.saturating_add(1);
-        }
-    }
+fn has_ended(commands: u64, told: &LifeRecord, client: u32, answers: &[Answer]) -> bool {
+    let Some(answered) = answered_in_turn(client, answers) else {
+        return false;
+    };
     let next = answered.saturating_add(1);
-    for command in 1..next {
-        if answers_to(told, client, command) != 1 {
-            return false;
-        }
-    }
     for line in told.journal.as_slice() {
         let is_next = line.command == next && line.reply.is_none() && has_stop(told, client, next);
         let is_answered = line.command <= answered && line.reply.is_some();
@@ -184,20 +174,18 @@ fn has_ended(life: &Life, told: &LifeRecord, client: u32) -> bool {
             return false;
         }
     }
-    answered == own_count(life, client)
-        || has_stop(told, client, next)
-        || has_full(told, client, next)
+    answered == commands || has_stop(told, client, next) || has_full(told, client, next)
 }
 
-fn stops_are_legal(life: &Life, told: &LifeRecord) -> bool {
+fn stops_are_legal(own: &[Vec<&Op>], life: &Life, told: &LifeRecord) -> bool {
     let mut stops = told.stops.as_slice().iter();
     let mut fulls = told.fulls.as_slice().iter();
-    stops.all(|line| is_legal_stop(life, told, line))
-        && fulls.all(|line| is_legal_full(life, told, line))
+    stops.all(|line| is_legal_stop(own, life, told, line))
+        && fulls.all(|line| is_legal_full(own, told, line))
 }
 
 // A client was stopped in a command of its own, at the limit of its cut; and the line says kept where the command's entry is kept.
-fn is_legal_stop(life: &Life, told: &LifeRecord, line: &StopLine) -> bool {
+fn is_legal_stop(own: &[Vec<&Op>], life: &Life, told: &LifeRecord, line: &StopLine) -> bool {
     let mut cuts = life.cuts.as_slice().iter();
     let mut entries = told.journal.as_slice().iter();
     let end = told.from.saturating_add(told.kept);
@@ -205,7 +193,7 @@ fn is_legal_stop(life: &Life, told: &LifeRecord, line: &StopLine) -> bool {
     let is_entry_kept = entries.any(|l| l.client == line.client
         && l.command == line.command
         && l.ticket < end);
-    has_op(life, line.client, line.command)
+    has_op(own, line.client, line.command)
         && is_at_cut
         && line.steps < u64::MAX
         && line.kept == is_entry_kept
@@ -213,12 +201,12 @@ fn is_legal_stop(life: &Life, told: &LifeRecord, line: &StopLine) -> bool {
 
 // A client gave up in a command of its own. Another, which was stopped, needs a ticket at or below the one named, and 16 of the
 // client's entries are answered from that one on, which is answered too.
-fn is_legal_full(life: &Life, told: &LifeRecord, line: &FullLine) -> bool {
+fn is_legal_full(own: &[Vec<&Op>], told: &LifeRecord, line: &FullLine) -> bool {
     let entries = told.journal.as_slice();
     let is_from = |l: &JournalLine| -> bool {
         l.client == line.client && l.reply.is_some() && l.ticket >= line.note.ticket
     };
-    has_op(life, line.client, line.command)
+    has_op(own, line.client, line.command)
         && line.note.holder != line.client
         && told
             .stops
@@ -241,6 +229,7 @@ struct Answer {
     next: u64,
 }
 
+// The answers by client and command.
 fn answers_of(alloc: Global, told: &LifeRecord) -> Result<Vec<Answer>, AllocError> {
     let mut answers = Vec::new(alloc);
     for line in told.journal.as_slice() {
@@ -261,27 +250,26 @@ fn answers_of(alloc: Global, told: &LifeRecord) -> Result<Vec<Answer>, AllocErro
             next: line.place,
         })?;
     }
+    answers.sort_unstable_by_key(|answer: &Answer| (answer.client, answer.command));
     Ok(answers)
 }
 
 // No answer to a client lies below what the client was told before.
-fn is_in_turn(alloc: Global, told: &LifeRecord) -> Result<bool, AllocError> {
-    let answers = answers_of(alloc, told)?;
-    for a in &answers {
-        for b in &answers {
-            if a.client == b.client && a.command < b.command && a.next > b.at {
-                return Ok(false);
-            }
+fn is_in_turn(answers: &[Answer]) -> bool {
+    let mut last: Option<&Answer> = None;
+    for answer in answers {
+        if last.is_some_and(|last| last.client == answer.client && last.next > answer.at) {
+            return false;
         }
+        last = Some(answer);
     }
-    Ok(true)
+    true
 }
 
 // What is kept is a front of the history that holds each answer.
-fn is_kept(alloc: Global, told: &LifeRecord) -> Result<bool, AllocError> {
+fn is_kept(told: &LifeRecord, answers: &[Answer]) -> bool {
     let end = told.from.saturating_add(told.kept);
-    let answers = answers_of(alloc, told)?;
-    Ok(told.kept <= told.journal.len() as u64 && answers.iter().all(|a| a.next <= end))
+    told.kept <= told.journal.len() as u64 && answers.iter().all(|a| a.next <= end)
 }
 
 // The store after these operations.
@@ -296,11 +284,11 @@ fn store_after(alloc: Global, lines: u64, past: &[&Op]) -> Result<Pairs, AllocEr
 // Puts the operations of the entries that are kept behind those before.
 fn push_kept<'a>(
     past: &mut Vec<&'a Op>,
-    life: &'a Life,
+    own: &[Vec<&'a Op>],
     told: &LifeRecord,
 ) -> Result<(), AllocError> {
     for line in told.journal.as_slice().iter().take(told.kept as usize) {
-        if let Some(op) = op_of(life, line.client, line.command) {
+        if let Some(op) = op_of(own, line.client, line.command) {
             past.push(op)?;
         }
     }
@@ -312,14 +300,15 @@ fn replies_are_the_stores(
     alloc: Global,
     lines: u64,
     past: &[&Op],
-    life: &Life,
+    own: &[Vec<&Op>],
     told: &LifeRecord,
 ) -> Result<bool, AllocError> {
+    let reads = reads_by_place(alloc, told)?;
     let mut store = store_after(alloc, lines, past)?;
     let mut place = told.from;
-    let mut reads = reads_at(alloc, lines, life, told, &mut store, place)?;
+    let mut seen = reads_seen(alloc, lines, own, &reads, 0, &mut store, place)?;
     for line in told.journal.as_slice() {
-        let Some(op) = op_of(life, line.client, line.command) else {
+        let Some(op) = op_of(own, line.client, line.command) else {
             return Ok(false);
         };
         let reply = store.step(alloc, lines, op)?;
@@ -329,32 +318,46 @@ fn replies_are_the_stores(
             }
         }
         place = place.saturating_add(1);
-        reads = reads.saturating_add(reads_at(alloc, lines, life, told, &mut store, place)?);
+        seen = reads_seen(alloc, lines, own, &reads, seen, &mut store, place)?;
     }
-    Ok(reads == told.reads.len())
+    Ok(seen == reads.len())
 }
 
-// The number of reads at this place that have the reply of the store.
-fn reads_at(
+fn reads_by_place(alloc: Global, told: &LifeRecord) -> Result<Vec<&ReadLine>, AllocError> {
+    let mut reads = Vec::new(alloc);
+    for line in told.reads.as_slice() {
+        reads.push(line)?;
+    }
+    reads.sort_unstable_by_key(|line: &&ReadLine| line.place);
+    Ok(reads)
+}
+
+// How many reads were seen: so many before, and those behind them that are at this place and have the reply of the store.
+fn reads_seen(
     alloc: Global,
     lines: u64,
-    life: &Life,
-    told: &LifeRecord,
+    own: &[Vec<&Op>],
+    reads: &[&ReadLine],
+    before: usize,
     store: &mut Pairs,
     place: u64,
 ) -> Result<usize, AllocError> {
-    let mut count = 0usize;
-    for line in told.reads.as_slice() {
-        if let Some(op) = op_of(life, line.client, line.command) {
-            if line.place == place && op.only_reads() {
-                let reply = store.step(alloc, lines, op)?;
-                if is_same(&line.reply, &reply) {
-                    count = count.saturating_add(1);
-                }
-            }
+    let mut seen = before;
+    for at in before..reads.len() {
+        let line = reads[at];
+        let Some(op) = op_of(own, line.client, line.command) else {
+            break;
+        };
+        if line.place != place || !op.only_reads() {
+            break;
         }
+        let reply = store.step(alloc, lines, op)?;
+        if !is_same(&line.reply, &reply) {
+            break;
+        }
+        seen = seen.saturating_add(1);
     }
-    Ok(count)
+    Ok(seen)
 }
 
 fn is_same(one: &Reply, other: &Reply) -> bool {

@@ -1,5 +1,5 @@
-//! A client is stopped in an update, maybe while it needs the other's entries, and the other makes so many that its cells are given again,
-//! or gives up.
+//! A client is stopped in an update, maybe while it needs the others' entries, and two others make so many that their cells are given again,
+//! or give up.
 
 use crate::runs::lived;
 use cx_base::OpenGate;
@@ -13,19 +13,19 @@ const STEPS: u64 = 1200;
 
 const APART: usize = 7;
 
-// The script: client 1 is stopped in its update after so many steps, beside 48 updates of client 0, and the next life reads what was left.
+// The script: client 1 is stopped in its update after so many steps, beside 48 updates of each other, and the next life reads what was left.
 fn script(alloc: Global, steps: u64) -> Result<String, AllocError> {
-    let mut text = format!(in alloc; "lines 64\nlife 2 power 1\ncut 1 {steps}\n1 put a 1\n")?;
+    let mut text = format!(in alloc; "lines 64\nlife 3 power 1\ncut 1 {steps}\n1 put a 1\n")?;
     for number in 0..48u32 {
-        let row = format!(in alloc; "0 put b {number}\n")?;
+        let row = format!(in alloc; "0 put b {number}\n2 put c {number}\n")?;
         text.push_str(&row)?;
     }
-    text.push_str("life 1 power 0\n0 get a\n0 get b\n")?;
+    text.push_str("life 1 power 0\n0 get a\n0 get b\n0 get c\n")?;
     Ok(text)
 }
 
-// What came of it: how often the other gave up, and the first number of steps with which the lives are not legal, or with which the other
-// is not answered and did not give up, with the report.
+// What came of it: how often another gave up, and the first number of steps with which the lives are not legal, or with which not each
+// other is answered though none gave up, with the report.
 #[derive(Debug, Drop)]
 struct Tried {
     gave_up: usize,
@@ -36,8 +36,9 @@ fn all_tried<R: Threads + Wait + Sync>(rt: &R, alloc: Global) -> Result<Tried, A
     let mut gave_up = 0usize;
     for steps in (0..STEPS).step_by(APART) {
         let got = lived(rt, alloc, &script(alloc, steps)?, &OpenGate)?;
-        let all = got.text().contains("get b = 47\n");
-        if !got.legal || all != (got.gave_up == 0) || got.gave_up > got.stopped {
+        let text = got.text();
+        let all = text.contains("get b = 47\n") && text.contains("get c = 47\n");
+        if !got.legal || all != (got.gave_up == 0) || got.stopped == 0 && got.gave_up > 0 {
             let report = String::from_str(alloc, got.text())?;
             return Ok(Tried {
                 gave_up,
@@ -53,7 +54,7 @@ fn all_tried<R: Threads + Wait + Sync>(rt: &R, alloc: Global) -> Result<Tried, A
 }
 
 #[test]
-fn another_gives_up_where_a_stopped_client_keeps_its_cells(rt: HostRuntime) -> Result<(), Fail> {
+fn others_give_up_where_a_stopped_client_keeps_their_cells(rt: HostRuntime) -> Result<(), Fail> {
     let tried = all_tried(&rt, rt.alloc())?;
     assert!(rt; tried.fault.is_none() && tried.gave_up > 0, "{tried:?}");
     Ok(())

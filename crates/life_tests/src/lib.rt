@@ -4,11 +4,15 @@
 #[cfg(test)]
 mod checker;
 #[cfg(test)]
+mod checker_rows;
+#[cfg(test)]
 mod cut_beside;
 #[cfg(test)]
 mod cut_holders;
 #[cfg(test)]
 mod cut_updates;
+#[cfg(test)]
+mod long_life;
 #[cfg(test)]
 mod many_clients;
 #[cfg(test)]

@@ -1,4 +1,4 @@
-//! Scripts that a generator writes: up to five lives of up to eight clients, some of which are stopped.
+//! Scripts that a generator writes: up to five lives of up to eight clients with up to 200 commands each, some of which are stopped.
 
 use crate::numbers::Numbers;
 use crate::runs::lived;
@@ -43,8 +43,8 @@ fn push_long(alloc: Global, text: &mut String, client: u64, key: &str) -> Result
     text.push_str("\"\n")
 }
 
-// The line of a command.
-fn push_command(
+/// Writes the line of a command.
+pub(crate) fn push_command(
     alloc: Global,
     text: &mut String,
     numbers: &mut Numbers,
@@ -67,17 +67,23 @@ fn push_command(
 // The lines of a life.
 fn push_life(alloc: Global, text: &mut String, numbers: &mut Numbers) -> Result<(), AllocError> {
     let clients = numbers.below(8).saturating_add(1);
+    // in every fourth life cells are given again
+    let commands = if numbers.below(4) == 0 { 200 } else { 16u64 };
     let row = format!(in alloc; "life {clients} power {}\n", numbers.one_of(&CHOICES))?;
     text.push_str(&row)?;
     for client in 0..clients {
         if numbers.below(3) == 0 {
-            let most = if numbers.below(2) == 0 { 200 } else { 6000 };
+            let most = match numbers.below(3) {
+                0 => 200,
+                1 => 6000,
+                _ => 60_000,
+            };
             let row = format!(in alloc; "cut {client} {}\n", numbers.below(most))?;
             text.push_str(&row)?;
         }
     }
     for client in 0..clients {
-        for _ in 0..numbers.below(17) {
+        for _ in 0..numbers.below(commands.saturating_add(1)) {
             push_command(alloc, text, numbers, client)?;
         }
     }
