@@ -217,7 +217,7 @@ def options_of(words):
     parser.add_argument("--ms", type=int, default=100)
     parser.add_argument("--threads", type=numbers, default=[1, 2, 4])
     parser.add_argument("--reads", type=numbers, default=[0, 50, 90, 99, 100])
-    parser.add_argument("--sizes", type=pairs, default=[(1024, 100), (16384, 100), (16384, 1000)])
+    parser.add_argument("--sizes", type=pairs, default=[(1024, 100), (1024, 1000), (16384, 100), (16384, 1000)])
     return parser.parse_args(words)
 
 
