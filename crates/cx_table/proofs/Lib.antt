@@ -1,3 +1,4 @@
 mod Handing
 mod Marking
 mod Closing
+mod Runs

@@ -9,3 +9,4 @@ pub use Rattle.cx_rule.specs.Fitting
 pub mod Right
 pub mod Tokens
 pub mod Remains
+pub mod Runs

@@ -11,6 +11,7 @@ mod region_steps;
 mod remains;
 mod ring_steps;
 mod root_steps;
+mod run_steps;
 mod seat;
 mod shared;
 mod steps;

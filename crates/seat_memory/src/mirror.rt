@@ -1,6 +1,6 @@
 //! The numbers of a local state that code reads, and how each kind of step changes them.
 
-ghost use Rattle.std.specs.Prelude.{◌≡◌, ◌+◌, ◌*◌, ◌^◌, ◌<◌, ◌≤◌, ℕ, MatchResult, false, length, max, slice_index, slice_index_or, Some, None};
+ghost use Rattle.std.specs.Prelude.{◌≡◌, ◌+◌, ◌*◌, ◌^◌, ◌<◌, ◌≤◌, ℕ, IsTrue, MatchResult, false, length, max, slice_index, slice_index_or, Some, None};
 ghost use Rattle.cx_core.specs.QueueEvents.{linked, lost, raised_front, seen_word};
 ghost use Rattle.cx_base.specs.Codes.{root_place_of};
 ghost use Rattle.cx_core.specs.declared.local.HeldDowngraded.{HeldDowngraded};
@@ -127,6 +127,20 @@ impl Mirror {
             return Err(Halt);
         }
         Ok(())
+    }
+
+    /// Counts so many steps, each of which changes no other number, and answers whether the limit leaves them: if not, none is counted.
+    pub fn count(&mut self, count: u64) -> bool
+        ensures counted { IsTrue result → self.new ≡ record self.old { steps = self.old.steps + count } }
+        ensures within { IsTrue result → self.old.steps + count ≤ self.old.limit }
+        ensures small { IsTrue result → self.old.steps + count < 2 ^ 64 }
+        ensures none { result ≡ false → self.new ≡ self.old }
+    {
+        if self.steps > self.limit || count > self.limit - self.steps {
+            return false;
+        }
+        self.steps += count;
+        true
     }
 
     /// A word was written into cell `j`.

@@ -1,0 +1,30 @@
+-- Steps that are made by one call, one behind another: each is as its own call would tell it.
+use Rattle.std.specs.Prelude.{false, ◌≡◌, ◌+◌, ℕ, Bool, List, [], ◌∷◌, ◌++◌, length}
+use Rattle.atomic_table.specs.Table.{Me}
+use Rattle.cx_core.specs.declared.kinds.Kind.{Kind}
+use Rattle.cx_core.specs.declared.kinds.Kind.TheVariants.{LoadWord, ReadCell}
+use Rattle.cx_core.specs.State.{Instance}
+use Rattle.cx_rule.specs.declared.rule.Known.{Known}
+use Rattle.cx_rule.specs.Fitting.{Fitting}
+use Rattle.cx_rule.specs.Running.{Running}
+use Rattle.cx_rule.specs.Seats.{Seated, known_of}
+use Rattle.cx_rule.specs.Steps.{Steps, Teaches}
+
+-- the kinds of the loads of a replica's words, and of a cell's
+abbrev pub loads_from : ℕ → ℕ → ℕ → Kind
+loads_from r from i = LoadWord r (from + i) false
+
+abbrev pub reads_of : ℕ → ℕ → ℕ → Kind
+reads_of t k i = ReadCell t k i
+
+-- Steps of these kinds found these words, in order, and lead from one seat to another. After each of them some pair fits what is noted.
+pub data Runs {O : Type 0} (r : Running O) (step : O → List ℕ → List ℕ → List ℕ × List ℕ) (reads : O → List ℕ → Bool) (lawful : List ℕ → Type 0) (kinds : ℕ → Kind) : List ℕ → Seated → Seated → Type 0 where
+  no_step : (words : List ℕ) (before after : Seated) → words ≡ [] → after ≡ before → Runs r step reads lawful kinds words before after
+  one_more_step : (words : List ℕ) (before after : Seated) (first : List ℕ) (found : ℕ) (mid : Seated) → words ≡ first ++ found ∷ [] → Runs r step reads lawful kinds first before mid → Steps r step reads (kinds (length first)) found mid after →
+      Fitting r.lines lawful r.base after.known → Runs r step reads lawful kinds words before after
+
+-- they teach their caller's seat this
+pub data TeachesRun (instance : Instance) (kinds : ℕ → Kind) : List ℕ → Me ℕ (List Known) → Me ℕ (List Known) → Type 0 where
+  taught_none : (words : List ℕ) (before after : Me ℕ (List Known)) → words ≡ [] → after ≡ before → TeachesRun instance kinds words before after
+  taught_more : (words : List ℕ) (before after : Me ℕ (List Known)) (first : List ℕ) (found : ℕ) (mid : Me ℕ (List Known)) → words ≡ first ++ found ∷ [] → TeachesRun instance kinds first before mid → Teaches instance (kinds (length first)) (known_of mid.0) found after →
+      TeachesRun instance kinds words before after
