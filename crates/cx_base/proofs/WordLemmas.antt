@@ -1,7 +1,8 @@
 -- Words put over a list of words. What is known of words of 64 bits stands in the specs, since laws of objects cite it.
-use Rattle.std.proofs.Common.{◌≡◌, ◌≢◌, ◌+◌, ◌^◌, ◌<◌, ◌≤◌, ℕ, zero, suc, List, [], ◌∷◌, ◌++◌, length, take, slice_index, slice_set, refl, sym, ap, ◌∙◌, arith}
+use Rattle.std.proofs.Common.{◌≡◌, ◌≢◌, ◌+◌, ◌^◌, ◌<◌, ◌≤◌, ℕ, zero, suc, List, [], ◌∷◌, ◌++◌, ◌-◌, ◌⊎◌, inl, inr, length, take, drop, slice_index, slice_set, refl, sym, ap, ◌∙◌, arith}
 use Rattle.std.specs.List.{All}
-use Rattle.std.proofs.lemmas.List.{length-set, take_more, length-take-le, get_or-set_same, get_or-set_other}
+use Rattle.std.proofs.lemmas.List.{length-set, take_all, take-append-drop, take_more, length-take-le, get_or-set_same, get_or-set_other}
+use Rattle.std.proofs.Math.Seq.{take-append-add}
 use Rattle.std.proofs.lemmas.List.Elements.{All-head, All-tail}
 use Rattle.cx_base.specs.Memory.{Words, overwritten}
 pub use Rattle.cx_base.specs.WordLaws.{Words-set, Words-at, Words-then_zeros}
@@ -31,6 +32,37 @@ overwritten_next vs before ws at i below e =
     ap (λ xs. slice_set xs (at + i) (slice_index vs i)) e
     ∙ sym (overwritten_more (take i vs) before at i (slice_index vs i) (length-take-le i vs (omega arith)))
     ∙ ap (λ xs. overwritten at xs before) (sym (take_more vs i 0 below))
+
+-- words put behind others
+pub overwritten_then : (xs ys ws : List ℕ) (at : ℕ) → overwritten at (xs ++ ys) ws ≡ overwritten (at + length xs) ys (overwritten at xs ws)
+unfolding overwritten
+overwritten_then [] ys ws at = ap (λ n. overwritten n ys ws) (omega arith)
+overwritten_then (x ∷ xs) ys ws at = overwritten_then xs ys (slice_set ws at x) (at + 1) ∙ ap (λ n. overwritten n ys (overwritten (at + 1) xs (slice_set ws at x))) (omega arith)
+
+-- the first words, and those behind them up to an end that is that of all words or comes before it
+take_slice : (ws : List ℕ) (from to n : ℕ) → from ≤ to → from ≤ length ws → (to ≡ n) ⊎ ((to ≡ length ws) × (length ws ≤ n)) → take n ws ≡ take from ws ++ take (to - from) (drop from ws)
+take_slice ws from to n less within ends =
+    let xs = take from ws in
+    let ys = drop from ws in
+    let long : length xs ≡ from = length-take-le from ws within in
+    let sum : to ≡ length xs + (to - from) = omega (arith, long) in
+    let cut : take n ws ≡ take to ws = elim ends [
+      | inl same ↦ ap (λ k. take k ws) (sym same)
+      | inr past ↦ take_all n ws past.1 ∙ sym (take_all to ws (omega (arith, past.0)))
+    ] in
+    cut ∙ ap (λ k. take k ws) sum ∙ ap (λ zs. take (length xs + (to - from)) zs) (sym (take-append-drop from ws)) ∙ take-append-add xs ys (to - from)
+
+-- the next words put of those to put
+pub overwritten_slice : (vs before ws after : List ℕ) (at from to n : ℕ) → from ≤ to → from ≤ length vs → (to ≡ n) ⊎ ((to ≡ length vs) × (length vs ≤ n)) → ws ≡ overwritten at (take from vs) before → after ≡ overwritten (at + from) (take (to - from) (drop from vs)) ws →
+    after ≡ overwritten at (take n vs) before
+overwritten_slice vs before ws after at from to n less within ends was is =
+    let xs = take from vs in
+    let ys = take (to - from) (drop from vs) in
+    is
+    ∙ ap (λ ws. overwritten (at + from) ys ws) was
+    ∙ ap (λ k. overwritten (at + k) ys (overwritten at xs before)) (sym (length-take-le from vs within))
+    ∙ sym (overwritten_then xs ys before at)
+    ∙ ap (λ zs. overwritten at zs before) (sym (take_slice vs from to n less within ends))
 
 -- words put among words
 pub Words-overwritten : (n : ℕ) (vs ws : List ℕ) (at : ℕ) → All (λ x. x < 2 ^ 64) vs → Words n ws → Words n (overwritten at vs ws)

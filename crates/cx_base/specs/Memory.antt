@@ -43,6 +43,10 @@ pub record Framed {Memory Fixed : Type 0} (size : Memory → ℕ) (fixed : Memor
   pub writable_kept : writable new ≡ writable old
   pub limited : is_some (left new) ≡ is_some (left old)
 
+-- these words stand from a place on
+abbrev pub AreAt : ℕ → List ℕ → List ℕ → Type 0
+AreAt at words now = (i : ℕ) → i < length words → slice_index now (at + i) ≡ slice_index words i
+
 -- words put over those from a place on
 unfoldable pub overwritten : ℕ → List ℕ → List ℕ → List ℕ
 overwritten at [] words = words

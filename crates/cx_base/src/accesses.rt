@@ -1,9 +1,12 @@
 //! Accesses for whoever writes an object: several words at once, only words that differ, and a word below a bound.
 
 ghost use Rattle.std.specs.Prelude.{◌≡◌, ◌+◌, ◌^◌, ◌<◌, ◌≤◌, Some, length, slice_index, slice_set, IsTrue, IfOk, OnOk, OnErr};
-ghost use Rattle.cx_base.specs.Memory.{Loaded, Becomes, Framed, Always, overwritten};
+ghost use Rattle.cx_base.specs.Memory.{AreAt, Loaded, Becomes, Framed, Always, overwritten};
 
 use crate::memory::{Halt, Memory};
+
+/// How many words are loaded at once where those that differ are stored: a third of a reply.
+const FEW: usize = 48;
 
 /// Puts words over those from a place on, and stores only those that differ. `Halt` comes only where no access is left, and then
 /// only the first of the words are there.
@@ -15,8 +18,48 @@ pub fn store_words<M: Memory>(mem: &mut M, at: u64, words: &[u64]) -> Result<(),
     ensures halts { OnErr result (M.left mem.new ≡ Some 0) }
     ensures framed { Framed M.size M.fixed M.writable M.left mem.old mem.new }
 {
+    for turn in 0..words.len().div_ceil(FEW) {
+        let from = FEW * turn;
+        let to = words.len().min(from + FEW);
+        store_few(mem, at + from as u64, &words[from..to])?;
+    }
+    Ok(())
+}
+
+/// The same for a few words, which are loaded at once.
+fn store_few<M: Memory>(mem: &mut M, at: u64, words: &[u64]) -> Result<(), Halt>
+    requires few { length words.now ≤ 48 }
+    requires within { at + length words.now ≤ M.size mem.old }
+    requires small { at + length words.now < 2 ^ 64 }
+    requires writable { IsTrue (M.writable mem.old) }
+    ensures done { OnOk result (Becomes (M.stands mem.old) (M.stands mem.new) (λ before now. now ≡ overwritten at words.now before)) }
+    ensures halts { OnErr result (M.left mem.new ≡ Some 0) }
+    ensures framed { Framed M.size M.fixed M.writable M.left mem.old mem.new }
+{
+    let mut there = [0; FEW];
+    let there = &mut there[..words.len()];
+    mem.load_words(at, there)?;
+    store_differing(mem, at, words, there)
+}
+
+/// Puts words over those from a place on, which are known, and stores only those that differ.
+fn store_differing<M: Memory>(
+    mem: &mut M,
+    at: u64,
+    words: &[u64],
+    there: &[u64],
+) -> Result<(), Halt>
+    requires within { at + length words.now ≤ M.size mem.old }
+    requires small { at + length words.now < 2 ^ 64 }
+    requires writable { IsTrue (M.writable mem.old) }
+    requires long { length there.now ≡ length words.now }
+    requires known { Always (M.stands mem.old) (AreAt at there.now) }
+    ensures done { OnOk result (Becomes (M.stands mem.old) (M.stands mem.new) (λ before now. now ≡ overwritten at words.now before)) }
+    ensures halts { OnErr result (M.left mem.new ≡ Some 0) }
+    ensures framed { Framed M.size M.fixed M.writable M.left mem.old mem.new }
+{
     for i in 0..words.len() {
-        store_word(mem, at + i as u64, words[i])?;
+        store_over(mem, at + i as u64, there[i], words[i])?;
     }
     Ok(())
 }
@@ -30,7 +73,20 @@ pub fn store_word<M: Memory>(mem: &mut M, at: u64, v: u64) -> Result<(), Halt>
     ensures halts { OnErr result (M.left mem.new ≡ Some 0) }
     ensures framed { Framed M.size M.fixed M.writable M.left mem.old mem.new }
 {
-    if mem.load(at)? != v {
+    let there = mem.load(at)?;
+    store_over(mem, at, there, v)
+}
+
+/// Puts a word at a place where this one is known to be, and stores it only where it differs.
+fn store_over<M: Memory>(mem: &mut M, at: u64, there: u64, v: u64) -> Result<(), Halt>
+    requires within { at < M.size mem.old }
+    requires writable { IsTrue (M.writable mem.old) }
+    requires known { Always (M.stands mem.old) (λ now. slice_index now at ≡ there) }
+    ensures done { OnOk result (Becomes (M.stands mem.old) (M.stands mem.new) (λ before now. now ≡ slice_set before at v)) }
+    ensures halts { OnErr result (M.left mem.new ≡ Some 0) }
+    ensures framed { Framed M.size M.fixed M.writable M.left mem.old mem.new }
+{
+    if there != v {
         mem.store(at, v)?;
     }
     Ok(())

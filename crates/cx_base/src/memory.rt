@@ -1,7 +1,7 @@
 //! Memories of words, of which a caller may know only a part.
 
-ghost use Rattle.std.specs.Prelude.{◌≡◌, ◌^◌, ◌<◌, ◌↔◌, ℕ, Bool, true, List, Option, Some, All, length, slice_index, slice_set, IsTrue, IsErr, OnErr, IfOk};
-ghost use Rattle.cx_base.specs.Memory.{Words, Same, Loaded, Stored, Known, one_less, words_from_known};
+ghost use Rattle.std.specs.Prelude.{◌≡◌, ◌+◌, ◌^◌, ◌<◌, ◌≤◌, ◌↔◌, ℕ, Bool, true, List, Option, Some, All, length, slice_index, slice_set, IsTrue, IsErr, OnErr, OnOk, IfOk};
+ghost use Rattle.cx_base.specs.Memory.{Words, Same, Loaded, Stored, AreAt, Becomes, Reads, Framed, Known, one_less, words_from_known};
 
 /// A step that the step limit refused.
 #[derive(Clone, Copy, Debug, PartialEq, Eq)]
@@ -40,6 +40,22 @@ pub trait Memory {
         ensures size { size self.new ≡ size self.old }
         ensures writable { writable self.new ≡ writable self.old }
         ensures stands { IfOk result (λ v. Loaded at v (stands self.old) (stands self.new)) };
+
+    /// Gives the words from a place on, each by one access. `Halt` comes only where no access is left.
+    fn load_words(&mut self, at: u64, into: &mut [u64]) -> Result<(), Halt>
+        requires within { at + length into.old ≤ size self.old }
+        requires small { at + length into.old < 2 ^ 64 }
+        ensures read { OnOk result (Reads (stands self.old) (stands self.new) (AreAt at into.new)) }
+        ensures unchanged { Becomes (stands self.old) (stands self.new) ◌≡◌ }
+        ensures halts { OnErr result (left self.new ≡ Some 0) }
+        ensures framed { Framed size fixed writable left self.old self.new }
+        ensures length { length into.new ≡ length into.old }
+    {
+        for i in 0..into.len() {
+            into[i] = self.load(at + i as u64)?;
+        }
+        Ok(())
+    }
 
     /// Puts a word at a place. `Halt` comes exactly where no access is left, and then nothing changes.
     fn store(&mut self, at: u64, v: u64) -> Result<(), Halt>
