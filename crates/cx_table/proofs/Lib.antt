@@ -1,4 +1,4 @@
 mod Handing
 mod Marking
 mod Closing
-mod Runs
+pub mod Runs

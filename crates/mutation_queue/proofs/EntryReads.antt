@@ -1,5 +1,5 @@
 -- Reading the words of an entry, one step each.
-use Rattle.std.proofs.Common.{◌≡◌, ◌+◌, ◌/◌, ◌^◌, ◌<◌, ◌≤◌, ℕ, zero, suc, List, [], ◌∷◌, ◌++◌, length, slice_get, slice_index, take, set, refl, sym, ap, subst, ◌∙◌, arith, append-nil, add-one, zero-add, inr, Some}
+use Rattle.std.proofs.Common.{◌≡◌, ◌+◌, ◌/◌, ◌^◌, ◌<◌, ◌≤◌, ℕ, zero, suc, Bool, List, [], ◌∷◌, ◌++◌, length, slice_get, slice_index, refl, sym, ap, subst, ◌∙◌, arith, append-nil, zero-add, inr, Some}
 use Rattle.std.proofs.lemmas.List.{append_assoc, length-append}
 use Rattle.cx_core.specs.declared.entry.Base.{Base}
 use Rattle.cx_core.specs.declared.entry.Entry.{Entry}
@@ -10,6 +10,8 @@ use Rattle.cx_core.specs.Layout.{max_word}
 use borrow.Author.Count.{below_more}
 use Rattle.cx_rule.specs.declared.rule.Noted.{Noted}
 use Rattle.cx_rule.specs.Fitting.{Fitting, IsNoted}
+use Rattle.cx_table.specs.Running.{Running, instance_at}
+use Rattle.cx_table.specs.Runs.{Runs, no_step, one_more_step, reads_of}
 use Rattle.cx_table.specs.Seats.{IsAtLimit, Seated, stepped}
 use Rattle.mutation_queue.specs.Entries.{EndsAfter, HaltsAmong, HaltsReading, Looked, NotesEntry, ReadsEntry, notes_of, steps_after, with_look, with_read}
 
@@ -64,15 +66,6 @@ read_one instance ticket cell ws v i s now after is at step =
     ∙ ap (with_steps s (one_more (steps_after (length ws) s.known.local.steps))) (append_assoc s.known.noted (notes_of c ticket 0 ws) (note c ticket (0 + length ws) v ∷ []) ∙ ap (λ ns. s.known.noted ++ ns) (sym (notes_more c ticket 0 ws v)))
     ∙ ap (λ k. with_steps s k (s.known.noted ++ notes_of c ticket 0 (ws ++ v ∷ []))) (sym (ap (λ k. steps_after k s.known.local.steps) long))
 
--- one more of the words is in its place
-take_set_at : (ws : List ℕ) (i v : ℕ) → i < length ws → take (suc i) (set ws i v) ≡ take i ws ++ v ∷ []
-take_set_at [] i v below = absurd (omega arith)
-take_set_at (w ∷ ws) zero v below = refl
-take_set_at (w ∷ ws) (suc i) v below = ap (λ xs. w ∷ xs) (take_set_at ws i v (omega arith))
-
-pub take_set : (ws : List ℕ) (i v : ℕ) → i < length ws → take (i + 1) (set ws i v) ≡ take i ws ++ v ∷ []
-take_set ws i v below = ap (λ k. take k (set ws i v)) (add-one i) ∙ take_set_at ws i v below
-
 -- the limit was come to among the words
 pub halts_among : (caller ticket : ℕ) (ws : List ℕ) (s now after : Seated) → length ws < 145 → now ≡ with_read caller ticket ws s → after ≡ now → IsAtLimit now.known.local → HaltsAmong caller ticket s after
 halts_among caller ticket ws s now after fewer is same limit = record {
@@ -92,6 +85,23 @@ pub none_ends : (caller ticket : ℕ) (ws : List ℕ) (i : ℕ) (s now : Seated)
 none_ends caller ticket ws i s now is at before here =
     below_more (λ n. EndsAfter n s.known.local → ⊥) i before
     (λ e. here (subst (λ (x : Seated). IsAtLimit x.known.local) (sym is) (at_end (length ws) s.known.local (subst (λ n. EndsAfter n s.known.local) at e))))
+
+-- what a run of reads leads to
+pub run_read : {O : Type 0} (r : Running O) (step : O → List ℕ → List ℕ → List ℕ × List ℕ) (reads : O → List ℕ → Bool) (lawful : List ℕ → Type 0) (ticket cell : ℕ) (words : List ℕ) (before after : Seated) → Runs r step reads lawful (reads_of ticket cell) words before after →
+    (after ≡ with_read (cell / 16) ticket words before) × ((n : ℕ) → n < length words → EndsAfter n before.known.local → ⊥) × (0 < length words → Fitting r.lines lawful r.base after.known)
+run_read r step reads lawful ticket cell words before after (no_step _ _ _ nothing same) =
+    let long : length words ≡ 0 = ap length nothing in (
+      same ∙ none_read (cell / 16) ticket before ∙ ap (λ (ws : List ℕ). with_read (cell / 16) ticket ws before) (sym nothing),
+      λ n below e. absurd (omega (arith, long)),
+      λ some. absurd (omega (arith, long)),
+    )
+run_read r step reads lawful ticket cell words before after (one_more_step _ _ _ first found mid longer run made fits) =
+    let was = run_read r step reads lawful ticket cell first before mid run in
+    let long : length words ≡ length first + 1 = ap length longer ∙ length-append first (found ∷ []) in (
+      read_one (instance_at r step reads) ticket cell first found (length first) before mid after was.0 refl made.made ∙ ap (λ (ws : List ℕ). with_read (cell / 16) ticket ws before) (sym longer),
+      λ n below e. none_ends (cell / 16) ticket first (length first) before mid was.0 refl was.1 made.allowed n (omega (arith, long, below)) e,
+      λ some. fits,
+    )
 
 -- ---- the entry
 

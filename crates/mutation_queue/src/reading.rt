@@ -75,6 +75,30 @@ fn read_words<O: Object>(
     ensures halted { OnErr result (HaltsAmong (cell / 16) ticket seat.old seat.new) }
     ensures seat { IsSeatOf shared.now seat.new }
 {
+    if shared.read_words(seat, ticket, cell, into) {
+        return Ok(());
+    }
+    read_each(shared, seat, ticket, cell, into)
+}
+
+/// The same by a call for each word, where the limit may leave fewer steps than there are words.
+fn read_each<O: Object>(
+    shared: &Shared<O>,
+    seat: &mut CallerSeat,
+    ticket: u64,
+    cell: u64,
+    into: &mut [u64; 145],
+) -> Result<(), Halt>
+    requires seat { IsSeatOf shared.now seat.old }
+    requires linked { ticket < seat.old.known.local.front }
+    requires shows { ShowsTicket shared.now.callers seat.old.known.local.seen_slot ticket cell }
+    requires protected { Protects ticket seat.old.known.local.protection }
+    ensures read { OnOk result (seat.new ≡ with_read (cell / 16) ticket into.new seat.old) }
+    ensures fits { OnOk result (Fitting shared.now.lines (O.lawful shared.now.object) shared.now.base seat.new.known) }
+    ensures within { OnOk result ((n : ℕ) → n < 145 → EndsAfter n seat.old.known.local → ⊥) }
+    ensures halted { OnErr result (HaltsAmong (cell / 16) ticket seat.old seat.new) }
+    ensures seat { IsSeatOf shared.now seat.new }
+{
     for i in 0..145 {
         into[i as usize] = shared.read_cell(seat, ticket, cell, i)?;
     }

@@ -2,7 +2,7 @@ use Rattle.std.proofs.Common.{◌≡◌, ◌<◌, ◌/◌, ℕ, length, take}
 use Rattle.cx_table.specs.Fitting.{Fitting}
 use Rattle.cx_table.specs.Running.{IsSeatOf}
 use Rattle.mutation_queue.specs.Entries.{EndsAfter, with_read}
-use Rattle.mutation_queue.proofs.reading.read_words.Given as goal
+use Rattle.mutation_queue.proofs.reading.read_each.Given as goal
 
 -- the words so far were read, and no step came to the limit
 abbrev pub invariant-loop-i : goal.invariant-loop-i
