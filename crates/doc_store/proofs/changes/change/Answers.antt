@@ -69,11 +69,11 @@ returns-in-1-clause-done g c =
     let doc = c.doc_in.result in
     let lines = c.args.lines in
     let kind : get_or op 0 0 ≡ 1 = omega arith in
-    IfOk-weaker c.put.result (λ reply. Becomes (g.M.Memory.stands c.args.mem.now) (g.M.Memory.stands c.put.new.mem)
-    (Exactly (λ ws. put_reply lines (store_in ws) (unpacked key.len key.words) (unpacked doc.len doc.words)) (with_document (unpacked key.len key.words) (unpacked doc.len doc.words)) reply)) _
-    (λ reply b. Becomes-weaker b (λ first x y s d o is. put_case lines x y reply o (sym (kind_at op o is) ∙ kind)
-    (subst (λ t. Exactly (λ ws. put_reply lines (store_in ws) (op_key o) t) (with_document (op_key o) t) reply x y) (document_read op o doc.len doc.words is c.doc_in.ensures.len c.doc_in.ensures.words)
-    (subst (λ k. Exactly (λ ws. put_reply lines (store_in ws) k (unpacked doc.len doc.words)) (with_document k (unpacked doc.len doc.words)) reply x y) (key_read op o key.len key.words is c.key_in-key.ensures.len c.key_in-key.ensures.words) d)))) c.put.ensures.done
+    IfOk-weaker c.put.result (λ _. Becomes (g.M.Memory.stands c.args.mem.now) (g.M.Memory.stands c.put.new.mem)
+    (Exactly (λ ws. put_reply lines (store_in ws) (unpacked key.len key.words) (unpacked doc.len doc.words)) (with_document (unpacked key.len key.words) (unpacked doc.len doc.words)) c.put.new.reply)) _
+    (λ _ b. Becomes-weaker b (λ first x y s d o is. put_case lines x y c.put.new.reply o (sym (kind_at op o is) ∙ kind)
+    (subst (λ t. Exactly (λ ws. put_reply lines (store_in ws) (op_key o) t) (with_document (op_key o) t) c.put.new.reply x y) (document_read op o doc.len doc.words is c.doc_in.ensures.len c.doc_in.ensures.words)
+    (subst (λ k. Exactly (λ ws. put_reply lines (store_in ws) k (unpacked doc.len doc.words)) (with_document k (unpacked doc.len doc.words)) c.put.new.reply x y) (key_read op o key.len key.words is c.key_in-key.ensures.len c.key_in-key.ensures.words) d)))) c.put.ensures.done
 
 pub returns-in-2-clause-done : goal.returns-in-2-clause-done
 returns-in-2-clause-done g c =
@@ -81,10 +81,10 @@ returns-in-2-clause-done g c =
     let key = c.key_in-key.result in
     let lines = c.args.lines in
     let kind : get_or op 0 0 ≡ 2 = omega arith in
-    IfOk-weaker c.delete.result (λ reply. Becomes (g.M.Memory.stands c.args.mem.now) (g.M.Memory.stands c.delete.new.mem)
-    (Exactly (λ ws. cond (is_some (document_at (unpacked key.len key.words) (store_in ws))) Deleted Absent) (with_key_removed (unpacked key.len key.words)) reply)) _
-    (λ reply b. Becomes-weaker b (λ first x y s d o is. delete_case lines x y reply o (sym (kind_at op o is) ∙ kind)
-    (subst (λ k. Exactly (λ ws. cond (is_some (document_at k (store_in ws))) Deleted Absent) (with_key_removed k) reply x y) (key_read op o key.len key.words is c.key_in-key.ensures.len c.key_in-key.ensures.words) d))) c.delete.ensures.done
+    IfOk-weaker c.delete.result (λ _. Becomes (g.M.Memory.stands c.args.mem.now) (g.M.Memory.stands c.delete.new.mem)
+    (Exactly (λ ws. cond (is_some (document_at (unpacked key.len key.words) (store_in ws))) Deleted Absent) (with_key_removed (unpacked key.len key.words)) c.delete.new.reply)) _
+    (λ _ b. Becomes-weaker b (λ first x y s d o is. delete_case lines x y c.delete.new.reply o (sym (kind_at op o is) ∙ kind)
+    (subst (λ k. Exactly (λ ws. cond (is_some (document_at k (store_in ws))) Deleted Absent) (with_key_removed k) c.delete.new.reply x y) (key_read op o key.len key.words is c.key_in-key.ensures.len c.key_in-key.ensures.words) d))) c.delete.ensures.done
 
 pub returns-in_default-clause-done : goal.returns-in_default-clause-done
 returns-in_default-clause-done g c =
@@ -99,7 +99,7 @@ returns-in_default-clause-done g c =
     let amount = passed c.cast_signed.result in
     let fits = subst (λ z. FitsSigned w64 z) (sym c.cast_signed.ensures) (read_sfits w64 (get_or op 3 0)) in
     let amount_is : amount ≡ cast_signed w64 (get_or op 3 0) = passed_is c.cast_signed.result fits ∙ c.cast_signed.ensures in
-    IfOk-weaker c.add.result (λ reply. Becomes (g.M.Memory.stands c.args.mem.now) (g.M.Memory.stands c.add.new.mem)
-    (Exactly (λ ws. add_reply lines (store_in ws) (unpacked key.len key.words) amount (number_at (unpacked key.len key.words) (store_in ws))) (λ ws. with_addition (unpacked key.len key.words) amount (number_at (unpacked key.len key.words) (store_in ws)) ws) reply)) _
-    (λ reply b. Becomes-weaker b (λ first x y s d o is. add_case lines x y reply o amount (sym (kind_at op o is) ∙ kind) is.amount (amount_is ∙ ap (λ n. cast_signed w64 n) (number_at_op op o is))
-    (subst (λ k. Exactly (λ ws. add_reply lines (store_in ws) k amount (number_at k (store_in ws))) (λ ws. with_addition k amount (number_at k (store_in ws)) ws) reply x y) (key_read op o key.len key.words is c.key_in-key.ensures.len c.key_in-key.ensures.words) d))) c.add.ensures.done
+    IfOk-weaker c.add.result (λ _. Becomes (g.M.Memory.stands c.args.mem.now) (g.M.Memory.stands c.add.new.mem)
+    (Exactly (λ ws. add_reply lines (store_in ws) (unpacked key.len key.words) amount (number_at (unpacked key.len key.words) (store_in ws))) (λ ws. with_addition (unpacked key.len key.words) amount (number_at (unpacked key.len key.words) (store_in ws)) ws) c.add.new.reply)) _
+    (λ _ b. Becomes-weaker b (λ first x y s d o is. add_case lines x y c.add.new.reply o amount (sym (kind_at op o is) ∙ kind) is.amount (amount_is ∙ ap (λ n. cast_signed w64 n) (number_at_op op o is))
+    (subst (λ k. Exactly (λ ws. add_reply lines (store_in ws) k amount (number_at k (store_in ws))) (λ ws. with_addition k amount (number_at k (store_in ws)) ws) c.add.new.reply x y) (key_read op o key.len key.words is c.key_in-key.ensures.len c.key_in-key.ensures.words) d))) c.add.ensures.done

@@ -13,7 +13,7 @@ returns-clause-done g c =
           let p = c.in_ok-inserted.ensures.exact.from first now s in (
             p.0,
             p.1,
-            put_runs c.args.lines p.0 now c.put_reply.result key document c.in_ok-inserted.inserted
+            put_runs c.args.lines p.0 now c.put_reply.new.reply key document c.in_ok-inserted.inserted
                 (lines_are p.0 (g.M.Memory.size m) c.args.lines (g.met.M.Memory.words m first p.0 p.1).long c.requires.lines) p.2 c.put_reply.ensures,
           ));
     }

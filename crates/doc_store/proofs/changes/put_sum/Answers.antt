@@ -28,13 +28,13 @@ returns-clause-done g c =
     let m = c.args.mem.now in
     let same = passed_is c.args.sum c.ranges.sum in
     let packs = subst (λ z. IsPackOf 128 doc.len doc.words (signed_decimal z)) same c.doc_of_number-doc.ensures in
-    let told = subst (λ z. c.sum_reply.result ≡ reply_words (reply_to_sum z c.in_ok-inserted.inserted)) same c.sum_reply.ensures in
+    let told = subst (λ z. c.sum_reply.new.reply ≡ reply_words (reply_to_sum z c.in_ok-inserted.inserted)) same c.sum_reply.ensures in
     record {
       from = λ first now s. (
           let p = c.in_ok-inserted.ensures.exact.from first now s in (
             p.0,
             p.1,
-            put_sum_runs c.args.lines p.0 now c.sum_reply.result key (unpacked doc.len doc.words) c.args.sum c.in_ok-inserted.inserted
+            put_sum_runs c.args.lines p.0 now c.sum_reply.new.reply key (unpacked doc.len doc.words) c.args.sum c.in_ok-inserted.inserted
                 (lines_are p.0 (g.M.Memory.size m) c.args.lines (g.met.M.Memory.words m first p.0 p.1).long c.requires.lines)
                 (sum_text c.args.sum doc.len doc.words c.requires.sum packs) p.2 told,
           ));
