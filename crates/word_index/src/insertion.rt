@@ -13,7 +13,7 @@ ghost use Rattle.word_index.specs.Fresh.{CanTake};
 ghost use Rattle.word_index.specs.Insertion.{PairWritten, CanAdd, Adds, Inserts, LinesAt};
 ghost use Rattle.word_index.specs.Walk.{HasNode, FewVisits, Walked};
 
-use crate::rewriting::rewrite;
+use crate::rewriting::{refit, rewrite};
 use crate::taken::{put_line, take_line, write_text};
 use crate::texts::{Doc, Key};
 use crate::walk::seek_place;
@@ -182,13 +182,18 @@ pub fn insert<M: Memory, L: Ledger>(
     let spot = seek_place(mem, key, visits)?;
     let used = lines_in_use(mem)?;
     let old = lines_at(mem, spot.node)?;
-    let needed = used - old + lines_of_pair(key, doc);
+    let new = lines_of_pair(key, doc);
+    let needed = used - old + new;
     if lines - 1 < needed {
         return Ok(Inserted::NoRoom);
     }
     if spot.node == 0 {
         add(mem, &spot.way, key, doc)?;
         return Ok(Inserted::New);
+    }
+    if old == new {
+        refit(mem, spot.node, doc)?;
+        return Ok(Inserted::Replaced);
     }
     rewrite(mem, spot.node, doc)?;
     Ok(Inserted::Replaced)

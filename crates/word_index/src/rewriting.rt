@@ -7,7 +7,7 @@ ghost use Rattle.cx_base.specs.Store.{blocks};
 ghost use Rattle.avl_words.specs.Lines.{IsPartLength};
 ghost use Rattle.word_index.specs.Answers.{IsPacked};
 ghost use Rattle.word_index.specs.Exact.{with_refilled, with_renewed, with_rewritten};
-ghost use Rattle.word_index.specs.Rewriting.{CanRewrite, IsOld};
+ghost use Rattle.word_index.specs.Rewriting.{CanRefit, CanRenew, IsOld};
 
 use crate::filling::fill_chain;
 use crate::given_back::give_chain;
@@ -55,13 +55,29 @@ fn renew<M: Memory>(mem: &mut M, node: u64, first: u64, count: u64, doc: &Doc) -
     Ok(())
 }
 
-/// Puts a document in place of a node's own: in the same blocks where it needs as many, and else in new ones.
+/// Puts a document in place of a node's own of as many blocks, into the same blocks. No word is stored twice, so none has to be held back.
+pub fn refit<M: Memory>(mem: &mut M, node: u64, doc: &Doc) -> Result<(), Halt>
+    requires sized { IsPartLength (M.size mem.old) }
+    requires writable { IsTrue (M.writable mem.old) }
+    requires doc { IsPacked 128 doc.now.len doc.now.words }
+    requires can { Always (M.stands mem.old)
+        (λ ws. CanRefit ws node (unpacked doc.now.len doc.now.words)) }
+    ensures exact { IfOk result (λ _. Becomes (M.stands mem.old) (M.stands mem.new)
+        (λ old now. now ≡ with_rewritten (unpacked doc.now.len doc.now.words) node old)) }
+    ensures halts { OnErr result (M.left mem.new ≡ Some 0) }
+    ensures framed { Framed M.size M.fixed M.writable M.left mem.old mem.new }
+{
+    let first = word(mem, node, 5)?;
+    refill(mem, node, first, doc)
+}
+
+/// Puts a document in place of a node's own of more or fewer blocks, into new ones.
 fn replace<M: Memory>(mem: &mut M, node: u64, doc: &Doc) -> Result<(), Halt>
     requires sized { IsPartLength (M.size mem.old) }
     requires writable { IsTrue (M.writable mem.old) }
     requires doc { IsPacked 128 doc.now.len doc.now.words }
     requires can { Always (M.stands mem.old)
-        (λ ws. CanRewrite ws node (unpacked doc.now.len doc.now.words)) }
+        (λ ws. CanRenew ws node (unpacked doc.now.len doc.now.words)) }
     ensures exact { IfOk result (λ _. Becomes (M.stands mem.old) (M.stands mem.new)
         (λ old now. now ≡ with_rewritten (unpacked doc.now.len doc.now.words) node old)) }
     ensures halts { OnErr result (M.left mem.new ≡ Some 0) }
@@ -69,11 +85,7 @@ fn replace<M: Memory>(mem: &mut M, node: u64, doc: &Doc) -> Result<(), Halt>
 {
     let first = word(mem, node, 5)?;
     let count = word(mem, node, 6)?.div_ceil(56);
-    if count == doc.len.div_ceil(56) {
-        refill(mem, node, first, doc)
-    } else {
-        renew(mem, node, first, count, doc)
-    }
+    renew(mem, node, first, count, doc)
 }
 
 /// The same over a write buffer. Its room covers each change in at most 16,384 lines, so that there each word that changes is stored once.
@@ -82,7 +94,7 @@ pub fn rewrite<M: Memory>(mem: &mut M, node: u64, doc: &Doc) -> Result<(), Halt>
     requires writable { IsTrue (M.writable mem.old) }
     requires doc { IsPacked 128 doc.now.len doc.now.words }
     requires can { Always (M.stands mem.old)
-        (λ ws. CanRewrite ws node (unpacked doc.now.len doc.now.words)) }
+        (λ ws. CanRenew ws node (unpacked doc.now.len doc.now.words)) }
     ensures exact { IfOk result (λ _. Becomes (M.stands mem.old) (M.stands mem.new)
         (λ old now. now ≡ with_rewritten (unpacked doc.now.len doc.now.words) node old)) }
     ensures halts { OnErr result (M.left mem.new ≡ Some 0) }

@@ -10,7 +10,7 @@ use Rattle.word_index.specs.Insertion.{Inserts, LinesAt}
 use Rattle.word_index.specs.Walk.{AtSpot, FewVisits}
 use Rattle.word_index.specs.declared.insertion.Inserted.{Inserted}
 use Rattle.word_index.proofs.Cutting.{visits_read}
-use Rattle.word_index.proofs.Inserting.{IsKnown, can_have_node, counted, used_few, can_add, can_rewrite, exact_none, exact_new, exact_over, inserted_is}
+use Rattle.word_index.proofs.Inserting.{IsKnown, can_have_node, counted, used_few, can_add, can_refit, can_renew, exact_none, exact_new, exact_over, inserted_is}
 use Rattle.word_index.proofs.insertion.insert.Goals as goal
 
 known_from : {Key : Type 0} {a b d e : Key → List ℕ → Type 0} (key nodes sides : List ℕ) (depth node above used old n : ℕ) → Reads a b (AtSpot false key nodes sides depth node above) →
@@ -57,7 +57,7 @@ overflow_add-needed g c =
     let known = known_from key spot.way.nodes spot.way.sides spot.way.depth spot.node spot.above c.in_ok-used.used c.in_ok-old.old n c.in_ok-spot.ensures.done c.in_ok-used.ensures.done c.in_ok-old.ensures.done (g.met.M.Memory.words m) in
     let few : c.in_ok-used.used ≤ 2 ^ 32 = always_at_most (g.M.Memory.stands m) (g.met.M.Memory.some_stands m) c.in_ok-used.used (2 ^ 32)
     (always_read c.requires.lawful known (λ ws i k. used_few ws key doc spot.way.nodes spot.way.sides spot.way.depth spot.node spot.above c.in_ok-used.used c.in_ok-old.old n k i)) in
-    omega (arith, c.lines_of_pair.ensures, c.requires.is_key.short, c.requires.is_document.short)
+    omega (arith, c.lines_of_pair-new.ensures, c.requires.is_key.short, c.requires.is_document.short)
 
 pub returns-then-lines-needed-clause-exact : goal.returns-then-lines-needed-clause-exact
 returns-then-lines-needed-clause-exact g c =
@@ -69,7 +69,7 @@ returns-then-lines-needed-clause-exact g c =
     let size : n ≡ 8 * c.args.lines = c.in_ok-old.ensures.framed.size_kept ∙ c.in_ok-used.ensures.framed.size_kept ∙ c.in_ok-spot.ensures.framed.size_kept ∙ c.requires.lines in
     let known = known_from key spot.way.nodes spot.way.sides spot.way.depth spot.node spot.above c.in_ok-used.used c.in_ok-old.old n c.in_ok-spot.ensures.done c.in_ok-used.ensures.done c.in_ok-old.ensures.done (g.met.M.Memory.words m) in
     Becomes-weaker (Becomes-from-read (Reads-with c.requires.lawful known)) (λ first x y s r. (
-    let e = exact_none y key doc spot.way.nodes spot.way.sides spot.way.depth spot.node spot.above c.in_ok-used.used c.in_ok-old.old n r.1.1 c.args.lines c.lines_of_pair.result r.1.0 c.lines_of_pair.ensures size c.if-lines-needed.true in
+    let e = exact_none y key doc spot.way.nodes spot.way.sides spot.way.depth spot.node spot.above c.in_ok-used.used c.in_ok-old.old n r.1.1 c.args.lines c.lines_of_pair-new.result r.1.0 c.lines_of_pair-new.ensures size c.if-lines-needed.true in
     (e.0 ∙ ap (inserted_in key doc) r.0, e.1 ∙ ap (with_document key doc) r.0)))
 
 pub returns-then-lines-needed-clause-done : goal.returns-then-lines-needed-clause-done
@@ -86,7 +86,7 @@ add-requires-clause-can g c =
     let size : n ≡ 8 * c.args.lines = c.in_ok-old.ensures.framed.size_kept ∙ c.in_ok-used.ensures.framed.size_kept ∙ c.in_ok-spot.ensures.framed.size_kept ∙ c.requires.lines in
     let known = known_from key spot.way.nodes spot.way.sides spot.way.depth spot.node spot.above c.in_ok-used.used c.in_ok-old.old n c.in_ok-spot.ensures.done c.in_ok-used.ensures.done c.in_ok-old.ensures.done (g.met.M.Memory.words m) in
     always_read c.requires.lawful known (λ ws i k.
-    can_add ws key doc spot.way.nodes spot.way.sides spot.way.depth spot.node spot.above c.in_ok-used.used c.in_ok-old.old n k c.args.lines c.lines_of_pair.result i c.lines_of_pair.ensures size c.if-lines-needed.false c.if-spot-eq0.true
+    can_add ws key doc spot.way.nodes spot.way.sides spot.way.depth spot.node spot.above c.in_ok-used.used c.in_ok-old.old n k c.args.lines c.lines_of_pair-new.result i c.lines_of_pair-new.ensures size c.if-lines-needed.false c.if-spot-eq0.true
     c.requires.is_key c.requires.is_document)
 
 pub returns-then-spot-eq0-clause-exact : goal.returns-then-spot-eq0-clause-exact
@@ -99,13 +99,42 @@ returns-then-spot-eq0-clause-exact g c =
     let size : n ≡ 8 * c.args.lines = c.in_ok-old.ensures.framed.size_kept ∙ c.in_ok-used.ensures.framed.size_kept ∙ c.in_ok-spot.ensures.framed.size_kept ∙ c.requires.lines in
     let known = known_from key spot.way.nodes spot.way.sides spot.way.depth spot.node spot.above c.in_ok-used.used c.in_ok-old.old n c.in_ok-spot.ensures.done c.in_ok-used.ensures.done c.in_ok-old.ensures.done (g.met.M.Memory.words m) in
     Becomes-then (Becomes-from-read (Reads-with c.requires.lawful known)) c.in_ok-add.ensures.exact (λ x y w r a. (
-    let e = exact_new y key doc spot.way.nodes spot.way.sides spot.way.depth spot.node spot.above c.in_ok-used.used c.in_ok-old.old n r.1.1 c.args.lines c.lines_of_pair.result r.1.0 c.lines_of_pair.ensures size w c.if-lines-needed.false c.if-spot-eq0.true
+    let e = exact_new y key doc spot.way.nodes spot.way.sides spot.way.depth spot.node spot.above c.in_ok-used.used c.in_ok-old.old n r.1.1 c.args.lines c.lines_of_pair-new.result r.1.0 c.lines_of_pair-new.ensures size w c.if-lines-needed.false c.if-spot-eq0.true
     c.requires.is_key c.requires.is_document a in
     (e.0 ∙ ap (inserted_in key doc) r.0, e.1 ∙ ap (with_document key doc) r.0)))
 
 pub returns-then-spot-eq0-clause-done : goal.returns-then-spot-eq0-clause-done
 returns-then-spot-eq0-clause-done g c =
     told (unpacked c.args.key.now.len c.args.key.now.words) (unpacked c.args.doc.now.len c.args.doc.now.words) _ c.requires.is_key c.requires.is_document (returns-then-spot-eq0-clause-exact g c)
+
+pub refit-requires-clause-can : goal.refit-requires-clause-can
+refit-requires-clause-can g c =
+    let m = c.lines_at.new.mem in
+    let key = unpacked c.args.key.now.len c.args.key.now.words in
+    let doc = unpacked c.args.doc.now.len c.args.doc.now.words in
+    let spot = c.in_ok-spot.spot in
+    let n = g.M.Memory.size m in
+    let size : n ≡ 8 * c.args.lines = c.in_ok-old.ensures.framed.size_kept ∙ c.in_ok-used.ensures.framed.size_kept ∙ c.in_ok-spot.ensures.framed.size_kept ∙ c.requires.lines in
+    let known = known_from key spot.way.nodes spot.way.sides spot.way.depth spot.node spot.above c.in_ok-used.used c.in_ok-old.old n c.in_ok-spot.ensures.done c.in_ok-used.ensures.done c.in_ok-old.ensures.done (g.met.M.Memory.words m) in
+    always_read c.requires.lawful known (λ ws i k.
+    can_refit ws key doc spot.way.nodes spot.way.sides spot.way.depth spot.node spot.above c.in_ok-used.used c.in_ok-old.old n k c.args.lines c.lines_of_pair-new.result i c.lines_of_pair-new.ensures size c.if-lines-needed.false c.if-spot-eq0.false c.if-old-new.true)
+
+pub returns-then-old-new-clause-exact : goal.returns-then-old-new-clause-exact
+returns-then-old-new-clause-exact g c =
+    let m = c.lines_at.new.mem in
+    let key = unpacked c.args.key.now.len c.args.key.now.words in
+    let doc = unpacked c.args.doc.now.len c.args.doc.now.words in
+    let spot = c.in_ok-spot.spot in
+    let n = g.M.Memory.size m in
+    let size : n ≡ 8 * c.args.lines = c.in_ok-old.ensures.framed.size_kept ∙ c.in_ok-used.ensures.framed.size_kept ∙ c.in_ok-spot.ensures.framed.size_kept ∙ c.requires.lines in
+    let known = known_from key spot.way.nodes spot.way.sides spot.way.depth spot.node spot.above c.in_ok-used.used c.in_ok-old.old n c.in_ok-spot.ensures.done c.in_ok-used.ensures.done c.in_ok-old.ensures.done (g.met.M.Memory.words m) in
+    Becomes-then (Becomes-from-read (Reads-with c.requires.lawful known)) c.in_ok-refit.ensures.exact (λ x y w r a. (
+    let e = exact_over y key doc spot.way.nodes spot.way.sides spot.way.depth spot.node spot.above c.in_ok-used.used c.in_ok-old.old n r.1.1 c.args.lines c.lines_of_pair-new.result r.1.0 c.lines_of_pair-new.ensures size w c.if-lines-needed.false c.if-spot-eq0.false a in
+    (e.0 ∙ ap (inserted_in key doc) r.0, e.1 ∙ ap (with_document key doc) r.0)))
+
+pub returns-then-old-new-clause-done : goal.returns-then-old-new-clause-done
+returns-then-old-new-clause-done g c =
+    told (unpacked c.args.key.now.len c.args.key.now.words) (unpacked c.args.doc.now.len c.args.doc.now.words) _ c.requires.is_key c.requires.is_document (returns-then-old-new-clause-exact g c)
 
 pub rewrite-requires-clause-can : goal.rewrite-requires-clause-can
 rewrite-requires-clause-can g c =
@@ -117,7 +146,7 @@ rewrite-requires-clause-can g c =
     let size : n ≡ 8 * c.args.lines = c.in_ok-old.ensures.framed.size_kept ∙ c.in_ok-used.ensures.framed.size_kept ∙ c.in_ok-spot.ensures.framed.size_kept ∙ c.requires.lines in
     let known = known_from key spot.way.nodes spot.way.sides spot.way.depth spot.node spot.above c.in_ok-used.used c.in_ok-old.old n c.in_ok-spot.ensures.done c.in_ok-used.ensures.done c.in_ok-old.ensures.done (g.met.M.Memory.words m) in
     always_read c.requires.lawful known (λ ws i k.
-    can_rewrite ws key doc spot.way.nodes spot.way.sides spot.way.depth spot.node spot.above c.in_ok-used.used c.in_ok-old.old n k c.args.lines c.lines_of_pair.result i c.lines_of_pair.ensures size c.if-lines-needed.false c.if-spot-eq0.false)
+    can_renew ws key doc spot.way.nodes spot.way.sides spot.way.depth spot.node spot.above c.in_ok-used.used c.in_ok-old.old n k c.args.lines c.lines_of_pair-new.result i c.lines_of_pair-new.ensures size c.if-lines-needed.false c.if-spot-eq0.false c.if-old-new.false)
 
 pub returns-clause-exact : goal.returns-clause-exact
 returns-clause-exact g c =
@@ -129,7 +158,7 @@ returns-clause-exact g c =
     let size : n ≡ 8 * c.args.lines = c.in_ok-old.ensures.framed.size_kept ∙ c.in_ok-used.ensures.framed.size_kept ∙ c.in_ok-spot.ensures.framed.size_kept ∙ c.requires.lines in
     let known = known_from key spot.way.nodes spot.way.sides spot.way.depth spot.node spot.above c.in_ok-used.used c.in_ok-old.old n c.in_ok-spot.ensures.done c.in_ok-used.ensures.done c.in_ok-old.ensures.done (g.met.M.Memory.words m) in
     Becomes-then (Becomes-from-read (Reads-with c.requires.lawful known)) c.in_ok-rewrite.ensures.exact (λ x y w r a. (
-    let e = exact_over y key doc spot.way.nodes spot.way.sides spot.way.depth spot.node spot.above c.in_ok-used.used c.in_ok-old.old n r.1.1 c.args.lines c.lines_of_pair.result r.1.0 c.lines_of_pair.ensures size w c.if-lines-needed.false c.if-spot-eq0.false a in
+    let e = exact_over y key doc spot.way.nodes spot.way.sides spot.way.depth spot.node spot.above c.in_ok-used.used c.in_ok-old.old n r.1.1 c.args.lines c.lines_of_pair-new.result r.1.0 c.lines_of_pair-new.ensures size w c.if-lines-needed.false c.if-spot-eq0.false a in
     (e.0 ∙ ap (inserted_in key doc) r.0, e.1 ∙ ap (with_document key doc) r.0)))
 
 pub returns-clause-done : goal.returns-clause-done
@@ -150,3 +179,7 @@ returns-then-spot-eq0-clause-visits g c =
 pub returns-clause-visits : goal.returns-clause-visits
 returns-clause-visits g c =
     Becomes-then (visits_over _ (visits_read c.in_ok-spot.ensures.kept c.in_ok-spot.ensures.visits) c.in_ok-used.ensures.done c.in_ok-old.ensures.done) c.in_ok-rewrite.ensures.exact (λ x y w v a. v)
+
+pub returns-then-old-new-clause-visits : goal.returns-then-old-new-clause-visits
+returns-then-old-new-clause-visits g c =
+    Becomes-then (visits_over _ (visits_read c.in_ok-spot.ensures.kept c.in_ok-spot.ensures.visits) c.in_ok-used.ensures.done c.in_ok-old.ensures.done) c.in_ok-refit.ensures.exact (λ x y w v a. v)

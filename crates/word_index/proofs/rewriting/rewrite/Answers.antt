@@ -5,14 +5,14 @@ use Rattle.write_buffer.specs.Buffering.{Covers}
 use Rattle.write_buffer.proofs.Buffered.{always_over, becomes_behind}
 use Rattle.cx_base.specs.Packing.{unpacked}
 use Rattle.word_index.specs.Exact.{with_rewritten}
-use Rattle.word_index.specs.Rewriting.{CanRewrite}
+use Rattle.word_index.specs.Rewriting.{CanRenew}
 use Rattle.word_index.proofs.rewriting.rewrite.Goals as goal
 
 pub replace-requires-clause-can : goal.replace-requires-clause-can
 replace-requires-clause-can g c =
     let b = c.over-buffer.result in
     always_over (g.M.Memory.size b.inner.now) b.held.count b.held.places b.held.values c.over-buffer.ensures.none
-    (subst (λ m. Always (g.M.Memory.stands m) (λ ws. CanRewrite ws c.args.node (unpacked c.args.doc.now.len c.args.doc.now.words))) (sym c.over-buffer.ensures.inner) c.requires.can)
+    (subst (λ m. Always (g.M.Memory.stands m) (λ ws. CanRenew ws c.args.node (unpacked c.args.doc.now.len c.args.doc.now.words))) (sym c.over-buffer.ensures.inner) c.requires.can)
 
 pub returns-clause-exact : goal.returns-clause-exact
 returns-clause-exact g c =
