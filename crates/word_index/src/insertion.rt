@@ -179,22 +179,23 @@ pub fn insert<M: Memory, L: Ledger>(
     ensures halts { OnErr result (M.left mem.new ≡ Some 0) }
     ensures framed { Framed M.size M.fixed M.writable M.left mem.old mem.new }
 {
-    let spot = seek_place(mem, key, visits)?;
+    let mut way = Way::none();
+    let end = seek_place(mem, key, visits, &mut way)?;
     let used = lines_in_use(mem)?;
-    let old = lines_at(mem, spot.node)?;
+    let old = lines_at(mem, end.node)?;
     let new = lines_of_pair(key, doc);
     let needed = used - old + new;
     if lines - 1 < needed {
         return Ok(Inserted::NoRoom);
     }
-    if spot.node == 0 {
-        add(mem, &spot.way, key, doc)?;
+    if end.node == 0 {
+        add(mem, &way, key, doc)?;
         return Ok(Inserted::New);
     }
     if old == new {
-        refit(mem, spot.node, doc)?;
+        refit(mem, end.node, doc)?;
         return Ok(Inserted::Replaced);
     }
-    rewrite(mem, spot.node, doc)?;
+    rewrite(mem, end.node, doc)?;
     Ok(Inserted::Replaced)
 }
