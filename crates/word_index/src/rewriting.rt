@@ -18,52 +18,58 @@ use cx_base::{Halt, Memory};
 use write_buffer::{WriteBuffer, store_held};
 
 /// Writes a document into the blocks of another of as many blocks.
-fn refill<M: Memory>(mem: &mut M, node: u64, first: u64, doc: &Doc) -> Result<(), Halt>
+fn refill<M: Memory>(mem: &mut M, node: u64, first: u64, doc: &Doc<'_>) -> Result<(), Halt>
     requires sized { IsPartLength (M.size mem.old) }
     requires writable { IsTrue (M.writable mem.old) }
-    requires doc { IsPacked 128 doc.now.len doc.now.words }
+    requires doc { IsPacked 128 doc.now.len doc.now.words.now }
     requires old { Always (M.stands mem.old)
-        (λ ws. IsOld ws node first (blocks (unpacked doc.now.len doc.now.words)) (unpacked doc.now.len doc.now.words)) }
+        (λ ws. IsOld ws node first (blocks (unpacked doc.now.len doc.now.words.now)) (unpacked doc.now.len doc.now.words.now)) }
     ensures exact { IfOk result (λ _. Becomes (M.stands mem.old) (M.stands mem.new)
-        (λ old now. now ≡ with_refilled (unpacked doc.now.len doc.now.words) node old)) }
+        (λ old now. now ≡ with_refilled (unpacked doc.now.len doc.now.words.now) node old)) }
     ensures halts { OnErr result (M.left mem.new ≡ Some 0) }
     ensures framed { Framed M.size M.fixed M.writable M.left mem.old mem.new }
 {
-    fill_chain(mem, first, &doc.words, doc.len.div_ceil(56) as usize)?;
+    fill_chain(mem, first, doc.words, doc.len.div_ceil(56) as usize)?;
     put_new(mem, node, 6, doc.len)?;
     Ok(())
 }
 
 /// Gives back the blocks of a document, and writes another into new ones.
-fn renew<M: Memory>(mem: &mut M, node: u64, first: u64, count: u64, doc: &Doc) -> Result<(), Halt>
+fn renew<M: Memory>(
+    mem: &mut M,
+    node: u64,
+    first: u64,
+    count: u64,
+    doc: &Doc<'_>,
+) -> Result<(), Halt>
     requires sized { IsPartLength (M.size mem.old) }
     requires writable { IsTrue (M.writable mem.old) }
-    requires doc { IsPacked 128 doc.now.len doc.now.words }
+    requires doc { IsPacked 128 doc.now.len doc.now.words.now }
     requires old { Always (M.stands mem.old)
-        (λ ws. IsOld ws node first count (unpacked doc.now.len doc.now.words)) }
+        (λ ws. IsOld ws node first count (unpacked doc.now.len doc.now.words.now)) }
     ensures exact { IfOk result (λ _. Becomes (M.stands mem.old) (M.stands mem.new)
-        (λ old now. now ≡ with_renewed (unpacked doc.now.len doc.now.words) node old)) }
+        (λ old now. now ≡ with_renewed (unpacked doc.now.len doc.now.words.now) node old)) }
     ensures halts { OnErr result (M.left mem.new ≡ Some 0) }
     ensures framed { Framed M.size M.fixed M.writable M.left mem.old mem.new }
 {
     put(mem, node, 5, 0)?;
     put(mem, node, 6, 0)?;
     give_chain(mem, first, count)?;
-    let text = write_text(mem, &doc.words, doc.len.div_ceil(56) as usize)?;
+    let text = write_text(mem, doc.words, doc.len.div_ceil(56) as usize)?;
     put(mem, node, 5, text)?;
     put(mem, node, 6, doc.len)?;
     Ok(())
 }
 
 /// Puts a document in place of a node's own of as many blocks, into the same blocks. No word is stored twice, so none has to be held back.
-pub fn refit<M: Memory>(mem: &mut M, node: u64, doc: &Doc) -> Result<(), Halt>
+pub fn refit<M: Memory>(mem: &mut M, node: u64, doc: &Doc<'_>) -> Result<(), Halt>
     requires sized { IsPartLength (M.size mem.old) }
     requires writable { IsTrue (M.writable mem.old) }
-    requires doc { IsPacked 128 doc.now.len doc.now.words }
+    requires doc { IsPacked 128 doc.now.len doc.now.words.now }
     requires can { Always (M.stands mem.old)
-        (λ ws. CanRefit ws node (unpacked doc.now.len doc.now.words)) }
+        (λ ws. CanRefit ws node (unpacked doc.now.len doc.now.words.now)) }
     ensures exact { IfOk result (λ _. Becomes (M.stands mem.old) (M.stands mem.new)
-        (λ old now. now ≡ with_rewritten (unpacked doc.now.len doc.now.words) node old)) }
+        (λ old now. now ≡ with_rewritten (unpacked doc.now.len doc.now.words.now) node old)) }
     ensures halts { OnErr result (M.left mem.new ≡ Some 0) }
     ensures framed { Framed M.size M.fixed M.writable M.left mem.old mem.new }
 {
@@ -72,14 +78,14 @@ pub fn refit<M: Memory>(mem: &mut M, node: u64, doc: &Doc) -> Result<(), Halt>
 }
 
 /// Puts a document in place of a node's own of more or fewer blocks, into new ones.
-fn replace<M: Memory>(mem: &mut M, node: u64, doc: &Doc) -> Result<(), Halt>
+fn replace<M: Memory>(mem: &mut M, node: u64, doc: &Doc<'_>) -> Result<(), Halt>
     requires sized { IsPartLength (M.size mem.old) }
     requires writable { IsTrue (M.writable mem.old) }
-    requires doc { IsPacked 128 doc.now.len doc.now.words }
+    requires doc { IsPacked 128 doc.now.len doc.now.words.now }
     requires can { Always (M.stands mem.old)
-        (λ ws. CanRenew ws node (unpacked doc.now.len doc.now.words)) }
+        (λ ws. CanRenew ws node (unpacked doc.now.len doc.now.words.now)) }
     ensures exact { IfOk result (λ _. Becomes (M.stands mem.old) (M.stands mem.new)
-        (λ old now. now ≡ with_rewritten (unpacked doc.now.len doc.now.words) node old)) }
+        (λ old now. now ≡ with_rewritten (unpacked doc.now.len doc.now.words.now) node old)) }
     ensures halts { OnErr result (M.left mem.new ≡ Some 0) }
     ensures framed { Framed M.size M.fixed M.writable M.left mem.old mem.new }
 {
@@ -89,14 +95,14 @@ fn replace<M: Memory>(mem: &mut M, node: u64, doc: &Doc) -> Result<(), Halt>
 }
 
 /// The same over a write buffer. Its room covers each change in at most 16,384 lines, so that there each word that changes is stored once.
-pub fn rewrite<M: Memory>(mem: &mut M, node: u64, doc: &Doc) -> Result<(), Halt>
+pub fn rewrite<M: Memory>(mem: &mut M, node: u64, doc: &Doc<'_>) -> Result<(), Halt>
     requires sized { IsPartLength (M.size mem.old) }
     requires writable { IsTrue (M.writable mem.old) }
-    requires doc { IsPacked 128 doc.now.len doc.now.words }
+    requires doc { IsPacked 128 doc.now.len doc.now.words.now }
     requires can { Always (M.stands mem.old)
-        (λ ws. CanRenew ws node (unpacked doc.now.len doc.now.words)) }
+        (λ ws. CanRenew ws node (unpacked doc.now.len doc.now.words.now)) }
     ensures exact { IfOk result (λ _. Becomes (M.stands mem.old) (M.stands mem.new)
-        (λ old now. now ≡ with_rewritten (unpacked doc.now.len doc.now.words) node old)) }
+        (λ old now. now ≡ with_rewritten (unpacked doc.now.len doc.now.words.now) node old)) }
     ensures halts { OnErr result (M.left mem.new ≡ Some 0) }
     ensures framed { Framed M.size M.fixed M.writable M.left mem.old mem.new }
 {

@@ -41,7 +41,7 @@ pub overflow_sub-needed : goal.overflow_sub-needed
 overflow_sub-needed g c =
     let m = c.lines_at.new.mem in
     let key = unpacked c.args.key.now.len c.args.key.now.words in
-    let doc = unpacked c.args.doc.now.len c.args.doc.now.words in
+    let doc = unpacked c.args.doc.now.len c.args.doc.now.words.now in
     let way = c.seek_place.new.way in
     let end = c.in_ok-end.end in
     let n = g.M.Memory.size m in
@@ -53,7 +53,7 @@ pub overflow_add-needed : goal.overflow_add-needed
 overflow_add-needed g c =
     let m = c.lines_at.new.mem in
     let key = unpacked c.args.key.now.len c.args.key.now.words in
-    let doc = unpacked c.args.doc.now.len c.args.doc.now.words in
+    let doc = unpacked c.args.doc.now.len c.args.doc.now.words.now in
     let way = c.seek_place.new.way in
     let end = c.in_ok-end.end in
     let n = g.M.Memory.size m in
@@ -66,7 +66,7 @@ pub returns-then-lines-needed-clause-exact : goal.returns-then-lines-needed-clau
 returns-then-lines-needed-clause-exact g c =
     let m = c.lines_at.new.mem in
     let key = unpacked c.args.key.now.len c.args.key.now.words in
-    let doc = unpacked c.args.doc.now.len c.args.doc.now.words in
+    let doc = unpacked c.args.doc.now.len c.args.doc.now.words.now in
     let way = c.seek_place.new.way in
     let end = c.in_ok-end.end in
     let n = g.M.Memory.size m in
@@ -78,13 +78,13 @@ returns-then-lines-needed-clause-exact g c =
 
 pub returns-then-lines-needed-clause-done : goal.returns-then-lines-needed-clause-done
 returns-then-lines-needed-clause-done g c =
-    told (unpacked c.args.key.now.len c.args.key.now.words) (unpacked c.args.doc.now.len c.args.doc.now.words) _ c.requires.is_key c.requires.is_document (returns-then-lines-needed-clause-exact g c)
+    told (unpacked c.args.key.now.len c.args.key.now.words) (unpacked c.args.doc.now.len c.args.doc.now.words.now) _ c.requires.is_key c.requires.is_document (returns-then-lines-needed-clause-exact g c)
 
 pub add-requires-clause-can : goal.add-requires-clause-can
 add-requires-clause-can g c =
     let m = c.lines_at.new.mem in
     let key = unpacked c.args.key.now.len c.args.key.now.words in
-    let doc = unpacked c.args.doc.now.len c.args.doc.now.words in
+    let doc = unpacked c.args.doc.now.len c.args.doc.now.words.now in
     let way = c.seek_place.new.way in
     let end = c.in_ok-end.end in
     let n = g.M.Memory.size m in
@@ -98,7 +98,7 @@ pub returns-then-end-eq0-clause-exact : goal.returns-then-end-eq0-clause-exact
 returns-then-end-eq0-clause-exact g c =
     let m = c.lines_at.new.mem in
     let key = unpacked c.args.key.now.len c.args.key.now.words in
-    let doc = unpacked c.args.doc.now.len c.args.doc.now.words in
+    let doc = unpacked c.args.doc.now.len c.args.doc.now.words.now in
     let way = c.seek_place.new.way in
     let end = c.in_ok-end.end in
     let n = g.M.Memory.size m in
@@ -111,13 +111,13 @@ returns-then-end-eq0-clause-exact g c =
 
 pub returns-then-end-eq0-clause-done : goal.returns-then-end-eq0-clause-done
 returns-then-end-eq0-clause-done g c =
-    told (unpacked c.args.key.now.len c.args.key.now.words) (unpacked c.args.doc.now.len c.args.doc.now.words) _ c.requires.is_key c.requires.is_document (returns-then-end-eq0-clause-exact g c)
+    told (unpacked c.args.key.now.len c.args.key.now.words) (unpacked c.args.doc.now.len c.args.doc.now.words.now) _ c.requires.is_key c.requires.is_document (returns-then-end-eq0-clause-exact g c)
 
 pub refit-requires-clause-can : goal.refit-requires-clause-can
 refit-requires-clause-can g c =
     let m = c.lines_at.new.mem in
     let key = unpacked c.args.key.now.len c.args.key.now.words in
-    let doc = unpacked c.args.doc.now.len c.args.doc.now.words in
+    let doc = unpacked c.args.doc.now.len c.args.doc.now.words.now in
     let way = c.seek_place.new.way in
     let end = c.in_ok-end.end in
     let n = g.M.Memory.size m in
@@ -130,7 +130,7 @@ pub returns-then-old-new-clause-exact : goal.returns-then-old-new-clause-exact
 returns-then-old-new-clause-exact g c =
     let m = c.lines_at.new.mem in
     let key = unpacked c.args.key.now.len c.args.key.now.words in
-    let doc = unpacked c.args.doc.now.len c.args.doc.now.words in
+    let doc = unpacked c.args.doc.now.len c.args.doc.now.words.now in
     let way = c.seek_place.new.way in
     let end = c.in_ok-end.end in
     let n = g.M.Memory.size m in
@@ -142,13 +142,13 @@ returns-then-old-new-clause-exact g c =
 
 pub returns-then-old-new-clause-done : goal.returns-then-old-new-clause-done
 returns-then-old-new-clause-done g c =
-    told (unpacked c.args.key.now.len c.args.key.now.words) (unpacked c.args.doc.now.len c.args.doc.now.words) _ c.requires.is_key c.requires.is_document (returns-then-old-new-clause-exact g c)
+    told (unpacked c.args.key.now.len c.args.key.now.words) (unpacked c.args.doc.now.len c.args.doc.now.words.now) _ c.requires.is_key c.requires.is_document (returns-then-old-new-clause-exact g c)
 
 pub rewrite-requires-clause-can : goal.rewrite-requires-clause-can
 rewrite-requires-clause-can g c =
     let m = c.lines_at.new.mem in
     let key = unpacked c.args.key.now.len c.args.key.now.words in
-    let doc = unpacked c.args.doc.now.len c.args.doc.now.words in
+    let doc = unpacked c.args.doc.now.len c.args.doc.now.words.now in
     let way = c.seek_place.new.way in
     let end = c.in_ok-end.end in
     let n = g.M.Memory.size m in
@@ -161,7 +161,7 @@ pub returns-clause-exact : goal.returns-clause-exact
 returns-clause-exact g c =
     let m = c.lines_at.new.mem in
     let key = unpacked c.args.key.now.len c.args.key.now.words in
-    let doc = unpacked c.args.doc.now.len c.args.doc.now.words in
+    let doc = unpacked c.args.doc.now.len c.args.doc.now.words.now in
     let way = c.seek_place.new.way in
     let end = c.in_ok-end.end in
     let n = g.M.Memory.size m in
@@ -173,7 +173,7 @@ returns-clause-exact g c =
 
 pub returns-clause-done : goal.returns-clause-done
 returns-clause-done g c =
-    told (unpacked c.args.key.now.len c.args.key.now.words) (unpacked c.args.doc.now.len c.args.doc.now.words) _ c.requires.is_key c.requires.is_document (returns-clause-exact g c)
+    told (unpacked c.args.key.now.len c.args.key.now.words) (unpacked c.args.doc.now.len c.args.doc.now.words.now) _ c.requires.is_key c.requires.is_document (returns-clause-exact g c)
 
 -- the bound on visits, over what is read and changed after the walk
 visits_over : {Key : Type 0} {a b d e : Key → List ℕ → Type 0} {P Q : List ℕ → Type 0} (visits : ℕ) → Becomes a b (λ x y. FewVisits visits x) → Reads b d P → Reads d e Q → Becomes a e (λ x y. FewVisits visits x)

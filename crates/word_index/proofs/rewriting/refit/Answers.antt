@@ -25,7 +25,7 @@ refill-requires-clause-old g c =
 pub returns-clause-exact : goal.returns-clause-exact
 returns-clause-exact g c =
     let doc = c.args.doc.now in
-    let d = unpacked doc.len doc.words in
+    let d = unpacked doc.len doc.words.now in
     let r = Reads-loaded (Reads-none _ c.requires.can) c.in_ok-first.ensures.done in
     IfOk-weaker c.refill.result (λ _. Becomes (g.M.Memory.stands c.word.new.mem) (g.M.Memory.stands c.refill.new.mem) (λ old now. now ≡ with_refilled d c.args.node old)) _
     (λ _ b. Becomes-then (Becomes-from-read r) b (λ x y z p q. rewrite_refills x y z c.args.node (blocks d) d p.0 p.1.0.alike refl q))

@@ -27,7 +27,7 @@ renew-requires-clause-old g c =
 pub returns-clause-exact : goal.returns-clause-exact
 returns-clause-exact g c =
     let doc = c.args.doc.now in
-    let d = unpacked doc.len doc.words in
+    let d = unpacked doc.len doc.words.now in
     let r = Reads-loaded (Reads-loaded (Reads-none _ c.requires.can) c.in_ok-first.ensures.done) c.in_ok-word.ensures.done in
     IfOk-weaker c.renew.result (λ _. Becomes (g.M.Memory.stands c.word-2.new.mem) (g.M.Memory.stands c.renew.new.mem) (λ old now. now ≡ with_renewed d c.args.node old)) _
     (λ _ b. Becomes-then (Becomes-from-read r) b (λ x y z p q. (
