@@ -1,6 +1,6 @@
 //! A tree takes another's place at the end of a way down.
 
-ghost use Rattle.std.specs.Prelude.{◌≡◌, ◌<◌, ◌≤◌, IsTrue, IfOk, OnErr, Some};
+ghost use Rattle.std.specs.Prelude.{◌≡◌, ◌<◌, ◌≤◌, IsTrue, IfOk, OnErr, Some, length};
 ghost use Rattle.cx_base.specs.Memory.{Always, Becomes, Framed};
 ghost use Rattle.avl_words.specs.Lines.{IsPartLength};
 ghost use Rattle.avl_words.specs.Mending.{CanHang, Hangs, CanRelink, Relinks, CanMend, Mends};
@@ -15,6 +15,20 @@ pub struct Way {
     pub nodes: [u64; 64],
     pub sides: [u64; 64],
     pub depth: usize,
+}
+
+impl Way {
+    /// A way of no nodes.
+    pub fn none() -> Way
+        ensures none { result.depth ≡ 0 }
+        ensures arrays { (length result.nodes ≡ 64) × (length result.sides ≡ 64) }
+    {
+        Way {
+            nodes: [0; 64],
+            sides: [0; 64],
+            depth: 0,
+        }
+    }
 }
 
 /// Hangs a tree at a side of a node, and balances it. Gives the tree on top.

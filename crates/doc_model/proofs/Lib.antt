@@ -2,6 +2,8 @@ pub mod Numerals
 pub mod Order
 pub mod KeyPlaces
 pub mod OpKinds
+pub mod PackedTexts
+pub mod PartsHeld
 pub mod PartPlaces
 pub mod ReplyKinds
 pub mod Stores

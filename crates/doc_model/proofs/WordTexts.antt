@@ -1,12 +1,14 @@
 -- Keys and documents as tests tell them.
-use Rattle.std.proofs.Common.{inl, inr, ◌≡◌, ℕ, zero, suc, ◌<◌, ◌≤◌, true, ◌&&◌, ◌==◌, nat_le, List, [], length, All, refl, subst, arith}
+use Rattle.std.proofs.Common.{inl, inr, ◌≡◌, ℕ, zero, suc, ◌<◌, ◌≤◌, Bool, true, ◌&&◌, ◌==◌, nat_le, List, [], length, get_or, All, refl, sym, ap₂, subst, false, ◌⊎◌, zero-add, arith}
 use Rattle.std.specs.Bool.{Decides}
 use Rattle.std.specs.List.{list_all}
 use Rattle.std.proofs.lemmas.List.{nil_from_length}
 use Rattle.std.proofs.lemmas.Bool.{and_parts, and_from, leb-true, le-leb, eqb-true, cases_lt}
-use Rattle.std.proofs.lemmas.Bool.Decides.{Decides-by_and}
+use Rattle.std.proofs.lemmas.Bool.Decides.{Decides-by_and, nat_tests, same_from_decides}
+use Rattle.std.proofs.lemmas.List.FromFn.{length-map-range_with_len, get_or-map-range_with_len}
+use Rattle.cx_base.specs.Packing.{byte_at, unpacked}
 use Rattle.cx_base.specs.Store.{IsKey, IsDocument}
-use Rattle.doc_model.specs.WordParts.{IsShortText, is_key, is_document, has_key_only, has_no_text}
+use Rattle.doc_model.specs.WordParts.{IsBetween, IsShortText, is_key, is_document, has_key_only, has_no_text}
 use Rattle.std.proofs.Common.{Result, Ok, Err, IsErrAnd, IsErrOf}
 use Rattle.doc_model.specs.declared.words.OpFault.{OpFault}
 use Rattle.doc_model.specs.declared.words.OpFault.TheVariants.{BadOp, Memory}
@@ -24,6 +26,43 @@ visible_decides text =
 plain_decides : (text : List ℕ) → Decides (list_all (nat_le 32) text) (All (λ b. 32 ≤ b) text)
 plain_decides text =
     Decides-by_and (nat_le 32) (λ b. 32 ≤ b) (list_all (nat_le 32)) (λ b. (leb-true 32 b, le-leb 32 b)) refl (λ _ _. refl) text
+
+-- the bytes of packed words
+unpacked_byte : (words : List ℕ) (len k d : ℕ) → k < len → get_or (unpacked len words) k d ≡ byte_at words k
+unpacked_byte words len k d within = get_or-map-range_with_len (byte_at words) 0 len k k d within (zero-add k)
+
+pub visible_told : (words : List ℕ) (len : ℕ) (answer : Bool) → Decides answer ((i : ℕ) → i < len → IsBetween 33 126 (byte_at words i)) → answer ≡ list_all (λ b. nat_le 33 b && nat_le b 126) (unpacked len words)
+visible_told words len answer told =
+    let text = unpacked len words in
+    let long : length (unpacked len words) ≡ len = length-map-range_with_len (byte_at words) 0 len in
+    same_from_decides answer (list_all (λ b. nat_le 33 b && nat_le b 126) text) (
+      λ yes k d below. subst (IsBetween 33 126) (sym (unpacked_byte words len k d (omega arith))) (told.0 yes k (omega arith)),
+      λ all. told.1 (λ i within. subst (IsBetween 33 126) (unpacked_byte words len i 0 within) (all i 0 (omega arith))),
+    ) (visible_decides text)
+
+pub plain_told : (words : List ℕ) (len : ℕ) (answer : Bool) → Decides answer ((i : ℕ) → i < len → IsBetween 32 255 (byte_at words i)) → answer ≡ list_all (nat_le 32) (unpacked len words)
+plain_told words len answer told =
+    let text = unpacked len words in
+    let long : length (unpacked len words) ≡ len = length-map-range_with_len (byte_at words) 0 len in
+    same_from_decides answer (list_all (nat_le 32) text) (
+      λ yes k d below. subst (λ b. 32 ≤ b) (sym (unpacked_byte words len k d (omega arith))) (told.0 yes k (omega arith)).0,
+      λ all. told.1 (λ i within. (subst (λ b. 32 ≤ b) (unpacked_byte words len i 0 within) (all i 0 (omega arith)), omega arith)),
+    ) (plain_decides text)
+
+pub key_told : (words : List ℕ) (len : ℕ) (answer : Bool) → answer ≡ list_all (λ b. nat_le 33 b && nat_le b 126) (unpacked len words) → is_key (unpacked len words) ≡ (nat_le 1 len && nat_le len 64 && answer)
+key_told words len answer told =
+    ap₂ (λ n b. nat_le 1 n && nat_le n 64 && b) (length-map-range_with_len (byte_at words) 0 len) (sym told)
+
+pub document_told : (words : List ℕ) (len : ℕ) (answer : Bool) → answer ≡ list_all (nat_le 32) (unpacked len words) → is_document (unpacked len words) ≡ (nat_le 1 len && nat_le len 1024 && answer)
+document_told words len answer told =
+    ap₂ (λ n b. nat_le 1 n && nat_le n 1024 && b) (length-map-range_with_len (byte_at words) 0 len) (sym told)
+
+-- tests of a length that fail, and that pass
+pub too_short_or_long : (len most : ℕ) (rest : Bool) → (len ≡ 0) ⊎ (most < len) → false ≡ (nat_le 1 len && nat_le len most && rest)
+too_short_or_long len most rest out = grind (arith, nat_tests, out)
+
+pub long_enough : (len most : ℕ) (rest : Bool) → 0 < len → len ≤ most → rest ≡ (nat_le 1 len && nat_le len most && rest)
+long_enough len most rest some few = grind (arith, nat_tests)
 
 pub key_from_test : (key : List ℕ) → is_key key ≡ true → IsKey key
 key_from_test key passes =

@@ -1,16 +1,41 @@
 -- The parts of words, and which of them are an operation's or a reply's.
-use Rattle.std.specs.Prelude.{◌≤◌, ◌<◌, ℕ, Bool, ◌&&◌, ◌||◌, ◌==◌, nat_le, List, length, All, if◌then◌else◌}
+use Rattle.std.specs.Prelude.{◌≡◌, ◌≢◌, ◌≤◌, ◌<◌, ℕ, Bool, ◌&&◌, ◌||◌, ◌==◌, nat_le, min, List, length, slice_index, take, drop, All, if◌then◌else◌}
 use Rattle.std.specs.List.{list_all}
 use Rattle.std.specs.Int.{w64, cast_signed}
+use Rattle.cx_base.specs.Packing.{byte_at, unpacked}
+use Rattle.doc_model.specs.Words.{words_with}
 use Rattle.doc_model.specs.declared.operations.Op.{Op}
 use Rattle.doc_model.specs.declared.operations.Op.TheVariants.{Put, Del, Add, Get, Next, Count}
 use Rattle.doc_model.specs.declared.operations.Reply.{Reply}
 use Rattle.doc_model.specs.declared.operations.Reply.TheVariants.{New, Replaced, Deleted, Absent, Doc, Sum, NotNumber, Overflow, NoRoom, Key, Number}
 
+-- from one number to another
+abbrev pub IsBetween : ℕ → ℕ → ℕ → Type 0
+IsBetween least most n = (least ≤ n) × (n ≤ most)
+
+-- the bytes of words behind the first ones are 0
+abbrev pub IsPadded : ℕ → List ℕ → Type 0
+IsPadded len words = (i : ℕ) → len ≤ i → byte_at words i ≡ 0
+
+-- the key and the document that stand in words
+abbrev pub key_of : List ℕ → List ℕ
+key_of words = unpacked (min (slice_index words 1) 64) (take 8 (drop 8 words))
+
+abbrev pub document_in : List ℕ → List ℕ
+document_in words = unpacked (min (slice_index words 2) 1024) (take 128 (drop 16 words))
+
 -- so many bytes at most
 pub record IsShortText (most : ℕ) (text : List ℕ) : Type 0 where
   pub short : length text ≤ most
   pub bytes : All (λ b. b < 256) text
+
+-- the parts that stand in words have them
+abbrev pub HaveParts : List ℕ → Type 0
+HaveParts words = words ≡ words_with (slice_index words 0) (key_of words) (document_in words) (slice_index words 3)
+
+-- no parts have them
+abbrev pub HaveNoParts : List ℕ → Type 0
+HaveNoParts words = (kind number : ℕ) (key document : List ℕ) → IsShortText 64 key → IsShortText 1024 document → words ≢ words_with kind key document number
 
 -- the tests of a key and of a document
 abbrev pub is_key : List ℕ → Bool

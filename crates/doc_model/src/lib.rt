@@ -5,6 +5,7 @@
 mod laws;
 mod numbers;
 mod operations;
+mod packed_texts;
 mod places;
 mod plain;
 mod table;

@@ -1,11 +1,13 @@
 //! The parts that the words of an operation or a reply have: a kind, a key, a document and a number.
 
-ghost use Rattle.std.specs.Prelude.{◌≡◌, ◌≢◌, ◌+◌, ◌-◌, ◌*◌, ◌^◌, ◌<◌, ◌≤◌, ◌++◌, ℕ, List, IfSome, IfNone, length, min};
+ghost use Rattle.std.specs.Prelude.{◌≡◌, ◌==◌, ◌+◌, ◌-◌, ◌*◌, ◌^◌, ◌<◌, ◌≤◌, ◌++◌, ℕ, List, IfOk, IfSome, IfNone, MatchBool, length, min};
 ghost use Rattle.cx_base.specs.Packing.{packed, unpacked};
 ghost use Rattle.doc_model.specs.Words as spec;
-ghost use Rattle.doc_model.specs.WordParts.{IsShortText};
+ghost use Rattle.doc_model.specs.WordParts as kinds;
 
-use cx_base::{pack, unpack};
+use crate::packed_texts::{are_between, are_zero, is_padded};
+use cx_base::{Bytes, pack, unpack};
+use std::alloc::{AllocError, Global};
 use std::marker::Model;
 
 /// The word, of the 144 of an operation or a reply, that has the kind.
@@ -19,6 +21,9 @@ pub const DOCUMENT_LENGTH_AT: usize = 2;
 
 /// The word that has the number, a signed one in two's complement.
 pub const NUMBER_AT: usize = 3;
+
+/// The first word that is of no part. Those up to the key are, and are 0.
+const FREE_AT: usize = 4;
 
 /// The first word of the key, whose words end where those of the document begin.
 pub const KEY_AT: usize = 8;
@@ -92,82 +97,114 @@ pub(crate) fn words_of_packed(
     words
 }
 
-/// A key or a document that was read from words: at most `N` bytes.
+/// A key or a document where it stands in words: at most `N` bytes.
 #[derive(Drop)]
-pub(crate) struct Text<const N: usize> {
-    bytes: [u8; N],
+pub(crate) struct Text<'a, const N: usize> {
+    words: &'a [u64],
     len: usize,
 }
 
-impl<const N: usize> Model for Text<N> {
-    ghost use Rattle.std.specs.Prelude.{◌≤◌, ℕ, List, take};
+impl<'a, const N: usize> Model for Text<'a, N> {
+    ghost use Rattle.std.specs.Prelude.{◌*◌, ◌≤◌, ℕ, List, length};
+    ghost use Rattle.cx_base.specs.Packing.{unpacked};
 
     ghost Value = { List ℕ };
 
-    ghost view = { λ t. take t.len t.bytes };
+    ghost view = { λ t. unpacked t.len t.words.now };
 
-    ghost invariant = { λ t. t.len ≤ N };
+    ghost invariant = { λ t. (t.len ≤ N) × (N ≤ 8 * length t.words.now) };
 }
 
-impl<const N: usize> Text<N> {
+impl<'a, const N: usize> Text<'a, N> {
     /// The first `len` bytes of some words, and of more than `N` the first `N`.
-    fn read(words: &[u64], len: u64) -> Self
+    fn at(words: &'a [u64], len: u64) -> Self
         requires { N ≤ 8 * length words.now }
         ensures { result ≡ unpacked (min len N) words.now }
     {
-        let mut bytes = [0; N];
-        let len = len.min(N as u64) as usize;
-        unpack(words, &mut bytes[..len]);
-        Text { bytes, len }
+        Text {
+            words,
+            len: len.min(N as u64) as usize,
+        }
     }
 
-    pub(crate) fn as_slice(&self) -> &[u8]
-        ensures text { result.now ≡ self.now }
-        ensures short { length self.now ≤ N }
+    pub(crate) fn is_empty(&self) -> bool
+        ensures { result ≡ (length self.now == 0) }
     {
-        &self.bytes[..self.len]
+        self.len == 0
     }
+
+    pub(crate) fn is_key(&self) -> bool
+        ensures { result ≡ kinds.is_key self.now }
+    {
+        if self.len == 0 || self.len > 64 {
+            return false;
+        }
+        are_between(self.words, self.len, 0x21, 0x7E)
+    }
+
+    pub(crate) fn is_document(&self) -> bool
+        ensures { result ≡ kinds.is_document self.now }
+    {
+        if self.len == 0 || self.len > 1024 {
+            return false;
+        }
+        are_between(self.words, self.len, 0x20, 0xFF)
+    }
+
+    /// Copies the bytes. `Err` is want of memory.
+    pub(crate) fn bytes(&self, alloc: Global) -> Result<Bytes, AllocError>
+        ensures { IfOk result (λ bytes. bytes ≡ self.now) }
+    {
+        let mut bytes = [0; N];
+        let text = &mut bytes[..self.len];
+        unpack(self.words, text);
+        Bytes::of(alloc, text)
+    }
+}
+
+/// Whether some parts have these words: the lengths are within the limits, and what no part uses is 0.
+fn have_parts(words: &[u64; 144]) -> bool
+    ensures { MatchBool result (kinds.HaveParts words.now) (kinds.HaveNoParts words.now) }
+{
+    let key_len = words[KEY_LENGTH_AT];
+    let document_len = words[DOCUMENT_LENGTH_AT];
+    if key_len > 64 || document_len > 1024 {
+        return false;
+    }
+    if !are_zero(&words[FREE_AT..KEY_AT]) {
+        return false;
+    }
+    if !is_padded(&words[KEY_AT..DOCUMENT_AT], key_len) {
+        return false;
+    }
+    is_padded(&words[DOCUMENT_AT..], document_len)
 }
 
 /// The parts of some words.
 #[derive(Drop)]
-pub(crate) struct Parts {
+pub(crate) struct Parts<'a> {
     pub(crate) kind: u64,
-    pub(crate) key: Text<64>,
-    pub(crate) document: Text<1024>,
+    pub(crate) key: Text<'a, 64>,
+    pub(crate) document: Text<'a, 1024>,
     pub(crate) number: u64,
 }
 
-impl Parts {
+impl<'a> Parts<'a> {
     /// The parts that have these words. None exactly where no parts have them.
-    pub(crate) fn of(words: &[u64; 144]) -> Option<Parts>
+    pub(crate) fn of(words: &'a [u64; 144]) -> Option<Parts<'a>>
         ensures some { IfSome result (λ p. words.now ≡ spec.words_with p.kind p.key p.document p.number) }
         ensures small { IfSome result (λ p. p.number < 2 ^ 64) }
-        ensures texts { IfSome result (λ p. IsShortText 64 p.key × IsShortText 1024 p.document) }
-        ensures none { IfNone result ((kind number : ℕ) (key document : List ℕ) → IsShortText 64 key → IsShortText 1024 document → words.now ≢ spec.words_with kind key document number) }
+        ensures texts { IfSome result (λ p. kinds.IsShortText 64 p.key × kinds.IsShortText 1024 p.document) }
+        ensures none { IfNone result (kinds.HaveNoParts words.now) }
     {
-        let parts = Parts {
-            kind: words[KIND_AT],
-            key: Text::<64>::read(&words[KEY_AT..DOCUMENT_AT], words[KEY_LENGTH_AT]),
-            document: Text::<1024>::read(&words[DOCUMENT_AT..], words[DOCUMENT_LENGTH_AT]),
-            number: words[NUMBER_AT],
-        };
-        if parts.words() == *words {
-            Some(parts)
-        } else {
-            None
+        if !have_parts(words) {
+            return None;
         }
-    }
-
-    /// The words of the parts.
-    fn words(&self) -> [u64; 144]
-        ensures { result ≡ spec.words_with self.now.kind self.now.key self.now.document self.now.number }
-    {
-        words_with(
-            self.kind,
-            self.key.as_slice(),
-            self.document.as_slice(),
-            self.number,
-        )
+        Some(Parts {
+            kind: words[KIND_AT],
+            key: Text::<64>::at(&words[KEY_AT..DOCUMENT_AT], words[KEY_LENGTH_AT]),
+            document: Text::<1024>::at(&words[DOCUMENT_AT..], words[DOCUMENT_LENGTH_AT]),
+            number: words[NUMBER_AT],
+        })
     }
 }

@@ -148,12 +148,6 @@ fn are_visible(bytes: &[u8]) -> bool
     bytes.iter().all(|byte| *byte >= 0x21 && *byte <= 0x7E)
 }
 
-fn are_plain(bytes: &[u8]) -> bool
-    ensures { result ≡ list_all (nat_le 32) bytes.now }
-{
-    bytes.iter().all(|byte| *byte >= 0x20)
-}
-
 /// Whether the bytes are a key: 1 to 64 of them, each from 0x21 to 0x7E.
 pub fn is_key(key: &[u8]) -> bool
     ensures test { result ≡ kinds.is_key key.now }
@@ -168,24 +162,16 @@ fn passes_as_key(key: &[u8]) -> bool
     !key.is_empty() && key.len() <= 64 && are_visible(key)
 }
 
-/// Whether the bytes are a document.
-fn is_document(document: &[u8]) -> bool
-    ensures { result ≡ kinds.is_document document.now }
-{
-    !document.is_empty() && document.len() <= 1024 && are_plain(document)
-}
-
 /// Whether some operation has these parts.
 fn has_op(parts: &Parts) -> bool
     ensures { result ≡ kinds.has_op parts.now.kind parts.now.key parts.now.document parts.now.number }
 {
-    let key = parts.key.as_slice();
-    let document = parts.document.as_slice();
+    let is_key = parts.key.is_key();
     let no_number = parts.number == 0;
-    let only_key = is_key(key) && document.is_empty();
-    let no_text = key.is_empty() && document.is_empty();
+    let only_key = is_key && parts.document.is_empty();
+    let no_text = parts.key.is_empty() && parts.document.is_empty();
     match parts.kind {
-        1 => is_key(key) && is_document(document) && no_number,
+        1 => is_key && parts.document.is_document() && no_number,
         2 | 4 => only_key && no_number,
         3 => only_key,
         5 => (only_key || no_text) && no_number,
@@ -201,11 +187,11 @@ fn op_with(alloc: Global, parts: &Parts) -> Result<Op, AllocError>
     if parts.kind == 6 {
         return Ok(Op::Count);
     }
-    let key = Bytes::of(alloc, parts.key.as_slice())?;
+    let key = parts.key.bytes(alloc)?;
     match parts.kind {
         1 => Ok(Op::Put {
             key,
-            doc: Bytes::of(alloc, parts.document.as_slice())?,
+            doc: parts.document.bytes(alloc)?,
         }),
         2 => Ok(Op::Del { key }),
         3 => Ok(Op::Add {
@@ -221,15 +207,13 @@ fn op_with(alloc: Global, parts: &Parts) -> Result<Op, AllocError>
 fn has_reply(parts: &Parts) -> bool
     ensures { result ≡ kinds.has_reply parts.now.kind parts.now.key parts.now.document parts.now.number }
 {
-    let key = parts.key.as_slice();
-    let document = parts.document.as_slice();
     let no_number = parts.number == 0;
-    let no_text = key.is_empty() && document.is_empty();
+    let no_text = parts.key.is_empty() && parts.document.is_empty();
     match parts.kind {
         1..=4 | 7..=9 => no_text && no_number,
-        5 => key.is_empty() && is_document(document) && no_number,
+        5 => parts.key.is_empty() && parts.document.is_document() && no_number,
         6 | 11 => no_text,
-        10 => is_key(key) && document.is_empty() && no_number,
+        10 => parts.key.is_key() && parts.document.is_empty() && no_number,
         _ => false,
     }
 }
@@ -243,12 +227,12 @@ fn reply_with(alloc: Global, parts: &Parts) -> Result<Reply, AllocError>
         2 => Ok(Reply::Replaced),
         3 => Ok(Reply::Deleted),
         4 => Ok(Reply::Absent),
-        5 => Ok(Reply::Doc(Bytes::of(alloc, parts.document.as_slice())?)),
+        5 => Ok(Reply::Doc(parts.document.bytes(alloc)?)),
         6 => Ok(Reply::Sum(parts.number.cast_signed())),
         7 => Ok(Reply::NotNumber),
         8 => Ok(Reply::Overflow),
         9 => Ok(Reply::NoRoom),
-        10 => Ok(Reply::Key(Bytes::of(alloc, parts.key.as_slice())?)),
+        10 => Ok(Reply::Key(parts.key.bytes(alloc)?)),
         _ => Ok(Reply::Number(parts.number)),
     }
 }

@@ -12,6 +12,7 @@ mod numbers;
 #[cfg(test)]
 mod order_tests;
 mod readings;
+mod replies;
 #[cfg(test)]
 mod single_store_tests;
 mod step_laws;

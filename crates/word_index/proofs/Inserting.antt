@@ -2,7 +2,7 @@
 use Rattle.std.proofs.Common.{◌≡◌, ◌≢◌, ◌^◌, ◌+◌, ◌-◌, ◌*◌, ◌/◌, ◌<◌, ◌≤◌, ℕ, Bool, true, false, cond, leb, List, [], ◌∷◌, ◌++◌, length, is_some, inl, inr, refl, sym, ap, subst, ◌∙◌, arith}
 use Rattle.std.proofs.lemmas.Bool.{cases_eq}
 use Rattle.std.proofs.lemmas.Bool.Decides.{nat_tests}
-use Rattle.cx_base.specs.Store.{Store, IsKey, IsDocument, pair_lines, lines_of}
+use Rattle.cx_base.specs.Store.{Store, IsKey, IsDocument, blocks, pair_lines, lines_of}
 use Rattle.doc_model.specs.Meaning.{document_at, pairs_below, pairs_above, with_pair, has_room}
 use Rattle.doc_model.proofs.Stores.{IsStore-with_pair}
 use Rattle.avl_tree.specs.Ways.{spot, with_new}
@@ -14,15 +14,17 @@ use Rattle.index_checks.specs.Layout.{Arranged, StandsFor, IsIndex}
 use Rattle.index_checks.specs.Reading.{store_in}
 use Rattle.index_checks.proofs.LawfulWords.{store_is}
 use Rattle.index_checks.proofs.Totals.{all_lines}
-use Rattle.word_index.specs.Exact.{order_in, with_new_pair, with_one_more, with_added, node_at, with_rewritten, is_key_in, with_document, inserted_in}
+use Rattle.word_index.specs.Exact.{document_blocks, order_in, with_new_pair, with_one_more, with_added, node_at, with_rewritten, is_key_in, with_document, inserted_in}
+use Rattle.word_index.specs.Answers.{IsNodeOf}
 use Rattle.word_index.specs.Fresh.{CanTake}
 use Rattle.word_index.specs.Insertion.{Inserts, CanAdd, Adds, LinesAt}
 use Rattle.word_index.specs.declared.insertion.Inserted.TheVariants.{New, Replaced, NoRoom}
-use Rattle.word_index.specs.Rewriting.{CanRewrite}
+use Rattle.word_index.specs.Rewriting.{CanRewrite, CanRefit, CanRenew}
 use Rattle.word_index.specs.Walk.{HasNode, AtSpot}
 use Rattle.word_index.proofs.Adding.{add_room, added_stands, plain_of}
 use Rattle.word_index.proofs.DocumentChanges.{rewritten_is}
 use Rattle.word_index.proofs.ExactTaking.{new_pair_is}
+use Rattle.word_index.proofs.NodeReads.{document_text}
 use Rattle.word_index.proofs.Putting.{lines_of_append, lines_of_cons, lines_of_places}
 use Rattle.word_index.proofs.Splits.{above_split, below_split, above_behind, below_behind, document_there, document_missing}
 use Rattle.word_index.proofs.KeyPlaces.{tree_of, walk_end, IsMissing, HasPlace, none_at, place_is_at, place_node, spot_node}
@@ -236,10 +238,37 @@ module _ (x key document nodes sides : List ℕ) (depth node above used old n : 
           is_document = is_document;
         }
 
-    pub can_rewrite : used - old + more ≤ lines - 1 → node ≢ 0 → CanRewrite x node document
+    can_rewrite : used - old + more ≤ lines - 1 → node ≢ 0 → CanRewrite x node document
     can_rewrite l ne =
         let s = i.stands in
         here_can x key document i.version i.store s node (place_is_at x key i.version i.store s node (k.spot i.version i.store s).at.node_is ne) (room l)
+
+    -- whether the document needs as many blocks as the one that is there
+    module _ (ne : node ≢ 0) where
+      old_place : HasPlace x key i.stands.places i.store (walk_end (order_in key x) i.stands.tree).0 (walk_end (order_in key x) i.stands.tree).1 node
+      old_place = place_is_at x key i.version i.store i.stands node (k.spot i.version i.store i.stands).at.node_is ne
+
+      old_node : IsNodeOf x node (key, old_place.document)
+      old_node = place_node x key i.version i.store i.stands (walk_end (order_in key x) i.stands.tree).0 (walk_end (order_in key x) i.stands.tree).1 node old_place
+
+      old_blocks : document_blocks node x ≡ blocks old_place.document
+      unfolding document_blocks
+      old_blocks = ap (λ m. (m + 55) / 56) (document_text x node (key, old_place.document) old_node).long
+
+      old_lines : old ≡ pair_lines (key, old_place.document)
+      old_lines = k.here.some ne (key, old_place.document) old_node
+
+      pub alike : old ≡ more → document_blocks node x ≡ blocks document
+      alike same = omega (arith, old_blocks, old_lines, e, same)
+
+      pub unlike : old ≢ more → document_blocks node x ≢ blocks document
+      unlike other same = other (omega (arith, old_blocks, old_lines, e, same))
+
+    pub can_refit : used - old + more ≤ lines - 1 → node ≢ 0 → old ≡ more → CanRefit x node document
+    can_refit l ne same = record { can = can_rewrite l ne; alike = alike ne same }
+
+    pub can_renew : used - old + more ≤ lines - 1 → node ≢ 0 → old ≢ more → CanRenew x node document
+    can_renew l ne other = record { can = can_rewrite l ne; unlike = unlike ne other }
 
     -- and the exact words
     pub exact_none : lines - 1 < used - old + more → (NoRoom ≡ inserted_in key document x) × (x ≡ with_document key document x)

@@ -1,6 +1,6 @@
 -- A document is put in another's place.
-use Rattle.std.specs.Prelude.{◌≡◌, ◌+◌, ◌≤◌, ℕ, List, [], ◌∷◌, ◌++◌, length, All}
-use Rattle.cx_base.specs.Store.{Store, pair_lines, lines_of}
+use Rattle.std.specs.Prelude.{◌≡◌, ◌≢◌, ◌+◌, ◌≤◌, ℕ, List, [], ◌∷◌, ◌++◌, length, All}
+use Rattle.cx_base.specs.Store.{Store, blocks, pair_lines, lines_of}
 use Rattle.avl_tree.specs.Tree.{Tree}
 use Rattle.avl_words.specs.Lines.{word_of, line_count, IsWithin}
 use Rattle.index_checks.specs.Layout.{IsChain, Place, Placed, Arranged}
@@ -28,6 +28,16 @@ pub record CanRewrite (words : List ℕ) (node : ℕ) (document : List ℕ) : Ty
   pub arranged : Arranged words version (lower ++ pair ∷ after) tree (front ++ place ∷ rest) given []
   pub placed_front : Placed words front lower
   pub room : lines_of lower + pair_lines (pair.0, document) + lines_of after + 1 ≤ line_count words
+
+-- the same, where the document needs as many blocks as the node's own
+pub record CanRefit (words : List ℕ) (node : ℕ) (document : List ℕ) : Type 0 where
+  pub can : CanRewrite words node document
+  pub alike : document_blocks node words ≡ blocks document
+
+-- the same, where it needs more or fewer
+pub record CanRenew (words : List ℕ) (node : ℕ) (document : List ℕ) : Type 0 where
+  pub can : CanRewrite words node document
+  pub unlike : document_blocks node words ≢ blocks document
 
 -- where its document stands
 pub record IsOld (words : List ℕ) (node first count : ℕ) (document : List ℕ) : Type 0 where

@@ -13,7 +13,7 @@ ghost use Rattle.word_index.specs.Fresh.{CanTake};
 ghost use Rattle.word_index.specs.Insertion.{PairWritten, CanAdd, Adds, Inserts, LinesAt};
 ghost use Rattle.word_index.specs.Walk.{HasNode, FewVisits, Walked};
 
-use crate::rewriting::rewrite;
+use crate::rewriting::{refit, rewrite};
 use crate::taken::{put_line, take_line, write_text};
 use crate::texts::{Doc, Key};
 use crate::walk::seek_place;
@@ -31,11 +31,11 @@ pub enum Inserted {
 }
 
 /// The lines that a pair takes.
-fn lines_of_pair(key: &Key, doc: &Doc) -> u64
+fn lines_of_pair(key: &Key, doc: &Doc<'_>) -> u64
     requires key { key.now.len ≤ 64 }
     requires doc { doc.now.len ≤ 1024 }
     ensures { result
-        ≡ pair_lines (unpacked key.now.len key.now.words, unpacked doc.now.len doc.now.words) }
+        ≡ pair_lines (unpacked key.now.len key.now.words, unpacked doc.now.len doc.now.words.now) }
 {
     1 + key.len.div_ceil(56) + doc.len.div_ceil(56)
 }
@@ -84,23 +84,23 @@ fn lines_in_use<M: Memory>(mem: &mut M) -> Result<u64, Halt>
 }
 
 /// Writes a node, as a leaf, and the blocks of a pair into new lines, and gives the node.
-fn write_pair<M: Memory>(mem: &mut M, key: &Key, doc: &Doc) -> Result<u64, Halt>
+fn write_pair<M: Memory>(mem: &mut M, key: &Key, doc: &Doc<'_>) -> Result<u64, Halt>
     requires sized { IsPartLength (M.size mem.old) }
     requires writable { IsTrue (M.writable mem.old) }
     requires key { IsPacked 8 key.now.len key.now.words }
-    requires doc { IsPacked 128 doc.now.len doc.now.words }
+    requires doc { IsPacked 128 doc.now.len doc.now.words.now }
     requires room { Always (M.stands mem.old)
-        (λ ws. CanTake ws (pair_lines (unpacked key.now.len key.now.words, unpacked doc.now.len doc.now.words))) }
+        (λ ws. CanTake ws (pair_lines (unpacked key.now.len key.now.words, unpacked doc.now.len doc.now.words.now))) }
     ensures done { IfOk result (λ node. Becomes (M.stands mem.old) (M.stands mem.new)
-        (PairWritten (unpacked key.now.len key.now.words, unpacked doc.now.len doc.now.words) node)) }
+        (PairWritten (unpacked key.now.len key.now.words, unpacked doc.now.len doc.now.words.now) node)) }
     ensures exact { IfOk result (λ node. Becomes (M.stands mem.old) (M.stands mem.new)
-        (λ old now. with_new_pair (unpacked key.now.len key.now.words, unpacked doc.now.len doc.now.words) old ≡ (node, now))) }
+        (λ old now. with_new_pair (unpacked key.now.len key.now.words, unpacked doc.now.len doc.now.words.now) old ≡ (node, now))) }
     ensures halts { OnErr result (M.left mem.new ≡ Some 0) }
     ensures framed { Framed M.size M.fixed M.writable M.left mem.old mem.new }
 {
     let node = take_line(mem)?;
     let key_first = write_text(mem, &key.words, key.len.div_ceil(56) as usize)?;
-    let doc_first = write_text(mem, &doc.words, doc.len.div_ceil(56) as usize)?;
+    let doc_first = write_text(mem, doc.words, doc.len.div_ceil(56) as usize)?;
     put_line(
         mem,
         node,
@@ -110,15 +110,15 @@ fn write_pair<M: Memory>(mem: &mut M, key: &Key, doc: &Doc) -> Result<u64, Halt>
 }
 
 /// Puts a new pair where the walk to its key ended at nothing.
-fn put_pair<M: Memory>(mem: &mut M, way: &Way, key: &Key, doc: &Doc) -> Result<(), Halt>
+fn put_pair<M: Memory>(mem: &mut M, way: &Way, key: &Key, doc: &Doc<'_>) -> Result<(), Halt>
     requires sized { IsPartLength (M.size mem.old) }
     requires writable { IsTrue (M.writable mem.old) }
     requires key { IsPacked 8 key.now.len key.now.words }
-    requires doc { IsPacked 128 doc.now.len doc.now.words }
+    requires doc { IsPacked 128 doc.now.len doc.now.words.now }
     requires can { Always (M.stands mem.old)
-        (λ ws. CanAdd ws way.now.nodes way.now.sides way.now.depth (unpacked key.now.len key.now.words, unpacked doc.now.len doc.now.words)) }
+        (λ ws. CanAdd ws way.now.nodes way.now.sides way.now.depth (unpacked key.now.len key.now.words, unpacked doc.now.len doc.now.words.now)) }
     ensures exact { IfOk result (λ _. Becomes (M.stands mem.old) (M.stands mem.new)
-        (Adds way.now.nodes way.now.sides way.now.depth (unpacked key.now.len key.now.words, unpacked doc.now.len doc.now.words))) }
+        (Adds way.now.nodes way.now.sides way.now.depth (unpacked key.now.len key.now.words, unpacked doc.now.len doc.now.words.now))) }
     ensures halts { OnErr result (M.left mem.new ≡ Some 0) }
     ensures framed { Framed M.size M.fixed M.writable M.left mem.old mem.new }
 {
@@ -130,15 +130,15 @@ fn put_pair<M: Memory>(mem: &mut M, way: &Way, key: &Key, doc: &Doc) -> Result<(
 }
 
 /// The same over a write buffer. Its room covers each change in at most 16,384 lines, so that there each word that changes is stored once.
-fn add<M: Memory>(mem: &mut M, way: &Way, key: &Key, doc: &Doc) -> Result<(), Halt>
+fn add<M: Memory>(mem: &mut M, way: &Way, key: &Key, doc: &Doc<'_>) -> Result<(), Halt>
     requires sized { IsPartLength (M.size mem.old) }
     requires writable { IsTrue (M.writable mem.old) }
     requires key { IsPacked 8 key.now.len key.now.words }
-    requires doc { IsPacked 128 doc.now.len doc.now.words }
+    requires doc { IsPacked 128 doc.now.len doc.now.words.now }
     requires can { Always (M.stands mem.old)
-        (λ ws. CanAdd ws way.now.nodes way.now.sides way.now.depth (unpacked key.now.len key.now.words, unpacked doc.now.len doc.now.words)) }
+        (λ ws. CanAdd ws way.now.nodes way.now.sides way.now.depth (unpacked key.now.len key.now.words, unpacked doc.now.len doc.now.words.now)) }
     ensures exact { IfOk result (λ _. Becomes (M.stands mem.old) (M.stands mem.new)
-        (Adds way.now.nodes way.now.sides way.now.depth (unpacked key.now.len key.now.words, unpacked doc.now.len doc.now.words))) }
+        (Adds way.now.nodes way.now.sides way.now.depth (unpacked key.now.len key.now.words, unpacked doc.now.len doc.now.words.now))) }
     ensures halts { OnErr result (M.left mem.new ≡ Some 0) }
     ensures framed { Framed M.size M.fixed M.writable M.left mem.old mem.new }
 {
@@ -159,7 +159,7 @@ pub fn insert<M: Memory, L: Ledger>(
     mem: &mut M,
     lines: u64,
     key: &Key,
-    doc: &Doc,
+    doc: &Doc<'_>,
     visits: &mut Steps<L>,
 ) -> Result<Inserted, Halt>
     requires sized { IsPartLength (M.size mem.old) }
@@ -167,29 +167,35 @@ pub fn insert<M: Memory, L: Ledger>(
     requires writable { IsTrue (M.writable mem.old) }
     requires lawful { Always (M.stands mem.old) IsIndex }
     requires key { IsPacked 8 key.now.len key.now.words }
-    requires doc { IsPacked 128 doc.now.len doc.now.words }
+    requires doc { IsPacked 128 doc.now.len doc.now.words.now }
     requires is_key { IsKey (unpacked key.now.len key.now.words) }
-    requires is_document { IsDocument (unpacked doc.now.len doc.now.words) }
+    requires is_document { IsDocument (unpacked doc.now.len doc.now.words.now) }
     ensures done { IfOk result (λ inserted. Becomes (M.stands mem.old) (M.stands mem.new)
-        (Inserts (unpacked key.now.len key.now.words) (unpacked doc.now.len doc.now.words) inserted)) }
+        (Inserts (unpacked key.now.len key.now.words) (unpacked doc.now.len doc.now.words.now) inserted)) }
     ensures exact { IfOk result (λ inserted. Becomes (M.stands mem.old) (M.stands mem.new)
-        (λ old now. (inserted ≡ inserted_in (unpacked key.now.len key.now.words) (unpacked doc.now.len doc.now.words) old) × (now ≡ with_document (unpacked key.now.len key.now.words) (unpacked doc.now.len doc.now.words) old))) }
+        (λ old now. (inserted ≡ inserted_in (unpacked key.now.len key.now.words) (unpacked doc.now.len doc.now.words.now) old) × (now ≡ with_document (unpacked key.now.len key.now.words) (unpacked doc.now.len doc.now.words.now) old))) }
     ensures visits { IfOk result (λ _. Becomes (M.stands mem.old) (M.stands mem.new) (λ old now. FewVisits (visits.new - visits.old) old)) }
     ensures walked { Walked (M.stands mem.old) (visits.new - visits.old) }
     ensures halts { OnErr result (M.left mem.new ≡ Some 0) }
     ensures framed { Framed M.size M.fixed M.writable M.left mem.old mem.new }
 {
-    let spot = seek_place(mem, key, visits)?;
+    let mut way = Way::none();
+    let end = seek_place(mem, key, visits, &mut way)?;
     let used = lines_in_use(mem)?;
-    let old = lines_at(mem, spot.node)?;
-    let needed = used - old + lines_of_pair(key, doc);
+    let old = lines_at(mem, end.node)?;
+    let new = lines_of_pair(key, doc);
+    let needed = used - old + new;
     if lines - 1 < needed {
         return Ok(Inserted::NoRoom);
     }
-    if spot.node == 0 {
-        add(mem, &spot.way, key, doc)?;
+    if end.node == 0 {
+        add(mem, &way, key, doc)?;
         return Ok(Inserted::New);
     }
-    rewrite(mem, spot.node, doc)?;
+    if old == new {
+        refit(mem, end.node, doc)?;
+        return Ok(Inserted::Replaced);
+    }
+    rewrite(mem, end.node, doc)?;
     Ok(Inserted::Replaced)
 }

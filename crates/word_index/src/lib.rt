@@ -27,6 +27,6 @@ pub use index_checks::{
 };
 pub use insertion::{Inserted, insert};
 pub use laws::{documents_are_put, keys_are_removed};
-pub use nodes::{count, doc_at};
+pub use nodes::count;
 pub use removal::remove;
 pub use texts::{Doc, Key};

@@ -44,21 +44,6 @@ pub fn key_at<M: Memory>(mem: &mut M, node: u64) -> Result<Key, Halt>
     Ok(Key { len, words })
 }
 
-/// The document of a node that `find` gave on these words. `Halt` comes only where no access is left.
-pub fn doc_at<M: Memory>(mem: &mut M, node: u64) -> Result<Doc, Halt>
-    requires sized { IsPartLength (M.size mem.old) }
-    requires node { Always (M.stands mem.old) (λ ws. HasNode ws node) }
-    ensures done { IfOk result (λ doc. Reads (M.stands mem.old) (M.stands mem.new)
-        (λ ws. (pair : List ℕ × List ℕ) → IsNodeOf ws node pair → IsPackOf 128 doc.len doc.words pair.1)) }
-    ensures kept { Becomes (M.stands mem.old) (M.stands mem.new) ◌≡◌ }
-    ensures halts { OnErr result (M.left mem.new ≡ Some 0) }
-    ensures framed { Framed M.size M.fixed M.writable M.left mem.old mem.new }
-{
-    let mut words = [0; 128];
-    let len = read_text(mem, node, 5, &mut words)?;
-    Ok(Doc { len, words })
-}
-
 /// How the length of a node's key compares with a number.
 fn order_of_lengths<M: Memory>(mem: &mut M, node: u64, len: u64) -> Result<Ordering, Halt>
     requires sized { IsPartLength (M.size mem.old) }

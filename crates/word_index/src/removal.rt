@@ -89,10 +89,11 @@ pub fn remove<M: Memory, L: Ledger>(
     ensures halts { OnErr result (M.left mem.new ≡ Some 0) }
     ensures framed { Framed M.size M.fixed M.writable M.left mem.old mem.new }
 {
-    let mut spot = seek_place(mem, key, visits)?;
-    if spot.node == 0 {
+    let mut way = Way::none();
+    let end = seek_place(mem, key, visits, &mut way)?;
+    if end.node == 0 {
         return Ok(false);
     }
-    take_out(mem, &mut spot.way, spot.node)?;
+    take_out(mem, &mut way, end.node)?;
     Ok(true)
 }

@@ -7,7 +7,7 @@ ghost use Rattle.cx_base.specs.Store.{blocks};
 ghost use Rattle.avl_words.specs.Lines.{IsPartLength};
 ghost use Rattle.word_index.specs.Answers.{IsPacked};
 ghost use Rattle.word_index.specs.Exact.{with_refilled, with_renewed, with_rewritten};
-ghost use Rattle.word_index.specs.Rewriting.{CanRewrite, IsOld};
+ghost use Rattle.word_index.specs.Rewriting.{CanRefit, CanRenew, IsOld};
 
 use crate::filling::fill_chain;
 use crate::given_back::give_chain;
@@ -18,73 +18,91 @@ use cx_base::{Halt, Memory};
 use write_buffer::{WriteBuffer, store_held};
 
 /// Writes a document into the blocks of another of as many blocks.
-fn refill<M: Memory>(mem: &mut M, node: u64, first: u64, doc: &Doc) -> Result<(), Halt>
+fn refill<M: Memory>(mem: &mut M, node: u64, first: u64, doc: &Doc<'_>) -> Result<(), Halt>
     requires sized { IsPartLength (M.size mem.old) }
     requires writable { IsTrue (M.writable mem.old) }
-    requires doc { IsPacked 128 doc.now.len doc.now.words }
+    requires doc { IsPacked 128 doc.now.len doc.now.words.now }
     requires old { Always (M.stands mem.old)
-        (λ ws. IsOld ws node first (blocks (unpacked doc.now.len doc.now.words)) (unpacked doc.now.len doc.now.words)) }
+        (λ ws. IsOld ws node first (blocks (unpacked doc.now.len doc.now.words.now)) (unpacked doc.now.len doc.now.words.now)) }
     ensures exact { IfOk result (λ _. Becomes (M.stands mem.old) (M.stands mem.new)
-        (λ old now. now ≡ with_refilled (unpacked doc.now.len doc.now.words) node old)) }
+        (λ old now. now ≡ with_refilled (unpacked doc.now.len doc.now.words.now) node old)) }
     ensures halts { OnErr result (M.left mem.new ≡ Some 0) }
     ensures framed { Framed M.size M.fixed M.writable M.left mem.old mem.new }
 {
-    fill_chain(mem, first, &doc.words, doc.len.div_ceil(56) as usize)?;
+    fill_chain(mem, first, doc.words, doc.len.div_ceil(56) as usize)?;
     put_new(mem, node, 6, doc.len)?;
     Ok(())
 }
 
 /// Gives back the blocks of a document, and writes another into new ones.
-fn renew<M: Memory>(mem: &mut M, node: u64, first: u64, count: u64, doc: &Doc) -> Result<(), Halt>
+fn renew<M: Memory>(
+    mem: &mut M,
+    node: u64,
+    first: u64,
+    count: u64,
+    doc: &Doc<'_>,
+) -> Result<(), Halt>
     requires sized { IsPartLength (M.size mem.old) }
     requires writable { IsTrue (M.writable mem.old) }
-    requires doc { IsPacked 128 doc.now.len doc.now.words }
+    requires doc { IsPacked 128 doc.now.len doc.now.words.now }
     requires old { Always (M.stands mem.old)
-        (λ ws. IsOld ws node first count (unpacked doc.now.len doc.now.words)) }
+        (λ ws. IsOld ws node first count (unpacked doc.now.len doc.now.words.now)) }
     ensures exact { IfOk result (λ _. Becomes (M.stands mem.old) (M.stands mem.new)
-        (λ old now. now ≡ with_renewed (unpacked doc.now.len doc.now.words) node old)) }
+        (λ old now. now ≡ with_renewed (unpacked doc.now.len doc.now.words.now) node old)) }
     ensures halts { OnErr result (M.left mem.new ≡ Some 0) }
     ensures framed { Framed M.size M.fixed M.writable M.left mem.old mem.new }
 {
     put(mem, node, 5, 0)?;
     put(mem, node, 6, 0)?;
     give_chain(mem, first, count)?;
-    let text = write_text(mem, &doc.words, doc.len.div_ceil(56) as usize)?;
+    let text = write_text(mem, doc.words, doc.len.div_ceil(56) as usize)?;
     put(mem, node, 5, text)?;
     put(mem, node, 6, doc.len)?;
     Ok(())
 }
 
-/// Puts a document in place of a node's own: in the same blocks where it needs as many, and else in new ones.
-fn replace<M: Memory>(mem: &mut M, node: u64, doc: &Doc) -> Result<(), Halt>
+/// Puts a document in place of a node's own of as many blocks, into the same blocks. No word is stored twice, so none has to be held back.
+pub fn refit<M: Memory>(mem: &mut M, node: u64, doc: &Doc<'_>) -> Result<(), Halt>
     requires sized { IsPartLength (M.size mem.old) }
     requires writable { IsTrue (M.writable mem.old) }
-    requires doc { IsPacked 128 doc.now.len doc.now.words }
+    requires doc { IsPacked 128 doc.now.len doc.now.words.now }
     requires can { Always (M.stands mem.old)
-        (λ ws. CanRewrite ws node (unpacked doc.now.len doc.now.words)) }
+        (λ ws. CanRefit ws node (unpacked doc.now.len doc.now.words.now)) }
     ensures exact { IfOk result (λ _. Becomes (M.stands mem.old) (M.stands mem.new)
-        (λ old now. now ≡ with_rewritten (unpacked doc.now.len doc.now.words) node old)) }
+        (λ old now. now ≡ with_rewritten (unpacked doc.now.len doc.now.words.now) node old)) }
+    ensures halts { OnErr result (M.left mem.new ≡ Some 0) }
+    ensures framed { Framed M.size M.fixed M.writable M.left mem.old mem.new }
+{
+    let first = word(mem, node, 5)?;
+    refill(mem, node, first, doc)
+}
+
+/// Puts a document in place of a node's own of more or fewer blocks, into new ones.
+fn replace<M: Memory>(mem: &mut M, node: u64, doc: &Doc<'_>) -> Result<(), Halt>
+    requires sized { IsPartLength (M.size mem.old) }
+    requires writable { IsTrue (M.writable mem.old) }
+    requires doc { IsPacked 128 doc.now.len doc.now.words.now }
+    requires can { Always (M.stands mem.old)
+        (λ ws. CanRenew ws node (unpacked doc.now.len doc.now.words.now)) }
+    ensures exact { IfOk result (λ _. Becomes (M.stands mem.old) (M.stands mem.new)
+        (λ old now. now ≡ with_rewritten (unpacked doc.now.len doc.now.words.now) node old)) }
     ensures halts { OnErr result (M.left mem.new ≡ Some 0) }
     ensures framed { Framed M.size M.fixed M.writable M.left mem.old mem.new }
 {
     let first = word(mem, node, 5)?;
     let count = word(mem, node, 6)?.div_ceil(56);
-    if count == doc.len.div_ceil(56) {
-        refill(mem, node, first, doc)
-    } else {
-        renew(mem, node, first, count, doc)
-    }
+    renew(mem, node, first, count, doc)
 }
 
 /// The same over a write buffer. Its room covers each change in at most 16,384 lines, so that there each word that changes is stored once.
-pub fn rewrite<M: Memory>(mem: &mut M, node: u64, doc: &Doc) -> Result<(), Halt>
+pub fn rewrite<M: Memory>(mem: &mut M, node: u64, doc: &Doc<'_>) -> Result<(), Halt>
     requires sized { IsPartLength (M.size mem.old) }
     requires writable { IsTrue (M.writable mem.old) }
-    requires doc { IsPacked 128 doc.now.len doc.now.words }
+    requires doc { IsPacked 128 doc.now.len doc.now.words.now }
     requires can { Always (M.stands mem.old)
-        (λ ws. CanRewrite ws node (unpacked doc.now.len doc.now.words)) }
+        (λ ws. CanRenew ws node (unpacked doc.now.len doc.now.words.now)) }
     ensures exact { IfOk result (λ _. Becomes (M.stands mem.old) (M.stands mem.new)
-        (λ old now. now ≡ with_rewritten (unpacked doc.now.len doc.now.words) node old)) }
+        (λ old now. now ≡ with_rewritten (unpacked doc.now.len doc.now.words.now) node old)) }
     ensures halts { OnErr result (M.left mem.new ≡ Some 0) }
     ensures framed { Framed M.size M.fixed M.writable M.left mem.old mem.new }
 {

@@ -7,10 +7,10 @@ ghost use Rattle.cx_base.specs.Store.{IsKey, IsDocument};
 ghost use Rattle.word_index.specs.Answers.{IsPacked};
 ghost use Rattle.index_checks.specs.Layout.{IsIndex};
 
-use crate::answers::{find, least_above};
+use crate::answers::{find, least_above, read_document};
 use crate::format::format_index;
 use crate::insertion::{Inserted, insert};
-use crate::nodes::{count, doc_at};
+use crate::nodes::count;
 use crate::removal::remove;
 use crate::texts::{Doc, Key};
 use cx_base::{Halt, Memory, Steps, VecMemory, pack, packed_unpacks};
@@ -34,21 +34,6 @@ fn key_of(bytes: &[u8]) -> Key
     }
 }
 
-// A document of some bytes.
-fn doc_of(bytes: &[u8]) -> Doc
-    requires { IsDocument bytes.now }
-    ensures packed { IsPacked 128 result.len result.words }
-    ensures is { unpacked result.len result.words ≡ bytes.now }
-{
-    let mut words = [0; 128];
-    pack(bytes, &mut words);
-    packed_unpacks(bytes, 128);
-    Doc {
-        len: bytes.len() as u64,
-        words,
-    }
-}
-
 // Puts a document at a key, in 64 lines.
 pub fn put<M: Memory, L: Ledger>(
     memory: &mut M,
@@ -65,7 +50,14 @@ pub fn put<M: Memory, L: Ledger>(
     ensures writable { IsTrue (M.writable memory.new) }
     ensures lawful { OnOk result (Always (M.stands memory.new) IsIndex) }
 {
-    let done = insert(memory, 64, &key_of(key), &doc_of(document), visits)?;
+    let mut words = [0; 128];
+    pack(document, &mut words);
+    packed_unpacks(document, 128);
+    let doc = Doc {
+        len: document.len() as u64,
+        words: &words,
+    };
+    let done = insert(memory, 64, &key_of(key), &doc, visits)?;
     Ok(done)
 }
 
@@ -134,8 +126,9 @@ fn read<M: Memory, L: Ledger>(
     let Some(node) = found else {
         return Ok(None);
     };
-    let doc = doc_at(memory, node)?;
-    Ok(Some(doc.words[0]))
+    let mut words = [0; 128];
+    read_document(memory, node, &mut words)?;
+    Ok(Some(words[0]))
 }
 
 // Two keys, one of them twice, and what is there before and after one is taken out.

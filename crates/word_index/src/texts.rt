@@ -14,11 +14,11 @@ pub struct Key {
     pub words: [u64; 8],
 }
 
-/// A document: its length in bytes, at most 1,024, and its bytes packed, unused bytes 0.
-#[derive(Clone, Copy, Debug, PartialEq, Eq)]
-pub struct Doc {
+/// A document where it stands: its length in bytes, at most 1,024, and its bytes packed in 128 words, unused bytes 0.
+#[derive(Clone, Copy, Debug)]
+pub struct Doc<'a> {
     pub len: u64,
-    pub words: [u64; 128],
+    pub words: &'a [u64],
 }
 
 /// The first byte at which two words differ.

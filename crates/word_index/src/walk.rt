@@ -17,15 +17,7 @@ use cx_base::{Halt, Memory, Steps};
 use std::cmp::Ordering;
 use std::sync::ledger::Ledger;
 
-/// Where a walk ended: the way down, the node there (0 for none), and the last node at which the walk went left.
-#[derive(Clone, Copy, Debug)]
-pub struct Spot {
-    pub way: Way,
-    pub node: u64,
-    pub above: u64,
-}
-
-/// Where a walk of which no way is kept ended: the node there (0 for none), and the last node at which the walk went left.
+/// Where a walk ended: the node there (0 for none), and the last node at which the walk went left.
 #[derive(Clone, Copy, Debug)]
 pub struct End {
     pub node: u64,
@@ -117,78 +109,68 @@ pub fn reach<M: Memory, L: Ledger>(
     Ok(End { node, above })
 }
 
-/// Walks to the place of a key, or past it. A visit is one node whose key is compared.
-pub fn seek<M: Memory, L: Ledger>(
+/// Walks to the place of a key, or past it, and keeps the way down. A visit is one node whose key is compared.
+fn seek<M: Memory, L: Ledger>(
     mem: &mut M,
     key: &Key,
     past: bool,
     visits: &mut Steps<L>,
-) -> Result<Spot, Halt>
+    way: &mut Way,
+) -> Result<End, Halt>
     requires sized { IsPartLength (M.size mem.old) }
     requires lawful { Always (M.stands mem.old) IsIndex }
     requires key { key.now.len ≤ 64 }
-    ensures done { IfOk result (λ spot. Reads (M.stands mem.old) (M.stands mem.new)
-        (AtSpot past (unpacked key.now.len key.now.words) spot.way.nodes spot.way.sides spot.way.depth spot.node spot.above)) }
-    ensures arrays { IfOk result (λ spot. (length spot.way.nodes ≡ 64) × (length spot.way.sides ≡ 64)) }
+    requires arrays { (length way.old.nodes ≡ 64) × (length way.old.sides ≡ 64) }
+    ensures done { IfOk result (λ end. Reads (M.stands mem.old) (M.stands mem.new)
+        (AtSpot past (unpacked key.now.len key.now.words) way.new.nodes way.new.sides way.new.depth end.node end.above)) }
+    ensures arrays { IfOk result (λ _. (length way.new.nodes ≡ 64) × (length way.new.sides ≡ 64)) }
     ensures visits { Always (M.stands mem.new) (FewVisits (visits.new - visits.old)) }
     ensures kept { Becomes (M.stands mem.old) (M.stands mem.new) ◌≡◌ }
     ensures halts { OnErr result (M.left mem.new ≡ Some 0) }
     ensures framed { Framed M.size M.fixed M.writable M.left mem.old mem.new }
 {
-    let mut nodes = [0; 64];
-    let mut sides = [0; 64];
     let mut above = 0;
     let mut node = word(mem, 0, 1)?;
     for depth in 0..64 {
         if node == 0 {
-            let way = Way {
-                nodes,
-                sides,
-                depth,
-            };
-            return Ok(Spot { way, node, above });
+            way.depth = depth;
+            return Ok(End { node, above });
         }
         let order = toward(past, visit(mem, node, key, visits)?);
         if order.is_eq() {
-            let way = Way {
-                nodes,
-                sides,
-                depth,
-            };
-            return Ok(Spot { way, node, above });
+            way.depth = depth;
+            return Ok(End { node, above });
         }
         let side = side_of(order);
-        nodes[depth] = node;
-        sides[depth] = side;
+        way.nodes[depth] = node;
+        way.sides[depth] = side;
         above = above_after(side, node, above);
         node = word(mem, node, side)?;
     }
-    let way = Way {
-        nodes,
-        sides,
-        depth: 64,
-    };
-    Ok(Spot { way, node, above })
+    way.depth = 64;
+    Ok(End { node, above })
 }
 
-/// Walks to the place of a key that is put in or taken out. Whether it halts or not, its visits are few for words that
+/// Walks to the place of a key that is put in or taken out, and keeps the way down. Whether it halts or not, its visits are few for words that
 /// may have been there.
 pub fn seek_place<M: Memory, L: Ledger>(
     mem: &mut M,
     key: &Key,
     visits: &mut Steps<L>,
-) -> Result<Spot, Halt>
+    way: &mut Way,
+) -> Result<End, Halt>
     requires sized { IsPartLength (M.size mem.old) }
     requires lawful { Always (M.stands mem.old) IsIndex }
     requires key { key.now.len ≤ 64 }
-    ensures done { IfOk result (λ spot. Reads (M.stands mem.old) (M.stands mem.new)
-        (AtSpot false (unpacked key.now.len key.now.words) spot.way.nodes spot.way.sides spot.way.depth spot.node spot.above)) }
-    ensures arrays { IfOk result (λ spot. (length spot.way.nodes ≡ 64) × (length spot.way.sides ≡ 64)) }
+    requires arrays { (length way.old.nodes ≡ 64) × (length way.old.sides ≡ 64) }
+    ensures done { IfOk result (λ end. Reads (M.stands mem.old) (M.stands mem.new)
+        (AtSpot false (unpacked key.now.len key.now.words) way.new.nodes way.new.sides way.new.depth end.node end.above)) }
+    ensures arrays { IfOk result (λ _. (length way.new.nodes ≡ 64) × (length way.new.sides ≡ 64)) }
     ensures visits { Always (M.stands mem.new) (FewVisits (visits.new - visits.old)) }
     ensures walked { Walked (M.stands mem.old) (visits.new - visits.old) }
     ensures kept { Becomes (M.stands mem.old) (M.stands mem.new) ◌≡◌ }
     ensures halts { OnErr result (M.left mem.new ≡ Some 0) }
     ensures framed { Framed M.size M.fixed M.writable M.left mem.old mem.new }
 {
-    seek(mem, key, false, visits)
+    seek(mem, key, false, visits, way)
 }

@@ -11,7 +11,7 @@ pub put_pair-requires-clause-can : goal.put_pair-requires-clause-can
 put_pair-requires-clause-can g c =
     let b = c.over-buffer.result in
     always_over (g.M.Memory.size b.inner.now) b.held.count b.held.places b.held.values c.over-buffer.ensures.none
-    (subst (λ m. Always (g.M.Memory.stands m) (λ ws. CanAdd ws c.args.way.now.nodes c.args.way.now.sides c.args.way.now.depth (unpacked c.args.key.now.len c.args.key.now.words, unpacked c.args.doc.now.len c.args.doc.now.words))) (sym c.over-buffer.ensures.inner) c.requires.can)
+    (subst (λ m. Always (g.M.Memory.stands m) (λ ws. CanAdd ws c.args.way.now.nodes c.args.way.now.sides c.args.way.now.depth (unpacked c.args.key.now.len c.args.key.now.words, unpacked c.args.doc.now.len c.args.doc.now.words.now))) (sym c.over-buffer.ensures.inner) c.requires.can)
 
 pub returns-clause-exact : goal.returns-clause-exact
 returns-clause-exact g c =
@@ -21,7 +21,7 @@ returns-clause-exact g c =
     let same : c.mem-2-1.given.0 ≡ f.inner.now = search rules in
     let size : g.M.Memory.size new ≡ g.M.Memory.size f.inner.now = c.store_held.ensures.framed.size_kept ∙ ap g.M.Memory.size same in
     IfOk-weaker c.store_held.result (λ _. Becomes (g.M.Memory.stands c.mem-2-1.given.0) (g.M.Memory.stands new) (Covers f.held.count f.held.places f.held.values)) _
-    (λ _ d. subst (λ m. Becomes (g.M.Memory.stands m) (g.M.Memory.stands new) (Adds c.args.way.now.nodes c.args.way.now.sides c.args.way.now.depth (unpacked c.args.key.now.len c.args.key.now.words, unpacked c.args.doc.now.len c.args.doc.now.words))) c.over-buffer.ensures.inner
+    (λ _ d. subst (λ m. Becomes (g.M.Memory.stands m) (g.M.Memory.stands new) (Adds c.args.way.now.nodes c.args.way.now.sides c.args.way.now.depth (unpacked c.args.key.now.len c.args.key.now.words, unpacked c.args.doc.now.len c.args.doc.now.words.now))) c.over-buffer.ensures.inner
     (becomes_behind (g.M.Memory.size b.inner.now) (g.M.Memory.size f.inner.now) b.held.count f.held.count b.held.places b.held.values f.held.places f.held.values c.over-buffer.ensures.none
     (λ key now s. subst (λ n. Words n now) size (g.met.M.Memory.words new key now s))
     c.in_ok-put_pair.ensures.exact

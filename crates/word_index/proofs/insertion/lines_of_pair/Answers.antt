@@ -6,4 +6,4 @@ pub returns : goal.returns
 returns c =
     let key = c.args.key.now in
     let doc = c.args.doc.now in
-    omega (arith, c.div_ceil.ensures, c.div_ceil-2.ensures, length_unpacked key.len key.words, length_unpacked doc.len doc.words)
+    omega (arith, c.div_ceil.ensures, c.div_ceil-2.ensures, length_unpacked key.len key.words, length_unpacked doc.len doc.words.now)

@@ -24,7 +24,7 @@ write_text-requires-clause-room g c =
     let doc = c.args.doc.now in
     let count = c.div_ceil.result in
     always_after c.requires.room c.in_ok-node.ensures.done (λ x y h t. room_less y (count + div_ceil doc.len 56) count (omega arith)
-    (room_after_line x y c.in_ok-node.node (count + div_ceil doc.len 56) (key_part x key.len doc.len count key.words doc.words c.div_ceil.ensures h) t))
+    (room_after_line x y c.in_ok-node.node (count + div_ceil doc.len 56) (key_part x key.len doc.len count key.words doc.words.now c.div_ceil.ensures h) t))
 
 pub write_text-requires-2-clause-room : goal.write_text-requires-2-clause-room
 write_text-requires-2-clause-room g c =
@@ -34,7 +34,7 @@ write_text-requires-2-clause-room g c =
     let other = c.div_ceil-2.result in
     always_after c.requires.room (Becomes-both c.in_ok-node.ensures.done c.in_ok-key_first.ensures.done) (λ x z h t.
     room_after_text t.0 z key.words count c.in_ok-key_first.key_first other
-    (room_after_line x t.0 c.in_ok-node.node (count + other) (parts x key.len doc.len count other key.words doc.words c.div_ceil.ensures c.div_ceil-2.ensures h) t.1) t.2)
+    (room_after_line x t.0 c.in_ok-node.node (count + other) (parts x key.len doc.len count other key.words doc.words.now c.div_ceil.ensures c.div_ceil-2.ensures h) t.1) t.2)
 
 pub put_line-requires-clause-line : goal.put_line-requires-clause-line
 put_line-requires-clause-line g c =
@@ -43,8 +43,8 @@ put_line-requires-clause-line g c =
     let count = c.div_ceil.result in
     let other = c.div_ceil-2.result in
     always_after c.requires.room (Becomes-both (Becomes-both c.in_ok-node.ensures.done c.in_ok-key_first.ensures.done) c.in_ok-doc_first.ensures.done) (λ x w h t.
-    node_still x t.1.0 t.0 w c.in_ok-node.node count other c.in_ok-key_first.key_first c.in_ok-doc_first.doc_first key.words doc.words
-    (parts x key.len doc.len count other key.words doc.words c.div_ceil.ensures c.div_ceil-2.ensures h) t.1.1 t.1.2 t.2)
+    node_still x t.1.0 t.0 w c.in_ok-node.node count other c.in_ok-key_first.key_first c.in_ok-doc_first.doc_first key.words doc.words.now
+    (parts x key.len doc.len count other key.words doc.words.now c.div_ceil.ensures c.div_ceil-2.ensures h) t.1.1 t.1.2 t.2)
 
 pub returns-clause-done : goal.returns-clause-done
 returns-clause-done g c =
@@ -53,7 +53,7 @@ returns-clause-done g c =
     let count = c.div_ceil.result in
     let other = c.div_ceil-2.result in
     Becomes-then (Becomes-both (Becomes-both c.in_ok-node.ensures.done c.in_ok-key_first.ensures.done) c.in_ok-doc_first.ensures.done) c.in_ok-put_line.ensures.done (λ x w v t f.
-    pair_written x t.1.0 t.0 w v c.in_ok-node.node count other c.in_ok-key_first.key_first c.in_ok-doc_first.doc_first key.len doc.len key.words doc.words
+    pair_written x t.1.0 t.0 w v c.in_ok-node.node count other c.in_ok-key_first.key_first c.in_ok-doc_first.doc_first key.len doc.len key.words doc.words.now
     c.requires.key c.requires.doc c.div_ceil.ensures c.div_ceil-2.ensures t.1.1 t.1.2 t.2 f)
 
 pub returns-clause-exact : goal.returns-clause-exact
@@ -63,5 +63,5 @@ returns-clause-exact g c =
     let count = c.div_ceil.result in
     let other = c.div_ceil-2.result in
     Becomes-then (Becomes-both (Becomes-both c.in_ok-node.ensures.exact c.in_ok-key_first.ensures.exact) c.in_ok-doc_first.ensures.exact) c.in_ok-put_line.ensures.exact (λ x w v t f.
-    new_pair_runs c.in_ok-node.node c.in_ok-key_first.key_first c.in_ok-doc_first.doc_first key.len doc.len count other key.words doc.words x t.1.0 t.0 w v
+    new_pair_runs c.in_ok-node.node c.in_ok-key_first.key_first c.in_ok-doc_first.doc_first key.len doc.len count other key.words doc.words.now x t.1.0 t.0 w v
     c.requires.key c.requires.doc c.div_ceil.ensures c.div_ceil-2.ensures t.1.1 t.1.2 t.2 f)

@@ -7,15 +7,15 @@ use Rattle.word_index.proofs.rewriting.refill.Goals as goal
 pub fill_chain-requires-clause-chain : goal.fill_chain-requires-clause-chain
 fill_chain-requires-clause-chain g c =
     let doc = c.args.doc.now in
-    λ first now s. refill_lines now c.args.node c.args.first doc.len c.div_ceil.result doc.words (c.requires.old first now s) c.div_ceil.ensures
+    λ first now s. refill_lines now c.args.node c.args.first doc.len c.div_ceil.result doc.words.now (c.requires.old first now s) c.div_ceil.ensures
 
 pub put_new-requires-clause-line : goal.put_new-requires-clause-line
 put_new-requires-clause-line g c =
     let doc = c.args.doc.now in
-    always_after c.requires.old c.in_ok-fill_chain.ensures.exact (λ x y h e. refill_here x y c.args.node c.args.first c.div_ceil.result _ doc.words (unpacked doc.len doc.words) h e)
+    always_after c.requires.old c.in_ok-fill_chain.ensures.exact (λ x y h e. refill_here x y c.args.node c.args.first c.div_ceil.result _ doc.words.now (unpacked doc.len doc.words.now) h e)
 
 pub returns-clause-exact : goal.returns-clause-exact
 returns-clause-exact g c =
     let doc = c.args.doc.now in
     Becomes-then (Becomes-both (Becomes-from-read (Reads-none _ c.requires.old)) c.in_ok-fill_chain.ensures.exact) c.in_ok-put_new.ensures.done
-    (λ x z w r e. refill_runs x r.0 z w c.args.node c.args.first doc.len c.div_ceil.result doc.words c.requires.doc c.div_ceil.ensures r.1.0 r.1.1 r.2 e)
+    (λ x z w r e. refill_runs x r.0 z w c.args.node c.args.first doc.len c.div_ceil.result doc.words.now c.requires.doc c.div_ceil.ensures r.1.0 r.1.1 r.2 e)

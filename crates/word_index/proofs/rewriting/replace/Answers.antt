@@ -1,56 +1,36 @@
-use Rattle.std.proofs.Common.{◌≡◌, ◌≢◌, sym, ◌∙◌}
+use Rattle.std.proofs.Common.{◌≡◌, ◌∙◌}
 use Rattle.cx_base.specs.Packing.{unpacked}
 use Rattle.cx_base.specs.Memory.{Becomes}
-use Rattle.cx_base.specs.Store.{blocks}
 use Rattle.cx_base.proofs.MemoryLemmas.{Becomes-then}
 use Rattle.std.proofs.lemmas.Result.{IfOk-weaker}
 use Rattle.cx_base.proofs.ReadLemmas.{Reads-weaker, Reads-none, Reads-loaded, Becomes-from-read}
 use Rattle.avl_words.proofs.Memories.{always_said}
-use Rattle.word_index.specs.Exact.{with_refilled, with_renewed}
+use Rattle.word_index.specs.Exact.{with_renewed}
 use Rattle.word_index.proofs.DocumentChanges.{node_here}
-use Rattle.word_index.proofs.DocumentRuns.{blocks_of_words, old_counted, rewrite_refills, rewrite_renews}
+use Rattle.word_index.proofs.DocumentRuns.{old_counted, rewrite_renews}
 use Rattle.word_index.proofs.rewriting.replace.Goals as goal
 
 pub word-requires-clause-line : goal.word-requires-clause-line
-word-requires-clause-line g c = λ first now s. node_here now c.args.node _ (c.requires.can first now s)
+word-requires-clause-line g c = λ first now s. node_here now c.args.node _ (c.requires.can first now s).can
 
 pub word-requires-2-clause-line : goal.word-requires-2-clause-line
-word-requires-2-clause-line g c = always_said (Reads-weaker (Reads-loaded (Reads-none _ c.requires.can) c.in_ok-first.ensures.done) (λ ws p. node_here ws c.args.node _ p.0))
-
-pub refill-requires-clause-old : goal.refill-requires-clause-old
-refill-requires-clause-old g c =
-    let doc = c.args.doc.now in
-    let same = c.if-count-div_ceil.true ∙ sym (blocks_of_words doc.len c.div_ceil.result doc.words c.div_ceil.ensures) in
-    always_said (Reads-weaker (Reads-loaded (Reads-loaded (Reads-none _ c.requires.can) c.in_ok-first.ensures.done) c.in_ok-word.ensures.done) (λ ws p. record {
-      can = p.0.0;
-      first_is = p.0.1;
-      counted = old_counted ws c.args.node c.in_ok-word.field-0 c.div_ceil-count.result p.1 c.div_ceil-count.ensures ∙ same;
-    }))
+word-requires-2-clause-line g c = always_said (Reads-weaker (Reads-loaded (Reads-none _ c.requires.can) c.in_ok-first.ensures.done) (λ ws p. node_here ws c.args.node _ p.0.can))
 
 pub renew-requires-clause-old : goal.renew-requires-clause-old
 renew-requires-clause-old g c =
     always_said (Reads-weaker (Reads-loaded (Reads-loaded (Reads-none _ c.requires.can) c.in_ok-first.ensures.done) c.in_ok-word.ensures.done) (λ ws p. record {
-      can = p.0.0;
+      can = p.0.0.can;
       first_is = p.0.1;
       counted = old_counted ws c.args.node c.in_ok-word.field-0 c.div_ceil-count.result p.1 c.div_ceil-count.ensures;
     }))
 
-pub returns-then-count-div_ceil-clause-exact : goal.returns-then-count-div_ceil-clause-exact
-returns-then-count-div_ceil-clause-exact g c =
+pub returns-clause-exact : goal.returns-clause-exact
+returns-clause-exact g c =
     let doc = c.args.doc.now in
-    let d = unpacked doc.len doc.words in
-    let same = c.if-count-div_ceil.true ∙ sym (blocks_of_words doc.len c.div_ceil.result doc.words c.div_ceil.ensures) in
-    let r = Reads-loaded (Reads-loaded (Reads-none _ c.requires.can) c.in_ok-first.ensures.done) c.in_ok-word.ensures.done in
-    IfOk-weaker c.refill.result (λ _. Becomes (g.M.Memory.stands c.word-2.new.mem) (g.M.Memory.stands c.refill.new.mem) (λ old now. now ≡ with_refilled d c.args.node old)) _
-    (λ _ b. Becomes-then (Becomes-from-read r) b (λ x y z p q. rewrite_refills x y z c.args.node c.div_ceil-count.result d p.0 (old_counted y c.args.node c.in_ok-word.field-0 c.div_ceil-count.result p.1.1 c.div_ceil-count.ensures) same q))
-    c.refill.ensures.exact
-
-pub returns-else-count-div_ceil-clause-exact : goal.returns-else-count-div_ceil-clause-exact
-returns-else-count-div_ceil-clause-exact g c =
-    let doc = c.args.doc.now in
-    let d = unpacked doc.len doc.words in
-    let other : c.div_ceil-count.result ≢ blocks d = λ e. c.if-count-div_ceil.false (e ∙ blocks_of_words doc.len c.div_ceil.result doc.words c.div_ceil.ensures) in
+    let d = unpacked doc.len doc.words.now in
     let r = Reads-loaded (Reads-loaded (Reads-none _ c.requires.can) c.in_ok-first.ensures.done) c.in_ok-word.ensures.done in
     IfOk-weaker c.renew.result (λ _. Becomes (g.M.Memory.stands c.word-2.new.mem) (g.M.Memory.stands c.renew.new.mem) (λ old now. now ≡ with_renewed d c.args.node old)) _
-    (λ _ b. Becomes-then (Becomes-from-read r) b (λ x y z p q. rewrite_renews x y z c.args.node c.div_ceil-count.result d p.0 (old_counted y c.args.node c.in_ok-word.field-0 c.div_ceil-count.result p.1.1 c.div_ceil-count.ensures) other q))
+    (λ _ b. Becomes-then (Becomes-from-read r) b (λ x y z p q. (
+    let counted = old_counted y c.args.node c.in_ok-word.field-0 c.div_ceil-count.result p.1.1 c.div_ceil-count.ensures in
+    rewrite_renews x y z c.args.node c.div_ceil-count.result d p.0 counted (λ same. p.1.0.0.unlike (counted ∙ same)) q)))
     c.renew.ensures.exact

@@ -25,22 +25,22 @@ loop-depth-init g c =
 pub returns-then-node-eq0-clause-done : goal.returns-then-node-eq0-clause-done
 returns-then-node-eq0-clause-done g c =
     let l = c.loop-depth in
-    Reads-weaker l.invariant.done (λ ws w. passing_ends ws c.args.past (unpacked c.args.key.now.len c.args.key.now.words) l.nodes l.sides l.depth l.node l.above w c.if-node-eq0.true)
+    Reads-weaker l.invariant.done (λ ws w. passing_ends ws c.args.past (unpacked c.args.key.now.len c.args.key.now.words) l.way.nodes l.way.sides l.depth l.node l.above w c.if-node-eq0.true)
 
 pub returns-then-node-eq0-clause-visits : goal.returns-then-node-eq0-clause-visits
 returns-then-node-eq0-clause-visits g c =
     let l = c.loop-depth in
-    always_said (Reads-weaker l.invariant.done (λ ws w. few_counted ws c.args.visits.now l.visits l.depth (passing_few ws c.args.past (unpacked c.args.key.now.len c.args.key.now.words) l.nodes l.sides l.depth l.node l.above w) l.invariant.counted))
+    always_said (Reads-weaker l.invariant.done (λ ws w. few_counted ws c.args.visits.now l.visits l.depth (passing_few ws c.args.past (unpacked c.args.key.now.len c.args.key.now.words) l.way.nodes l.way.sides l.depth l.node l.above w) l.invariant.counted))
 
 pub visit-requires-clause-node : goal.visit-requires-clause-node
 visit-requires-clause-node g c =
     let l = c.loop-depth in
-    always_read c.requires.lawful l.invariant.done (λ ws i w. passing_has_node ws c.args.past (unpacked c.args.key.now.len c.args.key.now.words) l.nodes l.sides l.depth l.node l.above w c.if-node-eq0.false i)
+    always_read c.requires.lawful l.invariant.done (λ ws i w. passing_has_node ws c.args.past (unpacked c.args.key.now.len c.args.key.now.words) l.way.nodes l.way.sides l.depth l.node l.above w c.if-node-eq0.false i)
 
 pub returns-in_err-visit-clause-visits : goal.returns-in_err-visit-clause-visits
 returns-in_err-visit-clause-visits g c =
     let l = c.loop-depth in
-    always_kept (always_said (Reads-weaker l.invariant.done (λ ws w. few_counted ws c.args.visits.now c.visit.new.visits (l.depth + 1) (passing_few_node ws c.args.past (unpacked c.args.key.now.len c.args.key.now.words) l.nodes l.sides l.depth l.node l.above w c.if-node-eq0.false) (omega (arith, l.invariant.counted, c.in_err-visit.ensures.counted)))))
+    always_kept (always_said (Reads-weaker l.invariant.done (λ ws w. few_counted ws c.args.visits.now c.visit.new.visits (l.depth + 1) (passing_few_node ws c.args.past (unpacked c.args.key.now.len c.args.key.now.words) l.way.nodes l.way.sides l.depth l.node l.above w c.if-node-eq0.false) (omega (arith, l.invariant.counted, c.in_err-visit.ensures.counted)))))
     c.in_err-visit.ensures.kept
 
 pub returns-then-is_eq-clause-done : goal.returns-then-is_eq-clause-done
@@ -48,24 +48,24 @@ returns-then-is_eq-clause-done g c =
     let l = c.loop-depth in
     let o = c.in_ok-visit.field-0 in
     let same = sym c.toward-order.ensures ∙ is_same c.toward-order.result (sym c.is_eq.ensures ∙ c.if-is_eq.true) in
-    Reads-then l.invariant.done c.in_ok-visit.ensures.done (λ ws w is. passing_ends_same ws c.args.past (unpacked c.args.key.now.len c.args.key.now.words) l.nodes l.sides l.depth l.node l.above o w c.if-node-eq0.false is same)
+    Reads-then l.invariant.done c.in_ok-visit.ensures.done (λ ws w is. passing_ends_same ws c.args.past (unpacked c.args.key.now.len c.args.key.now.words) l.way.nodes l.way.sides l.depth l.node l.above o w c.if-node-eq0.false is same)
 
 pub returns-then-is_eq-clause-visits : goal.returns-then-is_eq-clause-visits
 returns-then-is_eq-clause-visits g c =
     let l = c.loop-depth in
-    always_kept (always_said (Reads-weaker l.invariant.done (λ ws w. few_counted ws c.args.visits.now c.visit.new.visits (l.depth + 1) (passing_few_node ws c.args.past (unpacked c.args.key.now.len c.args.key.now.words) l.nodes l.sides l.depth l.node l.above w c.if-node-eq0.false) (omega (arith, l.invariant.counted, c.in_ok-visit.ensures.counted)))))
+    always_kept (always_said (Reads-weaker l.invariant.done (λ ws w. few_counted ws c.args.visits.now c.visit.new.visits (l.depth + 1) (passing_few_node ws c.args.past (unpacked c.args.key.now.len c.args.key.now.words) l.way.nodes l.way.sides l.depth l.node l.above w c.if-node-eq0.false) (omega (arith, l.invariant.counted, c.in_ok-visit.ensures.counted)))))
     c.in_ok-visit.ensures.kept
 
 pub word-requires-in-loop-depth-clause-line : goal.word-requires-in-loop-depth-clause-line
 word-requires-in-loop-depth-clause-line g c =
     let l = c.loop-depth in
     always_read c.requires.lawful (Reads-then l.invariant.done c.in_ok-visit.ensures.done (λ ws w o. w))
-    (λ ws i w. node_within ws l.node (passing_has_node ws c.args.past (unpacked c.args.key.now.len c.args.key.now.words) l.nodes l.sides l.depth l.node l.above w c.if-node-eq0.false i))
+    (λ ws i w. node_within ws l.node (passing_has_node ws c.args.past (unpacked c.args.key.now.len c.args.key.now.words) l.way.nodes l.way.sides l.depth l.node l.above w c.if-node-eq0.false i))
 
 pub returns-in_err-node-2-clause-visits : goal.returns-in_err-node-2-clause-visits
 returns-in_err-node-2-clause-visits g c =
     let l = c.loop-depth in
-    always_kept (always_said (Reads-weaker l.invariant.done (λ ws w. few_counted ws c.args.visits.now c.visit.new.visits (l.depth + 1) (passing_few_node ws c.args.past (unpacked c.args.key.now.len c.args.key.now.words) l.nodes l.sides l.depth l.node l.above w c.if-node-eq0.false) (omega (arith, l.invariant.counted, c.in_ok-visit.ensures.counted)))))
+    always_kept (always_said (Reads-weaker l.invariant.done (λ ws w. few_counted ws c.args.visits.now c.visit.new.visits (l.depth + 1) (passing_few_node ws c.args.past (unpacked c.args.key.now.len c.args.key.now.words) l.way.nodes l.way.sides l.depth l.node l.above w c.if-node-eq0.false) (omega (arith, l.invariant.counted, c.in_ok-visit.ensures.counted)))))
     (kept_then c.in_ok-visit.ensures.kept c.in_err-node-2.ensures.kept)
 
 pub loop-depth-preserved : goal.loop-depth-preserved
@@ -80,11 +80,11 @@ loop-depth-preserved g c =
     let other = is_other c.toward-order.result (sym c.is_eq.ensures ∙ c.if-is_eq.false) in
     record {
       done = Reads-then i.done (Reads-loaded o.done w.done) (λ ws p q.
-          passing_on ws c.args.past (unpacked c.args.key.now.len c.args.key.now.words) l.nodes l.sides l.depth l.node l.above c.in_ok-node-2.node c.side_of-side.result c.above_after-above.result c.in_ok-visit.field-0
+          passing_on ws c.args.past (unpacked c.args.key.now.len c.args.key.now.words) l.way.nodes l.way.sides l.depth l.node l.above c.in_ok-node-2.node c.side_of-side.result c.above_after-above.result c.in_ok-visit.field-0
           p (omega (arith, c.loop-depth-test.true)) i.nodes_long i.sides_long c.if-node-eq0.false q.0 (λ e. other (t ∙ e)) (λ e. s.less (t ∙ e)) (λ e. s.more (t ∙ e)) a.left a.right q.1);
       counted = omega (arith, i.counted, c.in_ok-visit.ensures.counted);
-      nodes_long = length-set l.nodes l.depth l.node ∙ i.nodes_long;
-      sides_long = length-set l.sides l.depth c.side_of-side.result ∙ i.sides_long;
+      nodes_long = length-set l.way.nodes l.depth l.node ∙ i.nodes_long;
+      sides_long = length-set l.way.sides l.depth c.side_of-side.result ∙ i.sides_long;
       kept = kept_then (kept_then i.kept o.kept) w.kept;
       sized = search rules;
       framed = Framed-then (Framed-then i.framed o.framed) w.framed;
@@ -94,10 +94,10 @@ pub returns-clause-done : goal.returns-clause-done
 returns-clause-done g c =
     let l = c.loop-depth in
     let deep : l.depth ≡ 64 = omega (arith, c.loop-depth-test.false, l.auto.depth-end) in
-    Reads-weaker l.invariant.done (λ ws w. subst (λ d. AtSpot c.args.past (unpacked c.args.key.now.len c.args.key.now.words) l.nodes l.sides d l.node l.above ws) deep
-    (passing_deep ws c.args.past (unpacked c.args.key.now.len c.args.key.now.words) l.nodes l.sides l.depth l.node l.above w (omega (arith, deep))))
+    Reads-weaker l.invariant.done (λ ws w. subst (λ d. AtSpot c.args.past (unpacked c.args.key.now.len c.args.key.now.words) l.way.nodes l.way.sides d l.node l.above ws) deep
+    (passing_deep ws c.args.past (unpacked c.args.key.now.len c.args.key.now.words) l.way.nodes l.way.sides l.depth l.node l.above w (omega (arith, deep))))
 
 pub returns-clause-visits : goal.returns-clause-visits
 returns-clause-visits g c =
     let l = c.loop-depth in
-    always_said (Reads-weaker l.invariant.done (λ ws w. few_counted ws c.args.visits.now l.visits l.depth (passing_few ws c.args.past (unpacked c.args.key.now.len c.args.key.now.words) l.nodes l.sides l.depth l.node l.above w) l.invariant.counted))
+    always_said (Reads-weaker l.invariant.done (λ ws w. few_counted ws c.args.visits.now l.visits l.depth (passing_few ws c.args.past (unpacked c.args.key.now.len c.args.key.now.words) l.way.nodes l.way.sides l.depth l.node l.above w) l.invariant.counted))

@@ -1,9 +1,0 @@
-use Rattle.cx_base.proofs.ReadLemmas.{Reads-weaker}
-use Rattle.word_index.proofs.NodeReads.{has_document, document_text}
-use Rattle.word_index.proofs.nodes.doc_at.Goals as goal
-
-pub read_text-requires-clause-text : goal.read_text-requires-clause-text
-read_text-requires-clause-text g c = λ first now s. has_document now c.args.node (c.requires.node first now s)
-
-pub returns-clause-done : goal.returns-clause-done
-returns-clause-done g c = Reads-weaker c.in_ok-len.ensures.done (λ ws p pair is. p is.place.document_lines pair.1 (document_text ws c.args.node pair is))
