@@ -1,5 +1,5 @@
 -- What an access of a held replica does to the seat.
-use Rattle.std.proofs.Common.{◌≡◌, ◌⊎◌, ◌*◌, ◌<◌, ◌==◌, inl, inr, ℕ, Bool, true, false, cond, All, List, [], ◌∷◌, ◌++◌, length, refl, ap, sym, subst, ◌∙◌, arith, append-nil, eq-eqb, Option, Some, None, Result, Ok, Err, IfOk, OnOk}
+use Rattle.std.proofs.Common.{◌≡◌, ◌⊎◌, ◌+◌, ◌*◌, ◌<◌, ◌==◌, inl, inr, ℕ, Bool, true, false, cond, All, List, [], ◌∷◌, ◌++◌, length, refl, ap, sym, subst, ◌∙◌, arith, append-nil, eq-eqb, Option, Some, None, Result, Ok, Err, IfOk, OnOk}
 use Rattle.std.proofs.lemmas.List.Elements.{All-append, All-cons, All-nil}
 use Rattle.std.proofs.lemmas.Option.{none-some, same_Some}
 use Rattle.std.specs.Option.{option_map}
@@ -17,9 +17,10 @@ use Rattle.cx_rule.specs.Running.{Running}
 use Rattle.cx_rule.specs.Seats.{Seated}
 use Rattle.cx_rule.specs.Steps.{Steps}
 use Rattle.cx_table.specs.Right.{Right}
+use Rattle.cx_table.specs.Runs.{Runs, loads_from, no_step, one_more_step}
 use Rattle.cx_table.specs.Tokens.{IsExclusiveOf, IsSharedOf}
 use Rattle.replica.specs.Laws.{fitting_shared}
-use Rattle.replica.specs.Held.{Accesses, IsHeld, IsHeldShared, LoadsShared, beside_held, beside_shared, but_loaded, but_words}
+use Rattle.replica.specs.Held.{Accesses, IsHeld, IsHeldShared, LoadsHeld, LoadsRun, LoadsShared, no_load, one_more_load, beside_held, beside_shared, but_loaded, but_words}
 
 pub at_itself : (r : ℕ) → is_at r (Some r) ≡ true
 at_itself r = eq-eqb r r refl
@@ -107,6 +108,14 @@ module _ {O : Type 0} (lines : ℕ) (r : Running O) (step : O → List ℕ → L
           dirty = subst (λ (t : Seated). All (λ i. i < region_words lines) (held_dirty t.known.local.exclusive)) (sym s.made) of.dirty;
         };
       }
+
+  -- loads of words from a place on
+  pub run_accesses : (from : ℕ) (words : List ℕ) (before after : Seated) → IsHeld lines r lawful before held → Runs r step reads lawful (loads_from held.replica from) words before after → LoadsRun (LoadsHeld lines r lawful held) from words before after × IsHeld lines r lawful after held
+  run_accesses from words before after of (no_step _ _ _ none same) = (no_load _ _ _ none same, subst (λ s. IsHeld lines r lawful s held) (sym same) of)
+  run_accesses from words before after of (one_more_step _ _ _ first found mid longer run s fits) =
+      let was = run_accesses from first before mid of run in
+      let now = load_accesses (from + length first) found mid after was.1 s fits in
+      (one_more_load _ _ _ first found mid longer was.0 now, now.still)
 
   pub store_accesses : (at v : ℕ) (before after : Seated) → at < region_words lines → IsHeld lines r lawful before held → Steps r step reads (StoreWord held.replica at v) 0 before after → Fitting r.lines lawful r.base after.known → Accesses lines r lawful held (true, at, v) before after
   store_accesses at v before after below of s fits =

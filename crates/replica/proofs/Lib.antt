@@ -3,6 +3,7 @@ mod LineCopies
 pub mod CopySteps
 mod Reading
 mod RegionLaws
+mod Runs
 pub mod Replaying
 pub mod Persisting
 mod Renewing

@@ -1,28 +1,17 @@
 -- What the loads of a reply tell of a region.
-use Rattle.std.proofs.Common.{◌≡◌, ◌+◌, ◌≤◌, ◌<◌, ℕ, List, [], ◌∷◌, ◌++◌, drop, length, set, slice_index, take, ap, sym, ◌∙◌, arith, length-drop}
-use Rattle.std.proofs.lemmas.List.{get_or-drop, take_all, take_more, take_more_set}
-use Rattle.cx_base.specs.Memory.{Loaded, Reads}
+use Rattle.std.proofs.Common.{◌≡◌, ◌+◌, ◌≤◌, ℕ, List, drop, length, slice_index, take, ap, sym, ◌∙◌, arith, length-drop}
+use Rattle.std.proofs.lemmas.List.{ext_get_or, get_or-drop, get_or-take, length-take-le}
+use Rattle.cx_base.specs.Memory.{AreAt, Loaded, Reads}
 use Rattle.cx_core.specs.Region.{slot_reply, slot_start}
 use Rattle.replica.specs.Outcomes.{IsOutcome, ReplyFrom}
 
--- the first words of a region from a place on are those of a reply
-abbrev pub ReadUpTo : ℕ → ℕ → List ℕ → List ℕ → Type 0
-ReadUpTo from i reply region = (from + 144 ≤ length region) × (take i (drop from region) ≡ take i reply)
-
-pub one_more_read : (from i v : ℕ) (reply region : List ℕ) → i < 144 → length reply ≡ 144 → ReadUpTo from i reply region → slice_index region (from + i) ≡ v → ReadUpTo from (i + 1) (set reply i v) region
-one_more_read from i v reply region below long so_far is =
-    let enough = so_far.0 in
-    let here : i < length (drop from region) = (let l = length-drop from region in omega arith) in (
-      enough,
-      take_more (drop from region) i 0 here
-          ∙ ap (λ xs. xs ++ slice_index (drop from region) i ∷ []) so_far.1
-          ∙ ap (λ w. take i reply ++ w ∷ []) (get_or-drop from region i 0 ∙ is)
-          ∙ sym (take_more_set reply i v (omega arith)),
-    )
-
-pub all_read : (from i : ℕ) (reply region : List ℕ) → i ≡ 144 → length reply ≡ 144 → ReadUpTo from i reply region → ReplyFrom from reply region
-all_read from i reply region end long so_far =
-    ap (λ n. take n (drop from region)) (sym end) ∙ so_far.1 ∙ take_all i reply (omega arith)
+-- words of a region that stand from a place on, as many as a reply has
+pub reply_read : (from : ℕ) (reply region : List ℕ) → length reply ≡ 144 → from + 144 ≤ length region → AreAt from reply region → ReplyFrom from reply region
+reply_read from reply region long within are =
+    let behind : 144 ≤ length (drop from region) = (let l = length-drop from region in omega arith) in
+    let same : length (take 144 (drop from region)) ≡ 144 = length-take-le 144 (drop from region) behind in
+    ext_get_or 0 (take 144 (drop from region)) reply (same ∙ sym long)
+    (λ i below. get_or-take 144 (drop from region) i 0 (omega (arith, same, below)) ∙ get_or-drop from region i 0 ∙ are i (omega (arith, same, long, below)))
 
 module _ {Key : Type 0} where
   pub outcome_read : {old mid new : Key → List ℕ → Type 0} (caller slot number : ℕ) (reply : List ℕ) → slot ≡ slot_start caller → Loaded slot number old mid → Reads mid new (ReplyFrom (slot + 1) reply) → Reads old new (IsOutcome caller number reply)

@@ -1,5 +1,5 @@
 -- A replica that a caller holds: whose it is, and what an access of it changes.
-use Rattle.std.specs.Prelude.{◌≡◌, ◌-◌, ◌<◌, ◌≤◌, ◌==◌, if◌then◌else◌, nat_lt, ℕ, All, List, [], ◌∷◌, ◌++◌, length, Option, Some, None}
+use Rattle.std.specs.Prelude.{false, ◌≡◌, ◌+◌, ◌-◌, ◌<◌, ◌≤◌, ◌==◌, if◌then◌else◌, nat_lt, ℕ, All, List, [], ◌∷◌, ◌++◌, length, Option, Some, None}
 use Rattle.std.specs.Option.{option_map}
 use Rattle.cx_base.specs.Noted.{Note}
 use Rattle.cx_core.specs.declared.local.HeldExclusive.{HeldExclusive}
@@ -86,3 +86,12 @@ pub record LoadsShared {O : Type 0} (lines : ℕ) (r : Running O) (lawful : List
   pub rest : beside_shared held.replica after ≡ beside_shared held.replica before
   pub within : IsWithinLimit after.known.local
   pub still : IsHeldShared lines r lawful after held
+
+-- a load of a replica held exclusively, by the place and the word
+abbrev pub LoadsHeld : {O : Type 0} → ℕ → Running O → (List ℕ → Type 0) → Right → ℕ → ℕ → Seated → Seated → Type 0
+LoadsHeld lines r lawful held at word = Accesses lines r lawful held (false, at, word)
+
+-- words from a place on were loaded, in order, each as one load says of its place, its word, and the seat before and after it
+pub data LoadsRun (load : ℕ → ℕ → Seated → Seated → Type 0) (from : ℕ) : List ℕ → Seated → Seated → Type 0 where
+  no_load : (words : List ℕ) (before after : Seated) → words ≡ [] → after ≡ before → LoadsRun load from words before after
+  one_more_load : (words : List ℕ) (before after : Seated) (first : List ℕ) (word : ℕ) (mid : Seated) → words ≡ first ++ word ∷ [] → LoadsRun load from first before mid → load (from + length first) word mid after → LoadsRun load from words before after

@@ -1,10 +1,10 @@
 //! What a region stands on: a running table that lends the accesses of a replica held.
 
-ghost use Rattle.std.specs.Prelude.{◌≡◌, ◌<◌, ◌≤◌, ℕ, List, true, false, OnErr, OnOk, IfOk, length};
+ghost use Rattle.std.specs.Prelude.{◌≡◌, ◌+◌, ◌<◌, ◌≤◌, ℕ, List, true, false, OnErr, OnOk, IfOk, IsTrue, length};
 ghost use Rattle.cx_core.specs.Region.{region_words};
 ghost use Rattle.cx_rule.specs.Running.{Running};
 ghost use Rattle.cx_rule.specs.Steps.{Halts};
-ghost use Rattle.replica.specs.Held.{Accesses, IsHeld, IsHeldShared, LoadsShared};
+ghost use Rattle.replica.specs.Held.{Accesses, IsHeld, IsHeldShared, LoadsHeld, LoadsRun, LoadsShared};
 
 use cx_base::{Halt, Object};
 use cx_table::{CallerSeat, Exclusive, Shared, SharedHold};
@@ -29,6 +29,22 @@ pub trait Board {
         requires at { at < region_words (line_count self.now) }
         ensures made { IfOk result (λ v. Accesses (line_count self.now) (running self.now) (lawful self.now) held.now (false, at, v) seat.old seat.new) }
         ensures halted { OnErr result (Halts (running self.now) seat.old seat.new) };
+
+    /// Loads words of the replica held exclusively, from one behind the place on, each as `load_held` does. It answers whether the
+    /// limit leaves so many steps: if not, nothing changes.
+    fn load_held_words(
+        &self,
+        seat: &mut CallerSeat,
+        held: &Exclusive,
+        from: u64,
+        into: &mut [u64],
+    ) -> bool
+        requires held { IsHeld (line_count self.now) (running self.now) (lawful self.now) seat.old held.now }
+        requires within { from + length into.old ≤ region_words (line_count self.now) }
+        requires behind { 0 < from }
+        ensures made { IsTrue result → LoadsRun (LoadsHeld (line_count self.now) (running self.now) (lawful self.now) held.now) from into.new seat.old seat.new }
+        ensures none { result ≡ false → seat.new ≡ seat.old }
+        ensures length { length into.new ≡ length into.old };
 
     /// Stores a word of the replica held exclusively. `Halt` comes exactly where the seat's steps equal its limit.
     fn store_held(
@@ -62,6 +78,16 @@ impl<O: Object> Board for Shared<O> {
 
     fn load_held(&self, seat: &mut CallerSeat, held: &Exclusive, at: u64) -> Result<u64, Halt> {
         self.load_word(seat, held.replica() as u64, at, false)
+    }
+
+    fn load_held_words(
+        &self,
+        seat: &mut CallerSeat,
+        held: &Exclusive,
+        from: u64,
+        into: &mut [u64],
+    ) -> bool {
+        self.load_words(seat, held.replica() as u64, from, into)
     }
 
     fn store_held(

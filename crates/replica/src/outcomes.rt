@@ -48,8 +48,6 @@ fn load_reply<M: Memory>(mem: &mut M, from: u64) -> Result<[u64; 144], Halt>
     ensures framed { Framed M.size M.fixed M.writable M.left mem.old mem.new }
 {
     let mut reply = [0; 144];
-    for i in 0..144 {
-        reply[i as usize] = mem.load(from + i)?;
-    }
+    mem.load_words(from, &mut reply)?;
     Ok(reply)
 }

@@ -1,8 +1,9 @@
 //! A replica held exclusively as a memory.
 
-ghost use Rattle.std.specs.Prelude.{◌≡◌, IsTrue};
-ghost use Rattle.cx_rule.specs.Seats.{IsWithinLimit};
-ghost use Rattle.replica.specs.Held.{IsHeld};
+ghost use Rattle.std.specs.Prelude.{◌≡◌, ◌+◌, ◌≤◌, List, ℕ, IsTrue, OnErr, OnOk, length};
+ghost use Rattle.cx_core.specs.Region.{region_words};
+ghost use Rattle.cx_rule.specs.Seats.{IsAtLimit, IsWithinLimit};
+ghost use Rattle.replica.specs.Held.{IsHeld, LoadsHeld, LoadsRun};
 ghost use Rattle.replica.specs.Regions.{HasPlace};
 
 use crate::board::Board;
@@ -61,9 +62,8 @@ impl<'a, T: Board> Region<'a, T> {
 }
 
 impl<T: Board> Memory for Region<'_, T> {
-    ghost use Rattle.std.specs.Prelude.{List, ℕ, true};
+    ghost use Rattle.std.specs.Prelude.{true};
     ghost use Rattle.std.specs.Borrow.{GName};
-    ghost use Rattle.cx_core.specs.Region.{region_words};
     ghost use Rattle.cx_rule.specs.Fitting.{Fits};
     ghost use Rattle.replica.specs.Held.{beside_held, left_of};
     ghost use Rattle.replica.specs.Regions.{RegionFixed, fits_words};
@@ -90,7 +90,55 @@ impl<T: Board> Memory for Region<'_, T> {
         self.board.load_held(self.seat, self.held, at)
     }
 
+    fn load_words(&mut self, at: u64, into: &mut [u64]) -> Result<(), Halt> {
+        load_run(self.board, self.seat, self.held, at, into)
+    }
+
     fn store(&mut self, at: u64, v: u64) -> Result<(), Halt> {
         self.board.store_held(self.seat, self.held, at, v)
     }
+}
+
+/// Loads words of a replica held exclusively, from a place on, by one call where that may be. `Halt` comes only where the seat's
+/// steps equal its limit, and then the first of the words were loaded.
+fn load_run<T: Board>(
+    board: &T,
+    seat: &mut CallerSeat,
+    held: &Exclusive,
+    from: u64,
+    into: &mut [u64],
+) -> Result<(), Halt>
+    requires held { IsHeld (T.line_count board.now) (T.running board.now) (T.lawful board.now) seat.old held.now }
+    requires within { from + length into.old ≤ region_words (T.line_count board.now) }
+    ensures made { OnOk result (LoadsRun (LoadsHeld (T.line_count board.now) (T.running board.now) (T.lawful board.now) held.now) from into.new seat.old seat.new) }
+    ensures some { (words : List ℕ) × LoadsRun (LoadsHeld (T.line_count board.now) (T.running board.now) (T.lawful board.now) held.now) from words seat.old seat.new }
+    ensures halted { OnErr result (IsAtLimit seat.new.known.local) }
+    ensures length { length into.new ≡ length into.old }
+{
+    // the place is noted by itself, and where fewer steps are left the first words are loaded all the same
+    if from > 0 && board.load_held_words(seat, held, from, into) {
+        return Ok(());
+    }
+    load_each(board, seat, held, from, into)
+}
+
+/// The same, one by one.
+fn load_each<T: Board>(
+    board: &T,
+    seat: &mut CallerSeat,
+    held: &Exclusive,
+    from: u64,
+    into: &mut [u64],
+) -> Result<(), Halt>
+    requires held { IsHeld (T.line_count board.now) (T.running board.now) (T.lawful board.now) seat.old held.now }
+    requires within { from + length into.old ≤ region_words (T.line_count board.now) }
+    ensures made { OnOk result (LoadsRun (LoadsHeld (T.line_count board.now) (T.running board.now) (T.lawful board.now) held.now) from into.new seat.old seat.new) }
+    ensures some { (words : List ℕ) × LoadsRun (LoadsHeld (T.line_count board.now) (T.running board.now) (T.lawful board.now) held.now) from words seat.old seat.new }
+    ensures halted { OnErr result (IsAtLimit seat.new.known.local) }
+    ensures length { length into.new ≡ length into.old }
+{
+    for i in 0..into.len() {
+        into[i] = board.load_held(seat, held, from + i as u64)?;
+    }
+    Ok(())
 }

@@ -380,3 +380,66 @@ fn update_and_renew<O: Object>(
         Ok(_) | Err(_) => false,
     }
 }
+
+// A word that no region has when a table is made.
+const OTHER: u64 = 1 << 40;
+
+// Takes replica 1 and loads words of it, from a place on, where nobody holds it.
+fn take_and_load<O: Object>(
+    shared: &Shared<O>,
+    seat: &mut CallerSeat,
+    from: u64,
+    into: &mut [u64],
+) -> Result<(), Halt>
+    requires free { IsFree shared.now seat.old }
+    requires sized { IsSized (O.line_count shared.now.object) shared.now }
+    requires callers { shared.now.callers ≡ 2 }
+    requires within { from + length into.old ≤ region_words (O.line_count shared.now.object) }
+{
+    match take(shared, seat, 1)? {
+        Some(held) => Region::of(shared, seat, &held).load_words(from, into),
+        None => Err(Halt),
+    }
+}
+
+// Loads five words of a replica in the opening state, from a place on, under a limit: whether they were loaded, how many steps were
+// made, and the words. A word that was not loaded is `OTHER`.
+fn loaded_at_limit(
+    alloc: Global,
+    from: u64,
+    limit: u64,
+) -> Result<(bool, u64, [u64; 5]), AllocError>
+    requires { from ≤ 1675 }
+{
+    let base = Base::fresh(alloc, &Tally)?;
+    let (shared, mut first, second) = made(alloc, Tally, &[limit, NO_LIMIT], &base)?;
+    let _other = second;
+    let mut words = [OTHER; 5];
+    let done = take_and_load(&shared, &mut first, from, &mut words).is_ok();
+    Ok((done, first.steps(), words))
+}
+
+// A try, and a step for each word. Where the limit leaves fewer, it halts exactly there, and the first words were loaded.
+#[test]
+fn each_limit_halts_a_run_of_loads_or_not(rt: HostRuntime) -> Result<(), Fail> {
+    let alloc = rt.alloc();
+    // the first word of the object part is Tally's version
+    let there = [0, 0, 7, 0, 0];
+    for limit in 0..=7u64 {
+        let first = limit.saturating_sub(1).min(5);
+        let mut words = [OTHER; 5];
+        words[..first as usize].copy_from_slice(&there[..first as usize]);
+        assert_eq!(rt;
+            loaded_at_limit(alloc, 1166, limit)?,
+            (limit >= 6, limit.min(6), words),
+            "at {limit}"
+        );
+    }
+    // from the place on
+    assert_eq!(rt; loaded_at_limit(alloc, 0, 6)?, (true, 6, [0; 5]));
+    assert_eq!(rt;
+        loaded_at_limit(alloc, 0, 3)?,
+        (false, 3, [0, 0, OTHER, OTHER, OTHER])
+    );
+    Ok(())
+}

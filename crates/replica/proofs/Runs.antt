@@ -1,0 +1,37 @@
+-- What the loads of a run tell together.
+use Rattle.std.proofs.Common.{◌≡◌, ◌+◌, ◌<◌, ℕ, List, [], ◌∷◌, ◌++◌, length, set, slice_index, take, ap, sym, subst, ◌∙◌, arith, below_more, length-append}
+use Rattle.std.proofs.lemmas.List.{get_or_append_left, length-take-le, take_more_set}
+use Rattle.std.proofs.Math.Seq.{get_or-append_seam}
+use Rattle.cx_base.specs.Memory.{AreAt, Loaded, Reads}
+use Rattle.cx_base.proofs.ReadLemmas.{Reads-load, Reads-none}
+use Rattle.cx_rule.specs.Seats.{Seated}
+use Rattle.replica.specs.Held.{LoadsRun, no_load, one_more_load}
+
+-- one word more stands behind others
+one_more_at : (from v : ℕ) (words now : List ℕ) → AreAt from words now → slice_index now (from + length words) ≡ v → AreAt from (words ++ v ∷ []) now
+one_more_at from v words now so_far is i below =
+    let P : ℕ → Type 0 = λ k. slice_index now (from + k) ≡ slice_index (words ++ v ∷ []) k in
+    below_more P (length words)
+    (λ k before. so_far k before ∙ sym (get_or_append_left words (v ∷ []) 0 k before))
+    (is ∙ sym (get_or-append_seam words v [] 0))
+    i (let long = length-append words (v ∷ []) in omega (arith, long, below))
+
+module _ (load : ℕ → ℕ → Seated → Seated → Type 0) (from : ℕ) where
+  -- one word more was loaded
+  pub run_more : (words : List ℕ) (i v : ℕ) (before mid after : Seated) → i < length words → LoadsRun load from (take i words) before mid → load (from + i) v mid after → LoadsRun load from (take (i + 1) (set words i v)) before after
+  run_more words i v before mid after below run last =
+      one_more_load _ _ _ (take i words) v mid (take_more_set words i v below) run (subst (λ k. load (from + k) v mid after) (sym (length-take-le i words (omega arith))) last)
+
+  -- what each load keeps is kept
+  pub run_keeps : (P : Seated → Type 0) → ((at v : ℕ) (before after : Seated) → load at v before after → P before → P after) → (words : List ℕ) (before after : Seated) → LoadsRun load from words before after → P before → P after
+  run_keeps P each words before after (no_load _ _ _ none same) was = subst P (sym same) was
+  run_keeps P each words before after (one_more_load _ _ _ first v mid longer run last) was = each (from + length first) v mid after last (run_keeps P each first before mid run was)
+
+  -- each pair that stands then stood before, and has the words loaded
+  pub run_reads : {Key : Type 0} (stands : Seated → Key → List ℕ → Type 0) → ((at v : ℕ) (before after : Seated) → load at v before after → Loaded at v (stands before) (stands after)) → (words : List ℕ) (before after : Seated) → LoadsRun load from words before after →
+      Reads (stands before) (stands after) (AreAt from words)
+  run_reads stands each words before after (no_load _ _ _ none same) =
+      subst (λ s. Reads (stands before) (stands s) (AreAt from words)) (sym same) (Reads-none (stands before) (λ first now s i below. absurd (omega (arith, ap length none, below))))
+  run_reads stands each words before after (one_more_load _ _ _ first v mid longer run last) =
+      subst (λ ws. Reads (stands before) (stands after) (AreAt from ws)) (sym longer)
+      (Reads-load (run_reads stands each first before mid run) (each (from + length first) v mid after last) (λ now so_far is. one_more_at from v first now so_far is))
