@@ -1,5 +1,5 @@
 -- What a step of a copy does to the seat.
-use Rattle.std.proofs.Common.{false, true, cond, nat_lt, IfSome, ◌≡◌, ◌<◌, ℕ, Bool, All, List, refl, ap, sym, subst, ◌∙◌, append-nil, Option, Some, None, Result, Ok, Err, IfOk, OnErr, OnOk}
+use Rattle.std.proofs.Common.{false, true, cond, nat_lt, IfSome, ◌≡◌, ◌+◌, ◌<◌, ℕ, Bool, All, List, [], ◌∷◌, ◌++◌, length, refl, ap, sym, subst, ◌∙◌, append-nil, Option, Some, None, Result, Ok, Err, IfOk, OnErr, OnOk}
 use Rattle.std.specs.Option.{option_map}
 use Rattle.std.specs.Result.{result_ok}
 use Rattle.cx_core.specs.declared.kinds.Kind.TheVariants.{LoadWord, StoreWord, TryShared}
@@ -10,16 +10,19 @@ use Rattle.cx_core.specs.LockEvents.{exclusive_mark, passing, shared_by}
 use Rattle.cx_core.specs.Region.{region_words}
 use Rattle.cx_core.specs.RegionEvents.{loaded_into, stored_into}
 use Rattle.cx_core.specs.Rights.{held_dirty}
+use Rattle.cx_rule.specs.declared.rule.Known.{Known}
 use Rattle.cx_rule.specs.Fitting.{Fitting, SomeFits}
 use Rattle.cx_rule.specs.Running.{IsSeatOf, Running, instance_at}
 use Rattle.cx_rule.specs.Seats.{Seated, known_after}
 use Rattle.cx_rule.specs.Steps.{Halts, Steps}
 use Rattle.cx_table.specs.Right.{Right}
+use Rattle.cx_table.specs.Runs.{Runs, loads_from, no_step, one_more_step}
 use Rattle.cx_table.specs.Tokens.{IsExclusiveOf, IsSharedOf, TriedShared}
 use Rattle.replica.specs.Copies.{HoldsBoth, beside_copy, but_loads, known_compared}
 use Rattle.replica.specs.Held.{IsHeld, but_words}
 use Rattle.replica.specs.Laws.{shared_held}
 use Rattle.replica.proofs.Access.{beside, dirty_stored, replica_but_words, unstored}
+use Rattle.replica.proofs.LineLoads.{IsRunOf, longer_run, no_run}
 
 unloaded_all : (r i found : ℕ) (o : Option HeldShared) → option_map but_loads (option_map (loaded_into r i found) o) ≡ option_map but_loads o
 unloaded_all r i found None = refl
@@ -50,6 +53,14 @@ shared_still callers before after source same of = record {
       ∙ of.holds;
 }
 
+-- a load changes nothing beside a copy
+load_rest : {O : Type 0} (r : Running O) (step : O → List ℕ → List ℕ → List ℕ × List ℕ) (reads : O → List ℕ → Bool) (q at found : ℕ) (before after : Seated) → Steps r step reads (LoadWord q at false) found before after → beside_copy after ≡ beside_copy before
+load_rest r step reads q at found before after s =
+    let exclusive = option_map but_words before.known.local.exclusive in
+    ap beside_copy s.made
+    ∙ ap (λ n. beside before n exclusive (option_map but_loads (option_map (loaded_into q at found) before.known.local.shared))) (append-nil before.known.noted)
+    ∙ ap (λ o. beside before before.known.noted exclusive o) (unloaded_all q at found before.known.local.shared)
+
 module _ {O : Type 0} (lines : ℕ) (r : Running O) (step : O → List ℕ → List ℕ → List ℕ × List ℕ) (reads : O → List ℕ → Bool) (lawful : List ℕ → Type 0) (held source : Right) (before after : Seated) where
   -- both rights stay through a step that is the same beside a copy, after which some pair fits
   both_still : HoldsBoth lines r lawful before held source → IsSeatOf r after → beside_copy after ≡ beside_copy before → Fitting r.lines lawful r.base after.known → All (λ i. i < region_words lines) (held_dirty after.known.local.exclusive) →
@@ -68,12 +79,8 @@ module _ {O : Type 0} (lines : ℕ) (r : Running O) (step : O → List ℕ → L
 
   pub both_load : (q at found : ℕ) → HoldsBoth lines r lawful before held source → Steps r step reads (LoadWord q at false) found before after → Fitting r.lines lawful r.base after.known → HoldsBoth lines r lawful after held source
   both_load q at found both s fits =
-      let exclusive = option_map but_words before.known.local.exclusive in
-      let rest : beside_copy after ≡ beside_copy before =
-      ap beside_copy s.made
-      ∙ ap (λ n. beside before n exclusive (option_map but_loads (option_map (loaded_into q at found) before.known.local.shared))) (append-nil before.known.noted)
-      ∙ ap (λ o. beside before before.known.noted exclusive o) (unloaded_all q at found before.known.local.shared) in
-      both_still both s.seat rest fits (subst (λ (t : Seated). All (λ i. i < region_words lines) (held_dirty t.known.local.exclusive)) (sym s.made) both.exclusive.dirty)
+      both_still both s.seat (load_rest r step reads q at found before after s) fits
+      (subst (λ (t : Seated). All (λ i. i < region_words lines) (held_dirty t.known.local.exclusive)) (sym s.made) both.exclusive.dirty)
 
   pub both_store : (q at v : ℕ) → at < region_words lines → HoldsBoth lines r lawful before held source → Steps r step reads (StoreWord q at v) 0 before after → Fitting r.lines lawful r.base after.known → HoldsBoth lines r lawful after held source
   both_store q at v below both s fits =
@@ -84,6 +91,36 @@ module _ {O : Type 0} (lines : ℕ) (r : Running O) (step : O → List ℕ → L
       ∙ ap (λ o. beside before before.known.noted o shared) (unstored at v before.known.local.exclusive) in
       both_still both s.seat rest fits
       (subst (λ (t : Seated). All (λ i. i < region_words lines) (held_dirty t.known.local.exclusive)) (sym s.made) (dirty_stored (λ i. i < region_words lines) at v before.known.local.exclusive below both.exclusive.dirty))
+
+-- a run of loads leaves both rights, and tells of each of its words
+pub record HasRun {O : Type 0} (lines : ℕ) (r : Running O) (lawful : List ℕ → Type 0) (held source : Right) (q from : ℕ) (words : List ℕ) (before after : Seated) : Type 0 where
+  pub both : HoldsBoth lines r lawful after held source
+  pub rest : beside_copy after ≡ beside_copy before
+  pub run : IsRunOf q from words before.known after.known
+
+module _ {O : Type 0} (lines : ℕ) (r : Running O) (step : O → List ℕ → List ℕ → List ℕ × List ℕ) (reads : O → List ℕ → Bool) (lawful : List ℕ → Type 0) (held source : Right) (q from : ℕ) where
+  none_ran : (before after : Seated) → after ≡ before → HoldsBoth lines r lawful before held source → HasRun lines r lawful held source q from [] before after
+  none_ran before after same both =
+      subst (λ (s : Seated). HasRun lines r lawful held source q from [] before s) (sym same) (record { both = both; rest = refl; run = no_run q from before.known })
+
+  pub has_run : (words : List ℕ) (before after : Seated) → HoldsBoth lines r lawful before held source → Runs r step reads lawful (loads_from q from) words before after → HasRun lines r lawful held source q from words before after
+  has_run words before after both (no_step _ _ _ nothing same) = subst (λ ws. HasRun lines r lawful held source q from ws before after) (sym nothing) (none_ran before after same both)
+  has_run words before after both (one_more_step _ _ _ first found mid longer run made fits) =
+      let was = has_run first before mid both run in
+      let at = from + length first in
+      record {
+        both = both_load lines r step reads lawful held source mid after q at found was.both made fits;
+        rest = load_rest r step reads q at found mid after made ∙ was.rest;
+        run = subst (λ ws. IsRunOf q from ws before.known after.known) (sym longer)
+            (subst (λ (k : Known). IsRunOf q from (first ++ found ∷ []) before.known k) (sym (ap (λ (s : Seated). s.known) made.made))
+            (longer_run (instance_at r step reads) q from found first before.known mid.known was.run));
+      }
+
+  -- whether it was made or not
+  pub has_run_if : (words : List ℕ) (before after : Seated) (made : Bool) → HoldsBoth lines r lawful before held source → (made ≡ true → Runs r step reads lawful (loads_from q from) words before after) → (made ≡ false → after ≡ before) →
+      (ws : List ℕ) × HasRun lines r lawful held source q from ws before after
+  has_run_if words before after true both runs none = (words, has_run words before after both (runs refl))
+  has_run_if words before after false both runs none = ([], none_ran before after (none refl) both)
 
 -- what is known after a word was loaded of both
 pub compared : {O : Type 0} (r : Running O) (step : O → List ℕ → List ℕ → List ℕ × List ℕ) (reads : O → List ℕ → Bool) (h s at u v : ℕ) (before mid after : Seated) → Steps r step reads (LoadWord h at false) u before mid → Steps r step reads (LoadWord s at false) v mid after →

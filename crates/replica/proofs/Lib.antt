@@ -1,4 +1,5 @@
 pub mod Access
+mod LineLoads
 mod LineCopies
 pub mod CopySteps
 mod Reading

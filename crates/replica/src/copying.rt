@@ -1,6 +1,6 @@
 //! A replica held shared is copied over one held exclusively.
 
-ghost use Rattle.std.specs.Prelude.{◌≡◌, ◌+◌, ◌<◌, ◌≤◌, ℕ, IfOk, OnErr, OnOk};
+ghost use Rattle.std.specs.Prelude.{◌≡◌, ◌+◌, ◌<◌, ◌≤◌, ℕ, IfOk, IsTrue, OnErr, OnOk};
 ghost use Rattle.std.specs.List.{Contains};
 ghost use Rattle.cx_core.specs.declared.kinds.Kind.TheVariants.{StoreWord};
 ghost use Rattle.cx_core.specs.Region.{region_words};
@@ -90,7 +90,11 @@ fn copy_line<O: Object>(
     ensures rest { beside_copy seat.new ≡ beside_copy seat.old }
     ensures halts { OnErr result (IsAtLimit seat.new.known.local) }
 {
-    let pair = load_line(shared, seat, held, source, from)?;
+    let mut pair = LinePair {
+        held: [0; LINE],
+        source: [0; LINE],
+    };
+    load_line(shared, seat, held, source, from, &mut pair)?;
     let mut differs = [false];
     differing(&pair.held, &pair.source, &mut differs);
     if differs[0] {
@@ -99,32 +103,73 @@ fn copy_line<O: Object>(
     Ok(())
 }
 
-/// Loads a line of both replicas.
+/// Loads a line of both replicas: each by one call, but for the line of the place, and where the limit does not leave both.
 fn load_line<O: Object>(
     shared: &Shared<O>,
     seat: &mut CallerSeat,
     held: &Exclusive,
     source: &SharedHold,
     from: u64,
-) -> Result<LinePair, Halt>
+    pair: &mut LinePair,
+) -> Result<(), Halt>
     requires both { HoldsBoth (O.line_count shared.now.object) shared.now (O.lawful shared.now.object) seat.old held.now source.now }
     requires from { from + 8 ≤ region_words (O.line_count shared.now.object) }
     ensures both { HoldsBoth (O.line_count shared.now.object) shared.now (O.lawful shared.now.object) seat.new held.now source.now }
-    ensures seen { IfOk result (λ pair. AreSeen from 0 8 pair.held pair.source seat.new.known) }
+    ensures seen { OnOk result (AreSeen from 0 8 pair.new.held pair.new.source seat.new.known) }
     ensures copied { OnOk result (CopiesOn from from seat.old.known seat.new.known) }
     ensures rest { beside_copy seat.new ≡ beside_copy seat.old }
     ensures halts { OnErr result (IsAtLimit seat.new.known.local) }
 {
-    let mut pair = LinePair {
-        held: [0; LINE],
-        source: [0; LINE],
-    };
+    if from > 0 && load_runs(shared, seat, held, source, from, pair) {
+        return Ok(());
+    }
+    load_each(shared, seat, held, source, from, pair)
+}
+
+/// Loads a line of both replicas, which is not that of the place, each by one call. It answers whether the limit leaves both.
+fn load_runs<O: Object>(
+    shared: &Shared<O>,
+    seat: &mut CallerSeat,
+    held: &Exclusive,
+    source: &SharedHold,
+    from: u64,
+    pair: &mut LinePair,
+) -> bool
+    requires both { HoldsBoth (O.line_count shared.now.object) shared.now (O.lawful shared.now.object) seat.old held.now source.now }
+    requires from { from + 8 ≤ region_words (O.line_count shared.now.object) }
+    requires behind { 0 < from }
+    ensures both { HoldsBoth (O.line_count shared.now.object) shared.now (O.lawful shared.now.object) seat.new held.now source.now }
+    ensures seen { IsTrue result → AreSeen from 0 8 pair.new.held pair.new.source seat.new.known }
+    ensures copied { CopiesOn from from seat.old.known seat.new.known }
+    ensures rest { beside_copy seat.new ≡ beside_copy seat.old }
+{
+    shared.load_words(seat, held.replica() as u64, from, &mut pair.held)
+        && shared.load_words(seat, source.replica() as u64, from, &mut pair.source)
+}
+
+/// Loads a line of both replicas word by word.
+fn load_each<O: Object>(
+    shared: &Shared<O>,
+    seat: &mut CallerSeat,
+    held: &Exclusive,
+    source: &SharedHold,
+    from: u64,
+    pair: &mut LinePair,
+) -> Result<(), Halt>
+    requires both { HoldsBoth (O.line_count shared.now.object) shared.now (O.lawful shared.now.object) seat.old held.now source.now }
+    requires from { from + 8 ≤ region_words (O.line_count shared.now.object) }
+    ensures both { HoldsBoth (O.line_count shared.now.object) shared.now (O.lawful shared.now.object) seat.new held.now source.now }
+    ensures seen { OnOk result (AreSeen from 0 8 pair.new.held pair.new.source seat.new.known) }
+    ensures copied { OnOk result (CopiesOn from from seat.old.known seat.new.known) }
+    ensures rest { beside_copy seat.new ≡ beside_copy seat.old }
+    ensures halts { OnErr result (IsAtLimit seat.new.known.local) }
+{
     for i in 0..LINE {
         let (old, new) = load_both(shared, seat, held, source, from + i as u64)?;
         pair.held[i] = old;
         pair.source[i] = new;
     }
-    Ok(pair)
+    Ok(())
 }
 
 /// Loads a word of both replicas.

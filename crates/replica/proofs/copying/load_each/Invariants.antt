@@ -1,6 +1,6 @@
 use Rattle.std.proofs.Common.{◌≡◌, length}
 use Rattle.replica.specs.Copies.{AreSeen, CopiesOn, HoldsBoth, beside_copy}
-use Rattle.replica.proofs.copying.load_line.Given as goal
+use Rattle.replica.proofs.copying.load_each.Given as goal
 
 -- the words so far were loaded of both
 abbrev pub invariant-loop-i : goal.invariant-loop-i

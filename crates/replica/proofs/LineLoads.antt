@@ -1,0 +1,263 @@
+-- What loads of the words of a replica tell, one by one and in runs.
+use Rattle.std.proofs.Common.{false, true, ◌≡◌, ◌+◌, ◌<◌, ◌≤◌, ◌==◌, inl, inr, ℕ, Bool, cond, List, [], ◌∷◌, ◌++◌, length, length-append, set, slice_index, refl, ap, sym, subst, ◌∙◌, arith, eq-eqb, Option, Some, None}
+use Rattle.std.proofs.lemmas.Bool.{cases_eq}
+use Rattle.std.proofs.lemmas.List.{get_or-set_other, get_or-set_same, get_or_append_left, get_or_push, map-append}
+use Rattle.std.proofs.lemmas.List.Elements.{Contains-append_left}
+use Rattle.std.proofs.lemmas.Option.{none-some, same_Some}
+use Rattle.std.specs.List.{Contains}
+use Rattle.std.specs.Option.{option_map}
+use Rattle.cx_base.specs.Noted.{Note, NotesLead, led_by_load}
+use Rattle.cx_core.specs.declared.kinds.Kind.TheVariants.{LoadWord}
+use Rattle.cx_core.specs.declared.local.HeldShared.{HeldShared}
+use Rattle.cx_core.specs.RegionEvents.{loaded_into}
+use Rattle.cx_core.specs.Rights.{exclusive_on, held_dirty, is_at, shared_on}
+use Rattle.cx_core.specs.State.{Instance}
+use Rattle.cx_rule.specs.declared.rule.Known.{Known}
+use Rattle.cx_rule.specs.Fitting.{loaded_of, loads_of, word_noted}
+use Rattle.cx_rule.specs.Seats.{known_after}
+use Rattle.cx_rule.proofs.Copying.{here_or, or_there}
+use Rattle.replica.specs.Copies.{AreSeen, IsSeen, known_compared, read_notes}
+
+-- notes say the same of every word but these
+abbrev pub SameBut : (ℕ → Type 0) → List Note → List Note → Type 0
+SameBut P notes notes' = (i : ℕ) → ¬ P i → word_noted None i notes' ≡ word_noted None i notes
+
+noted_more : (accesses : List Note) (word : Option ℕ) (i : ℕ) (stores : Bool) (at v : ℕ) → word_noted word i (accesses ++ (stores, at, v) ∷ []) ≡ cond (at == i) (Some v) (word_noted word i accesses)
+noted_more [] word i stores at v = refl
+noted_more ((s, a, w) ∷ accesses) word i stores at v = noted_more accesses (cond (a == i) (Some w) word) i stores at v
+
+pub noted_here : (accesses : List Note) (stores : Bool) (at v : ℕ) → word_noted None at (accesses ++ (stores, at, v) ∷ []) ≡ Some v
+noted_here accesses stores at v = noted_more accesses None at stores at v ∙ here_or at at (Some v) (word_noted None at accesses) refl
+
+pub noted_other : (accesses : List Note) (stores : Bool) (at v : ℕ) → SameBut (λ i. i ≡ at) accesses (accesses ++ (stores, at, v) ∷ [])
+noted_other accesses stores at v i apart = noted_more accesses None i stores at v ∙ or_there at i (Some v) (word_noted None i accesses) (λ e. apart (sym e))
+
+-- what is noted of the replica held shared after a load
+loads_more : (loaded : List (ℕ × ℕ)) (at v : ℕ) → loads_of (loaded ++ (at, v) ∷ []) ≡ loads_of loaded ++ (false, at, v) ∷ []
+loads_more loaded at v = map-append (λ (x : ℕ × ℕ). (false, x.0, x.1)) loaded ((at, v) ∷ [])
+
+abbrev after_load : ℕ → ℕ → ℕ → Option HeldShared → List Note
+after_load r at v o = loads_of (loaded_of (option_map (loaded_into r at v) o))
+
+loads_here : (o : Option HeldShared) (r at v : ℕ) → option_map (λ (h : HeldShared). h.replica) o ≡ Some r → word_noted None at (after_load r at v o) ≡ Some v
+loads_here None r at v on = absurd (none-some r on)
+loads_here (Some h) r at v on =
+    ap (λ (b : Bool). word_noted None at (loads_of (cond b (h.loaded ++ (at, v) ∷ []) h.loaded))) (eq-eqb h.replica r (same_Some h.replica r on))
+    ∙ ap (word_noted None at) (loads_more h.loaded at v)
+    ∙ noted_here (loads_of h.loaded) false at v
+
+still_shared : (o : Option HeldShared) (r at v : ℕ) → option_map (λ (h : HeldShared). h.replica) (option_map (loaded_into r at v) o) ≡ option_map (λ (h : HeldShared). h.replica) o
+still_shared None r at v = refl
+still_shared (Some h) r at v = refl
+
+-- what is noted of the replica held exclusively after a load
+abbrev with_load : Bool → List Note → ℕ → ℕ → List Note
+with_load b accesses at v = cond b (accesses ++ (false, at, v) ∷ []) accesses
+
+-- ---- what loads leave
+
+-- words at these places were loaded, of whatever replicas
+pub record AreLoaded (P : ℕ → Type 0) (k k' : Known) : Type 0 where
+  pub held : (first now : List ℕ) → NotesLead k'.accesses first now → NotesLead k.accesses first now
+  pub read : (first now : List ℕ) → NotesLead (read_notes k') first now → NotesLead (read_notes k) first now
+  pub beside : SameBut P k.accesses k'.accesses
+  pub beside_read : SameBut P (read_notes k) (read_notes k')
+  pub dirty : held_dirty k'.local.exclusive ≡ held_dirty k.local.exclusive
+  pub kept : (x : ℕ × ℕ) → Contains (loaded_of k.local.shared) x → Contains (loaded_of k'.local.shared) x
+  pub exclusive : exclusive_on k'.local ≡ exclusive_on k.local
+  pub shared : shared_on k'.local ≡ shared_on k.local
+
+one_load : (instance : Instance) (r at v : ℕ) (k : Known) → AreLoaded (λ i. i ≡ at) k (known_after instance (LoadWord r at false) k v)
+one_load instance r at v k = record {
+  held = λ first now. held (is_at r (exclusive_on k.local)) first now;
+  read = λ first now. read k.local.shared first now;
+  beside = beside (is_at r (exclusive_on k.local));
+  beside_read = beside_read k.local.shared;
+  dirty = refl;
+  kept = kept k.local.shared;
+  exclusive = refl;
+  shared = still_shared k.local.shared r at v;
+}
+  where
+    held : (b : Bool) (first now : List ℕ) → NotesLead (with_load b k.accesses at v) first now → NotesLead k.accesses first now
+    held true first now l = (led_by_load k.accesses at v first now l).0
+    held false first now l = l
+
+    beside : (b : Bool) → SameBut (λ i. i ≡ at) k.accesses (with_load b k.accesses at v)
+    beside true = noted_other k.accesses false at v
+    beside false = λ i apart. refl
+
+    read_one : (h : HeldShared) (b : Bool) (first now : List ℕ) → NotesLead (loads_of (cond b (h.loaded ++ (at, v) ∷ []) h.loaded)) first now → NotesLead (loads_of h.loaded) first now
+    read_one h true first now l = (led_by_load (loads_of h.loaded) at v first now (subst (λ (ns : List Note). NotesLead ns first now) (loads_more h.loaded at v) l)).0
+    read_one h false first now l = l
+
+    read : (o : Option HeldShared) (first now : List ℕ) → NotesLead (after_load r at v o) first now → NotesLead (loads_of (loaded_of o)) first now
+    read None first now l = l
+    read (Some h) first now l = read_one h (h.replica == r) first now l
+
+    beside_one : (h : HeldShared) (b : Bool) → SameBut (λ i. i ≡ at) (loads_of h.loaded) (loads_of (cond b (h.loaded ++ (at, v) ∷ []) h.loaded))
+    beside_one h true i apart = ap (word_noted None i) (loads_more h.loaded at v) ∙ noted_other (loads_of h.loaded) false at v i apart
+    beside_one h false i apart = refl
+
+    beside_read : (o : Option HeldShared) → SameBut (λ i. i ≡ at) (loads_of (loaded_of o)) (after_load r at v o)
+    beside_read None i apart = refl
+    beside_read (Some h) i apart = beside_one h (h.replica == r) i apart
+
+    kept_one : (h : HeldShared) (b : Bool) (x : ℕ × ℕ) → Contains h.loaded x → Contains (cond b (h.loaded ++ (at, v) ∷ []) h.loaded) x
+    kept_one h true x has = Contains-append_left h.loaded ((at, v) ∷ []) x has
+    kept_one h false x has = has
+
+    kept : (o : Option HeldShared) (x : ℕ × ℕ) → Contains (loaded_of o) x → Contains (loaded_of (option_map (loaded_into r at v) o)) x
+    kept None x has = has
+    kept (Some h) x has = kept_one h (h.replica == r) x has
+
+no_load : (P : ℕ → Type 0) (k : Known) → AreLoaded P k k
+no_load P k = record {
+  held = λ first now l. l;
+  read = λ first now l. l;
+  beside = λ i apart. refl;
+  beside_read = λ i apart. refl;
+  dirty = refl;
+  kept = λ x has. has;
+  exclusive = refl;
+  shared = refl;
+}
+
+-- some were loaded, and then others
+loaded_on : (P Q R : ℕ → Type 0) (k k' k'' : Known) → ((i : ℕ) → P i → R i) → ((i : ℕ) → Q i → R i) → AreLoaded P k k' → AreLoaded Q k' k'' → AreLoaded R k k''
+loaded_on P Q R k k' k'' p q one two = record {
+  held = λ first now l. one.held first now (two.held first now l);
+  read = λ first now l. one.read first now (two.read first now l);
+  beside = λ i apart. two.beside i (λ x. apart (q i x)) ∙ one.beside i (λ x. apart (p i x));
+  beside_read = λ i apart. two.beside_read i (λ x. apart (q i x)) ∙ one.beside_read i (λ x. apart (p i x));
+  dirty = two.dirty ∙ one.dirty;
+  kept = λ x has. two.kept x (one.kept x has);
+  exclusive = two.exclusive ∙ one.exclusive;
+  shared = two.shared ∙ one.shared;
+}
+
+-- ---- what a load tells of its word
+
+-- between what was known before and after, the word of the replica r at this place was loaded, and was v
+pub record IsLoadOf (r at v : ℕ) (k k' : Known) : Type 0 where
+  pub noted : exclusive_on k.local ≡ Some r → word_noted None at k'.accesses ≡ Some v
+  pub was : exclusive_on k.local ≡ Some r → (first now : List ℕ) → NotesLead k'.accesses first now → slice_index now at ≡ v
+  pub again : word_noted None at k.accesses ≡ Some v → word_noted None at k'.accesses ≡ Some v
+  pub read : shared_on k.local ≡ Some r → word_noted None at (read_notes k') ≡ Some v
+
+load_of : (instance : Instance) (r at v : ℕ) (k : Known) → IsLoadOf r at v k (known_after instance (LoadWord r at false) k v)
+load_of instance r at v k =
+    let here : exclusive_on k.local ≡ Some r → is_at r (exclusive_on k.local) ≡ true = λ held. (ap (is_at r) held ∙ eq-eqb r r refl) in
+    record {
+      noted = λ held. ap (λ (b : Bool). word_noted None at (with_load b k.accesses at v)) (here held) ∙ noted_here k.accesses false at v;
+      was = λ held first now l. (led_by_load k.accesses at v first now (subst (λ (b : Bool). NotesLead (with_load b k.accesses at v) first now) (here held) l)).1;
+      again = again (is_at r (exclusive_on k.local));
+      read = loads_here k.local.shared r at v;
+    }
+  where
+    again : (b : Bool) → word_noted None at k.accesses ≡ Some v → word_noted None at (with_load b k.accesses at v) ≡ Some v
+    again true is = noted_here k.accesses false at v
+    again false is = is
+
+-- others were loaded behind it, or before it
+load_then : (P : ℕ → Type 0) (r at v : ℕ) (k k' k'' : Known) → ¬ P at → IsLoadOf r at v k k' → AreLoaded P k' k'' → IsLoadOf r at v k k''
+load_then P r at v k k' k'' apart one two = record {
+  noted = λ held. two.beside at apart ∙ one.noted held;
+  was = λ held first now l. one.was held first now (two.held first now l);
+  again = λ is. two.beside at apart ∙ one.again is;
+  read = λ shared. two.beside_read at apart ∙ one.read shared;
+}
+
+then_load : (P : ℕ → Type 0) (r at v : ℕ) (k k' k'' : Known) → ¬ P at → AreLoaded P k k' → IsLoadOf r at v k' k'' → IsLoadOf r at v k k''
+then_load P r at v k k' k'' apart one two = record {
+  noted = λ held. two.noted (one.exclusive ∙ held);
+  was = λ held. two.was (one.exclusive ∙ held);
+  again = λ is. two.again (one.beside at apart ∙ is);
+  read = λ shared. two.read (one.shared ∙ shared);
+}
+
+-- ---- runs of loads
+
+-- the words from one on, so many
+abbrev pub IsIn : ℕ → ℕ → ℕ → Type 0
+IsIn from n i = (from ≤ i) × (i < from + n)
+
+-- these words of the replica r were loaded, from one on
+pub record IsRunOf (r from : ℕ) (words : List ℕ) (k k' : Known) : Type 0 where
+  pub loaded : AreLoaded (IsIn from (length words)) k k'
+  pub each : (i : ℕ) → i < length words → IsLoadOf r (from + i) (slice_index words i) k k'
+
+pub no_run : (r from : ℕ) (k : Known) → IsRunOf r from [] k k
+no_run r from k = record { loaded = no_load (IsIn from 0) k; each = λ i below. absurd (omega (arith, below)) }
+
+pub longer_run : (instance : Instance) (r from found : ℕ) (words : List ℕ) (k k' : Known) → IsRunOf r from words k k' → IsRunOf r from (words ++ found ∷ []) k (known_after instance (LoadWord r (from + length words) false) k' found)
+longer_run instance r from found words k k' run =
+    let at = from + length words in
+    let k'' = known_after instance (LoadWord r at false) k' found in
+    let last = one_load instance r at found k' in
+    let long : length (words ++ found ∷ []) ≡ length words + 1 = length-append words (found ∷ []) in
+    record {
+      loaded = loaded_on (IsIn from (length words)) (λ i. i ≡ at) (IsIn from (length (words ++ found ∷ []))) k k' k''
+          (λ i x. (x.0, (let below = x.1 in omega (arith, long, below))))
+          (λ i x. (omega (arith, x), omega (arith, long, x)))
+          run.loaded last;
+      each = λ i below. elim (cases_eq i (length words)) [
+        | inl e ↦ subst (λ j. IsLoadOf r (from + j) (slice_index (words ++ found ∷ []) j) k k'') (sym e)
+            (subst (λ v. IsLoadOf r at v k k'') (sym (get_or_push words found 0 (length words) refl))
+            (then_load (IsIn from (length words)) r at found k k' k'' (λ x. (let under = x.1 in absurd (omega (arith, under)))) run.loaded (load_of instance r at found k')))
+        | inr ne ↦
+            let before : i < length words = omega (arith, long, below, ne) in
+            subst (λ v. IsLoadOf r (from + i) v k k'') (sym (get_or_append_left words (found ∷ []) 0 i before))
+            (load_then (λ j. j ≡ at) r (from + i) (slice_index words i) k k' k'' (λ x. absurd (omega (arith, x, before))) (run.each i before) last)
+      ];
+    }
+
+-- ---- what loads of both replicas tell
+
+-- a word of the one and then of the other
+seen_of : (P : ℕ → Type 0) (h s at u v : ℕ) (k k' k'' : Known) → exclusive_on k.local ≡ Some h → shared_on k'.local ≡ Some s → IsLoadOf h at u k k' → AreLoaded P k' k'' → IsLoadOf s at v k' k'' → IsSeen at u v k''
+seen_of P h s at u v k k' k'' held shared one two other = record {
+  source = other.read shared;
+  same = λ e. other.again (one.noted held ∙ ap Some e);
+  was = λ first now l. one.was held first now (two.held first now l);
+}
+
+-- a run of the one and then of the other
+pub seen_runs : (h s from n : ℕ) (us vs : List ℕ) (k k' k'' : Known) → length us ≡ n → length vs ≡ n → exclusive_on k.local ≡ Some h → shared_on k.local ≡ Some s → IsRunOf h from us k k' → IsRunOf s from vs k' k'' → AreSeen from 0 n us vs k''
+seen_runs h s from n us vs k k' k'' long long' held shared one two i least below =
+    seen_of (IsIn from (length vs)) h s (from + i) (slice_index us i) (slice_index vs i) k k' k'' held (one.loaded.shared ∙ shared) (one.each i (omega (arith, long, below))) two.loaded (two.each i (omega (arith, long', below)))
+
+pub compared_load : (instance : Instance) (h s at u v : ℕ) (k : Known) → AreLoaded (λ i. i ≡ at) k (known_compared instance h s at u v k)
+compared_load instance h s at u v k =
+    let mid = known_after instance (LoadWord h at false) k u in
+    loaded_on (λ i. i ≡ at) (λ i. i ≡ at) (λ i. i ≡ at) k mid (known_compared instance h s at u v k) (λ i x. x) (λ i x. x) (one_load instance h at u k) (one_load instance s at v mid)
+
+seen_compared : (instance : Instance) (h s at u v : ℕ) (k : Known) → exclusive_on k.local ≡ Some h → shared_on k.local ≡ Some s → IsSeen at u v (known_compared instance h s at u v k)
+seen_compared instance h s at u v k held shared =
+    let mid = known_after instance (LoadWord h at false) k u in
+    seen_of (λ i. i ≡ at) h s at u v k mid (known_compared instance h s at u v k) held (still_shared k.local.shared h at u ∙ shared) (load_of instance h at u k) (one_load instance s at v mid) (load_of instance s at v mid)
+
+-- what was seen stays so when other words are loaded
+seen_later : (P : ℕ → Type 0) (i u v : ℕ) (k k' : Known) → ¬ P i → AreLoaded P k k' → IsSeen i u v k → IsSeen i u v k'
+seen_later P i u v k k' apart load seen = record {
+  source = load.beside_read i apart ∙ seen.source;
+  same = λ e. load.beside i apart ∙ seen.same e;
+  was = λ first now l. seen.was first now (load.held first now l);
+}
+
+-- one word more of a line was loaded of both
+pub seen_more : (instance : Instance) (h s from n u v : ℕ) (us vs : List ℕ) (k : Known) → exclusive_on k.local ≡ Some h → shared_on k.local ≡ Some s → n < length us → n < length vs →
+    AreSeen from 0 n us vs k → AreSeen from 0 (n + 1) (set us n u) (set vs n v) (known_compared instance h s (from + n) u v k)
+seen_more instance h s from n u v us vs k held shared in_us in_vs seen i least below =
+    let now = known_compared instance h s (from + n) u v k in
+    elim (cases_eq i n) [
+      | inl e ↦
+          subst (λ j. IsSeen (from + j) (slice_index (set us n u) j) (slice_index (set vs n v) j) now) (sym e)
+          (subst (λ b. IsSeen (from + n) (slice_index (set us n u) n) b now) (sym (get_or-set_same vs n v 0 in_vs))
+          (subst (λ a. IsSeen (from + n) a v now) (sym (get_or-set_same us n u 0 in_us))
+          (seen_compared instance h s (from + n) u v k held shared)))
+      | inr ne ↦
+          subst (λ b. IsSeen (from + i) (slice_index (set us n u) i) b now) (sym (get_or-set_other vs n i v 0 ne))
+          (subst (λ a. IsSeen (from + i) a (slice_index vs i) now) (sym (get_or-set_other us n i u 0 ne))
+          (seen_later (λ j. j ≡ from + n) (from + i) (slice_index us i) (slice_index vs i) k now (λ e. ne (omega (arith, e))) (compared_load instance h s (from + n) u v k) (seen i least (omega (arith, below, ne)))))
+    ]

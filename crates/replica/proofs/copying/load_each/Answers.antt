@@ -1,0 +1,29 @@
+use Rattle.std.proofs.Common.{◌≡◌, ◌+◌, set, sym, subst, ◌∙◌, arith}
+use Rattle.std.proofs.lemmas.List.{length-set}
+use Rattle.cx_rule.specs.declared.rule.Known.{Known}
+use Rattle.cx_rule.specs.Running.{instance_at}
+use Rattle.replica.specs.Copies.{AreSeen, IsCopiedTo, known_compared}
+use Rattle.replica.proofs.LineCopies.{copied_loaded}
+use Rattle.replica.proofs.LineLoads.{compared_load, seen_more}
+use Rattle.replica.proofs.copying.load_each.Goals as goal
+
+pub loop-i-preserved : goal.loop-i-preserved
+loop-i-preserved g c =
+    let t = c.args.shared.now in
+    let instance = instance_at t g.O.Object.step g.O.Object.only_reads in
+    let was = c.loop-i.invariant in
+    let h = c.args.held.now.replica in
+    let s = c.args.source.now.replica in
+    let known = c.loop-i.seat.known in
+    let at = c.args.from + c.loop-i.i in
+    let now = c.in_ok-old.ensures in
+    record {
+      held_long = length-set c.loop-i.pair.held c.loop-i.i c.in_ok-old.old ∙ was.held_long;
+      source_long = length-set c.loop-i.pair.source c.loop-i.i c.in_ok-old.new ∙ was.source_long;
+      both = now.both;
+      seen = subst (λ (k : Known). AreSeen c.args.from 0 (c.loop-i.i + 1) (set c.loop-i.pair.held c.loop-i.i c.in_ok-old.old) (set c.loop-i.pair.source c.loop-i.i c.in_ok-old.new) k) (sym now.known)
+          (seen_more instance h s c.args.from c.loop-i.i c.in_ok-old.old c.in_ok-old.new c.loop-i.pair.held c.loop-i.pair.source known was.both.exclusive.right.holds was.both.shared.right.holds (omega (arith, was.held_long)) (omega (arith, was.source_long)) was.seen);
+      copied = λ region first below copied. subst (λ (k : Known). IsCopiedTo c.args.from region first k) (sym now.known)
+          (copied_loaded (λ i. i ≡ at) c.args.from region first known (known_compared instance h s at c.in_ok-old.old c.in_ok-old.new known) (λ i e. omega (arith, e)) (compared_load instance h s at c.in_ok-old.old c.in_ok-old.new known) (was.copied region first below copied));
+      rest = now.rest ∙ was.rest;
+    }
