@@ -7,9 +7,10 @@ use Rattle.std.proofs.lemmas.List.{length-set, get_or-set_same, get_or-set_other
 use Rattle.cx_base.specs.Memory.{Words, Always}
 use Rattle.cx_base.specs.WordLaws.{Words-set}
 
--- what no access changes of a buffer: the reference to the memory behind, and what none changes of that
+-- what no access changes of a buffer: the references to the memory behind and to what is held back, and what none changes of that memory
 pub record BufferFixed (Name Fixed : Type 0) : Type 0 where
   pub name : Name
+  pub held : Name
   pub inner : Fixed
   pub whole : ℕ
 
