@@ -1,5 +1,5 @@
 -- Words of a memory that are held back from it.
-use Rattle.std.specs.Prelude.{◌≡◌, ◌≢◌, ◌%◌, ◌^◌, ◌<◌, ◌≤◌, ℕ, zero, suc, Bool, true, false, List, length, slice_index, slice_index_or, slice_set, refl}
+use Rattle.std.specs.Prelude.{◌≡◌, ◌≢◌, ◌%◌, ◌^◌, ◌<◌, ◌≤◌, ℕ, zero, suc, List, length, slice_index, slice_set, refl}
 use Rattle.std.proofs.Common.{sym, subst, ◌∙◌, inl, inr, arith}
 use Rattle.std.proofs.Math.Logic.{∥∥₁_map}
 use Rattle.std.proofs.lemmas.Bool.{cases_eq}
@@ -19,9 +19,9 @@ abbrev pub IsFree : List ℕ → ℕ → ℕ → Type 0
 IsFree places count at = (i : ℕ) → i < count → slice_index places i ≢ at
 
 -- the hint of each of the first so many places is set: the one of the place modulo 256
-pub record AreHinted (places : List ℕ) (count : ℕ) (hints : List Bool) : Type 0 where
+pub record AreHinted (places : List ℕ) (count : ℕ) (hints : List ℕ) : Type 0 where
   pub few : length hints ≡ 256
-  pub set : (i : ℕ) → i < count → slice_index_or hints (slice_index places i % 256) false ≡ true
+  pub set : (i : ℕ) → i < count → 1 ≤ slice_index hints (slice_index places i % 256)
 
 -- the words behind, with those that are held back put over them
 pub record Covers (count : ℕ) (places values under now : List ℕ) : Type 0 where
