@@ -14,12 +14,12 @@ const HINTS: u64 = 256;
 /// - A pair that goes: 130. A node loads 4 words on the way up from its higher side, and then does not turn; it loads at most 12 from
 ///   its lower side, which is two levels down: links and heights of the three nodes that turn, and three heights. So 96 for 16 levels.
 ///   Then the height of what is left, the 8 words of the node, a word of each of 21 lines of its key and document, and 4 of the header.
-/// - A document in place of another: 62. Three words of each of 19 lines, 3 of the header, and 2 of the node.
+/// - A document in place of another of more or fewer blocks: 62. Three words of each of 19 lines, 3 of the header, and 2 of the node.
 const ROOM: usize = 192;
 
 /// Words held back from a memory: the place of each, what the memory has there, and what it is to have. At most 192
-/// are held back (`ROOM`). A hint is 0 where no place of its remainder is among them, and else one more than the number of the last such
-/// place, so that few places are searched for.
+/// are held back (`ROOM`). A hint that is 0 says that no place of its remainder is among them. Any other is one more than the number of the
+/// last such place, if there is one. So few places are searched for.
 #[derive(Drop)]
 pub struct Held {
     pub count: usize,
