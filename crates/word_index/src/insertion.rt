@@ -20,7 +20,7 @@ use crate::walk::seek_place;
 use avl_words::{Way, put, put_node, word};
 use cx_base::{Halt, Memory, Steps};
 use std::sync::ledger::Ledger;
-use write_buffer::{WriteBuffer, store_held};
+use write_buffer::{Held, WriteBuffer, store_held};
 
 /// What `insert` did: the key is new, or its document was replaced, or there is no room and nothing has changed.
 #[derive(Clone, Copy, Debug, PartialEq, Eq)]
@@ -142,13 +142,10 @@ fn add<M: Memory>(mem: &mut M, way: &Way, key: &Key, doc: &Doc<'_>) -> Result<()
     ensures halts { OnErr result (M.left mem.new ≡ Some 0) }
     ensures framed { Framed M.size M.fixed M.writable M.left mem.old mem.new }
 {
-    let mut buffer = WriteBuffer::over(mem, 0);
+    let mut held = Held::none();
+    let mut buffer = WriteBuffer::over(mem, 0, &mut held);
     put_pair(&mut buffer, way, key, doc)?;
-    let WriteBuffer {
-        inner: _,
-        line: _,
-        held,
-    } = buffer;
+    let WriteBuffer { .. } = buffer;
     store_held(mem, &held)
 }
 

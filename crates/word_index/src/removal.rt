@@ -16,7 +16,7 @@ use crate::walk::seek_place;
 use avl_words::{Way, put, take_node, word};
 use cx_base::{Halt, Memory, Steps};
 use std::sync::ledger::Ledger;
-use write_buffer::{WriteBuffer, store_held};
+use write_buffer::{Held, WriteBuffer, store_held};
 
 /// Takes the node at the end of a way out of the tree.
 fn cut<M: Memory>(mem: &mut M, way: &mut Way, node: u64) -> Result<(), Halt>
@@ -59,13 +59,10 @@ fn take_out<M: Memory>(mem: &mut M, way: &mut Way, node: u64) -> Result<(), Halt
     ensures halts { OnErr result (M.left mem.new ≡ Some 0) }
     ensures framed { Framed M.size M.fixed M.writable M.left mem.old mem.new }
 {
-    let mut buffer = WriteBuffer::over(mem, node);
+    let mut held = Held::none();
+    let mut buffer = WriteBuffer::over(mem, node, &mut held);
     cut_pair(&mut buffer, way, node)?;
-    let WriteBuffer {
-        inner: _,
-        line: _,
-        held,
-    } = buffer;
+    let WriteBuffer { .. } = buffer;
     store_held(mem, &held)
 }
 

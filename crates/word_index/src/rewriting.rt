@@ -15,7 +15,7 @@ use crate::taken::write_text;
 use crate::texts::Doc;
 use avl_words::{put, put_new, word};
 use cx_base::{Halt, Memory};
-use write_buffer::{WriteBuffer, store_held};
+use write_buffer::{Held, WriteBuffer, store_held};
 
 /// Writes a document into the blocks of another of as many blocks.
 fn refill<M: Memory>(mem: &mut M, node: u64, first: u64, doc: &Doc<'_>) -> Result<(), Halt>
@@ -106,12 +106,9 @@ pub fn rewrite<M: Memory>(mem: &mut M, node: u64, doc: &Doc<'_>) -> Result<(), H
     ensures halts { OnErr result (M.left mem.new ≡ Some 0) }
     ensures framed { Framed M.size M.fixed M.writable M.left mem.old mem.new }
 {
-    let mut buffer = WriteBuffer::over(mem, node);
+    let mut held = Held::none();
+    let mut buffer = WriteBuffer::over(mem, node, &mut held);
     replace(&mut buffer, node, doc)?;
-    let WriteBuffer {
-        inner: _,
-        line: _,
-        held,
-    } = buffer;
+    let WriteBuffer { .. } = buffer;
     store_held(mem, &held)
 }

@@ -1,5 +1,5 @@
 -- Words of a memory that are held back from it.
-use Rattle.std.specs.Prelude.{◌≡◌, ◌≢◌, ◌%◌, ◌^◌, ◌<◌, ◌≤◌, ℕ, zero, suc, Bool, true, false, List, length, slice_index, slice_index_or, slice_set, refl}
+use Rattle.std.specs.Prelude.{◌≡◌, ◌≢◌, ◌%◌, ◌^◌, ◌<◌, ◌≤◌, ℕ, zero, suc, List, length, slice_index, slice_set, refl}
 use Rattle.std.proofs.Common.{sym, subst, ◌∙◌, inl, inr, arith}
 use Rattle.std.proofs.Math.Logic.{∥∥₁_map}
 use Rattle.std.proofs.lemmas.Bool.{cases_eq}
@@ -7,9 +7,10 @@ use Rattle.std.proofs.lemmas.List.{length-set, get_or-set_same, get_or-set_other
 use Rattle.cx_base.specs.Memory.{Words, Always}
 use Rattle.cx_base.specs.WordLaws.{Words-set}
 
--- what no access changes of a buffer: the reference to the memory behind, and what none changes of that
+-- what no access changes of a buffer: the references to the memory behind and to what is held back, and what none changes of that memory
 pub record BufferFixed (Name Fixed : Type 0) : Type 0 where
   pub name : Name
+  pub held : Name
   pub inner : Fixed
   pub whole : ℕ
 
@@ -18,9 +19,9 @@ abbrev pub IsFree : List ℕ → ℕ → ℕ → Type 0
 IsFree places count at = (i : ℕ) → i < count → slice_index places i ≢ at
 
 -- the hint of each of the first so many places is set: the one of the place modulo 256
-pub record AreHinted (places : List ℕ) (count : ℕ) (hints : List Bool) : Type 0 where
+pub record AreHinted (places : List ℕ) (count : ℕ) (hints : List ℕ) : Type 0 where
   pub few : length hints ≡ 256
-  pub set : (i : ℕ) → i < count → slice_index_or hints (slice_index places i % 256) false ≡ true
+  pub set : (i : ℕ) → i < count → 1 ≤ slice_index hints (slice_index places i % 256)
 
 -- the words behind, with those that are held back put over them
 pub record Covers (count : ℕ) (places values under now : List ℕ) : Type 0 where

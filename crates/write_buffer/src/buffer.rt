@@ -15,22 +15,21 @@ use cx_base::{Halt, Memory};
 pub struct WriteBuffer<'a, M: Memory> {
     pub inner: &'a mut M,
     pub line: u64,
-    pub held: Held,
-    ghost is: { IsHeld (M.stands inner.now) (M.size inner.now) held.count held.places held.found held.values },
+    pub held: &'a mut Held,
+    ghost is: { IsHeld (M.stands inner.now) (M.size inner.now) held.now.count held.now.places held.now.found held.now.values },
 }
 
 impl<'a, M: Memory> WriteBuffer<'a, M> {
-    /// A buffer that holds nothing back yet, with the line whose words are all held back beside line 0.
-    pub fn over(inner: &'a mut M, line: u64) -> WriteBuffer<'a, M>
+    /// A buffer that holds nothing back yet, with the line whose words are all held back beside line 0. What it holds back stands where its
+    /// caller has it, whatever was there.
+    pub fn over(inner: &'a mut M, line: u64, held: &'a mut Held) -> WriteBuffer<'a, M>
         ensures name { result.inner.ghost_name ≡ inner.entry.ghost_name }
+        ensures held_name { result.held.ghost_name ≡ held.entry.ghost_name }
         ensures inner { result.inner.now ≡ inner.old }
-        ensures none { result.held.count ≡ 0 }
+        ensures none { result.held.now.count ≡ 0 }
     {
-        WriteBuffer {
-            inner,
-            line,
-            held: Held::none(),
-        }
+        held.count = 0;
+        WriteBuffer { inner, line, held }
     }
 }
 
@@ -46,7 +45,7 @@ impl<M: Memory> Memory for WriteBuffer<'_, M> {
 
     ghost Fixed = { BufferFixed GName M.Fixed };
 
-    ghost fixed = { λ b. record { name = b.inner.ghost_name; inner = M.fixed b.inner.now; whole = M.size b.inner.now } };
+    ghost fixed = { λ b. record { name = b.inner.ghost_name; held = b.held.ghost_name; inner = M.fixed b.inner.now; whole = M.size b.inner.now } };
 
     ghost writable = { λ b. M.writable b.inner.now };
 
@@ -54,11 +53,11 @@ impl<M: Memory> Memory for WriteBuffer<'_, M> {
 
     ghost Key = { M.Key };
 
-    ghost stands = { λ b. Shows (M.stands b.inner.now) (M.size b.inner.now) b.held.count b.held.places b.held.values };
+    ghost stands = { λ b. Shows (M.stands b.inner.now) (M.size b.inner.now) b.held.now.count b.held.now.places b.held.now.values };
 
-    ghost some_stands = { λ b. shows_some (M.size b.inner.now) b.held.count b.held.places b.held.found b.held.values b.is (M.words b.inner.now) (M.some_stands b.inner.now) };
+    ghost some_stands = { λ b. shows_some (M.size b.inner.now) b.held.now.count b.held.now.places b.held.now.found b.held.now.values b.is (M.words b.inner.now) (M.some_stands b.inner.now) };
 
-    ghost words = { λ b. shows_words (M.size b.inner.now) b.held.count b.held.places b.held.values };
+    ghost words = { λ b. shows_words (M.size b.inner.now) b.held.now.count b.held.now.places b.held.now.values };
 
     fn load(&mut self, at: u64) -> Result<u64, Halt> {
         let i = self.held.find(at);

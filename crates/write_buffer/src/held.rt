@@ -14,18 +14,19 @@ const HINTS: u64 = 256;
 /// - A pair that goes: 130. A node loads 4 words on the way up from its higher side, and then does not turn; it loads at most 12 from
 ///   its lower side, which is two levels down: links and heights of the three nodes that turn, and three heights. So 96 for 16 levels.
 ///   Then the height of what is left, the 8 words of the node, a word of each of 21 lines of its key and document, and 4 of the header.
-/// - A document in place of another: 62. Three words of each of 19 lines, 3 of the header, and 2 of the node.
+/// - A document in place of another of more or fewer blocks: 62. Three words of each of 19 lines, 3 of the header, and 2 of the node.
 const ROOM: usize = 192;
 
 /// Words held back from a memory: the place of each, what the memory has there, and what it is to have. At most 192
-/// are held back (`ROOM`). A hint that is not set says that no place of its remainder is among them, so that most places are not searched for.
+/// are held back (`ROOM`). A hint that is 0 says that no place of its remainder is among them. Any other is one more than the number of the
+/// last such place, if there is one. So few places are searched for.
 #[derive(Drop)]
 pub struct Held {
     pub count: usize,
     pub places: [u64; ROOM],
     pub found: [u64; ROOM],
     pub values: [u64; ROOM],
-    hints: [bool; 256],
+    hints: [u8; 256],
     ghost hinted: { AreHinted places count hints },
 }
 
@@ -39,7 +40,7 @@ impl Held {
             places: [0; ROOM],
             found: [0; ROOM],
             values: [0; ROOM],
-            hints: [false; 256],
+            hints: [0; 256],
         }
     }
 
@@ -50,8 +51,12 @@ impl Held {
         ensures there { result < self.now.count → slice_index self.now.places result ≡ at }
         ensures free { result ≡ self.now.count → IsFree self.now.places self.now.count at }
     {
-        if !self.hints[(at % HINTS) as usize] {
+        let hint = self.hints[(at % HINTS) as usize] as usize;
+        if hint == 0 {
             return self.count;
+        }
+        if hint <= self.count && self.places[hint - 1] == at {
+            return hint - 1;
         }
         for i in 0..self.count {
             if self.places[i] == at {
@@ -73,7 +78,7 @@ impl Held {
         self.places[i] = at;
         self.found[i] = word;
         self.values[i] = word;
-        self.hints[(at % HINTS) as usize] = true;
+        self.hints[(at % HINTS) as usize] = i as u8 + 1;
         self.count = i + 1;
     }
 }

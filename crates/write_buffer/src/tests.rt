@@ -2,7 +2,7 @@
 
 ghost use Rattle.std.specs.Prelude.{◌≤◌, length};
 
-use crate::{WriteBuffer, store_held};
+use crate::{Held, WriteBuffer, store_held};
 use cx_base::{Halt, Memory, VecMemory};
 use std::test::Fail;
 
@@ -10,13 +10,14 @@ use std::test::Fail;
 fn stored_twice(mem: &mut VecMemory) -> Result<u64, Halt>
     requires { 16 ≤ length mem.old.words.items }
 {
-    let mut buffer = WriteBuffer::over(mem, 0);
+    let mut held = Held::none();
+    let mut buffer = WriteBuffer::over(mem, 0, &mut held);
     buffer.load(1)?;
     buffer.store(1, 7)?;
     buffer.store(15, 8)?;
     buffer.store(1, 9)?;
     let seen = buffer.load(1)?;
-    let WriteBuffer { held, .. } = buffer;
+    let WriteBuffer { .. } = buffer;
     store_held(mem, &held)?;
     Ok(seen)
 }

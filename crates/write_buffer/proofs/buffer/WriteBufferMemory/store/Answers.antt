@@ -8,7 +8,7 @@ use Rattle.write_buffer.proofs.buffer.WriteBufferMemory.store.Goals as goal
 pub returns-then-i-self-clause-stands : goal.returns-then-i-self-clause-stands
 returns-then-i-self-clause-stands g c =
     let b = c.args.self.now in
-    let h = b.held in
+    let h = b.held.now in
     let size = g.M.Memory.size b.inner.now in
     let here = c.find-i.ensures.there c.if-i-self.true in
     let stands = g.M.Memory.stands c.load.new.self in
@@ -20,7 +20,7 @@ returns-then-i-self-clause-stands g c =
 pub returns-clause-stands : goal.returns-clause-stands
 returns-clause-stands g c =
     let b = c.args.self.now in
-    let h = b.held in
+    let h = b.held.now in
     let size = g.M.Memory.size b.inner.now in
     let stands = g.M.Memory.stands c.store.new.self in
     let within = c.find-i.ensures.within in
