@@ -1,7 +1,7 @@
 use Rattle.std.proofs.Common.{refl, ap}
 use Rattle.std.proofs.lemmas.Result.{on_ok_weaker}
 use Rattle.cx_rule.specs.Seats.{Seated}
-use Rattle.replica.proofs.RegionLaws.{held_run, limited_beside, rest_run, stands_run}
+use Rattle.replica.proofs.RegionLaws.{held_run, rest_run, stands_run, still_limited}
 use Rattle.replica.proofs.region.RegionMemory.load_words.Goals as goal
 
 pub invariant_of-self : goal.invariant_of-self
@@ -36,5 +36,5 @@ returns-clause-framed g c =
       size_kept = refl;
       fixed_kept = ap (λ (s : Seated). record { name = region.seat.ghost_name; board = board; held = region.held.now; placed = region.placed; rest = s }) rest;
       writable_kept = refl;
-      limited = limited_beside region.held.now.replica region.seat.now c.load_run.new.seat rest;
+      limited = still_limited region.seat.now.known.local c.load_run.new.seat.known.local (ap (λ (s : Seated). s.known.local.limit) rest);
     }
