@@ -1,6 +1,6 @@
 //! A replica held shared as a memory.
 
-ghost use Rattle.std.specs.Prelude.{◌≡◌, ◌+◌, ◌≤◌, List, ℕ, IsTrue, OnErr, OnOk, Some, length};
+ghost use Rattle.std.specs.Prelude.{◌≡◌, ◌+◌, ◌≤◌, List, ℕ, IsTrue, OnErr, OnOk, Some, length, take};
 ghost use Rattle.cx_core.specs.Region.{region_words};
 ghost use Rattle.cx_rule.specs.Fitting.{loaded_of};
 ghost use Rattle.cx_rule.specs.Seats.{IsAtLimit, IsWithinLimit};
@@ -118,7 +118,7 @@ fn load_run<T: Board>(
     requires held { IsHeldShared (T.line_count board.now) (T.running board.now) (T.lawful board.now) seat.old held.now }
     requires within { from + length into.old ≤ region_words (T.line_count board.now) }
     ensures made { OnOk result (LoadsRun (LoadsShared (T.line_count board.now) (T.running board.now) (T.lawful board.now) held.now) from into.new seat.old seat.new) }
-    ensures some { (words : List ℕ) × LoadsRun (LoadsShared (T.line_count board.now) (T.running board.now) (T.lawful board.now) held.now) from words seat.old seat.new }
+    ensures some { (n : ℕ) × LoadsRun (LoadsShared (T.line_count board.now) (T.running board.now) (T.lawful board.now) held.now) from (take n into.new) seat.old seat.new }
     ensures halted { OnErr result (IsAtLimit seat.new.known.local) }
     ensures length { length into.new ≡ length into.old }
 {
@@ -140,7 +140,7 @@ fn load_each<T: Board>(
     requires held { IsHeldShared (T.line_count board.now) (T.running board.now) (T.lawful board.now) seat.old held.now }
     requires within { from + length into.old ≤ region_words (T.line_count board.now) }
     ensures made { OnOk result (LoadsRun (LoadsShared (T.line_count board.now) (T.running board.now) (T.lawful board.now) held.now) from into.new seat.old seat.new) }
-    ensures some { (words : List ℕ) × LoadsRun (LoadsShared (T.line_count board.now) (T.running board.now) (T.lawful board.now) held.now) from words seat.old seat.new }
+    ensures some { (n : ℕ) × LoadsRun (LoadsShared (T.line_count board.now) (T.running board.now) (T.lawful board.now) held.now) from (take n into.new) seat.old seat.new }
     ensures halted { OnErr result (IsAtLimit seat.new.known.local) }
     ensures length { length into.new ≡ length into.old }
 {
