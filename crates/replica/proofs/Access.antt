@@ -171,6 +171,13 @@ module _ {O : Type 0} (lines : ℕ) (r : Running O) (step : O → List ℕ → L
         still = record { sized = of.sized; of = s.seat; right = right; some = subst (λ n. SomeReadFits n lawful r.base (loaded_of after.known.local.shared)) of.sized.lines_are (fitting_shared r lawful after.known held.replica right.holds fits) };
       }
 
+  pub run_loads : (from : ℕ) (words : List ℕ) (before after : Seated) → IsHeldShared lines r lawful before held → Runs r step reads lawful (loads_from held.replica from) words before after → LoadsRun (LoadsShared lines r lawful held) from words before after × IsHeldShared lines r lawful after held
+  run_loads from words before after of (no_step _ _ _ none same) = (no_load _ _ _ none same, subst (λ s. IsHeldShared lines r lawful s held) (sym same) of)
+  run_loads from words before after of (one_more_step _ _ _ first found mid longer run s fits) =
+      let was = run_loads from first before mid of run in
+      let now = load_shared_loads (from + length first) found mid after was.1 s fits in
+      (one_more_load _ _ _ first found mid longer was.0 now, now.still)
+
 -- ---- step calls
 
 module _ {O : Type 0} (lines : ℕ) (r : Running O) (lawful : List ℕ → Type 0) (held : Right) (q at : ℕ) (seat : Seated) where

@@ -14,7 +14,7 @@ use Rattle.cx_rule.specs.Running.{Running}
 use Rattle.cx_rule.specs.Seats.{IsWithinLimit, Seated, place_noted}
 use Rattle.cx_rule.specs.Steps.{Halts}
 use Rattle.cx_table.specs.Right.{Right}
-use Rattle.replica.specs.Held.{Accesses, IsHeld, IsHeldShared, LoadsHeld, LoadsRun, LoadsShared, beside_held, left_of}
+use Rattle.replica.specs.Held.{Accesses, IsHeld, IsHeldShared, LoadsHeld, LoadsRun, LoadsShared, beside_held, beside_shared, left_of}
 use Rattle.replica.specs.Regions.{HasPlace, fits_shows, has_loaded, is_same}
 use Rattle.replica.proofs.Runs.{run_keeps, run_reads}
 
@@ -93,31 +93,41 @@ module _ {O E : Type 0} (lines : ℕ) (r : Running O) (lawful : List ℕ → Typ
   held_after note placed (Err e) made halts of within place =
       subst (λ (s : Seated). IsHeld lines r lawful s held × IsWithinLimit s.known.local × (IsTrue placed → HasPlace s.known.accesses)) (sym halts.same) (of, within, place)
 
+-- ---- words from a place on
+
 module _ {O : Type 0} (lines : ℕ) (r : Running O) (lawful : List ℕ → Type 0) (held : Right) (from : ℕ) (words : List ℕ) (old new : Seated) where
-  -- the same of loads of words from a place on
   pub stands_run : LoadsRun (LoadsHeld lines r lawful held) from words old new → Reads (Fits lines lawful r.base old.known.accesses) (Fits lines lawful r.base new.known.accesses) (AreAt from words)
   stands_run run =
-      run_reads (LoadsHeld lines r lawful held) from (λ s. Fits lines lawful r.base s.known.accesses)
-      (λ at v before after made. subst (λ xs. Loaded at v (Fits lines lawful r.base before.known.accesses) (Fits lines lawful r.base xs)) (sym made.accesses) (fits_load lines lawful r.base before.known.accesses at v))
-      words old new run
+      run_reads (LoadsHeld lines r lawful held) from (λ s. Fits lines lawful r.base s.known.accesses) (λ at v before after made. stands_loaded {E = ℕ} lines r lawful held before after at (Ok v) made) words old new run
 
   pub held_run : (placed : Bool) → LoadsRun (LoadsHeld lines r lawful held) from words old new → IsHeld lines r lawful old held → IsWithinLimit old.known.local → (IsTrue placed → HasPlace old.known.accesses) →
       IsHeld lines r lawful new held × IsWithinLimit new.known.local × (IsTrue placed → HasPlace new.known.accesses)
   held_run placed run of within place =
       run_keeps (LoadsHeld lines r lawful held) from (λ s. IsHeld lines r lawful s held × IsWithinLimit s.known.local × (IsTrue placed → HasPlace s.known.accesses))
-      (λ at v before after made was. (made.still, made.within, λ yes. subst HasPlace (sym made.accesses) (still_placed before.known.accesses ((false, at, v) ∷ []) (was.2 yes))))
+      (λ at v before after made was. held_after {E = ℕ} lines r lawful held before after (λ (w : ℕ). (false, at, w)) placed (Ok v) made tt was.0 was.1 was.2)
       words old new run (of, within, place)
 
   pub rest_run : LoadsRun (LoadsHeld lines r lawful held) from words old new → beside_held held.replica new ≡ beside_held held.replica old
   rest_run run = run_keeps (LoadsHeld lines r lawful held) from (λ s. beside_held held.replica s ≡ beside_held held.replica old) (λ at v before after made was. made.rest ∙ was) words old new run refl
 
+  pub stands_shared_run : LoadsRun (LoadsShared lines r lawful held) from words old new → Reads (ReadFits lines lawful r.base (loaded_of old.known.local.shared)) (ReadFits lines lawful r.base (loaded_of new.known.local.shared)) (AreAt from words)
+  stands_shared_run run =
+      run_reads (LoadsShared lines r lawful held) from (λ s. ReadFits lines lawful r.base (loaded_of s.known.local.shared)) (λ at v before after made. stands_read {E = ℕ} lines r lawful held before after at (Ok v) made) words old new run
+
+  pub shared_run : (placed : Option ℕ) → LoadsRun (LoadsShared lines r lawful held) from words old new → IsHeldShared lines r lawful old held → IsWithinLimit old.known.local → IsTrue (has_loaded placed (loaded_of old.known.local.shared)) →
+      IsHeldShared lines r lawful new held × IsWithinLimit new.known.local × IsTrue (has_loaded placed (loaded_of new.known.local.shared))
+  shared_run placed run of within place =
+      run_keeps (LoadsShared lines r lawful held) from (λ s. IsHeldShared lines r lawful s held × IsWithinLimit s.known.local × IsTrue (has_loaded placed (loaded_of s.known.local.shared)))
+      (λ at v before after made was. shared_after {E = ℕ} lines r lawful held before after at placed (Ok v) made tt was.0 was.1 was.2)
+      words old new run (of, within, place)
+
+  pub rest_shared_run : LoadsRun (LoadsShared lines r lawful held) from words old new → beside_shared held.replica new ≡ beside_shared held.replica old
+  rest_shared_run run = run_keeps (LoadsShared lines r lawful held) from (λ s. beside_shared held.replica s ≡ beside_shared held.replica old) (λ at v before after made was. made.rest ∙ was) words old new run refl
+
 -- a limit stays one while the limit is the same
-still_limited : (old new : Local) → new.limit ≡ old.limit → is_some (left_of new) ≡ is_some (left_of old)
+pub still_limited : (old new : Local) → new.limit ≡ old.limit → is_some (left_of new) ≡ is_some (left_of old)
 still_limited old new same = ap (λ n. is_some (cond (nat_lt n max_word) (Some (n - new.steps)) None)) same ∙ by (nat_lt old.limit max_word)
   where
     by : (b : Bool) → is_some (cond b (Some (old.limit - new.steps)) None) ≡ is_some (cond b (Some (old.limit - old.steps)) None)
     by true = refl
     by false = refl
-
-pub limited_beside : (replica : ℕ) (old new : Seated) → beside_held replica new ≡ beside_held replica old → is_some (left_of new.known.local) ≡ is_some (left_of old.known.local)
-limited_beside replica old new same = still_limited old.known.local new.known.local (ap (λ (s : Seated). s.known.local.limit) same)

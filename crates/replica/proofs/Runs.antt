@@ -1,6 +1,6 @@
 -- What the loads of a run tell together.
 use Rattle.std.proofs.Common.{◌≡◌, ◌+◌, ◌<◌, ℕ, List, [], ◌∷◌, ◌++◌, length, set, slice_index, take, ap, sym, subst, ◌∙◌, arith, below_more, length-append}
-use Rattle.std.proofs.lemmas.List.{get_or_append_left, length-take-le, take_more_set}
+use Rattle.std.proofs.lemmas.List.{get_or_append_left, length-take-le, take_all, take_more_set}
 use Rattle.std.proofs.Math.Seq.{get_or-append_seam}
 use Rattle.cx_base.specs.Memory.{AreAt, Loaded, Reads}
 use Rattle.cx_base.proofs.ReadLemmas.{Reads-load, Reads-none}
@@ -21,6 +21,10 @@ module _ (load : ℕ → ℕ → Seated → Seated → Type 0) (from : ℕ) wher
   pub run_more : (words : List ℕ) (i v : ℕ) (before mid after : Seated) → i < length words → LoadsRun load from (take i words) before mid → load (from + i) v mid after → LoadsRun load from (take (i + 1) (set words i v)) before after
   run_more words i v before mid after below run last =
       one_more_load _ _ _ (take i words) v mid (take_more_set words i v below) run (subst (λ k. load (from + k) v mid after) (sym (length-take-le i words (omega arith))) last)
+
+  -- all the words are the first so many of them
+  pub run_whole : (words : List ℕ) (before after : Seated) → LoadsRun load from words before after → (n : ℕ) × LoadsRun load from (take n words) before after
+  run_whole words before after run = (length words, subst (λ ws. LoadsRun load from ws before after) (sym (take_all (length words) words (omega arith))) run)
 
   -- what each load keeps is kept
   pub run_keeps : (P : Seated → Type 0) → ((at v : ℕ) (before after : Seated) → load at v before after → P before → P after) → (words : List ℕ) (before after : Seated) → LoadsRun load from words before after → P before → P after

@@ -65,6 +65,22 @@ pub trait Board {
         requires at { at < region_words (line_count self.now) }
         ensures made { IfOk result (λ v. LoadsShared (line_count self.now) (running self.now) (lawful self.now) held.now at v seat.old seat.new) }
         ensures halted { OnErr result (Halts (running self.now) seat.old seat.new) };
+
+    /// Loads words of the replica held shared, from one behind the place on, each as `load_shared` does. It answers whether the
+    /// limit leaves so many steps: if not, nothing changes.
+    fn load_shared_words(
+        &self,
+        seat: &mut CallerSeat,
+        held: &SharedHold,
+        from: u64,
+        into: &mut [u64],
+    ) -> bool
+        requires held { IsHeldShared (line_count self.now) (running self.now) (lawful self.now) seat.old held.now }
+        requires within { from + length into.old ≤ region_words (line_count self.now) }
+        requires behind { 0 < from }
+        ensures made { IsTrue result → LoadsRun (LoadsShared (line_count self.now) (running self.now) (lawful self.now) held.now) from into.new seat.old seat.new }
+        ensures none { result ≡ false → seat.new ≡ seat.old }
+        ensures length { length into.new ≡ length into.old };
 }
 
 impl<O: Object> Board for Shared<O> {
@@ -102,5 +118,15 @@ impl<O: Object> Board for Shared<O> {
 
     fn load_shared(&self, seat: &mut CallerSeat, held: &SharedHold, at: u64) -> Result<u64, Halt> {
         self.load_word(seat, held.replica() as u64, at, false)
+    }
+
+    fn load_shared_words(
+        &self,
+        seat: &mut CallerSeat,
+        held: &SharedHold,
+        from: u64,
+        into: &mut [u64],
+    ) -> bool {
+        self.load_words(seat, held.replica() as u64, from, into)
     }
 }

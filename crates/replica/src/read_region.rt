@@ -1,9 +1,10 @@
 //! A replica held shared as a memory.
 
-ghost use Rattle.std.specs.Prelude.{◌≡◌, IsTrue, Some};
+ghost use Rattle.std.specs.Prelude.{◌≡◌, ◌+◌, ◌≤◌, List, ℕ, IsTrue, OnErr, OnOk, Some, length, take};
+ghost use Rattle.cx_core.specs.Region.{region_words};
 ghost use Rattle.cx_rule.specs.Fitting.{loaded_of};
-ghost use Rattle.cx_rule.specs.Seats.{IsWithinLimit};
-ghost use Rattle.replica.specs.Held.{IsHeldShared};
+ghost use Rattle.cx_rule.specs.Seats.{IsAtLimit, IsWithinLimit};
+ghost use Rattle.replica.specs.Held.{IsHeldShared, LoadsRun, LoadsShared};
 ghost use Rattle.replica.specs.Regions.{has_loaded};
 
 use crate::board::Board;
@@ -67,9 +68,8 @@ impl<'a, T: Board> ReadRegion<'a, T> {
 }
 
 impl<T: Board> Memory for ReadRegion<'_, T> {
-    ghost use Rattle.std.specs.Prelude.{List, ℕ, ◌==◌};
+    ghost use Rattle.std.specs.Prelude.{◌==◌};
     ghost use Rattle.std.specs.Borrow.{GName};
-    ghost use Rattle.cx_core.specs.Region.{region_words};
     ghost use Rattle.cx_rule.specs.Fitting.{ReadFits};
     ghost use Rattle.replica.specs.Held.{beside_shared, left_of};
     ghost use Rattle.replica.specs.Regions.{ReadFixed, read_words};
@@ -97,7 +97,55 @@ impl<T: Board> Memory for ReadRegion<'_, T> {
         self.board.load_shared(self.seat, self.held, at)
     }
 
+    fn load_words(&mut self, at: u64, into: &mut [u64]) -> Result<(), Halt> {
+        load_run(self.board, self.seat, self.held, at, into)
+    }
+
     fn store(&mut self, _at: u64, _v: u64) -> Result<(), Halt> {
         Err(Halt)
     }
+}
+
+/// Loads words of a replica held shared, from a place on, by one call where that may be. `Halt` comes only where the seat's
+/// steps equal its limit, and then the first of the words were loaded.
+fn load_run<T: Board>(
+    board: &T,
+    seat: &mut CallerSeat,
+    held: &SharedHold,
+    from: u64,
+    into: &mut [u64],
+) -> Result<(), Halt>
+    requires held { IsHeldShared (T.line_count board.now) (T.running board.now) (T.lawful board.now) seat.old held.now }
+    requires within { from + length into.old ≤ region_words (T.line_count board.now) }
+    ensures made { OnOk result (LoadsRun (LoadsShared (T.line_count board.now) (T.running board.now) (T.lawful board.now) held.now) from into.new seat.old seat.new) }
+    ensures some { (n : ℕ) × LoadsRun (LoadsShared (T.line_count board.now) (T.running board.now) (T.lawful board.now) held.now) from (take n into.new) seat.old seat.new }
+    ensures halted { OnErr result (IsAtLimit seat.new.known.local) }
+    ensures length { length into.new ≡ length into.old }
+{
+    // the place is noted by itself, and where fewer steps are left the first words are loaded all the same
+    if from > 0 && board.load_shared_words(seat, held, from, into) {
+        return Ok(());
+    }
+    load_each(board, seat, held, from, into)
+}
+
+/// The same, one by one.
+fn load_each<T: Board>(
+    board: &T,
+    seat: &mut CallerSeat,
+    held: &SharedHold,
+    from: u64,
+    into: &mut [u64],
+) -> Result<(), Halt>
+    requires held { IsHeldShared (T.line_count board.now) (T.running board.now) (T.lawful board.now) seat.old held.now }
+    requires within { from + length into.old ≤ region_words (T.line_count board.now) }
+    ensures made { OnOk result (LoadsRun (LoadsShared (T.line_count board.now) (T.running board.now) (T.lawful board.now) held.now) from into.new seat.old seat.new) }
+    ensures some { (n : ℕ) × LoadsRun (LoadsShared (T.line_count board.now) (T.running board.now) (T.lawful board.now) held.now) from (take n into.new) seat.old seat.new }
+    ensures halted { OnErr result (IsAtLimit seat.new.known.local) }
+    ensures length { length into.new ≡ length into.old }
+{
+    for i in 0..into.len() {
+        into[i] = board.load_shared(seat, held, from + i as u64)?;
+    }
+    Ok(())
 }

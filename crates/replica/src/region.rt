@@ -1,6 +1,6 @@
 //! A replica held exclusively as a memory.
 
-ghost use Rattle.std.specs.Prelude.{◌≡◌, ◌+◌, ◌≤◌, List, ℕ, IsTrue, OnErr, OnOk, length};
+ghost use Rattle.std.specs.Prelude.{◌≡◌, ◌+◌, ◌≤◌, List, ℕ, IsTrue, OnErr, OnOk, length, take};
 ghost use Rattle.cx_core.specs.Region.{region_words};
 ghost use Rattle.cx_rule.specs.Seats.{IsAtLimit, IsWithinLimit};
 ghost use Rattle.replica.specs.Held.{IsHeld, LoadsHeld, LoadsRun};
@@ -111,7 +111,7 @@ fn load_run<T: Board>(
     requires held { IsHeld (T.line_count board.now) (T.running board.now) (T.lawful board.now) seat.old held.now }
     requires within { from + length into.old ≤ region_words (T.line_count board.now) }
     ensures made { OnOk result (LoadsRun (LoadsHeld (T.line_count board.now) (T.running board.now) (T.lawful board.now) held.now) from into.new seat.old seat.new) }
-    ensures some { (words : List ℕ) × LoadsRun (LoadsHeld (T.line_count board.now) (T.running board.now) (T.lawful board.now) held.now) from words seat.old seat.new }
+    ensures some { (n : ℕ) × LoadsRun (LoadsHeld (T.line_count board.now) (T.running board.now) (T.lawful board.now) held.now) from (take n into.new) seat.old seat.new }
     ensures halted { OnErr result (IsAtLimit seat.new.known.local) }
     ensures length { length into.new ≡ length into.old }
 {
@@ -133,7 +133,7 @@ fn load_each<T: Board>(
     requires held { IsHeld (T.line_count board.now) (T.running board.now) (T.lawful board.now) seat.old held.now }
     requires within { from + length into.old ≤ region_words (T.line_count board.now) }
     ensures made { OnOk result (LoadsRun (LoadsHeld (T.line_count board.now) (T.running board.now) (T.lawful board.now) held.now) from into.new seat.old seat.new) }
-    ensures some { (words : List ℕ) × LoadsRun (LoadsHeld (T.line_count board.now) (T.running board.now) (T.lawful board.now) held.now) from words seat.old seat.new }
+    ensures some { (n : ℕ) × LoadsRun (LoadsHeld (T.line_count board.now) (T.running board.now) (T.lawful board.now) held.now) from (take n into.new) seat.old seat.new }
     ensures halted { OnErr result (IsAtLimit seat.new.known.local) }
     ensures length { length into.new ≡ length into.old }
 {

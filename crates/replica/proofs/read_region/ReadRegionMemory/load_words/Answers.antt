@@ -1,0 +1,40 @@
+use Rattle.std.proofs.Common.{◌==◌, take, refl, ap}
+use Rattle.std.proofs.lemmas.Result.{on_ok_weaker}
+use Rattle.cx_rule.specs.Seats.{Seated}
+use Rattle.replica.proofs.RegionLaws.{rest_shared_run, shared_run, stands_shared_run, still_limited}
+use Rattle.replica.proofs.read_region.ReadRegionMemory.load_words.Goals as goal
+
+pub invariant_of-self : goal.invariant_of-self
+invariant_of-self g c =
+    let region = c.args.self.now in
+    let board = region.board.now in
+    let some = c.load_run.ensures.some in
+    let after = shared_run (g.T.Board.line_count board) (g.T.Board.running board) (g.T.Board.lawful board) region.held.now c.args.at (take some.0 c.load_run.new.into) region.seat.now c.load_run.new.seat region.placed some.1 region.of region.within region.place in
+    record { of = after.0; within = after.1; place = after.2 }
+
+pub returns-clause-read : goal.returns-clause-read
+returns-clause-read g c =
+    let region = c.args.self.now in
+    let board = region.board.now in
+    on_ok_weaker c.load_run.result (stands_shared_run (g.T.Board.line_count board) (g.T.Board.running board) (g.T.Board.lawful board) region.held.now c.args.at c.load_run.new.into region.seat.now c.load_run.new.seat) c.load_run.ensures.made
+
+pub returns-clause-unchanged : goal.returns-clause-unchanged
+returns-clause-unchanged g c =
+    let region = c.args.self.now in
+    let board = region.board.now in
+    let some = c.load_run.ensures.some in
+    let read = stands_shared_run (g.T.Board.line_count board) (g.T.Board.running board) (g.T.Board.lawful board) region.held.now c.args.at (take some.0 c.load_run.new.into) region.seat.now c.load_run.new.seat some.1 in
+    record { from = λ first now s. (now, (read.from first now s).0, refl) }
+
+pub returns-clause-framed : goal.returns-clause-framed
+returns-clause-framed g c =
+    let region = c.args.self.now in
+    let board = region.board.now in
+    let some = c.load_run.ensures.some in
+    let rest = rest_shared_run (g.T.Board.line_count board) (g.T.Board.running board) (g.T.Board.lawful board) region.held.now c.args.at (take some.0 c.load_run.new.into) region.seat.now c.load_run.new.seat some.1 in
+    record {
+      size_kept = refl;
+      fixed_kept = ap (λ (s : Seated). record { name = region.seat.ghost_name; board = board; held = region.held.now; placed = region.placed; rest = s }) rest;
+      writable_kept = ap (λ (s : Seated). s.known.local.limit == 0) rest;
+      limited = still_limited region.seat.now.known.local c.load_run.new.seat.known.local (ap (λ (s : Seated). s.known.local.limit) rest);
+    }
