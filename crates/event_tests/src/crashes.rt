@@ -3,7 +3,7 @@
 ghost use Rattle.std.specs.Prelude.{◌≡◌, ◌%◌, length};
 
 use crate::board::{AFTER_ONE, AFTER_TWO, Board, RACE, before_the_race};
-use crate::state::CoreState;
+use core_events::CoreState;
 use cx_base::tally::Tally;
 use cx_core::{Base, Kind};
 use pmem_model::Medium;

@@ -4,7 +4,6 @@
 ghost use Rattle.std.specs.Prelude.{◌<◌};
 
 use crate::board::{Board, Row};
-use crate::lock_events::{exclusive_on, shared_on};
 use cx_core::{EXCLUSIVE_MARK, Kind, Local};
 use std::alloc::{AllocError, Global};
 use std::test::Fail;
@@ -478,6 +477,20 @@ fn counts_of(local: &Local) -> [u64; 4] {
     match local.seen_lock {
         None => [local.steps, local.met, 0, 0],
         Some(seen) => [local.steps, local.met, seen.replica, seen.word],
+    }
+}
+
+fn exclusive_on(local: &Local) -> Option<u64> {
+    match &local.exclusive {
+        None => None,
+        Some(held) => Some(held.replica),
+    }
+}
+
+fn shared_on(local: &Local) -> Option<u64> {
+    match &local.shared {
+        None => None,
+        Some(held) => Some(held.replica),
     }
 }
 

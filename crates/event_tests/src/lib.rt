@@ -1,0 +1,15 @@
+//! The events of the core, each kind by rows: what is allowed, and the words that it leaves. It has tests alone.
+#![tactic(auto)]
+
+#[cfg(test)]
+mod board;
+#[cfg(test)]
+mod crashes;
+#[cfg(test)]
+mod locks;
+#[cfg(test)]
+mod queue;
+#[cfg(test)]
+mod ring;
+#[cfg(test)]
+mod root;
