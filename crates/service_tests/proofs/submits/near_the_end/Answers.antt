@@ -1,7 +1,7 @@
 use Rattle.std.proofs.Common.{ℕ, List, set, ap, ◌∙◌, arith}
 use Rattle.cx_base.specs.Tally.{IsTally}
 use Rattle.mutation_queue.proofs.Bases.{moved}
-use Rattle.cx_service.proofs.tests.near_the_end.Goals as goal
+use Rattle.service_tests.proofs.submits.near_the_end.Goals as goal
 
 pub returns : goal.returns
 returns c =

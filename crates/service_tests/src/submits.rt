@@ -1,5 +1,5 @@
 //! Two callers submit and are handed back, at each limit of steps, and at the end of tickets; cells are given again, and kept by a
-//! caller that is stopped; a service that is not started.
+//! caller that is stopped.
 
 ghost use Rattle.std.specs.Prelude.{◌≡◌, ◌<◌, ◌≤◌, [], ◌∷◌, IfOk, IfSome};
 ghost use Rattle.cx_base.specs.Tally.{IsTally};
@@ -10,12 +10,13 @@ ghost use Rattle.cx_table.specs.Running.{IsSeatOf};
 ghost use Rattle.mutation_queue.specs.Tests.{IsPairOf};
 ghost use Rattle.cx_service.specs.Callers.{IsCallerOf};
 ghost use Rattle.cx_service.specs.Closes.{seat_of};
-ghost use Rattle.cx_service.specs.Tests.{seat_in};
+ghost use Rattle.service_tests.specs.Tests.{seat_in};
 
-use crate::{Caller, Driven, Handed, Service, StartFault, Submitted, Updated};
+use crate::starting::{NO_LIMIT, one_started, two_started};
 use cx_base::Items;
 use cx_base::tally::Tally;
 use cx_core::{Base, FullNote};
+use cx_service::{Caller, Driven, Handed, Service, Submitted, Updated};
 use cx_table::Remains;
 use std::alloc::{AllocError, Global};
 use std::sync::Wait;
@@ -108,46 +109,11 @@ fn closed(
     service.close(alloc, callers).map_err(|_| AllocError)
 }
 
-// A service of two callers, and these.
-fn started(
-    alloc: Global,
-    limits: &[u64; 2],
-    base: &Base,
-) -> Result<(Service<Tally>, Caller, Caller), AllocError>
-    requires { LawfulBase 64 IsTally base.now }
-    ensures pair { IfOk result (λ r. IsPairOf r.0 r.1 r.2) }
-    ensures first { IfOk result (λ r. IsCallerOf r.0 r.1) }
-    ensures second { IfOk result (λ r. IsCallerOf r.0 r.2) }
-{
-    let Ok((service, callers)) = Service::start(alloc, Tally, 2, limits, base) else {
-        return Err(AllocError);
-    };
-    match two(callers) {
-        Some((first, second)) => Ok((service, first, second)),
-        None => Err(AllocError),
-    }
-}
-
-// The items of a list of two.
-fn two(mut callers: Vec<Caller>) -> Option<(Caller, Caller)>
-    ensures { IfSome result (λ r. callers.items ≡ r.0 ∷ r.1 ∷ []) }
-{
-    let second = callers.pop()?;
-    let first = callers.pop()?;
-    if callers.is_empty() {
-        Some((first, second))
-    } else {
-        None
-    }
-}
-
-const NO_LIMIT: u64 = u64::MAX;
-
 #[test]
 fn two_callers_link_one_after_the_other(rt: HostRuntime) -> Result<(), Fail> {
     let alloc = rt.alloc();
     let base = Base::fresh(alloc, &Tally)?;
-    let (service, first, second) = started(alloc, &[NO_LIMIT, NO_LIMIT], &base)?;
+    let (service, first, second) = two_started(alloc, &[NO_LIMIT, NO_LIMIT], &base)?;
     let one = submit(&service, first, &[5; 144], 1);
     // the second caller's front is at a ticket that the first one linked
     let (other, again) = submit_twice(&service, second, &[7; 144], 1);
@@ -164,7 +130,7 @@ fn two_callers_link_one_after_the_other(rt: HostRuntime) -> Result<(), Fail> {
 fn two_threads_submit(rt: HostRuntime) -> Result<(), Fail> {
     let alloc = rt.alloc();
     let base = Base::fresh(alloc, &Tally)?;
-    let (service, first, second) = started(alloc, &[NO_LIMIT, NO_LIMIT], &base)?;
+    let (service, first, second) = two_started(alloc, &[NO_LIMIT, NO_LIMIT], &base)?;
     let shared = &service;
     let (one, other) = join(
         &rt,
@@ -184,7 +150,7 @@ fn each_limit_halts_until_the_link(rt: HostRuntime) -> Result<(), Fail> {
     let alloc = rt.alloc();
     let base = Base::fresh(alloc, &Tally)?;
     for limit in 0..150u64 {
-        let (service, first, second) = started(alloc, &[limit, NO_LIMIT], &base)?;
+        let (service, first, second) = two_started(alloc, &[limit, NO_LIMIT], &base)?;
         let one = submit(&service, first, &[5; 144], 2);
         let want = if limit < 148 {
             Told::Halted(None)
@@ -202,7 +168,7 @@ fn each_limit_halts_until_the_link(rt: HostRuntime) -> Result<(), Fail> {
 fn no_ticket_is_left(rt: HostRuntime) -> Result<(), Fail> {
     let alloc = rt.alloc();
     let base = near_the_end(alloc)?;
-    let (service, first, second) = started(alloc, &[NO_LIMIT, NO_LIMIT], &base)?;
+    let (service, first, second) = two_started(alloc, &[NO_LIMIT, NO_LIMIT], &base)?;
     let one = submit(&service, first, &[5; 144], 2);
     let other = submit(&service, second, &[7; 144], 2);
     assert!(rt; answer_of(&one) == Told::Linked((1 << 40) - 1));
@@ -223,32 +189,6 @@ fn near_the_end(alloc: Global) -> Result<Base, AllocError>
         place,
         words: Items::of(words),
     })
-}
-
-// A service of one caller.
-fn one_started(alloc: Global, base: &Base) -> Result<(Service<Tally>, Caller), AllocError>
-    requires { LawfulBase 64 IsTally base.now }
-    ensures { IfOk result (λ r. IsCallerOf r.0 r.1) }
-{
-    let Ok((service, callers)) = Service::start(alloc, Tally, 1, &[NO_LIMIT], base) else {
-        return Err(AllocError);
-    };
-    match one(callers) {
-        Some(caller) => Ok((service, caller)),
-        None => Err(AllocError),
-    }
-}
-
-// The item of a list of one.
-fn one(mut callers: Vec<Caller>) -> Option<Caller>
-    ensures { IfSome result (λ c. callers.items ≡ c ∷ []) }
-{
-    let caller = callers.pop()?;
-    if callers.is_empty() {
-        Some(caller)
-    } else {
-        None
-    }
 }
 
 // A caller submits and drives an operation, each with one try: the caller, and the ticket.
@@ -283,7 +223,7 @@ fn answered_in_order(service: &Service<Tally>, caller: Caller, times: u64) -> u6
 fn cells_are_given_again(rt: HostRuntime) -> Result<(), Fail> {
     let alloc = rt.alloc();
     let base = Base::fresh(alloc, &Tally)?;
-    let (service, caller) = one_started(alloc, &base)?;
+    let (service, caller) = one_started(alloc, NO_LIMIT, &base)?;
     assert_eq!(rt; answered_in_order(&service, caller, 64), 64);
     Ok(())
 }
@@ -326,7 +266,7 @@ fn a_stopped_caller_keeps_cells(rt: HostRuntime) -> Result<(), Fail> {
     let mut kept = 0u64;
     // from the link on, and some of the limits by which it is stopped while it reads its entry
     for limit in 148..168u64 {
-        let (service, first, second) = started(alloc, &[NO_LIMIT, limit], &base)?;
+        let (service, first, second) = two_started(alloc, &[NO_LIMIT, limit], &base)?;
         assert!(rt; is_stopped(&service, second, &[7; 144]));
         if let Some(note) = note_within(&rt, &service, first, 40) {
             let want = FullNote {
@@ -339,17 +279,5 @@ fn a_stopped_caller_keeps_cells(rt: HostRuntime) -> Result<(), Fail> {
         }
     }
     assert!(rt; kept > 0 && kept < 20);
-    Ok(())
-}
-
-#[test]
-fn a_service_has_1_to_8_callers(rt: HostRuntime) -> Result<(), Fail> {
-    let alloc = rt.alloc();
-    let base = Base::fresh(alloc, &Tally)?;
-    for callers in [0, 9] {
-        let limits = Vec::from_elem(alloc, NO_LIMIT, callers as usize)?;
-        let fault = Service::start(alloc, Tally, callers, &limits, &base).err();
-        assert!(rt; fault == Some(StartFault::Callers { found: callers }));
-    }
     Ok(())
 }
