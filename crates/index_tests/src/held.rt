@@ -2,9 +2,9 @@
 
 ghost use Rattle.std.specs.Prelude.{◌≤◌, length};
 
-use crate::{WriteBuffer, store_held};
 use cx_base::{Halt, Memory, VecMemory};
 use std::test::Fail;
+use write_buffer::{WriteBuffer, store_held};
 
 /// Stores twice to a word of line 0, and once to the last word of line 1, which is not held back.
 fn stored_twice(mem: &mut VecMemory) -> Result<u64, Halt>

@@ -1,7 +1,6 @@
 //! Words that lie, and the pairs of words that do not.
 
-use crate::checking::lawful;
-use crate::listing::pairs_of;
+use index_checks::{lawful, pairs_of};
 use std::alloc::{AllocError, Global};
 use std::process::Abort;
 use std::test::Fail;

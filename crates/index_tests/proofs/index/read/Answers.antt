@@ -4,7 +4,7 @@ use Rattle.word_index.specs.Answers.{IsFound}
 use Rattle.word_index.proofs.Afterwards.{found_node}
 use Rattle.cx_base.proofs.ReadLemmas.{always_read}
 use Rattle.avl_words.proofs.Memories.{always_kept}
-use Rattle.word_index.proofs.tests.read.Goals as goal
+use Rattle.index_tests.proofs.index.read.Goals as goal
 
 pub doc_at-requires-clause-node : goal.doc_at-requires-clause-node
 doc_at-requires-clause-node g c =

@@ -1,6 +1,6 @@
 //! Calls over a memory of a vector.
 
-use crate::links::{Subtree, height_of, set_node};
+use avl_words::{Subtree, height_of, set_node};
 use cx_base::VecMemory;
 use std::test::Fail;
 

@@ -1,5 +1,5 @@
 use Rattle.cx_base.proofs.ReadLemmas.{always_read, Reads-then}
-use Rattle.word_index.proofs.tests.look.Goals as goal
+use Rattle.index_tests.proofs.index.look.Goals as goal
 
 pub least_above-requires-clause-lawful : goal.least_above-requires-clause-lawful
 least_above-requires-clause-lawful g c = always_read c.requires.lawful c.in_ok-pairs.ensures.done (λ ws i p. i)

@@ -4,7 +4,7 @@ ghost use Rattle.std.specs.Prelude.{length};
 ghost use Rattle.avl_checks.specs.Order.{HasTree};
 ghost use Rattle.avl_words.specs.Lines.{IsPartLength};
 
-use crate::{InOrder, is_balanced};
+use avl_checks::{InOrder, is_balanced};
 use std::process::Abort;
 use std::test::Fail;
 

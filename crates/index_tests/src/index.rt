@@ -7,22 +7,20 @@ ghost use Rattle.cx_base.specs.Store.{IsKey, IsDocument};
 ghost use Rattle.word_index.specs.Answers.{IsPacked};
 ghost use Rattle.index_checks.specs.Layout.{IsIndex};
 
-use crate::answers::{find, least_above};
-use crate::format::format_index;
-use crate::insertion::{Inserted, insert};
-use crate::nodes::{count, doc_at};
-use crate::removal::remove;
-use crate::texts::{Doc, Key};
 use cx_base::{Halt, Memory, Steps, VecMemory, pack, packed_unpacks};
 use std::marker::Brand;
 use std::process::Abort;
 use std::sync::ledger::{Blank, Ledger};
 use std::test::Fail;
+use word_index::{
+    Doc, Inserted, Key, count, doc_at, find, format_index, insert, least_above, remove,
+};
 
 // A key of some bytes.
 fn key_of(bytes: &[u8]) -> Key
     requires { IsKey bytes.now }
     ensures packed { IsPacked 8 result.len result.words }
+    ensures short { result.len ≤ 64 }
     ensures is { unpacked result.len result.words ≡ bytes.now }
 {
     let mut words = [0; 8];
@@ -138,7 +136,122 @@ fn read<M: Memory, L: Ledger>(
     Ok(Some(doc.words[0]))
 }
 
-// Two keys, one of them twice, and what is there before and after one is taken out.
+// Nothing is there, and nothing is taken out.
+fn nothing<M: Memory, L: Ledger>(
+    rt: &impl Abort,
+    memory: &mut M,
+    visits: &mut Steps<L>,
+) -> Result<(), Fail>
+    requires size { M.size memory.old ≡ 512 }
+    requires writable { IsTrue (M.writable memory.old) }
+    requires lawful { Always (M.stands memory.old) IsIndex }
+    ensures size { OnOk result (M.size memory.new ≡ 512) }
+    ensures writable { OnOk result (IsTrue (M.writable memory.new)) }
+    ensures lawful { OnOk result (Always (M.stands memory.new) IsIndex) }
+{
+    assert_eq!(rt; look(memory, b"a", visits)?, (0, None));
+    assert!(rt; !take(memory, b"a", visits)?);
+    Ok(())
+}
+
+// Two keys are put, one of them twice.
+fn two_puts<M: Memory, L: Ledger>(
+    rt: &impl Abort,
+    memory: &mut M,
+    visits: &mut Steps<L>,
+) -> Result<(), Fail>
+    requires size { M.size memory.old ≡ 512 }
+    requires writable { IsTrue (M.writable memory.old) }
+    requires lawful { Always (M.stands memory.old) IsIndex }
+    ensures size { OnOk result (M.size memory.new ≡ 512) }
+    ensures writable { OnOk result (IsTrue (M.writable memory.new)) }
+    ensures lawful { OnOk result (Always (M.stands memory.new) IsIndex) }
+{
+    assert_eq!(rt; put(memory, b"b", b"1", visits)?, Inserted::New);
+    assert_eq!(rt; put(memory, b"a", b"2", visits)?, Inserted::New);
+    assert_eq!(rt; put(memory, b"b", b"3", visits)?, Inserted::Replaced);
+    Ok(())
+}
+
+// Both are there.
+fn both<M: Memory, L: Ledger>(
+    rt: &impl Abort,
+    memory: &mut M,
+    visits: &mut Steps<L>,
+) -> Result<(), Fail>
+    requires size { M.size memory.old ≡ 512 }
+    requires writable { IsTrue (M.writable memory.old) }
+    requires lawful { Always (M.stands memory.old) IsIndex }
+    ensures size { OnOk result (M.size memory.new ≡ 512) }
+    ensures writable { OnOk result (IsTrue (M.writable memory.new)) }
+    ensures lawful { OnOk result (Always (M.stands memory.new) IsIndex) }
+{
+    assert_eq!(rt; look(memory, b"a", visits)?, (2, Some(98)));
+    assert_eq!(rt; look(memory, b"b", visits)?, (2, None));
+    assert_eq!(rt; read(memory, b"b", visits)?, Some(51));
+    Ok(())
+}
+
+// Long documents fill the lines, and leave no room for a third key.
+fn filled<M: Memory, L: Ledger>(
+    rt: &impl Abort,
+    memory: &mut M,
+    visits: &mut Steps<L>,
+) -> Result<(), Fail>
+    requires size { M.size memory.old ≡ 512 }
+    requires writable { IsTrue (M.writable memory.old) }
+    requires lawful { Always (M.stands memory.old) IsIndex }
+    ensures size { OnOk result (M.size memory.new ≡ 512) }
+    ensures writable { OnOk result (IsTrue (M.writable memory.new)) }
+    ensures lawful { OnOk result (Always (M.stands memory.new) IsIndex) }
+{
+    assert_eq!(rt; put(memory, b"a", &[52; 1024], visits)?, Inserted::Replaced);
+    assert_eq!(rt; put(memory, b"c", &[53; 1024], visits)?, Inserted::New);
+    assert_eq!(rt; put(memory, b"b", &[54; 1024], visits)?, Inserted::Replaced);
+    assert_eq!(rt; put(memory, b"d", b"6", visits)?, Inserted::NoRoom);
+    Ok(())
+}
+
+// A shorter document is put in place of a longer one.
+fn shortened<M: Memory, L: Ledger>(
+    rt: &impl Abort,
+    memory: &mut M,
+    visits: &mut Steps<L>,
+) -> Result<(), Fail>
+    requires size { M.size memory.old ≡ 512 }
+    requires writable { IsTrue (M.writable memory.old) }
+    requires lawful { Always (M.stands memory.old) IsIndex }
+    ensures size { OnOk result (M.size memory.new ≡ 512) }
+    ensures writable { OnOk result (IsTrue (M.writable memory.new)) }
+    ensures lawful { OnOk result (Always (M.stands memory.new) IsIndex) }
+{
+    assert_eq!(rt; put(memory, b"c", b"5", visits)?, Inserted::Replaced);
+    assert_eq!(rt; read(memory, b"a", visits)?, Some(0x34343434_34343434));
+    assert_eq!(rt; read(memory, b"c", visits)?, Some(53));
+    Ok(())
+}
+
+// Two keys are taken out, and one is left.
+fn taken<M: Memory, L: Ledger>(
+    rt: &impl Abort,
+    memory: &mut M,
+    visits: &mut Steps<L>,
+) -> Result<(), Fail>
+    requires size { M.size memory.old ≡ 512 }
+    requires writable { IsTrue (M.writable memory.old) }
+    requires lawful { Always (M.stands memory.old) IsIndex }
+    ensures size { OnOk result (M.size memory.new ≡ 512) }
+    ensures writable { OnOk result (IsTrue (M.writable memory.new)) }
+    ensures lawful { OnOk result (Always (M.stands memory.new) IsIndex) }
+{
+    assert!(rt; take(memory, b"c", visits)?);
+    assert!(rt; take(memory, b"a", visits)?);
+    assert_eq!(rt; read(memory, b"a", visits)?, None);
+    assert_eq!(rt; look(memory, b"a", visits)?, (1, Some(98)));
+    Ok(())
+}
+
+// These one after another.
 fn two_keys<M: Memory, L: Ledger>(
     rt: &impl Abort,
     memory: &mut M,
@@ -148,26 +261,12 @@ fn two_keys<M: Memory, L: Ledger>(
     requires writable { IsTrue (M.writable memory.old) }
 {
     format(memory)?;
-    assert_eq!(rt; look(memory, b"a", visits)?, (0, None));
-    assert!(rt; !take(memory, b"a", visits)?);
-    assert_eq!(rt; put(memory, b"b", b"1", visits)?, Inserted::New);
-    assert_eq!(rt; put(memory, b"a", b"2", visits)?, Inserted::New);
-    assert_eq!(rt; put(memory, b"b", b"3", visits)?, Inserted::Replaced);
-    assert_eq!(rt; look(memory, b"a", visits)?, (2, Some(98)));
-    assert_eq!(rt; look(memory, b"b", visits)?, (2, None));
-    assert_eq!(rt; read(memory, b"b", visits)?, Some(51));
-    assert_eq!(rt; put(memory, b"a", &[52; 1024], visits)?, Inserted::Replaced);
-    assert_eq!(rt; put(memory, b"c", &[53; 1024], visits)?, Inserted::New);
-    assert_eq!(rt; put(memory, b"b", &[54; 1024], visits)?, Inserted::Replaced);
-    assert_eq!(rt; put(memory, b"d", b"6", visits)?, Inserted::NoRoom);
-    assert_eq!(rt; put(memory, b"c", b"5", visits)?, Inserted::Replaced);
-    assert_eq!(rt; read(memory, b"a", visits)?, Some(0x34343434_34343434));
-    assert_eq!(rt; read(memory, b"c", visits)?, Some(53));
-    assert!(rt; take(memory, b"c", visits)?);
-    assert!(rt; take(memory, b"a", visits)?);
-    assert_eq!(rt; read(memory, b"a", visits)?, None);
-    assert_eq!(rt; look(memory, b"a", visits)?, (1, Some(98)));
-    Ok(())
+    nothing(rt, memory, visits)?;
+    two_puts(rt, memory, visits)?;
+    both(rt, memory, visits)?;
+    filled(rt, memory, visits)?;
+    shortened(rt, memory, visits)?;
+    taken(rt, memory, visits)
 }
 
 // The same over a vector, with a counter of its own.
