@@ -8,12 +8,8 @@ mod operations;
 mod places;
 mod plain;
 mod table;
-#[cfg(test)]
-mod tests;
 mod word_laws;
 mod word_parts;
-#[cfg(test)]
-mod word_tests;
 mod words;
 
 pub use laws::{operations_keep_stores, readings_leave_stores};

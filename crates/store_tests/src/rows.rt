@@ -4,8 +4,8 @@ ghost use Rattle.std.specs.Prelude.{◌≡◌, ◌≤◌, ◌*◌, IsTrue, IfOk,
 ghost use Rattle.cx_base.specs.Memory.{Always};
 ghost use Rattle.doc_store.specs.ExactStep.{IsImage};
 
-use crate::DocStore;
 use cx_base::{Halt, Memory, Object, VecMemory};
+use doc_store::DocStore;
 use std::alloc::{AllocError, Global};
 use std::test::Fail;
 

@@ -4,12 +4,12 @@ ghost use Rattle.std.specs.Prelude.{◌≡◌, ◌*◌, IsTrue, OnOk};
 ghost use Rattle.cx_base.specs.Memory.{Always};
 ghost use Rattle.doc_store.specs.ExactStep.{IsImage};
 
-use crate::DocStore;
-use crate::access_tests::{DEL, PUT, height_in, on_key};
+use crate::access::{DEL, PUT, height_in, on_key};
 use crate::counting::{Counting, WordStores, counted_words};
-use crate::mixed_tests::{Numbers, command};
-use crate::store_tests::{asked, lay, opened, put_word};
+use crate::mixed::{Numbers, command};
+use crate::rows::{asked, lay, opened, put_word};
 use cx_base::{Halt, Memory};
+use doc_store::DocStore;
 use std::alloc::{AllocError, Global};
 use std::test::Fail;
 

@@ -4,10 +4,10 @@ ghost use Rattle.std.specs.Prelude.{◌≡◌, ◌*◌, ◌<◌, IsTrue, IfOk, O
 ghost use Rattle.cx_base.specs.Memory.{Always};
 ghost use Rattle.doc_store.specs.ExactStep.{IsImage};
 
-use crate::store_tests::{asked, lay, opened, put_word, words_of};
-use crate::{DocStore, documents};
+use crate::rows::{asked, lay, opened, put_word, words_of};
 use cx_base::{Memory, Object, VecMemory};
 use doc_model::{Op, Pair, Pairs, Reply, op_of, reply_of};
+use doc_store::{DocStore, documents};
 use std::alloc::{AllocError, Global};
 use std::process::Abort;
 use std::test::Fail;

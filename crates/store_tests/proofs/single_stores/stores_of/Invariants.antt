@@ -1,7 +1,7 @@
 use Rattle.std.proofs.Common.{◌≡◌, ◌*◌, IsTrue}
 use Rattle.cx_base.specs.Memory.{Always}
 use Rattle.doc_store.specs.ExactStep.{IsImage}
-use Rattle.doc_store.proofs.single_store_tests.stores_of.Given as goal
+use Rattle.store_tests.proofs.single_stores.stores_of.Given as goal
 
 abbrev pub invariant-loop : goal.invariant-loop
 invariant-loop g l = record {

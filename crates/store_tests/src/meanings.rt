@@ -1,7 +1,7 @@
 //! Worked rows: texts of numbers, and commands with their replies.
 
-use crate::{Op, Pairs, Reply, integer_of, number_of};
 use cx_base::Bytes;
+use doc_model::{Op, Pairs, Reply, integer_of, number_of};
 use std::alloc::{AllocError, Global};
 use std::test::Fail;
 

@@ -3,7 +3,7 @@ use Rattle.cx_base.specs.Memory.{Becomes}
 use Rattle.doc_store.specs.ExactStep.{store_step}
 use Rattle.std.proofs.lemmas.Result.{IfOk-weaker}
 use Rattle.doc_store.proofs.Stepping.{op_are_words, image_goes_on}
-use Rattle.doc_store.proofs.store_tests.asked.Goals as goal
+use Rattle.store_tests.proofs.rows.asked.Goals as goal
 
 pub returns-clause-lawful : goal.returns-clause-lawful
 returns-clause-lawful g c =

@@ -4,11 +4,11 @@ ghost use Rattle.std.specs.Prelude.{◌≡◌, ◌*◌, ◌^◌, ◌<◌, ◌≤
 ghost use Rattle.cx_base.specs.Memory.{Always};
 ghost use Rattle.doc_store.specs.ExactStep.{IsImage};
 
-use crate::DocStore;
 use crate::counting::{Counting, counted_words};
-use crate::mixed_tests::digit;
-use crate::store_tests::{asked, lay, opened, put_word};
+use crate::mixed::digit;
+use crate::rows::{asked, lay, opened, put_word};
 use cx_base::{Halt, Memory};
+use doc_store::DocStore;
 use std::process::Abort;
 use std::test::Fail;
 

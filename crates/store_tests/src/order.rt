@@ -2,11 +2,11 @@
 
 ghost use Rattle.std.specs.Prelude.{◌≡◌};
 
-use crate::mixed_tests::accesses;
-use crate::store_tests::{opened, words_of};
-use crate::{DocStore, documents};
+use crate::mixed::accesses;
+use crate::rows::{opened, words_of};
 use cx_base::{Object, VecMemory};
 use doc_model::Pair;
+use doc_store::{DocStore, documents};
 use std::alloc::{AllocError, Global};
 use std::process::Abort;
 use std::test::Fail;

@@ -1,7 +1,7 @@
 use Rattle.std.proofs.Common.{◌≡◌, ◌*◌, IsTrue}
 use Rattle.cx_base.specs.Memory.{Always}
 use Rattle.doc_store.specs.ExactStep.{IsImage}
-use Rattle.doc_store.proofs.access_tests.most_loads.Given as goal
+use Rattle.store_tests.proofs.access.most_loads.Given as goal
 
 abbrev pub invariant-loop-n : goal.invariant-loop-n
 invariant-loop-n g l = record {

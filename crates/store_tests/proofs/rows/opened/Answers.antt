@@ -2,7 +2,7 @@ use Rattle.std.proofs.Common.{OnOk, Result, Ok, Err, sym, subst}
 use Rattle.cx_base.proofs.MemoryLemmas.{Becomes-always}
 use Rattle.doc_store.specs.ExactStep.{IsImage}
 use Rattle.doc_store.specs.StoreLaws.{opens}
-use Rattle.doc_store.proofs.store_tests.opened.Goals as goal
+use Rattle.store_tests.proofs.rows.opened.Goals as goal
 
 ok_then : {T E : Type 0} {P Q : Type 0} (r : Result T E) → OnOk r P → (P → Q) → OnOk r Q
 ok_then (Ok x) p w = w p

@@ -1,10 +1,10 @@
 //! Worked rows: words of operations and replies, and words that are none.
 
-use crate::{
+use cx_base::pack;
+use doc_model::{
     Op, OpFault, Reply, is_key, is_op, op_of, op_words, packed_document_reply, packed_key_reply,
     reply_of, reply_words,
 };
-use cx_base::pack;
 use std::alloc::{AllocError, Global};
 use std::test::Fail;
 
