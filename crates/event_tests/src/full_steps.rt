@@ -7,14 +7,12 @@ ghost use Rattle.cx_core.specs.Base.{LawfulBase};
 ghost use Rattle.cx_core.specs.History.{full_image};
 ghost use Rattle.cx_core.specs.Step.{full_step_of};
 
-use crate::entry::{Base, Entry};
-use crate::history::{
-    full_image_begins, full_image_goes_on, full_images_are_lawful, full_images_stay,
-    full_regions_go_on, full_step_keeps,
-};
-use crate::step::full_step;
 use cx_base::tally::Tally;
 use cx_base::{Halt, Object, VecMemory};
+use cx_core::{
+    Base, Entry, full_image_begins, full_image_goes_on, full_images_are_lawful, full_images_stay,
+    full_regions_go_on, full_step, full_step_keeps,
+};
 use std::alloc::{AllocError, Global};
 use std::process::Abort;
 use std::test::Fail;

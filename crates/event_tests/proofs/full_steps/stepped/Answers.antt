@@ -3,7 +3,7 @@ use Rattle.cx_base.specs.Tally.{IsTally, tally_step}
 use Rattle.cx_base.proofs.MemoryLemmas.{known_after, known_always}
 use Rattle.cx_core.specs.Region.{object_part}
 use Rattle.cx_core.specs.Step.{full_step_of}
-use Rattle.cx_core.proofs.tests.stepped.Goals as goal
+use Rattle.event_tests.proofs.full_steps.stepped.Goals as goal
 
 pub full_step-requires-clause-lawful : goal.full_step-requires-clause-lawful
 unfolding object_part
