@@ -3,6 +3,7 @@
 use cx_base::Bytes;
 use doc_model::{Op, Pairs, Reply, integer_of, number_of};
 use std::alloc::{AllocError, Global};
+use std::process::Abort;
 use std::test::Fail;
 
 #[test]
@@ -100,76 +101,93 @@ fn told(alloc: Global, pairs: &mut Pairs, ask: Ask) -> Result<String, AllocError
     text_of(alloc, &reply)
 }
 
-#[test]
-fn commands_have_their_replies(rt: HostRuntime) -> Result<(), Fail> {
-    let rows: [(Ask, &str); 24] = [
-        (Ask::Count, "number 0"),
-        (Ask::Next(""), "absent"),
-        (Ask::Put("c", "text"), "new"),
-        (Ask::Put("a", "1"), "new"),
-        (Ask::Put("a", "20"), "replaced"),
-        (Ask::Get("a"), "20"),
-        (Ask::Get("b"), "absent"),
-        (Ask::Count, "number 2"),
-        (Ask::Next(""), "a"),
-        (Ask::Next("a"), "c"),
-        (Ask::Next("b"), "c"),
-        (Ask::Next("c"), "absent"),
-        (Ask::Add("a", -21), "sum -1"),
-        (Ask::Get("a"), "-1"),
-        (Ask::Add("b", 5), "sum 5"),
-        (Ask::Add("c", 1), "not-number"),
-        (Ask::Get("c"), "text"),
-        (Ask::Put("b", "9223372036854775807"), "replaced"),
-        (Ask::Add("b", 1), "overflow"),
-        (Ask::Get("b"), "9223372036854775807"),
-        (Ask::Del("b"), "deleted"),
-        (Ask::Del("b"), "absent"),
-        (Ask::Next("a"), "c"),
-        (Ask::Count, "number 2"),
-    ];
-    let mut pairs = Pairs::new(rt.alloc());
+/// Does commands one after another, and asserts that each has its reply.
+fn replied(
+    rt: &impl Abort,
+    alloc: Global,
+    pairs: &mut Pairs,
+    rows: &[(Ask, &str)],
+) -> Result<(), Fail> {
     for (ask, want) in rows {
-        assert_eq!(rt; told(rt.alloc(), &mut pairs, ask)?.as_str(), want);
+        assert_eq!(rt; told(alloc, pairs, *ask)?.as_str(), *want);
     }
     Ok(())
 }
 
+const COMMANDS: [(Ask, &str); 24] = [
+    (Ask::Count, "number 0"),
+    (Ask::Next(""), "absent"),
+    (Ask::Put("c", "text"), "new"),
+    (Ask::Put("a", "1"), "new"),
+    (Ask::Put("a", "20"), "replaced"),
+    (Ask::Get("a"), "20"),
+    (Ask::Get("b"), "absent"),
+    (Ask::Count, "number 2"),
+    (Ask::Next(""), "a"),
+    (Ask::Next("a"), "c"),
+    (Ask::Next("b"), "c"),
+    (Ask::Next("c"), "absent"),
+    (Ask::Add("a", -21), "sum -1"),
+    (Ask::Get("a"), "-1"),
+    (Ask::Add("b", 5), "sum 5"),
+    (Ask::Add("c", 1), "not-number"),
+    (Ask::Get("c"), "text"),
+    (Ask::Put("b", "9223372036854775807"), "replaced"),
+    (Ask::Add("b", 1), "overflow"),
+    (Ask::Get("b"), "9223372036854775807"),
+    (Ask::Del("b"), "deleted"),
+    (Ask::Del("b"), "absent"),
+    (Ask::Next("a"), "c"),
+    (Ask::Count, "number 2"),
+];
+
 #[test]
-fn a_full_store_has_no_room(rt: HostRuntime) -> Result<(), Fail> {
-    let alloc = rt.alloc();
-    let mut pairs = Pairs::new(alloc);
-    // 3 lines each, so 57 in all
+fn commands_have_their_replies(rt: HostRuntime) -> Result<(), Fail> {
+    let mut pairs = Pairs::new(rt.alloc());
+    replied(&rt, rt.alloc(), &mut pairs, &COMMANDS)
+}
+
+/// Puts 19 pairs of 3 lines each, so 57 in all.
+fn put_short(rt: &impl Abort, alloc: Global, pairs: &mut Pairs) -> Result<(), Fail> {
     let keys = [
         "k00", "k01", "k02", "k03", "k04", "k05", "k06", "k07", "k08", "k09", "k10", "k11", "k12",
         "k13", "k14", "k15", "k16", "k17", "k18",
     ];
     for key in keys {
-        assert_eq!(rt;
-            told(alloc, &mut pairs, Ask::Put(key, "0"))?.as_str(),
-            "new"
-        );
+        assert_eq!(rt; told(alloc, pairs, Ask::Put(key, "0"))?.as_str(), "new");
     }
-    // 6 lines more, so 63 of the 63 that hold pairs
+    Ok(())
+}
+
+/// Puts a pair of 6 lines, and gives the reply as a text.
+fn put_long(alloc: Global, pairs: &mut Pairs) -> Result<String, AllocError> {
     let long = Op::Put {
         key: Bytes::of(alloc, b"k19")?,
         doc: Bytes::of(alloc, &[b'x'; 200])?,
     };
     let reply = pairs.step(alloc, 64, &long)?;
-    assert_eq!(rt; text_of(alloc, &reply)?.as_str(), "new");
-    let rows: [(Ask, &str); 8] = [
-        (Ask::Put("k20", "0"), "no-room"),
-        (Ask::Add("k20", 1), "no-room"),
-        (Ask::Get("k20"), "absent"),
-        (Ask::Count, "number 20"),
-        (Ask::Put("k19", "0"), "replaced"),
-        (Ask::Put("k20", "0"), "new"),
-        (Ask::Add("k18", 7), "sum 7"),
-        (Ask::Count, "number 21"),
-    ];
-    for (ask, want) in rows {
-        assert_eq!(rt; told(alloc, &mut pairs, ask)?.as_str(), want);
-    }
+    text_of(alloc, &reply)
+}
+
+const FULL: [(Ask, &str); 8] = [
+    (Ask::Put("k20", "0"), "no-room"),
+    (Ask::Add("k20", 1), "no-room"),
+    (Ask::Get("k20"), "absent"),
+    (Ask::Count, "number 20"),
+    (Ask::Put("k19", "0"), "replaced"),
+    (Ask::Put("k20", "0"), "new"),
+    (Ask::Add("k18", 7), "sum 7"),
+    (Ask::Count, "number 21"),
+];
+
+#[test]
+fn a_full_store_has_no_room(rt: HostRuntime) -> Result<(), Fail> {
+    let alloc = rt.alloc();
+    let mut pairs = Pairs::new(alloc);
+    put_short(&rt, alloc, &mut pairs)?;
+    // with these, 63 of the 63 lines that hold pairs
+    assert_eq!(rt; put_long(alloc, &mut pairs)?.as_str(), "new");
+    replied(&rt, alloc, &mut pairs, &FULL)?;
     assert_eq!(rt; pairs.len(), 21);
     assert_eq!(rt; pairs.as_slice().len(), 21);
     assert!(rt; !pairs.is_empty());
