@@ -4,8 +4,6 @@
 
 mod in_order;
 mod shape;
-#[cfg(test)]
-mod tests;
 mod words;
 
 pub use in_order::InOrder;

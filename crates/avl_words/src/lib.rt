@@ -5,8 +5,6 @@ mod blocks;
 mod changes;
 mod links;
 mod mending;
-#[cfg(test)]
-mod tests;
 
 pub use blocks::{put, put_new, start_of, word};
 pub use changes::{put_node, take_node};

@@ -6,5 +6,3 @@ pub mod crash;
 pub mod frames;
 pub mod kinds;
 pub mod replies;
-#[cfg(test)]
-mod tests;

@@ -11,8 +11,6 @@ mod local;
 mod part;
 mod region;
 mod step;
-#[cfg(test)]
-mod tests;
 
 pub use entry::{Base, Entry, Image};
 pub use history::{

@@ -5,4 +5,3 @@ pub mod Submits
 pub mod Drives
 pub mod Lookups
 pub mod Updates
-pub mod Tests

@@ -9,8 +9,6 @@ mod lookup;
 mod service;
 mod start;
 mod submit;
-#[cfg(test)]
-mod tests;
 mod threads;
 mod update;
 

@@ -9,12 +9,8 @@ mod packed_texts;
 mod places;
 mod plain;
 mod table;
-#[cfg(test)]
-mod tests;
 mod word_laws;
 mod word_parts;
-#[cfg(test)]
-mod word_tests;
 mod words;
 
 pub use laws::{operations_keep_stores, readings_leave_stores};

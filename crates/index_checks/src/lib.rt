@@ -3,8 +3,6 @@
 #![tactic(auto)]
 
 mod checking;
-#[cfg(test)]
-mod hostile_tests;
 mod laws;
 mod listing;
 mod marks;

@@ -14,6 +14,8 @@ mod starting;
 #[cfg(test)]
 mod stopping;
 #[cfg(test)]
+mod submits;
+#[cfg(test)]
 mod tasks;
 #[cfg(test)]
 mod threads;

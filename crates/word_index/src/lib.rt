@@ -14,8 +14,6 @@ mod nodes;
 mod removal;
 mod rewriting;
 mod taken;
-#[cfg(test)]
-mod tests;
 mod texts;
 mod walk;
 

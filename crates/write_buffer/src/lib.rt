@@ -3,8 +3,6 @@
 
 mod buffer;
 mod held;
-#[cfg(test)]
-mod tests;
 
 pub use buffer::{WriteBuffer, store_held};
 pub use held::Held;

@@ -1,6 +1,0 @@
-use Rattle.std.proofs.Common.{◌↔◌, IfOk, IsTrue, subst}
-use Rattle.cx_base.specs.Tally.{IsTally}
-use Rattle.cx_core.proofs.tests.is_lawful.Goals as goal
-
-pub returns : goal.returns
-returns c = subst (λ words. IfOk c.check.result (λ yes. IsTrue yes ↔ IsTally words)) c.split_at.ensures.back c.check.ensures

@@ -1,0 +1,18 @@
+use Rattle.std.proofs.Common.{ap, ◌∙◌, drop, sym, subst}
+use Rattle.cx_base.specs.Tally.{IsTally, tally_step}
+use Rattle.cx_base.proofs.MemoryLemmas.{known_after, known_always}
+use Rattle.cx_core.specs.Region.{object_part}
+use Rattle.cx_core.specs.Step.{full_step_of}
+use Rattle.event_tests.proofs.full_steps.stepped.Goals as goal
+
+pub full_step-requires-clause-lawful : goal.full_step-requires-clause-lawful
+unfolding object_part
+full_step-requires-clause-lawful c =
+    known_always (λ words. IsTally (drop 1168 words)) c.of-memory.result.words.items (subst (λ words. IsTally (drop 1168 words)) (sym c.of-memory.ensures.words) c.requires.lawful)
+
+pub returns : goal.returns
+returns c =
+    let memory = c.full_step.new.mem in
+    c.into_words.ensures
+    ∙ known_after c.of-memory.result.words.items memory.words.items memory.fit c.in_ok-full_step.ensures.done
+    ∙ ap (full_step_of tally_step c.args.entry.now) c.of-memory.ensures.words
