@@ -32,6 +32,17 @@ fn key_of(bytes: &[u8]) -> Key
     }
 }
 
+// Packs a document of some bytes, and gives their number.
+fn pack_document(bytes: &[u8], words: &mut [u64; 128]) -> u64
+    requires { IsDocument bytes.now }
+    ensures packed { IsPacked 128 result words.new }
+    ensures is { unpacked result words.new ≡ bytes.now }
+{
+    pack(bytes, words);
+    packed_unpacks(bytes, 128);
+    bytes.len() as u64
+}
+
 // Puts a document at a key, in 64 lines.
 pub fn put<M: Memory, L: Ledger>(
     memory: &mut M,
@@ -49,12 +60,8 @@ pub fn put<M: Memory, L: Ledger>(
     ensures lawful { OnOk result (Always (M.stands memory.new) IsIndex) }
 {
     let mut words = [0; 128];
-    pack(document, &mut words);
-    packed_unpacks(document, 128);
-    let doc = Doc {
-        len: document.len() as u64,
-        words: &words,
-    };
+    let len = pack_document(document, &mut words);
+    let doc = Doc { len, words: &words };
     let done = insert(memory, 64, &key_of(key), &doc, visits)?;
     Ok(done)
 }
