@@ -1,7 +1,7 @@
 -- Copying a replica held shared over one held exclusively: how a copy goes on by each load and each store of a word.
-use Rattle.std.proofs.Common.{false, true, ◌≡◌, ◌≢◌, ◌+◌, ◌<◌, ◌≤◌, ◌⊎◌, inl, inr, ℕ, zero, suc, Bool, cond, List, [], ◌∷◌, ◌++◌, length, set, slice_index, ap, sym, subst, ◌∙◌, arith, Option, Some, None}
+use Rattle.std.proofs.Common.{false, true, ◌≡◌, ◌≢◌, ◌+◌, ◌*◌, ◌<◌, ◌≤◌, ◌⊎◌, inl, inr, ℕ, zero, suc, Bool, cond, List, [], ◌∷◌, ◌++◌, drop, length, length-append, set, slice_index, ap, sym, subst, ◌∙◌, arith, Option, Some, None}
 use Rattle.std.proofs.lemmas.Bool.{cases_eq}
-use Rattle.std.proofs.lemmas.List.{get_or-set_other}
+use Rattle.std.proofs.lemmas.List.{get_or-set_other, length-drop}
 use Rattle.std.proofs.lemmas.List.Elements.{Contains-push_cases}
 use Rattle.std.specs.List.{Contains}
 use Rattle.std.specs.Option.{option_map}
@@ -19,6 +19,10 @@ use Rattle.cx_rule.proofs.Copying.{noted_tells}
 use Rattle.line_lanes.specs.Lines.{DiffersInLine}
 use Rattle.replica.specs.Copies.{AreSeen, CopiesOn, IsCopiedTo, IsSeen, read_notes}
 use Rattle.replica.proofs.LineLoads.{AreLoaded, IsIn, IsRunOf, noted_here, noted_other}
+
+-- a list of which the first words were overwritten is as long as it was
+pub overwritten : (n : ℕ) (words new : List ℕ) → n ≤ length words → length new ≡ n → length (new ++ drop n words) ≡ length words
+overwritten n words new within long = omega (arith, length-append new (drop n words), length-drop n words, long)
 
 -- notes lead from the same words to the same words
 leads_one : (notes : List Note) (first now now' : List ℕ) → NotesLead notes first now → NotesLead notes first now' → now ≡ now'
@@ -116,24 +120,37 @@ copied_over instance h u v n region before k below differ seen copied =
       loaded = copied.loaded;
     }
 
--- where a line does not differ, it is copied
-pub copied_line : (us vs : List ℕ) (from m region : ℕ) (before k : Known) → m ≤ 8 → ¬ DiffersInLine us vs 0 → AreSeen from 0 8 us vs k → IsCopiedTo from region before k → IsCopiedTo (from + m) region before k
-copied_line us vs from zero region before k few none seen copied = subst (λ n. IsCopiedTo n region before k) (let none : from ≡ from + 0 = omega arith in none) copied
-copied_line us vs from (suc m) region before k few none seen copied =
-    let same : slice_index us m ≡ slice_index vs m = elim (cases_eq (slice_index us m) (slice_index vs m)) [ inl e ↦ e | inr ne ↦ absurd (none (m, omega (arith, few), ne)) ] in
-    subst (λ n. IsCopiedTo n region before k) (let next : (from + m) + 1 ≡ from + suc m = omega arith in next)
-    (copied_same (slice_index us m) (slice_index vs m) (from + m) region before k same (seen m (omega arith) (omega (arith, few)))
-    (copied_line us vs from m region before k (omega (arith, few)) none seen copied))
+-- where a line of a piece does not differ, it is copied
+copied_line : (us vs : List ℕ) (from line n m region : ℕ) (before k : Known) → m ≤ 8 → 8 * line + m ≤ n → ¬ DiffersInLine us vs line → AreSeen from (8 * line) n us vs k → IsCopiedTo (from + 8 * line) region before k → IsCopiedTo (from + 8 * line + m) region before k
+copied_line us vs from line n zero region before k few within none seen copied = subst (λ i. IsCopiedTo i region before k) (let none : from + 8 * line ≡ from + 8 * line + 0 = omega arith in none) copied
+copied_line us vs from line n (suc m) region before k few within none seen copied =
+    let at = 8 * line + m in
+    let same : slice_index us at ≡ slice_index vs at = elim (cases_eq (slice_index us at) (slice_index vs at)) [ inl e ↦ e | inr ne ↦ absurd (none (at, omega (arith, few), ne)) ] in
+    subst (λ i. IsCopiedTo i region before k) (let next : (from + at) + 1 ≡ from + 8 * line + suc m = omega arith in next)
+    (copied_same (slice_index us at) (slice_index vs at) (from + at) region before k same (seen at (omega arith) (omega (arith, within)))
+    (subst (λ i. IsCopiedTo i region before k) (let here : from + 8 * line + m ≡ from + at = omega arith in here)
+    (copied_line us vs from line n m region before k (omega (arith, few)) (omega (arith, within)) none seen copied)))
 
--- a copy goes on over a line: past a word that is the same in both, and past one that is stored
-pub on_same : (us vs : List ℕ) (from i : ℕ) (before k : Known) → i < 8 → slice_index us i ≡ slice_index vs i → AreSeen from i 8 us vs k → CopiesOn from (from + i) before k → CopiesOn from (from + (i + 1)) before k
-on_same us vs from i before k small same seen on region first below copied =
+-- a copy goes on over a line of a piece: past one that does not differ, and past one of which the words that differ were stored
+pub on_same_line : (us vs : List ℕ) (from line n : ℕ) (before k : Known) → 8 * line + 8 ≤ n → ¬ DiffersInLine us vs line → AreSeen from (8 * line) n us vs k → CopiesOn from (from + 8 * line) before k → CopiesOn from (from + 8 * (line + 1)) before k
+on_same_line us vs from line n before k within none seen on region first below copied =
+    subst (λ i. IsCopiedTo i region first k) (let next : from + 8 * line + 8 ≡ from + 8 * (line + 1) = omega arith in next)
+    (copied_line us vs from line n 8 region first k (omega arith) within none seen (on region first (omega (arith, below)) copied))
+
+pub on_stored_line : (from line : ℕ) (before k k' : Known) → CopiesOn from (from + 8 * line) before k → CopiesOn (from + 8 * line) (from + 8 * line + 8) k k' → CopiesOn from (from + 8 * (line + 1)) before k'
+on_stored_line from line before k k' on then region first below copied =
+    subst (λ i. IsCopiedTo i region first k') (let next : from + 8 * line + 8 ≡ from + 8 * (line + 1) = omega arith in next)
+    (then region first (omega (arith, below)) (on region first (omega (arith, below)) copied))
+
+-- and over a word of a line: past one that is the same in both, and past one that is stored
+pub on_same : (us vs : List ℕ) (start from i n : ℕ) (before k : Known) → i < n → slice_index us i ≡ slice_index vs i → AreSeen from i n us vs k → CopiesOn start (from + i) before k → CopiesOn start (from + (i + 1)) before k
+on_same us vs start from i n before k small same seen on region first below copied =
     let next : (from + i) + 1 ≡ from + (i + 1) = omega arith in
     subst (λ m. IsCopiedTo m region first k) next (copied_same (slice_index us i) (slice_index vs i) (from + i) region first k same (seen i (omega arith) small) (on region first (omega (arith, below)) copied))
 
-pub on_over : (instance : Instance) (h : ℕ) (us vs : List ℕ) (from i : ℕ) (before k : Known) → i < 8 → slice_index us i ≢ slice_index vs i → AreSeen from i 8 us vs k → CopiesOn from (from + i) before k →
-    CopiesOn from (from + (i + 1)) before (known_after instance (StoreWord h (from + i) (slice_index vs i)) k 0)
-on_over instance h us vs from i before k small differ seen on region first below copied =
+pub on_over : (instance : Instance) (h : ℕ) (us vs : List ℕ) (start from i n : ℕ) (before k : Known) → i < n → slice_index us i ≢ slice_index vs i → AreSeen from i n us vs k → CopiesOn start (from + i) before k →
+    CopiesOn start (from + (i + 1)) before (known_after instance (StoreWord h (from + i) (slice_index vs i)) k 0)
+on_over instance h us vs start from i n before k small differ seen on region first below copied =
     let next : (from + i) + 1 ≡ from + (i + 1) = omega arith in
     let now = known_after instance (StoreWord h (from + i) (slice_index vs i)) k 0 in
     subst (λ m. IsCopiedTo m region first now) next

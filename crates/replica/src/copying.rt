@@ -1,6 +1,6 @@
 //! A replica held shared is copied over one held exclusively.
 
-ghost use Rattle.std.specs.Prelude.{◌≡◌, ◌+◌, ◌<◌, ◌≤◌, ℕ, IfOk, IsTrue, OnErr, OnOk};
+ghost use Rattle.std.specs.Prelude.{◌≡◌, ◌+◌, ◌%◌, ◌<◌, ◌≤◌, ℕ, IfOk, IsTrue, OnErr, OnOk, length};
 ghost use Rattle.std.specs.List.{Contains};
 ghost use Rattle.cx_core.specs.declared.kinds.Kind.TheVariants.{StoreWord};
 ghost use Rattle.cx_core.specs.Region.{region_words};
@@ -19,7 +19,13 @@ use line_lanes::differing;
 /// The words of a line.
 const LINE: usize = LINE_WORDS as usize;
 
-/// Copies a replica held shared over one held exclusively, line by line, and stores only the words that differ. Then whatever
+/// The lines of a piece, at most: the words of a piece are loaded by one call.
+const PIECE_LINES: usize = 8;
+
+/// The words of a piece, at most.
+const PIECE: usize = LINE * PIECE_LINES;
+
+/// Copies a replica held shared over one held exclusively, piece by piece, and stores only the words that differ. Then whatever
 /// fits the one is what fits the other, and each word that became dirty differed, so it lies in a line that differed. It gives
 /// their place. `Halt` comes only where the seat's steps equal its limit.
 pub fn copy_from<O: Object>(
@@ -38,8 +44,23 @@ pub fn copy_from<O: Object>(
     ensures rest { beside_copy seat.new ≡ beside_copy seat.old }
     ensures halts { OnErr result (IsAtLimit seat.new.known.local) }
 {
-    for line in 0..HEAD_LINES + shared.lines() {
-        copy_line(shared, seat, held, source, LINE_WORDS * line)?;
+    let lines = HEAD_LINES + shared.lines();
+    let mut held_words = [0; PIECE];
+    let mut source_words = [0; PIECE];
+    let mut line = 0;
+    while line < lines {
+        let count = piece_lines(line, lines);
+        let words = LINE * count as usize;
+        copy_piece(
+            shared,
+            seat,
+            held,
+            source,
+            LINE_WORDS * line,
+            &mut held_words[..words],
+            &mut source_words[..words],
+        )?;
+        line += count;
     }
     Ok(seat.noted_place())
 }
@@ -68,106 +89,133 @@ pub fn renew_from<O: Object>(
     Ok(place)
 }
 
-/// The words of a line, of the replica held exclusively and of the one held shared.
-#[derive(Debug, Drop)]
-struct LinePair {
-    held: [u64; LINE],
-    source: [u64; LINE],
+/// The lines of the piece that begins at a line: that of the place is a piece by itself, since its load is noted as the place.
+fn piece_lines(line: u64, lines: u64) -> u64
+    requires { line < lines }
+    ensures some { 1 ≤ result }
+    ensures few { result ≤ 8 }
+    ensures left { line + result ≤ lines }
+{
+    if line == 0 {
+        1
+    } else {
+        (lines - line).min(PIECE_LINES as u64)
+    }
 }
 
-/// Copies a line, where the lines before it were copied: both are loaded, and where they differ, the words that differ are stored.
-fn copy_line<O: Object>(
+/// Copies a piece, where the words before it were copied: it is loaded of both replicas, and of its lines that differ the words that
+/// differ are stored. What was in the two lists of words is overwritten.
+fn copy_piece<O: Object>(
     shared: &Shared<O>,
     seat: &mut CallerSeat,
     held: &Exclusive,
     source: &SharedHold,
     from: u64,
+    held_words: &mut [u64],
+    source_words: &mut [u64],
 ) -> Result<(), Halt>
     requires both { HoldsBoth (O.line_count shared.now.object) shared.now (O.lawful shared.now.object) seat.old held.now source.now }
-    requires from { from + 8 ≤ region_words (O.line_count shared.now.object) }
+    requires from { from + length held_words.old ≤ region_words (O.line_count shared.now.object) }
+    requires few { length held_words.old ≤ 64 }
+    requires whole { length held_words.old % 8 ≡ 0 }
+    requires lengths { length source_words.old ≡ length held_words.old }
     ensures both { HoldsBoth (O.line_count shared.now.object) shared.now (O.lawful shared.now.object) seat.new held.now source.now }
-    ensures copied { OnOk result (CopiesOn from (from + 8) seat.old.known seat.new.known) }
+    ensures copied { OnOk result (CopiesOn from (from + length held_words.old) seat.old.known seat.new.known) }
     ensures rest { beside_copy seat.new ≡ beside_copy seat.old }
     ensures halts { OnErr result (IsAtLimit seat.new.known.local) }
 {
-    let mut pair = LinePair {
-        held: [0; LINE],
-        source: [0; LINE],
-    };
-    load_line(shared, seat, held, source, from, &mut pair)?;
-    let mut differs = [false];
-    differing(&pair.held, &pair.source, &mut differs);
-    if differs[0] {
-        store_line(shared, seat, held, source, from, &pair)?;
+    load_piece(shared, seat, held, source, from, held_words, source_words)?;
+    let lines = held_words.len() / LINE;
+    let mut differs = [false; PIECE_LINES];
+    differing(held_words, source_words, &mut differs[..lines]);
+    for line in 0..lines {
+        if differs[line] {
+            store_line(
+                shared,
+                seat,
+                held,
+                source,
+                from,
+                held_words,
+                source_words,
+                LINE * line,
+            )?;
+        }
     }
     Ok(())
 }
 
-/// Loads a line of both replicas: each by one call, but for the line of the place, and where the limit does not leave both.
-fn load_line<O: Object>(
+/// Loads a piece of both replicas: each by one call, but for the line of the place, and where the limit does not leave both.
+fn load_piece<O: Object>(
     shared: &Shared<O>,
     seat: &mut CallerSeat,
     held: &Exclusive,
     source: &SharedHold,
     from: u64,
-    pair: &mut LinePair,
+    held_words: &mut [u64],
+    source_words: &mut [u64],
 ) -> Result<(), Halt>
     requires both { HoldsBoth (O.line_count shared.now.object) shared.now (O.lawful shared.now.object) seat.old held.now source.now }
-    requires from { from + 8 ≤ region_words (O.line_count shared.now.object) }
+    requires from { from + length held_words.old ≤ region_words (O.line_count shared.now.object) }
+    requires lengths { length source_words.old ≡ length held_words.old }
     ensures both { HoldsBoth (O.line_count shared.now.object) shared.now (O.lawful shared.now.object) seat.new held.now source.now }
-    ensures seen { OnOk result (AreSeen from 0 8 pair.new.held pair.new.source seat.new.known) }
+    ensures seen { OnOk result (AreSeen from 0 (length held_words.old) held_words.new source_words.new seat.new.known) }
     ensures copied { OnOk result (CopiesOn from from seat.old.known seat.new.known) }
     ensures rest { beside_copy seat.new ≡ beside_copy seat.old }
     ensures halts { OnErr result (IsAtLimit seat.new.known.local) }
 {
-    if from > 0 && load_runs(shared, seat, held, source, from, pair) {
+    if from > 0 && load_runs(shared, seat, held, source, from, held_words, source_words) {
         return Ok(());
     }
-    load_each(shared, seat, held, source, from, pair)
+    load_each(shared, seat, held, source, from, held_words, source_words)
 }
 
-/// Loads a line of both replicas, which is not that of the place, each by one call. It answers whether the limit leaves both.
+/// Loads a piece of both replicas, behind the place, each by one call. It answers whether the limit leaves both.
 fn load_runs<O: Object>(
     shared: &Shared<O>,
     seat: &mut CallerSeat,
     held: &Exclusive,
     source: &SharedHold,
     from: u64,
-    pair: &mut LinePair,
+    held_words: &mut [u64],
+    source_words: &mut [u64],
 ) -> bool
     requires both { HoldsBoth (O.line_count shared.now.object) shared.now (O.lawful shared.now.object) seat.old held.now source.now }
-    requires from { from + 8 ≤ region_words (O.line_count shared.now.object) }
+    requires from { from + length held_words.old ≤ region_words (O.line_count shared.now.object) }
+    requires lengths { length source_words.old ≡ length held_words.old }
     requires behind { 0 < from }
     ensures both { HoldsBoth (O.line_count shared.now.object) shared.now (O.lawful shared.now.object) seat.new held.now source.now }
-    ensures seen { IsTrue result → AreSeen from 0 8 pair.new.held pair.new.source seat.new.known }
+    ensures seen { IsTrue result → AreSeen from 0 (length held_words.old) held_words.new source_words.new seat.new.known }
     ensures copied { CopiesOn from from seat.old.known seat.new.known }
     ensures rest { beside_copy seat.new ≡ beside_copy seat.old }
 {
-    shared.load_words(seat, held.replica() as u64, from, &mut pair.held)
-        && shared.load_words(seat, source.replica() as u64, from, &mut pair.source)
+    shared.load_words(seat, held.replica() as u64, from, held_words)
+        && shared.load_words(seat, source.replica() as u64, from, source_words)
 }
 
-/// Loads a line of both replicas word by word.
+/// Loads a piece of both replicas word by word.
 fn load_each<O: Object>(
     shared: &Shared<O>,
     seat: &mut CallerSeat,
     held: &Exclusive,
     source: &SharedHold,
     from: u64,
-    pair: &mut LinePair,
+    held_words: &mut [u64],
+    source_words: &mut [u64],
 ) -> Result<(), Halt>
     requires both { HoldsBoth (O.line_count shared.now.object) shared.now (O.lawful shared.now.object) seat.old held.now source.now }
-    requires from { from + 8 ≤ region_words (O.line_count shared.now.object) }
+    requires from { from + length held_words.old ≤ region_words (O.line_count shared.now.object) }
+    requires lengths { length source_words.old ≡ length held_words.old }
     ensures both { HoldsBoth (O.line_count shared.now.object) shared.now (O.lawful shared.now.object) seat.new held.now source.now }
-    ensures seen { OnOk result (AreSeen from 0 8 pair.new.held pair.new.source seat.new.known) }
+    ensures seen { OnOk result (AreSeen from 0 (length held_words.old) held_words.new source_words.new seat.new.known) }
     ensures copied { OnOk result (CopiesOn from from seat.old.known seat.new.known) }
     ensures rest { beside_copy seat.new ≡ beside_copy seat.old }
     ensures halts { OnErr result (IsAtLimit seat.new.known.local) }
 {
-    for i in 0..LINE {
+    for i in 0..held_words.len() {
         let (old, new) = load_both(shared, seat, held, source, from + i as u64)?;
-        pair.held[i] = old;
-        pair.source[i] = new;
+        held_words[i] = old;
+        source_words[i] = new;
     }
     Ok(())
 }
@@ -192,26 +240,31 @@ fn load_both<O: Object>(
     Ok((old, new))
 }
 
-/// Stores the words of a line that differ, where both lines were loaded.
+/// Stores the words that differ of the line that begins at one of the words of a piece, which were loaded.
 fn store_line<O: Object>(
     shared: &Shared<O>,
     seat: &mut CallerSeat,
     held: &Exclusive,
     source: &SharedHold,
     from: u64,
-    pair: &LinePair,
+    held_words: &[u64],
+    source_words: &[u64],
+    first: usize,
 ) -> Result<(), Halt>
     requires both { HoldsBoth (O.line_count shared.now.object) shared.now (O.lawful shared.now.object) seat.old held.now source.now }
-    requires from { from + 8 ≤ region_words (O.line_count shared.now.object) }
-    requires seen { AreSeen from 0 8 pair.now.held pair.now.source seat.old.known }
+    requires from { from + length held_words.now ≤ region_words (O.line_count shared.now.object) }
+    requires first { first + 8 ≤ length held_words.now }
+    requires lengths { length source_words.now ≡ length held_words.now }
+    requires seen { AreSeen from first (length held_words.now) held_words.now source_words.now seat.old.known }
     ensures both { HoldsBoth (O.line_count shared.now.object) shared.now (O.lawful shared.now.object) seat.new held.now source.now }
-    ensures copied { OnOk result (CopiesOn from (from + 8) seat.old.known seat.new.known) }
+    ensures seen { OnOk result (AreSeen from (first + 8) (length held_words.now) held_words.now source_words.now seat.new.known) }
+    ensures copied { OnOk result (CopiesOn (from + first) (from + first + 8) seat.old.known seat.new.known) }
     ensures rest { beside_copy seat.new ≡ beside_copy seat.old }
     ensures halts { OnErr result (IsAtLimit seat.new.known.local) }
 {
-    for i in 0..LINE {
-        if pair.held[i] != pair.source[i] {
-            store_copied(shared, seat, held, source, from + i as u64, pair.source[i])?;
+    for i in first..first + LINE {
+        if held_words[i] != source_words[i] {
+            store_copied(shared, seat, held, source, from + i as u64, source_words[i])?;
         }
     }
     Ok(())

@@ -1,38 +1,56 @@
-use Rattle.std.proofs.Common.{◌≡◌, ◌+◌, ◌*◌, refl, subst, ◌∙◌, arith}
+use Rattle.std.proofs.Common.{◌≡◌, ◌+◌, ◌*◌, ◌≤◌, length, take, refl, subst, ◌∙◌, arith}
+use Rattle.std.proofs.lemmas.List.{length-take-le}
 use Rattle.cx_core.specs.Region.{region_words}
 use Rattle.cx_rule.specs.Fitting.{AgreeTo}
 use Rattle.cx_rule.proofs.Copying.{agree_equal}
 use Rattle.replica.specs.Copies.{IsCopiedTo}
-use Rattle.replica.proofs.LineCopies.{copied_none}
+use Rattle.replica.proofs.LineCopies.{copied_none, overwritten}
 use Rattle.replica.proofs.copying.copy_from.Goals as goal
 
 pub loop-line-init : goal.loop-line-init
-loop-line-init g c = record { both = c.requires; copied = copied_none (region_words (g.O.Object.line_count c.args.shared.now.object)) c.args.seat.now.known; rest = refl }
+loop-line-init g c = record {
+  both = c.requires;
+  copied = copied_none (region_words (g.O.Object.line_count c.args.shared.now.object)) c.args.seat.now.known;
+  rest = refl;
+  within = omega arith;
+  held_long = refl;
+  source_long = refl;
+}
 
 pub returns-clause-copied : goal.returns-clause-copied
 returns-clause-copied g c =
     let lines = g.O.Object.line_count c.args.shared.now.object in
-    let count = c.lines-line-end.ensures.value ∙ c.requires.exclusive.sized.lines_are in
-    let all : 8 * c.loop-line.line ≡ region_words lines = omega (arith, c.loop-line.auto.line-end, c.loop-line-test.false, count) in
+    let count = c.lines-lines.ensures.value ∙ c.requires.exclusive.sized.lines_are in
+    let all : 8 * c.loop-line.line ≡ region_words lines = omega (arith, c.loop-line.invariant.within, c.loop-line-test.false, count) in
     subst (AgreeTo c.loop-line.seat.known) all c.loop-line.invariant.copied.agree
 
 pub returns-clause-equal : goal.returns-clause-equal
 returns-clause-equal g c =
     let t = c.args.shared.now in
     let lines = g.O.Object.line_count t.object in
-    let count = c.lines-line-end.ensures.value ∙ c.requires.exclusive.sized.lines_are in
-    let all : 8 * c.loop-line.line ≡ region_words lines = omega (arith, c.loop-line.auto.line-end, c.loop-line-test.false, count) in
+    let count = c.lines-lines.ensures.value ∙ c.requires.exclusive.sized.lines_are in
+    let all : 8 * c.loop-line.line ≡ region_words lines = omega (arith, c.loop-line.invariant.within, c.loop-line-test.false, count) in
     agree_equal lines (g.O.Object.lawful t.object) t.base c.loop-line.seat.known (region_words lines) refl (subst (AgreeTo c.loop-line.seat.known) all c.loop-line.invariant.copied.agree)
 
 pub loop-line-preserved : goal.loop-line-preserved
 loop-line-preserved g c =
     let lines = g.O.Object.line_count c.args.shared.now.object in
     let was = c.loop-line.invariant in
-    let count = c.lines-line-end.ensures.value ∙ c.requires.exclusive.sized.lines_are in
-    let next : 8 * c.loop-line.line + 8 ≡ 8 * (c.loop-line.line + 1) = omega arith in
+    let line = c.loop-line.line in
+    let some = c.piece_lines-count.result in
+    let count = c.lines-lines.ensures.value ∙ c.requires.exclusive.sized.lines_are in
+    let few = c.piece_lines-count.ensures.few in
+    let within : 8 * some ≤ length c.loop-line.held_words = omega (arith, few, was.held_long) in
+    let within' : 8 * some ≤ length c.loop-line.source_words = omega (arith, few, was.source_long) in
+    let long = length-take-le (8 * some) c.loop-line.held_words within in
+    let long' = length-take-le (8 * some) c.loop-line.source_words within' in
+    let next : 8 * line + length (take (8 * some) c.loop-line.held_words) ≡ 8 * (line + some) = omega (arith, long) in
     record {
-      both = c.copy_line.ensures.both;
-      copied = subst (λ n. IsCopiedTo n (region_words lines) c.args.seat.now.known c.copy_line.new.seat.known) next
-          (c.in_ok-copy_line.ensures.copied (region_words lines) c.args.seat.now.known (omega (arith, c.loop-line-test.true, count)) was.copied);
-      rest = c.copy_line.ensures.rest ∙ was.rest;
+      both = c.copy_piece.ensures.both;
+      copied = subst (λ n. IsCopiedTo n (region_words lines) c.args.seat.now.known c.copy_piece.new.seat.known) next
+          (c.in_ok-copy_piece.ensures.copied (region_words lines) c.args.seat.now.known (omega (arith, long, count, c.piece_lines-count.ensures.left)) was.copied);
+      rest = c.copy_piece.ensures.rest ∙ was.rest;
+      within = c.piece_lines-count.ensures.left;
+      held_long = overwritten (8 * some) c.loop-line.held_words c.copy_piece.new.held_words within (c.copy_piece.auto.held_words ∙ long) ∙ was.held_long;
+      source_long = overwritten (8 * some) c.loop-line.source_words c.copy_piece.new.source_words within' (c.copy_piece.auto.source_words ∙ long') ∙ was.source_long;
     }

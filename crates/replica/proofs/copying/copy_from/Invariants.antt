@@ -1,4 +1,4 @@
-use Rattle.std.proofs.Common.{◌≡◌, ◌*◌}
+use Rattle.std.proofs.Common.{◌≡◌, ◌-◌, ◌*◌, ◌≤◌, length}
 use Rattle.cx_core.specs.Region.{region_words}
 use Rattle.replica.specs.Copies.{HoldsBoth, IsCopiedTo, beside_copy}
 use Rattle.replica.proofs.copying.copy_from.Given as goal
@@ -9,4 +9,10 @@ invariant-loop-line g l = record {
   both : HoldsBoth (g.O.Object.line_count l.shared.object) l.shared (g.O.Object.lawful l.shared.object) l.seat l.held l.source;
   copied : IsCopiedTo (8 * l.line) (region_words (g.O.Object.line_count l.shared.object)) l.fn.seat.known l.seat.known;
   rest : beside_copy l.seat ≡ beside_copy l.fn.seat;
+  within : l.line ≤ l.lines;
+  held_long : length l.held_words ≡ 64;
+  source_long : length l.source_words ≡ 64;
 }
+
+abbrev pub decreases-loop-line : goal.decreases-loop-line
+decreases-loop-line g l = l.lines - l.line

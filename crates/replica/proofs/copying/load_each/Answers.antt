@@ -18,11 +18,10 @@ loop-i-preserved g c =
     let at = c.args.from + c.loop-i.i in
     let now = c.in_ok-old.ensures in
     record {
-      held_long = length-set c.loop-i.pair.held c.loop-i.i c.in_ok-old.old ∙ was.held_long;
-      source_long = length-set c.loop-i.pair.source c.loop-i.i c.in_ok-old.new ∙ was.source_long;
+      lengths = length-set c.loop-i.source_words c.loop-i.i c.in_ok-old.new ∙ was.lengths ∙ sym (length-set c.loop-i.held_words c.loop-i.i c.in_ok-old.old);
       both = now.both;
-      seen = subst (λ (k : Known). AreSeen c.args.from 0 (c.loop-i.i + 1) (set c.loop-i.pair.held c.loop-i.i c.in_ok-old.old) (set c.loop-i.pair.source c.loop-i.i c.in_ok-old.new) k) (sym now.known)
-          (seen_more instance h s c.args.from c.loop-i.i c.in_ok-old.old c.in_ok-old.new c.loop-i.pair.held c.loop-i.pair.source known was.both.exclusive.right.holds was.both.shared.right.holds (omega (arith, was.held_long)) (omega (arith, was.source_long)) was.seen);
+      seen = subst (λ (k : Known). AreSeen c.args.from 0 (c.loop-i.i + 1) (set c.loop-i.held_words c.loop-i.i c.in_ok-old.old) (set c.loop-i.source_words c.loop-i.i c.in_ok-old.new) k) (sym now.known)
+          (seen_more instance h s c.args.from c.loop-i.i c.in_ok-old.old c.in_ok-old.new c.loop-i.held_words c.loop-i.source_words known was.both.exclusive.right.holds was.both.shared.right.holds (omega arith) (omega (arith, was.lengths)) was.seen);
       copied = λ region first below copied. subst (λ (k : Known). IsCopiedTo c.args.from region first k) (sym now.known)
           (copied_loaded (λ i. i ≡ at) c.args.from region first known (known_compared instance h s at c.in_ok-old.old c.in_ok-old.new known) (λ i e. omega (arith, e)) (compared_load instance h s at c.in_ok-old.old c.in_ok-old.new known) (was.copied region first below copied));
       rest = now.rest ∙ was.rest;

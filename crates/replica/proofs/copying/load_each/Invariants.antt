@@ -5,10 +5,9 @@ use Rattle.replica.proofs.copying.load_each.Given as goal
 -- the words so far were loaded of both
 abbrev pub invariant-loop-i : goal.invariant-loop-i
 invariant-loop-i g l = record {
-  held_long : length l.pair.held ≡ 8;
-  source_long : length l.pair.source ≡ 8;
+  lengths : length l.source_words ≡ length l.held_words;
   both : HoldsBoth (g.O.Object.line_count l.shared.object) l.shared (g.O.Object.lawful l.shared.object) l.seat l.held l.source;
-  seen : AreSeen l.from 0 l.i l.pair.held l.pair.source l.seat.known;
+  seen : AreSeen l.from 0 l.i l.held_words l.source_words l.seat.known;
   copied : CopiesOn l.from l.from l.fn.seat.known l.seat.known;
   rest : beside_copy l.seat ≡ beside_copy l.fn.seat;
 }

@@ -1,4 +1,4 @@
-use Rattle.std.proofs.Common.{◌+◌, subst, ◌∙◌, arith}
+use Rattle.std.proofs.Common.{length, subst, ◌+◌, ◌∙◌, arith}
 use Rattle.replica.proofs.Access.{shared_guard}
 use Rattle.replica.proofs.CopySteps.{has_run, has_run_if}
 use Rattle.replica.proofs.LineCopies.{on_run}
@@ -11,7 +11,7 @@ load_words-requires-then-load_words-clause-guard g c =
     let lines = g.O.Object.line_count t.object in
     let lawful = g.O.Object.lawful t.object in
     let one = has_run lines t g.O.Object.step g.O.Object.only_reads lawful c.args.held.now c.args.source.now c.replica.result c.args.from c.load_words.new.into c.args.seat.now c.load_words.new.seat c.requires.both (c.load_words.ensures.made c.if-load_words.true) in
-    λ i below. shared_guard lines t lawful c.args.source.now c.replica-then-load_words.result (c.args.from + i) c.load_words.new.seat c.replica-then-load_words.ensures one.both.shared (omega (arith, below, c.requires.from))
+    λ i below. shared_guard lines t lawful c.args.source.now c.replica-then-load_words.result (c.args.from + i) c.load_words.new.seat c.replica-then-load_words.ensures one.both.shared (omega (arith, below, c.requires.from, c.requires.lengths))
 
 pub returns-then-load_words-clause-both : goal.returns-then-load_words-clause-both
 returns-then-load_words-clause-both g c =
@@ -33,7 +33,7 @@ returns-then-load_words-clause-seen g c =
     let made = c.load_words-then-load_words in
     λ is.
     let two = has_run lines t g.O.Object.step g.O.Object.only_reads lawful h s c.replica-then-load_words.result c.args.from made.new.into c.load_words.new.seat made.new.seat one.both (made.ensures.made is) in
-    seen_runs h.replica s.replica c.args.from 8 c.load_words.new.into made.new.into c.args.seat.now.known c.load_words.new.seat.known made.new.seat.known (omega (arith, c.load_words.ensures.length)) (omega (arith, made.ensures.length))
+    seen_runs h.replica s.replica c.args.from (length c.args.held_words.now) c.load_words.new.into made.new.into c.args.seat.now.known c.load_words.new.seat.known made.new.seat.known c.load_words.ensures.length (made.ensures.length ∙ c.requires.lengths)
     c.requires.both.exclusive.right.holds c.requires.both.shared.right.holds
     (subst (λ q. IsRunOf q c.args.from c.load_words.new.into c.args.seat.now.known c.load_words.new.seat.known) c.replica.ensures one.run)
     (subst (λ q. IsRunOf q c.args.from made.new.into c.load_words.new.seat.known made.new.seat.known) c.replica-then-load_words.ensures two.run)

@@ -1,10 +1,10 @@
-use Rattle.std.proofs.Common.{◌≡◌, ◌+◌, ap, sym, subst, ◌∙◌, arith, slice_index}
+use Rattle.std.proofs.Common.{◌≡◌, ◌+◌, ◌<◌, length, ap, sym, subst, ◌∙◌, arith, slice_index}
 use Rattle.cx_rule.specs.declared.rule.Known.{Known}
 use Rattle.cx_rule.specs.Running.{instance_at}
 use Rattle.cx_rule.specs.Seats.{Seated}
 use Rattle.replica.specs.Copies.{AreSeen, CopiesOn, HoldsBoth, beside_copy}
 use Rattle.replica.proofs.LineCopies.{on_over, on_same, seen_behind}
-use Rattle.replica.proofs.copying.store_line.Goals.{then-pair-i+in_ok-store_copied, else-pair-i}
+use Rattle.replica.proofs.copying.store_line.Goals.{then-held_words-i+in_ok-store_copied, else-held_words-i}
 use Rattle.replica.proofs.copying.store_line.Goals as goal
 
 pub loop-i-preserved : goal.loop-i-preserved
@@ -13,34 +13,38 @@ loop-i-preserved g c =
     let instance = instance_at t g.O.Object.step g.O.Object.only_reads in
     let was = c.loop-i.invariant in
     let i = c.loop-i.i in
-    let us = c.args.pair.now.held in
-    let vs = c.args.pair.now.source in
+    let us = c.args.held_words.now in
+    let vs = c.args.source_words.now in
+    let n = length us in
+    let start = c.args.from + c.args.first in
+    let below : i < n = omega (arith, c.loop-i-test.true, c.loop-i.auto.i-end, c.requires.first) in
     let before = c.args.seat.now.known in
     let known = c.loop-i.seat.known in
-    elim c.if-pair-i.branch [
-      | then-pair-i+in_ok-store_copied w ↦ (
+    elim c.if-held_words-i.branch [
+      | then-held_words-i+in_ok-store_copied w ↦ (
           let after = w.in_ok-store_copied.ensures in
           let now = w.seat-is in
           let knows = ap (λ (s : Seated). s.known) now ∙ after.known in
           record {
             both = subst (λ (s : Seated). HoldsBoth (g.O.Object.line_count t.object) t (g.O.Object.lawful t.object) s c.args.held.now c.args.source.now) (sym now) after.both;
-            seen = subst (λ (k : Known). AreSeen c.args.from (i + 1) 8 us vs k) (sym knows) (seen_behind instance c.args.held.now.replica us vs c.args.from 8 i (slice_index vs i) known was.seen);
-            copied = subst (λ (k : Known). CopiesOn c.args.from (c.args.from + (i + 1)) before k) (sym knows)
-                (on_over instance c.args.held.now.replica us vs c.args.from i before known c.loop-i-test.true w.if-pair-i.true was.seen was.copied);
+            seen = subst (λ (k : Known). AreSeen c.args.from (i + 1) n us vs k) (sym knows) (seen_behind instance c.args.held.now.replica us vs c.args.from n i (slice_index vs i) known was.seen);
+            copied = subst (λ (k : Known). CopiesOn start (c.args.from + (i + 1)) before k) (sym knows)
+                (on_over instance c.args.held.now.replica us vs start c.args.from i n before known below w.if-held_words-i.true was.seen was.copied);
             rest = ap beside_copy now ∙ after.rest ∙ was.rest;
           })
-      | else-pair-i w ↦ (
+      | else-held_words-i w ↦ (
           let now = w.seat-is in
           let knows = ap (λ (s : Seated). s.known) now in
           record {
             both = subst (λ (s : Seated). HoldsBoth (g.O.Object.line_count t.object) t (g.O.Object.lawful t.object) s c.args.held.now c.args.source.now) (sym now) was.both;
-            seen = subst (λ (k : Known). AreSeen c.args.from (i + 1) 8 us vs k) (sym knows) (λ k least below. was.seen k (omega (arith, least)) below);
-            copied = subst (λ (k : Known). CopiesOn c.args.from (c.args.from + (i + 1)) before k) (sym knows) (on_same us vs c.args.from i before known c.loop-i-test.true w.if-pair-i.false was.seen was.copied);
+            seen = subst (λ (k : Known). AreSeen c.args.from (i + 1) n us vs k) (sym knows) (λ k least within. was.seen k (omega (arith, least)) within);
+            copied = subst (λ (k : Known). CopiesOn start (c.args.from + (i + 1)) before k) (sym knows) (on_same us vs start c.args.from i n before known below w.if-held_words-i.false was.seen was.copied);
             rest = ap beside_copy now ∙ was.rest;
           })
     ]
 
 pub returns-clause-copied : goal.returns-clause-copied
 returns-clause-copied g c =
-    let end : c.args.from + c.loop-i.i ≡ c.args.from + 8 = omega (arith, c.loop-i-test.false, c.loop-i.auto.i-end) in
-    subst (λ m. CopiesOn c.args.from m c.args.seat.now.known c.loop-i.seat.known) end c.loop-i.invariant.copied
+    let start = c.args.from + c.args.first in
+    let end : c.args.from + c.loop-i.i ≡ start + 8 = omega (arith, c.loop-i-test.false, c.loop-i.auto.i-end) in
+    subst (λ m. CopiesOn start m c.args.seat.now.known c.loop-i.seat.known) end c.loop-i.invariant.copied

@@ -1,4 +1,4 @@
-use Rattle.std.proofs.Common.{◌≡◌, ◌+◌}
+use Rattle.std.proofs.Common.{◌≡◌, ◌+◌, length}
 use Rattle.replica.specs.Copies.{AreSeen, CopiesOn, HoldsBoth, beside_copy}
 use Rattle.replica.proofs.copying.store_line.Given as goal
 
@@ -6,7 +6,7 @@ use Rattle.replica.proofs.copying.store_line.Given as goal
 abbrev pub invariant-loop-i : goal.invariant-loop-i
 invariant-loop-i g l = record {
   both : HoldsBoth (g.O.Object.line_count l.shared.object) l.shared (g.O.Object.lawful l.shared.object) l.seat l.held l.source;
-  seen : AreSeen l.from l.i 8 l.pair.held l.pair.source l.seat.known;
-  copied : CopiesOn l.from (l.from + l.i) l.fn.seat.known l.seat.known;
+  seen : AreSeen l.from l.i (length l.held_words) l.held_words l.source_words l.seat.known;
+  copied : CopiesOn (l.from + l.first) (l.from + l.i) l.fn.seat.known l.seat.known;
   rest : beside_copy l.seat ≡ beside_copy l.fn.seat;
 }

@@ -2,8 +2,8 @@ use Rattle.std.proofs.Common.{sym, subst}
 use Rattle.std.proofs.lemmas.Result.{on_ok_weaker}
 use Rattle.cx_rule.specs.Seats.{Seated}
 use Rattle.replica.specs.Copies.{CopiesOn}
-use Rattle.replica.proofs.copying.load_line.Goals.{else-from-gt0-via-then-from-gt0+else-load_runs, else-from-gt0-via-else-from-gt0}
-use Rattle.replica.proofs.copying.load_line.Goals as goal
+use Rattle.replica.proofs.copying.load_piece.Goals.{else-from-gt0-via-then-from-gt0+else-load_runs, else-from-gt0-via-else-from-gt0}
+use Rattle.replica.proofs.copying.load_piece.Goals as goal
 
 pub returns-clause-copied : goal.returns-clause-copied
 returns-clause-copied g c =

@@ -1,0 +1,63 @@
+use Rattle.std.proofs.Common.{false, ◌≡◌, ◌+◌, ◌*◌, ◌/◌, ◌<◌, ◌≤◌, ap, sym, subst, ◌∙◌, arith, length}
+use Rattle.std.proofs.lemmas.Bool.{false≢true}
+use Rattle.std.proofs.lemmas.List.{get_or_append_left, length-take-le}
+use Rattle.cx_rule.specs.declared.rule.Known.{Known}
+use Rattle.cx_rule.specs.Seats.{Seated}
+use Rattle.line_lanes.specs.Lines.{DiffersInLine}
+use Rattle.replica.specs.Copies.{AreSeen, CopiesOn, HoldsBoth, IsCopiedTo, beside_copy}
+use Rattle.replica.proofs.LineCopies.{on_same_line, on_stored_line}
+use Rattle.replica.proofs.copying.copy_piece.Goals.{then-differs-line+in_ok-store_line, else-differs-line}
+use Rattle.replica.proofs.copying.copy_piece.Goals as goal
+
+pub loop-line-init : goal.loop-line-init
+loop-line-init g c =
+    let now = c.in_ok-load_piece.ensures in
+    let none : c.args.from ≡ c.args.from + 0 = omega arith in
+    record {
+      both = now.both;
+      seen = λ i least below. now.seen i least (omega (arith, below));
+      copied = λ region first below copied. subst (λ n. IsCopiedTo n region first c.load_piece.new.seat.known) none (now.copied region first (omega (arith, below)) copied);
+      rest = now.rest;
+    }
+
+pub loop-line-preserved : goal.loop-line-preserved
+loop-line-preserved g c =
+    let t = c.args.shared.now in
+    let was = c.loop-line.invariant in
+    let from = c.args.from in
+    let line = c.loop-line.line in
+    let us = c.load_piece.new.held_words in
+    let vs = c.load_piece.new.source_words in
+    let n = length us in
+    let before = c.args.seat.now.known in
+    let known = c.loop-line.seat.known in
+    let in_line : 8 * line + 8 ≤ n = omega (arith, c.loop-line-test.true) in
+    elim c.if-differs-line.branch [
+      | then-differs-line+in_ok-store_line w ↦ (
+          let after = w.in_ok-store_line.ensures in
+          let now = w.seat-is in
+          let knows = ap (λ (s : Seated). s.known) now in
+          record {
+            both = subst (λ (s : Seated). HoldsBoth (g.O.Object.line_count t.object) t (g.O.Object.lawful t.object) s c.args.held.now c.args.source.now) (sym now) after.both;
+            seen = subst (λ (k : Known). AreSeen from (8 * (line + 1)) n us vs k) (sym knows) (λ i least below. after.seen i (omega (arith, least)) below);
+            copied = subst (λ (k : Known). CopiesOn from (from + 8 * (line + 1)) before k) (sym knows) (on_stored_line from line before known w.store_line.new.seat.known was.copied after.copied);
+            rest = ap beside_copy now ∙ after.rest ∙ was.rest;
+          })
+      | else-differs-line w ↦ (
+          let now = w.seat-is in
+          let knows = ap (λ (s : Seated). s.known) now in
+          let lines : n / 8 ≤ 8 = omega (arith, c.requires.few) in
+          let marked : line < length c.differing.new.out = subst (λ m. line < m) (sym (c.differing.auto.out ∙ length-take-le _ _ lines)) c.loop-line-test.true in
+          let none : ¬ DiffersInLine us vs line = λ d. false≢true (sym w.if-differs-line.false ∙ get_or_append_left c.differing.new.out _ false line marked ∙ (c.differing.ensures line marked).1 d) in
+          record {
+            both = subst (λ (s : Seated). HoldsBoth (g.O.Object.line_count t.object) t (g.O.Object.lawful t.object) s c.args.held.now c.args.source.now) (sym now) was.both;
+            seen = subst (λ (k : Known). AreSeen from (8 * (line + 1)) n us vs k) (sym knows) (λ i least below. was.seen i (omega (arith, least)) below);
+            copied = subst (λ (k : Known). CopiesOn from (from + 8 * (line + 1)) before k) (sym knows) (on_same_line us vs from line n before known in_line none was.seen was.copied);
+            rest = ap beside_copy now ∙ was.rest;
+          })
+    ]
+
+pub returns-clause-copied : goal.returns-clause-copied
+returns-clause-copied g c =
+    let end : c.args.from + 8 * c.loop-line.line ≡ c.args.from + length c.args.held_words.now = omega (arith, c.loop-line-test.false, c.loop-line.auto.line-end, c.requires.whole) in
+    subst (λ m. CopiesOn c.args.from m c.args.seat.now.known c.loop-line.seat.known) end c.loop-line.invariant.copied
