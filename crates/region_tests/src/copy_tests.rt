@@ -117,19 +117,35 @@ const LINE_LOADS: u64 = 16;
 
 // The words and the marks of the replica that is copied over, after so many steps.
 fn copy_plainly(from: &[u64], target: &mut Image, steps: u64) {
+    let lines = from.len() / 8;
+    let mut line = 0usize;
     let mut left = steps;
     for ((words, into), marks) in from
         .chunks(8)
         .zip(target.volatile.chunks_mut(8))
         .zip(target.dirty.chunks_mut(8))
     {
-        left = copy_line(words, into, marks, left);
+        left = left.saturating_sub(loads_before(line, lines));
+        left = store_line(words, into, marks, left);
+        line = line.saturating_add(1);
     }
 }
 
-// The loads of a line, and a store of each word that differs, so many steps. It gives the steps that are left then.
-fn copy_line(words: &[u64], into: &mut [u64], marks: &mut [bool], steps: u64) -> u64 {
-    let mut left = steps.saturating_sub(LINE_LOADS);
+// The loads between the stores of the line before a line and its own. The first line, and behind it each eight lines or as many as are
+// left, are loaded before a word of them is stored.
+fn loads_before(line: usize, lines: usize) -> u64 {
+    if line == 0 {
+        return LINE_LOADS;
+    }
+    if line % 8 != 1 {
+        return 0;
+    }
+    LINE_LOADS.saturating_mul(lines.saturating_sub(line).min(8) as u64)
+}
+
+// A store of each word of a line that differs, at most so many steps. It gives the steps that are left then.
+fn store_line(words: &[u64], into: &mut [u64], marks: &mut [bool], steps: u64) -> u64 {
+    let mut left = steps;
     for ((word, into), mark) in words.iter().zip(into.iter_mut()).zip(marks.iter_mut()) {
         if *word != *into && left > 0 {
             left -= 1;
