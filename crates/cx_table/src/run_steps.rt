@@ -26,6 +26,7 @@ impl<O: Object> Shared<O> {
         requires behind { 0 < from }
         ensures made { IsTrue result → Runs self.now O.step O.only_reads (O.lawful self.now.object) (loads_from r from) into.new seat.old seat.new }
         ensures none { result ≡ false → seat.new ≡ seat.old }
+        ensures short { result ≡ false → seat.old.known.local.limit < seat.old.known.local.steps + length into.old }
         ensures length { length into.new ≡ length into.old }
         ensures seat { IsSeatOf self.now seat.new }
     {
@@ -67,6 +68,7 @@ impl<O: Object> Shared<O> {
         requires guard { (i : ℕ) → i < 145 → Guard (instance_at self.now O.step O.only_reads) unseen (ReadCell t k i) seat.old.known.local }
         ensures made { IsTrue result → Runs self.now O.step O.only_reads (O.lawful self.now.object) (reads_of t k) into.new seat.old seat.new }
         ensures none { result ≡ false → seat.new ≡ seat.old }
+        ensures short { result ≡ false → seat.old.known.local.limit < seat.old.known.local.steps + 145 }
         ensures seat { IsSeatOf self.now seat.new }
     {
         let _ = &self.table;

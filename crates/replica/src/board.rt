@@ -44,6 +44,7 @@ pub trait Board {
         requires behind { 0 < from }
         ensures made { IsTrue result → LoadsRun (LoadsHeld (line_count self.now) (running self.now) (lawful self.now) held.now) from into.new seat.old seat.new }
         ensures none { result ≡ false → seat.new ≡ seat.old }
+        ensures short { result ≡ false → seat.old.known.local.limit < seat.old.known.local.steps + length into.old }
         ensures length { length into.new ≡ length into.old };
 
     /// Stores a word of the replica held exclusively. `Halt` comes exactly where the seat's steps equal its limit.
@@ -80,6 +81,7 @@ pub trait Board {
         requires behind { 0 < from }
         ensures made { IsTrue result → LoadsRun (LoadsShared (line_count self.now) (running self.now) (lawful self.now) held.now) from into.new seat.old seat.new }
         ensures none { result ≡ false → seat.new ≡ seat.old }
+        ensures short { result ≡ false → seat.old.known.local.limit < seat.old.known.local.steps + length into.old }
         ensures length { length into.new ≡ length into.old };
 }
 

@@ -135,6 +135,7 @@ impl Mirror {
         ensures within { IsTrue result → self.old.steps + count ≤ self.old.limit }
         ensures small { IsTrue result → self.old.steps + count < 2 ^ 64 }
         ensures none { result ≡ false → self.new ≡ self.old }
+        ensures short { result ≡ false → self.old.limit < self.old.steps + count }
     {
         if self.steps > self.limit || count > self.limit - self.steps {
             return false;
