@@ -6,7 +6,7 @@
 Build the programs first: cd crates/service_bench && rt run
                           cd bench/peers && cargo build --release --offline
 
-`--doc docs/PERFORMANCE.md` writes the page there, and the plot into `pictures` beside it; else the page is printed. All takes some 5 minutes.
+`--doc docs/PERFORMANCE.md` writes the page there, and the plot into `pictures` beside it; else the page is printed. All takes some 3 minutes.
 
 In each round the service and each peer run in turn, so that what else the machine does is met by all alike; who begins changes from
 round to round. A figure is the median over rounds of the ratio within a round. Throughput is calls by wall time in the callers'
