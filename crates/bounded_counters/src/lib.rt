@@ -3,8 +3,6 @@
 
 mod counters;
 mod operations;
-#[cfg(test)]
-mod tests;
 
 pub use counters::Counters;
 pub use operations::{Op, Reply, add_words, operations_are_read, read_words};

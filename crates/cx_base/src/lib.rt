@@ -7,15 +7,11 @@ mod codes;
 mod lists;
 mod memory;
 mod memory_ends;
-#[cfg(test)]
-mod noted;
 mod object;
 mod outside;
 mod packing;
 mod steps;
 pub mod tally;
-#[cfg(test)]
-mod tests;
 mod vec_ends;
 
 pub use accesses::{load_below, store_word, store_words};

@@ -2,9 +2,5 @@
 #![tactic(auto)]
 
 mod kernels;
-#[cfg(test)]
-mod plain;
-#[cfg(test)]
-mod tests;
 
 pub use kernels::{add_touched, differing, touched};

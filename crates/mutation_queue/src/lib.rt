@@ -8,12 +8,6 @@ mod collecting;
 mod linking;
 mod protecting;
 mod reading;
-#[cfg(test)]
-mod reading_tests;
-#[cfg(test)]
-mod ring_tests;
-#[cfg(test)]
-mod tests;
 
 pub use announcing::announce;
 pub use cells::idle_cell;

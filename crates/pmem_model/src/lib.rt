@@ -2,7 +2,5 @@
 #![tactic(auto)]
 
 mod medium;
-#[cfg(test)]
-mod tests;
 
 pub use medium::{Mark, Medium, Word};

@@ -4,17 +4,11 @@
 
 mod board;
 mod copying;
-#[cfg(test)]
-mod copying_tests;
 mod flushing;
 mod outcomes;
-#[cfg(test)]
-mod publish_tests;
 mod read_region;
 mod region;
 mod replay;
-#[cfg(test)]
-mod tests;
 
 pub use board::Board;
 pub use copying::{copy_from, renew_from};

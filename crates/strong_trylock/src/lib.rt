@@ -3,8 +3,6 @@
 #![tactic(auto)]
 
 mod releasing;
-#[cfg(test)]
-mod tests;
 mod trying;
 
 pub use releasing::{downgrade, release, release_downgraded, release_shared};

@@ -1,4 +1,0 @@
-use Rattle.index_tests.proofs.index.two_keys_over_a_vector.Given as goal
-
-abbrev pub ghosts-over_a_vector : goal.ghosts-over_a_vector
-ghosts-over_a_vector g a = record { name = a.blank.name; parts = a.blank.parts }

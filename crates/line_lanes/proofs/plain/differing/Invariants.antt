@@ -1,5 +1,0 @@
-use Rattle.line_lanes.specs.Lines.{DiffersInLine, MarksBelow}
-use Rattle.line_lanes.proofs.plain.differing.Given as goal
-
-abbrev pub invariant-loop-line : goal.invariant-loop-line
-invariant-loop-line l = MarksBelow (DiffersInLine l.a l.b) l.out l.line

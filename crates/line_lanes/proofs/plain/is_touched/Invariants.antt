@@ -1,5 +1,0 @@
-use Rattle.std.proofs.Common.{◌≡◌, ◌/◌, ◌<◌, ℕ, get_or}
-use Rattle.line_lanes.proofs.plain.is_touched.Given as goal
-
-abbrev pub invariant-loop-address : goal.invariant-loop-address
-invariant-loop-address l = (k : ℕ) → k < l.address-index → get_or l.addresses k 0 / 8 ≡ l.line → ⊥

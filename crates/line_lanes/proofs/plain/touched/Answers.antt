@@ -1,7 +1,0 @@
-use Rattle.std.proofs.Common.{arith}
-use Rattle.line_lanes.specs.Lines.{TouchesLine}
-use Rattle.line_lanes.proofs.LineMarks.{marks_more}
-use Rattle.line_lanes.proofs.plain.touched.Goals as goal
-
-pub loop-line-preserved : goal.loop-line-preserved
-loop-line-preserved c = marks_more (TouchesLine c.args.addresses.now) c.loop-line.out c.loop-line.line c.is_touched.result (omega arith) c.loop-line.invariant c.is_touched.ensures

@@ -1,5 +1,0 @@
-use Rattle.line_lanes.specs.Lines.{MarksBelow, TouchesLine}
-use Rattle.line_lanes.proofs.plain.touched.Given as goal
-
-abbrev pub invariant-loop-line : goal.invariant-loop-line
-invariant-loop-line l = MarksBelow (TouchesLine l.addresses) l.out l.line

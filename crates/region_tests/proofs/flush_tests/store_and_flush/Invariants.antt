@@ -1,6 +1,0 @@
-use Rattle.cx_base.specs.Tally.{IsTally}
-use Rattle.replica.specs.Held.{IsHeld}
-use Rattle.region_tests.proofs.flush_tests.store_and_flush.Given as goal
-
-abbrev pub invariant-loop-at : goal.invariant-loop-at
-invariant-loop-at l = IsHeld 64 l.shared IsTally l.seat l.held

@@ -1,6 +1,0 @@
-use Rattle.cx_base.specs.Tally.{IsTally}
-use Rattle.replica.specs.Copies.{HoldsBoth}
-use Rattle.replica.proofs.copying_tests.copy_over.Given as goal
-
-abbrev pub invariant-loop-at : goal.invariant-loop-at
-invariant-loop-at l = HoldsBoth 64 l.shared IsTally l.seat l.held l.source

@@ -1,0 +1,60 @@
+-- The rights of a seat whose caller works on the replica that it holds.
+use Rattle.std.proofs.Common.{◌≡◌, ◌≤◌, ℕ, Bool, List, refl, ap, sym, subst, ◌∙◌, Option, Some, None}
+use Rattle.std.specs.Option.{option_map}
+use Rattle.cx_core.specs.declared.local.HeldExclusive.{HeldExclusive}
+use Rattle.cx_core.specs.declared.local.HeldShared.{HeldShared}
+use Rattle.cx_core.specs.Region.{region_words}
+use Rattle.cx_core.specs.Rights.{shared_on}
+use Rattle.cx_rule.specs.Fitting.{Fitting}
+use Rattle.cx_rule.specs.Running.{IsRunning, Running}
+use Rattle.cx_rule.specs.Seats.{Seated}
+use Rattle.cx_table.specs.Right.{Right}
+use Rattle.cx_turns.specs.Replaying.{beside_work, but_loads}
+use Rattle.replica.specs.Held.{beside_held, but_loaded, but_words}
+use Rattle.replica.specs.Laws.{taken_held}
+use Rattle.strong_trylock.specs.declared.trying.ExclusiveTried.{ExclusiveTried}
+use Rattle.strong_trylock.specs.declared.trying.ExclusiveTried.TheVariants.{Got}
+use Rattle.strong_trylock.specs.Held.{AllRights, all_rights, no_rights}
+use Rattle.strong_trylock.specs.Tries.{AnswersExclusive, TriesExclusive}
+use Rattle.table_tests.specs.Turns.{TakesIt}
+
+words_kept : (o : Option HeldExclusive) → option_map (λ (h : HeldExclusive). h.replica) (option_map but_words o) ≡ option_map (λ (h : HeldExclusive). h.replica) o
+words_kept None = refl
+words_kept (Some h) = refl
+
+loads_kept : (o : Option HeldShared) → option_map (λ (h : HeldShared). h.replica) (option_map but_loads o) ≡ option_map (λ (h : HeldShared). h.replica) o
+loads_kept None = refl
+loads_kept (Some h) = refl
+
+loaded_kept : (r : ℕ) (o : Option HeldShared) → option_map (λ (h : HeldShared). h.replica) (option_map (but_loaded r) o) ≡ option_map (λ (h : HeldShared). h.replica) o
+loaded_kept r None = refl
+loaded_kept r (Some h) = refl
+
+beside_rights : (s : Seated) → all_rights (beside_work s) ≡ all_rights s
+beside_rights s =
+    ap (λ o. (let x : AllRights = record (all_rights s) { exclusive = o; shared = shared_on (beside_work s).known.local } in x)) (words_kept s.known.local.exclusive)
+    ∙ ap (λ o. (let x : AllRights = record (all_rights s) { shared = o } in x)) (loads_kept s.known.local.shared)
+
+held_rights : (r : ℕ) (s : Seated) → all_rights (beside_held r s) ≡ all_rights s
+held_rights r s =
+    ap (λ o. (let x : AllRights = record (all_rights s) { exclusive = o; shared = shared_on (beside_held r s).known.local } in x)) (words_kept s.known.local.exclusive)
+    ∙ ap (λ o. (let x : AllRights = record (all_rights s) { shared = o } in x)) (loaded_kept r s.known.local.shared)
+
+pub work_rights : (before after : Seated) → beside_work after ≡ beside_work before → all_rights after ≡ all_rights before
+work_rights before after same = sym (beside_rights after) ∙ ap all_rights same ∙ beside_rights before
+
+pub access_rights : (r : ℕ) (before after : Seated) → beside_held r after ≡ beside_held r before → all_rights after ≡ all_rights before
+access_rights r before after same = sym (held_rights r after) ∙ ap all_rights same ∙ held_rights r before
+
+pub took_it : {O : Type 0} (line_count : O → ℕ) (lawful : O → List ℕ → Type 0) (r : Running O) (step : O → List ℕ → List ℕ → List ℕ × List ℕ) (reads : O → List ℕ → Bool) (q : ℕ) (before after : Seated) (tried : ExclusiveTried) (held : Right) →
+    IsRunning line_count lawful r → all_rights before ≡ no_rights → TriesExclusive r step reads q before after tried → tried ≡ Got held → Fitting r.lines (lawful r.object) r.base after.known → TakesIt (line_count r.object) r (lawful r.object) after held
+took_it line_count lawful r step reads q before after tried held running free tries is fits =
+    let a = subst (AnswersExclusive r.callers q tries.found before after) is tries.answer in
+    record {
+      taken = taken_held (line_count r.object) r step reads (lawful r.object) q tries.found before after held (record {
+        lines_are = running.lines;
+        small = subst (λ n. n ≤ 16384) running.lines running.small;
+        region = running.base.size.long ∙ ap region_words running.lines;
+      }) tries.made (a.0, a.1, a.2) fits;
+      rights = a.3 ∙ ap (λ (x : AllRights). (let y : AllRights = record x { exclusive = Some q } in y)) free ∙ ap (λ k. (let y : AllRights = record no_rights { exclusive = Some k } in y)) (sym a.1);
+    }

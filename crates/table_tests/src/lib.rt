@@ -1,0 +1,37 @@
+//! Tests of the running table: steps, try-locks, the queue, replicas and turns. It has tests alone.
+#![tactic(auto)]
+
+#[cfg(test)]
+mod commands;
+#[cfg(test)]
+mod copy_tests;
+#[cfg(test)]
+mod copying;
+#[cfg(test)]
+mod flush_tests;
+#[cfg(test)]
+mod limit_tests;
+#[cfg(test)]
+mod linking;
+#[cfg(test)]
+mod marking;
+#[cfg(test)]
+mod publishing;
+#[cfg(test)]
+mod reading;
+#[cfg(test)]
+mod region_tests;
+#[cfg(test)]
+mod replaying;
+#[cfg(test)]
+mod ring;
+#[cfg(test)]
+mod steps;
+#[cfg(test)]
+mod tables;
+#[cfg(test)]
+mod thread_tests;
+#[cfg(test)]
+mod trylocks;
+#[cfg(test)]
+mod turns;

@@ -1,0 +1,187 @@
+//! A caller takes replicas, one after another, brings each up to a ticket, and gives it up again.
+
+ghost use Rattle.std.specs.Prelude.{◌≡◌, ◌*◌, ◌<◌, IfOk, IfSome, OnOk, Some, None, Ok};
+ghost use Rattle.cx_rule.specs.Running.{IsSeatOf};
+ghost use Rattle.replica.specs.Held.{IsHeld};
+ghost use Rattle.replica.specs.Laws.{IsTaken};
+ghost use Rattle.replica.specs.Replays.{IsImage};
+ghost use Rattle.table_tests.specs.Turns.{IsFlushedImage, TakesIt};
+ghost use Rattle.strong_trylock.specs.Held.{all_rights, no_rights};
+
+use cx_base::{Halt, Object};
+use cx_core::Protection;
+use cx_table::{CallerSeat, Downgraded, Exclusive, Shared};
+use cx_turns::replay_to;
+use mutation_queue::{Protected, protect, unprotect};
+use replica::{begin, flush};
+use strong_trylock::{ExclusiveTried, downgrade, release_downgraded, try_exclusive};
+
+/// What the turns of a caller came to: how many replicas it took, how many others held, how many entries it replayed, and
+/// whether each place was that of the image up to the ticket.
+#[derive(Clone, Copy, Debug, PartialEq, Eq, Drop)]
+pub(crate) struct Turns {
+    pub(crate) taken: u64,
+    pub(crate) refused: u64,
+    pub(crate) replayed: u64,
+    pub(crate) right: bool,
+}
+
+/// Tries a replica exclusively.
+pub(crate) fn try_one<O: Object>(
+    shared: &Shared<O>,
+    seat: &mut CallerSeat,
+    r: u32,
+) -> Result<Option<Exclusive>, Halt>
+    requires seat { IsSeatOf shared.now seat.old }
+    requires free { all_rights seat.old ≡ no_rights }
+    requires few { r < 2 * shared.now.callers }
+    ensures taken { IfOk result (λ o. IfSome o (λ held. TakesIt (O.line_count shared.now.object) shared.now (O.lawful shared.now.object) seat.new held)) }
+    ensures of { IfOk result (λ o. IfSome o (λ held. held.replica ≡ r)) }
+    ensures refused { result ≡ Ok None → all_rights seat.new ≡ no_rights }
+    ensures seat { IsSeatOf shared.now seat.new }
+{
+    // a running table is within its limits
+    let _lines = shared.lines();
+    match try_exclusive(shared, seat, r)? {
+        ExclusiveTried::Got(held) => Ok(Some(held)),
+        ExclusiveTried::Held { found: _ } => Ok(None),
+    }
+}
+
+/// Brings a replica held exclusively up to a ticket: where its place is at most the ticket, the entries are read under a protection,
+/// which is given up again. Nobody collects cells here, so that no caller is behind, and none has a protection before: one that is, or
+/// has, stops as if it was halted.
+pub(crate) fn replay_protected<O: Object>(
+    shared: &Shared<O>,
+    seat: &mut CallerSeat,
+    held: &Exclusive,
+    ticket: u64,
+) -> Result<(), Halt>
+    requires held { IsHeld (O.line_count shared.now.object) shared.now (O.lawful shared.now.object) seat.old held.now }
+    requires image { IsImage (O.line_count shared.now.object) (O.lawful shared.now.object) shared.now.base (O.step shared.now.object) seat.old.known }
+    requires linked { ticket < seat.old.known.local.front }
+    ensures held { OnOk result (IsHeld (O.line_count shared.now.object) shared.now (O.lawful shared.now.object) seat.new held.now) }
+    ensures image { OnOk result (IsImage (O.line_count shared.now.object) (O.lawful shared.now.object) shared.now.base (O.step shared.now.object) seat.new.known) }
+    ensures rights { OnOk result (all_rights seat.new ≡ all_rights seat.old) }
+    ensures single { OnOk result (seat.new.known.local.downgraded ≡ seat.old.known.local.downgraded) }
+    ensures seat { IsSeatOf shared.now seat.new }
+{
+    // tickets are few
+    let _front = seat.front();
+    let place = seat.noted_place();
+    if place > ticket {
+        return Ok(());
+    }
+    let Protection::Unprotected = seat.protection() else {
+        return Err(Halt);
+    };
+    let Protected::Kept = protect(shared, seat, place)? else {
+        return Err(Halt);
+    };
+    replay_to(shared, seat, held, ticket)?;
+    unprotect(shared, seat)?;
+    Ok(())
+}
+
+/// The places of a replica before a turn and after it.
+pub(crate) type Places = (u64, u64);
+
+// Brings a replica that was just taken up to a ticket, and makes it durable. A caller that does not know that the ticket is linked
+// stops as if it was halted.
+fn bring_up<O: Object>(
+    shared: &Shared<O>,
+    seat: &mut CallerSeat,
+    held: &Exclusive,
+    ticket: u64,
+) -> Result<Places, Halt>
+    requires taken { IsTaken (O.line_count shared.now.object) shared.now (O.lawful shared.now.object) seat.old held.now }
+    ensures up { OnOk result (IsFlushedImage (O.line_count shared.now.object) shared.now (O.lawful shared.now.object) (O.step shared.now.object) seat.new held.now) }
+    ensures rights { OnOk result (all_rights seat.new ≡ all_rights seat.old) }
+    ensures seat { IsSeatOf shared.now seat.new }
+{
+    let before = begin(shared, seat, held)?;
+    if ticket >= seat.front() {
+        return Err(Halt);
+    }
+    replay_protected(shared, seat, held, ticket)?;
+    let after = seat.noted_place();
+    flush(shared, seat, held)?;
+    Ok((before, after))
+}
+
+// Brings a replica that was just taken up to a ticket, and gives it up.
+fn renew<O: Object>(
+    shared: &Shared<O>,
+    seat: &mut CallerSeat,
+    held: Exclusive,
+    ticket: u64,
+) -> Result<Places, Halt>
+    requires taken { IsTaken (O.line_count shared.now.object) shared.now (O.lawful shared.now.object) seat.old held }
+    requires free { all_rights seat.old ≡ record no_rights { exclusive = Some held.replica } }
+    ensures free { OnOk result (all_rights seat.new ≡ no_rights) }
+    ensures seat { IsSeatOf shared.now seat.new }
+{
+    let places = bring_up(shared, seat, &held, ticket)?;
+    let token = downgrade(shared, seat, held)?;
+    release_downgraded(shared, seat, token)?;
+    Ok(places)
+}
+
+/// Takes a replica, where nobody holds it, brings it up to a ticket, and gives it up.
+pub(crate) fn turn<O: Object>(
+    shared: &Shared<O>,
+    seat: &mut CallerSeat,
+    r: u32,
+    ticket: u64,
+) -> Result<Option<Places>, Halt>
+    requires seat { IsSeatOf shared.now seat.old }
+    requires free { all_rights seat.old ≡ no_rights }
+    requires few { r < 2 * shared.now.callers }
+    ensures free { OnOk result (all_rights seat.new ≡ no_rights) }
+    ensures seat { IsSeatOf shared.now seat.new }
+{
+    match try_one(shared, seat, r)? {
+        Some(held) => Ok(Some(renew(shared, seat, held, ticket)?)),
+        None => Ok(None),
+    }
+}
+
+/// Makes so many turns, on each replica in turn from the caller's first on.
+pub(crate) fn make_turns<O: Object>(
+    shared: &Shared<O>,
+    seat: &mut CallerSeat,
+    ticket: u64,
+    count: u64,
+) -> Result<Turns, Halt>
+    requires seat { IsSeatOf shared.now seat.old }
+    requires free { all_rights seat.old ≡ no_rights }
+    ensures seat { IsSeatOf shared.now seat.new }
+{
+    let replicas = 2 * shared.callers();
+    let first = 2 * seat.number();
+    let mut done = Turns {
+        taken: 0,
+        refused: 0,
+        replayed: 0,
+        right: true,
+    };
+    for k in 0..count {
+        let r = (u64::from(first) + k % u64::from(replicas)) % u64::from(replicas);
+        let places = turn(shared, seat, r as u32, ticket)?;
+        done = noted(done, places, ticket);
+    }
+    Ok(done)
+}
+
+// The turns with one more. Its place is the one above the ticket, or where it was above that before, the same.
+fn noted(mut done: Turns, places: Option<Places>, ticket: u64) -> Turns {
+    match places {
+        None => done.refused = done.refused.saturating_add(1),
+        Some((before, after)) => {
+            done.taken = done.taken.saturating_add(1);
+            done.replayed = done.replayed.saturating_add(after.saturating_sub(before));
+            done.right = done.right && after == before.max(ticket.saturating_add(1));
+        }
+    }
+    done
+}

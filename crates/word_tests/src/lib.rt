@@ -1,0 +1,41 @@
+//! Tests of memories of words, lines, media, objects, the index and the document store. It has tests alone.
+#![tactic(auto)]
+
+#[cfg(test)]
+mod access;
+#[cfg(test)]
+mod base;
+#[cfg(test)]
+mod counters;
+#[cfg(test)]
+mod counting;
+#[cfg(test)]
+mod held;
+#[cfg(test)]
+mod hostile;
+#[cfg(test)]
+mod index;
+#[cfg(test)]
+mod lanes;
+#[cfg(test)]
+mod links;
+#[cfg(test)]
+mod meanings;
+#[cfg(test)]
+mod medium;
+#[cfg(test)]
+mod mixed;
+#[cfg(test)]
+mod noted;
+#[cfg(test)]
+mod op_words;
+#[cfg(test)]
+mod order;
+#[cfg(test)]
+mod plain;
+#[cfg(test)]
+mod rows;
+#[cfg(test)]
+mod shapes;
+#[cfg(test)]
+mod single_stores;
