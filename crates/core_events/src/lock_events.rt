@@ -1,130 +1,22 @@
 //! The steps on lock words: a replica is tried, exclusively or shared, given up, downgraded or backed off from.
 
-ghost use Rattle.std.specs.Prelude.{◌≡◌, ◌+◌, ◌-◌, ◌*◌, ◌%◌, ◌^◌, ◌<◌, ◌≤◌, ◌↔◌, ◌⊎◌, ◌∷◌, ◌++◌, [], ℕ, min, length, take, drop, nat_lt, IsNone, IsTrue, IfOk, OnErr, OnOk, slice_index, slice_set, if◌then◌else◌, ◌==◌};
+ghost use Rattle.std.specs.Prelude.{◌≡◌, ◌+◌, ◌-◌, ◌*◌, ◌<◌, ◌≤◌, ◌↔◌, length, take, IsTrue, IfOk, OnErr, OnOk};
 ghost use Rattle.cx_core.specs.declared.kinds.Kind.TheVariants.{TryExclusive, TryShared, BackOff, Downgrade, ReleaseExclusive};
 ghost use Rattle.cx_core.specs.Events.{Did};
 ghost use Rattle.cx_core.specs.History.{IsFull};
 ghost use Rattle.cx_core.specs.Layout.{lock_at, replica_words, replicas_at, word_count};
-ghost use Rattle.cx_core.specs.LockEvents.{CanBackOff, CanTryExclusive, CanTryShared, IsClean, backed_off, downgraded_to, exclusive_mark, has_all, is_fresh_on, is_in, passing, refused_by, shared_by, taken, with_number};
-ghost use Rattle.cx_core.specs.Region.{place_of};
-ghost use Rattle.cx_core.specs.Rights.{downgraded_on, exclusive_on, held_dirty, held_words, is_at, is_on, rights, rights_on, shared_on, won_on};
+ghost use Rattle.cx_core.specs.LockEvents.{backed_off, downgraded_to, has_all, is_fresh_on, passing, refused_by, shared_by, taken, with_number};
+ghost use Rattle.cx_core.specs.Rights.{held_words, is_at, shared_on};
 ghost use Rattle.cx_core.specs.State.{EachScene};
 
-use cx_base::{Items, root_replica};
-use cx_core::layout::{EXCLUSIVE_MARK, lock_at, replica_count, vol_at};
+use core_guards::locks::{
+    can_back_off, can_try_exclusive, can_try_shared, has_all, held_place, is_at, is_clean, is_free,
+    is_fresh_on, shared_on,
+};
+use cx_base::Items;
+use cx_core::layout::{EXCLUSIVE_MARK, lock_at, vol_at};
 use cx_core::{Base, HeldDowngraded, HeldExclusive, HeldShared, Local, OBJECT_START, SeenLock};
 use std::alloc::{AllocError, Global};
-
-/// The replica that a caller holds exclusively.
-pub(crate) fn exclusive_on(local: &Local) -> Option<u64>
-    ensures { result ≡ exclusive_on local.now }
-{
-    match &local.exclusive {
-        None => None,
-        Some(held) => Some(held.replica),
-    }
-}
-
-/// The replica that a caller holds shared.
-pub(crate) fn shared_on(local: &Local) -> Option<u64>
-    ensures { result ≡ shared_on local.now }
-{
-    match &local.shared {
-        None => None,
-        Some(held) => Some(held.replica),
-    }
-}
-
-/// The replica that a caller has downgraded.
-fn downgraded_on(local: &Local) -> Option<u64>
-    ensures { result ≡ downgraded_on local.now }
-{
-    match &local.downgraded {
-        None => None,
-        Some(held) => Some(held.replica),
-    }
-}
-
-/// The replica that an unretired win pins: that of the code before it.
-fn won_on(callers: u32, local: &Local) -> Option<u64>
-    requires some { 1 ≤ callers }
-    requires few { callers ≤ 8 }
-    ensures { result ≡ won_on callers local.now }
-{
-    match &local.won {
-        None => None,
-        Some(won) => Some(u64::from(root_replica(callers, won.before))),
-    }
-}
-
-/// Whether a right is on this replica.
-pub(crate) fn is_at(r: u64, right: Option<u64>) -> bool
-    ensures { result ≡ is_at r right }
-{
-    match right {
-        None => false,
-        Some(q) => q == r,
-    }
-}
-
-/// The number of a caller's rights.
-fn rights(callers: u32, local: &Local) -> u64
-    requires some { 1 ≤ callers }
-    requires few { callers ≤ 8 }
-    ensures { result ≡ rights callers local.now }
-{
-    u64::from(local.exclusive.is_some())
-        + u64::from(local.shared.is_some())
-        + u64::from(local.passer.is_some())
-        + u64::from(local.downgraded.is_some())
-        + u64::from(local.won.is_some())
-}
-
-/// Whether a caller has no right on a replica.
-fn has_none_on(callers: u32, r: u64, local: &Local) -> bool
-    requires some { 1 ≤ callers }
-    requires few { callers ≤ 8 }
-    ensures { IsTrue result ↔ (rights_on callers r local.now ≡ 0) }
-{
-    !(is_at(r, exclusive_on(local))
-        || is_at(r, shared_on(local))
-        || is_at(r, local.passer)
-        || is_at(r, downgraded_on(local))
-        || is_at(r, won_on(callers, local)))
-}
-
-/// Whether a caller may try to take a replica exclusively.
-fn can_try_exclusive(callers: u32, local: &Local, r: u64) -> bool
-    requires some { 1 ≤ callers }
-    requires few { callers ≤ 8 }
-    ensures { IsTrue result ↔ CanTryExclusive callers r local.now }
-{
-    r < replica_count(callers)
-        && local.exclusive.is_none()
-        && rights(callers, local) <= 1
-        && has_none_on(callers, r, local)
-}
-
-/// Whether a caller may try to take a replica shared.
-fn can_try_shared(callers: u32, local: &Local, r: u64) -> bool
-    requires some { 1 ≤ callers }
-    requires few { callers ≤ 8 }
-    ensures { IsTrue result ↔ CanTryShared callers r local.now }
-{
-    r < replica_count(callers)
-        && local.shared.is_none()
-        && local.passer.is_none()
-        && rights(callers, local) <= 1
-        && has_none_on(callers, r, local)
-}
-
-/// Whether a caller may back off from a replica.
-fn can_back_off(callers: u32, local: &Local, r: u64) -> bool
-    ensures { IsTrue result ↔ CanBackOff callers r local.now }
-{
-    r < replica_count(callers)
-        && (is_at(r, shared_on(local)) || is_at(r, local.passer) || is_at(r, downgraded_on(local)))
-}
 
 /// Adds a number to a list, unless it is in it. `Err` is want of memory, and leaves the list as it was.
 pub(crate) fn push_once(numbers: &mut Items<u64>, n: u64) -> Result<(), AllocError>
@@ -135,20 +27,6 @@ pub(crate) fn push_once(numbers: &mut Items<u64>, n: u64) -> Result<(), AllocErr
         return Ok(());
     }
     numbers.push(n)
-}
-
-/// Whether all replicas are in a list.
-fn has_all(callers: u32, replicas: &[u64]) -> bool
-    ensures { result ≡ has_all callers replicas.now }
-{
-    (0..replica_count(callers)).all(|r| replicas.contains(&r))
-}
-
-/// Whether nobody has a right on a replica with this lock word, and nothing pins it.
-fn is_free(word: u64) -> bool
-    ensures { IsTrue result ↔ (word ≡ 0) }
-{
-    word == 0
 }
 
 /// Tries to take a replica exclusively: a compare-exchange of its lock word from 0. `Err` is want of memory, and
@@ -299,15 +177,6 @@ fn pass(callers: u32, local: &mut Local, r: u64, found: u64)
     local.steps = local.steps.saturating_add(1);
 }
 
-/// Whether the code last loaded from CUR names this replica, and nothing ended its use.
-pub(crate) fn is_fresh_on(callers: u32, r: u64, local: &Local) -> bool
-    requires some { 1 ≤ callers }
-    requires few { callers ≤ 8 }
-    ensures { result ≡ is_fresh_on callers r local.now }
-{
-    u64::from(root_replica(callers, local.seen_cur)) == r && local.fresh
-}
-
 /// Takes back what the caller added to a lock word by a shared try or a downgrade.
 pub(crate) fn back_off(callers: u32, words: &mut [u64], local: &mut Local, r: u64) -> bool
     requires some { 1 ≤ callers }
@@ -336,26 +205,6 @@ fn leave(local: &mut Local, r: u64)
         local.downgraded = None;
     }
     local.steps = local.steps.saturating_add(1);
-}
-
-/// Whether a caller holds a replica exclusively with no word dirty and nothing downgraded.
-fn is_clean(callers: u32, local: &Local, r: u64) -> bool
-    ensures { IsTrue result ↔ IsClean callers r local.now }
-{
-    r < replica_count(callers)
-        && is_at(r, exclusive_on(local))
-        && local.downgraded.is_none()
-        && has_no_dirty(local)
-}
-
-/// Whether no word of the replica held exclusively is dirty.
-fn has_no_dirty(local: &Local) -> bool
-    ensures { IsTrue result ↔ (held_dirty local.now.exclusive ≡ []) }
-{
-    match &local.exclusive {
-        None => true,
-        Some(held) => held.dirty.is_empty(),
-    }
 }
 
 /// Turns an exclusive right into a downgraded one. `full` is whether the words held are the full image after their place.
@@ -390,16 +239,6 @@ fn keep_place(local: &mut Local, r: u64)
     });
     local.exclusive = None;
     local.steps = local.steps.saturating_add(1);
-}
-
-/// The place word of the replica held exclusively.
-pub(crate) fn held_place(local: &Local) -> u64
-    ensures { result ≡ place_of (held_words local.now.exclusive) }
-{
-    match &local.exclusive {
-        None => 0,
-        Some(held) => held.words.as_slice().first().copied().unwrap_or(0),
-    }
 }
 
 /// Gives an exclusive right up. `full` is whether the words held are the full image after their place.

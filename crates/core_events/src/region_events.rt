@@ -1,71 +1,19 @@
 //! The steps on the words of replicas: words are loaded, stored and persisted.
 
-ghost use Rattle.std.specs.Prelude.{◌≡◌, ◌≢◌, ◌+◌, ◌*◌, ◌%◌, ◌^◌, ◌<◌, ◌≤◌, ◌↔◌, ◌⊎◌, ◌∷◌, ◌++◌, [], ℕ, min, length, filter, IsTrue, IfOk, OnErr, OnOk, slice_index, slice_set, if◌then◌else◌, ◌==◌, true, false};
-ghost use Rattle.std.specs.List.{Contains};
-ghost use Rattle.std.specs.Option.{option_map};
+ghost use Rattle.std.specs.Prelude.{◌≡◌, ◌*◌, ◌<◌, ◌≤◌, length, IfOk, OnErr, OnOk, ◌==◌, true, false};
 ghost use Rattle.cx_core.specs.declared.kinds.Kind.TheVariants.{LoadWord, StoreWord, Persist};
 ghost use Rattle.cx_core.specs.Events.{Did};
 ghost use Rattle.cx_core.specs.Layout.{word_count};
-ghost use Rattle.cx_core.specs.RegionEvents.{CanLoad, CanLoadAs, CanPersist, CanStore, ShowsOutdated, loaded_by, loaded_into, persisted, stored_into};
-ghost use Rattle.cx_core.specs.Rights.{exclusive_on, held_dirty, held_words, shared_on};
-ghost use Rattle.cx_core.specs.State.{EachScene, one_more};
+ghost use Rattle.cx_core.specs.RegionEvents.{loaded_by, loaded_into, persisted, stored_into};
+ghost use Rattle.cx_core.specs.State.{EachScene};
 
-use crate::lock_events::{exclusive_on, is_at, is_fresh_on, push_once, shared_on};
-use cx_base::{Items, root_place};
-use cx_core::layout::{per_at, replica_count, vol_at};
+use crate::lock_events::push_once;
+use core_guards::regions::{can_load_as, can_persist, can_store, held_word, region_len};
+use cx_base::Items;
+use cx_core::layout::{per_at, vol_at};
 use cx_core::{Base, HeldExclusive, HeldShared, Local};
 use std::alloc::{AllocError, Global};
 use std::mem;
-
-/// The number of words of a region.
-fn region_len(base: &Base) -> u64
-    ensures { result ≡ length base.now.words }
-{
-    base.words.as_slice().len() as u64
-}
-
-/// Whether a caller may load a word of a replica.
-fn can_load(callers: u32, base: &Base, local: &Local, r: u64, i: u64) -> bool
-    ensures { IsTrue result ↔ CanLoad callers (length base.now.words) r i local.now }
-{
-    r < replica_count(callers)
-        && i < region_len(base)
-        && (is_at(r, exclusive_on(local)) || is_at(r, shared_on(local)))
-}
-
-/// Whether the word of a replica, which a caller may load, shows that the replica is outdated.
-fn shows_outdated(callers: u32, base: &Base, words: &[u64], local: &Local, r: u64, i: u64) -> bool
-    requires some { 1 ≤ callers }
-    requires few { callers ≤ 8 }
-    requires long { length words.now ≡ word_count callers (length base.now.words) }
-    requires r { r < 2 * callers }
-    requires i { i < length base.now.words }
-    ensures { IsTrue result ↔ ShowsOutdated callers (length base.now.words) words.now r i local.now }
-{
-    i == 0
-        && is_at(r, shared_on(local))
-        && is_fresh_on(callers, r, local)
-        && words[vol_at(callers, region_len(base), r, i)] != root_place(callers, local.seen_cur)
-}
-
-/// Whether a caller may load a word of a replica, and mark it as a refusal where that is wanted.
-fn can_load_as(
-    callers: u32,
-    base: &Base,
-    words: &[u64],
-    local: &Local,
-    r: u64,
-    i: u64,
-    refused: bool,
-) -> bool
-    requires some { 1 ≤ callers }
-    requires few { callers ≤ 8 }
-    requires long { length words.now ≡ word_count callers (length base.now.words) }
-    ensures { IsTrue result ↔ CanLoadAs refused callers (length base.now.words) words.now r i local.now }
-{
-    can_load(callers, base, local, r, i)
-        && (!refused || shows_outdated(callers, base, words, local, r, i))
-}
 
 /// Loads a word of a replica. Of one held shared it is part of the local state. `Err` is want of memory, and nothing
 /// changed.
@@ -119,13 +67,6 @@ fn note(held: &mut HeldShared, r: u64, i: u64, found: u64) -> Result<(), AllocEr
     Ok(())
 }
 
-/// Whether a caller may store a word of a replica.
-fn can_store(callers: u32, base: &Base, local: &Local, r: u64, i: u64) -> bool
-    ensures { IsTrue result ↔ CanStore callers (length base.now.words) r i local.now }
-{
-    r < replica_count(callers) && i < region_len(base) && is_at(r, exclusive_on(local))
-}
-
 /// Stores a word of a replica, which is dirty from here on. `Err` is want of memory, and nothing changed.
 pub(crate) fn store_word(
     alloc: Global,
@@ -167,23 +108,6 @@ fn put(alloc: Global, held: &mut HeldExclusive, i: u64, v: u64) -> Result<(), Al
     Ok(())
 }
 
-/// Whether a word is dirty in the replica held exclusively.
-fn is_dirty(local: &Local, i: u64) -> bool
-    ensures { IsTrue result ↔ Contains (held_dirty local.now.exclusive) i }
-{
-    match &local.exclusive {
-        None => false,
-        Some(held) => held.dirty.as_slice().contains(&i),
-    }
-}
-
-/// Whether a caller may persist a word of a replica.
-fn can_persist(callers: u32, base: &Base, local: &Local, r: u64, i: u64) -> bool
-    ensures { IsTrue result ↔ CanPersist callers (length base.now.words) r i local.now }
-{
-    can_store(callers, base, local, r, i) && is_dirty(local, i)
-}
-
 /// Writes a dirty word back to the medium. It is not dirty any more.
 pub(crate) fn persist(
     alloc: Global,
@@ -206,16 +130,6 @@ pub(crate) fn persist(
     }
     local.steps = local.steps.saturating_add(1);
     true
-}
-
-/// A word of the replica held exclusively.
-fn held_word(local: &Local, i: u64) -> u64
-    ensures { result ≡ slice_index (held_words local.now.exclusive) i }
-{
-    match &local.exclusive {
-        None => 0,
-        Some(held) => held.words.as_slice().get(i as usize).copied().unwrap_or(0),
-    }
 }
 
 /// Takes a word out of the dirty ones.

@@ -1,6 +1,6 @@
 //! What a raise answers: whether its guard holds, and the replies, for which the object is run along the history.
 
-ghost use Rattle.std.specs.Prelude.{◌≡◌, ◌+◌, ◌^◌, ◌<◌, ◌≤◌, ◌↔◌, ◌⊎◌, ℕ, Bool, List, None, length, fold, IsTrue, IfOk};
+ghost use Rattle.std.specs.Prelude.{◌≡◌, ◌+◌, ◌<◌, ◌≤◌, ◌↔◌, ℕ, Bool, List, None, length, IsTrue, IfOk};
 ghost use Rattle.std.specs.Option.{option_to_list};
 ghost use Rattle.core_events.specs.Told.{TellsAnswers};
 ghost use Rattle.cx_base.specs.VecMemory.{words_of};
@@ -8,11 +8,12 @@ ghost use Rattle.cx_core.specs.Base.{LawfulBase};
 ghost use Rattle.cx_core.specs.History.{image_after};
 ghost use Rattle.cx_core.specs.Merge.{history_of};
 ghost use Rattle.cx_core.specs.Region.{object_part};
-ghost use Rattle.cx_core.specs.RootEvents.{CanRaise, IsWonCode, ShowsPlace, answers_below, reads_at, reply_after, unanswered};
+ghost use Rattle.cx_core.specs.RootEvents.{CanRaise, answers_below, reads_at, reply_after, unanswered};
 
 use crate::images::{copied, merged, op_fits};
-use cx_base::{Object, VecMemory, root_place, root_replica};
-use cx_core::{Answer, Base, Entry, HeldShared, Linked, Local, OBJECT_START, SeenRead, WonCode};
+use core_guards::answers::{is_below, is_won_code, shows_current};
+use cx_base::{Object, VecMemory, root_place};
+use cx_core::{Answer, Base, Entry, Linked, Local, OBJECT_START, SeenRead};
 use std::alloc::{AllocError, Global};
 
 /// What a raise answers: the caller's own entry that is not answered yet, and a read.
@@ -20,43 +21,6 @@ use std::alloc::{AllocError, Global};
 pub(crate) struct Acknowledged {
     pub(crate) entry: Option<Answer>,
     pub(crate) read: Option<SeenRead>,
-}
-
-/// Whether a code is the one that a caller won with.
-fn is_won_code(code: u64, won: Option<WonCode>) -> bool
-    ensures { IsTrue result ↔ IsWonCode code won }
-{
-    match won {
-        None => false,
-        Some(won) => code == won.code,
-    }
-}
-
-/// Whether the replica that a code names is held shared, and its place word was loaded, which is the code's place.
-fn shows_place(callers: u32, code: u64, shared: &Option<HeldShared>) -> bool
-    requires some { 1 ≤ callers }
-    requires few { callers ≤ 8 }
-    ensures { IsTrue result ↔ ShowsPlace callers code shared.now }
-{
-    match shared {
-        None => false,
-        Some(held) => {
-            held.replica == u64::from(root_replica(callers, code))
-                && held
-                    .loaded
-                    .as_slice()
-                    .contains(&(0, root_place(callers, code)))
-        }
-    }
-}
-
-/// Whether a raise by a code may answer a read whose operation only reads.
-fn shows_current(callers: u32, local: &Local, code: u64) -> bool
-    requires some { 1 ≤ callers }
-    requires few { callers ≤ 8 }
-    ensures { IsTrue result ↔ ((code ≡ local.now.seen_cur) × IsTrue local.now.fresh × ShowsPlace callers code local.now.shared) }
-{
-    code == local.seen_cur && local.fresh && shows_place(callers, code, &local.shared)
 }
 
 /// Whether a caller may raise DUR by a code, and have this read answered.
@@ -137,13 +101,6 @@ fn answer_below<O: Object>(
     let ticket = own.ticket;
     let reply = reply_after(alloc, object, base, locals, ticket, &own.entry.op)?;
     Ok(Some(Answer { ticket, reply }))
-}
-
-/// Whether a raise to a place answers the entry at a ticket.
-fn is_below(ticket: u64, place: u64) -> bool
-    ensures { IsTrue result ↔ (ticket < place) }
-{
-    place > ticket
 }
 
 /// The first entry of a caller that is not answered.

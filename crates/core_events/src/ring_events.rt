@@ -1,48 +1,18 @@
 //! The steps on the ring: what a caller needs is stated, confirmed and given up, and tickets are closed, scanned and opened.
 
-ghost use Rattle.std.specs.Prelude.{◌≡◌, ◌+◌, ◌^◌, ◌<◌, ◌≤◌, ◌↔◌, ℕ, length, IsTrue};
+ghost use Rattle.std.specs.Prelude.{◌≡◌, ◌<◌, ◌≤◌, length};
 ghost use Rattle.cx_core.specs.declared.kinds.Kind.TheVariants.{Protect, Confirm, Unprotect, CloseLow, Scan, OpenFree};
 ghost use Rattle.cx_core.specs.Events.{Did};
 ghost use Rattle.cx_core.specs.Layout.{replicas_at};
-ghost use Rattle.cx_core.specs.RingEvents.{CanClose, IsNext, IsProtected, IsStated, IsUnprotected, bound_in, confirmed, confirmed_by, least_in, lesser, opened, scan_after, shows_outdated};
+ghost use Rattle.cx_core.specs.RingEvents.{bound_in, confirmed, confirmed_by, least_in, opened, scan_after, shows_outdated};
 ghost use Rattle.cx_core.specs.State.{EachScene};
 
-use cx_base::root_place;
+use core_guards::ring::{
+    bound_in, can_close, confirmed_by, is_next, is_protected, is_stated, is_unprotected, least_in,
+    scan_after, shows_outdated,
+};
 use cx_core::layout::{FREE_AT, LOW_AT, MAX_WORD, need_at};
-use cx_core::{Local, Protection, SeenNeed};
-
-/// Whether no protection stands.
-fn is_unprotected(protection: Protection) -> bool
-    ensures { IsTrue result ↔ IsUnprotected protection }
-{
-    match protection {
-        Protection::Unprotected => true,
-        Protection::Stated(_) => false,
-        Protection::Confirmed(_) => false,
-    }
-}
-
-/// Whether a protection is stated and not confirmed.
-fn is_stated(protection: Protection) -> bool
-    ensures { IsTrue result ↔ IsStated protection }
-{
-    match protection {
-        Protection::Unprotected => false,
-        Protection::Stated(_) => true,
-        Protection::Confirmed(_) => false,
-    }
-}
-
-/// Whether a protection stands, stated or confirmed.
-fn is_protected(protection: Protection) -> bool
-    ensures { IsTrue result ↔ IsProtected protection }
-{
-    match protection {
-        Protection::Unprotected => false,
-        Protection::Stated(_) => true,
-        Protection::Confirmed(_) => true,
-    }
-}
+use cx_core::{Local, Protection};
 
 /// States in the caller's need that it needs the tickets from a place on.
 pub(crate) fn protect(callers: u32, words: &mut [u64], local: &mut Local, p: u64) -> bool
@@ -57,31 +27,6 @@ pub(crate) fn protect(callers: u32, words: &mut [u64], local: &mut Local, p: u64
     local.protection = Protection::Stated(p);
     local.steps = local.steps.saturating_add(1);
     true
-}
-
-/// The protection after LOW was found.
-fn confirmed_by(found: u64, protection: Protection) -> Protection
-    ensures { result ≡ confirmed_by found protection }
-{
-    match protection {
-        Protection::Stated(p) if found <= p => Protection::Confirmed(p),
-        other => other,
-    }
-}
-
-/// Whether LOW was found above the place of a protection, though the code last loaded from CUR, which nothing ended the use
-/// of, is at no place above that.
-fn shows_outdated(callers: u32, local: &Local, found: u64) -> bool
-    requires some { 1 ≤ callers }
-    requires few { callers ≤ 8 }
-    ensures { result ≡ shows_outdated callers local.now found local.now.protection }
-{
-    match local.protection {
-        Protection::Stated(p) => {
-            p < found && root_place(callers, local.seen_cur) <= p && local.fresh
-        }
-        _ => false,
-    }
 }
 
 /// What a caller learns by LOW that it found.
@@ -128,15 +73,6 @@ pub(crate) fn unprotect(callers: u32, words: &mut [u64], local: &mut Local) -> b
     true
 }
 
-/// Whether a caller may close the tickets below a target.
-fn can_close(callers: u32, local: &Local, target: u64) -> bool
-    requires some { 1 ≤ callers }
-    requires few { callers ≤ 8 }
-    ensures { IsTrue result ↔ CanClose callers target local.now }
-{
-    target <= root_place(callers, local.seen_cur) && local.scan.is_none()
-}
-
 /// Raises LOW to a target, and begins a scan of what the callers need.
 pub(crate) fn close_low(callers: u32, words: &mut [u64], local: &mut Local, target: u64) -> bool
     requires some { 1 ≤ callers }
@@ -158,45 +94,6 @@ pub(crate) fn close_low(callers: u32, words: &mut [u64], local: &mut Local, targ
     true
 }
 
-/// Whether this is the next caller that the scan comes to.
-fn is_next(d: u64, scan: Option<cx_core::Scan>) -> bool
-    ensures { IsTrue result ↔ IsNext d scan }
-{
-    match scan {
-        None => false,
-        Some(scan) => scan.next == d,
-    }
-}
-
-/// The least need found so far, and the least caller that had it.
-fn lesser(d: u64, found: u64, least: Option<SeenNeed>) -> SeenNeed
-    ensures { result ≡ lesser d found least }
-{
-    match least {
-        Some(least) if least.need <= found => least,
-        _ => SeenNeed {
-            need: found,
-            caller: d,
-        },
-    }
-}
-
-/// A scan after the need of its next caller was found.
-fn scan_after(d: u64, found: u64, scan: Option<cx_core::Scan>) -> Option<cx_core::Scan>
-    requires { d < 8 }
-    ensures { result ≡ scan_after d found scan }
-{
-    match scan {
-        None => None,
-        Some(scan) => Some(cx_core::Scan {
-            target: scan.target,
-            bound: scan.bound.min(found),
-            next: d + 1,
-            least: Some(lesser(d, found, scan.least)),
-        }),
-    }
-}
-
 /// Loads the need of the next caller of the scan.
 pub(crate) fn scan(callers: u32, words: &[u64], local: &mut Local, d: u64) -> bool
     requires few { callers ≤ 8 }
@@ -209,26 +106,6 @@ pub(crate) fn scan(callers: u32, words: &[u64], local: &mut Local, d: u64) -> bo
     local.scan = scan_after(d, words[need_at(d as u32)], local.scan);
     local.steps = local.steps.saturating_add(1);
     true
-}
-
-/// Below which no caller that was scanned needs a ticket, 0 where there is no scan.
-fn bound_in(scan: Option<cx_core::Scan>) -> u64
-    ensures { result ≡ bound_in scan }
-{
-    match scan {
-        None => 0,
-        Some(scan) => scan.bound,
-    }
-}
-
-/// The least need that a scan found.
-fn least_in(scan: Option<cx_core::Scan>) -> Option<SeenNeed>
-    ensures { result ≡ least_in scan }
-{
-    match scan {
-        None => None,
-        Some(scan) => scan.least,
-    }
 }
 
 /// What a caller learns by the FREE that it raised: its scan ends.

@@ -1,6 +1,6 @@
 //! The steps on the root: CUR is loaded and replaced, DUR is raised, and a win is retired.
 
-ghost use Rattle.std.specs.Prelude.{◌≡◌, ◌+◌, ◌*◌, ◌^◌, ◌<◌, ◌≤◌, ◌↔◌, ◌⊎◌, ◌∷◌, ◌++◌, [], ℕ, List, Option, Some, max, min, length, IsTrue, IfOk, OnErr, OnOk};
+ghost use Rattle.std.specs.Prelude.{◌≡◌, ◌+◌, ◌*◌, ◌<◌, ◌≤◌, ◌∷◌, ◌++◌, [], ℕ, List, Option, Some, max, length, IfOk, OnErr, OnOk};
 ghost use Rattle.std.specs.Option.{option_to_list};
 ghost use Rattle.core_events.specs.Codes.{HasCode};
 ghost use Rattle.core_events.specs.Told.{TellsAnswers};
@@ -8,10 +8,11 @@ ghost use Rattle.cx_base.specs.Codes.{root_place_of};
 ghost use Rattle.cx_core.specs.declared.kinds.Kind.TheVariants.{LoadCur, Publish, Raise, Retire};
 ghost use Rattle.cx_core.specs.Events.{Did};
 ghost use Rattle.cx_core.specs.Layout.{replicas_at};
-ghost use Rattle.cx_core.specs.RootEvents.{CanPublish, CanRetire, IsAbove, before_in, code_in, loaded_cur, outrun, published, raised_floor};
+ghost use Rattle.cx_core.specs.RootEvents.{before_in, code_in, outrun, published, raised_floor};
 ghost use Rattle.cx_core.specs.State.{EachScene, one_more};
 
 use crate::replies::Acknowledged;
+use core_guards::root::{before_in, can_publish, can_retire};
 use cx_base::{Items, root_code, root_place, root_replica};
 use cx_core::layout::{CUR_AT, DUR_AT, lock_at};
 use cx_core::{Answer, HeldDowngraded, Local, SeenRead, WonCode};
@@ -41,18 +42,6 @@ fn see(callers: u32, local: &mut Local, code: u64)
     local.steps = local.steps.saturating_add(1);
 }
 
-/// Whether a replica is downgraded at a place above that of a code.
-fn is_above(callers: u32, code: u64, held: Option<HeldDowngraded>) -> bool
-    requires some { 1 ≤ callers }
-    requires few { callers ≤ 8 }
-    ensures { IsTrue result ↔ IsAbove callers code held }
-{
-    match held {
-        None => false,
-        Some(held) => root_place(callers, code) < held.place,
-    }
-}
-
 /// The root code of the replica that is downgraded, 0 where there is none.
 fn code_in(callers: u32, held: Option<HeldDowngraded>) -> u64
     requires some { 1 ≤ callers }
@@ -64,15 +53,6 @@ fn code_in(callers: u32, held: Option<HeldDowngraded>) -> u64
         None => 0,
         Some(held) => root_code(callers, held.place, held.replica as u32),
     }
-}
-
-/// Whether a caller may publish the replica that it has downgraded.
-fn can_publish(callers: u32, local: &Local) -> bool
-    requires some { 1 ≤ callers }
-    requires few { callers ≤ 8 }
-    ensures { IsTrue result ↔ CanPublish callers local.now }
-{
-    is_above(callers, local.seen_cur, local.downgraded) && local.won.is_none()
 }
 
 /// Tries to publish the replica that is downgraded: a compare-exchange of CUR from the code last found there.
@@ -210,26 +190,6 @@ fn take_last(alloc: Global, answered: &mut Items<Answer>)
     let mut items = mem::replace(answered, Items::new(alloc)).into_vec();
     items.pop();
     *answered = Items::of(items);
-}
-
-/// Whether a caller may retire its win, having raised DUR to this code.
-fn can_retire(raised: u64, won: Option<WonCode>) -> bool
-    ensures { IsTrue result ↔ CanRetire raised won }
-{
-    match won {
-        None => false,
-        Some(won) => won.code <= raised,
-    }
-}
-
-/// The code before a win, 0 where there is none.
-fn before_in(won: Option<WonCode>) -> u64
-    ensures { result ≡ before_in won }
-{
-    match won {
-        None => 0,
-        Some(won) => won.before,
-    }
 }
 
 /// Takes the pin back from the replica of the code before the caller's win.

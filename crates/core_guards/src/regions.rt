@@ -1,0 +1,103 @@
+//! What guards on the words of replicas ask of a caller's local state.
+
+ghost use Rattle.std.specs.Prelude.{◌≡◌, ◌*◌, ◌<◌, ◌≤◌, ◌↔◌, length, IsTrue, slice_index, ◌==◌, false};
+ghost use Rattle.std.specs.List.{Contains};
+ghost use Rattle.cx_core.specs.Layout.{word_count};
+ghost use Rattle.cx_core.specs.RegionEvents.{CanLoad, CanLoadAs, CanPersist, CanStore, ShowsOutdated};
+ghost use Rattle.cx_core.specs.Rights.{exclusive_on, held_dirty, held_words, shared_on};
+
+use crate::locks::{exclusive_on, is_at, is_fresh_on, shared_on};
+use cx_base::root_place;
+use cx_core::layout::{replica_count, vol_at};
+use cx_core::{Base, Local};
+
+/// The number of words of a region.
+pub fn region_len(base: &Base) -> u64
+    ensures { result ≡ length base.now.words }
+{
+    base.words.as_slice().len() as u64
+}
+
+/// Whether a caller may load a word of a replica.
+pub fn can_load(callers: u32, base: &Base, local: &Local, r: u64, i: u64) -> bool
+    ensures { IsTrue result ↔ CanLoad callers (length base.now.words) r i local.now }
+{
+    r < replica_count(callers)
+        && i < region_len(base)
+        && (is_at(r, exclusive_on(local)) || is_at(r, shared_on(local)))
+}
+
+/// Whether the word of a replica, which a caller may load, shows that the replica is outdated.
+pub fn shows_outdated(
+    callers: u32,
+    base: &Base,
+    words: &[u64],
+    local: &Local,
+    r: u64,
+    i: u64,
+) -> bool
+    requires some { 1 ≤ callers }
+    requires few { callers ≤ 8 }
+    requires long { length words.now ≡ word_count callers (length base.now.words) }
+    requires r { r < 2 * callers }
+    requires i { i < length base.now.words }
+    ensures { IsTrue result ↔ ShowsOutdated callers (length base.now.words) words.now r i local.now }
+{
+    i == 0
+        && is_at(r, shared_on(local))
+        && is_fresh_on(callers, r, local)
+        && words[vol_at(callers, region_len(base), r, i)] != root_place(callers, local.seen_cur)
+}
+
+/// Whether a caller may load a word of a replica, and mark it as a refusal where that is wanted.
+pub fn can_load_as(
+    callers: u32,
+    base: &Base,
+    words: &[u64],
+    local: &Local,
+    r: u64,
+    i: u64,
+    refused: bool,
+) -> bool
+    requires some { 1 ≤ callers }
+    requires few { callers ≤ 8 }
+    requires long { length words.now ≡ word_count callers (length base.now.words) }
+    ensures { IsTrue result ↔ CanLoadAs refused callers (length base.now.words) words.now r i local.now }
+{
+    can_load(callers, base, local, r, i)
+        && (!refused || shows_outdated(callers, base, words, local, r, i))
+}
+
+/// Whether a caller may store a word of a replica.
+pub fn can_store(callers: u32, base: &Base, local: &Local, r: u64, i: u64) -> bool
+    ensures { IsTrue result ↔ CanStore callers (length base.now.words) r i local.now }
+{
+    r < replica_count(callers) && i < region_len(base) && is_at(r, exclusive_on(local))
+}
+
+/// Whether a word is dirty in the replica held exclusively.
+pub fn is_dirty(local: &Local, i: u64) -> bool
+    ensures { IsTrue result ↔ Contains (held_dirty local.now.exclusive) i }
+{
+    match &local.exclusive {
+        None => false,
+        Some(held) => held.dirty.as_slice().contains(&i),
+    }
+}
+
+/// Whether a caller may persist a word of a replica.
+pub fn can_persist(callers: u32, base: &Base, local: &Local, r: u64, i: u64) -> bool
+    ensures { IsTrue result ↔ CanPersist callers (length base.now.words) r i local.now }
+{
+    can_store(callers, base, local, r, i) && is_dirty(local, i)
+}
+
+/// A word of the replica held exclusively.
+pub fn held_word(local: &Local, i: u64) -> u64
+    ensures { result ≡ slice_index (held_words local.now.exclusive) i }
+{
+    match &local.exclusive {
+        None => 0,
+        Some(held) => held.words.as_slice().get(i as usize).copied().unwrap_or(0),
+    }
+}
