@@ -1,7 +1,7 @@
 #!/usr/bin/env python3
 """Nanoseconds of the running table's calls on one thread and on two, and the memory of its largest table.
 
-Build the program first: cd crates/table_bench && rt run
+Build the program first: python3 bench/build.py table_calls
 The time of a link includes one reading of the clock. Each link is won, or lost to the other thread and tried again. Loads, stores
 and persists are of words of replicas held, a replica for each thread; a persist is of a word just stored, and includes the store.
 An addition and a document put are full steps on a replica held, and over plain words in the same run.
@@ -10,7 +10,9 @@ import os
 import subprocess
 import sys
 
-TABLE = os.path.join(os.path.dirname(__file__), "..", "crates", "table_bench", "out", "table_bench")
+from build import path_of
+
+TABLE = path_of("table_calls")
 
 
 def nanoseconds(work, count, threads):

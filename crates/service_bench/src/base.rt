@@ -4,15 +4,26 @@ ghost use Rattle.std.specs.Prelude.{◌≡◌, ◌+◌, ◌^◌, ◌<◌, ◌≤
 ghost use Rattle.cx_core.specs.Base.{LawfulBase};
 ghost use Rattle.cx_core.specs.History.{IsLawfulEntry};
 ghost use Rattle.cx_core.specs.Region.{region_words};
+ghost use Rattle.doc_store.specs.ExactStep.{IsImage};
 
-use crate::operations::put;
+use crate::operations::{MOST_KEYS, put};
 use cx_base::{Halt, Items, Object, VecMemory};
 use cx_core::{Base, Entry, full_step};
 use doc_model::is_op;
+use doc_store::DocStore;
 use std::alloc::{AllocError, Global};
 
-/// The base of an object after a document was put at each key, in turn.
-pub fn filled<O: Object>(alloc: Global, object: &O, keys: u64) -> Result<Base, AllocError>
+/// The base of a store of so many lines that has a document at each key.
+pub fn filled_store(alloc: Global, lines: u64, keys: u64) -> Result<Base, AllocError>
+    requires lines { (64 ≤ lines) × (lines ≤ 16384) }
+    ensures { IfOk result (LawfulBase lines (IsImage lines)) }
+{
+    let store = DocStore::of(lines);
+    filled(alloc, &store, keys.min(MOST_KEYS))
+}
+
+// The base of an object after a document was put at each key, in turn.
+fn filled<O: Object>(alloc: Global, object: &O, keys: u64) -> Result<Base, AllocError>
     requires small { O.line_count object.now ≤ 16384 }
     requires few { keys ≤ 10000 }
     ensures { IfOk result (LawfulBase (O.line_count object.now) (O.lawful object.now)) }

@@ -5,10 +5,8 @@ ghost use Rattle.cx_core.specs.Base.{LawfulBase};
 ghost use Rattle.cx_service.specs.Callers.{IsCallerOf, IsLinkedOf};
 ghost use Rattle.doc_store.specs.ExactStep.{IsImage};
 
-use crate::base::filled;
-use crate::laps::Laps;
-use crate::operations::{MOST_KEYS, Reading, Updates, readings};
-use crate::parts::parted;
+use crate::base::filled_store;
+use crate::operations::{Reading, Updates, readings};
 use crate::tally::{Tally, since, thread_time};
 use cx_core::Base;
 use cx_service::{Answer, Caller, Driven, Linked, ReadTried, Seen, Service, Submitted};
@@ -63,31 +61,13 @@ pub fn called<R: Runtime + Threads + CpuClock + Sync>(
     if callers < 1 || callers > 8 || setting.lines < 64 || setting.lines > 16384 {
         return Ok(all);
     }
-    let base = filled_store(alloc, setting)?;
+    let base = filled_store(alloc, setting.lines, setting.keys)?;
     let (service, callers) = started(alloc, callers, setting.lines, &base)?;
     let tallies = each_calls(rt, alloc, &service, callers, setting)?;
     for tally in tallies.iter() {
         all.add(tally);
     }
     Ok(all)
-}
-
-/// What the parts of one caller's calls take, in so many tables.
-pub fn parts<R: Runtime>(rt: &R, alloc: Global, count: u64, setting: &Setting) -> io::Result<Laps> {
-    if setting.lines < 64 || setting.lines > 16384 {
-        return Laps::begin(rt);
-    }
-    let base = filled_store(alloc, setting)?;
-    parted(rt, alloc, count, setting.lines, setting.keys, &base)
-}
-
-// The base of a store that has a document at each key.
-fn filled_store(alloc: Global, setting: &Setting) -> Result<Base, AllocError>
-    requires lines { (64 ≤ setting.now.lines) × (setting.now.lines ≤ 16384) }
-    ensures { IfOk result (LawfulBase setting.now.lines (IsImage setting.now.lines)) }
-{
-    let store = DocStore::of(setting.lines);
-    filled(alloc, &store, setting.keys.min(MOST_KEYS))
 }
 
 // A service of so many callers that opens from this base.

@@ -1,20 +1,15 @@
 //! Nanoseconds and steps of a service's calls. With no words it does nothing. `calls T U R L K` makes a service of T callers over a store of L
 //! lines with documents at K keys (1,024 and 100 where they are not said), and lets every caller, on a thread of its own, make U updates,
 //! and reads between them, so that R calls in 100 are reads; where all are, it makes U of them. It prints the calls of all, and what they
-//! took, without the making of the service. `parts 1 N 0 L K` makes 16 updates and then 64 reads of one caller in each of N tables, and
-//! prints for each part of an update and of a read how often it was done, its steps, and its nanoseconds of wall time.
+//! took, without the making of the service.
 #![tactic(auto)]
 
 mod base;
 mod calls;
-mod laps;
-mod lookups;
 mod operations;
-mod parts;
 mod tally;
-mod turns;
 
-use crate::calls::{Setting, called, parts};
+use crate::calls::{Setting, called};
 use std::alloc::Global;
 use std::process::ExitCode;
 use std::rt::Runtime;
@@ -56,7 +51,6 @@ fn run<R: Runtime + Threads + CpuClock + Sync>(
         keys: words.get(5).map_or(100, |word| number(Some(word))),
     };
     match work.as_str() {
-        "parts" => parts(rt, alloc, count, &setting)?.print(rt),
         "calls" => called(rt, alloc, &setting)?.print(rt, setting.lines, setting.keys),
         _ => Ok(()),
     }
