@@ -1,6 +1,7 @@
 //! A client is stopped at each step of an update while another makes sixteen, and the power is lost.
 
-use crate::runs::lived;
+use crate::holds::holds;
+use crate::runs::{Outcome, lived};
 use cx_base::OpenGate;
 use std::alloc::{AllocError, Global};
 use std::sync::Wait;
@@ -23,88 +24,46 @@ fn script(alloc: Global, choice: u64, steps: u64) -> Result<String, AllocError> 
     Ok(text)
 }
 
-// What came of a client with each number of steps: with how many it was stopped, and the first number with which the lives are not legal
-// or the other client is not answered, with the report.
-#[derive(Debug, Drop)]
-struct Tried {
-    stopped: u64,
-    fault: Option<(u64, String)>,
-}
-
+// Whether the lives are legal for each number of steps, the other client is always answered, and with some of them a client was stopped.
 fn all_tried<R: Threads + Wait + Sync>(
     rt: &R,
     alloc: Global,
     choice: u64,
-) -> Result<Tried, AllocError> {
+) -> Result<bool, AllocError> {
     let mut stopped = 0u64;
     for steps in 0..STEPS {
         let got = lived(rt, alloc, &script(alloc, choice, steps)?, &OpenGate)?;
-        let answered = if got.stopped == 0 { 19 } else { 18 };
-        if !got.legal || got.answered != answered || !got.text().contains("get b = 15\n") {
-            let report = String::from_str(alloc, got.text())?;
-            return Ok(Tried {
-                stopped,
-                fault: Some((steps, report)),
-            });
+        if !is_right(&got) {
+            return Ok(false);
         }
         if got.stopped != 0 {
             stopped = stopped.saturating_add(1);
         }
     }
-    Ok(Tried {
-        stopped,
-        fault: None,
-    })
+    Ok(stopped > 0 && stopped < STEPS)
+}
+
+fn is_right(got: &Outcome) -> bool {
+    let answered = if got.stopped == 0 { 19 } else { 18 };
+    got.legal && got.answered == answered && got.text().contains("get b = 15\n")
 }
 
 #[test]
 fn stopped_beside_updates_and_nothing_more_is_left(rt: HostRuntime) -> Result<(), Fail> {
-    let tried = all_tried(&rt, rt.alloc(), 0)?;
-    assert!(rt;
-        tried.fault.is_none() && tried.stopped > 0 && tried.stopped < STEPS,
-        "{tried:?}"
-    );
+    holds(&rt, all_tried(&rt, rt.alloc(), 0)?);
     Ok(())
 }
 
 #[test]
 fn stopped_beside_updates_and_all_is_left(rt: HostRuntime) -> Result<(), Fail> {
-    let tried = all_tried(&rt, rt.alloc(), 1)?;
-    assert!(rt;
-        tried.fault.is_none() && tried.stopped > 0 && tried.stopped < STEPS,
-        "{tried:?}"
-    );
+    holds(&rt, all_tried(&rt, rt.alloc(), 1)?);
     Ok(())
 }
 
 #[test]
 fn stopped_beside_updates_and_other_words_are_left(rt: HostRuntime) -> Result<(), Fail> {
-    let tried = all_tried(&rt, rt.alloc(), 2)?;
-    assert!(rt;
-        tried.fault.is_none() && tried.stopped > 0 && tried.stopped < STEPS,
-        "{tried:?}"
-    );
-    Ok(())
-}
-
-#[test]
-fn stopped_beside_updates_and_words_times_three_are_left(rt: HostRuntime) -> Result<(), Fail> {
-    let tried = all_tried(&rt, rt.alloc(), 3)?;
-    assert!(rt;
-        tried.fault.is_none() && tried.stopped > 0 && tried.stopped < STEPS,
-        "{tried:?}"
-    );
-    Ok(())
-}
-
-#[test]
-fn stopped_beside_updates_and_words_times_a_large_number_are_left(
-    rt: HostRuntime,
-) -> Result<(), Fail> {
-    let tried = all_tried(&rt, rt.alloc(), 11_400_714_819_323_198_485)?;
-    assert!(rt;
-        tried.fault.is_none() && tried.stopped > 0 && tried.stopped < STEPS,
-        "{tried:?}"
-    );
+    for choice in [2, 3, 11_400_714_819_323_198_485] {
+        holds(&rt, all_tried(&rt, rt.alloc(), choice)?);
+    }
     Ok(())
 }

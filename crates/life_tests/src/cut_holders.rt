@@ -1,7 +1,8 @@
 //! A client is stopped in an update, maybe while it needs the others' entries, and two others make so many that their cells are given again,
 //! or give up.
 
-use crate::runs::lived;
+use crate::holds::holds;
+use crate::runs::{Outcome, lived};
 use cx_base::OpenGate;
 use std::alloc::{AllocError, Global};
 use std::sync::Wait;
@@ -24,38 +25,26 @@ fn script(alloc: Global, steps: u64) -> Result<String, AllocError> {
     Ok(text)
 }
 
-// What came of it: how often another gave up, and the first number of steps with which the lives are not legal, or with which not each
-// other is answered though none gave up, with the report.
-#[derive(Debug, Drop)]
-struct Tried {
-    gave_up: usize,
-    fault: Option<(u64, String)>,
-}
-
-fn all_tried<R: Threads + Wait + Sync>(rt: &R, alloc: Global) -> Result<Tried, AllocError> {
+// Whether the lives are legal for each number of steps, each other is answered where none gave up, and for some of them another gave up.
+fn all_tried<R: Threads + Wait + Sync>(rt: &R, alloc: Global) -> Result<bool, AllocError> {
     let mut gave_up = 0usize;
     for steps in (0..STEPS).step_by(APART) {
         let got = lived(rt, alloc, &script(alloc, steps)?, &OpenGate)?;
-        let text = got.text();
-        let all = text.contains("get b = 47\n") && text.contains("get c = 47\n");
-        if !got.legal || all != (got.gave_up == 0) || got.stopped == 0 && got.gave_up > 0 {
-            let report = String::from_str(alloc, got.text())?;
-            return Ok(Tried {
-                gave_up,
-                fault: Some((steps, report)),
-            });
+        if !is_right(&got) {
+            return Ok(false);
         }
         gave_up = gave_up.saturating_add(got.gave_up);
     }
-    Ok(Tried {
-        gave_up,
-        fault: None,
-    })
+    Ok(gave_up > 0)
+}
+
+fn is_right(got: &Outcome) -> bool {
+    let all = got.text().contains("get b = 47\n") && got.text().contains("get c = 47\n");
+    got.legal && all == (got.gave_up == 0) && (got.stopped != 0 || got.gave_up == 0)
 }
 
 #[test]
 fn others_give_up_where_a_stopped_client_keeps_their_cells(rt: HostRuntime) -> Result<(), Fail> {
-    let tried = all_tried(&rt, rt.alloc())?;
-    assert!(rt; tried.fault.is_none() && tried.gave_up > 0, "{tried:?}");
+    holds(&rt, all_tried(&rt, rt.alloc())?);
     Ok(())
 }

@@ -1,5 +1,6 @@
 //! A client is stopped at each step of a command, and the power is lost.
 
+use crate::holds::holds;
 use crate::runs::{Outcome, lived};
 use cx_base::OpenGate;
 use std::alloc::{AllocError, Global};
@@ -88,23 +89,10 @@ fn have_all_forms(found: [u64; 5]) -> bool {
 }
 
 #[test]
-fn an_update_is_stopped_and_nothing_more_is_left(rt: HostRuntime) -> Result<(), Fail> {
-    let found = forms_found(&rt, rt.alloc(), 0)?;
-    assert!(rt; have_all_forms(found), "{found:?}");
-    Ok(())
-}
-
-#[test]
-fn an_update_is_stopped_and_all_is_left(rt: HostRuntime) -> Result<(), Fail> {
-    let found = forms_found(&rt, rt.alloc(), 1)?;
-    assert!(rt; have_all_forms(found), "{found:?}");
-    Ok(())
-}
-
-#[test]
-fn an_update_is_stopped_and_other_words_are_left(rt: HostRuntime) -> Result<(), Fail> {
-    let found = forms_found(&rt, rt.alloc(), 2)?;
-    assert!(rt; have_all_forms(found), "{found:?}");
+fn an_update_is_stopped(rt: HostRuntime) -> Result<(), Fail> {
+    for choice in 0..3 {
+        holds(&rt, have_all_forms(forms_found(&rt, rt.alloc(), choice)?));
+    }
     Ok(())
 }
 
@@ -133,7 +121,6 @@ fn is_read_answered<R: Threads + Wait + Sync>(rt: &R, alloc: Global) -> Result<b
 
 #[test]
 fn a_read_is_stopped(rt: HostRuntime) -> Result<(), Fail> {
-    let answered = is_read_answered(&rt, rt.alloc())?;
-    assert!(rt; answered);
+    holds(&rt, is_read_answered(&rt, rt.alloc())?);
     Ok(())
 }

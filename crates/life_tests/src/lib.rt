@@ -12,6 +12,8 @@ mod cut_holders;
 #[cfg(test)]
 mod cut_updates;
 #[cfg(test)]
+mod holds;
+#[cfg(test)]
 mod long_life;
 #[cfg(test)]
 mod many_clients;

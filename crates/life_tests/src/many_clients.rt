@@ -1,9 +1,12 @@
 //! Eight clients with many commands each.
 
+use crate::holds::holds;
 use crate::runs::lived;
 use cx_base::OpenGate;
 use std::alloc::{AllocError, Global};
+use std::sync::Wait;
 use std::test::Fail;
+use std::thread::Threads;
 
 // So often the clients' life is run with 16 commands each, and so often with 200.
 const ROUNDS: u32 = 1200;
@@ -27,24 +30,32 @@ fn over_one_key(alloc: Global, commands: u32) -> Result<String, AllocError> {
     Ok(text)
 }
 
+// Whether a script's life is legal each time, and so many commands are answered.
+fn are_answered<R: Threads + Wait + Sync>(
+    rt: &R,
+    alloc: Global,
+    commands: u32,
+    rounds: u32,
+    answers: usize,
+) -> Result<bool, AllocError> {
+    let text = over_one_key(alloc, commands)?;
+    for _round in 0..rounds {
+        let got = lived(rt, alloc, &text, &OpenGate)?;
+        if !got.legal || got.answered != answers {
+            return Ok(false);
+        }
+    }
+    Ok(true)
+}
+
 #[test]
 fn eight_clients_over_one_key(rt: HostRuntime) -> Result<(), Fail> {
-    let alloc = rt.alloc();
-    let text = over_one_key(alloc, 16)?;
-    for _round in 0..ROUNDS {
-        let got = lived(&rt, alloc, &text, &OpenGate)?;
-        assert!(rt; got.legal && got.answered == 128, "{}", got.text());
-    }
+    holds(&rt, are_answered(&rt, rt.alloc(), 16, ROUNDS, 128)?);
     Ok(())
 }
 
 #[test]
 fn eight_clients_whose_cells_are_given_again(rt: HostRuntime) -> Result<(), Fail> {
-    let alloc = rt.alloc();
-    let text = over_one_key(alloc, 200)?;
-    for _round in 0..LONG_ROUNDS {
-        let got = lived(&rt, alloc, &text, &OpenGate)?;
-        assert!(rt; got.legal && got.answered == 1600, "{}", got.text());
-    }
+    holds(&rt, are_answered(&rt, rt.alloc(), 200, LONG_ROUNDS, 1600)?);
     Ok(())
 }

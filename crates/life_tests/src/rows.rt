@@ -1,60 +1,75 @@
 //! Worked lives with their exact reports.
 
+use crate::holds::holds;
 use crate::runs::lived;
 use cx_base::{Gate, OpenGate};
+use std::alloc::{AllocError, Global};
+use std::sync::Wait;
 use std::sync::atomic::{AtomicBool, AtomicU64, Ordering};
 use std::test::Fail;
-use std::thread::yield_now;
+use std::thread::{Threads, yield_now};
+
+// Scripts and their reports.
+const ROWS: [(&str, &str); 8] = [
+    // A write is read back.
+    (
+        "lines 64\nlife 1 power 0\n0 put a 1\n0 put a 2\n0 get a\n",
+        "life 0 clients 1 from 0\n0 0.1 put a 1 = new\n1 0.2 put a 2 = replaced\nread 0.3 at 2 get a = 2\n\
+         power 0 kept 2 of 2 documents 1\n",
+    ),
+    // No lives.
+    ("", ""),
+    ("lines 64\n", ""),
+    // The empty store.
+    (
+        "lines 64\nlife 1 power 0\n0 get a\n",
+        "life 0 clients 1 from 0\nread 0.1 at 0 get a = none\npower 0 kept 0 of 0 documents 0\n",
+    ),
+    // The end of the integers.
+    (
+        "lines 64\nlife 1 power 0\n0 add k 9223372036854775807\n0 add k 1\n0 get k\n",
+        "life 0 clients 1 from 0\n0 0.1 add k 9223372036854775807 = sum 9223372036854775807\n1 0.2 add k 1 = overflow\n\
+         read 0.3 at 2 get k = 9223372036854775807\npower 0 kept 2 of 2 documents 1\n",
+    ),
+    // The compact text of a document.
+    (
+        "lines 64\nlife 1 power 0\n0 put a {\"b\":1, \"a\":[]}\n0 get a\n0 add a 1\n0 del a\n0 del a\n",
+        "life 0 clients 1 from 0\n0 0.1 put a {\"a\":[],\"b\":1} = new\n1 0.3 add a 1 = notnumber\n2 0.4 del a = deleted\n\
+         3 0.5 del a = none\nread 0.2 at 1 get a = {\"a\":[],\"b\":1}\npower 0 kept 4 of 4 documents 0\n",
+    ),
+    // The next key, and the number of pairs.
+    (
+        "lines 64\nlife 1 power 0\n0 put a 1\n0 put c 2\n0 next\n0 next a\n0 next b\n0 next c\n0 count\n",
+        "life 0 clients 1 from 0\n0 0.1 put a 1 = new\n1 0.2 put c 2 = new\nread 0.3 at 2 next = key a\n\
+         read 0.4 at 2 next a = key c\nread 0.5 at 2 next b = key c\nread 0.6 at 2 next c = none\nread 0.7 at 2 count = count 2\n\
+         power 0 kept 2 of 2 documents 2\n",
+    ),
+    // A client that is stopped before its first step.
+    (
+        "lines 64\nlife 2 power 0\ncut 1 0\n1 put a 1\nlife 1 power 0\n0 get a\n",
+        "life 0 clients 2 from 0\nstopped 1.1 at 0 lost\npower 0 kept 0 of 0 documents 0\nlife 1 clients 1 from 0\n\
+         read 0.1 at 0 get a = none\npower 0 kept 0 of 0 documents 0\n",
+    ),
+];
+
+// The first script whose report is another, or whose lives are not legal.
+fn first_wrong<R: Threads + Wait + Sync>(
+    rt: &R,
+    alloc: Global,
+    rows: &[(&str, &str)],
+) -> Result<Option<usize>, AllocError> {
+    for (i, (script, want)) in rows.iter().enumerate() {
+        let got = lived(rt, alloc, script, &OpenGate)?;
+        if !got.legal || got.text() != *want {
+            return Ok(Some(i));
+        }
+    }
+    Ok(None)
+}
 
 #[test]
 fn reports_of_worked_lives(rt: HostRuntime) -> Result<(), Fail> {
-    let alloc = rt.alloc();
-    let rows = [
-        // A write is read back.
-        (
-            "lines 64\nlife 1 power 0\n0 put a 1\n0 put a 2\n0 get a\n",
-            "life 0 clients 1 from 0\n0 0.1 put a 1 = new\n1 0.2 put a 2 = replaced\nread 0.3 at 2 get a = 2\n\
-             power 0 kept 2 of 2 documents 1\n",
-        ),
-        // No lives.
-        ("", ""),
-        ("lines 64\n", ""),
-        // The empty store.
-        (
-            "lines 64\nlife 1 power 0\n0 get a\n",
-            "life 0 clients 1 from 0\nread 0.1 at 0 get a = none\npower 0 kept 0 of 0 documents 0\n",
-        ),
-        // The end of the integers.
-        (
-            "lines 64\nlife 1 power 0\n0 add k 9223372036854775807\n0 add k 1\n0 get k\n",
-            "life 0 clients 1 from 0\n0 0.1 add k 9223372036854775807 = sum 9223372036854775807\n1 0.2 add k 1 = overflow\n\
-             read 0.3 at 2 get k = 9223372036854775807\npower 0 kept 2 of 2 documents 1\n",
-        ),
-        // The compact text of a document.
-        (
-            "lines 64\nlife 1 power 0\n0 put a {\"b\":1, \"a\":[]}\n0 get a\n0 add a 1\n0 del a\n0 del a\n",
-            "life 0 clients 1 from 0\n0 0.1 put a {\"a\":[],\"b\":1} = new\n1 0.3 add a 1 = notnumber\n2 0.4 del a = deleted\n\
-             3 0.5 del a = none\nread 0.2 at 1 get a = {\"a\":[],\"b\":1}\npower 0 kept 4 of 4 documents 0\n",
-        ),
-        // The next key, and the number of pairs.
-        (
-            "lines 64\nlife 1 power 0\n0 put a 1\n0 put c 2\n0 next\n0 next a\n0 next b\n0 next c\n0 count\n",
-            "life 0 clients 1 from 0\n0 0.1 put a 1 = new\n1 0.2 put c 2 = new\nread 0.3 at 2 next = key a\n\
-             read 0.4 at 2 next a = key c\nread 0.5 at 2 next b = key c\nread 0.6 at 2 next c = none\nread 0.7 at 2 count = count 2\n\
-             power 0 kept 2 of 2 documents 2\n",
-        ),
-        // A client that is stopped before its first step.
-        (
-            "lines 64\nlife 2 power 0\ncut 1 0\n1 put a 1\nlife 1 power 0\n0 get a\n",
-            "life 0 clients 2 from 0\nstopped 1.1 at 0 lost\npower 0 kept 0 of 0 documents 0\nlife 1 clients 1 from 0\n\
-             read 0.1 at 0 get a = none\npower 0 kept 0 of 0 documents 0\n",
-        ),
-    ];
-    for (script, want) in rows {
-        let got = lived(&rt, alloc, script, &OpenGate)?;
-        assert_eq!(rt; got.text(), want);
-        assert!(rt; got.legal, "{script}");
-    }
+    holds(&rt, first_wrong(&rt, rt.alloc(), &ROWS)?.is_none());
     Ok(())
 }
 
@@ -69,11 +84,7 @@ const SHOPS_END: &str =
 #[test]
 fn two_shops_share_a_store(rt: HostRuntime) -> Result<(), Fail> {
     let got = lived(&rt, rt.alloc(), SHOPS, &OpenGate)?;
-    assert!(rt;
-        got.legal && got.text().ends_with(SHOPS_END),
-        "{}",
-        got.text()
-    );
+    holds(&rt, got.legal && got.text().ends_with(SHOPS_END));
     Ok(())
 }
 
@@ -85,20 +96,20 @@ const FIRST_FIRST: &str =
 const SECOND_FIRST: &str =
     "life 0 clients 2 from 0\n0 1.1 add n 1 = sum 1\n1 0.1 add n 1 = sum 2\npower 0 kept 2 of 2 documents 1\n";
 
-#[test]
-fn two_clients_link_in_either_order(rt: HostRuntime) -> Result<(), Fail> {
-    let mut first = 0u32;
-    let mut second = 0u32;
+// Whether two clients are told in one of their two orders each time.
+fn link_in_turn<R: Threads + Wait + Sync>(rt: &R, alloc: Global) -> Result<bool, AllocError> {
     for _round in 0..500 {
-        let got = lived(&rt, rt.alloc(), TWO, &OpenGate)?;
-        assert!(rt; got.legal, "{}", got.text());
-        if got.text() == FIRST_FIRST {
-            first = first.saturating_add(1);
-        } else if got.text() == SECOND_FIRST {
-            second = second.saturating_add(1);
+        let got = lived(rt, alloc, TWO, &OpenGate)?;
+        if !got.legal || got.text() != FIRST_FIRST && got.text() != SECOND_FIRST {
+            return Ok(false);
         }
     }
-    assert_eq!(rt; first.saturating_add(second), 500, "{first} and {second}");
+    Ok(true)
+}
+
+#[test]
+fn two_clients_link_in_either_order(rt: HostRuntime) -> Result<(), Fail> {
+    holds(&rt, link_in_turn(&rt, rt.alloc())?);
     Ok(())
 }
 
@@ -138,8 +149,7 @@ fn a_gate_holds_a_command(rt: HostRuntime) -> Result<(), Fail> {
         left: AtomicU64::new(0),
     };
     let got = lived(&rt, rt.alloc(), TWO, &gate)?;
-    assert!(rt; gate.left.load(Ordering::SeqCst) > 0);
-    assert_eq!(rt; got.text(), SECOND_FIRST);
-    assert!(rt; got.legal);
+    let was_held = gate.left.load(Ordering::SeqCst) > 0;
+    holds(&rt, was_held && got.legal && got.text() == SECOND_FIRST);
     Ok(())
 }

@@ -1,5 +1,6 @@
 //! Scripts that a generator writes: up to five lives of up to eight clients with up to 200 commands each, some of which are stopped.
 
+use crate::holds::holds;
 use crate::numbers::Numbers;
 use crate::runs::lived;
 use cx_base::OpenGate;
@@ -8,7 +9,7 @@ use std::sync::Wait;
 use std::test::Fail;
 use std::thread::Threads;
 
-// So many scripts a test.
+// So many scripts of a seed.
 const SCRIPTS: u64 = 50;
 
 static KEYS: [&str; 5] = ["a", "b", "b:1", "c", "d"];
@@ -100,84 +101,36 @@ fn script(alloc: Global, numbers: &mut Numbers) -> Result<String, AllocError> {
     Ok(text)
 }
 
-// What came of scripts: how many had legal lives, how many clients were stopped, and the last one whose lives are not legal, with its
-// report.
-#[derive(Debug, Drop)]
-struct Tried {
-    legal: u64,
-    stopped: usize,
-    fault: Option<String>,
-}
-
-// Runs the lives of so many scripts of a seed.
+// Whether the lives of so many scripts of a seed are legal, and some client was stopped.
 fn all_tried<R: Threads + Wait + Sync>(
     rt: &R,
     alloc: Global,
     seed: u64,
-) -> Result<Tried, AllocError> {
+) -> Result<bool, AllocError> {
     let mut numbers = Numbers::from(seed);
-    let mut tried = Tried {
-        legal: 0,
-        stopped: 0,
-        fault: None,
-    };
+    let mut stopped = 0usize;
     for _ in 0..SCRIPTS {
-        let text = script(alloc, &mut numbers)?;
-        let got = lived(rt, alloc, &text, &OpenGate)?;
-        tried.stopped = tried.stopped.saturating_add(got.stopped);
-        if got.legal {
-            tried.legal = tried.legal.saturating_add(1);
-        } else {
-            tried.fault = Some(format!(in alloc; "{text}{}", got.text())?);
+        let got = lived(rt, alloc, &script(alloc, &mut numbers)?, &OpenGate)?;
+        if !got.legal {
+            return Ok(false);
         }
+        stopped = stopped.saturating_add(got.stopped);
     }
-    Ok(tried)
+    Ok(stopped > 0)
 }
 
 #[test]
-fn the_first_fifty_are_legal(rt: HostRuntime) -> Result<(), Fail> {
-    let tried = all_tried(&rt, rt.alloc(), 1)?;
-    assert_eq!(rt; tried.legal, SCRIPTS, "{tried:?}");
-    assert!(rt; tried.stopped > 0);
+fn three_times_fifty_are_legal(rt: HostRuntime) -> Result<(), Fail> {
+    for seed in 1..4 {
+        holds(&rt, all_tried(&rt, rt.alloc(), seed)?);
+    }
     Ok(())
 }
 
 #[test]
-fn the_second_fifty_are_legal(rt: HostRuntime) -> Result<(), Fail> {
-    let tried = all_tried(&rt, rt.alloc(), 2)?;
-    assert_eq!(rt; tried.legal, SCRIPTS, "{tried:?}");
-    assert!(rt; tried.stopped > 0);
-    Ok(())
-}
-
-#[test]
-fn the_third_fifty_are_legal(rt: HostRuntime) -> Result<(), Fail> {
-    let tried = all_tried(&rt, rt.alloc(), 3)?;
-    assert_eq!(rt; tried.legal, SCRIPTS, "{tried:?}");
-    assert!(rt; tried.stopped > 0);
-    Ok(())
-}
-
-#[test]
-fn the_fourth_fifty_are_legal(rt: HostRuntime) -> Result<(), Fail> {
-    let tried = all_tried(&rt, rt.alloc(), 4)?;
-    assert_eq!(rt; tried.legal, SCRIPTS, "{tried:?}");
-    assert!(rt; tried.stopped > 0);
-    Ok(())
-}
-
-#[test]
-fn the_fifth_fifty_are_legal(rt: HostRuntime) -> Result<(), Fail> {
-    let tried = all_tried(&rt, rt.alloc(), 5)?;
-    assert_eq!(rt; tried.legal, SCRIPTS, "{tried:?}");
-    assert!(rt; tried.stopped > 0);
-    Ok(())
-}
-
-#[test]
-fn the_sixth_fifty_are_legal(rt: HostRuntime) -> Result<(), Fail> {
-    let tried = all_tried(&rt, rt.alloc(), 6)?;
-    assert_eq!(rt; tried.legal, SCRIPTS, "{tried:?}");
-    assert!(rt; tried.stopped > 0);
+fn three_times_fifty_others_are_legal(rt: HostRuntime) -> Result<(), Fail> {
+    for seed in 4..7 {
+        holds(&rt, all_tried(&rt, rt.alloc(), seed)?);
+    }
     Ok(())
 }
