@@ -6,13 +6,19 @@ mod board;
 #[cfg(test)]
 mod crashes;
 #[cfg(test)]
+mod facts;
+#[cfg(test)]
 mod full_steps;
+#[cfg(test)]
+mod games;
 #[cfg(test)]
 mod kept_bases;
 #[cfg(test)]
 mod locks;
 #[cfg(test)]
 mod queue;
+#[cfg(test)]
+mod race;
 #[cfg(test)]
 mod ring;
 #[cfg(test)]

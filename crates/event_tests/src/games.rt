@@ -1,0 +1,108 @@
+//! What is played on a board: rows of events and what is so after them, and a race of two publishers.
+
+use crate::board::{Board, Row};
+use crate::facts::{Fact, SeenRow, is_so};
+use crate::race::{RACE, begins};
+use std::alloc::{AllocError, Global};
+
+/// A part of a game.
+pub enum Part {
+    /// Lists of rows, one after another.
+    Rows(&'static [&'static [Row]]),
+    /// Rows, and what is so after each.
+    Seen(&'static [SeenRow]),
+    /// The beginning of the race, and so many of its events.
+    Race(usize),
+    /// A caller takes a replica exclusively, stores and persists these words, and downgrades it.
+    Prepared(u32, u64, &'static [(u64, u64)]),
+    /// What is so.
+    Are(&'static [Fact]),
+}
+
+/// The number of callers, and what is played.
+pub type Game = (u32, &'static [Part]);
+
+/// The first game with a part that goes otherwise, with that part. `Err` is want of memory.
+pub fn first_wrong(alloc: Global, games: &[Game]) -> Result<Option<(usize, usize)>, AllocError> {
+    for (i, (callers, parts)) in games.iter().enumerate() {
+        if let Some(part) = first_wrong_part(alloc, *callers, parts)? {
+            return Ok(Some((i, part)));
+        }
+    }
+    Ok(None)
+}
+
+// The first part of a game of 1 to 8 callers that goes otherwise.
+fn first_wrong_part(
+    alloc: Global,
+    callers: u32,
+    parts: &[Part],
+) -> Result<Option<usize>, AllocError> {
+    if callers < 1 || 8 < callers {
+        return Ok(Some(0));
+    }
+    let mut board = Board::open(alloc, callers)?;
+    first_other(alloc, &mut board, parts)
+}
+
+// The first part that goes otherwise on a board.
+fn first_other(
+    alloc: Global,
+    board: &mut Board,
+    parts: &[Part],
+) -> Result<Option<usize>, AllocError> {
+    for (i, part) in parts.iter().enumerate() {
+        if !goes(alloc, board, part)? {
+            return Ok(Some(i));
+        }
+    }
+    Ok(None)
+}
+
+// Whether a part goes as it is written.
+fn goes(alloc: Global, board: &mut Board, part: &Part) -> Result<bool, AllocError> {
+    match part {
+        Part::Rows(lists) => goes_by(alloc, board, lists),
+        Part::Seen(rows) => is_seen(alloc, board, rows),
+        Part::Race(events) => races(alloc, board, *events),
+        Part::Prepared(caller, r, words) => board.prepare(alloc, *caller, *r, words),
+        Part::Are(facts) => Ok(are_so(board, facts)),
+    }
+}
+
+fn goes_by(alloc: Global, board: &mut Board, lists: &[&[Row]]) -> Result<bool, AllocError> {
+    for rows in lists {
+        if board.first_wrong(alloc, rows)?.is_some() {
+            return Ok(false);
+        }
+    }
+    Ok(true)
+}
+
+// Whether the race begins, and so many of its events go as they are written.
+fn races(alloc: Global, board: &mut Board, events: usize) -> Result<bool, AllocError> {
+    let Some(rows) = RACE.get(..events) else {
+        return Ok(false);
+    };
+    Ok(begins(alloc, board)? && is_seen(alloc, board, rows)?)
+}
+
+/// Whether rows go as they are written, and what is said of each is so after it. `Err` is want of memory.
+pub fn is_seen(alloc: Global, board: &mut Board, rows: &[SeenRow]) -> Result<bool, AllocError> {
+    for (row, fact) in rows {
+        if board.step(alloc, row.0, row.1)? != row.2 || !is_so(board, fact) {
+            return Ok(false);
+        }
+    }
+    Ok(true)
+}
+
+/// Whether all of these are so.
+pub fn are_so(board: &Board, facts: &[Fact]) -> bool {
+    for fact in facts {
+        if !is_so(board, fact) {
+            return false;
+        }
+    }
+    true
+}
