@@ -12,7 +12,7 @@ use std::alloc::{AllocError, Global};
 use std::test::Fail;
 
 // The chain of codes from DUR to CUR after each event of the race.
-const CHAINS: [&[u64]; 12] = [
+static CHAINS: [&[u64]; 12] = [
     &[0],
     &[0],
     &[0, 5],

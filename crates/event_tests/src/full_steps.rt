@@ -69,7 +69,7 @@ fn step(
 type StepRow = (u32, u64, u64, u64, Words);
 
 // Each step is made on what the one before left.
-const STEPS: [StepRow; 4] = [
+static STEPS: [StepRow; 4] = [
     (
         1,
         1,

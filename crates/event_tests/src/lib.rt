@@ -10,8 +10,6 @@ mod facts;
 #[cfg(test)]
 mod full_steps;
 #[cfg(test)]
-mod games;
-#[cfg(test)]
 mod kept_bases;
 #[cfg(test)]
 mod locks;
@@ -23,3 +21,5 @@ mod race;
 mod ring;
 #[cfg(test)]
 mod root;
+#[cfg(test)]
+mod scripts;

@@ -3,7 +3,7 @@
 
 use crate::board::{Row, holds};
 use crate::facts::{Fact, IMAGE_0, IMAGE_1, Known, SeenRow, Words};
-use crate::games::{Game, Part, first_wrong};
+use crate::scripts::{Part, Script, first_wrong};
 use cx_core::{EXCLUSIVE_MARK, Kind};
 use std::test::Fail;
 
@@ -359,7 +359,7 @@ const AFTER_300: [Fact; 17] = [
     Fact::Callers(3),
 ];
 
-const GAMES: [Game; 4] = [
+static SCRIPTS: [Script; 4] = [
     (
         1,
         &[
@@ -387,6 +387,6 @@ const GAMES: [Game; 4] = [
 
 #[test]
 fn locks_and_regions(rt: HostRuntime) -> Result<(), Fail> {
-    holds(&rt, first_wrong(rt.alloc(), &GAMES)?.is_none());
+    holds(&rt, first_wrong(rt.alloc(), &SCRIPTS)?.is_none());
     Ok(())
 }

@@ -2,7 +2,7 @@
 
 use crate::board::{Board, Row, holds};
 use crate::facts::{Fact, Known, SeenRow};
-use crate::games::{Game, Part, are_so, first_wrong, is_seen};
+use crate::scripts::{Part, Script, are_seen, are_so, first_wrong};
 use cx_core::Kind;
 use std::alloc::{AllocError, Global};
 use std::test::Fail;
@@ -101,7 +101,7 @@ const LIMITS: [Row; 34] = [
     (2, Kind::ReadCell { t: 0, k: 0, i: 0 }, false),
 ];
 
-const GAMES: [Game; 2] = [
+static SCRIPTS: [Script; 2] = [
     (
         2,
         &[
@@ -123,7 +123,7 @@ const GAMES: [Game; 2] = [
 
 #[test]
 fn two_callers_link_and_arguments_are_at_their_limits(rt: HostRuntime) -> Result<(), Fail> {
-    holds(&rt, first_wrong(rt.alloc(), &GAMES)?.is_none());
+    holds(&rt, first_wrong(rt.alloc(), &SCRIPTS)?.is_none());
     Ok(())
 }
 
@@ -181,7 +181,7 @@ fn read_all(alloc: Global, board: &mut Board, caller: u32) -> Result<bool, Alloc
 }
 
 // Caller 2 is first and caller 1 second; caller 0 loses slot 0 and slot 1, and is third.
-const THREE_CALLERS: [SeenRow; 23] = [
+static THREE_CALLERS: [SeenRow; 23] = [
     ((0, Kind::Look { s: 0 }, true), Fact::Of(0, Known::Front(0))),
     ((1, Kind::Look { s: 0 }, true), Fact::Of(1, Known::Front(0))),
     ((2, Kind::Look { s: 0 }, true), Fact::Of(2, Known::Front(0))),
@@ -211,7 +211,7 @@ const THREE_CALLERS: [SeenRow; 23] = [
 ];
 
 // Each caller's ticket and steps, 200 in all, the links, and words 0, 1, 19 and 20 of caller 1's entry.
-const AFTER_200: [Fact; 11] = [
+static AFTER_200: [Fact; 11] = [
     Fact::Of(0, Known::Ticket(Some(2))),
     Fact::Of(0, Known::Steps(67)),
     Fact::Of(1, Known::Ticket(Some(1))),
@@ -230,7 +230,7 @@ fn links_three(alloc: Global) -> Result<bool, AllocError> {
     let mut board = Board::open(alloc, 3)?;
     Ok(
         announce(alloc, &mut board)?
-            && is_seen(alloc, &mut board, &THREE_CALLERS)?
+            && are_seen(alloc, &mut board, &THREE_CALLERS)?
             && read_all(alloc, &mut board, 0)?
             && read_all(alloc, &mut board, 1)?
             && read_all(alloc, &mut board, 2)?

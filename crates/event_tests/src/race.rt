@@ -26,7 +26,7 @@ pub const AFTER_TWO: [(u64, u64); 6] = [(1169, 12), (8, 1), (9, 5), (153, 1), (1
 /// Both callers found code 0 in CUR. Caller 0 publishes replica 1 at place 1, by code 5. So caller 1, which has replica 2 at
 /// place 2, loses to it, and then publishes over it by code 10: the chain is 0, 5, 10. Each raises DUR by its own code,
 /// and then retires its win.
-pub const RACE: [SeenRow; 12] = [
+pub static RACE: [SeenRow; 12] = [
     ((0, Kind::LoadCur, true), Fact::Root([0, 0], [None, None])),
     ((1, Kind::LoadCur, true), Fact::Root([0, 0], [None, None])),
     (

@@ -3,7 +3,7 @@
 
 use crate::board::{Row, holds};
 use crate::facts::{Fact, Known, SeenRow};
-use crate::games::{Game, Part, first_wrong};
+use crate::scripts::{Part, Script, first_wrong};
 use cx_core::{Kind, Protection, Scan, SeenNeed};
 use std::test::Fail;
 
@@ -193,7 +193,7 @@ const TWO_NEEDS: [SeenRow; 5] = [
     ((1, Kind::Scan { d: 1 }, true), Fact::Ring([2, 2, 7, 3])),
 ];
 
-const GAMES: [Game; 4] = [
+static SCRIPTS: [Script; 4] = [
     (
         2,
         &[
@@ -359,6 +359,6 @@ const SCANNED: Scan = Scan {
 
 #[test]
 fn guards_needs_and_scans(rt: HostRuntime) -> Result<(), Fail> {
-    holds(&rt, first_wrong(rt.alloc(), &GAMES)?.is_none());
+    holds(&rt, first_wrong(rt.alloc(), &SCRIPTS)?.is_none());
     Ok(())
 }

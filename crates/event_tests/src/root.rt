@@ -3,8 +3,8 @@
 
 use crate::board::{Row, holds};
 use crate::facts::{Fact, Known};
-use crate::games::{Game, Part, first_wrong};
 use crate::race::{AFTER_TWO, SECOND_WIN};
+use crate::scripts::{Part, Script, first_wrong};
 use cx_core::{Kind, WonCode};
 use std::test::Fail;
 
@@ -201,7 +201,7 @@ const ONE_WIN: [Row; 9] = [
     (0, Kind::Publish, true),
 ];
 
-const GAMES: [Game; 7] = [
+static SCRIPTS: [Script; 7] = [
     (
         1,
         &[
@@ -301,6 +301,6 @@ const WIN_FROM_5: Option<WonCode> = Some(WonCode {
 
 #[test]
 fn publishers_raises_and_reads(rt: HostRuntime) -> Result<(), Fail> {
-    holds(&rt, first_wrong(rt.alloc(), &GAMES)?.is_none());
+    holds(&rt, first_wrong(rt.alloc(), &SCRIPTS)?.is_none());
     Ok(())
 }

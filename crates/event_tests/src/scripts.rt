@@ -1,11 +1,11 @@
-//! What is played on a board: rows of events and what is so after them, and a race of two publishers.
+//! Scripts: rows of events and what is so after them, and a race of two publishers.
 
 use crate::board::{Board, Row};
 use crate::facts::{Fact, SeenRow, is_so};
 use crate::race::{RACE, begins};
 use std::alloc::{AllocError, Global};
 
-/// A part of a game.
+/// A part of a script.
 pub enum Part {
     /// Lists of rows, one after another.
     Rows(&'static [&'static [Row]]),
@@ -19,21 +19,24 @@ pub enum Part {
     Are(&'static [Fact]),
 }
 
-/// The number of callers, and what is played.
-pub type Game = (u32, &'static [Part]);
+/// The number of callers, 1 to 8, and the parts.
+pub type Script = (u32, &'static [Part]);
 
-/// The first game with a part that goes otherwise, with that part. `Err` is want of memory.
-pub fn first_wrong(alloc: Global, games: &[Game]) -> Result<Option<(usize, usize)>, AllocError> {
-    for (i, (callers, parts)) in games.iter().enumerate() {
-        if let Some(part) = first_wrong_part(alloc, *callers, parts)? {
+/// The first script with a part that goes otherwise, with that part. `Err` is want of memory.
+pub fn first_wrong(
+    alloc: Global,
+    scripts: &[Script],
+) -> Result<Option<(usize, usize)>, AllocError> {
+    for (i, (callers, parts)) in scripts.iter().enumerate() {
+        if let Some(part) = first_wrong_of(alloc, *callers, parts)? {
             return Ok(Some((i, part)));
         }
     }
     Ok(None)
 }
 
-// The first part of a game of 1 to 8 callers that goes otherwise.
-fn first_wrong_part(
+// The first part that goes otherwise from the opening state on.
+fn first_wrong_of(
     alloc: Global,
     callers: u32,
     parts: &[Part],
@@ -42,35 +45,35 @@ fn first_wrong_part(
         return Ok(Some(0));
     }
     let mut board = Board::open(alloc, callers)?;
-    first_other(alloc, &mut board, parts)
+    first_wrong_part(alloc, &mut board, parts)
 }
 
 // The first part that goes otherwise on a board.
-fn first_other(
+fn first_wrong_part(
     alloc: Global,
     board: &mut Board,
     parts: &[Part],
 ) -> Result<Option<usize>, AllocError> {
     for (i, part) in parts.iter().enumerate() {
-        if !goes(alloc, board, part)? {
+        if !is_as_written(alloc, board, part)? {
             return Ok(Some(i));
         }
     }
     Ok(None)
 }
 
-// Whether a part goes as it is written.
-fn goes(alloc: Global, board: &mut Board, part: &Part) -> Result<bool, AllocError> {
+// Whether a part is as it is written.
+fn is_as_written(alloc: Global, board: &mut Board, part: &Part) -> Result<bool, AllocError> {
     match part {
-        Part::Rows(lists) => goes_by(alloc, board, lists),
-        Part::Seen(rows) => is_seen(alloc, board, rows),
+        Part::Rows(lists) => are_as_written(alloc, board, lists),
+        Part::Seen(rows) => are_seen(alloc, board, rows),
         Part::Race(events) => races(alloc, board, *events),
         Part::Prepared(caller, r, words) => board.prepare(alloc, *caller, *r, words),
         Part::Are(facts) => Ok(are_so(board, facts)),
     }
 }
 
-fn goes_by(alloc: Global, board: &mut Board, lists: &[&[Row]]) -> Result<bool, AllocError> {
+fn are_as_written(alloc: Global, board: &mut Board, lists: &[&[Row]]) -> Result<bool, AllocError> {
     for rows in lists {
         if board.first_wrong(alloc, rows)?.is_some() {
             return Ok(false);
@@ -84,11 +87,11 @@ fn races(alloc: Global, board: &mut Board, events: usize) -> Result<bool, AllocE
     let Some(rows) = RACE.get(..events) else {
         return Ok(false);
     };
-    Ok(begins(alloc, board)? && is_seen(alloc, board, rows)?)
+    Ok(begins(alloc, board)? && are_seen(alloc, board, rows)?)
 }
 
 /// Whether rows go as they are written, and what is said of each is so after it. `Err` is want of memory.
-pub fn is_seen(alloc: Global, board: &mut Board, rows: &[SeenRow]) -> Result<bool, AllocError> {
+pub fn are_seen(alloc: Global, board: &mut Board, rows: &[SeenRow]) -> Result<bool, AllocError> {
     for (row, fact) in rows {
         if board.step(alloc, row.0, row.1)? != row.2 || !is_so(board, fact) {
             return Ok(false);
