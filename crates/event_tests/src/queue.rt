@@ -225,17 +225,28 @@ static AFTER_200: [Fact; 11] = [
     Fact::CellWord(145 * 16 + 20, 0),
 ];
 
-// Whether three callers make these steps, each reading the entries of all in turn.
+// Whether each of three callers in turn may read the entries of all.
+fn all_read(alloc: Global, board: &mut Board) -> Result<bool, AllocError> {
+    for caller in 0..3u32 {
+        if !read_all(alloc, board, caller)? {
+            return Ok(false);
+        }
+    }
+    Ok(true)
+}
+
+// Whether three callers make these steps on a board.
+fn link_three(alloc: Global, board: &mut Board) -> Result<bool, AllocError> {
+    if !announce(alloc, board)? || !are_seen(alloc, board, &THREE_CALLERS)? {
+        return Ok(false);
+    }
+    Ok(all_read(alloc, board)? && are_so(board, &AFTER_200))
+}
+
+// Whether three callers make these steps from the opening state on.
 fn links_three(alloc: Global) -> Result<bool, AllocError> {
     let mut board = Board::open(alloc, 3)?;
-    Ok(
-        announce(alloc, &mut board)?
-            && are_seen(alloc, &mut board, &THREE_CALLERS)?
-            && read_all(alloc, &mut board, 0)?
-            && read_all(alloc, &mut board, 1)?
-            && read_all(alloc, &mut board, 2)?
-            && are_so(&board, &AFTER_200),
-    )
+    link_three(alloc, &mut board)
 }
 
 #[test]

@@ -67,7 +67,7 @@ fn is_as_written(alloc: Global, board: &mut Board, part: &Part) -> Result<bool, 
     match part {
         Part::Rows(lists) => are_as_written(alloc, board, lists),
         Part::Seen(rows) => are_seen(alloc, board, rows),
-        Part::Race(events) => races(alloc, board, *events),
+        Part::Race(events) => Ok(begins(alloc, board)? && races(alloc, board, *events)?),
         Part::Prepared(caller, r, words) => board.prepare(alloc, *caller, *r, words),
         Part::Are(facts) => Ok(are_so(board, facts)),
     }
@@ -82,12 +82,14 @@ fn are_as_written(alloc: Global, board: &mut Board, lists: &[&[Row]]) -> Result<
     Ok(true)
 }
 
-// Whether the race begins, and so many of its events go as they are written.
+// Whether so many events of the race are as they are written.
 fn races(alloc: Global, board: &mut Board, events: usize) -> Result<bool, AllocError> {
-    let Some(rows) = RACE.get(..events) else {
-        return Ok(false);
-    };
-    Ok(begins(alloc, board)? && are_seen(alloc, board, rows)?)
+    for (row, fact) in RACE.iter().take(events) {
+        if board.step(alloc, row.0, row.1)? != row.2 || !is_so(board, fact) {
+            return Ok(false);
+        }
+    }
+    Ok(true)
 }
 
 /// Whether rows go as they are written, and what is said of each is so after it. `Err` is want of memory.
