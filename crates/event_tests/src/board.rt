@@ -1,4 +1,4 @@
-//! The cores of the tests: one over the first base of Tally, played by rows of events, and a race of two publishers.
+//! The core of the tests, over the first base of Tally, and its steps by rows of events.
 
 ghost use Rattle.std.specs.Prelude.{◌≤◌};
 ghost use Rattle.cx_base.specs.Tally.{IsTally};
@@ -6,8 +6,14 @@ ghost use Rattle.cx_core.specs.Base.{LawfulBase};
 
 use core_events::{CoreState, apply};
 use cx_base::tally::Tally;
-use cx_core::{Base, Event, Kind, WonCode};
+use cx_core::{Base, Event, Kind};
 use std::alloc::{AllocError, Global};
+use std::process::Abort;
+
+/// Asserts what a case came to.
+pub fn holds(rt: &impl Abort, is_right: bool) {
+    assert!(rt; is_right);
+}
 
 /// A core over the first base of Tally, whose regions have 1,680 words.
 #[derive(Drop)]
@@ -71,73 +77,4 @@ impl Board {
         }
         self.step(alloc, caller, Kind::Downgrade { r })
     }
-}
-
-/// Two callers link an entry each: caller 0 adds 5 at ticket 0, caller 1 adds 7 at ticket 1.
-pub const LINKED: [Row; 9] = [
-    (0, Kind::WriteCell { j: 0, i: 0, v: 1 }, true),
-    (0, Kind::WriteCell { j: 0, i: 1, v: 5 }, true),
-    (0, Kind::Look { s: 0 }, true),
-    (0, Kind::Link { j: 0 }, true),
-    (1, Kind::WriteCell { j: 0, i: 0, v: 1 }, true),
-    (1, Kind::WriteCell { j: 0, i: 1, v: 7 }, true),
-    (1, Kind::Look { s: 0 }, true),
-    (1, Kind::Look { s: 1 }, true),
-    (1, Kind::Link { j: 0 }, true),
-];
-
-/// The words of the full images after the first and after both of these entries that differ from the base's.
-pub const AFTER_ONE: [(u64, u64); 4] = [(1169, 5), (8, 1), (9, 5), (0, 1)];
-
-pub const AFTER_TWO: [(u64, u64); 6] = [(1169, 12), (8, 1), (9, 5), (153, 1), (154, 12), (0, 2)];
-
-/// An event of the race, whether it is allowed, then CUR and DUR, and what each caller has won with.
-pub type RaceRow = (Row, [u64; 2], [Option<WonCode>; 2]);
-
-/// Both callers found code 0 in CUR. Caller 0 publishes replica 1 at place 1, by code 5. So caller 1, which has replica 2 at
-/// place 2, loses to it, and then publishes over it by code 10: the chain is 0, 5, 10. Each raises DUR by its own code,
-/// and then retires its win.
-pub const RACE: [RaceRow; 12] = [
-    ((0, Kind::LoadCur, true), [0, 0], [None, None]),
-    ((1, Kind::LoadCur, true), [0, 0], [None, None]),
-    ((0, Kind::Publish, true), [5, 0], [FIRST_WIN, None]),
-    ((1, Kind::Publish, true), [5, 0], [FIRST_WIN, None]),
-    ((1, Kind::Publish, true), [10, 0], [FIRST_WIN, SECOND_WIN]),
-    ((0, Kind::Retire, false), [10, 0], [FIRST_WIN, SECOND_WIN]),
-    ((0, RAISE_5, true), [10, 5], [FIRST_WIN, SECOND_WIN]),
-    ((1, Kind::Retire, false), [10, 5], [FIRST_WIN, SECOND_WIN]),
-    ((1, RAISE_10, true), [10, 10], [FIRST_WIN, SECOND_WIN]),
-    ((0, RAISE_5, true), [10, 10], [FIRST_WIN, SECOND_WIN]),
-    ((0, Kind::Retire, true), [10, 10], [None, SECOND_WIN]),
-    ((1, Kind::Retire, true), [10, 10], [None, None]),
-];
-
-const FIRST_WIN: Option<WonCode> = Some(WonCode { code: 5, before: 0 });
-
-const SECOND_WIN: Option<WonCode> = Some(WonCode {
-    code: 10,
-    before: 5,
-});
-
-const RAISE_5: Kind = Kind::Raise {
-    code: 5,
-    read: None,
-};
-
-const RAISE_10: Kind = Kind::Raise {
-    code: 10,
-    read: None,
-};
-
-/// The state before the race: both entries are linked, and each caller has downgraded its replica. None comes where an
-/// event of that was refused. `Err` is want of memory.
-pub fn before_the_race(alloc: Global) -> Result<Option<Board>, AllocError> {
-    let mut board = Board::open(alloc, 2)?;
-    if board.first_wrong(alloc, &LINKED)?.is_some()
-        || !board.prepare(alloc, 0, 1, &AFTER_ONE)?
-        || !board.prepare(alloc, 1, 2, &AFTER_TWO)?
-    {
-        return Ok(None);
-    }
-    Ok(Some(board))
 }

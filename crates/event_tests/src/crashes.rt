@@ -2,20 +2,17 @@
 
 ghost use Rattle.std.specs.Prelude.{◌≡◌, ◌%◌, length};
 
-use crate::board::{AFTER_ONE, AFTER_TWO, Board, RACE, before_the_race};
+use crate::board::{Board, Row, holds};
+use crate::facts::{IMAGE_0, IMAGE_1, REGION, Words, are_words};
+use crate::race::{RACE, begins};
 use core_events::CoreState;
-use cx_base::tally::Tally;
-use cx_core::{Base, Kind};
+use cx_core::Kind;
 use pmem_model::Medium;
 use std::alloc::{AllocError, Global};
-use std::process::Abort;
 use std::test::Fail;
 
-// The words of a region.
-const REGION: usize = 1680;
-
 // The chain of codes from DUR to CUR after each event of the race.
-const CHAINS: [&[u64]; 12] = [
+static CHAINS: [&[u64]; 12] = [
     &[0],
     &[0],
     &[0, 5],
@@ -30,30 +27,35 @@ const CHAINS: [&[u64]; 12] = [
     &[10],
 ];
 
-// The state before the race, in which caller 0 also holds replica 3 with two words stored, of which one is persisted.
-fn with_dirty_words(alloc: Global) -> Result<Option<Board>, AllocError> {
-    let Some(mut board) = before_the_race(alloc)? else {
-        return Ok(None);
-    };
-    let all = board.first_wrong(
-        alloc,
-        &[
-            (0, Kind::TryExclusive { r: 3 }, true),
-            (0, Kind::StoreWord { r: 3, i: 0, v: 77 }, true),
-            (
-                0,
-                Kind::StoreWord {
-                    r: 3,
-                    i: 1169,
-                    v: 99,
-                },
-                true,
-            ),
-            (0, Kind::Persist { r: 3, i: 0 }, true),
-        ],
-    )?;
-    Ok(if all.is_none() { Some(board) } else { None })
-}
+// Caller 0 also holds replica 3 with two words stored, of which one is persisted.
+const DIRTY: [Row; 4] = [
+    (0, Kind::TryExclusive { r: 3 }, true),
+    (0, Kind::StoreWord { r: 3, i: 0, v: 77 }, true),
+    (
+        0,
+        Kind::StoreWord {
+            r: 3,
+            i: 1169,
+            v: 99,
+        },
+        true,
+    ),
+    (0, Kind::Persist { r: 3, i: 0 }, true),
+];
+
+// Choices of a loss of power, and what is left by some of the word that is stored there and not persisted.
+const CHOICES: [(u64, Option<u64>); 3] = [(0, Some(0)), (1, Some(99)), (7, None)];
+
+// The full image after the second entry, of caller 1, which adds 7.
+const IMAGE_2: Words = &[
+    (0, 2),
+    (8, 1),
+    (9, 5),
+    (153, 1),
+    (154, 12),
+    (1168, 7),
+    (1169, 12),
+];
 
 // What a loss of power leaves of the words of all replicas by this choice: those that the medium has not got are dirty.
 fn left(alloc: Global, vol: &[u64], per: &[u64], choice: u64) -> Result<Vec<u64>, AllocError>
@@ -71,79 +73,76 @@ fn left(alloc: Global, vol: &[u64], per: &[u64], choice: u64) -> Result<Vec<u64>
     Ok(left)
 }
 
-// The region that a root code of two callers names in what is left of a state by this choice; empty where there is none.
-fn recovered(
-    alloc: Global,
-    state: &CoreState,
-    root: u64,
-    choice: u64,
-) -> Result<Vec<u64>, AllocError> {
+// The same of a state; empty where its replicas are no lines.
+fn left_of(alloc: Global, state: &CoreState, choice: u64) -> Result<Vec<u64>, AllocError> {
     let (vol, per) = (state.vol(), state.per());
     if vol.len() != per.len() || per.len() % 8 != 0 {
         return Ok(Vec::new(alloc));
     }
-    let words = left(alloc, vol, per, choice)?;
-    let from = REGION * (root % 4) as usize;
-    Vec::from_slice(alloc, words.get(from..from + REGION).unwrap_or(&[]))
+    left(alloc, vol, per, choice)
 }
 
 // The full image after the entries with tickets below a place.
-fn image(alloc: Global, place: u64) -> Result<Vec<u64>, AllocError> {
-    let base = Base::fresh(alloc, &Tally)?;
-    let mut words = Vec::from_slice(alloc, base.words.as_slice())?;
-    let differ: &[(u64, u64)] = match place {
-        0 => &[],
-        1 => &AFTER_ONE,
-        _ => &AFTER_TWO,
-    };
-    for (at, v) in differ {
-        if let Some(word) = words.get_mut(*at as usize) {
-            *word = *v;
-        }
+fn image(place: u64) -> Words {
+    match place {
+        0 => IMAGE_0,
+        1 => IMAGE_1,
+        _ => IMAGE_2,
     }
-    Ok(words)
 }
 
-// The first root of a chain, with the choice, by which the image after its place is not recovered.
-fn first_lost(
-    alloc: Global,
-    state: &CoreState,
-    chain: &[u64],
-) -> Result<Option<(u64, u64)>, AllocError> {
+// Whether words have, in the region that each root code of two callers names, the image after its place.
+fn are_recovered(words: &[u64], chain: &[u64]) -> bool {
     for root in chain {
-        for choice in [0, 1, 7] {
-            if recovered(alloc, state, *root, choice)? != image(alloc, *root / 4)? {
-                return Ok(Some((*root, choice)));
-            }
+        let from = REGION * (*root % 4) as usize;
+        if !are_words(
+            words.get(from..from + REGION).unwrap_or(&[]),
+            image(*root / 4),
+        ) {
+            return false;
         }
     }
-    Ok(None)
+    true
 }
 
-// What is left by a choice of a word stored into the replica that is held, and not persisted.
-fn left_dirty(alloc: Global, state: &CoreState, choice: u64) -> Result<Option<u64>, AllocError> {
-    Ok(recovered(alloc, state, 3, choice)?.get(1169).copied())
+// Whether each image of a chain is recovered by each choice, and the dirty word is left by some and not by others.
+fn is_recovered(alloc: Global, state: &CoreState, chain: &[u64]) -> Result<bool, AllocError> {
+    for (choice, dirty) in CHOICES {
+        let words = left_of(alloc, state, choice)?;
+        let word = words.get(3 * REGION + 1169).copied();
+        if !are_recovered(&words, chain) || (dirty.is_some() && word != dirty) {
+            return Ok(false);
+        }
+    }
+    Ok(true)
 }
 
-// The first event of the race that answers otherwise, or after which some image is not recovered, or the replica that is held is
-// the same by every choice.
+// The first event of the race that answers otherwise, or after which some image is not recovered.
 fn first_wrong(alloc: Global, board: &mut Board) -> Result<Option<usize>, AllocError> {
-    for (i, ((row, _, _), chain)) in RACE.iter().zip(CHAINS.iter()).enumerate() {
-        if board.step(alloc, row.0, row.1)? != row.2
-            || first_lost(alloc, &board.state, chain)?.is_some()
-            || left_dirty(alloc, &board.state, 0)? != Some(0)
-            || left_dirty(alloc, &board.state, 1)? != Some(99)
-        {
+    for (i, ((row, _), chain)) in RACE.iter().zip(CHAINS.iter()).enumerate() {
+        if board.step(alloc, row.0, row.1)? != row.2 || !is_recovered(alloc, &board.state, chain)? {
             return Ok(Some(i));
         }
     }
     Ok(None)
 }
 
+// Whether each event of the race is as it is written, with all images recovered after it.
+fn races(alloc: Global, board: &mut Board) -> Result<bool, AllocError> {
+    if !begins(alloc, board)? || board.first_wrong(alloc, &DIRTY)?.is_some() {
+        return Ok(false);
+    }
+    Ok(first_wrong(alloc, board)?.is_none())
+}
+
+// The same from the opening state on.
+fn is_safe(alloc: Global) -> Result<bool, AllocError> {
+    let mut board = Board::open(alloc, 2)?;
+    races(alloc, &mut board)
+}
+
 #[test]
 fn each_crash_image_of_a_race_is_recovered(rt: HostRuntime) -> Result<(), Fail> {
-    let alloc = rt.alloc();
-    let mut board = with_dirty_words(alloc)?.expect(&rt, "each event is allowed");
-    assert_eq!(rt; first_wrong(alloc, &mut board)?, None);
+    holds(&rt, is_safe(rt.alloc())?);
     Ok(())
 }

@@ -7,6 +7,8 @@ ghost use Rattle.cx_core.specs.Base.{LawfulBase};
 ghost use Rattle.cx_core.specs.History.{full_image};
 ghost use Rattle.cx_core.specs.Step.{full_step_of};
 
+use crate::board::holds;
+use crate::facts::{IMAGE_0, Words, are_words};
 use cx_base::tally::Tally;
 use cx_base::{Halt, Object, VecMemory};
 use cx_core::{
@@ -14,7 +16,6 @@ use cx_core::{
     full_regions_go_on, full_step, full_step_keeps,
 };
 use std::alloc::{AllocError, Global};
-use std::process::Abort;
 use std::test::Fail;
 
 // An entry that adds, or reads where `reads` is 1.
@@ -47,57 +48,40 @@ fn is_lawful(alloc: Global, words: &[u64]) -> Result<bool, AllocError>
     Tally.check(alloc, image)
 }
 
-// The same on words that are asserted to be a region of Tally.
+// The same on words of a region of Tally. None comes where they are no such.
 fn step(
-    rt: &impl Abort,
     alloc: Global,
     words: Vec<u64>,
     left: Option<u64>,
     entry: &Entry,
-) -> Result<Result<Vec<u64>, Halt>, AllocError> {
-    assert_eq!(rt; words.len(), 1680);
-    assert!(rt; words[0] < 1 << 40);
-    assert!(rt; entry.caller < 8);
-    let lawful = is_lawful(alloc, &words)?;
-    assert!(rt; lawful);
-    Ok(stepped(words, left, entry))
-}
-
-// Asserts that the words are these at these places, and 0 elsewhere.
-fn expect_words(rt: &impl Abort, words: &[u64], given: &[(usize, u64)]) {
-    assert_eq!(rt; words.len(), 1680);
-    for at in 0..1680 {
-        let mut want = 0;
-        for (place, word) in given {
-            if *place == at {
-                want = *word;
-            }
-        }
-        assert_eq!(rt; words[at], want, "word {at}");
+) -> Result<Option<Result<Vec<u64>, Halt>>, AllocError> {
+    if words.len() != 1680
+        || words[0] >= 1 << 40
+        || entry.caller >= 8
+        || !is_lawful(alloc, &words)?
+    {
+        return Ok(None);
     }
+    Ok(Some(stepped(words, left, entry)))
 }
 
-#[test]
-fn fresh_base(rt: HostRuntime) -> Result<(), Fail> {
-    let base = Base::fresh(rt.alloc(), &Tally)?;
-    assert_eq!(rt; base.place, 0);
-    expect_words(&rt, base.words.as_slice(), &[(1168, 7)]);
-    Ok(())
-}
+// Caller, number, what an entry adds, whether it reads, and the words after its full step.
+type StepRow = (u32, u64, u64, u64, Words);
 
-#[test]
-fn full_steps_by_hand(rt: HostRuntime) -> Result<(), Fail> {
-    let words = Base::fresh(rt.alloc(), &Tally)?.words.into_vec();
-    let words = step(&rt, rt.alloc(), words, None, &entry(1, 1, 5, 0))??;
-    expect_words(
-        &rt,
-        &words,
+// Each step is made on what the one before left.
+static STEPS: [StepRow; 4] = [
+    (
+        1,
+        1,
+        5,
+        0,
         &[(0, 1), (153, 1), (154, 5), (1168, 7), (1169, 5)],
-    );
-    let words = step(&rt, rt.alloc(), words, None, &entry(0, 1, 7, 0))??;
-    expect_words(
-        &rt,
-        &words,
+    ),
+    (
+        0,
+        1,
+        7,
+        0,
         &[
             (0, 2),
             (8, 1),
@@ -107,11 +91,12 @@ fn full_steps_by_hand(rt: HostRuntime) -> Result<(), Fail> {
             (1168, 7),
             (1169, 12),
         ],
-    );
-    let words = step(&rt, rt.alloc(), words, None, &entry(1, 2, 9, 1))??;
-    expect_words(
-        &rt,
-        &words,
+    ),
+    (
+        1,
+        2,
+        9,
+        1,
         &[
             (0, 3),
             (8, 1),
@@ -121,11 +106,12 @@ fn full_steps_by_hand(rt: HostRuntime) -> Result<(), Fail> {
             (1168, 7),
             (1169, 12),
         ],
-    );
-    let words = step(&rt, rt.alloc(), words, None, &entry(7, 1, u64::MAX, 0))??;
-    expect_words(
-        &rt,
-        &words,
+    ),
+    (
+        7,
+        1,
+        u64::MAX,
+        0,
         &[
             (0, 4),
             (8, 1),
@@ -137,19 +123,57 @@ fn full_steps_by_hand(rt: HostRuntime) -> Result<(), Fail> {
             (1168, 7),
             (1169, 11),
         ],
-    );
-    Ok(())
+    ),
+];
+
+// The first step from the fresh base on that is not made, or leaves other words.
+fn first_wrong(alloc: Global, rows: &[StepRow]) -> Result<Option<usize>, AllocError> {
+    let mut words = Base::fresh(alloc, &Tally)?.words.into_vec();
+    for (i, (caller, number, adds, reads, want)) in rows.iter().enumerate() {
+        let made = step(alloc, words, None, &entry(*caller, *number, *adds, *reads))?;
+        let Some(Ok(after)) = made else {
+            return Ok(Some(i));
+        };
+        if !are_words(&after, want) {
+            return Ok(Some(i));
+        }
+        words = after;
+    }
+    Ok(None)
 }
 
-// The first full step makes 151 accesses: it loads the place, the sum, the number and 144 words of the reply, and
-// stores the sum, the number, the one word of the reply that differs, and the place.
-#[test]
-fn full_step_halts_at_each_access(rt: HostRuntime) -> Result<(), Fail> {
-    for left in 0..153 {
-        let words = Base::fresh(rt.alloc(), &Tally)?.words.into_vec();
-        let made = step(&rt, rt.alloc(), words, Some(left), &entry(3, 1, 5, 0))?;
-        assert_eq!(rt; made.is_ok(), 151 <= left, "with {left} accesses left");
+// Whether a first full step is made with so many accesses left. None comes where the fresh base is no region.
+fn is_made(alloc: Global, left: u64) -> Result<Option<bool>, AllocError> {
+    let words = Base::fresh(alloc, &Tally)?.words.into_vec();
+    match step(alloc, words, Some(left), &entry(3, 1, 5, 0))? {
+        None => Ok(None),
+        Some(made) => Ok(Some(made.is_ok())),
     }
+}
+
+// The first number of accesses left, below this one, with which a first full step halts or is made otherwise. It makes 151
+// accesses: it loads the place, the sum, the number and 144 words of the reply, and stores the sum, the number, the one word of the
+// reply that differs, and the place.
+fn first_other(alloc: Global, below: u64) -> Result<Option<u64>, AllocError> {
+    for left in 0..below {
+        if is_made(alloc, left)? != Some(151 <= left) {
+            return Ok(Some(left));
+        }
+    }
+    Ok(None)
+}
+
+// Whether the fresh base is at place 0 with these words.
+fn is_fresh(alloc: Global) -> Result<bool, AllocError> {
+    let base = Base::fresh(alloc, &Tally)?;
+    Ok(base.place == 0 && are_words(base.words.as_slice(), IMAGE_0))
+}
+
+#[test]
+fn full_steps_by_hand(rt: HostRuntime) -> Result<(), Fail> {
+    holds(&rt, is_fresh(rt.alloc())?);
+    holds(&rt, first_wrong(rt.alloc(), &STEPS)?.is_none());
+    holds(&rt, first_other(rt.alloc(), 153)?.is_none());
     Ok(())
 }
 

@@ -6,6 +6,8 @@ mod board;
 #[cfg(test)]
 mod crashes;
 #[cfg(test)]
+mod facts;
+#[cfg(test)]
 mod full_steps;
 #[cfg(test)]
 mod kept_bases;
@@ -14,6 +16,10 @@ mod locks;
 #[cfg(test)]
 mod queue;
 #[cfg(test)]
+mod race;
+#[cfg(test)]
 mod ring;
 #[cfg(test)]
 mod root;
+#[cfg(test)]
+mod scripts;

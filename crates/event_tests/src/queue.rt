@@ -1,75 +1,32 @@
 //! The worked row of linking, each kind at its limits, and a script of three callers against tickets written by hand.
 
-use crate::board::{Board, Row};
+use crate::board::{Board, Row, holds};
+use crate::facts::{Fact, Known, SeenRow};
+use crate::scripts::{Part, Script, are_seen, are_so, first_wrong};
 use cx_core::Kind;
 use std::alloc::{AllocError, Global};
 use std::test::Fail;
 
-// The words of the first four link slots.
-fn first_links(board: &Board) -> [u64; 4] {
-    let word = |slot: usize| board.state.link().get(slot).copied().unwrap_or(u64::MAX);
-    [word(0), word(1), word(2), word(3)]
-}
-
-fn front(board: &Board, caller: usize) -> Option<u64> {
-    Some(board.state.locals().get(caller)?.front)
-}
-
-// The ticket of a caller's first entry.
-fn ticket(board: &Board, caller: usize) -> Option<u64> {
-    Some(
-        board
-            .state
-            .locals()
-            .get(caller)?
-            .own
-            .as_slice()
-            .first()?
-            .ticket,
-    )
-}
-
-// Caller, kind, whether it is allowed, and the caller's front afterwards.
-type FrontRow = (u32, Kind, bool, u64);
-
-// The first row that answers otherwise.
-fn first_wrong(
-    alloc: Global,
-    board: &mut Board,
-    rows: &[FrontRow],
-) -> Result<Option<usize>, AllocError> {
-    for (i, row) in rows.iter().enumerate() {
-        let allowed = board.step(alloc, row.0, row.1)?;
-        if allowed != row.2 || front(board, row.0 as usize) != Some(row.3) {
-            return Ok(Some(i));
-        }
-    }
-    Ok(None)
-}
-
-const TWO_CALLERS: [FrontRow; 9] = [
-    (0, Kind::WriteCell { j: 0, i: 0, v: 1 }, true, 0),
-    (0, Kind::Look { s: 0 }, true, 0),
-    (0, Kind::Link { j: 0 }, true, 1),
-    (1, Kind::WriteCell { j: 0, i: 0, v: 1 }, true, 0),
-    (1, Kind::Look { s: 0 }, true, 1),
-    (1, Kind::Link { j: 0 }, false, 1),
-    (1, Kind::Look { s: 1 }, true, 1),
-    (1, Kind::Link { j: 0 }, true, 2),
-    (1, Kind::LoadFree, true, 2),
+const TWO_CALLERS: [SeenRow; 9] = [
+    (
+        (0, Kind::WriteCell { j: 0, i: 0, v: 1 }, true),
+        Fact::Of(0, Known::Front(0)),
+    ),
+    ((0, Kind::Look { s: 0 }, true), Fact::Of(0, Known::Front(0))),
+    ((0, Kind::Link { j: 0 }, true), Fact::Of(0, Known::Front(1))),
+    (
+        (1, Kind::WriteCell { j: 0, i: 0, v: 1 }, true),
+        Fact::Of(1, Known::Front(0)),
+    ),
+    ((1, Kind::Look { s: 0 }, true), Fact::Of(1, Known::Front(1))),
+    (
+        (1, Kind::Link { j: 0 }, false),
+        Fact::Of(1, Known::Front(1)),
+    ),
+    ((1, Kind::Look { s: 1 }, true), Fact::Of(1, Known::Front(1))),
+    ((1, Kind::Link { j: 0 }, true), Fact::Of(1, Known::Front(2))),
+    ((1, Kind::LoadFree, true), Fact::Of(1, Known::Front(2))),
 ];
-
-#[test]
-fn two_callers_link(rt: HostRuntime) -> Result<(), Fail> {
-    let alloc = rt.alloc();
-    let mut board = Board::open(alloc, 2)?;
-    let wrong = first_wrong(alloc, &mut board, &TWO_CALLERS)?;
-    assert_eq!(rt;
-        (wrong, first_links(&board), board.state.free()),
-        (None, [1, 49, 0, 0], 0)
-    );
-    Ok(())
-}
 
 const LIMITS: [Row; 34] = [
     (
@@ -144,150 +101,156 @@ const LIMITS: [Row; 34] = [
     (2, Kind::ReadCell { t: 0, k: 0, i: 0 }, false),
 ];
 
+static SCRIPTS: [Script; 2] = [
+    (
+        2,
+        &[
+            Part::Seen(&TWO_CALLERS),
+            Part::Are(&[Fact::Links([1, 49, 0, 0]), Fact::Free(0)]),
+        ],
+    ),
+    (
+        2,
+        &[
+            Part::Rows(&[&LIMITS]),
+            Part::Are(&[
+                Fact::Of(0, Known::Ticket(Some(0))),
+                Fact::Of(1, Known::Ticket(None)),
+            ]),
+        ],
+    ),
+];
+
 #[test]
-fn arguments_at_their_limits(rt: HostRuntime) -> Result<(), Fail> {
-    let alloc = rt.alloc();
-    let mut board = Board::open(alloc, 2)?;
-    let wrong = board.first_wrong(alloc, &LIMITS)?;
-    assert_eq!(rt;
-        (wrong, ticket(&board, 0), ticket(&board, 1)),
-        (None, Some(0), None)
-    );
+fn two_callers_link_and_arguments_are_at_their_limits(rt: HostRuntime) -> Result<(), Fail> {
+    holds(&rt, first_wrong(rt.alloc(), &SCRIPTS)?.is_none());
     Ok(())
 }
 
-// Each caller in turn writes its number and 19 words into its cell 0: 60 steps.
-fn three_announce(alloc: Global, board: &mut Board) -> Result<u64, AllocError> {
-    let mut allowed = 0;
-    for i in 0..20u64 {
+// Whether each caller in turn may write its number and 19 words into its cell 0: 60 steps.
+fn announce(alloc: Global, board: &mut Board) -> Result<bool, AllocError> {
+    for i in 0..20u32 {
         for caller in 0..3u32 {
-            let v = if i == 0 {
-                1
-            } else {
-                100 * u64::from(caller) + i
-            };
-            let kind = Kind::WriteCell { j: 0, i, v };
-            if board.step(alloc, caller, kind)? && allowed < 60 {
-                allowed += 1;
+            let (i, v) = (u64::from(i), word_of(caller, i));
+            if !board.step(alloc, caller, Kind::WriteCell { j: 0, i, v })? {
+                return Ok(false);
             }
         }
     }
-    Ok(allowed)
+    Ok(true)
 }
 
-// A caller looks at a slot and reads so many words of the cell that it names. The steps that are allowed.
-fn reads(
+fn word_of(caller: u32, i: u32) -> u64 {
+    if i == 0 {
+        1
+    } else {
+        100 * u64::from(caller) + u64::from(i)
+    }
+}
+
+// Whether a caller may look at a slot and read so many words of the cell that it names.
+fn read(
     alloc: Global,
     board: &mut Board,
     caller: u32,
     t: u64,
     k: u64,
     words: u64,
-) -> Result<u64, AllocError> {
-    let mut allowed = 0;
-    if board.step(alloc, caller, Kind::Look { s: t })? {
-        allowed = 1;
+) -> Result<bool, AllocError> {
+    if !board.step(alloc, caller, Kind::Look { s: t })? {
+        return Ok(false);
     }
     for i in 0..words {
-        let kind = Kind::ReadCell { t, k, i };
-        if board.step(alloc, caller, kind)? && allowed < 13 {
-            allowed += 1;
+        if !board.step(alloc, caller, Kind::ReadCell { t, k, i })? {
+            return Ok(false);
         }
     }
-    Ok(allowed)
+    Ok(true)
 }
 
-// A caller protects every ticket: 2 steps.
-fn protects_all(alloc: Global, board: &mut Board, caller: u32) -> Result<bool, AllocError> {
+// Whether a caller may protect every ticket and read words of the entries of all three, which stand in cells 32, 16 and 0: 39
+// steps.
+fn read_all(alloc: Global, board: &mut Board, caller: u32) -> Result<bool, AllocError> {
     Ok(
         board.step(alloc, caller, Kind::Protect { p: 0 })?
-            && board.step(alloc, caller, Kind::Confirm)?,
+            && board.step(alloc, caller, Kind::Confirm)?
+            && read(alloc, board, caller, 0, 32, 12)?
+            && read(alloc, board, caller, 1, 16, 12)?
+            && read(alloc, board, caller, 2, 0, 10)?,
     )
 }
 
 // Caller 2 is first and caller 1 second; caller 0 loses slot 0 and slot 1, and is third.
-const THREE_CALLERS: [FrontRow; 23] = [
-    (0, Kind::Look { s: 0 }, true, 0),
-    (1, Kind::Look { s: 0 }, true, 0),
-    (2, Kind::Look { s: 0 }, true, 0),
-    (2, Kind::Link { j: 0 }, true, 1),
-    (0, Kind::Link { j: 0 }, true, 1),
-    (1, Kind::Link { j: 0 }, true, 1),
-    (0, Kind::Look { s: 1 }, true, 1),
-    (1, Kind::Look { s: 1 }, true, 1),
-    (2, Kind::Look { s: 1 }, true, 1),
-    (1, Kind::Link { j: 0 }, true, 2),
-    (0, Kind::Link { j: 0 }, true, 2),
-    (0, Kind::Look { s: 1 }, true, 2),
-    (2, Kind::Look { s: 1 }, true, 2),
-    (0, Kind::Look { s: 2 }, true, 2),
-    (0, Kind::Link { j: 0 }, true, 3),
-    (0, Kind::LoadFree, true, 3),
-    (1, Kind::LoadFree, true, 2),
-    (2, Kind::LoadFree, true, 2),
-    (1, Kind::Look { s: 3 }, true, 2),
-    (1, Kind::Look { s: 2 }, true, 3),
-    (2, Kind::Look { s: 47 }, true, 2),
-    (2, Kind::Look { s: 0 }, true, 2),
-    (2, Kind::Look { s: 2 }, true, 3),
+static THREE_CALLERS: [SeenRow; 23] = [
+    ((0, Kind::Look { s: 0 }, true), Fact::Of(0, Known::Front(0))),
+    ((1, Kind::Look { s: 0 }, true), Fact::Of(1, Known::Front(0))),
+    ((2, Kind::Look { s: 0 }, true), Fact::Of(2, Known::Front(0))),
+    ((2, Kind::Link { j: 0 }, true), Fact::Of(2, Known::Front(1))),
+    ((0, Kind::Link { j: 0 }, true), Fact::Of(0, Known::Front(1))),
+    ((1, Kind::Link { j: 0 }, true), Fact::Of(1, Known::Front(1))),
+    ((0, Kind::Look { s: 1 }, true), Fact::Of(0, Known::Front(1))),
+    ((1, Kind::Look { s: 1 }, true), Fact::Of(1, Known::Front(1))),
+    ((2, Kind::Look { s: 1 }, true), Fact::Of(2, Known::Front(1))),
+    ((1, Kind::Link { j: 0 }, true), Fact::Of(1, Known::Front(2))),
+    ((0, Kind::Link { j: 0 }, true), Fact::Of(0, Known::Front(2))),
+    ((0, Kind::Look { s: 1 }, true), Fact::Of(0, Known::Front(2))),
+    ((2, Kind::Look { s: 1 }, true), Fact::Of(2, Known::Front(2))),
+    ((0, Kind::Look { s: 2 }, true), Fact::Of(0, Known::Front(2))),
+    ((0, Kind::Link { j: 0 }, true), Fact::Of(0, Known::Front(3))),
+    ((0, Kind::LoadFree, true), Fact::Of(0, Known::Front(3))),
+    ((1, Kind::LoadFree, true), Fact::Of(1, Known::Front(2))),
+    ((2, Kind::LoadFree, true), Fact::Of(2, Known::Front(2))),
+    ((1, Kind::Look { s: 3 }, true), Fact::Of(1, Known::Front(2))),
+    ((1, Kind::Look { s: 2 }, true), Fact::Of(1, Known::Front(3))),
+    (
+        (2, Kind::Look { s: 47 }, true),
+        Fact::Of(2, Known::Front(2)),
+    ),
+    ((2, Kind::Look { s: 0 }, true), Fact::Of(2, Known::Front(2))),
+    ((2, Kind::Look { s: 2 }, true), Fact::Of(2, Known::Front(3))),
 ];
 
-// Caller, ticket, steps: 200 in all.
-const TICKETS: [(usize, u64, u64); 3] = [(0, 2, 67), (1, 1, 66), (2, 0, 67)];
+// Each caller's ticket and steps, 200 in all, the links, and words 0, 1, 19 and 20 of caller 1's entry.
+static AFTER_200: [Fact; 11] = [
+    Fact::Of(0, Known::Ticket(Some(2))),
+    Fact::Of(0, Known::Steps(67)),
+    Fact::Of(1, Known::Ticket(Some(1))),
+    Fact::Of(1, Known::Steps(66)),
+    Fact::Of(2, Known::Ticket(Some(0))),
+    Fact::Of(2, Known::Steps(67)),
+    Fact::Links([33, 65, 97, 0]),
+    Fact::CellWord(145 * 16, 1),
+    Fact::CellWord(145 * 16 + 1, 101),
+    Fact::CellWord(145 * 16 + 19, 119),
+    Fact::CellWord(145 * 16 + 20, 0),
+];
 
-// The first caller with another first ticket or another number of steps.
-fn first_other(board: &Board) -> Option<usize> {
-    for (caller, want, made) in TICKETS {
-        let steps = board.state.locals().get(caller).map(|l| l.steps);
-        if ticket(board, caller) != Some(want) || steps != Some(made) {
-            return Some(caller);
+// Whether each of three callers in turn may read the entries of all.
+fn all_read(alloc: Global, board: &mut Board) -> Result<bool, AllocError> {
+    for caller in 0..3u32 {
+        if !read_all(alloc, board, caller)? {
+            return Ok(false);
         }
     }
-    None
+    Ok(true)
 }
 
-// Each protects the tickets and reads words of the entries of all three, which stand in cells 32, 16 and 0: 117 steps. The first
-// caller and ticket of which not all steps are allowed.
-fn first_reader(alloc: Global, board: &mut Board) -> Result<Option<(u32, u64)>, AllocError> {
-    for caller in 0..3 {
-        if !protects_all(alloc, board, caller)? {
-            return Ok(Some((caller, 0)));
-        }
-        for (t, k, words) in [(0, 32, 12), (1, 16, 12), (2, 0, 10)] {
-            if reads(alloc, board, caller, t, k, words)? != words + 1 {
-                return Ok(Some((caller, t)));
-            }
-        }
+// Whether three callers make these steps on a board.
+fn link_three(alloc: Global, board: &mut Board) -> Result<bool, AllocError> {
+    if !announce(alloc, board)? || !are_seen(alloc, board, &THREE_CALLERS)? {
+        return Ok(false);
     }
-    Ok(None)
+    Ok(all_read(alloc, board)? && are_so(board, &AFTER_200))
 }
 
-// Words 0, 1, 19 and 20 of caller 1's entry.
-fn entry_words(board: &Board) -> [u64; 4] {
-    let word = |i: usize| board
-        .state
-        .cell()
-        .get(145 * 16 + i)
-        .copied()
-        .unwrap_or(u64::MAX);
-    [word(0), word(1), word(19), word(20)]
+// Whether three callers make these steps from the opening state on.
+fn links_three(alloc: Global) -> Result<bool, AllocError> {
+    let mut board = Board::open(alloc, 3)?;
+    link_three(alloc, &mut board)
 }
 
 #[test]
 fn three_callers_in_200_steps(rt: HostRuntime) -> Result<(), Fail> {
-    let alloc = rt.alloc();
-    let mut board = Board::open(alloc, 3)?;
-    let announced = three_announce(alloc, &mut board)?;
-    let wrong = first_wrong(alloc, &mut board, &THREE_CALLERS)?;
-    let reader = first_reader(alloc, &mut board)?;
-    assert_eq!(rt; (announced, wrong, reader), (60, None, None));
-    assert_eq!(rt;
-        (
-            first_other(&board),
-            first_links(&board),
-            entry_words(&board)
-        ),
-        (None, [33, 65, 97, 0], [1, 101, 119, 0])
-    );
+    holds(&rt, links_three(rt.alloc())?);
     Ok(())
 }
