@@ -3,7 +3,7 @@
 
     performance.py [--doc FILE] [--rounds N] [--ms M] [--threads 1,2,4] [--reads 0,50,..] [--sizes LINESxKEYS,..]
 
-Build the programs first: cd crates/service_bench && rt run
+Build the programs first: python3 bench/build.py service_bench
                           cd bench/peers && cargo build --release --offline
 
 `--doc docs/PERFORMANCE.md` writes the page there, and the plot into `pictures` beside it; else the page is printed. All takes some 3 minutes.
@@ -23,11 +23,12 @@ import subprocess
 import sys
 from dataclasses import dataclass
 
+from build import path_of
 from performance_plot import Panel, drawn
 from performance_words import advice, comparison, short, size_words, thread_words
 
 HERE = os.path.dirname(os.path.abspath(__file__))
-SERVICE = os.path.join(HERE, "..", "crates", "service_bench", "out", "service_bench")
+SERVICE = path_of("service_bench")
 PEERS = os.path.join(HERE, "peers", "target", "release", "peers")
 OURS, REGION = "service", "region_mutex"
 FORMS = {

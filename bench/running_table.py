@@ -1,7 +1,7 @@
 #!/usr/bin/env python3
 """Nanoseconds of the running table's calls on one thread and on two, and the memory of its largest table.
 
-Build the program first: python3 bench/build.py table_calls
+Build the program first: python3 bench/build.py table_bench
 The time of a link includes one reading of the clock. Each link is won, or lost to the other thread and tried again. Loads, stores
 and persists are of words of replicas held, a replica for each thread; a persist is of a word just stored, and includes the store.
 An addition and a document put are full steps on a replica held, and over plain words in the same run.
@@ -12,7 +12,7 @@ import sys
 
 from build import path_of
 
-TABLE = path_of("table_calls")
+TABLE = path_of("table_bench")
 
 
 def nanoseconds(work, count, threads):

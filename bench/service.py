@@ -1,7 +1,7 @@
 #!/usr/bin/env python3
 """Processor time and steps of a service's updates and reads, on one thread, two and four, and of the parts of both on one.
 
-Build the programs first: cd crates/service_bench && rt run, and python3 bench/build.py service_parts
+Build the program first: python3 bench/build.py service_bench
 A store of 1,024 lines has documents of 32 bytes at 100 keys. One service runs long enough that its callers' cells come round again many
 times; its making and closing are not counted. Each caller has a thread of its own. The least of several runs stands, since others load
 the machine. `--rounds N` sets how many.
@@ -16,9 +16,7 @@ import sys
 
 from build import path_of
 
-HERE = os.path.dirname(__file__)
-BENCH = os.path.join(HERE, "..", "crates", "service_bench", "out", "service_bench")
-PARTS_BENCH = path_of("service_parts")
+BENCH = path_of("service_bench")
 LEAST_ROUNDS = 9
 # the updates of each caller, and its reads where it only reads
 UPDATES, LOOKS = 10_000, 200_000
@@ -48,8 +46,8 @@ READ_PARTS = {
 }
 
 
-def lines_of(program, *words):
-    words = [program, *(str(word) for word in words)]
+def lines_of(*words):
+    words = [BENCH, *(str(word) for word in words)]
     return subprocess.run(words, check=True, capture_output=True, text=True).stdout.splitlines()
 
 
@@ -58,12 +56,12 @@ def named(words):
 
 
 def run(threads, updates, reads):
-    return named(lines_of(BENCH, "calls", threads, updates, reads)[0].split())
+    return named(lines_of("calls", threads, updates, reads)[0].split())
 
 
 def parts(tables):
     """What each part of an update and of a read took, in one run."""
-    return {words[0]: named(words[1:]) for words in map(str.split, lines_of(PARTS_BENCH, tables))}
+    return {words[0]: named(words[1:]) for words in map(str.split, lines_of("parts", 1, tables, 0))}
 
 
 def parts_table(runs, call, of, last):
@@ -109,7 +107,7 @@ def table(rows):
 
 
 if __name__ == "__main__":
-    if not (os.path.exists(BENCH) and os.path.exists(PARTS_BENCH)):
+    if not os.path.exists(BENCH):
         sys.exit(__doc__)
     parser = argparse.ArgumentParser(description=__doc__, formatter_class=argparse.RawDescriptionHelpFormatter)
     parser.add_argument("--rounds", type=int, default=LEAST_ROUNDS)
