@@ -8,7 +8,7 @@ use crate::counting::{Counting, counted_words};
 use crate::holds::holds;
 use crate::mixed::digit;
 use crate::rows::{asked, laid_out, opened};
-use cx_base::{Halt, Memory};
+use cx_base::{Halt, Memory, VecMemory};
 use doc_store::DocStore;
 use std::alloc::{AllocError, Global};
 use std::test::Fail;
@@ -81,27 +81,39 @@ fn most_loads<M: Memory>(store: &DocStore, mem: &mut Counting<M>, keys: u64) -> 
 }
 
 /// The height of the root that the header names.
-pub(crate) fn height_in(words: &[u64]) -> Option<u64> {
+fn height_in(words: &[u64]) -> Option<u64> {
     let root = *words.get(1)?;
     words
         .get(root.saturating_mul(8).saturating_add(2) as usize)
         .copied()
 }
 
-/// Whether each get among 1023 rising keys loads no more than so many words, in a tree of this height.
-fn loads_few(alloc: Global, limit: u64, height: u64) -> Result<bool, AllocError> {
-    let mut mem = counted_words(alloc, 4096)?;
-    Ok(match most_loads(&DocStore::of(4096), &mut mem, 1023) {
-        Ok(most) => most <= limit && height_in(&mem.inner.into_words()) == Some(height),
+/// Whether each get among so many rising keys loads no more than so many words.
+fn loads_few<M: Memory>(store: &DocStore, mem: &mut Counting<M>, keys: u64, limit: u64) -> bool
+    requires size { M.size mem.old.inner ≡ 8 * store.now.lines }
+    requires writable { IsTrue (M.writable mem.old.inner) }
+{
+    match most_loads(store, mem, keys) {
+        Ok(most) => most <= limit,
         Err(Halt) => false,
-    })
+    }
+}
+
+/// Whether the tree in a memory has this height.
+pub(crate) fn has_height(mem: Counting<VecMemory>, height: u64) -> bool {
+    height_in(&mem.inner.into_words()) == Some(height)
 }
 
 #[test]
 fn a_get_among_1023_rising_keys_loads_few_words(rt: HostRuntime) -> Result<(), Fail> {
-    // the root, 21 visits of a link, a key's place, its length and its two words, and as many for the document;
+    let mut mem = counted_words(rt.alloc(), 4096)?;
+    // the root, 21 visits of a link, a key's place, its length and its two words, and as many for the document
+    holds(
+        &rt,
+        loads_few(&DocStore::of(4096), &mut mem, 1023, 1 + 5 * 21 + 4),
+    );
     // the tree of 2^10 - 1 rising keys is full
-    holds(&rt, loads_few(rt.alloc(), 1 + 5 * 21 + 4, 10)?);
+    holds(&rt, has_height(mem, 10));
     Ok(())
 }
 
@@ -113,7 +125,7 @@ const NO_LIMIT: u64 = u64::MAX;
 
 // Each operation visits at most 7, 14, 20 and 25 nodes: the greatest v with 2^v <= 2 * (n + 1)^2. A get loads 5 v + 10
 // words and stores none, and a change has 8 v + 64 accesses.
-const GROWING: [Limited; 20] = [
+static GROWING: [Limited; 20] = [
     (
         10,
         PUT,
@@ -185,7 +197,7 @@ const GROWING: [Limited; 20] = [
 ];
 
 // 13 words hold 100 letters. The last of them gets four letters more, and the length changes.
-const OVER: [Limited; 4] = [
+static OVER: [Limited; 4] = [
     (
         5,
         PUT,
@@ -244,25 +256,25 @@ fn limited<M: Memory>(
     counted(store, mem, &on_key(kind, n, document))
 }
 
-/// The first row whose operation is not within its limits, from the empty store on.
-fn first_beyond<M: Memory>(
+/// Whether each row's operation is within its limits, from the empty store on.
+fn are_within_limits<M: Memory>(
     store: &DocStore,
     mem: &mut Counting<M>,
     rows: &[Limited],
-) -> Result<Option<usize>, Halt>
+) -> Result<bool, Halt>
     requires size { M.size mem.old.inner ≡ 8 * store.now.lines }
     requires writable { IsTrue (M.writable mem.old.inner) }
 {
     opened(store, mem)?;
     let mut there = 0;
-    for (i, row) in rows.iter().enumerate() {
+    for row in rows {
         limited(store, mem, there, row)?;
         there = row.0;
         if !are_within(mem.loads, mem.stores, &row.4) {
-            return Ok(Some(i));
+            return Ok(false);
         }
     }
-    Ok(None)
+    Ok(true)
 }
 
 /// Whether each row's operation is within its limits, in so many lines.
@@ -271,10 +283,7 @@ fn are_limited(alloc: Global, lines: u64, rows: &[Limited]) -> Result<bool, Allo
     requires few { lines ≤ 2 ^ 14 }
 {
     let mut mem = counted_words(alloc, lines)?;
-    Ok(match first_beyond(&DocStore::of(lines), &mut mem, rows) {
-        Ok(beyond) => beyond.is_none(),
-        Err(Halt) => false,
-    })
+    Ok(are_within_limits(&DocStore::of(lines), &mut mem, rows).unwrap_or(false))
 }
 
 #[test]

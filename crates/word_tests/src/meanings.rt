@@ -5,7 +5,7 @@ use crate::rows::{Row, are_answered, are_answered_with};
 use doc_model::{Pairs, integer_of, number_of};
 use std::test::Fail;
 
-const NUMBERS: [(&str, Option<u64>, Option<i64>); 16] = [
+static NUMBERS: [(&str, Option<u64>, Option<i64>); 16] = [
     ("0", Some(0), Some(0)),
     ("-0", None, None),
     ("01", None, None),
@@ -44,7 +44,7 @@ fn numbers_are_read_in_one_form_alone(rt: HostRuntime) {
 }
 
 // -21 is 18446744073709551595, and -1 is 18446744073709551615
-const COMMANDS: [(Row, Row); 24] = [
+static COMMANDS: [(Row, Row); 24] = [
     ((6, "", "", 0), (11, "", "", 0)),
     ((5, "", "", 0), (4, "", "", 0)),
     ((1, "c", "text", 0), (1, "", "", 0)),
@@ -75,7 +75,7 @@ const COMMANDS: [(Row, Row); 24] = [
 ];
 
 // 19 pairs of 3 lines each, and one of 6 lines: with it, 63 of the 63 lines that hold pairs
-const FULL: [(Row, Row); 28] = [
+static FULL: [(Row, Row); 28] = [
     ((1, "k00", "0", 0), (1, "", "", 0)),
     ((1, "k01", "0", 0), (1, "", "", 0)),
     ((1, "k02", "0", 0), (1, "", "", 0)),

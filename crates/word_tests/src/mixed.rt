@@ -5,7 +5,7 @@ ghost use Rattle.cx_base.specs.Memory.{Always};
 ghost use Rattle.doc_store.specs.ExactStep.{IsImage};
 
 use crate::holds::holds;
-use crate::rows::{asked, laid_out, meant, memory, opened, same_reply, words_of};
+use crate::rows::{LETTERS, asked, laid_out, meant, memory, opened, same_reply, words_of};
 use cx_base::{Memory, Object, VecMemory};
 use doc_model::{OpFault, Pair, Pairs, Reply, reply_of};
 use doc_store::{DocStore, documents};
@@ -13,8 +13,6 @@ use std::alloc::{AllocError, Global};
 use std::test::Fail;
 
 const DIGITS: [u8; 10] = *b"0123456789";
-
-const LETTERS: [u8; 150] = [b'x'; 150];
 
 const KINDS: [u64; 10] = [1, 1, 1, 1, 2, 3, 3, 4, 5, 6];
 
@@ -61,18 +59,17 @@ pub(crate) fn command(numbers: &mut Numbers) -> [u64; 144] {
     }
 }
 
+fn same_pair(one: &Pair, other: &Pair) -> bool {
+    one.key.as_slice() == other.key.as_slice() && one.doc.as_slice() == other.doc.as_slice()
+}
+
 fn same_pairs(ones: &[Pair], others: &[Pair]) -> bool {
-    if ones.len() != others.len() {
-        return false;
-    }
     for (one, other) in ones.iter().zip(others) {
-        if one.key.as_slice() != other.key.as_slice()
-            || one.doc.as_slice() != other.doc.as_slice()
-        {
+        if !same_pair(one, other) {
             return false;
         }
     }
-    true
+    ones.len() == others.len()
 }
 
 /// Whether words are those of a reply.

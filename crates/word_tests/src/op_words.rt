@@ -1,7 +1,7 @@
 //! Worked rows: words of operations and replies, and words that are none.
 
 use crate::holds::holds;
-use crate::rows::{Row, has_reply, laid_out, words_of};
+use crate::rows::{LETTERS, Row, has_reply, laid_out, words_of};
 use cx_base::pack;
 use doc_model::{
     Op, OpFault, Reply, is_key, is_op, op_of, op_words, packed_document_reply, packed_key_reply,
@@ -73,7 +73,7 @@ fn is_read(alloc: Global, words: &[u64; 144], want: &Parts<'_>) -> Result<bool, 
     }
 }
 
-const OPERATIONS: [(Row, Parts<'static>); 19] = [
+static OPERATIONS: [(Row, Parts<'static>); 19] = [
     ((1, "a", " ", 0), (1, b"a", b" ", 0)),
     ((1, "!~", "\u{FF}", 0), (1, b"!~", b"\xC3\xBF", 0)),
     ((2, "a", "", 0), (2, b"a", b"", 0)),
@@ -112,10 +112,8 @@ fn first_other(alloc: Global, rows: &[(Row, Parts<'static>)]) -> Result<Option<u
     Ok(None)
 }
 
-const LETTERS: [u8; 1025] = [b'x'; 1025];
-
 // the lengths of the key and of the document, and whether a put has them
-const LENGTHS: [(usize, usize, bool); 9] = [
+static LENGTHS: [(usize, usize, bool); 9] = [
     (1, 1, true),
     (7, 56, true),
     (8, 57, true),
@@ -144,7 +142,7 @@ fn first_other_length(
     Ok(None)
 }
 
-const OF_ZEROS: [Changed; 3] = [
+static OF_ZEROS: [Changed; 3] = [
     (
         &[(0, 1), (1, 1), (2, 1), (8, 97), (16, 49)],
         (1, b"a", b"1", 0),
@@ -156,7 +154,7 @@ const OF_ZEROS: [Changed; 3] = [
     (&[], (0, b"", b"", 0)),
 ];
 
-const OF_A_PUT: [Changed; 22] = [
+static OF_A_PUT: [Changed; 22] = [
     (&[(0, 0)], (0, b"", b"", 0)),
     (&[(0, 7)], (0, b"", b"", 0)),
     (&[(0, 2)], (0, b"", b"", 0)),
@@ -221,7 +219,7 @@ fn words_are_read_as_operations(rt: HostRuntime) -> Result<(), Fail> {
 }
 
 // words, whether a reply has them, and its sum if it is one
-const REPLIES: [(Row, bool, i64); 23] = [
+static REPLIES: [(Row, bool, i64); 23] = [
     ((1, "", "", 0), true, 0),
     ((2, "", "", 0), true, 0),
     ((3, "", "", 0), true, 0),
@@ -293,9 +291,14 @@ fn are_packed(key_words: &[(usize, u64)], document_words: &[(usize, u64)]) -> bo
         && packed_document_reply(9, &document) == changed([0; 144], document_words)
 }
 
-const KEY_WORDS: [(usize, u64); 3] = [(0, 10), (1, 3), (8, 0x0079_656b)];
+static KEY_WORDS: [(usize, u64); 3] = [(0, 10), (1, 3), (8, 0x0079_656b)];
 
-const DOCUMENT_WORDS: [(usize, u64); 4] = [(0, 5), (2, 9), (16, 0x746e_656d_7563_6f64), (17, 0x21)];
+static DOCUMENT_WORDS: [(usize, u64); 4] = [
+    (0, 5),
+    (2, 9),
+    (16, 0x746e_656d_7563_6f64),
+    (17, 0x21),
+];
 
 #[test]
 fn words_are_read_as_replies(rt: HostRuntime) -> Result<(), Fail> {

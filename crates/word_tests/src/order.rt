@@ -50,15 +50,20 @@ fn order_of(n: u64) -> [usize; 7] {
     order
 }
 
+/// Whether a pair is of this key, with itself as its document.
+fn is_pair(pair: Option<&Pair>, key: &[u8]) -> bool {
+    match pair {
+        Some(pair) => pair.key.as_slice() == key && pair.doc.as_slice() == key,
+        None => false,
+    }
+}
+
 /// Whether these are the pairs of these keys, each with itself as its document.
 fn are_those(pairs: &[Pair], there: &[bool; 7]) -> bool {
     let mut found = 0usize;
     for (key, there) in KEYS.iter().zip(there) {
         if *there {
-            let Some(pair) = pairs.get(found) else {
-                return false;
-            };
-            if pair.key.as_slice() != key.as_bytes() || pair.doc.as_slice() != key.as_bytes() {
+            if !is_pair(pairs.get(found), key.as_bytes()) {
                 return false;
             }
             found = found.saturating_add(1);
@@ -224,7 +229,7 @@ fn root_of(image: &[u64]) -> Option<(u64, u64)> {
 }
 
 // Balanced by hand: a; a, b; b over a, c; and on, as an AVL tree has it.
-const ROOTS: [(u64, u64); 7] = [
+static ROOTS: [(u64, u64); 7] = [
     (97, 1),
     (97, 2),
     (98, 2),

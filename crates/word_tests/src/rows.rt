@@ -14,6 +14,9 @@ use std::test::Fail;
 /// The parts of words, as the rows give them: the kind, the key, the document and the number.
 pub(crate) type Row = (u64, &'static str, &'static str, u64);
 
+/// A key or a document of one letter.
+pub(crate) static LETTERS: [u8; 1025] = [b'x'; 1025];
+
 /// Lays bytes out from a word on: byte i is in word i / 8 at bits 8 * (i mod 8).
 fn lay(words: &mut [u64], from: usize, bytes: &[u8]) {
     for (i, byte) in bytes.iter().enumerate() {
@@ -168,29 +171,29 @@ fn is_answered<M: Memory>(store: &DocStore, mem: &mut M, op: &[u64; 144], want: 
     }
 }
 
-/// The first row that the store, empty before, or the plain program answers otherwise.
-fn first_other<M: Memory>(
+/// Whether the store, empty before, and the plain program answer each row as told.
+fn both_answer<M: Memory>(
     alloc: Global,
     store: &DocStore,
     mem: &mut M,
     pairs: &mut Pairs,
     rows: &[(Row, Row)],
-) -> Result<Option<usize>, AllocError>
+) -> Result<bool, AllocError>
     requires size { M.size mem.old ≡ 8 * store.now.lines }
     requires writable { IsTrue (M.writable mem.old) }
 {
     let Ok(()) = opened(store, mem) else {
-        return Ok(Some(0));
+        return Ok(false);
     };
-    for (i, (ask, want)) in rows.iter().enumerate() {
+    for (ask, want) in rows {
         let op = words_of(*ask);
         if !is_answered(store, mem, &op, *want)
             || !is_meant(alloc, pairs, store.lines(), &op, want)?
         {
-            return Ok(Some(i));
+            return Ok(false);
         }
     }
-    Ok(None)
+    Ok(true)
 }
 
 /// A memory of so many lines of words that say nothing.
@@ -213,8 +216,7 @@ pub(crate) fn are_answered_with(
     requires few { lines ≤ 64 }
 {
     let mut mem = memory(alloc, lines)?;
-    let other = first_other(alloc, &DocStore::of(lines), &mut mem, pairs, rows)?;
-    Ok(other.is_none())
+    both_answer(alloc, &DocStore::of(lines), &mut mem, pairs, rows)
 }
 
 /// Whether each row is answered as told in so many lines.
@@ -230,7 +232,7 @@ pub(crate) fn are_answered(
 }
 
 // 63 lines, all in use
-const FULL: [(Row, Row); 27] = [
+static FULL: [(Row, Row); 27] = [
     ((1, "k00", "0", 0), (1, "", "", 0)),
     ((1, "k01", "0", 0), (1, "", "", 0)),
     ((1, "k02", "0", 0), (1, "", "", 0)),
@@ -269,7 +271,7 @@ const FULL: [(Row, Row); 27] = [
 ];
 
 // a sum at the type's end, and below 0
-const SUMS: [(Row, Row); 7] = [
+static SUMS: [(Row, Row); 7] = [
     (
         (3, "k", "", 9223372036854775807),
         (6, "", "", 9223372036854775807),
@@ -289,7 +291,7 @@ const SUMS: [(Row, Row); 7] = [
 ];
 
 // a document that is no number, and one that is gone
-const NO_NUMBERS: [(Row, Row); 6] = [
+static NO_NUMBERS: [(Row, Row); 6] = [
     ((1, "a", "{\"a\":[],\"b\":1}", 0), (1, "", "", 0)),
     ((4, "a", "", 0), (5, "", "{\"a\":[],\"b\":1}", 0)),
     ((3, "a", "", 1), (7, "", "", 0)),
@@ -299,7 +301,7 @@ const NO_NUMBERS: [(Row, Row); 6] = [
 ];
 
 // keys at the limit, and words that are no operation's
-const AT_THE_LIMITS: [(Row, Row); 10] = [
+static AT_THE_LIMITS: [(Row, Row); 10] = [
     (
         (
             1,
@@ -345,7 +347,7 @@ const AT_THE_LIMITS: [(Row, Row); 10] = [
 ];
 
 // a document of 56 bytes takes one line, and one of 57 bytes takes two
-const SEVEN_LINES: [(Row, Row); 8] = [
+static SEVEN_LINES: [(Row, Row); 8] = [
     ((5, "", "", 0), (4, "", "", 0)),
     ((1, "b", "1", 0), (1, "", "", 0)),
     ((3, "a", "", 41), (6, "", "", 41)),
@@ -373,7 +375,7 @@ const SEVEN_LINES: [(Row, Row); 8] = [
 ];
 
 // the least key above, and the number of pairs
-const LEAST_KEYS: [(Row, Row); 7] = [
+static LEAST_KEYS: [(Row, Row); 7] = [
     ((1, "a", "1", 0), (1, "", "", 0)),
     ((1, "c", "2", 0), (1, "", "", 0)),
     ((5, "", "", 0), (10, "a", "", 0)),
@@ -383,7 +385,7 @@ const LEAST_KEYS: [(Row, Row); 7] = [
     ((6, "", "", 0), (11, "", "", 2)),
 ];
 
-const READINGS: [(Row, bool); 8] = [
+static READINGS: [(Row, bool); 8] = [
     ((1, "a", "1", 0), false),
     ((2, "a", "", 0), false),
     ((3, "a", "", 1), false),

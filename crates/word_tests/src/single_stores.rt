@@ -1,14 +1,14 @@
 //! How often one operation stores each word.
 
-ghost use Rattle.std.specs.Prelude.{◌≡◌, ◌*◌, IsTrue, OnOk};
+ghost use Rattle.std.specs.Prelude.{◌≡◌, ◌*◌, ◌^◌, ◌≤◌, IsTrue, OnOk};
 ghost use Rattle.cx_base.specs.Memory.{Always};
 ghost use Rattle.doc_store.specs.ExactStep.{IsImage};
 
-use crate::access::{DEL, PUT, height_in, key_of, on_key};
+use crate::access::{DEL, PUT, has_height, key_of, on_key};
 use crate::counting::{Counting, WordStores, counted_words};
 use crate::holds::holds;
 use crate::mixed::{Numbers, command};
-use crate::rows::{asked, laid_out, opened};
+use crate::rows::{LETTERS, asked, laid_out, opened};
 use cx_base::{Halt, Memory};
 use doc_store::DocStore;
 use std::alloc::{AllocError, Global};
@@ -78,7 +78,7 @@ fn store_once(alloc: Global, lines: u64, commands: u64, more_than: u64) -> Resul
     let mut mem = counted_words(alloc, lines)?;
     Ok(match stores_of(&DocStore::of(lines), &mut mem, commands) {
         Ok(stores) => are_single(&stores, more_than),
-        Err(Halt) => false,
+        Err(_) => false,
     })
 }
 
@@ -157,8 +157,6 @@ fn level_by_level(alloc: Global) -> Result<Vec<Smallest>, AllocError> {
     Ok(trees)
 }
 
-const LETTERS: [u8; 1024] = [b'x'; 1024];
-
 /// The words of an operation on the n-th key of 64 bytes, which is above the n-th one of 16 bytes and below the next.
 fn on_long_key(kind: u64, n: u64, document: &[u8]) -> [u64; 144] {
     let mut key = [b'k'; 64];
@@ -195,7 +193,7 @@ fn grown<M: Memory>(
     ensures lawful { OnOk result (Always (M.stands mem.new) (IsImage store.now.lines)) }
 {
     opened(store, mem)?;
-    asked(store, mem, &on_long_key(PUT, root, &LETTERS))?;
+    asked(store, mem, &on_long_key(PUT, root, &LETTERS[..1024]))?;
     put_short(store, mem, others)
 }
 
@@ -213,32 +211,34 @@ fn are_deep<M: Memory>(
 {
     grown(store, mem, root, others)?;
     counted(&mut mem.words, NONE);
-    asked(store, mem, &on_long_key(PUT, last, &LETTERS))?;
+    asked(store, mem, &on_long_key(PUT, last, &LETTERS[..1024]))?;
     let put = counted(&mut mem.words, NONE);
     asked(store, mem, &on_long_key(DEL, root, b""))?;
     let taken = counted(&mut mem.words, NONE);
     Ok(are_single(&put, 170) && are_single(&taken, 60))
 }
 
-/// Whether the tree's last two changes store each word that they change once, and leave a tree of height 16.
-fn is_deepest(alloc: Global, trees: &[Smallest]) -> Result<bool, AllocError> {
+/// Whether the last two changes of a tree, whose roots come level by level, store each word that they change once.
+fn are_last<M: Memory>(store: &DocStore, mem: &mut Counting<M>, trees: &[Smallest]) -> bool
+    requires size { M.size mem.old.inner ≡ 8 * store.now.lines }
+    requires writable { IsTrue (M.writable mem.old.inner) }
+{
     let [root, others @ .., last] = trees else {
-        return Ok(false);
+        return false;
     };
-    let mut mem = counted_words(alloc, 16_384)?;
-    let store = DocStore::of(16_384);
-    Ok(
-        match are_deep(&store, &mut mem, root.root(), others, last.root()) {
-            Ok(deep) => deep && height_in(&mem.inner.into_words()) == Some(16),
-            Err(Halt) => false,
-        },
-    )
+    match are_deep(store, mem, root.root(), others, last.root()) {
+        Ok(deep) => deep,
+        Err(Halt) => false,
+    }
 }
 
 // 16,384 lines are the most that a replica has, and no higher tree has room in them.
 #[test]
 fn a_change_of_the_deepest_tree_stores_no_word_twice(rt: HostRuntime) -> Result<(), Fail> {
+    let mut mem = counted_words(rt.alloc(), 16_384)?;
     let trees = level_by_level(rt.alloc())?;
-    holds(&rt, trees.len() == 4180 && is_deepest(rt.alloc(), &trees)?);
+    holds(&rt, trees.len() == 4180);
+    holds(&rt, are_last(&DocStore::of(16_384), &mut mem, &trees));
+    holds(&rt, has_height(mem, 16));
     Ok(())
 }
