@@ -1,13 +1,13 @@
 //! How many accesses of the memory operations take, by the number of keys.
 
-ghost use Rattle.std.specs.Prelude.{◌≡◌, ◌*◌, ◌^◌, ◌≤◌, IsTrue, OnOk};
+ghost use Rattle.std.specs.Prelude.{◌≡◌, ◌*◌, ◌^◌, ◌≤◌, IsTrue, IfOk, OnOk};
 ghost use Rattle.cx_base.specs.Memory.{Always};
 ghost use Rattle.doc_store.specs.ExactStep.{IsImage};
 
 use crate::counting::{Counting, counted_words};
 use crate::holds::holds;
 use crate::mixed::digit;
-use crate::rows::{asked, laid_out, opened};
+use crate::rows::{LETTERS, asked, laid_out, opened};
 use cx_base::{Halt, Memory, VecMemory};
 use doc_store::DocStore;
 use std::alloc::{AllocError, Global};
@@ -45,23 +45,8 @@ fn put_rising<M: Memory>(store: &DocStore, mem: &mut M, from: u64, to: u64) -> R
     ensures lawful { OnOk result (Always (M.stands mem.new) (IsImage store.now.lines)) }
 {
     for n in from..to {
-        asked(store, mem, &on_key(PUT, n, b"xxxxxxxxxxxxxxxx"))?;
+        asked(store, mem, &on_key(PUT, n, &LETTERS[..16]))?;
     }
-    Ok(())
-}
-
-/// Does one operation, and counts its accesses alone.
-fn counted<M: Memory>(store: &DocStore, mem: &mut Counting<M>, op: &[u64; 144]) -> Result<(), Halt>
-    requires size { M.size mem.old.inner ≡ 8 * store.now.lines }
-    requires writable { IsTrue (M.writable mem.old.inner) }
-    requires lawful { Always (M.stands mem.old.inner) (IsImage store.now.lines) }
-    ensures size { M.size mem.new.inner ≡ 8 * store.now.lines }
-    ensures writable { IsTrue (M.writable mem.new.inner) }
-    ensures lawful { OnOk result (Always (M.stands mem.new.inner) (IsImage store.now.lines)) }
-{
-    mem.loads = 0;
-    mem.stores = 0;
-    asked(store, mem, op)?;
     Ok(())
 }
 
@@ -74,8 +59,9 @@ fn most_loads<M: Memory>(store: &DocStore, mem: &mut Counting<M>, keys: u64) -> 
     put_rising(store, mem, 0, keys)?;
     let mut most = 0;
     for n in 0..keys {
-        counted(store, mem, &on_key(GET, n, b""))?;
-        most = most.max(mem.loads);
+        let before = mem.loads;
+        asked(store, mem, &on_key(GET, n, b""))?;
+        most = most.max(mem.loads.saturating_sub(before));
     }
     Ok(most)
 }
@@ -237,23 +223,29 @@ fn are_within(loads: u64, stores: u64, limits: &[u64; 4]) -> bool {
         && loads.saturating_add(stores) <= most
 }
 
-/// Puts the keys that a row wants, and does its operation.
-fn limited<M: Memory>(
+/// Puts the keys that a row wants, and says whether its operation is within its limits.
+fn is_limited<M: Memory>(
     store: &DocStore,
     mem: &mut Counting<M>,
     there: u64,
     row: &Limited,
-) -> Result<(), Halt>
+) -> Result<bool, Halt>
     requires size { M.size mem.old.inner ≡ 8 * store.now.lines }
     requires writable { IsTrue (M.writable mem.old.inner) }
     requires lawful { Always (M.stands mem.old.inner) (IsImage store.now.lines) }
     ensures size { M.size mem.new.inner ≡ 8 * store.now.lines }
     ensures writable { IsTrue (M.writable mem.new.inner) }
-    ensures lawful { OnOk result (Always (M.stands mem.new.inner) (IsImage store.now.lines)) }
+    ensures lawful { IfOk result (λ _. Always (M.stands mem.new.inner) (IsImage store.now.lines)) }
 {
-    let (keys, kind, n, document, _) = *row;
-    put_rising(store, mem, there, keys)?;
-    counted(store, mem, &on_key(kind, n, document))
+    let (keys, kind, n, document, limits) = row;
+    put_rising(store, mem, there, *keys)?;
+    let (loads, stores) = (mem.loads, mem.stores);
+    asked(store, mem, &on_key(*kind, *n, document))?;
+    Ok(are_within(
+        mem.loads.saturating_sub(loads),
+        mem.stores.saturating_sub(stores),
+        limits,
+    ))
 }
 
 /// Whether each row's operation is within its limits, from the empty store on.
@@ -268,11 +260,10 @@ fn are_within_limits<M: Memory>(
     opened(store, mem)?;
     let mut there = 0;
     for row in rows {
-        limited(store, mem, there, row)?;
-        there = row.0;
-        if !are_within(mem.loads, mem.stores, &row.4) {
+        if !is_limited(store, mem, there, row)? {
             return Ok(false);
         }
+        there = row.0;
     }
     Ok(true)
 }

@@ -197,23 +197,19 @@ pub(crate) fn accesses(
     Ok(0)
 }
 
+/// Whether a put takes more than 20 accesses in an image, and words of no operation none.
+fn are_refused(alloc: Global, store: &DocStore, image: &[u64]) -> Result<bool, AllocError> {
+    let put = accesses(alloc, store, image, &words_of((1, "new", "1", 0)))?;
+    let none = accesses(alloc, store, image, &words_of((7, "", "", 0)))?;
+    Ok(put > 20 && none == 0)
+}
+
 #[test]
 fn each_access_can_be_refused(rt: HostRuntime) -> Result<(), Fail> {
-    let alloc = rt.alloc();
     let store = DocStore::of(64);
-    let mut mem = memory(alloc, 64)?;
-    holds(
-        &rt,
-        are_same(alloc, &store, &mut mem, &mut Pairs::new(alloc), 20)?,
-    );
-    let image = mem.into_words();
-    holds(
-        &rt,
-        accesses(alloc, &store, &image, &words_of((1, "new", "1", 0)))? > 20,
-    );
-    holds(
-        &rt,
-        accesses(alloc, &store, &image, &words_of((7, "", "", 0)))? == 0,
-    );
+    let mut pairs = Pairs::new(rt.alloc());
+    let mut mem = memory(rt.alloc(), 64)?;
+    holds(&rt, are_same(rt.alloc(), &store, &mut mem, &mut pairs, 20)?);
+    holds(&rt, are_refused(rt.alloc(), &store, &mem.into_words())?);
     Ok(())
 }

@@ -13,8 +13,8 @@ use std::test::Fail;
 /// The kind, the key, the document and the amount of an operation. Kind 0 is none.
 type Parts<'a> = (u64, &'a [u8], &'a [u8], i64);
 
-/// Words by their places, and the operation.
-type Changed = (&'static [(usize, u64)], Parts<'static>);
+/// The words of a row, those that are put at their places, and the operation.
+type Changed = (Row, &'static [(usize, u64)], Parts<'static>);
 
 /// The kind of an operation's words.
 fn kind_of(op: &Op) -> u64 {
@@ -73,39 +73,91 @@ fn is_read(alloc: Global, words: &[u64; 144], want: &Parts<'_>) -> Result<bool, 
     }
 }
 
-static OPERATIONS: [(Row, Parts<'static>); 19] = [
-    ((1, "a", " ", 0), (1, b"a", b" ", 0)),
-    ((1, "!~", "\u{FF}", 0), (1, b"!~", b"\xC3\xBF", 0)),
-    ((2, "a", "", 0), (2, b"a", b"", 0)),
-    ((3, "a", "", 0), (3, b"a", b"", 0)),
+static OPERATIONS: [Changed; 44] = [
+    ((1, "a", " ", 0), &[], (1, b"a", b" ", 0)),
+    ((1, "!~", "\u{FF}", 0), &[], (1, b"!~", b"\xC3\xBF", 0)),
+    ((2, "a", "", 0), &[], (2, b"a", b"", 0)),
+    ((3, "a", "", 0), &[], (3, b"a", b"", 0)),
     (
         (3, "a", "", 9223372036854775808),
+        &[],
         (3, b"a", b"", -9223372036854775808),
     ),
     (
         (3, "a", "", 9223372036854775807),
+        &[],
         (3, b"a", b"", 9223372036854775807),
     ),
-    ((4, "a", "", 0), (4, b"a", b"", 0)),
-    ((4, "abcdefghi", "", 0), (4, b"abcdefghi", b"", 0)),
-    ((5, "", "", 0), (5, b"", b"", 0)),
-    ((5, "a", "", 0), (5, b"a", b"", 0)),
-    ((6, "", "", 0), (6, b"", b"", 0)),
+    ((4, "a", "", 0), &[], (4, b"a", b"", 0)),
+    ((4, "abcdefghi", "", 0), &[], (4, b"abcdefghi", b"", 0)),
+    ((5, "", "", 0), &[], (5, b"", b"", 0)),
+    ((5, "a", "", 0), &[], (5, b"a", b"", 0)),
+    ((6, "", "", 0), &[], (6, b"", b"", 0)),
     // other kinds than a put have no more than they use
-    ((2, "a", "1", 0), (0, b"", b"", 0)),
-    ((2, "a", "", 1), (0, b"", b"", 0)),
-    ((3, "a", "1", 5), (0, b"", b"", 0)),
-    ((4, "", "", 0), (0, b"", b"", 0)),
-    ((5, "a", "", 1), (0, b"", b"", 0)),
-    ((5, "a b", "", 0), (0, b"", b"", 0)),
-    ((6, "a", "", 0), (0, b"", b"", 0)),
-    ((6, "", "", 1), (0, b"", b"", 0)),
+    ((2, "a", "1", 0), &[], (0, b"", b"", 0)),
+    ((2, "a", "", 1), &[], (0, b"", b"", 0)),
+    ((3, "a", "1", 5), &[], (0, b"", b"", 0)),
+    ((4, "", "", 0), &[], (0, b"", b"", 0)),
+    ((5, "a", "", 1), &[], (0, b"", b"", 0)),
+    ((5, "a b", "", 0), &[], (0, b"", b"", 0)),
+    ((6, "a", "", 0), &[], (0, b"", b"", 0)),
+    ((6, "", "", 1), &[], (0, b"", b"", 0)),
+    // words by themselves
+    (
+        (0, "", "", 0),
+        &[(0, 1), (1, 1), (2, 1), (8, 97), (16, 49)],
+        (1, b"a", b"1", 0),
+    ),
+    (
+        (0, "", "", 0),
+        &[(0, 3), (1, 1), (3, 18446744073709551615), (8, 97)],
+        (3, b"a", b"", -1),
+    ),
+    ((0, "", "", 0), &[], (0, b"", b"", 0)),
+    // words of a put, some of them changed
+    ((1, "a", "1", 0), &[(0, 0)], (0, b"", b"", 0)),
+    ((1, "a", "1", 0), &[(0, 7)], (0, b"", b"", 0)),
+    ((1, "a", "1", 0), &[(0, 2)], (0, b"", b"", 0)),
+    ((1, "a", "1", 0), &[(1, 0)], (0, b"", b"", 0)),
+    ((1, "a", "1", 0), &[(1, 0), (8, 0)], (0, b"", b"", 0)),
+    ((1, "a", "1", 0), &[(1, 2)], (0, b"", b"", 0)),
+    ((1, "a", "1", 0), &[(1, 65)], (0, b"", b"", 0)),
+    (
+        (1, "a", "1", 0),
+        &[(1, 18446744073709551615), (3, 0)],
+        (0, b"", b"", 0),
+    ),
+    ((1, "a", "1", 0), &[(2, 0), (16, 0)], (0, b"", b"", 0)),
+    ((1, "a", "1", 0), &[(2, 2)], (0, b"", b"", 0)),
+    ((1, "a", "1", 0), &[(2, 1025)], (0, b"", b"", 0)),
+    ((1, "a", "1", 0), &[(3, 1)], (0, b"", b"", 0)),
+    ((1, "a", "1", 0), &[(4, 1)], (0, b"", b"", 0)),
+    ((1, "a", "1", 0), &[(7, 1)], (0, b"", b"", 0)),
+    ((1, "a", "1", 0), &[(8, 353)], (0, b"", b"", 0)),
+    ((1, "a", "1", 0), &[(8, 32)], (0, b"", b"", 0)),
+    ((1, "a", "1", 0), &[(8, 127)], (0, b"", b"", 0)),
+    ((1, "a", "1", 0), &[(15, 1)], (0, b"", b"", 0)),
+    ((1, "a", "1", 0), &[(16, 31)], (0, b"", b"", 0)),
+    ((1, "a", "1", 0), &[(143, 1)], (0, b"", b"", 0)),
+    ((1, "a", "1", 0), &[(8, 33), (16, 32)], (1, b"!", b" ", 0)),
+    ((1, "a", "1", 0), &[(1, 2), (8, 25185)], (1, b"ab", b"1", 0)),
 ];
 
+/// Words of which some are changed.
+fn changed(words: [u64; 144], changes: &[(usize, u64)]) -> [u64; 144] {
+    let mut words = words;
+    for (at, word) in changes {
+        if let Some(place) = words.get_mut(*at) {
+            *place = *word;
+        }
+    }
+    words
+}
+
 /// The first row that is read otherwise.
-fn first_other(alloc: Global, rows: &[(Row, Parts<'static>)]) -> Result<Option<usize>, AllocError> {
-    for (i, (row, want)) in rows.iter().enumerate() {
-        if !is_read(alloc, &words_of(*row), want)? {
+fn first_other(alloc: Global, rows: &[Changed]) -> Result<Option<usize>, AllocError> {
+    for (i, (row, changes, want)) in rows.iter().enumerate() {
+        if !is_read(alloc, &changed(words_of(*row), changes), want)? {
             return Ok(Some(i));
         }
     }
@@ -142,79 +194,10 @@ fn first_other_length(
     Ok(None)
 }
 
-static OF_ZEROS: [Changed; 3] = [
-    (
-        &[(0, 1), (1, 1), (2, 1), (8, 97), (16, 49)],
-        (1, b"a", b"1", 0),
-    ),
-    (
-        &[(0, 3), (1, 1), (3, 18446744073709551615), (8, 97)],
-        (3, b"a", b"", -1),
-    ),
-    (&[], (0, b"", b"", 0)),
-];
-
-static OF_A_PUT: [Changed; 22] = [
-    (&[(0, 0)], (0, b"", b"", 0)),
-    (&[(0, 7)], (0, b"", b"", 0)),
-    (&[(0, 2)], (0, b"", b"", 0)),
-    (&[(1, 0)], (0, b"", b"", 0)),
-    (&[(1, 0), (8, 0)], (0, b"", b"", 0)),
-    (&[(1, 2)], (0, b"", b"", 0)),
-    (&[(1, 65)], (0, b"", b"", 0)),
-    (&[(1, 18446744073709551615), (3, 0)], (0, b"", b"", 0)),
-    (&[(2, 0), (16, 0)], (0, b"", b"", 0)),
-    (&[(2, 2)], (0, b"", b"", 0)),
-    (&[(2, 1025)], (0, b"", b"", 0)),
-    (&[(3, 1)], (0, b"", b"", 0)),
-    (&[(4, 1)], (0, b"", b"", 0)),
-    (&[(7, 1)], (0, b"", b"", 0)),
-    (&[(8, 353)], (0, b"", b"", 0)),
-    (&[(8, 32)], (0, b"", b"", 0)),
-    (&[(8, 127)], (0, b"", b"", 0)),
-    (&[(15, 1)], (0, b"", b"", 0)),
-    (&[(16, 31)], (0, b"", b"", 0)),
-    (&[(143, 1)], (0, b"", b"", 0)),
-    (&[(8, 33), (16, 32)], (1, b"!", b" ", 0)),
-    (&[(1, 2), (8, 25185)], (1, b"ab", b"1", 0)),
-];
-
-/// Words of which some are changed.
-fn changed(words: [u64; 144], changes: &[(usize, u64)]) -> [u64; 144] {
-    let mut words = words;
-    for (at, word) in changes {
-        if let Some(place) = words.get_mut(*at) {
-            *place = *word;
-        }
-    }
-    words
-}
-
-/// The first row of changes that is read otherwise.
-fn first_other_change(
-    alloc: Global,
-    words: [u64; 144],
-    rows: &[Changed],
-) -> Result<Option<usize>, AllocError> {
-    for (i, (changes, want)) in rows.iter().enumerate() {
-        if !is_read(alloc, &changed(words, changes), want)? {
-            return Ok(Some(i));
-        }
-    }
-    Ok(None)
-}
-
 #[test]
 fn words_are_read_as_operations(rt: HostRuntime) -> Result<(), Fail> {
-    let alloc = rt.alloc();
-    let put = words_of((1, "a", "1", 0));
-    holds(&rt, first_other(alloc, &OPERATIONS)?.is_none());
-    holds(&rt, first_other_length(alloc, &LENGTHS)?.is_none());
-    holds(
-        &rt,
-        first_other_change(alloc, [0; 144], &OF_ZEROS)?.is_none(),
-    );
-    holds(&rt, first_other_change(alloc, put, &OF_A_PUT)?.is_none());
+    holds(&rt, first_other(rt.alloc(), &OPERATIONS)?.is_none());
+    holds(&rt, first_other_length(rt.alloc(), &LENGTHS)?.is_none());
     Ok(())
 }
 

@@ -156,18 +156,27 @@ pub(crate) fn opened<M: Memory>(store: &DocStore, mem: &mut M) -> Result<(), Hal
     store.format(mem)
 }
 
-/// Whether the store answers an operation as told.
-fn is_answered<M: Memory>(store: &DocStore, mem: &mut M, op: &[u64; 144], want: Row) -> bool
+/// Whether the store and the plain program answer a row as told.
+fn is_answered<M: Memory>(
+    alloc: Global,
+    store: &DocStore,
+    mem: &mut M,
+    pairs: &mut Pairs,
+    row: &(Row, Row),
+) -> Result<bool, AllocError>
     requires size { M.size mem.old ≡ 8 * store.now.lines }
     requires writable { IsTrue (M.writable mem.old) }
     requires lawful { Always (M.stands mem.old) (IsImage store.now.lines) }
     ensures size { M.size mem.new ≡ 8 * store.now.lines }
     ensures writable { IsTrue (M.writable mem.new) }
-    ensures lawful { IsTrue result → Always (M.stands mem.new) (IsImage store.now.lines) }
+    ensures lawful { IfOk result (λ yes. IsTrue yes → Always (M.stands mem.new) (IsImage store.now.lines)) }
 {
-    match asked(store, mem, op) {
-        Ok(reply) => reply == words_of(want),
-        Err(Halt) => false,
+    let op = words_of(row.0);
+    match asked(store, mem, &op) {
+        Ok(reply) if reply == words_of(row.1) => {
+            is_meant(alloc, pairs, store.lines(), &op, &row.1)
+        }
+        _ => Ok(false),
     }
 }
 
@@ -185,11 +194,8 @@ fn both_answer<M: Memory>(
     let Ok(()) = opened(store, mem) else {
         return Ok(false);
     };
-    for (ask, want) in rows {
-        let op = words_of(*ask);
-        if !is_answered(store, mem, &op, *want)
-            || !is_meant(alloc, pairs, store.lines(), &op, want)?
-        {
+    for row in rows {
+        if !is_answered(alloc, store, mem, pairs, row)? {
             return Ok(false);
         }
     }
