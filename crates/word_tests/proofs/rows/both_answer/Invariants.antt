@@ -3,7 +3,7 @@ use Rattle.cx_base.specs.Memory.{Always}
 use Rattle.doc_store.specs.ExactStep.{IsImage}
 use Rattle.word_tests.proofs.rows.both_answer.Given as goal
 
-abbrev pub invariant-loop-row : goal.invariant-loop-ask
+abbrev pub invariant-loop-row : goal.invariant-loop-row
 invariant-loop-row g l = record {
   size : g.M.Memory.size l.mem ≡ 8 * l.store.lines;
   can_store : IsTrue (g.M.Memory.writable l.mem);
