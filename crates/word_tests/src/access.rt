@@ -1,15 +1,16 @@
 //! How many accesses of the memory operations take, by the number of keys.
 
-ghost use Rattle.std.specs.Prelude.{◌≡◌, ◌*◌, ◌^◌, ◌<◌, ◌≤◌, IsTrue, IfOk, OnOk};
+ghost use Rattle.std.specs.Prelude.{◌≡◌, ◌*◌, ◌^◌, ◌≤◌, IsTrue, IfOk, OnOk};
 ghost use Rattle.cx_base.specs.Memory.{Always};
 ghost use Rattle.doc_store.specs.ExactStep.{IsImage};
 
 use crate::counting::{Counting, counted_words};
+use crate::holds::holds;
 use crate::mixed::digit;
-use crate::rows::{asked, lay, opened, put_word};
-use cx_base::{Halt, Memory};
+use crate::rows::{LETTERS, asked, laid_out, opened};
+use cx_base::{Halt, Memory, VecMemory};
 use doc_store::DocStore;
-use std::process::Abort;
+use std::alloc::{AllocError, Global};
 use std::test::Fail;
 
 pub(crate) const PUT: u64 = 1;
@@ -18,30 +19,20 @@ pub(crate) const DEL: u64 = 2;
 
 const GET: u64 = 4;
 
-/// A cost that is no less.
-const MANY: u64 = 1 << 32;
-
-/// The words of an operation on the n-th key of 16 bytes, with a document of so many letters.
-pub(crate) fn on_key(kind: u64, n: u64, letter: u8, len: usize) -> [u64; 144] {
+/// The n-th key of 16 bytes.
+pub(crate) fn key_of(n: u64) -> [u8; 16] {
     let mut key = *b"k000000000000000";
     let mut rest = n;
     for i in 0..15 {
         key[15 - i] = digit(rest);
         rest /= 10;
     }
-    let mut words = [0; 144];
-    put_word(&mut words, 0, kind);
-    put_word(&mut words, 1, 16);
-    lay(&mut words, 8, &key);
-    if kind == PUT {
-        put_word(&mut words, 2, len as u64);
-        lay(&mut words, 16, &vec_of(letter)[..len.min(200)]);
-    }
-    words
+    key
 }
 
-fn vec_of(letter: u8) -> [u8; 200] {
-    [letter; 200]
+/// The words of an operation on the n-th key of 16 bytes, with this document.
+pub(crate) fn on_key(kind: u64, n: u64, document: &[u8]) -> [u64; 144] {
+    laid_out(kind, &key_of(n), document, 0)
 }
 
 /// Puts keys in rising order, from one on to before another.
@@ -54,89 +45,191 @@ fn put_rising<M: Memory>(store: &DocStore, mem: &mut M, from: u64, to: u64) -> R
     ensures lawful { OnOk result (Always (M.stands mem.new) (IsImage store.now.lines)) }
 {
     for n in from..to {
-        asked(store, mem, &on_key(PUT, n, b'x', 16))?;
+        asked(store, mem, &on_key(PUT, n, &LETTERS[..16]))?;
     }
     Ok(())
 }
 
-/// The loads and the stores of one operation.
-#[derive(Clone, Copy, Debug)]
-struct Accesses {
-    loads: u64,
-    stores: u64,
-}
-
-/// Does one operation, and tells its cost.
-fn cost<M: Memory>(
-    store: &DocStore,
-    mem: &mut Counting<M>,
-    op: &[u64; 144],
-) -> Result<Accesses, Halt>
-    requires size { M.size mem.old.inner ≡ 8 * store.now.lines }
-    requires writable { IsTrue (M.writable mem.old.inner) }
-    requires lawful { Always (M.stands mem.old.inner) (IsImage store.now.lines) }
-    ensures size { M.size mem.new.inner ≡ 8 * store.now.lines }
-    ensures writable { IsTrue (M.writable mem.new.inner) }
-    ensures lawful { IfOk result (λ _. Always (M.stands mem.new.inner) (IsImage store.now.lines)) }
-    ensures few { IfOk result (λ c. (c.loads ≤ 2 ^ 32) × (c.stores ≤ 2 ^ 32)) }
-{
-    mem.loads = 0;
-    mem.stores = 0;
-    asked(store, mem, op)?;
-    Ok(Accesses {
-        loads: mem.loads.min(MANY),
-        stores: mem.stores.min(MANY),
-    })
-}
-
-/// The most loads that a get of one of the first so many keys takes.
+/// The most loads that a get of one of the first so many keys takes, after they are put in rising order.
 fn most_loads<M: Memory>(store: &DocStore, mem: &mut Counting<M>, keys: u64) -> Result<u64, Halt>
     requires size { M.size mem.old.inner ≡ 8 * store.now.lines }
     requires writable { IsTrue (M.writable mem.old.inner) }
-    requires lawful { Always (M.stands mem.old.inner) (IsImage store.now.lines) }
 {
+    opened(store, mem)?;
+    put_rising(store, mem, 0, keys)?;
     let mut most = 0;
     for n in 0..keys {
-        let got = cost(store, mem, &on_key(GET, n, b'x', 0))?;
-        most = most.max(got.loads);
+        let before = mem.loads;
+        asked(store, mem, &on_key(GET, n, b""))?;
+        most = most.max(mem.loads.saturating_sub(before));
     }
     Ok(most)
 }
 
 /// The height of the root that the header names.
-pub(crate) fn height_in(words: &[u64]) -> Option<u64> {
+fn height_in(words: &[u64]) -> Option<u64> {
     let root = *words.get(1)?;
     words
         .get(root.saturating_mul(8).saturating_add(2) as usize)
         .copied()
 }
 
+/// Whether each get among so many rising keys loads no more than so many words.
+fn loads_few<M: Memory>(store: &DocStore, mem: &mut Counting<M>, keys: u64, limit: u64) -> bool
+    requires size { M.size mem.old.inner ≡ 8 * store.now.lines }
+    requires writable { IsTrue (M.writable mem.old.inner) }
+{
+    match most_loads(store, mem, keys) {
+        Ok(most) => most <= limit,
+        Err(Halt) => false,
+    }
+}
+
+/// Whether the tree in a memory has this height.
+pub(crate) fn has_height(mem: Counting<VecMemory>, height: u64) -> bool {
+    height_in(&mem.inner.into_words()) == Some(height)
+}
+
 #[test]
 fn a_get_among_1023_rising_keys_loads_few_words(rt: HostRuntime) -> Result<(), Fail> {
-    let store = DocStore::of(4096);
     let mut mem = counted_words(rt.alloc(), 4096)?;
-    opened(&store, &mut mem).expect(&rt, "empty");
-    put_rising(&store, &mut mem, 0, 1023).expect(&rt, "puts");
-    let most = most_loads(&store, &mut mem, 1023).expect(&rt, "gets");
     // the root, 21 visits of a link, a key's place, its length and its two words, and as many for the document
-    assert!(rt; most <= 1 + 5 * 21 + 4);
-    let words = mem.inner.into_words();
+    holds(
+        &rt,
+        loads_few(&DocStore::of(4096), &mut mem, 1023, 1 + 5 * 21 + 4),
+    );
     // the tree of 2^10 - 1 rising keys is full
-    assert_eq!(rt; height_in(&words), Some(10));
+    holds(&rt, has_height(mem, 10));
     Ok(())
 }
 
-/// Goes on to so many keys, and does operations among them, of which each visits at most so many nodes: the greatest v
-/// with 2^v <= 2 * (n + 1)^2.
-fn grows<M: Memory>(
-    rt: &impl Abort,
+/// The keys that are put before, in rising order; the operation's kind, key and document; the most loads, the least and
+/// the most stores, and the most of both.
+type Limited = (u64, u64, u64, &'static [u8], [u64; 4]);
+
+const NO_LIMIT: u64 = u64::MAX;
+
+// Each operation visits at most 7, 14, 20 and 25 nodes: the greatest v with 2^v <= 2 * (n + 1)^2. A get loads 5 v + 10
+// words and stores none, and a change has 8 v + 64 accesses.
+static GROWING: [Limited; 20] = [
+    (
+        10,
+        PUT,
+        10,
+        b"xxxxxxxxxxxxxxxx",
+        [NO_LIMIT, 0, NO_LIMIT, 120],
+    ),
+    (10, DEL, 5, b"", [NO_LIMIT, 0, NO_LIMIT, 120]),
+    (
+        10,
+        PUT,
+        5,
+        b"xxxxxxxxxxxxxxxx",
+        [NO_LIMIT, 0, NO_LIMIT, 120],
+    ),
+    (10, GET, 5, b"", [45, 0, 0, NO_LIMIT]),
+    (10, DEL, 10, b"", [NO_LIMIT, 0, NO_LIMIT, 120]),
+    (
+        100,
+        PUT,
+        100,
+        b"xxxxxxxxxxxxxxxx",
+        [NO_LIMIT, 0, NO_LIMIT, 176],
+    ),
+    (100, DEL, 50, b"", [NO_LIMIT, 0, NO_LIMIT, 176]),
+    (
+        100,
+        PUT,
+        50,
+        b"xxxxxxxxxxxxxxxx",
+        [NO_LIMIT, 0, NO_LIMIT, 176],
+    ),
+    (100, GET, 50, b"", [80, 0, 0, NO_LIMIT]),
+    (100, DEL, 100, b"", [NO_LIMIT, 0, NO_LIMIT, 176]),
+    (
+        1000,
+        PUT,
+        1000,
+        b"xxxxxxxxxxxxxxxx",
+        [NO_LIMIT, 0, NO_LIMIT, 224],
+    ),
+    (1000, DEL, 500, b"", [NO_LIMIT, 0, NO_LIMIT, 224]),
+    (
+        1000,
+        PUT,
+        500,
+        b"xxxxxxxxxxxxxxxx",
+        [NO_LIMIT, 0, NO_LIMIT, 224],
+    ),
+    (1000, GET, 500, b"", [110, 0, 0, NO_LIMIT]),
+    (1000, DEL, 1000, b"", [NO_LIMIT, 0, NO_LIMIT, 224]),
+    (
+        5000,
+        PUT,
+        5000,
+        b"xxxxxxxxxxxxxxxx",
+        [NO_LIMIT, 0, NO_LIMIT, 264],
+    ),
+    (5000, DEL, 2500, b"", [NO_LIMIT, 0, NO_LIMIT, 264]),
+    (
+        5000,
+        PUT,
+        2500,
+        b"xxxxxxxxxxxxxxxx",
+        [NO_LIMIT, 0, NO_LIMIT, 264],
+    ),
+    (5000, GET, 2500, b"", [135, 0, 0, NO_LIMIT]),
+    (5000, DEL, 5000, b"", [NO_LIMIT, 0, NO_LIMIT, 264]),
+];
+
+// 13 words hold 100 letters. The last of them gets four letters more, and the length changes.
+static OVER: [Limited; 4] = [
+    (
+        5,
+        PUT,
+        3,
+        b"xxxxxxxxxxxxxxxxxxxxxxxxxxxxxxxxxxxxxxxxxxxxxxxxxxxxxxxxxxxxxxxxxxxxxxxxxxxxxxxxxxxxxxxxxxxxxxxxxxxx",
+        [NO_LIMIT, 14, NO_LIMIT, NO_LIMIT],
+    ),
+    (
+        5,
+        PUT,
+        3,
+        b"xxxxxxxxxxxxxxxxxxxxxxxxxxxxxxxxxxxxxxxxxxxxxxxxxxxxxxxxxxxxxxxxxxxxxxxxxxxxxxxxxxxxxxxxxxxxxxxxxxxx",
+        [NO_LIMIT, 0, 0, NO_LIMIT],
+    ),
+    (
+        5,
+        PUT,
+        3,
+        b"yyyyyyyyyyyyyyyyyyyyyyyyyyyyyyyyyyyyyyyyyyyyyyyyyyyyyyyyyyyyyyyyyyyyyyyyyyyyyyyyyyyyyyyyyyyyyyyyyyyy",
+        [NO_LIMIT, 13, 13, NO_LIMIT],
+    ),
+    (
+        5,
+        PUT,
+        3,
+        b"yyyyyyyyyyyyyyyyyyyyyyyyyyyyyyyyyyyyyyyyyyyyyyyyyyyyyyyyyyyyyyyyyyyyyyyyyyyyyyyyyyyyyyyyyyyyyyyyyyyyyyyy",
+        [NO_LIMIT, 2, 2, NO_LIMIT],
+    ),
+];
+
+/// Whether counts are within limits.
+fn are_within(loads: u64, stores: u64, limits: &[u64; 4]) -> bool {
+    let [most_loads, least_stores, most_stores, most] = *limits;
+    loads <= most_loads
+        && stores >= least_stores
+        && stores <= most_stores
+        && loads.saturating_add(stores) <= most
+}
+
+/// Puts the keys that a row wants, and says whether its operation is within its limits.
+fn is_limited<M: Memory>(
     store: &DocStore,
     mem: &mut Counting<M>,
     there: u64,
-    keys: u64,
-    visits: u64,
-) -> Result<(), Fail>
-    requires few { visits < 64 }
+    row: &Limited,
+) -> Result<bool, Halt>
     requires size { M.size mem.old.inner ≡ 8 * store.now.lines }
     requires writable { IsTrue (M.writable mem.old.inner) }
     requires lawful { Always (M.stands mem.old.inner) (IsImage store.now.lines) }
@@ -144,48 +237,54 @@ fn grows<M: Memory>(
     ensures writable { IsTrue (M.writable mem.new.inner) }
     ensures lawful { IfOk result (λ _. Always (M.stands mem.new.inner) (IsImage store.now.lines)) }
 {
-    put_rising(store, mem, there, keys)?;
-    let most = 8 * visits + 64;
-    let new = cost(store, mem, &on_key(PUT, keys, b'x', 16))?;
-    assert!(rt; new.loads + new.stores <= most);
-    let old = cost(store, mem, &on_key(DEL, keys / 2, b'x', 0))?;
-    assert!(rt; old.loads + old.stores <= most);
-    let back = cost(store, mem, &on_key(PUT, keys / 2, b'x', 16))?;
-    assert!(rt; back.loads + back.stores <= most);
-    let got = cost(store, mem, &on_key(GET, keys / 2, b'x', 0))?;
-    assert!(rt; got.loads <= 5 * visits + 10);
-    assert_eq!(rt; got.stores, 0);
-    let last = cost(store, mem, &on_key(DEL, keys, b'x', 0))?;
-    assert!(rt; last.loads + last.stores <= most);
-    Ok(())
+    let (keys, kind, n, document, limits) = row;
+    put_rising(store, mem, there, *keys)?;
+    let (loads, stores) = (mem.loads, mem.stores);
+    asked(store, mem, &on_key(*kind, *n, document))?;
+    Ok(are_within(
+        mem.loads.saturating_sub(loads),
+        mem.stores.saturating_sub(stores),
+        limits,
+    ))
+}
+
+/// Whether each row's operation is within its limits, from the empty store on.
+fn are_within_limits<M: Memory>(
+    store: &DocStore,
+    mem: &mut Counting<M>,
+    rows: &[Limited],
+) -> Result<bool, Halt>
+    requires size { M.size mem.old.inner ≡ 8 * store.now.lines }
+    requires writable { IsTrue (M.writable mem.old.inner) }
+{
+    opened(store, mem)?;
+    let mut there = 0;
+    for row in rows {
+        if !is_limited(store, mem, there, row)? {
+            return Ok(false);
+        }
+        there = row.0;
+    }
+    Ok(true)
+}
+
+/// Whether each row's operation is within its limits, in so many lines.
+fn are_limited(alloc: Global, lines: u64, rows: &[Limited]) -> Result<bool, AllocError>
+    requires some { 1 ≤ lines }
+    requires few { lines ≤ 2 ^ 14 }
+{
+    let mut mem = counted_words(alloc, lines)?;
+    Ok(are_within_limits(&DocStore::of(lines), &mut mem, rows).unwrap_or(false))
 }
 
 #[test]
 fn accesses_grow_as_visits_do(rt: HostRuntime) -> Result<(), Fail> {
-    let store = DocStore::of(16_384);
-    let mut mem = counted_words(rt.alloc(), 16_384)?;
-    opened(&store, &mut mem).expect(&rt, "empty");
-    grows(&rt, &store, &mut mem, 0, 10, 7)?;
-    grows(&rt, &store, &mut mem, 10, 100, 14)?;
-    grows(&rt, &store, &mut mem, 100, 1000, 20)?;
-    grows(&rt, &store, &mut mem, 1000, 5000, 25)
+    holds(&rt, are_limited(rt.alloc(), 16_384, &GROWING)?);
+    Ok(())
 }
 
 #[test]
 fn a_put_over_as_many_lines_stores_what_differs(rt: HostRuntime) -> Result<(), Fail> {
-    let store = DocStore::of(64);
-    let mut mem = counted_words(rt.alloc(), 64)?;
-    opened(&store, &mut mem).expect(&rt, "empty");
-    put_rising(&store, &mut mem, 0, 5).expect(&rt, "puts");
-    let long = cost(&store, &mut mem, &on_key(PUT, 3, b'x', 100)).expect(&rt, "long");
-    assert!(rt; long.stores > 13);
-    let same = cost(&store, &mut mem, &on_key(PUT, 3, b'x', 100)).expect(&rt, "same");
-    assert_eq!(rt; same.stores, 0);
-    // 13 words hold 100 letters
-    let letters = cost(&store, &mut mem, &on_key(PUT, 3, b'y', 100)).expect(&rt, "letters");
-    assert_eq!(rt; letters.stores, 13);
-    // the last of them gets four letters more, and the length changes
-    let longer = cost(&store, &mut mem, &on_key(PUT, 3, b'y', 104)).expect(&rt, "longer");
-    assert_eq!(rt; longer.stores, 2);
+    holds(&rt, are_limited(rt.alloc(), 64, &OVER)?);
     Ok(())
 }

@@ -2,12 +2,12 @@
 
 ghost use Rattle.std.specs.Prelude.{◌≡◌, ◌*◌, ◌^◌, ◌≤◌, IfOk, length};
 
+use crate::rows::memory;
 use cx_base::{Halt, Memory, VecMemory};
-use std::alloc::Global;
-use std::test::Fail;
+use std::alloc::{AllocError, Global};
 
 /// The stores of a word since they were counted last, and what it was then and is now.
-#[derive(Clone, Copy, Debug)]
+#[derive(Clone, Copy)]
 pub(crate) struct WordStores {
     pub(crate) stores: u64,
     pub(crate) before: u64,
@@ -57,21 +57,23 @@ impl<M: Memory> Memory for Counting<M> {
     }
 }
 
+/// No stores of a word that says nothing.
+const NO_STORES: WordStores = WordStores {
+    stores: 0,
+    before: u64::MAX,
+    now: u64::MAX,
+};
+
 /// A memory of so many lines of words that say nothing, counted.
-pub(crate) fn counted_words(alloc: Global, lines: u64) -> Result<Counting<VecMemory>, Fail>
+pub(crate) fn counted_words(alloc: Global, lines: u64) -> Result<Counting<VecMemory>, AllocError>
     requires { lines ≤ 2 ^ 14 }
     ensures { IfOk result (λ c. length c.inner.words.items ≡ 8 * lines) }
 {
-    let size = 8 * lines as usize;
-    let none = WordStores {
-        stores: 0,
-        before: u64::MAX,
-        now: u64::MAX,
-    };
+    let words = vec![in alloc; NO_STORES; 8 * lines as usize]?;
     Ok(Counting {
-        inner: VecMemory::of(vec![in alloc; u64::MAX; size]?, None),
+        inner: memory(alloc, lines)?,
         loads: 0,
         stores: 0,
-        words: vec![in alloc; none; size]?,
+        words,
     })
 }

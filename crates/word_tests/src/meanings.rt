@@ -1,195 +1,126 @@
 //! Worked rows: texts of numbers, and commands with their replies.
 
-use cx_base::Bytes;
-use doc_model::{Op, Pairs, Reply, integer_of, number_of};
-use std::alloc::{AllocError, Global};
-use std::process::Abort;
+use crate::holds::holds;
+use crate::rows::{Row, are_answered, are_answered_with};
+use doc_model::{Pairs, integer_of, number_of};
 use std::test::Fail;
+
+static NUMBERS: [(&str, Option<u64>, Option<i64>); 16] = [
+    ("0", Some(0), Some(0)),
+    ("-0", None, None),
+    ("01", None, None),
+    ("-1", None, Some(-1)),
+    (
+        "9223372036854775807",
+        Some(9223372036854775807),
+        Some(9223372036854775807),
+    ),
+    ("9223372036854775808", Some(9223372036854775808), None),
+    ("-9223372036854775808", None, Some(-9223372036854775808)),
+    ("-9223372036854775809", None, None),
+    ("18446744073709551615", Some(18446744073709551615), None),
+    ("18446744073709551616", None, None),
+    ("", None, None),
+    ("-", None, None),
+    ("+1", None, None),
+    (" 1", None, None),
+    ("1 ", None, None),
+    ("a", None, None),
+];
+
+/// The first text that is read as another number, or as another signed one.
+fn first_other_number(rows: &[(&str, Option<u64>, Option<i64>)]) -> Option<usize> {
+    for (i, (text, number, integer)) in rows.iter().enumerate() {
+        if number_of(text.as_bytes()) != *number || integer_of(text.as_bytes()) != *integer {
+            return Some(i);
+        }
+    }
+    None
+}
 
 #[test]
 fn numbers_are_read_in_one_form_alone(rt: HostRuntime) {
-    let rows: [(&str, Option<u64>, Option<i64>); 16] = [
-        ("0", Some(0), Some(0)),
-        ("-0", None, None),
-        ("01", None, None),
-        ("-1", None, Some(-1)),
+    holds(&rt, first_other_number(&NUMBERS).is_none());
+}
+
+// -21 is 18446744073709551595, and -1 is 18446744073709551615
+static COMMANDS: [(Row, Row); 24] = [
+    ((6, "", "", 0), (11, "", "", 0)),
+    ((5, "", "", 0), (4, "", "", 0)),
+    ((1, "c", "text", 0), (1, "", "", 0)),
+    ((1, "a", "1", 0), (1, "", "", 0)),
+    ((1, "a", "20", 0), (2, "", "", 0)),
+    ((4, "a", "", 0), (5, "", "20", 0)),
+    ((4, "b", "", 0), (4, "", "", 0)),
+    ((6, "", "", 0), (11, "", "", 2)),
+    ((5, "", "", 0), (10, "a", "", 0)),
+    ((5, "a", "", 0), (10, "c", "", 0)),
+    ((5, "b", "", 0), (10, "c", "", 0)),
+    ((5, "c", "", 0), (4, "", "", 0)),
+    (
+        (3, "a", "", 18446744073709551595),
+        (6, "", "", 18446744073709551615),
+    ),
+    ((4, "a", "", 0), (5, "", "-1", 0)),
+    ((3, "b", "", 5), (6, "", "", 5)),
+    ((3, "c", "", 1), (7, "", "", 0)),
+    ((4, "c", "", 0), (5, "", "text", 0)),
+    ((1, "b", "9223372036854775807", 0), (2, "", "", 0)),
+    ((3, "b", "", 1), (8, "", "", 0)),
+    ((4, "b", "", 0), (5, "", "9223372036854775807", 0)),
+    ((2, "b", "", 0), (3, "", "", 0)),
+    ((2, "b", "", 0), (4, "", "", 0)),
+    ((5, "a", "", 0), (10, "c", "", 0)),
+    ((6, "", "", 0), (11, "", "", 2)),
+];
+
+// 19 pairs of 3 lines each, and one of 6 lines: with it, 63 of the 63 lines that hold pairs
+static FULL: [(Row, Row); 28] = [
+    ((1, "k00", "0", 0), (1, "", "", 0)),
+    ((1, "k01", "0", 0), (1, "", "", 0)),
+    ((1, "k02", "0", 0), (1, "", "", 0)),
+    ((1, "k03", "0", 0), (1, "", "", 0)),
+    ((1, "k04", "0", 0), (1, "", "", 0)),
+    ((1, "k05", "0", 0), (1, "", "", 0)),
+    ((1, "k06", "0", 0), (1, "", "", 0)),
+    ((1, "k07", "0", 0), (1, "", "", 0)),
+    ((1, "k08", "0", 0), (1, "", "", 0)),
+    ((1, "k09", "0", 0), (1, "", "", 0)),
+    ((1, "k10", "0", 0), (1, "", "", 0)),
+    ((1, "k11", "0", 0), (1, "", "", 0)),
+    ((1, "k12", "0", 0), (1, "", "", 0)),
+    ((1, "k13", "0", 0), (1, "", "", 0)),
+    ((1, "k14", "0", 0), (1, "", "", 0)),
+    ((1, "k15", "0", 0), (1, "", "", 0)),
+    ((1, "k16", "0", 0), (1, "", "", 0)),
+    ((1, "k17", "0", 0), (1, "", "", 0)),
+    ((1, "k18", "0", 0), (1, "", "", 0)),
+    (
         (
-            "9223372036854775807",
-            Some(9223372036854775807),
-            Some(9223372036854775807),
+            1,
+            "k19",
+            "xxxxxxxxxxxxxxxxxxxxxxxxxxxxxxxxxxxxxxxxxxxxxxxxxxxxxxxxxxxxxxxxxxxxxxxxxxxxxxxxxxxxxxxxxxxxxxxxxxxxxxxxxxxxxxxxxxxxxxxxxxxxxxxxxxxxxxxxxxxxxxxxxxxxxxxxxxxxxxxxxxxxxxxxxxxxxxxxxxxxxxxxxxxxxxxxxxxx",
+            0,
         ),
-        ("9223372036854775808", Some(9223372036854775808), None),
-        ("-9223372036854775808", None, Some(-9223372036854775808)),
-        ("-9223372036854775809", None, None),
-        ("18446744073709551615", Some(18446744073709551615), None),
-        ("18446744073709551616", None, None),
-        ("", None, None),
-        ("-", None, None),
-        ("+1", None, None),
-        (" 1", None, None),
-        ("1 ", None, None),
-        ("a", None, None),
-    ];
-    for (text, number, integer) in rows {
-        assert_eq!(rt; number_of(text.as_bytes()), number, "number {text}");
-        assert_eq!(rt; integer_of(text.as_bytes()), integer, "integer {text}");
-    }
-}
-
-/// A command, with its texts.
-#[derive(Clone, Copy)]
-enum Ask {
-    Put(&'static str, &'static str),
-    Del(&'static str),
-    Add(&'static str, i64),
-    Get(&'static str),
-    Next(&'static str),
-    Count,
-}
-
-fn op_of(alloc: Global, ask: Ask) -> Result<Op, AllocError> {
-    match ask {
-        Ask::Put(key, doc) => {
-            let key = Bytes::of(alloc, key.as_bytes())?;
-            let doc = Bytes::of(alloc, doc.as_bytes())?;
-            Ok(Op::Put { key, doc })
-        }
-        Ask::Del(key) => Ok(Op::Del {
-            key: Bytes::of(alloc, key.as_bytes())?,
-        }),
-        Ask::Add(key, amount) => Ok(Op::Add {
-            key: Bytes::of(alloc, key.as_bytes())?,
-            amount,
-        }),
-        Ask::Get(key) => Ok(Op::Get {
-            key: Bytes::of(alloc, key.as_bytes())?,
-        }),
-        Ask::Next(above) => Ok(Op::Next {
-            above: Bytes::of(alloc, above.as_bytes())?,
-        }),
-        Ask::Count => Ok(Op::Count),
-    }
-}
-
-/// A reply as a text.
-fn text_of(alloc: Global, reply: &Reply) -> Result<String, AllocError> {
-    match reply {
-        Reply::New => String::from_str(alloc, "new"),
-        Reply::Replaced => String::from_str(alloc, "replaced"),
-        Reply::Deleted => String::from_str(alloc, "deleted"),
-        Reply::Absent => String::from_str(alloc, "absent"),
-        Reply::Doc(doc) => String::from_str(
-            alloc,
-            std::str::from_utf8(doc.as_slice()).unwrap_or("no text"),
-        ),
-        Reply::Sum(sum) => format!(in alloc; "sum {sum}"),
-        Reply::NotNumber => String::from_str(alloc, "not-number"),
-        Reply::Overflow => String::from_str(alloc, "overflow"),
-        Reply::NoRoom => String::from_str(alloc, "no-room"),
-        Reply::Key(key) => String::from_str(
-            alloc,
-            std::str::from_utf8(key.as_slice()).unwrap_or("no text"),
-        ),
-        Reply::Number(number) => format!(in alloc; "number {number}"),
-    }
-}
-
-/// Does a command in 64 lines, and gives the reply as a text.
-fn told(alloc: Global, pairs: &mut Pairs, ask: Ask) -> Result<String, AllocError> {
-    let op = op_of(alloc, ask)?;
-    let reply = pairs.step(alloc, 64, &op)?;
-    text_of(alloc, &reply)
-}
-
-/// Does commands one after another, and asserts that each has its reply.
-fn replied(
-    rt: &impl Abort,
-    alloc: Global,
-    pairs: &mut Pairs,
-    rows: &[(Ask, &str)],
-) -> Result<(), Fail> {
-    for (ask, want) in rows {
-        assert_eq!(rt; told(alloc, pairs, *ask)?.as_str(), *want);
-    }
-    Ok(())
-}
-
-const COMMANDS: [(Ask, &str); 24] = [
-    (Ask::Count, "number 0"),
-    (Ask::Next(""), "absent"),
-    (Ask::Put("c", "text"), "new"),
-    (Ask::Put("a", "1"), "new"),
-    (Ask::Put("a", "20"), "replaced"),
-    (Ask::Get("a"), "20"),
-    (Ask::Get("b"), "absent"),
-    (Ask::Count, "number 2"),
-    (Ask::Next(""), "a"),
-    (Ask::Next("a"), "c"),
-    (Ask::Next("b"), "c"),
-    (Ask::Next("c"), "absent"),
-    (Ask::Add("a", -21), "sum -1"),
-    (Ask::Get("a"), "-1"),
-    (Ask::Add("b", 5), "sum 5"),
-    (Ask::Add("c", 1), "not-number"),
-    (Ask::Get("c"), "text"),
-    (Ask::Put("b", "9223372036854775807"), "replaced"),
-    (Ask::Add("b", 1), "overflow"),
-    (Ask::Get("b"), "9223372036854775807"),
-    (Ask::Del("b"), "deleted"),
-    (Ask::Del("b"), "absent"),
-    (Ask::Next("a"), "c"),
-    (Ask::Count, "number 2"),
+        (1, "", "", 0),
+    ),
+    ((1, "k20", "0", 0), (9, "", "", 0)),
+    ((3, "k20", "", 1), (9, "", "", 0)),
+    ((4, "k20", "", 0), (4, "", "", 0)),
+    ((6, "", "", 0), (11, "", "", 20)),
+    ((1, "k19", "0", 0), (2, "", "", 0)),
+    ((1, "k20", "0", 0), (1, "", "", 0)),
+    ((3, "k18", "", 7), (6, "", "", 7)),
+    ((6, "", "", 0), (11, "", "", 21)),
 ];
 
 #[test]
-fn commands_have_their_replies(rt: HostRuntime) -> Result<(), Fail> {
-    let mut pairs = Pairs::new(rt.alloc());
-    replied(&rt, rt.alloc(), &mut pairs, &COMMANDS)
-}
-
-/// Puts 19 pairs of 3 lines each, so 57 in all.
-fn put_short(rt: &impl Abort, alloc: Global, pairs: &mut Pairs) -> Result<(), Fail> {
-    let keys = [
-        "k00", "k01", "k02", "k03", "k04", "k05", "k06", "k07", "k08", "k09", "k10", "k11", "k12",
-        "k13", "k14", "k15", "k16", "k17", "k18",
-    ];
-    for key in keys {
-        assert_eq!(rt; told(alloc, pairs, Ask::Put(key, "0"))?.as_str(), "new");
-    }
-    Ok(())
-}
-
-/// Puts a pair of 6 lines, and gives the reply as a text.
-fn put_long(alloc: Global, pairs: &mut Pairs) -> Result<String, AllocError> {
-    let long = Op::Put {
-        key: Bytes::of(alloc, b"k19")?,
-        doc: Bytes::of(alloc, &[b'x'; 200])?,
-    };
-    let reply = pairs.step(alloc, 64, &long)?;
-    text_of(alloc, &reply)
-}
-
-const FULL: [(Ask, &str); 8] = [
-    (Ask::Put("k20", "0"), "no-room"),
-    (Ask::Add("k20", 1), "no-room"),
-    (Ask::Get("k20"), "absent"),
-    (Ask::Count, "number 20"),
-    (Ask::Put("k19", "0"), "replaced"),
-    (Ask::Put("k20", "0"), "new"),
-    (Ask::Add("k18", 7), "sum 7"),
-    (Ask::Count, "number 21"),
-];
-
-#[test]
-fn a_full_store_has_no_room(rt: HostRuntime) -> Result<(), Fail> {
+fn commands_have_their_meanings(rt: HostRuntime) -> Result<(), Fail> {
     let alloc = rt.alloc();
+    holds(&rt, are_answered(alloc, 64, &COMMANDS)?);
     let mut pairs = Pairs::new(alloc);
-    put_short(&rt, alloc, &mut pairs)?;
-    // with these, 63 of the 63 lines that hold pairs
-    assert_eq!(rt; put_long(alloc, &mut pairs)?.as_str(), "new");
-    replied(&rt, alloc, &mut pairs, &FULL)?;
-    assert_eq!(rt; pairs.len(), 21);
-    assert_eq!(rt; pairs.as_slice().len(), 21);
-    assert!(rt; !pairs.is_empty());
+    holds(&rt, are_answered_with(alloc, 64, &mut pairs, &FULL)?);
+    holds(&rt, pairs.len() == 21 && pairs.as_slice().len() == 21);
+    holds(&rt, !pairs.is_empty());
     Ok(())
 }

@@ -1,20 +1,18 @@
 //! Many commands against the plain list of pairs, and a limit on accesses that refuses each of them in turn.
 
-ghost use Rattle.std.specs.Prelude.{◌≡◌, ◌*◌, ◌<◌, IsTrue, IfOk, OnOk, length};
+ghost use Rattle.std.specs.Prelude.{◌≡◌, ◌*◌, ◌<◌, IsTrue, IfOk};
 ghost use Rattle.cx_base.specs.Memory.{Always};
 ghost use Rattle.doc_store.specs.ExactStep.{IsImage};
 
-use crate::rows::{asked, lay, opened, put_word, words_of};
+use crate::holds::holds;
+use crate::rows::{LETTERS, asked, laid_out, meant, memory, opened, same_reply, words_of};
 use cx_base::{Memory, Object, VecMemory};
-use doc_model::{Op, Pair, Pairs, Reply, op_of, reply_of};
+use doc_model::{OpFault, Pair, Pairs, Reply, reply_of};
 use doc_store::{DocStore, documents};
 use std::alloc::{AllocError, Global};
-use std::process::Abort;
 use std::test::Fail;
 
 const DIGITS: [u8; 10] = *b"0123456789";
-
-const LETTERS: [u8; 150] = [b'x'; 150];
 
 const KINDS: [u64; 10] = [1, 1, 1, 1, 2, 3, 3, 4, 5, 6];
 
@@ -52,55 +50,49 @@ pub(crate) fn command(numbers: &mut Numbers) -> [u64; 144] {
     let key = [b'k', digit(n / 100), digit(n / 10), digit(n)];
     let number = [digit(numbers.next(9) + 1), digit(numbers.next(10))];
     let long = numbers.next(150) as usize;
-    let mut words = [0; 144];
-    put_word(&mut words, 0, kind);
-    if kind < 6 {
-        put_word(&mut words, 1, 4);
-        lay(&mut words, 8, &key);
+    match kind {
+        1 if long < 30 => laid_out(1, &key, &number, 0),
+        1 => laid_out(1, &key, &LETTERS[..long], 0),
+        3 => laid_out(3, &key, &[], numbers.next(1000)),
+        6 => laid_out(6, &[], &[], 0),
+        _ => laid_out(kind, &key, &[], 0),
     }
-    if kind == 3 {
-        put_word(&mut words, 3, numbers.next(1000));
-    }
-    if kind == 1 && long < 30 {
-        put_word(&mut words, 2, 2);
-        lay(&mut words, 16, &number);
-    }
-    if kind == 1 && long >= 30 {
-        put_word(&mut words, 2, long as u64);
-        lay(&mut words, 16, &LETTERS[..long]);
-    }
-    words
 }
 
-fn same_reply(one: &Reply, other: &Reply) -> bool {
-    match (one, other) {
-        (Reply::New, Reply::New) => true,
-        (Reply::Replaced, Reply::Replaced) => true,
-        (Reply::Deleted, Reply::Deleted) => true,
-        (Reply::Absent, Reply::Absent) => true,
-        (Reply::NotNumber, Reply::NotNumber) => true,
-        (Reply::Overflow, Reply::Overflow) => true,
-        (Reply::NoRoom, Reply::NoRoom) => true,
-        (Reply::Doc(a), Reply::Doc(b)) => a.as_slice() == b.as_slice(),
-        (Reply::Key(a), Reply::Key(b)) => a.as_slice() == b.as_slice(),
-        (Reply::Sum(a), Reply::Sum(b)) => a == b,
-        (Reply::Number(a), Reply::Number(b)) => a == b,
-        _ => false,
-    }
+fn same_pair(one: &Pair, other: &Pair) -> bool {
+    one.key.as_slice() == other.key.as_slice() && one.doc.as_slice() == other.doc.as_slice()
 }
 
 fn same_pairs(ones: &[Pair], others: &[Pair]) -> bool {
-    if ones.len() != others.len() {
-        return false;
-    }
     for (one, other) in ones.iter().zip(others) {
-        if one.key.as_slice() != other.key.as_slice()
-            || one.doc.as_slice() != other.doc.as_slice()
-        {
+        if !same_pair(one, other) {
             return false;
         }
     }
-    true
+    ones.len() == others.len()
+}
+
+/// Whether words are those of a reply.
+fn is_reply(alloc: Global, words: &[u64; 144], want: &Reply) -> Result<bool, AllocError> {
+    match reply_of(alloc, words) {
+        Ok(reply) => Ok(same_reply(&reply, want)),
+        Err(OpFault::BadOp) => Ok(false),
+        Err(OpFault::Memory) => Err(AllocError),
+    }
+}
+
+/// Whether the plain program answers a command's words so.
+fn is_meant(
+    alloc: Global,
+    pairs: &mut Pairs,
+    lines: u64,
+    words: &[u64; 144],
+    reply: &[u64; 144],
+) -> Result<bool, AllocError> {
+    match meant(alloc, pairs, lines, words)? {
+        Some(want) => is_reply(alloc, reply, &want),
+        None => Ok(false),
+    }
 }
 
 /// Does one command in both, and says whether they answer the same.
@@ -110,66 +102,84 @@ fn both<M: Memory>(
     mem: &mut M,
     pairs: &mut Pairs,
     words: &[u64; 144],
-) -> Result<bool, Fail>
+) -> Result<bool, AllocError>
     requires size { M.size mem.old ≡ 8 * store.now.lines }
     requires writable { IsTrue (M.writable mem.old) }
     requires lawful { Always (M.stands mem.old) (IsImage store.now.lines) }
     ensures size { M.size mem.new ≡ 8 * store.now.lines }
     ensures writable { IsTrue (M.writable mem.new) }
-    ensures lawful { IfOk result (λ _. Always (M.stands mem.new) (IsImage store.now.lines)) }
+    ensures lawful { IfOk result (λ same. IsTrue same → Always (M.stands mem.new) (IsImage store.now.lines)) }
 {
-    let reply = asked(store, mem, words)?;
-    let op: Op = op_of(alloc, words)?;
-    let want = pairs.step(alloc, store.lines(), &op)?;
-    Ok(same_reply(&reply_of(alloc, &reply)?, &want))
+    match asked(store, mem, words) {
+        Ok(reply) => is_meant(alloc, pairs, store.lines(), words, &reply),
+        Err(_) => Ok(false),
+    }
 }
 
-/// Does so many commands in both.
-fn mixed<M: Memory>(
-    rt: &impl Abort,
+/// Whether both, empty before, answer so many commands the same.
+fn are_same<M: Memory>(
     alloc: Global,
     store: &DocStore,
     mem: &mut M,
+    pairs: &mut Pairs,
     commands: u64,
-) -> Result<Pairs, Fail>
+) -> Result<bool, AllocError>
     requires size { M.size mem.old ≡ 8 * store.now.lines }
     requires writable { IsTrue (M.writable mem.old) }
 {
-    opened(store, mem)?;
-    let mut pairs = Pairs::new(alloc);
+    let Ok(()) = opened(store, mem) else {
+        return Ok(false);
+    };
     let mut numbers = Numbers::of(7);
     for _ in 0..commands {
-        let words = command(&mut numbers);
-        let same = both(alloc, store, mem, &mut pairs, &words)?;
-        assert!(rt; same);
+        if !both(alloc, store, mem, pairs, &command(&mut numbers))? {
+            return Ok(false);
+        }
     }
-    Ok(pairs)
+    Ok(true)
 }
 
-/// The pairs that words stand for, `None` where they are no lawful image.
-fn listed(alloc: Global, store: &DocStore, words: &[u64]) -> Result<Option<Vec<Pair>>, AllocError> {
+/// Whether words are a lawful image of these pairs.
+fn are_listed(
+    alloc: Global,
+    store: &DocStore,
+    words: &[u64],
+    pairs: &[Pair],
+) -> Result<bool, AllocError> {
     if !store.check(alloc, words)? {
-        return Ok(None);
+        return Ok(false);
     }
-    Ok(Some(documents(alloc, words)?))
+    Ok(same_pairs(&documents(alloc, words)?, pairs))
 }
 
 #[test]
 fn twenty_thousand_commands_as_in_the_list(rt: HostRuntime) -> Result<(), Fail> {
     let alloc = rt.alloc();
     let store = DocStore::of(2048);
-    let words = vec![in alloc; u64::MAX; 16_384]?;
-    let mut mem = VecMemory::of(words, None);
-    let pairs = mixed(&rt, alloc, &store, &mut mem, 20_000)?;
-    assert!(rt; pairs.len() > 250);
-    let words = mem.into_words();
-    let found = listed(alloc, &store, &words)?;
-    let Some(found) = found else {
-        assert!(rt; false);
-        return Ok(());
-    };
-    assert!(rt; same_pairs(&found, pairs.as_slice()));
+    let mut mem = memory(alloc, 2048)?;
+    let mut pairs = Pairs::new(alloc);
+    holds(&rt, are_same(alloc, &store, &mut mem, &mut pairs, 20_000)?);
+    holds(&rt, pairs.len() > 250);
+    holds(
+        &rt,
+        are_listed(alloc, &store, &mem.into_words(), pairs.as_slice())?,
+    );
     Ok(())
+}
+
+/// Whether a command is done in an image that is lawful, with so many accesses.
+fn is_done(
+    alloc: Global,
+    store: &DocStore,
+    image: &[u64],
+    op: &[u64; 144],
+    left: u64,
+) -> Result<bool, AllocError> {
+    if !store.check(alloc, image)? {
+        return Ok(false);
+    }
+    let mut mem = VecMemory::of(Vec::from_slice(alloc, image)?, Some(left));
+    Ok(store.run(&mut mem, op).is_ok())
 }
 
 /// How many accesses a command takes in a lawful image: with fewer, it is refused.
@@ -180,29 +190,26 @@ pub(crate) fn accesses(
     op: &[u64; 144],
 ) -> Result<u64, AllocError> {
     for left in 0..10_000 {
-        if !store.check(alloc, image)? {
-            return Ok(0);
-        }
-        let mut mem = VecMemory::of(Vec::from_slice(alloc, image)?, Some(left));
-        if store.run(&mut mem, op).is_ok() {
+        if is_done(alloc, store, image, op, left)? {
             return Ok(left);
         }
     }
     Ok(0)
 }
 
+/// Whether a put takes more than 20 accesses in an image, and words of no operation none.
+fn are_refused(alloc: Global, store: &DocStore, image: &[u64]) -> Result<bool, AllocError> {
+    let put = accesses(alloc, store, image, &words_of((1, "new", "1", 0)))?;
+    let none = accesses(alloc, store, image, &words_of((7, "", "", 0)))?;
+    Ok(put > 20 && none == 0)
+}
+
 #[test]
 fn each_access_can_be_refused(rt: HostRuntime) -> Result<(), Fail> {
-    let alloc = rt.alloc();
     let store = DocStore::of(64);
-    let words = vec![in alloc; u64::MAX; 512]?;
-    let mut mem = VecMemory::of(words, None);
-    mixed(&rt, alloc, &store, &mut mem, 20)?;
-    let image = mem.into_words();
-    let put = words_of((1, "new", "1", 0));
-    let first = accesses(alloc, &store, &image, &put)?;
-    assert!(rt; first > 20);
-    let none = accesses(alloc, &store, &image, &words_of((7, "", "", 0)))?;
-    assert_eq!(rt; none, 0);
+    let mut pairs = Pairs::new(rt.alloc());
+    let mut mem = memory(rt.alloc(), 64)?;
+    holds(&rt, are_same(rt.alloc(), &store, &mut mem, &mut pairs, 20)?);
+    holds(&rt, are_refused(rt.alloc(), &store, &mem.into_words())?);
     Ok(())
 }

@@ -1,5 +1,7 @@
 //! Worked rows: words of operations and replies, and words that are none.
 
+use crate::holds::holds;
+use crate::rows::{LETTERS, Row, has_reply, laid_out, words_of};
 use cx_base::pack;
 use doc_model::{
     Op, OpFault, Reply, is_key, is_op, op_of, op_words, packed_document_reply, packed_key_reply,
@@ -8,316 +10,289 @@ use doc_model::{
 use std::alloc::{AllocError, Global};
 use std::test::Fail;
 
-/// The parts of words, as the rows give them.
-#[derive(Clone, Copy)]
-struct Row {
-    kind: u64,
-    key: &'static str,
-    document: &'static str,
-    number: u64,
-}
+/// The kind, the key, the document and the amount of an operation. Kind 0 is none.
+type Parts<'a> = (u64, &'a [u8], &'a [u8], i64);
 
-const fn with(kind: u64, key: &'static str, document: &'static str, number: u64) -> Row {
-    Row {
-        kind,
-        key,
-        document,
-        number,
-    }
-}
+/// The words of a row, those that are put at their places, and the operation.
+type Changed = (Row, &'static [(usize, u64)], Parts<'static>);
 
-fn put_word(words: &mut [u64], at: usize, word: u64) {
-    if let Some(place) = words.get_mut(at) {
-        *place = word;
-    }
-}
-
-/// Lays bytes out from a word on: byte i is in word i / 8 at bits 8 * (i mod 8).
-fn lay(words: &mut [u64], from: usize, bytes: &[u8]) {
-    for (i, byte) in bytes.iter().enumerate() {
-        if let Some(word) = words.get_mut(from.saturating_add(i / 8)) {
-            *word |= u64::from(*byte) << (8 * (i % 8));
-        }
-    }
-}
-
-fn lay_row(words: &mut [u64], row: Row) {
-    put_word(words, 0, row.kind);
-    put_word(words, 1, row.key.len() as u64);
-    put_word(words, 2, row.document.len() as u64);
-    put_word(words, 3, row.number);
-    lay(words, 8, row.key.as_bytes());
-    lay(words, 16, row.document.as_bytes());
-}
-
-/// The words of a row.
-fn laid_out(row: Row) -> [u64; 144] {
-    let mut words = [0; 144];
-    lay_row(&mut words, row);
-    words
-}
-
-fn text(bytes: &[u8]) -> &str {
-    std::str::from_utf8(bytes).unwrap_or("no text")
-}
-
-fn op_text(alloc: Global, op: &Op) -> Result<String, AllocError> {
+/// The kind of an operation's words.
+fn kind_of(op: &Op) -> u64 {
     match op {
-        Op::Put { key, doc } => {
-            format!(in alloc; "put {} {}", text(key.as_slice()), text(doc.as_slice()))
-        }
-        Op::Del { key } => format!(in alloc; "del {}", text(key.as_slice())),
-        Op::Add { key, amount } => format!(in alloc; "add {} {amount}", text(key.as_slice())),
-        Op::Get { key } => format!(in alloc; "get {}", text(key.as_slice())),
-        Op::Next { above } => format!(in alloc; "next {}", text(above.as_slice())),
-        Op::Count => String::from_str(alloc, "count"),
+        Op::Put { .. } => 1,
+        Op::Del { .. } => 2,
+        Op::Add { .. } => 3,
+        Op::Get { .. } => 4,
+        Op::Next { .. } => 5,
+        Op::Count => 6,
     }
 }
 
-fn reply_text(alloc: Global, reply: &Reply) -> Result<String, AllocError> {
-    match reply {
-        Reply::New => String::from_str(alloc, "new"),
-        Reply::Replaced => String::from_str(alloc, "replaced"),
-        Reply::Deleted => String::from_str(alloc, "deleted"),
-        Reply::Absent => String::from_str(alloc, "absent"),
-        Reply::Doc(doc) => format!(in alloc; "doc {}", text(doc.as_slice())),
-        Reply::Sum(sum) => format!(in alloc; "sum {sum}"),
-        Reply::NotNumber => String::from_str(alloc, "not-number"),
-        Reply::Overflow => String::from_str(alloc, "overflow"),
-        Reply::NoRoom => String::from_str(alloc, "no-room"),
-        Reply::Key(key) => format!(in alloc; "key {}", text(key.as_slice())),
-        Reply::Number(number) => format!(in alloc; "number {number}"),
+/// The key that an operation names, or nothing.
+fn key_of(op: &Op) -> &[u8] {
+    match op {
+        Op::Put { key, .. } => key.as_slice(),
+        Op::Del { key } => key.as_slice(),
+        Op::Add { key, .. } => key.as_slice(),
+        Op::Get { key } => key.as_slice(),
+        Op::Next { above } => above.as_slice(),
+        Op::Count => &[],
     }
 }
 
-/// The operation of some words as a text, and `bad-op` where there is none. Its own words are compared with these.
-fn op_told(alloc: Global, words: &[u64; 144]) -> Result<String, AllocError> {
+/// The document that an operation has, or nothing.
+fn document_of(op: &Op) -> &[u8] {
+    match op {
+        Op::Put { doc, .. } => doc.as_slice(),
+        _ => &[],
+    }
+}
+
+/// The amount that an operation has, or 0.
+fn amount_of(op: &Op) -> i64 {
+    match op {
+        Op::Add { amount, .. } => *amount,
+        _ => 0,
+    }
+}
+
+/// Whether an operation has these parts.
+fn has_parts(op: &Op, want: &Parts<'_>) -> bool {
+    kind_of(op) == want.0
+        && key_of(op) == want.1
+        && document_of(op) == want.2
+        && amount_of(op) == want.3
+}
+
+/// Whether words are read so, and are the words of what is read.
+fn is_read(alloc: Global, words: &[u64; 144], want: &Parts<'_>) -> Result<bool, AllocError> {
     match op_of(alloc, words) {
-        Ok(op) if op_words(&op) == *words && is_op(words) => op_text(alloc, &op),
-        Ok(_) => String::from_str(alloc, "other words"),
-        Err(OpFault::BadOp) if is_op(words) => String::from_str(alloc, "refused"),
-        Err(OpFault::BadOp) => String::from_str(alloc, "bad-op"),
+        Ok(op) => Ok(is_op(words) && op_words(&op) == *words && has_parts(&op, want)),
+        Err(OpFault::BadOp) => Ok(!is_op(words) && want.0 == 0),
         Err(OpFault::Memory) => Err(AllocError),
     }
 }
 
-/// The same of a reply.
-fn reply_told(alloc: Global, words: &[u64; 144]) -> Result<String, AllocError> {
-    match reply_of(alloc, words) {
-        Ok(reply) if reply_words(&reply) == *words => reply_text(alloc, &reply),
-        Ok(_) => String::from_str(alloc, "other words"),
-        Err(OpFault::BadOp) => String::from_str(alloc, "bad-op"),
-        Err(OpFault::Memory) => Err(AllocError),
-    }
-}
+static OPERATIONS: [Changed; 44] = [
+    ((1, "a", " ", 0), &[], (1, b"a", b" ", 0)),
+    ((1, "!~", "\u{FF}", 0), &[], (1, b"!~", b"\xC3\xBF", 0)),
+    ((2, "a", "", 0), &[], (2, b"a", b"", 0)),
+    ((3, "a", "", 0), &[], (3, b"a", b"", 0)),
+    (
+        (3, "a", "", 9223372036854775808),
+        &[],
+        (3, b"a", b"", -9223372036854775808),
+    ),
+    (
+        (3, "a", "", 9223372036854775807),
+        &[],
+        (3, b"a", b"", 9223372036854775807),
+    ),
+    ((4, "a", "", 0), &[], (4, b"a", b"", 0)),
+    ((4, "abcdefghi", "", 0), &[], (4, b"abcdefghi", b"", 0)),
+    ((5, "", "", 0), &[], (5, b"", b"", 0)),
+    ((5, "a", "", 0), &[], (5, b"a", b"", 0)),
+    ((6, "", "", 0), &[], (6, b"", b"", 0)),
+    // other kinds than a put have no more than they use
+    ((2, "a", "1", 0), &[], (0, b"", b"", 0)),
+    ((2, "a", "", 1), &[], (0, b"", b"", 0)),
+    ((3, "a", "1", 5), &[], (0, b"", b"", 0)),
+    ((4, "", "", 0), &[], (0, b"", b"", 0)),
+    ((5, "a", "", 1), &[], (0, b"", b"", 0)),
+    ((5, "a b", "", 0), &[], (0, b"", b"", 0)),
+    ((6, "a", "", 0), &[], (0, b"", b"", 0)),
+    ((6, "", "", 1), &[], (0, b"", b"", 0)),
+    // words by themselves
+    (
+        (0, "", "", 0),
+        &[(0, 1), (1, 1), (2, 1), (8, 97), (16, 49)],
+        (1, b"a", b"1", 0),
+    ),
+    (
+        (0, "", "", 0),
+        &[(0, 3), (1, 1), (3, 18446744073709551615), (8, 97)],
+        (3, b"a", b"", -1),
+    ),
+    ((0, "", "", 0), &[], (0, b"", b"", 0)),
+    // words of a put, some of them changed
+    ((1, "a", "1", 0), &[(0, 0)], (0, b"", b"", 0)),
+    ((1, "a", "1", 0), &[(0, 7)], (0, b"", b"", 0)),
+    ((1, "a", "1", 0), &[(0, 2)], (0, b"", b"", 0)),
+    ((1, "a", "1", 0), &[(1, 0)], (0, b"", b"", 0)),
+    ((1, "a", "1", 0), &[(1, 0), (8, 0)], (0, b"", b"", 0)),
+    ((1, "a", "1", 0), &[(1, 2)], (0, b"", b"", 0)),
+    ((1, "a", "1", 0), &[(1, 65)], (0, b"", b"", 0)),
+    (
+        (1, "a", "1", 0),
+        &[(1, 18446744073709551615), (3, 0)],
+        (0, b"", b"", 0),
+    ),
+    ((1, "a", "1", 0), &[(2, 0), (16, 0)], (0, b"", b"", 0)),
+    ((1, "a", "1", 0), &[(2, 2)], (0, b"", b"", 0)),
+    ((1, "a", "1", 0), &[(2, 1025)], (0, b"", b"", 0)),
+    ((1, "a", "1", 0), &[(3, 1)], (0, b"", b"", 0)),
+    ((1, "a", "1", 0), &[(4, 1)], (0, b"", b"", 0)),
+    ((1, "a", "1", 0), &[(7, 1)], (0, b"", b"", 0)),
+    ((1, "a", "1", 0), &[(8, 353)], (0, b"", b"", 0)),
+    ((1, "a", "1", 0), &[(8, 32)], (0, b"", b"", 0)),
+    ((1, "a", "1", 0), &[(8, 127)], (0, b"", b"", 0)),
+    ((1, "a", "1", 0), &[(15, 1)], (0, b"", b"", 0)),
+    ((1, "a", "1", 0), &[(16, 31)], (0, b"", b"", 0)),
+    ((1, "a", "1", 0), &[(143, 1)], (0, b"", b"", 0)),
+    ((1, "a", "1", 0), &[(8, 33), (16, 32)], (1, b"!", b" ", 0)),
+    ((1, "a", "1", 0), &[(1, 2), (8, 25185)], (1, b"ab", b"1", 0)),
+];
 
-/// The operation that has these words, and 0 in all others.
-fn told_of(alloc: Global, entries: &[(usize, u64)]) -> Result<String, AllocError> {
-    let mut words = [0; 144];
-    for (at, word) in entries {
-        put_word(&mut words, *at, *word);
-    }
-    op_told(alloc, &words)
-}
-
-#[test]
-fn words_of_put_and_add(rt: HostRuntime) -> Result<(), Fail> {
-    let put: [(usize, u64); 5] = [(0, 1), (1, 1), (2, 1), (8, 97), (16, 49)];
-    let add: [(usize, u64); 4] = [(0, 3), (1, 1), (3, 18446744073709551615), (8, 97)];
-    assert_eq!(rt; told_of(rt.alloc(), &put)?.as_str(), "put a 1");
-    assert_eq!(rt; told_of(rt.alloc(), &add)?.as_str(), "add a -1");
-    assert_eq!(rt; told_of(rt.alloc(), &[])?.as_str(), "bad-op");
-    Ok(())
-}
-
-#[test]
-fn operations_go_there_and_back(rt: HostRuntime) -> Result<(), Fail> {
-    let rows: [(Row, &str); 11] = [
-        (with(1, "a", " ", 0), "put a  "),
-        (with(1, "!~", "\u{FF}", 0), "put !~ \u{FF}"),
-        (with(2, "a", "", 0), "del a"),
-        (with(3, "a", "", 0), "add a 0"),
-        (with(3, "a", "", 1 << 63), "add a -9223372036854775808"),
-        (with(3, "a", "", (1 << 63) - 1), "add a 9223372036854775807"),
-        (with(4, "a", "", 0), "get a"),
-        (with(4, "abcdefghi", "", 0), "get abcdefghi"),
-        (with(5, "", "", 0), "next "),
-        (with(5, "a", "", 0), "next a"),
-        (with(6, "", "", 0), "count"),
-    ];
-    for (row, want) in rows {
-        let words = laid_out(row);
-        assert_eq!(rt; op_told(rt.alloc(), &words)?.as_str(), want);
-    }
-    Ok(())
-}
-
-/// Puts so many bytes `x` into the words.
-fn fill(words: &mut [u64], bytes: u64) {
-    for (i, word) in words.iter_mut().enumerate() {
-        let left = bytes.saturating_sub(8 * (i as u64 % 128));
-        *word = if left < 8 {
-            0x7878787878787878 & ((1 << (8 * left)) - 1)
-        } else {
-            0x7878787878787878
-        };
-    }
-}
-
-/// The words of a put whose key and document are so many bytes `x`.
-fn long_put(key_len: u64, document_len: u64) -> [u64; 144] {
-    let mut words = [0; 144];
-    put_word(&mut words, 0, 1);
-    put_word(&mut words, 1, key_len);
-    put_word(&mut words, 2, document_len);
-    fill(&mut words[8..16], key_len);
-    fill(&mut words[16..], document_len);
-    words
-}
-
-#[test]
-fn texts_of_each_length_go_there_and_back(rt: HostRuntime) -> Result<(), Fail> {
-    let rows: [(u64, u64, usize); 9] = [
-        (1, 1, 7),
-        (7, 56, 68),
-        (8, 57, 70),
-        (64, 1024, 1093),
-        (1, 1024, 1030),
-        (65, 1, 6),
-        (64, 1025, 6),
-        (0, 1, 6),
-        (1, 0, 6),
-    ];
-    for (key_len, document_len, want) in rows {
-        let words = long_put(key_len, document_len);
-        let told = op_told(rt.alloc(), &words)?;
-        assert_eq!(rt; told.len(), want, "{key_len} {document_len}");
-    }
-    Ok(())
-}
-
-/// The words of `put a 1`, of which two are changed.
-fn put_changed(changes: [(usize, u64); 2]) -> [u64; 144] {
-    let mut words = laid_out(with(1, "a", "1", 0));
+/// Words of which some are changed.
+fn changed(words: [u64; 144], changes: &[(usize, u64)]) -> [u64; 144] {
+    let mut words = words;
     for (at, word) in changes {
-        put_word(&mut words, at, word);
+        if let Some(place) = words.get_mut(*at) {
+            *place = *word;
+        }
     }
     words
 }
 
-#[test]
-fn words_that_are_no_operation(rt: HostRuntime) -> Result<(), Fail> {
-    let rows: [([(usize, u64); 2], &str); 22] = [
-        ([(0, 0), (0, 0)], "bad-op"),
-        ([(0, 7), (0, 7)], "bad-op"),
-        ([(0, 2), (0, 2)], "bad-op"),
-        ([(1, 0), (1, 0)], "bad-op"),
-        ([(1, 0), (8, 0)], "bad-op"),
-        ([(1, 2), (1, 2)], "bad-op"),
-        ([(1, 65), (1, 65)], "bad-op"),
-        ([(1, 18446744073709551615), (3, 0)], "bad-op"),
-        ([(2, 0), (16, 0)], "bad-op"),
-        ([(2, 2), (2, 2)], "bad-op"),
-        ([(2, 1025), (2, 1025)], "bad-op"),
-        ([(3, 1), (3, 1)], "bad-op"),
-        ([(4, 1), (4, 1)], "bad-op"),
-        ([(7, 1), (7, 1)], "bad-op"),
-        ([(8, 353), (8, 353)], "bad-op"),
-        ([(8, 32), (8, 32)], "bad-op"),
-        ([(8, 127), (8, 127)], "bad-op"),
-        ([(15, 1), (15, 1)], "bad-op"),
-        ([(16, 31), (16, 31)], "bad-op"),
-        ([(143, 1), (143, 1)], "bad-op"),
-        ([(8, 33), (16, 32)], "put !  "),
-        ([(1, 2), (8, 25185)], "put ab 1"),
-    ];
-    for (changes, want) in rows {
-        let words = put_changed(changes);
-        let told = op_told(rt.alloc(), &words)?;
-        assert_eq!(rt; told.as_str(), want, "changes {changes:?}");
+/// The first row that is read otherwise.
+fn first_other(alloc: Global, rows: &[Changed]) -> Result<Option<usize>, AllocError> {
+    for (i, (row, changes, want)) in rows.iter().enumerate() {
+        if !is_read(alloc, &changed(words_of(*row), changes), want)? {
+            return Ok(Some(i));
+        }
     }
-    Ok(())
+    Ok(None)
+}
+
+// the lengths of the key and of the document, and whether a put has them
+static LENGTHS: [(usize, usize, bool); 9] = [
+    (1, 1, true),
+    (7, 56, true),
+    (8, 57, true),
+    (64, 1024, true),
+    (1, 1024, true),
+    (65, 1, false),
+    (64, 1025, false),
+    (0, 1, false),
+    (1, 0, false),
+];
+
+/// The first row of lengths that is read otherwise.
+fn first_other_length(
+    alloc: Global,
+    rows: &[(usize, usize, bool)],
+) -> Result<Option<usize>, AllocError> {
+    for (i, (key_len, document_len, is_put)) in rows.iter().enumerate() {
+        let key = &LETTERS[..(*key_len).min(1025)];
+        let document = &LETTERS[..(*document_len).min(1025)];
+        let kind = u64::from(*is_put);
+        let words = laid_out(1, key, document, 0);
+        if !is_read(alloc, &words, &(kind, key, document, 0))? {
+            return Ok(Some(i));
+        }
+    }
+    Ok(None)
 }
 
 #[test]
-fn other_kinds_have_no_more_than_they_use(rt: HostRuntime) -> Result<(), Fail> {
-    let rows: [Row; 8] = [
-        with(2, "a", "1", 0),
-        with(2, "a", "", 1),
-        with(3, "a", "1", 5),
-        with(4, "", "", 0),
-        with(5, "a", "", 1),
-        with(5, "a b", "", 0),
-        with(6, "a", "", 0),
-        with(6, "", "", 1),
-    ];
-    for row in rows {
-        let words = laid_out(row);
-        assert_eq!(rt; op_told(rt.alloc(), &words)?.as_str(), "bad-op");
-    }
+fn words_are_read_as_operations(rt: HostRuntime) -> Result<(), Fail> {
+    holds(&rt, first_other(rt.alloc(), &OPERATIONS)?.is_none());
+    holds(&rt, first_other_length(rt.alloc(), &LENGTHS)?.is_none());
     Ok(())
 }
 
-#[test]
-fn replies_go_there_and_back(rt: HostRuntime) -> Result<(), Fail> {
-    let rows: [(Row, &str); 23] = [
-        (with(1, "", "", 0), "new"),
-        (with(2, "", "", 0), "replaced"),
-        (with(3, "", "", 0), "deleted"),
-        (with(4, "", "", 0), "absent"),
-        (with(5, "", "1", 0), "doc 1"),
-        (with(6, "", "", 7), "sum 7"),
-        (with(6, "", "", 18446744073709551614), "sum -2"),
-        (with(7, "", "", 0), "not-number"),
-        (with(8, "", "", 0), "overflow"),
-        (with(9, "", "", 0), "no-room"),
-        (with(10, "abcdefgh", "", 0), "key abcdefgh"),
-        (with(11, "", "", 0), "number 0"),
-        (
-            with(11, "", "", 18446744073709551615),
-            "number 18446744073709551615",
+// words, whether a reply has them, and its sum if it is one
+static REPLIES: [(Row, bool, i64); 23] = [
+    ((1, "", "", 0), true, 0),
+    ((2, "", "", 0), true, 0),
+    ((3, "", "", 0), true, 0),
+    ((4, "", "", 0), true, 0),
+    ((5, "", "1", 0), true, 0),
+    ((6, "", "", 7), true, 7),
+    ((6, "", "", 18446744073709551614), true, -2),
+    ((7, "", "", 0), true, 0),
+    ((8, "", "", 0), true, 0),
+    ((9, "", "", 0), true, 0),
+    ((10, "abcdefgh", "", 0), true, 0),
+    ((11, "", "", 0), true, 0),
+    ((11, "", "", 18446744073709551615), true, 0),
+    ((0, "", "", 0), false, 0),
+    ((12, "", "", 0), false, 0),
+    ((1, "", "", 1), false, 0),
+    ((4, "a", "", 0), false, 0),
+    ((5, "", "", 0), false, 0),
+    ((5, "", "\x1F", 0), false, 0),
+    ((6, "a", "", 1), false, 0),
+    ((9, "", "1", 0), false, 0),
+    ((10, "", "", 0), false, 0),
+    ((11, "", "1", 3), false, 0),
+];
+
+/// The sum that a reply has, or 0.
+fn sum_of(reply: &Reply) -> i64 {
+    match reply {
+        Reply::Sum(sum) => *sum,
+        _ => 0,
+    }
+}
+
+/// Whether a row's words are read so, and are the words of what is read.
+fn is_reply_read(alloc: Global, row: &(Row, bool, i64)) -> Result<bool, AllocError> {
+    let words = words_of(row.0);
+    match reply_of(alloc, &words) {
+        Ok(reply) => Ok(
+            row.1
+                && reply_words(&reply) == words
+                && has_reply(&reply, &row.0)
+                && sum_of(&reply) == row.2,
         ),
-        (with(0, "", "", 0), "bad-op"),
-        (with(12, "", "", 0), "bad-op"),
-        (with(1, "", "", 1), "bad-op"),
-        (with(4, "a", "", 0), "bad-op"),
-        (with(5, "", "", 0), "bad-op"),
-        (with(5, "", "\x1F", 0), "bad-op"),
-        (with(6, "a", "", 1), "bad-op"),
-        (with(9, "", "1", 0), "bad-op"),
-        (with(10, "", "", 0), "bad-op"),
-        (with(11, "", "1", 3), "bad-op"),
-    ];
-    for (row, want) in rows {
-        let words = laid_out(row);
-        assert_eq!(rt; reply_told(rt.alloc(), &words)?.as_str(), want);
+        Err(OpFault::BadOp) => Ok(!row.1),
+        Err(OpFault::Memory) => Err(AllocError),
     }
-    Ok(())
 }
 
-#[test]
-fn packed_replies(rt: HostRuntime) {
+/// The first row that is read as another reply.
+fn first_other_reply(
+    alloc: Global,
+    rows: &[(Row, bool, i64)],
+) -> Result<Option<usize>, AllocError> {
+    for (i, row) in rows.iter().enumerate() {
+        if !is_reply_read(alloc, row)? {
+            return Ok(Some(i));
+        }
+    }
+    Ok(None)
+}
+
+/// Whether the packed replies of a key and of a document have these words, and 0 in all others.
+fn are_packed(key_words: &[(usize, u64)], document_words: &[(usize, u64)]) -> bool {
     let mut key = [0; 8];
     pack(b"key", &mut key);
-    let words = packed_key_reply(3, &key);
-    assert_eq!(rt; (words[0], words[1], words[2], words[3]), (10, 3, 0, 0));
-    assert_eq!(rt; (words[8], words[9], words[16]), (0x0079_656b, 0, 0));
     let mut document = [0; 128];
     pack(b"document!", &mut document);
-    let words = packed_document_reply(9, &document);
-    assert_eq!(rt; (words[0], words[1], words[2], words[3]), (5, 0, 9, 0));
-    assert_eq!(rt;
-        (words[8], words[16], words[17], words[18]),
-        (0, 0x746e_656d_7563_6f64, 0x21, 0)
-    );
+    packed_key_reply(3, &key) == changed([0; 144], key_words)
+        && packed_document_reply(9, &document) == changed([0; 144], document_words)
+}
+
+static KEY_WORDS: [(usize, u64); 3] = [(0, 10), (1, 3), (8, 0x0079_656b)];
+
+static DOCUMENT_WORDS: [(usize, u64); 4] = [
+    (0, 5),
+    (2, 9),
+    (16, 0x746e_656d_7563_6f64),
+    (17, 0x21),
+];
+
+#[test]
+fn words_are_read_as_replies(rt: HostRuntime) -> Result<(), Fail> {
+    holds(&rt, first_other_reply(rt.alloc(), &REPLIES)?.is_none());
+    holds(&rt, are_packed(&KEY_WORDS, &DOCUMENT_WORDS));
+    Ok(())
 }
 
 #[test]
 fn bytes_of_keys(rt: HostRuntime) {
-    assert!(rt; is_key(b"!"));
-    assert!(rt; is_key(&[b'~'; 64]));
-    assert!(rt; !is_key(b""));
-    assert!(rt; !is_key(&[b'~'; 65]));
-    assert!(rt; !is_key(b"a b"));
-    assert!(rt; !is_key(&[0x7F]));
+    holds(&rt, is_key(b"!") && is_key(&[b'~'; 64]));
+    holds(&rt, !is_key(b"") && !is_key(&[b'~'; 65]));
+    holds(&rt, !is_key(b"a b") && !is_key(&[0x7F]));
 }

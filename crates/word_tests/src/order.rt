@@ -1,14 +1,15 @@
 //! Every order in which seven keys can be put in and taken out, with a look at the image after each command.
 
-ghost use Rattle.std.specs.Prelude.{◌≡◌};
+ghost use Rattle.std.specs.Prelude.{◌≡◌, IsTrue, IfOk};
+ghost use Rattle.doc_store.specs.ExactStep.{IsImage};
 
+use crate::holds::holds;
 use crate::mixed::accesses;
-use crate::rows::{opened, words_of};
+use crate::rows::{laid_out, memory, opened};
 use cx_base::{Object, VecMemory};
 use doc_model::Pair;
 use doc_store::{DocStore, documents};
 use std::alloc::{AllocError, Global};
-use std::process::Abort;
 use std::test::Fail;
 
 const KEYS: [&str; 7] = ["a", "b", "c", "d", "e", "f", "g"];
@@ -49,15 +50,20 @@ fn order_of(n: u64) -> [usize; 7] {
     order
 }
 
+/// Whether a pair is of this key, with itself as its document.
+fn is_pair(pair: Option<&Pair>, key: &[u8]) -> bool {
+    match pair {
+        Some(pair) => pair.key.as_slice() == key && pair.doc.as_slice() == key,
+        None => false,
+    }
+}
+
 /// Whether these are the pairs of these keys, each with itself as its document.
 fn are_those(pairs: &[Pair], there: &[bool; 7]) -> bool {
     let mut found = 0usize;
     for (key, there) in KEYS.iter().zip(there) {
         if *there {
-            let Some(pair) = pairs.get(found) else {
-                return false;
-            };
-            if pair.key.as_slice() != key.as_bytes() || pair.doc.as_slice() != key.as_bytes() {
+            if !is_pair(pairs.get(found), key.as_bytes()) {
                 return false;
             }
             found = found.saturating_add(1);
@@ -66,111 +72,150 @@ fn are_those(pairs: &[Pair], there: &[bool; 7]) -> bool {
     found == pairs.len()
 }
 
-/// The image after a command: `None` where the image before it is not lawful or does not hold these of the keys, or
+/// Whether an image is lawful and holds these of the keys.
+fn holds_those(
+    alloc: Global,
+    store: &DocStore,
+    image: &[u64],
+    there: &[bool; 7],
+) -> Result<bool, AllocError>
+    ensures { IfOk result (λ yes. IsTrue yes → IsImage store.now.lines image.now) }
+{
+    if !store.check(alloc, image)? {
+        return Ok(false);
+    }
+    Ok(are_those(&documents(alloc, image)?, there))
+}
+
+/// Does a command in an image: `false` where the image before it is not lawful or does not hold these of the keys, or
 /// another reply comes.
 fn done(
     alloc: Global,
     store: &DocStore,
-    image: Vec<u64>,
+    image: &mut [u64; 512],
     there: &[bool; 7],
     op: &[u64; 144],
     reply: u64,
-) -> Result<Option<Vec<u64>>, AllocError> {
-    if !store.check(alloc, &image)? || !are_those(&documents(alloc, &image)?, there) {
-        return Ok(None);
+) -> Result<bool, AllocError> {
+    if !holds_those(alloc, store, image, there)? {
+        return Ok(false);
     }
-    let mut mem = VecMemory::of(image, None);
+    let mut mem = VecMemory::of(Vec::from_slice(alloc, image)?, None);
     match store.run(&mut mem, op) {
-        Ok(words) if words[0] == reply => Ok(Some(mem.into_words())),
-        _ => Ok(None),
+        Ok(words) => Ok(words[0] == reply && copied(&mem.into_words(), image)),
+        Err(_) => Ok(false),
     }
 }
 
-/// The image after all keys are put in, or taken out, in an order: `None` where it is wrong on the way.
+/// Copies words that are an image's.
+fn copied(words: &[u64], image: &mut [u64; 512]) -> bool {
+    if words.len() != 512 {
+        return false;
+    }
+    image.copy_from_slice(words);
+    true
+}
+
+/// The words of a command of this kind on a key, which is put with itself as its document.
+fn on_key(kind: u64, at: usize) -> [u64; 144] {
+    let key = KEYS[at % 7].as_bytes();
+    laid_out(kind, key, if kind == PUT { key } else { b"" }, 0)
+}
+
+/// Puts all keys in, or takes them out, in an order: `false` where an image is wrong on the way.
 fn all_done(
     alloc: Global,
     store: &DocStore,
-    image: Vec<u64>,
+    image: &mut [u64; 512],
     order: &[usize; 7],
-    puts: bool,
-) -> Result<Option<Vec<u64>>, AllocError> {
-    let mut image = image;
+    kind: u64,
+    reply: u64,
+) -> Result<bool, AllocError> {
+    let puts = kind == PUT;
     let mut there = [!puts; 7];
     for at in order {
-        let key = KEYS[*at % 7];
-        let (op, reply) = if puts {
-            (words_of((PUT, key, key, 0)), NEW)
-        } else {
-            (words_of((DEL, key, "", 0)), DELETED)
-        };
-        let Some(next) = done(alloc, store, image, &there, &op, reply)? else {
-            return Ok(None);
-        };
-        image = next;
+        if !done(alloc, store, image, &there, &on_key(kind, *at), reply)? {
+            return Ok(false);
+        }
         there[*at % 7] = puts;
     }
-    let end = words_of((COUNT, "", "", 0));
-    done(alloc, store, image, &there, &end, NUMBER)
+    done(
+        alloc,
+        store,
+        image,
+        &there,
+        &laid_out(COUNT, b"", b"", 0),
+        NUMBER,
+    )
 }
 
 /// The opening image of 64 lines.
-fn empty(alloc: Global, store: &DocStore) -> Result<Vec<u64>, Fail>
-    requires { store.now.lines ≡ 64 }
-{
-    let mut mem = VecMemory::of(vec![in alloc; u64::MAX; 512]?, None);
-    opened(store, &mut mem)?;
-    Ok(mem.into_words())
+fn empty(alloc: Global, image: &mut [u64; 512]) -> Result<bool, AllocError> {
+    let mut mem = memory(alloc, 64)?;
+    match opened(&DocStore::of(64), &mut mem) {
+        Ok(()) => Ok(copied(&mem.into_words(), image)),
+        Err(_) => Ok(false),
+    }
 }
 
 /// Whether the keys can be put in in one order, and taken out in another.
 fn there_and_back(
     alloc: Global,
     store: &DocStore,
-    image: Vec<u64>,
     puts: &[usize; 7],
     takes: &[usize; 7],
 ) -> Result<bool, AllocError> {
-    let Some(full) = all_done(alloc, store, image, puts, true)? else {
-        return Ok(false);
-    };
-    Ok(all_done(alloc, store, full, takes, false)?.is_some())
+    let mut image = [0; 512];
+    Ok(
+        empty(alloc, &mut image)?
+            && all_done(alloc, store, &mut image, puts, PUT, NEW)?
+            && all_done(alloc, store, &mut image, takes, DEL, DELETED)?,
+    )
+}
+
+/// Whether the keys can be put in in each order and taken out in the same.
+fn in_each_order(alloc: Global) -> Result<bool, AllocError> {
+    let store = DocStore::of(64);
+    for n in 0..5040 {
+        let order = order_of(n);
+        if !there_and_back(alloc, &store, &order, &order)? {
+            return Ok(false);
+        }
+    }
+    Ok(true)
+}
+
+/// Whether the keys can be put in in rising order and taken out in each.
+fn out_in_each_order(alloc: Global) -> Result<bool, AllocError> {
+    let store = DocStore::of(64);
+    for n in 0..5040 {
+        if !there_and_back(alloc, &store, &RISING, &order_of(n))? {
+            return Ok(false);
+        }
+    }
+    Ok(true)
 }
 
 #[test]
 fn seven_keys_in_every_order(rt: HostRuntime) -> Result<(), Fail> {
-    let alloc = rt.alloc();
-    let store = DocStore::of(64);
-    for n in 0..5040 {
-        let order = order_of(n);
-        let image = empty(alloc, &store)?;
-        assert!(&rt; there_and_back(alloc, &store, image, &order, &order)?);
-    }
+    holds(&rt, in_each_order(rt.alloc())?);
+    holds(&rt, out_in_each_order(rt.alloc())?);
     Ok(())
 }
 
-#[test]
-fn seven_keys_out_in_every_order(rt: HostRuntime) -> Result<(), Fail> {
-    let alloc = rt.alloc();
+/// How many accesses the removal of the middle key of seven takes: in a balanced tree it stands over two others.
+fn removal(alloc: Global) -> Result<u64, AllocError> {
     let store = DocStore::of(64);
-    for n in 0..5040 {
-        let image = empty(alloc, &store)?;
-        assert!(&rt; there_and_back(alloc, &store, image, &RISING, &order_of(n))?);
+    let mut image = [0; 512];
+    if !empty(alloc, &mut image)? || !all_done(alloc, &store, &mut image, &RISING, PUT, NEW)? {
+        return Ok(0);
     }
-    Ok(())
+    accesses(alloc, &store, &image, &on_key(DEL, 3))
 }
 
-// The middle key of seven: in a balanced tree it stands over two others.
 #[test]
 fn each_access_of_a_removal_can_be_refused(rt: HostRuntime) -> Result<(), Fail> {
-    let alloc = rt.alloc();
-    let store = DocStore::of(64);
-    let image = empty(alloc, &store)?;
-    let Some(image) = all_done(alloc, &store, image, &RISING, true)? else {
-        assert!(&rt; false);
-        return Ok(());
-    };
-    let most = accesses(alloc, &store, &image, &words_of((DEL, "d", "", 0)))?;
-    assert!(&rt; most > 20);
+    holds(&rt, removal(rt.alloc())? > 20);
     Ok(())
 }
 
@@ -184,30 +229,37 @@ fn root_of(image: &[u64]) -> Option<(u64, u64)> {
 }
 
 // Balanced by hand: a; a, b; b over a, c; and on, as an AVL tree has it.
-#[test]
-fn rising_keys_turn_the_root(rt: HostRuntime) -> Result<(), Fail> {
-    let alloc = rt.alloc();
+static ROOTS: [(u64, u64); 7] = [
+    (97, 1),
+    (97, 2),
+    (98, 2),
+    (98, 3),
+    (98, 3),
+    (100, 3),
+    (100, 3),
+];
+
+/// Whether each root stands after its key is put in, in rising order.
+fn have_roots(alloc: Global, roots: &[(u64, u64); 7]) -> Result<bool, AllocError> {
     let store = DocStore::of(64);
-    let mut image = empty(alloc, &store)?;
+    let mut image = [0; 512];
     let mut there = [false; 7];
-    let roots = [
-        (97, 1),
-        (97, 2),
-        (98, 2),
-        (98, 3),
-        (98, 3),
-        (100, 3),
-        (100, 3),
-    ];
-    for (at, root) in roots.iter().enumerate() {
-        let op = words_of((PUT, KEYS[at], KEYS[at], 0));
-        let Some(next) = done(alloc, &store, image, &there, &op, NEW)? else {
-            assert!(&rt; false);
-            return Ok(());
-        };
-        assert_eq!(&rt; root_of(&next), Some(*root), "after key {at}");
-        image = next;
+    if !empty(alloc, &mut image)? {
+        return Ok(false);
+    }
+    for at in 0..7 {
+        if !done(alloc, &store, &mut image, &there, &on_key(PUT, at), NEW)?
+            || root_of(&image) != Some(roots[at])
+        {
+            return Ok(false);
+        }
         there[at] = true;
     }
+    Ok(true)
+}
+
+#[test]
+fn rising_keys_turn_the_root(rt: HostRuntime) -> Result<(), Fail> {
+    holds(&rt, have_roots(rt.alloc(), &ROOTS)?);
     Ok(())
 }

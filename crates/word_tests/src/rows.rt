@@ -1,25 +1,24 @@
 //! Worked rows over words: the words of operations, and the words that they are answered.
 
-ghost use Rattle.std.specs.Prelude.{◌≡◌, ◌≤◌, ◌*◌, IsTrue, IfOk, OnOk, length, replicate};
+ghost use Rattle.std.specs.Prelude.{◌≡◌, ◌≤◌, ◌*◌, ◌^◌, IsTrue, IfOk, OnOk, length, replicate};
 ghost use Rattle.cx_base.specs.Memory.{Always};
 ghost use Rattle.doc_store.specs.ExactStep.{IsImage};
 
+use crate::holds::holds;
 use cx_base::{Halt, Memory, Object, VecMemory};
+use doc_model::{OpFault, Pairs, Reply, op_of};
 use doc_store::DocStore;
 use std::alloc::{AllocError, Global};
 use std::test::Fail;
 
 /// The parts of words, as the rows give them: the kind, the key, the document and the number.
-type Row = (u64, &'static str, &'static str, u64);
+pub(crate) type Row = (u64, &'static str, &'static str, u64);
 
-pub(crate) fn put_word(words: &mut [u64], at: usize, word: u64) {
-    if let Some(place) = words.get_mut(at) {
-        *place = word;
-    }
-}
+/// A key or a document of one letter.
+pub(crate) static LETTERS: [u8; 1025] = [b'x'; 1025];
 
 /// Lays bytes out from a word on: byte i is in word i / 8 at bits 8 * (i mod 8).
-pub(crate) fn lay(words: &mut [u64], from: usize, bytes: &[u8]) {
+fn lay(words: &mut [u64], from: usize, bytes: &[u8]) {
     for (i, byte) in bytes.iter().enumerate() {
         if let Some(word) = words.get_mut(from.saturating_add(i / 8)) {
             *word |= u64::from(*byte) << (8 * (i % 8));
@@ -27,17 +26,107 @@ pub(crate) fn lay(words: &mut [u64], from: usize, bytes: &[u8]) {
     }
 }
 
+/// The words of these parts.
+pub(crate) fn laid_out(kind: u64, key: &[u8], document: &[u8], number: u64) -> [u64; 144] {
+    let mut words = [0; 144];
+    words[0] = kind;
+    words[1] = key.len() as u64;
+    words[2] = document.len() as u64;
+    words[3] = number;
+    lay(&mut words, 8, key);
+    lay(&mut words, 16, document);
+    words
+}
+
 /// The words of a row.
 pub(crate) fn words_of(row: Row) -> [u64; 144] {
-    let (kind, key, document, number) = row;
-    let mut words = [0; 144];
-    put_word(&mut words, 0, kind);
-    put_word(&mut words, 1, key.len() as u64);
-    put_word(&mut words, 2, document.len() as u64);
-    put_word(&mut words, 3, number);
-    lay(&mut words, 8, key.as_bytes());
-    lay(&mut words, 16, document.as_bytes());
-    words
+    laid_out(row.0, row.1.as_bytes(), row.2.as_bytes(), row.3)
+}
+
+/// The kind of a reply's words.
+fn kind_of(reply: &Reply) -> u64 {
+    match reply {
+        Reply::New => 1,
+        Reply::Replaced => 2,
+        Reply::Deleted => 3,
+        Reply::Absent => 4,
+        Reply::Doc(_) => 5,
+        Reply::Sum(_) => 6,
+        Reply::NotNumber => 7,
+        Reply::Overflow => 8,
+        Reply::NoRoom => 9,
+        Reply::Key(_) => 10,
+        Reply::Number(_) => 11,
+    }
+}
+
+/// The key that a reply has, or nothing.
+fn key_of(reply: &Reply) -> &[u8] {
+    match reply {
+        Reply::Key(key) => key.as_slice(),
+        _ => &[],
+    }
+}
+
+/// The document that a reply has, or nothing.
+fn document_of(reply: &Reply) -> &[u8] {
+    match reply {
+        Reply::Doc(document) => document.as_slice(),
+        _ => &[],
+    }
+}
+
+/// The number that a reply has, a sum in two's complement, or 0.
+fn number_of(reply: &Reply) -> u64 {
+    match reply {
+        Reply::Sum(sum) => sum.cast_unsigned(),
+        Reply::Number(number) => *number,
+        _ => 0,
+    }
+}
+
+/// Whether a reply has these parts.
+pub(crate) fn has_reply(reply: &Reply, want: &Row) -> bool {
+    kind_of(reply) == want.0
+        && key_of(reply) == want.1.as_bytes()
+        && document_of(reply) == want.2.as_bytes()
+        && number_of(reply) == want.3
+}
+
+/// Whether two replies are the same.
+pub(crate) fn same_reply(one: &Reply, other: &Reply) -> bool {
+    kind_of(one) == kind_of(other)
+        && key_of(one) == key_of(other)
+        && document_of(one) == document_of(other)
+        && number_of(one) == number_of(other)
+}
+
+/// What the plain program answers to words in so many lines, and nothing where they are no operation's.
+pub(crate) fn meant(
+    alloc: Global,
+    pairs: &mut Pairs,
+    lines: u64,
+    words: &[u64; 144],
+) -> Result<Option<Reply>, AllocError> {
+    match op_of(alloc, words) {
+        Ok(op) => Ok(Some(pairs.step(alloc, lines, &op)?)),
+        Err(OpFault::BadOp) => Ok(None),
+        Err(OpFault::Memory) => Err(AllocError),
+    }
+}
+
+/// Whether the plain program answers an operation as told. No operation is answered by zeros.
+fn is_meant(
+    alloc: Global,
+    pairs: &mut Pairs,
+    lines: u64,
+    op: &[u64; 144],
+    want: &Row,
+) -> Result<bool, AllocError> {
+    Ok(match meant(alloc, pairs, lines, op)? {
+        Some(reply) => has_reply(&reply, want),
+        None => want.0 == 0,
+    })
 }
 
 /// The reply to an operation's words.
@@ -67,65 +156,89 @@ pub(crate) fn opened<M: Memory>(store: &DocStore, mem: &mut M) -> Result<(), Hal
     store.format(mem)
 }
 
-/// How many rows are answered as told, from the first on.
-fn answered<M: Memory>(store: &DocStore, mem: &mut M, rows: &[(Row, Row)]) -> Result<usize, Halt>
+/// Whether the store and the plain program answer a row as told.
+fn is_answered<M: Memory>(
+    alloc: Global,
+    store: &DocStore,
+    mem: &mut M,
+    pairs: &mut Pairs,
+    row: &(Row, Row),
+) -> Result<bool, AllocError>
     requires size { M.size mem.old ≡ 8 * store.now.lines }
     requires writable { IsTrue (M.writable mem.old) }
     requires lawful { Always (M.stands mem.old) (IsImage store.now.lines) }
+    ensures size { M.size mem.new ≡ 8 * store.now.lines }
+    ensures writable { IsTrue (M.writable mem.new) }
+    ensures lawful { IfOk result (λ yes. IsTrue yes → Always (M.stands mem.new) (IsImage store.now.lines)) }
 {
-    let mut right = 0;
-    for (ask, want) in rows {
-        let reply = asked(store, mem, &words_of(*ask))?;
-        if reply != words_of(*want) {
-            return Ok(right);
+    let op = words_of(row.0);
+    match asked(store, mem, &op) {
+        Ok(reply) if reply == words_of(row.1) => {
+            is_meant(alloc, pairs, store.lines(), &op, &row.1)
         }
-        right += 1;
+        _ => Ok(false),
     }
-    Ok(right)
 }
 
-/// The same from the empty store on.
-fn answered_from_empty<M: Memory>(
+/// Whether the store, empty before, and the plain program answer each row as told.
+fn both_answer<M: Memory>(
+    alloc: Global,
     store: &DocStore,
     mem: &mut M,
+    pairs: &mut Pairs,
     rows: &[(Row, Row)],
-) -> Result<usize, Halt>
+) -> Result<bool, AllocError>
     requires size { M.size mem.old ≡ 8 * store.now.lines }
     requires writable { IsTrue (M.writable mem.old) }
 {
-    opened(store, mem)?;
-    answered(store, mem, rows)
+    let Ok(()) = opened(store, mem) else {
+        return Ok(false);
+    };
+    for row in rows {
+        if !is_answered(alloc, store, mem, pairs, row)? {
+            return Ok(false);
+        }
+    }
+    Ok(true)
 }
 
 /// A memory of so many lines of words that say nothing.
-fn memory(alloc: Global, lines: u64) -> Result<VecMemory, AllocError>
-    requires { lines ≤ 64 }
+pub(crate) fn memory(alloc: Global, lines: u64) -> Result<VecMemory, AllocError>
+    requires { lines ≤ 2 ^ 14 }
     ensures { IfOk result (λ m. length m.words.items ≡ 8 * lines) }
 {
     let words = vec![in alloc; u64::MAX; 8 * lines as usize]?;
     Ok(VecMemory::of(words, None))
 }
 
-/// How many rows are answered as told in 64 lines.
-fn answered_in_64_lines(alloc: Global, rows: &[(Row, Row)]) -> Result<Option<usize>, AllocError> {
-    answered_in(alloc, 64, rows)
-}
-
-/// How many rows are answered as told in so many lines; `None` where an access was refused.
-fn answered_in(alloc: Global, lines: u64, rows: &[(Row, Row)]) -> Result<Option<usize>, AllocError>
+/// Whether each row is answered as told in so many lines, by the plain program from these pairs on.
+pub(crate) fn are_answered_with(
+    alloc: Global,
+    lines: u64,
+    pairs: &mut Pairs,
+    rows: &[(Row, Row)],
+) -> Result<bool, AllocError>
     requires some { 1 ≤ lines }
     requires few { lines ≤ 64 }
 {
-    let store = DocStore::of(lines);
     let mut mem = memory(alloc, lines)?;
-    match answered_from_empty(&store, &mut mem, rows) {
-        Ok(right) => Ok(Some(right)),
-        Err(_) => Ok(None),
-    }
+    both_answer(alloc, &DocStore::of(lines), &mut mem, pairs, rows)
+}
+
+/// Whether each row is answered as told in so many lines.
+pub(crate) fn are_answered(
+    alloc: Global,
+    lines: u64,
+    rows: &[(Row, Row)],
+) -> Result<bool, AllocError>
+    requires some { 1 ≤ lines }
+    requires few { lines ≤ 64 }
+{
+    are_answered_with(alloc, lines, &mut Pairs::new(alloc), rows)
 }
 
 // 63 lines, all in use
-const FULL: [(Row, Row); 27] = [
+static FULL: [(Row, Row); 27] = [
     ((1, "k00", "0", 0), (1, "", "", 0)),
     ((1, "k01", "0", 0), (1, "", "", 0)),
     ((1, "k02", "0", 0), (1, "", "", 0)),
@@ -163,155 +276,157 @@ const FULL: [(Row, Row); 27] = [
     ((4, "k20", "", 0), (5, "", "0", 0)),
 ];
 
+// a sum at the type's end, and below 0
+static SUMS: [(Row, Row); 7] = [
+    (
+        (3, "k", "", 9223372036854775807),
+        (6, "", "", 9223372036854775807),
+    ),
+    ((3, "k", "", 1), (8, "", "", 0)),
+    ((4, "k", "", 0), (5, "", "9223372036854775807", 0)),
+    (
+        (3, "k", "", 9223372036854775808),
+        (6, "", "", 18446744073709551615),
+    ),
+    ((4, "k", "", 0), (5, "", "-1", 0)),
+    (
+        (3, "n", "", 18446744073709551611),
+        (6, "", "", 18446744073709551611),
+    ),
+    ((4, "n", "", 0), (5, "", "-5", 0)),
+];
+
+// a document that is no number, and one that is gone
+static NO_NUMBERS: [(Row, Row); 6] = [
+    ((1, "a", "{\"a\":[],\"b\":1}", 0), (1, "", "", 0)),
+    ((4, "a", "", 0), (5, "", "{\"a\":[],\"b\":1}", 0)),
+    ((3, "a", "", 1), (7, "", "", 0)),
+    ((2, "a", "", 0), (3, "", "", 0)),
+    ((2, "a", "", 0), (4, "", "", 0)),
+    ((4, "a", "", 0), (4, "", "", 0)),
+];
+
+// keys at the limit, and words that are no operation's
+static AT_THE_LIMITS: [(Row, Row); 10] = [
+    (
+        (
+            1,
+            "kkkkkkkkkkkkkkkkkkkkkkkkkkkkkkkkkkkkkkkkkkkkkkkkkkkkkkkkkkkkkkkk",
+            "1",
+            0,
+        ),
+        (1, "", "", 0),
+    ),
+    (
+        (
+            4,
+            "kkkkkkkkkkkkkkkkkkkkkkkkkkkkkkkkkkkkkkkkkkkkkkkkkkkkkkkkkkkkkkkk",
+            "",
+            0,
+        ),
+        (5, "", "1", 0),
+    ),
+    (
+        (
+            1,
+            "kkkkkkkkkkkkkkkkkkkkkkkkkkkkkkkkkkkkkkkkkkkkkkkkkkkkkkkkkkkkkkkkk",
+            "1",
+            0,
+        ),
+        (0, "", "", 0),
+    ),
+    (
+        (
+            4,
+            "kkkkkkkkkkkkkkkkkkkkkkkkkkkkkkkkkkkkkkkkkkkkkkkkkkkkkkkkkkkkkkkkk",
+            "",
+            0,
+        ),
+        (0, "", "", 0),
+    ),
+    ((1, "a b", "1", 0), (0, "", "", 0)),
+    ((1, "a", "", 0), (0, "", "", 0)),
+    ((7, "", "", 0), (0, "", "", 0)),
+    ((0, "", "", 0), (0, "", "", 0)),
+    ((6, "", "", 1), (0, "", "", 0)),
+    ((6, "", "", 0), (11, "", "", 1)),
+];
+
+// a document of 56 bytes takes one line, and one of 57 bytes takes two
+static SEVEN_LINES: [(Row, Row); 8] = [
+    ((5, "", "", 0), (4, "", "", 0)),
+    ((1, "b", "1", 0), (1, "", "", 0)),
+    ((3, "a", "", 41), (6, "", "", 41)),
+    ((1, "c", "1", 0), (9, "", "", 0)),
+    (
+        (
+            1,
+            "b",
+            "xxxxxxxxxxxxxxxxxxxxxxxxxxxxxxxxxxxxxxxxxxxxxxxxxxxxxxxxx",
+            0,
+        ),
+        (9, "", "", 0),
+    ),
+    (
+        (
+            1,
+            "b",
+            "xxxxxxxxxxxxxxxxxxxxxxxxxxxxxxxxxxxxxxxxxxxxxxxxxxxxxxxx",
+            0,
+        ),
+        (2, "", "", 0),
+    ),
+    ((5, "a", "", 0), (10, "b", "", 0)),
+    ((6, "", "", 0), (11, "", "", 2)),
+];
+
+// the least key above, and the number of pairs
+static LEAST_KEYS: [(Row, Row); 7] = [
+    ((1, "a", "1", 0), (1, "", "", 0)),
+    ((1, "c", "2", 0), (1, "", "", 0)),
+    ((5, "", "", 0), (10, "a", "", 0)),
+    ((5, "a", "", 0), (10, "c", "", 0)),
+    ((5, "b", "", 0), (10, "c", "", 0)),
+    ((5, "c", "", 0), (4, "", "", 0)),
+    ((6, "", "", 0), (11, "", "", 2)),
+];
+
+static READINGS: [(Row, bool); 8] = [
+    ((1, "a", "1", 0), false),
+    ((2, "a", "", 0), false),
+    ((3, "a", "", 1), false),
+    ((4, "a", "", 0), true),
+    ((5, "", "", 0), true),
+    ((6, "", "", 0), true),
+    ((4, "", "", 0), false),
+    ((7, "", "", 0), false),
+];
+
 #[test]
-fn sums_end_at_64_bits(rt: HostRuntime) -> Result<(), Fail> {
-    // a sum at the type's end, and below 0
-    let rows: [(Row, Row); 7] = [
-        (
-            (3, "k", "", 9223372036854775807),
-            (6, "", "", 9223372036854775807),
-        ),
-        ((3, "k", "", 1), (8, "", "", 0)),
-        ((4, "k", "", 0), (5, "", "9223372036854775807", 0)),
-        (
-            (3, "k", "", 9223372036854775808),
-            (6, "", "", 18446744073709551615),
-        ),
-        ((4, "k", "", 0), (5, "", "-1", 0)),
-        (
-            (3, "n", "", 18446744073709551611),
-            (6, "", "", 18446744073709551611),
-        ),
-        ((4, "n", "", 0), (5, "", "-5", 0)),
-    ];
-    assert_eq!(rt; answered_in_64_lines(rt.alloc(), &rows)?, Some(rows.len()));
+fn commands_have_their_replies(rt: HostRuntime) -> Result<(), Fail> {
+    let alloc = rt.alloc();
+    holds(&rt, are_answered(alloc, 64, &SUMS)?);
+    holds(&rt, are_answered(alloc, 64, &NO_NUMBERS)?);
+    holds(&rt, are_answered(alloc, 64, &AT_THE_LIMITS)?);
+    holds(&rt, are_answered(alloc, 64, &FULL)?);
+    holds(&rt, are_answered(alloc, 7, &SEVEN_LINES)?);
+    holds(&rt, are_answered(alloc, 64, &LEAST_KEYS)?);
     Ok(())
 }
 
-#[test]
-fn documents_that_are_no_numbers(rt: HostRuntime) -> Result<(), Fail> {
-    // a document that is no number, and one that is gone
-    let rows: [(Row, Row); 6] = [
-        ((1, "a", "{\"a\":[],\"b\":1}", 0), (1, "", "", 0)),
-        ((4, "a", "", 0), (5, "", "{\"a\":[],\"b\":1}", 0)),
-        ((3, "a", "", 1), (7, "", "", 0)),
-        ((2, "a", "", 0), (3, "", "", 0)),
-        ((2, "a", "", 0), (4, "", "", 0)),
-        ((4, "a", "", 0), (4, "", "", 0)),
-    ];
-    assert_eq!(rt; answered_in_64_lines(rt.alloc(), &rows)?, Some(rows.len()));
-    Ok(())
-}
-
-#[test]
-fn words_that_are_no_operation(rt: HostRuntime) -> Result<(), Fail> {
-    // keys at the limit, and words that are no operation's
-    let rows: [(Row, Row); 10] = [
-        (
-            (
-                1,
-                "kkkkkkkkkkkkkkkkkkkkkkkkkkkkkkkkkkkkkkkkkkkkkkkkkkkkkkkkkkkkkkkk",
-                "1",
-                0,
-            ),
-            (1, "", "", 0),
-        ),
-        (
-            (
-                4,
-                "kkkkkkkkkkkkkkkkkkkkkkkkkkkkkkkkkkkkkkkkkkkkkkkkkkkkkkkkkkkkkkkk",
-                "",
-                0,
-            ),
-            (5, "", "1", 0),
-        ),
-        (
-            (
-                1,
-                "kkkkkkkkkkkkkkkkkkkkkkkkkkkkkkkkkkkkkkkkkkkkkkkkkkkkkkkkkkkkkkkkk",
-                "1",
-                0,
-            ),
-            (0, "", "", 0),
-        ),
-        (
-            (
-                4,
-                "kkkkkkkkkkkkkkkkkkkkkkkkkkkkkkkkkkkkkkkkkkkkkkkkkkkkkkkkkkkkkkkkk",
-                "",
-                0,
-            ),
-            (0, "", "", 0),
-        ),
-        ((1, "a b", "1", 0), (0, "", "", 0)),
-        ((1, "a", "", 0), (0, "", "", 0)),
-        ((7, "", "", 0), (0, "", "", 0)),
-        ((0, "", "", 0), (0, "", "", 0)),
-        ((6, "", "", 1), (0, "", "", 0)),
-        ((6, "", "", 0), (11, "", "", 1)),
-    ];
-    assert_eq!(rt; answered_in_64_lines(rt.alloc(), &rows)?, Some(rows.len()));
-    Ok(())
-}
-
-#[test]
-fn all_lines_are_used(rt: HostRuntime) -> Result<(), Fail> {
-    assert_eq!(rt; answered_in_64_lines(rt.alloc(), &FULL)?, Some(FULL.len()));
-    Ok(())
-}
-
-#[test]
-fn seven_lines_hold_two_short_pairs(rt: HostRuntime) -> Result<(), Fail> {
-    // a document of 56 bytes takes one line, and one of 57 bytes takes two
-    let one_line = "xxxxxxxxxxxxxxxxxxxxxxxxxxxxxxxxxxxxxxxxxxxxxxxxxxxxxxxx";
-    let two_lines = "xxxxxxxxxxxxxxxxxxxxxxxxxxxxxxxxxxxxxxxxxxxxxxxxxxxxxxxxx";
-    let rows: [(Row, Row); 8] = [
-        ((5, "", "", 0), (4, "", "", 0)),
-        ((1, "b", "1", 0), (1, "", "", 0)),
-        ((3, "a", "", 41), (6, "", "", 41)),
-        ((1, "c", "1", 0), (9, "", "", 0)),
-        ((1, "b", two_lines, 0), (9, "", "", 0)),
-        ((1, "b", one_line, 0), (2, "", "", 0)),
-        ((5, "a", "", 0), (10, "b", "", 0)),
-        ((6, "", "", 0), (11, "", "", 2)),
-    ];
-    assert_eq!(rt; answered_in(rt.alloc(), 7, &rows)?, Some(rows.len()));
-    Ok(())
-}
-
-#[test]
-fn least_keys_and_the_number_of_pairs(rt: HostRuntime) -> Result<(), Fail> {
-    // the least key above, and the number of pairs
-    let rows: [(Row, Row); 7] = [
-        ((1, "a", "1", 0), (1, "", "", 0)),
-        ((1, "c", "2", 0), (1, "", "", 0)),
-        ((5, "", "", 0), (10, "a", "", 0)),
-        ((5, "a", "", 0), (10, "c", "", 0)),
-        ((5, "b", "", 0), (10, "c", "", 0)),
-        ((5, "c", "", 0), (4, "", "", 0)),
-        ((6, "", "", 0), (11, "", "", 2)),
-    ];
-    assert_eq!(rt; answered_in_64_lines(rt.alloc(), &rows)?, Some(rows.len()));
-    Ok(())
-}
-
-#[test]
-fn readings_are_told(rt: HostRuntime) -> Result<(), Fail> {
-    let rows: [(Row, bool); 8] = [
-        ((1, "a", "1", 0), false),
-        ((2, "a", "", 0), false),
-        ((3, "a", "", 1), false),
-        ((4, "a", "", 0), true),
-        ((5, "", "", 0), true),
-        ((6, "", "", 0), true),
-        ((4, "", "", 0), false),
-        ((7, "", "", 0), false),
-    ];
-    let store = DocStore::of(64);
+/// Whether each operation is told to be a reading or none.
+fn are_told(store: &DocStore, rows: &[(Row, bool)]) -> bool {
     for (ask, want) in rows {
-        assert_eq!(rt; store.reads(&words_of(ask)), want);
+        if store.reads(&words_of(*ask)) != *want {
+            return false;
+        }
     }
-    assert_eq!(rt; store.lines(), 64);
-    assert_eq!(rt; store.version(), 1);
-    Ok(())
+    true
+}
+
+#[test]
+fn readings_are_told(rt: HostRuntime) {
+    let store = DocStore::of(64);
+    holds(&rt, are_told(&store, &READINGS));
+    holds(&rt, store.lines() == 64 && store.version() == 1);
 }

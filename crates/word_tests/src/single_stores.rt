@@ -1,13 +1,14 @@
 //! How often one operation stores each word.
 
-ghost use Rattle.std.specs.Prelude.{◌≡◌, ◌*◌, IsTrue, OnOk};
+ghost use Rattle.std.specs.Prelude.{◌≡◌, ◌*◌, ◌^◌, ◌≤◌, IsTrue, OnOk};
 ghost use Rattle.cx_base.specs.Memory.{Always};
 ghost use Rattle.doc_store.specs.ExactStep.{IsImage};
 
-use crate::access::{DEL, PUT, height_in, on_key};
+use crate::access::{DEL, PUT, has_height, key_of, on_key};
 use crate::counting::{Counting, WordStores, counted_words};
+use crate::holds::holds;
 use crate::mixed::{Numbers, command};
-use crate::rows::{asked, lay, opened, put_word};
+use crate::rows::{LETTERS, asked, laid_out, opened};
 use cx_base::{Halt, Memory};
 use doc_store::DocStore;
 use std::alloc::{AllocError, Global};
@@ -15,7 +16,7 @@ use std::test::Fail;
 
 /// The stores of operations, and how many of them were of a word that the same operation had stored before, or of one
 /// that was in the end as it had been.
-#[derive(Clone, Copy, Debug)]
+#[derive(Clone, Copy)]
 struct Stores {
     all: u64,
     again: u64,
@@ -44,6 +45,11 @@ fn counted(words: &mut [WordStores], so_far: Stores) -> Stores {
     sum
 }
 
+/// Whether there are more stores than so many, each of another word, which it changes.
+fn are_single(stores: &Stores, more_than: u64) -> bool {
+    stores.again == 0 && stores.needless == 0 && stores.all > more_than
+}
+
 /// The stores of so many mixed commands.
 fn stores_of<M: Memory>(
     store: &DocStore,
@@ -64,19 +70,23 @@ fn stores_of<M: Memory>(
     Ok(sum)
 }
 
+/// Whether so many mixed commands in so many lines make more stores than so many, each of a word that it changes.
+fn store_once(alloc: Global, lines: u64, commands: u64, more_than: u64) -> Result<bool, AllocError>
+    requires some { 1 ≤ lines }
+    requires few { lines ≤ 2 ^ 14 }
+{
+    let mut mem = counted_words(alloc, lines)?;
+    Ok(match stores_of(&DocStore::of(lines), &mut mem, commands) {
+        Ok(stores) => are_single(&stores, more_than),
+        Err(_) => false,
+    })
+}
+
 // 256 lines are soon full, and 512 are not yet.
 #[test]
 fn an_operation_stores_each_word_that_changes_once(rt: HostRuntime) -> Result<(), Fail> {
-    let full = DocStore::of(256);
-    let mut mem = counted_words(rt.alloc(), 256)?;
-    let few = stores_of(&full, &mut mem, 1000).expect(&rt, "commands");
-    assert_eq!(rt; (few.again, few.needless), (0, 0));
-    assert!(rt; few.all > 2000);
-    let roomy = DocStore::of(512);
-    let mut mem = counted_words(rt.alloc(), 512)?;
-    let many = stores_of(&roomy, &mut mem, 300).expect(&rt, "commands");
-    assert_eq!(rt; (many.again, many.needless), (0, 0));
-    assert!(rt; many.all > 3000);
+    holds(&rt, store_once(rt.alloc(), 256, 1000, 2000)?);
+    holds(&rt, store_once(rt.alloc(), 512, 300, 3000)?);
     Ok(())
 }
 
@@ -87,12 +97,21 @@ const SMALLEST: [u64; 18] = [
 
 /// A smallest tree of a height over numbers from the least on. One that is left is lower at its left, and so is each left
 /// tree in it; each right tree in it is lower at its right.
-#[derive(Clone, Copy, Debug)]
+#[derive(Clone, Copy)]
 struct Smallest {
     least: u64,
     height: usize,
     left: bool,
 }
+
+/// The whole tree. Its root is lower at its right, and the tree there is left, so that where the root goes, the next number
+/// takes its place, which stands at the end of a way through the lower side of each node, and each node of this way turns
+/// twice.
+const WHOLE: Smallest = Smallest {
+    least: 0,
+    height: 17,
+    left: false,
+};
 
 impl Smallest {
     /// The tree below it at its left.
@@ -115,56 +134,38 @@ impl Smallest {
         Smallest {
             least: self.root().saturating_add(1),
             height: self.height.saturating_sub(if self.left { 1 } else { 2 }),
-            left: false,
+            left: self.height == 17,
         }
     }
 }
 
-/// The numbers of a smallest tree of height 17, level by level: keys put in this order make the tree, and turn no node.
-/// Its root is lower at its right, and the tree there is left. So where the root goes, the next number takes its place, which
-/// stands at the end of a way through the lower side of each node, and each node of this way turns twice.
-fn level_by_level(alloc: Global) -> Result<Vec<u64>, AllocError> {
-    let whole = Smallest {
-        least: 0,
-        height: 17,
-        left: false,
-    };
-    let mut numbers = Vec::new(alloc);
+/// The smallest tree of height 17 with those below it, level by level: keys put in the order of their roots make the tree,
+/// and turn no node.
+fn level_by_level(alloc: Global) -> Result<Vec<Smallest>, AllocError> {
     let mut trees = Vec::new(alloc);
-    numbers.push(whole.root())?;
-    trees.push(whole.below_left())?;
-    trees.push(Smallest {
-        left: true,
-        ..whole.below_right()
-    })?;
-    for i in 0..2 * 4180 {
+    trees.push(WHOLE)?;
+    for i in 0..4180 {
         let Some(tree) = trees.get(i).copied() else {
             break;
         };
-        if tree.height > 0 {
-            numbers.push(tree.root())?;
-            trees.push(tree.below_left())?;
-            trees.push(tree.below_right())?;
+        for below in [tree.below_left(), tree.below_right()] {
+            if below.height > 0 {
+                trees.push(below)?;
+            }
         }
     }
-    Ok(numbers)
+    Ok(trees)
 }
 
-/// The words of an operation on the n-th key of 64 bytes, which is above the n-th one of 16 bytes and below the next. What is
-/// put has 1,024 bytes.
-fn on_long_key(kind: u64, n: u64) -> [u64; 144] {
-    let mut words = on_key(kind, n, b'x', 0);
-    put_word(&mut words, 1, 64);
-    lay(&mut words, 10, &[b'k'; 48]);
-    if kind == PUT {
-        put_word(&mut words, 2, 1024);
-        lay(&mut words, 16, &[b'x'; 1024]);
-    }
-    words
+/// The words of an operation on the n-th key of 64 bytes, which is above the n-th one of 16 bytes and below the next.
+fn on_long_key(kind: u64, n: u64, document: &[u8]) -> [u64; 144] {
+    let mut key = [b'k'; 64];
+    key[..16].copy_from_slice(&key_of(n));
+    laid_out(kind, &key, document, 0)
 }
 
-/// Puts short pairs at keys of these numbers.
-fn put_short<M: Memory>(store: &DocStore, mem: &mut M, numbers: &[u64]) -> Result<(), Halt>
+/// Puts short pairs at keys of the numbers of these roots.
+fn put_short<M: Memory>(store: &DocStore, mem: &mut M, trees: &[Smallest]) -> Result<(), Halt>
     requires size { M.size mem.old ≡ 8 * store.now.lines }
     requires writable { IsTrue (M.writable mem.old) }
     requires lawful { Always (M.stands mem.old) (IsImage store.now.lines) }
@@ -172,49 +173,72 @@ fn put_short<M: Memory>(store: &DocStore, mem: &mut M, numbers: &[u64]) -> Resul
     ensures writable { IsTrue (M.writable mem.new) }
     ensures lawful { OnOk result (Always (M.stands mem.new) (IsImage store.now.lines)) }
 {
-    for n in numbers {
-        asked(store, mem, &on_key(PUT, *n, b'x', 1))?;
+    for tree in trees {
+        asked(store, mem, &on_key(PUT, tree.root(), b"x"))?;
     }
     Ok(())
 }
 
-/// The stores of the last put of a tree, which is of the longest pair, and of the removal of its root, which is one too.
-fn deep_stores<M: Memory>(
+/// Makes a tree but for its last key, of which the root's pair is of the longest.
+fn grown<M: Memory>(
+    store: &DocStore,
+    mem: &mut M,
+    root: u64,
+    others: &[Smallest],
+) -> Result<(), Halt>
+    requires size { M.size mem.old ≡ 8 * store.now.lines }
+    requires writable { IsTrue (M.writable mem.old) }
+    ensures size { M.size mem.new ≡ 8 * store.now.lines }
+    ensures writable { IsTrue (M.writable mem.new) }
+    ensures lawful { OnOk result (Always (M.stands mem.new) (IsImage store.now.lines)) }
+{
+    opened(store, mem)?;
+    asked(store, mem, &on_long_key(PUT, root, &LETTERS[..1024]))?;
+    put_short(store, mem, others)
+}
+
+/// Whether the last put of a tree, which is of the longest pair, and the removal of its root, which is one too, store each
+/// word that they change once.
+fn are_deep<M: Memory>(
     store: &DocStore,
     mem: &mut Counting<M>,
     root: u64,
-    others: &[u64],
+    others: &[Smallest],
     last: u64,
-) -> Result<(Stores, Stores), Halt>
+) -> Result<bool, Halt>
     requires size { M.size mem.old.inner ≡ 8 * store.now.lines }
     requires writable { IsTrue (M.writable mem.old.inner) }
 {
-    opened(store, mem)?;
-    asked(store, mem, &on_long_key(PUT, root))?;
-    put_short(store, mem, others)?;
+    grown(store, mem, root, others)?;
     counted(&mut mem.words, NONE);
-    asked(store, mem, &on_long_key(PUT, last))?;
+    asked(store, mem, &on_long_key(PUT, last, &LETTERS[..1024]))?;
     let put = counted(&mut mem.words, NONE);
-    asked(store, mem, &on_long_key(DEL, root))?;
+    asked(store, mem, &on_long_key(DEL, root, b""))?;
     let taken = counted(&mut mem.words, NONE);
-    Ok((put, taken))
+    Ok(are_single(&put, 170) && are_single(&taken, 60))
+}
+
+/// Whether the last two changes of a tree, whose roots come level by level, store each word that they change once.
+fn are_last<M: Memory>(store: &DocStore, mem: &mut Counting<M>, trees: &[Smallest]) -> bool
+    requires size { M.size mem.old.inner ≡ 8 * store.now.lines }
+    requires writable { IsTrue (M.writable mem.old.inner) }
+{
+    let [root, others @ .., last] = trees else {
+        return false;
+    };
+    match are_deep(store, mem, root.root(), others, last.root()) {
+        Ok(deep) => deep,
+        Err(Halt) => false,
+    }
 }
 
 // 16,384 lines are the most that a replica has, and no higher tree has room in them.
 #[test]
 fn a_change_of_the_deepest_tree_stores_no_word_twice(rt: HostRuntime) -> Result<(), Fail> {
-    let numbers = level_by_level(rt.alloc())?;
-    assert_eq!(rt; numbers.len(), 4180);
-    let [root, others @ .., last] = numbers.as_slice() else {
-        return Ok(());
-    };
-    let store = DocStore::of(16_384);
     let mut mem = counted_words(rt.alloc(), 16_384)?;
-    let (put, taken) = deep_stores(&store, &mut mem, *root, others, *last).expect(&rt, "changes");
-    assert_eq!(rt; (put.again, put.needless), (0, 0));
-    assert!(rt; put.all > 170);
-    assert_eq!(rt; (taken.again, taken.needless), (0, 0));
-    assert!(rt; taken.all > 60);
-    assert_eq!(rt; height_in(&mem.inner.into_words()), Some(16));
+    let trees = level_by_level(rt.alloc())?;
+    holds(&rt, trees.len() == 4180);
+    holds(&rt, are_last(&DocStore::of(16_384), &mut mem, &trees));
+    holds(&rt, has_height(mem, 16));
     Ok(())
 }

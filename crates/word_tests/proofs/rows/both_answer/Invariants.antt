@@ -1,12 +1,11 @@
-use Rattle.std.proofs.Common.{◌≡◌, ◌*◌, ◌≤◌, IsTrue}
+use Rattle.std.proofs.Common.{◌≡◌, ◌*◌, IsTrue}
 use Rattle.cx_base.specs.Memory.{Always}
 use Rattle.doc_store.specs.ExactStep.{IsImage}
-use Rattle.word_tests.proofs.rows.answered.Given as goal
+use Rattle.word_tests.proofs.rows.both_answer.Given as goal
 
-abbrev pub invariant-loop-ask : goal.invariant-loop-ask
-invariant-loop-ask g l = record {
+abbrev pub invariant-loop-row : goal.invariant-loop-row
+invariant-loop-row g l = record {
   size : g.M.Memory.size l.mem ≡ 8 * l.store.lines;
   can_store : IsTrue (g.M.Memory.writable l.mem);
   lawful : Always (g.M.Memory.stands l.mem) (IsImage l.store.lines);
-  counted : l.right ≤ l.ask-index;
 }

@@ -1,7 +1,7 @@
 use Rattle.std.proofs.Common.{◌≡◌, ◌*◌, IsTrue}
 use Rattle.cx_base.specs.Memory.{Always}
 use Rattle.doc_store.specs.ExactStep.{IsImage}
-use Rattle.word_tests.proofs.mixed.mixed.Given as goal
+use Rattle.word_tests.proofs.mixed.are_same.Given as goal
 
 abbrev pub invariant-loop : goal.invariant-loop
 invariant-loop g l = record {
