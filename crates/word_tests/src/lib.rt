@@ -12,6 +12,8 @@ mod counting;
 #[cfg(test)]
 mod held;
 #[cfg(test)]
+mod holds;
+#[cfg(test)]
 mod hostile;
 #[cfg(test)]
 mod index;
