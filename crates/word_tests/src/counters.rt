@@ -233,10 +233,10 @@ const ACCESSES: [(Op, u64); 6] = [
     (Op::Other, 0),
 ];
 
-// Whether a step is done with so many accesses left behind those of `format`; `None` where `format` halts.
+// Whether a step is done with so many accesses for `format` and the step; `None` where `format` halts.
 fn is_done(alloc: Global, op: Op, left: u64) -> Result<Option<bool>, AllocError> {
     let object = counters();
-    let mut memory = memory(alloc, Some(512 + left))?;
+    let mut memory = memory(alloc, Some(left))?;
     match opened(&object, &mut memory) {
         Ok(()) => Ok(Some(asked(&object, &mut memory, &words_of(op, 0)).is_ok())),
         Err(Halt) => Ok(None),
@@ -247,7 +247,7 @@ fn is_done(alloc: Global, op: Op, left: u64) -> Result<Option<bool>, AllocError>
 fn first_other_need(alloc: Global, rows: &[(Op, u64)]) -> Result<Option<usize>, AllocError> {
     for (i, (op, needs)) in rows.iter().enumerate() {
         for left in 0..3 {
-            if is_done(alloc, *op, left)? != Some(*needs <= left) {
+            if is_done(alloc, *op, 512 + left)? != Some(*needs <= left) {
                 return Ok(Some(i));
             }
         }

@@ -66,6 +66,29 @@ pub fn put<M: Memory, L: Ledger>(
     Ok(done)
 }
 
+// Puts a document of so many bytes that are all the same.
+fn put_same<M: Memory, L: Ledger>(
+    memory: &mut M,
+    key: &[u8],
+    byte: u8,
+    len: usize,
+    visits: &mut Steps<L>,
+) -> Result<Inserted, Halt>
+    requires size { M.size memory.old ≡ 512 }
+    requires writable { IsTrue (M.writable memory.old) }
+    requires lawful { Always (M.stands memory.old) IsIndex }
+    requires key { IsKey key.now }
+    requires plain { 32 ≤ byte }
+    requires some { 1 ≤ len }
+    requires short { len ≤ 1024 }
+    ensures size { M.size memory.new ≡ 512 }
+    ensures writable { IsTrue (M.writable memory.new) }
+    ensures lawful { OnOk result (Always (M.stands memory.new) IsIndex) }
+{
+    let all = [byte; 1024];
+    put(memory, key, &all[..len], visits)
+}
+
 // Makes the empty index.
 pub fn format<M: Memory>(memory: &mut M) -> Result<(), Halt>
     requires size { M.size memory.old ≡ 512 }
@@ -191,7 +214,7 @@ fn is_answered<M: Memory, L: Ledger>(
             if *byte < 32 || *len == 0 || *len > 1024 {
                 return Ok(false);
             }
-            Ok(put(memory, &[key], &[*byte; 1024][..*len], visits)? == *wanted)
+            Ok(put_same(memory, &[key], *byte, *len, visits)? == *wanted)
         }
         Call::Take(wanted) => Ok(take(memory, &[key], visits)? == *wanted),
         Call::Look(pairs, above) => Ok(look(memory, &[key], visits)? == (*pairs, *above)),

@@ -16,7 +16,7 @@ const TREE: [u64; 32] = [
 ];
 
 // A root, a number of nodes, and whether they are a tree.
-const SHAPES: [(u64, u64, bool); 9] = [
+const SHAPES: [(u64, u32, bool); 9] = [
     (0, 0, true),
     (0, 1, false),
     (1, 1, true),
@@ -29,11 +29,11 @@ const SHAPES: [(u64, u64, bool); 9] = [
 ];
 
 // The first row that is told otherwise of these words.
-fn first_other_shape(words: &[u64], rows: &[(u64, u64, bool)]) -> Option<usize>
+fn first_other_shape(words: &[u64], rows: &[(u64, u32, bool)]) -> Option<usize>
     requires { IsPartLength (length words.now) }
 {
     for (i, (root, count, truth)) in rows.iter().enumerate() {
-        if is_balanced(words, *root, *count) != *truth {
+        if is_balanced(words, *root, *count as u64) != *truth {
             return Some(i);
         }
     }
