@@ -1,3 +1,3 @@
 mod DifferingLines
-mod LineMarks
+pub mod LineMarks
 mod TouchedLines

@@ -115,6 +115,19 @@ impl Medium {
         ensures stores { IfOk result (λ m. m.stores ≡ replicate (length words.items / 8) 0) }
     {
         let stores = vec![in alloc; 0; words.len() / 8]?;
+        Medium::with_stores(alloc, words, stores)
+    }
+
+    /// The same of lines that were stored to so often; 2^64 - 1 says that often or more.
+    pub fn with_stores(
+        alloc: Global,
+        words: Vec<u64>,
+        stores: Vec<u64>,
+    ) -> Result<Medium, AllocError>
+        requires { length words.items ≡ 8 * length stores.items }
+        ensures words { IfOk result (λ m. m.words ≡ map durable_word words.items) }
+        ensures stores { IfOk result (λ m. m.stores ≡ stores.items) }
+    {
         let words = words.iter().map(|v| Word::durable(*v)).collect(alloc)?;
         Ok(Medium { words, stores })
     }

@@ -1,70 +1,83 @@
 //! The worked rows of codes and packing, and the object Tally over two memories.
 
-ghost use Rattle.std.specs.Prelude.{◌≡◌, ◌<◌, IfOk, IsTrue, length, replicate, slice_index};
+ghost use Rattle.std.specs.Prelude.{◌≡◌, ◌<◌, ◌≤◌, IfOk, IsTrue, length, replicate, slice_index};
 ghost use Rattle.cx_base.specs.Memory.{Always};
 ghost use Rattle.cx_base.specs.Tally.{IsTally, tally_opening, tally_step};
 
-use cx_base::{load_below, store_words};
-use cx_base::{link_cell, link_code, link_ticket, root_code, root_place, root_replica};
-use cx_base::{Halt, Memory, VecMemory};
+use crate::holds::holds;
 use crate::noted::Noted;
-use cx_base::Object;
-use cx_base::{Sink, Source};
-use cx_base::{pack, unpack};
 use cx_base::tally::Tally;
-use cx_base::{VecSink, VecSource};
+use cx_base::{
+    Halt, Memory, Object, Sink, Source, VecMemory, VecSink, VecSource, link_cell, link_code,
+    link_ticket, load_below, pack, root_code, root_place, root_replica, store_words, unpack,
+};
 use std::alloc::{AllocError, Global};
-use std::process::Abort;
 use std::test::Fail;
 
 #[test]
 fn codes_of_the_worked_row(rt: HostRuntime) {
-    assert_eq!(rt; root_code(2, 7, 3), 31);
-    assert_eq!(rt; root_place(2, 31), 7);
-    assert_eq!(rt; root_replica(2, 31), 3);
-    assert_eq!(rt; link_code(2, 33, 5), 1062);
-    assert_eq!(rt; link_ticket(2, 1062), 33);
-    assert_eq!(rt; link_cell(2, 1062), 5);
-    assert_eq!(rt; root_code(8, 1 << 40, 15), 17592186044431);
-    assert_eq!(rt; link_code(1, 0, 0), 1);
+    holds(&rt, root_code(2, 7, 3) == 31);
+    holds(&rt, root_place(2, 31) == 7);
+    holds(&rt, root_replica(2, 31) == 3);
+    holds(&rt, link_code(2, 33, 5) == 1062);
+    holds(&rt, link_ticket(2, 1062) == 33);
+    holds(&rt, link_cell(2, 1062) == 5);
+    holds(&rt, root_code(8, 1 << 40, 15) == 17592186044431);
+    holds(&rt, link_code(1, 0, 0) == 1);
 }
 
-#[test]
-fn nine_bytes_packed(rt: HostRuntime) {
+// Whether bytes are packed so into three words, whatever these were.
+fn are_packed(bytes: &[u8], wanted: &[u64; 3]) -> bool
+    requires { length bytes.now ≤ 24 }
+{
     let mut words = [5; 3];
-    pack(&[1, 2, 3, 4, 5, 6, 7, 8, 9], &mut words);
-    assert_eq!(rt; words, [0x0807_0605_0403_0201, 9, 0]);
-    pack(&[255; 8], &mut words);
-    assert_eq!(rt; words, [u64::MAX, 0, 0]);
+    pack(bytes, &mut words);
+    words == *wanted
+}
+
+// Whether the first bytes of two words are these.
+fn are_unpacked(words: &[u64; 2], wanted: &[u8; 9]) -> bool {
     let mut bytes = [1; 9];
-    unpack(&[0x0807_0605_0403_0201, 0xff09], &mut bytes);
-    assert_eq!(rt; bytes, [1, 2, 3, 4, 5, 6, 7, 8, 9]);
+    unpack(words, &mut bytes);
+    bytes == *wanted
 }
 
-// A row of bytes that differ from their neighbours.
-fn row(alloc: Global, len: usize) -> Result<Vec<u8>, AllocError> {
-    let mut bytes = Vec::new(alloc);
-    for i in 0..len {
-        bytes.push((i % 251) as u8)?;
+// Whether that many bytes, which differ from their neighbours, are packed and given back, with zeros behind them.
+fn go_through(len: usize) -> bool {
+    if len > 1024 {
+        return false;
     }
-    Ok(bytes)
+    let mut bytes = [0; 1024];
+    for i in 0..len {
+        bytes[i] = (i % 251) as u8;
+    }
+    let mut words = [u64::MAX; 128];
+    pack(&bytes[..len], &mut words);
+    let mut back = [255; 1024];
+    unpack(&words, &mut back);
+    back == bytes
 }
 
-#[test]
-fn packed_at_each_length(rt: HostRuntime) -> Result<(), Fail> {
-    for len in [0, 1, 7, 8, 9, 56, 57, 1024] {
-        let bytes = row(rt.alloc(), len)?;
-        let mut words = [u64::MAX; 128];
-        assert!(rt; bytes.len() <= 1024);
-        pack(&bytes, &mut words);
-        let mut back = [255; 1024];
-        unpack(&words, &mut back);
-        for i in 0..1024 {
-            let want = if i < len { (i % 251) as u8 } else { 0 };
-            assert_eq!(rt; back[i], want, "byte {i} of {len}");
+// The first length that does not.
+fn first_other_length(lengths: &[usize]) -> Option<usize> {
+    for len in lengths {
+        if !go_through(*len) {
+            return Some(*len);
         }
     }
-    Ok(())
+    None
+}
+
+const NINE: [u8; 9] = [1, 2, 3, 4, 5, 6, 7, 8, 9];
+
+const LENGTHS: [usize; 8] = [0, 1, 7, 8, 9, 56, 57, 1024];
+
+#[test]
+fn bytes_are_packed(rt: HostRuntime) {
+    holds(&rt, are_packed(&NINE, &[0x0807_0605_0403_0201, 9, 0]));
+    holds(&rt, are_packed(&[255; 8], &[u64::MAX, 0, 0]));
+    holds(&rt, are_unpacked(&[0x0807_0605_0403_0201, 0xff09], &NINE));
+    holds(&rt, first_other_length(&LENGTHS).is_none());
 }
 
 // That many words of 0.
@@ -99,109 +112,140 @@ fn stepped(
     Ok((memory.into_words(), reply))
 }
 
-// An operation that adds.
-fn add(n: u64) -> [u64; 144] {
-    let mut op = [0; 144];
-    op[0] = n;
-    op
+// 144 words of 0 behind these two: an operation, or a reply.
+fn words_of(first: u64, second: u64) -> [u64; 144] {
+    let mut words = [0; 144];
+    words[0] = first;
+    words[1] = second;
+    words
 }
 
-// An operation that reads, whatever its first word.
-fn read() -> [u64; 144] {
-    let mut op = add(100);
-    op[1] = 1;
-    op
-}
-
-fn reply(sum: u64) -> [u64; 144] {
-    add(sum)
-}
-
-// One step on words that are asserted to be lawful.
+// The words after a step on words that are lawful, where it is answered with this sum.
 fn step(
-    rt: &impl Abort,
     alloc: Global,
     words: Vec<u64>,
-    left: Option<u64>,
     op: &[u64; 144],
-) -> Result<(Vec<u64>, [u64; 144]), Fail> {
-    let lawful = Tally.check(alloc, &words)?;
-    assert!(rt; lawful);
-    Ok(stepped(words, left, op)?)
-}
-
-#[test]
-fn tally_without_a_limit(rt: HostRuntime) -> Result<(), Fail> {
-    let words = opening(rt.alloc(), None)??;
-    let (words, told) = step(&rt, rt.alloc(), words, None, &add(5))?;
-    assert_eq!(rt; told, reply(5));
-    let (words, told) = step(&rt, rt.alloc(), words, None, &add(u64::MAX))?;
-    assert_eq!(rt; told, reply(4));
-    let (words, told) = step(&rt, rt.alloc(), words, None, &read())?;
-    assert_eq!(rt; told, reply(4));
-    assert_eq!(rt; words.len(), 512);
-    assert_eq!(rt; words[0], 7);
-    assert_eq!(rt; words[1], 4);
-    assert!(rt; words[2..].iter().all(|word| *word == 0));
-    Ok(())
-}
-
-#[test]
-fn lines_version_and_reads(rt: HostRuntime) {
-    assert_eq!(rt; Tally.lines(), 64);
-    assert_eq!(rt; Tally.version(), 7);
-    assert!(rt; Tally.reads(&read()));
-    assert!(rt; !Tally.reads(&add(1)));
-}
-
-#[test]
-fn check_refuses_other_lengths_and_versions(rt: HostRuntime) -> Result<(), Fail> {
-    let mut words = opening(rt.alloc(), None)??;
-    assert!(rt; Tally.check(rt.alloc(), &words)?);
-    assert_eq!(rt; words.len(), 512);
-    let mut short = zeros(rt.alloc(), 511)?;
-    assert_eq!(rt; short.len(), 511);
-    short[0] = 7;
-    assert!(rt; !Tally.check(rt.alloc(), &short)?);
-    words[0] = 8;
-    assert!(rt; !Tally.check(rt.alloc(), &words)?);
-    Ok(())
-}
-
-#[test]
-fn format_halts_at_each_step(rt: HostRuntime) -> Result<(), Fail> {
-    for left in 0..514 {
-        let made = opening(rt.alloc(), Some(left))?;
-        assert_eq!(rt; made.is_ok(), 512 <= left, "with {left} accesses left");
+    sum: u64,
+) -> Result<Option<Vec<u64>>, AllocError> {
+    if !Tally.check(alloc, &words)? {
+        return Ok(None);
     }
-    Ok(())
+    let Ok(made) = stepped(words, None, op) else {
+        return Ok(None);
+    };
+    if made.1 != words_of(sum, 0) {
+        return Ok(None);
+    }
+    Ok(Some(made.0))
 }
 
-#[test]
-fn run_halts_at_each_step(rt: HostRuntime) -> Result<(), Fail> {
-    for (op, needs) in [(add(3), 2), (read(), 1)] {
-        for left in 0..4 {
-            let words = opening(rt.alloc(), None)??;
-            let lawful = Tally.check(rt.alloc(), &words)?;
-            assert!(rt; lawful);
-            let made = stepped(words, Some(left), &op);
-            assert_eq!(rt; made.is_ok(), needs <= left, "with {left} accesses left");
+// Operations in turn, by their first two words, and the sum that each is answered. One whose second word is 1 reads.
+const STEPS: [(u64, u64, u64); 3] = [(5, 0, 5), (u64::MAX, 0, 4), (100, 1, 4)];
+
+// Whether these steps on the opening image are answered so, and leave the image with the last sum.
+fn are_summed(alloc: Global, rows: &[(u64, u64, u64)]) -> Result<bool, AllocError> {
+    let mut words = match opening(alloc, None)? {
+        Ok(words) => words,
+        Err(_) => return Ok(false),
+    };
+    let mut last = 0;
+    for (first, second, sum) in rows {
+        match step(alloc, words, &words_of(*first, *second), *sum)? {
+            Some(after) => words = after,
+            None => return Ok(false),
+        }
+        last = *sum;
+    }
+    Ok(is_image(&words, last))
+}
+
+// Whether words are the image with this sum.
+fn is_image(words: &[u64], sum: u64) -> bool {
+    words.len() == 512
+        && words[0] == 7
+        && words[1] == sum
+        && words[2..].iter().all(|word| *word == 0)
+}
+
+// Words of 0 behind a first one: how many, the first, and whether they are lawful.
+const CHECKED: [(usize, u64, bool); 3] = [(512, 7, true), (511, 7, false), (512, 8, false)];
+
+// The first row of words that are told otherwise.
+fn first_other_check(
+    alloc: Global,
+    rows: &[(usize, u64, bool)],
+) -> Result<Option<usize>, AllocError> {
+    for (i, (len, first, lawful)) in rows.iter().enumerate() {
+        let mut words = zeros(alloc, *len)?;
+        if let Some(word) = words.first_mut() {
+            *word = *first;
+        }
+        if Tally.check(alloc, &words)? != *lawful {
+            return Ok(Some(i));
         }
     }
-    Ok(())
+    Ok(None)
 }
 
 #[test]
-fn accesses_of_a_memory_with_notes(rt: HostRuntime) -> Result<(), Fail> {
-    let mut memory = Noted::of(rt.alloc(), zeros(rt.alloc(), 512)?, 514)?;
-    Tally.format(&mut memory)?;
-    assert_eq!(rt; memory.accesses(), 512);
-    assert_eq!(rt; memory.load(0)?, 7);
-    assert_eq!(rt; memory.load(511)?, 0);
-    assert_eq!(rt; memory.load(0), Err(Halt));
-    assert_eq!(rt; memory.store(0, 1), Err(Halt));
-    assert_eq!(rt; memory.accesses(), 514);
+fn tally_over_a_vector(rt: HostRuntime) -> Result<(), Fail> {
+    let alloc = rt.alloc();
+    holds(&rt, are_summed(alloc, &STEPS)?);
+    holds(&rt, first_other_check(alloc, &CHECKED)?.is_none());
+    holds(&rt, Tally.lines() == 64);
+    holds(&rt, Tally.version() == 7);
+    holds(&rt, Tally.reads(&words_of(100, 1)));
+    holds(&rt, !Tally.reads(&words_of(1, 0)));
     Ok(())
+}
+
+// The first limit below 514 under which `format` halts, or does not, otherwise.
+fn first_other_format(alloc: Global) -> Result<Option<u64>, AllocError> {
+    for left in 0..514 {
+        if opening(alloc, Some(left))?.is_ok() != (512 <= left) {
+            return Ok(Some(left));
+        }
+    }
+    Ok(None)
+}
+
+// Whether a step on the opening image is done with so many accesses left.
+fn is_done(alloc: Global, op: &[u64; 144], left: u64) -> Result<Option<bool>, AllocError> {
+    let Ok(words) = opening(alloc, None)? else {
+        return Ok(None);
+    };
+    if !Tally.check(alloc, &words)? {
+        return Ok(None);
+    }
+    Ok(Some(stepped(words, Some(left), op).is_ok()))
+}
+
+// The first limit below 4 under which a step that needs so many accesses halts, or does not, otherwise.
+fn first_other_run(alloc: Global, op: &[u64; 144], needs: u64) -> Result<Option<u64>, AllocError> {
+    for left in 0..4 {
+        if is_done(alloc, op, left)? != Some(needs <= left) {
+            return Ok(Some(left));
+        }
+    }
+    Ok(None)
+}
+
+#[test]
+fn tally_halts_at_each_step(rt: HostRuntime) -> Result<(), Fail> {
+    let alloc = rt.alloc();
+    holds(&rt, first_other_format(alloc)?.is_none());
+    holds(&rt, first_other_run(alloc, &words_of(3, 0), 2)?.is_none());
+    holds(&rt, first_other_run(alloc, &words_of(100, 1), 1)?.is_none());
+    Ok(())
+}
+
+// Whether a memory with notes counts the accesses of `format` and two loads, and refuses all behind them.
+fn counts_accesses(alloc: Global) -> Result<bool, AllocError> {
+    let mut memory = Noted::of(alloc, zeros(alloc, 512)?, 514)?;
+    let formatted = Tally.format(&mut memory) == Ok(()) && memory.accesses() == 512;
+    let loaded = memory.load(0) == Ok(7) && memory.load(511) == Ok(0);
+    let refused = memory.load(0) == Err(Halt) && memory.store(0, 1) == Err(Halt);
+    Ok(formatted && loaded && refused && memory.accesses() == 514)
 }
 
 // A step over any memory, also one of which no word is known before it is stored.
@@ -214,12 +258,17 @@ fn format_and_run<M: Memory>(memory: &mut M, op: &[u64; 144]) -> Result<[u64; 14
     Tally.run(memory, op)
 }
 
+// Whether the same over a memory with notes adds 9.
+fn adds_nine(alloc: Global) -> Result<bool, AllocError> {
+    let mut memory = Noted::of(alloc, zeros(alloc, 512)?, 600)?;
+    let told = format_and_run(&mut memory, &words_of(9, 0)) == Ok(words_of(9, 0));
+    Ok(told && memory.load(1) == Ok(9) && memory.accesses() == 515)
+}
+
 #[test]
 fn tally_over_a_memory_with_notes(rt: HostRuntime) -> Result<(), Fail> {
-    let mut memory = Noted::of(rt.alloc(), zeros(rt.alloc(), 512)?, 600)?;
-    assert_eq!(rt; format_and_run(&mut memory, &add(9))?, reply(9));
-    assert_eq!(rt; memory.load(1)?, 9);
-    assert_eq!(rt; memory.accesses(), 515);
+    holds(&rt, counts_accesses(rt.alloc())?);
+    holds(&rt, adds_nine(rt.alloc())?);
     Ok(())
 }
 
@@ -243,25 +292,46 @@ fn over_words(words: Vec<u64>, left: Option<u64>) -> Result<u64, Halt>
     load_and_store(&mut memory)
 }
 
-// Of three words put, each is loaded and, where it differs, stored: beside the two other loads, eight accesses where all differ,
-// and five where none does.
+// Eight words, and how many accesses putting three words over them takes. Each of the three is loaded and, where it differs,
+// stored: beside the two other loads, eight accesses where all differ, and five where none does.
+const PUT: [([u64; 8], u64); 3] = [
+    ([0, 0, 0, 0, 0, 0, 0, 0], 8),
+    ([0, 0, 3, 0, 5, 0, 0, 0], 6),
+    ([0, 0, 3, 4, 5, 0, 0, 0], 5),
+];
+
+// Whether so many accesses are answered so.
+fn is_put(
+    alloc: Global,
+    words: &[u64; 8],
+    left: u64,
+    wanted: Result<u64, Halt>,
+) -> Result<bool, AllocError> {
+    if words[0] >= 10 {
+        return Ok(false);
+    }
+    let words = Vec::from_slice(alloc, words)?;
+    Ok(over_words(words, Some(left)) == wanted)
+}
+
+// The first row that needs more accesses or fewer.
+fn first_other_put(alloc: Global, rows: &[([u64; 8], u64)]) -> Result<Option<usize>, AllocError> {
+    for (i, (words, accesses)) in rows.iter().enumerate() {
+        for left in 0..*accesses {
+            if !is_put(alloc, words, left, Err(Halt))? {
+                return Ok(Some(i));
+            }
+        }
+        if !is_put(alloc, words, *accesses, Ok(5))? {
+            return Ok(Some(i));
+        }
+    }
+    Ok(None)
+}
+
 #[test]
 fn words_over_a_memory(rt: HostRuntime) -> Result<(), Fail> {
-    for (words, accesses) in [
-        ([0, 0, 0, 0, 0, 0, 0, 0], 8),
-        ([0, 0, 3, 0, 5, 0, 0, 0], 6),
-        ([0, 0, 3, 4, 5, 0, 0, 0], 5),
-    ] {
-        for left in 0..accesses {
-            assert_eq!(rt;
-                over_words(Vec::from_slice(rt.alloc(), &words)?, Some(left)),
-                Err(Halt),
-                "with {left} accesses left"
-            );
-        }
-        let all = Vec::from_slice(rt.alloc(), &words)?;
-        assert_eq!(rt; over_words(all, Some(accesses))?, 5);
-    }
+    holds(&rt, first_other_put(rt.alloc(), &PUT)?.is_none());
     Ok(())
 }
 
@@ -271,74 +341,117 @@ const TEXT: &[u8; 8] = b"abcdefgh";
 // What a call answers: so many bytes, or that it failed.
 const FAILED: usize = usize::MAX;
 
-#[test]
-fn a_source_by_chunks(rt: HostRuntime) -> Result<(), Fail> {
-    let alloc = rt.alloc();
-    // Bytes a call, calls that fail, room of the buffer, and what the calls answer.
-    let rows: [(usize, &[u64], usize, &[usize]); 5] = [
-        (3, &[2], 8, &[3, FAILED, 3, 2, 0, 0]),
-        (8, &[], 8, &[8, 0]),
-        (8, &[], 5, &[5, 3, 0]),
-        (
-            1,
-            &[1, 2, 9],
-            4,
-            &[FAILED, FAILED, 1, 1, 1, 1, 1, 1, FAILED, 1, 1, 0],
-        ),
-        (100, &[2], 100, &[8, FAILED, 0]),
-    ];
-    for (chunk, fails, room, answers) in rows {
-        assert!(rt; 1 <= chunk && 1 <= room && room <= 100);
-        let bytes = Vec::from_slice(alloc, TEXT)?;
-        let mut source = VecSource::new(bytes, chunk, Vec::from_slice(alloc, fails)?);
-        let mut buffer = [0; 100];
-        let mut at = 0;
-        for &answer in answers {
-            match source.read(&mut buffer[..room]) {
-                Ok(n) => {
-                    assert_eq!(rt; n, answer);
-                    assert!(rt; at <= 8 && n <= 8 - at && n <= 100);
-                    let text = &TEXT[..];
-                    assert_eq!(rt; &buffer[..n], &text[at..at + n]);
-                    at += n;
+// Bytes a call, calls that fail, the room, and what the calls answer.
+type Chunks = (usize, &'static [u64], usize, &'static [usize]);
+
+const READ: [Chunks; 5] = [
+    (3, &[2], 8, &[3, FAILED, 3, 2, 0, 0]),
+    (8, &[], 8, &[8, 0]),
+    (8, &[], 5, &[5, 3, 0]),
+    (
+        1,
+        &[1, 2, 9],
+        4,
+        &[FAILED, FAILED, 1, 1, 1, 1, 1, 1, FAILED, 1, 1, 0],
+    ),
+    (100, &[2], 100, &[8, FAILED, 0]),
+];
+
+// Whether a source gives the text by calls that answer so.
+fn gives(source: &mut VecSource, room: usize, answers: &[usize]) -> bool
+    requires some { 0 < room }
+    requires few { room ≤ 100 }
+{
+    let text = &TEXT[..];
+    let mut buffer = [0; 100];
+    let mut at = 0;
+    for answer in answers {
+        match source.read(&mut buffer[..room]) {
+            Ok(n) => {
+                if n != *answer || at > 8 || n > 8 - at || buffer[..n] != text[at..at + n] {
+                    return false;
                 }
-                Err(_) => assert_eq!(rt; FAILED, answer),
+                at += n;
+            }
+            Err(_) => {
+                if FAILED != *answer {
+                    return false;
+                }
             }
         }
-        assert_eq!(rt; at, 8);
     }
-    Ok(())
+    at == 8
+}
+
+// The first row of a source that gives the text otherwise.
+fn first_other_source(alloc: Global, rows: &[Chunks]) -> Result<Option<usize>, AllocError> {
+    for (i, (chunk, fails, room, answers)) in rows.iter().enumerate() {
+        if *chunk == 0 || *room == 0 || *room > 100 {
+            return Ok(Some(i));
+        }
+        let fails = Vec::from_slice(alloc, fails)?;
+        let mut source = VecSource::new(Vec::from_slice(alloc, TEXT)?, *chunk, fails);
+        if !gives(&mut source, *room, answers) {
+            return Ok(Some(i));
+        }
+    }
+    Ok(None)
+}
+
+// The text is written on from where it stands.
+const WRITTEN: [Chunks; 4] = [
+    (3, &[2], 8, &[3, FAILED, 3, 2]),
+    (8, &[], 5, &[5, FAILED, FAILED]),
+    (1, &[1, 3], 2, &[FAILED, 1, FAILED, 1, FAILED]),
+    (100, &[], 8, &[8]),
+];
+
+// Whether a sink takes the text by calls that answer so.
+fn takes(sink: &mut VecSink, answers: &[usize]) -> bool {
+    let text = &TEXT[..];
+    let mut at = 0;
+    for answer in answers {
+        if at >= 8 {
+            return false;
+        }
+        match sink.write(&text[at..]) {
+            Ok(n) => {
+                if n != *answer || n > 8 - at {
+                    return false;
+                }
+                at += n;
+            }
+            Err(_) => {
+                if FAILED != *answer {
+                    return false;
+                }
+            }
+        }
+        if sink.written() != &text[..at] {
+            return false;
+        }
+    }
+    true
+}
+
+// The first row of a sink that takes the text otherwise.
+fn first_other_sink(alloc: Global, rows: &[Chunks]) -> Result<Option<usize>, AllocError> {
+    for (i, (chunk, fails, room, answers)) in rows.iter().enumerate() {
+        if *chunk == 0 {
+            return Ok(Some(i));
+        }
+        let fails = Vec::from_slice(alloc, fails)?;
+        let mut sink = VecSink::new(Vec::with_capacity(alloc, *room)?, *chunk, fails);
+        if !takes(&mut sink, answers) {
+            return Ok(Some(i));
+        }
+    }
+    Ok(None)
 }
 
 #[test]
-fn a_sink_by_chunks(rt: HostRuntime) -> Result<(), Fail> {
-    let alloc = rt.alloc();
-    // Bytes a call, calls that fail, room, and what the calls answer; the text is written on from where it stands.
-    let rows: [(usize, &[u64], usize, &[usize]); 4] = [
-        (3, &[2], 8, &[3, FAILED, 3, 2]),
-        (8, &[], 5, &[5, FAILED, FAILED]),
-        (1, &[1, 3], 2, &[FAILED, 1, FAILED, 1, FAILED]),
-        (100, &[], 8, &[8]),
-    ];
-    for (chunk, fails, room, answers) in rows {
-        assert!(rt; 1 <= chunk);
-        let bytes = Vec::with_capacity(alloc, room)?;
-        let mut sink = VecSink::new(bytes, chunk, Vec::from_slice(alloc, fails)?);
-        let mut at = 0;
-        for &answer in answers {
-            assert!(rt; at < 8);
-            let text = &TEXT[..];
-            match sink.write(&text[at..]) {
-                Ok(n) => {
-                    assert_eq!(rt; n, answer);
-                    assert!(rt; at <= 8 && n <= 8 - at);
-                    at += n;
-                }
-                Err(_) => assert_eq!(rt; FAILED, answer),
-            }
-            let text = &TEXT[..];
-            assert_eq!(rt; sink.written(), &text[..at]);
-        }
-    }
+fn texts_by_chunks(rt: HostRuntime) -> Result<(), Fail> {
+    holds(&rt, first_other_source(rt.alloc(), &READ)?.is_none());
+    holds(&rt, first_other_sink(rt.alloc(), &WRITTEN)?.is_none());
     Ok(())
 }

@@ -3,12 +3,11 @@
 ghost use Rattle.std.specs.Prelude.{◌≡◌, ◌*◌, ◌^◌, ◌≤◌, IfOk, IsTrue, OnOk, length};
 ghost use Rattle.cx_base.specs.Memory.{Always};
 
-use bounded_counters::Counters;
-use bounded_counters::{Reply, add_words, read_words};
+use crate::holds::holds;
+use bounded_counters::{Counters, Op, Reply, add_words, read_words};
 use cx_base::{Halt, Memory, Object, VecMemory};
 use cx_core::{Base, Entry, full_step};
 use std::alloc::{AllocError, Global};
-use std::process::Abort;
 use std::test::Fail;
 
 // 511 counters below 11.
@@ -18,67 +17,144 @@ fn counters() -> Counters
     Counters::of(64, 11)
 }
 
-// The words of a region after a full step. They are asserted to be a region of the object.
+// The words of an operation; those of no operation are all the same number.
+fn words_of(op: Op, other: u64) -> [u64; 144] {
+    match op {
+        Op::Add { counter, amount } => add_words(counter, amount),
+        Op::Read { counter } => read_words(counter),
+        Op::Other => [other; 144],
+    }
+}
+
+// The words of a region after a full step, where they were a region of the object.
 fn stepped<O: Object>(
-    rt: &impl Abort,
     alloc: Global,
     object: &O,
     words: Vec<u64>,
     entry: &Entry,
-) -> Result<Vec<u64>, Fail>
+) -> Result<Option<Vec<u64>>, AllocError>
     requires { O.line_count object.now ≤ 2 ^ 32 }
 {
-    assert!(rt; words.len() as u64 == 8 * (146 + object.lines()));
-    assert!(rt; words[0] < 1 << 40 && entry.caller < 8);
+    if words.len() as u64 != 8 * (146 + object.lines())
+        || words[0] >= 1 << 40
+        || entry.caller >= 8
+    {
+        return Ok(None);
+    }
     let (_, image) = words.split_at(1168);
     let lawful = object.check(alloc, image)?;
-    assert!(rt; lawful);
+    if !lawful {
+        return Ok(None);
+    }
     let mut memory = VecMemory::of(words, None);
-    full_step(object, &mut memory, entry)?;
-    Ok(memory.into_words())
+    match full_step(object, &mut memory, entry) {
+        Ok(()) => Ok(Some(memory.into_words())),
+        Err(Halt) => Ok(None),
+    }
 }
 
 // An operation, what it is answered, and what counter 0, 1 and the last one have then.
-type Case = ([u64; 144], Reply, [u64; 3]);
+type Case = (Op, Reply, [u64; 3]);
 
-#[test]
-fn cases_through_full_steps(rt: HostRuntime) -> Result<(), Fail> {
-    let cases: [Case; 12] = [
-        (read_words(0), Reply::Value(0), [0, 0, 0]),
-        (add_words(0, 4), Reply::Value(4), [4, 0, 0]),
-        (add_words(0, 6), Reply::Value(10), [10, 0, 0]),
-        (add_words(0, 1), Reply::Full, [10, 0, 0]),
-        (add_words(0, 0), Reply::Value(10), [10, 0, 0]),
-        (add_words(1, u64::MAX), Reply::Full, [10, 0, 0]),
-        (add_words(1, 3), Reply::Value(3), [10, 3, 0]),
-        (add_words(510, 7), Reply::Value(7), [10, 3, 7]),
-        (add_words(511, 1), Reply::Missing, [10, 3, 7]),
-        (read_words(510), Reply::Value(7), [10, 3, 7]),
-        (read_words(u64::MAX), Reply::Missing, [10, 3, 7]),
-        ([3; 144], Reply::NoOperation, [10, 3, 7]),
-    ];
+const CASES: [Case; 12] = [
+    (Op::Read { counter: 0 }, Reply::Value(0), [0, 0, 0]),
+    (
+        Op::Add {
+            counter: 0,
+            amount: 4,
+        },
+        Reply::Value(4),
+        [4, 0, 0],
+    ),
+    (
+        Op::Add {
+            counter: 0,
+            amount: 6,
+        },
+        Reply::Value(10),
+        [10, 0, 0],
+    ),
+    (
+        Op::Add {
+            counter: 0,
+            amount: 1,
+        },
+        Reply::Full,
+        [10, 0, 0],
+    ),
+    (
+        Op::Add {
+            counter: 0,
+            amount: 0,
+        },
+        Reply::Value(10),
+        [10, 0, 0],
+    ),
+    (
+        Op::Add {
+            counter: 1,
+            amount: u64::MAX,
+        },
+        Reply::Full,
+        [10, 0, 0],
+    ),
+    (
+        Op::Add {
+            counter: 1,
+            amount: 3,
+        },
+        Reply::Value(3),
+        [10, 3, 0],
+    ),
+    (
+        Op::Add {
+            counter: 510,
+            amount: 7,
+        },
+        Reply::Value(7),
+        [10, 3, 7],
+    ),
+    (
+        Op::Add {
+            counter: 511,
+            amount: 1,
+        },
+        Reply::Missing,
+        [10, 3, 7],
+    ),
+    (Op::Read { counter: 510 }, Reply::Value(7), [10, 3, 7]),
+    (Op::Read { counter: u64::MAX }, Reply::Missing, [10, 3, 7]),
+    (Op::Other, Reply::NoOperation, [10, 3, 7]),
+];
+
+// Whether a region has this place, which is the number in caller 2's slot too, this reply there, and these counters.
+fn are_words(words: &[u64], number: u64, told: Reply, values: &[u64; 3]) -> bool {
+    words.len() == 1680
+        && words[0] == number
+        && words[298] == number
+        && words[299..443] == told.words()[..]
+        && words[1169] == values[0]
+        && words[1170] == values[1]
+        && words[1679] == values[2]
+}
+
+// The first case that comes out otherwise.
+fn first_other_case(alloc: Global, cases: &[Case]) -> Result<Option<usize>, AllocError> {
     let object = counters();
-    let mut words = Base::fresh(rt.alloc(), &object)?.words.into_vec();
-    for i in 0..cases.len() {
-        let (op, told, values) = cases[i];
+    let mut words = Base::fresh(alloc, &object)?.words.into_vec();
+    for (i, (op, told, values)) in cases.iter().enumerate() {
         let number = i as u64 + 1;
         let entry = Entry {
             caller: 2,
             number,
-            op,
+            op: words_of(*op, 3),
         };
-        words = stepped(&rt, rt.alloc(), &object, words, &entry)?;
-        assert_eq!(rt; words.len(), 1680);
-        // the place, the caller's slot, and three words of the object part
-        assert_eq!(rt; (words[0], words[298]), (number, number));
-        assert!(rt; words[299..443] == told.words()[..], "reply {number}");
-        assert_eq!(rt;
-            [words[1169], words[1170], words[1679]],
-            values,
-            "after {number}"
-        );
+        match stepped(alloc, &object, words, &entry)? {
+            Some(after) if are_words(&after, number, *told, values) => words = after,
+            _ => return Ok(Some(i)),
+        }
     }
-    Ok(())
+    Ok(None)
 }
 
 // Makes the opening image of an object, which is lawful.
@@ -129,66 +205,120 @@ fn memory(alloc: Global, left: Option<u64>) -> Result<VecMemory, AllocError>
     Ok(VecMemory::of(vec![in alloc; u64::MAX; 512]?, left))
 }
 
-#[test]
-fn each_access_can_be_refused(rt: HostRuntime) -> Result<(), Fail> {
-    // an operation, and how many accesses it needs behind the 512 of `format`
-    let cases = [
-        (add_words(0, 4), 2),
-        (add_words(0, 11), 1),
-        (add_words(511, 4), 0),
-        (read_words(510), 1),
-        (read_words(511), 0),
-        ([0; 144], 0),
-    ];
+// An operation, and how many accesses it needs behind the 512 of `format`.
+const ACCESSES: [(Op, u64); 6] = [
+    (
+        Op::Add {
+            counter: 0,
+            amount: 4,
+        },
+        2,
+    ),
+    (
+        Op::Add {
+            counter: 0,
+            amount: 11,
+        },
+        1,
+    ),
+    (
+        Op::Add {
+            counter: 511,
+            amount: 4,
+        },
+        0,
+    ),
+    (Op::Read { counter: 510 }, 1),
+    (Op::Read { counter: 511 }, 0),
+    (Op::Other, 0),
+];
+
+// Whether a step is done with so many accesses for `format` and the step; `None` where `format` halts.
+fn is_done(alloc: Global, op: Op, left: u64) -> Result<Option<bool>, AllocError> {
     let object = counters();
-    let mut short = memory(rt.alloc(), Some(511))?;
-    assert_eq!(rt; opened(&object, &mut short), Err(Halt));
-    for (op, needs) in cases {
-        for left in 0..3 {
-            let mut memory = memory(rt.alloc(), Some(512 + left))?;
-            opened(&object, &mut memory)?;
-            let made = asked(&object, &mut memory, &op);
-            assert_eq!(rt; made.is_ok(), needs <= left, "with {left} accesses left");
-        }
+    let mut memory = memory(alloc, Some(left))?;
+    match opened(&object, &mut memory) {
+        Ok(()) => Ok(Some(asked(&object, &mut memory, &words_of(op, 0)).is_ok())),
+        Err(Halt) => Ok(None),
     }
-    Ok(())
 }
 
-#[test]
-fn readings_are_told(rt: HostRuntime) -> Result<(), Fail> {
-    let object = counters();
-    let mut memory = memory(rt.alloc(), None)?;
-    opened(&object, &mut memory)?;
-    asked(&object, &mut memory, &add_words(5, 9))?;
-    let nine = Reply::Value(9).words();
-    assert!(rt; told(&object, &mut memory, &read_words(5)) == Some(Ok(nine)));
-    assert!(rt; told(&object, &mut memory, &add_words(5, 1)).is_none());
-    assert!(rt; told(&object, &mut memory, &[0; 144]).is_none());
-    assert_eq!(rt; (object.lines(), object.version()), (64, 1));
-    Ok(())
-}
-
-#[test]
-fn images_are_told(rt: HostRuntime) -> Result<(), Fail> {
-    // how many words, a place and the word put there, and whether they are an image then
-    let cases = [
-        (512, 511, 10, true),
-        (512, 511, 11, false),
-        (512, 1, u64::MAX, false),
-        (512, 0, 2, false),
-        (511, 1, 0, false),
-        (520, 1, 0, false),
-        (0, 1, 0, false),
-    ];
-    for (len, at, word, is_image) in cases {
-        let mut words = vec![in rt.alloc(); 0; len]?;
-        for (place, value) in [(0, 1), (at, word)] {
-            if let Some(there) = words.get_mut(place) {
-                *there = value;
+// The first operation that needs more accesses or fewer.
+fn first_other_need(alloc: Global, rows: &[(Op, u64)]) -> Result<Option<usize>, AllocError> {
+    for (i, (op, needs)) in rows.iter().enumerate() {
+        for left in 0..3 {
+            if is_done(alloc, *op, 512 + left)? != Some(*needs <= left) {
+                return Ok(Some(i));
             }
         }
-        let told = counters().check(rt.alloc(), &words)?;
-        assert_eq!(rt; told, is_image, "{len} words, {word} at {at}");
     }
+    Ok(None)
+}
+
+// Whether the opening image needs more than 511 accesses.
+fn halts_early(alloc: Global) -> Result<bool, AllocError> {
+    let mut short = memory(alloc, Some(511))?;
+    Ok(opened(&counters(), &mut short) == Err(Halt))
+}
+
+// Whether a reading is told, and no other operation is.
+fn readings_are_told(alloc: Global) -> Result<bool, AllocError> {
+    let object = counters();
+    let mut memory = memory(alloc, None)?;
+    if opened(&object, &mut memory).is_err()
+        || asked(&object, &mut memory, &add_words(5, 9)).is_err()
+    {
+        return Ok(false);
+    }
+    let reading = told(&object, &mut memory, &read_words(5)) == Some(Ok(Reply::Value(9).words()));
+    let addition = told(&object, &mut memory, &add_words(5, 1)).is_none();
+    let nothing = told(&object, &mut memory, &[0; 144]).is_none();
+    Ok(reading && addition && nothing)
+}
+
+// How many words, a place and the word put there, and whether they are an image then.
+const IMAGES: [(usize, usize, u64, bool); 7] = [
+    (512, 511, 10, true),
+    (512, 511, 11, false),
+    (512, 1, u64::MAX, false),
+    (512, 0, 2, false),
+    (511, 1, 0, false),
+    (520, 1, 0, false),
+    (0, 1, 0, false),
+];
+
+// Whether so many words of 0, behind the version and with that word at the place, are an image.
+fn is_image(alloc: Global, len: usize, at: usize, word: u64) -> Result<bool, AllocError> {
+    let mut words = vec![in alloc; 0; len]?;
+    for (place, value) in [(0, 1), (at, word)] {
+        if let Some(there) = words.get_mut(place) {
+            *there = value;
+        }
+    }
+    counters().check(alloc, &words)
+}
+
+// The first row of words that are told otherwise.
+fn first_other_image(
+    alloc: Global,
+    rows: &[(usize, usize, u64, bool)],
+) -> Result<Option<usize>, AllocError> {
+    for (i, (len, at, word, truth)) in rows.iter().enumerate() {
+        if is_image(alloc, *len, *at, *word)? != *truth {
+            return Ok(Some(i));
+        }
+    }
+    Ok(None)
+}
+
+#[test]
+fn counters_stay_below_their_bound(rt: HostRuntime) -> Result<(), Fail> {
+    let alloc = rt.alloc();
+    holds(&rt, first_other_case(alloc, &CASES)?.is_none());
+    holds(&rt, first_other_need(alloc, &ACCESSES)?.is_none());
+    holds(&rt, halts_early(alloc)?);
+    holds(&rt, readings_are_told(alloc)?);
+    holds(&rt, first_other_image(alloc, &IMAGES)?.is_none());
+    holds(&rt, counters().lines() == 64 && counters().version() == 1);
     Ok(())
 }

@@ -2,7 +2,9 @@
 
 ghost use Rattle.std.specs.Prelude.{◌≤◌, length};
 
+use crate::holds::holds;
 use cx_base::{Halt, Memory, VecMemory};
+use std::alloc::{AllocError, Global};
 use std::test::Fail;
 use write_buffer::{Held, WriteBuffer, store_held};
 
@@ -22,14 +24,16 @@ fn stored_twice(mem: &mut VecMemory) -> Result<u64, Halt>
     Ok(seen)
 }
 
+// Whether the word that was stored last is seen, and stands in the memory in the end.
+fn last_word_is_stored(alloc: Global) -> Result<bool, AllocError> {
+    let mut mem = VecMemory::of(vec![in alloc; 5; 16]?, None);
+    let seen = stored_twice(&mut mem) == Ok(9);
+    let words = mem.into_words();
+    Ok(seen && words.len() == 16 && words[1] == 9 && words[15] == 8 && words[2] == 5)
+}
+
 #[test]
 fn the_last_word_is_stored(rt: HostRuntime) -> Result<(), Fail> {
-    let words = vec![in rt.alloc(); 5; 16]?;
-    let mut mem = VecMemory::of(words, None);
-    let seen = stored_twice(&mut mem).expect(&rt, "stored");
-    assert_eq!(rt; seen, 9);
-    let words = mem.into_words();
-    assert_eq!(rt; words.len(), 16);
-    assert_eq!(rt; (words[1], words[15], words[2]), (9, 8, 5));
+    holds(&rt, last_word_is_stored(rt.alloc())?);
     Ok(())
 }

@@ -7,9 +7,9 @@ ghost use Rattle.cx_base.specs.Store.{IsKey, IsDocument};
 ghost use Rattle.word_index.specs.Answers.{IsPacked};
 ghost use Rattle.index_checks.specs.Layout.{IsIndex};
 
+use crate::holds::holds;
 use cx_base::{Halt, Memory, Steps, VecMemory, pack, packed_unpacks};
 use std::marker::Brand;
-use std::process::Abort;
 use std::sync::ledger::{Blank, Ledger};
 use std::test::Fail;
 use word_index::{
@@ -64,6 +64,29 @@ pub fn put<M: Memory, L: Ledger>(
     let doc = Doc { len, words: &words };
     let done = insert(memory, 64, &key_of(key), &doc, visits)?;
     Ok(done)
+}
+
+// Puts a document of so many bytes that are all the same.
+fn put_same<M: Memory, L: Ledger>(
+    memory: &mut M,
+    key: &[u8],
+    byte: u8,
+    len: usize,
+    visits: &mut Steps<L>,
+) -> Result<Inserted, Halt>
+    requires size { M.size memory.old ≡ 512 }
+    requires writable { IsTrue (M.writable memory.old) }
+    requires lawful { Always (M.stands memory.old) IsIndex }
+    requires key { IsKey key.now }
+    requires plain { 32 ≤ byte }
+    requires some { 1 ≤ len }
+    requires short { len ≤ 1024 }
+    ensures size { M.size memory.new ≡ 512 }
+    ensures writable { IsTrue (M.writable memory.new) }
+    ensures lawful { OnOk result (Always (M.stands memory.new) IsIndex) }
+{
+    let all = [byte; 1024];
+    put(memory, key, &all[..len], visits)
 }
 
 // Makes the empty index.
@@ -136,141 +159,89 @@ fn read<M: Memory, L: Ledger>(
     Ok(Some(words[0]))
 }
 
-// Nothing is there, and nothing is taken out.
-fn nothing<M: Memory, L: Ledger>(
-    rt: &impl Abort,
+// A call, and what it answers.
+enum Call {
+    // a document of so many bytes that are all the same is put
+    Put(u8, usize, Inserted),
+    Take(bool),
+    // the number of pairs, and the first byte of the least key above
+    Look(u64, Option<u64>),
+    Read(Option<u64>),
+}
+
+// Calls, each with its key. Nothing is there, and nothing is taken out. Two keys are put, one of them twice, and both are there.
+// Long documents fill the lines, and leave no room for a third key. A shorter document is put in place of a longer one. Two keys
+// are taken out, and one is left.
+static CALLS: [(u8, Call); 19] = [
+    (b'a', Call::Look(0, None)),
+    (b'a', Call::Take(false)),
+    (b'b', Call::Put(b'1', 1, Inserted::New)),
+    (b'a', Call::Put(b'2', 1, Inserted::New)),
+    (b'b', Call::Put(b'3', 1, Inserted::Replaced)),
+    (b'a', Call::Look(2, Some(98))),
+    (b'b', Call::Look(2, None)),
+    (b'b', Call::Read(Some(51))),
+    (b'a', Call::Put(52, 1024, Inserted::Replaced)),
+    (b'c', Call::Put(53, 1024, Inserted::New)),
+    (b'b', Call::Put(54, 1024, Inserted::Replaced)),
+    (b'd', Call::Put(b'6', 1, Inserted::NoRoom)),
+    (b'c', Call::Put(b'5', 1, Inserted::Replaced)),
+    (b'a', Call::Read(Some(0x34343434_34343434))),
+    (b'c', Call::Read(Some(53))),
+    (b'c', Call::Take(true)),
+    (b'a', Call::Take(true)),
+    (b'a', Call::Read(None)),
+    (b'a', Call::Look(1, Some(98))),
+];
+
+// Whether a call is answered so.
+fn is_answered<M: Memory, L: Ledger>(
     memory: &mut M,
+    key: u8,
+    call: &Call,
     visits: &mut Steps<L>,
-) -> Result<(), Fail>
+) -> Result<bool, Halt>
     requires size { M.size memory.old ≡ 512 }
     requires writable { IsTrue (M.writable memory.old) }
     requires lawful { Always (M.stands memory.old) IsIndex }
-    ensures size { OnOk result (M.size memory.new ≡ 512) }
-    ensures writable { OnOk result (IsTrue (M.writable memory.new)) }
+    requires visible { (33 ≤ key) × (key ≤ 126) }
+    ensures size { M.size memory.new ≡ 512 }
+    ensures writable { IsTrue (M.writable memory.new) }
     ensures lawful { OnOk result (Always (M.stands memory.new) IsIndex) }
 {
-    assert_eq!(rt; look(memory, b"a", visits)?, (0, None));
-    assert!(rt; !take(memory, b"a", visits)?);
-    Ok(())
+    match call {
+        Call::Put(byte, len, wanted) => {
+            if *byte < 32 || *len == 0 || *len > 1024 {
+                return Ok(false);
+            }
+            Ok(put_same(memory, &[key], *byte, *len, visits)? == *wanted)
+        }
+        Call::Take(wanted) => Ok(take(memory, &[key], visits)? == *wanted),
+        Call::Look(pairs, above) => Ok(look(memory, &[key], visits)? == (*pairs, *above)),
+        Call::Read(wanted) => Ok(read(memory, &[key], visits)? == *wanted),
+    }
 }
 
-// Two keys are put, one of them twice.
-fn two_puts<M: Memory, L: Ledger>(
-    rt: &impl Abort,
+// The first call, on the empty index, that is answered otherwise.
+fn first_other_call<M: Memory, L: Ledger>(
     memory: &mut M,
+    rows: &[(u8, Call)],
     visits: &mut Steps<L>,
-) -> Result<(), Fail>
-    requires size { M.size memory.old ≡ 512 }
-    requires writable { IsTrue (M.writable memory.old) }
-    requires lawful { Always (M.stands memory.old) IsIndex }
-    ensures size { OnOk result (M.size memory.new ≡ 512) }
-    ensures writable { OnOk result (IsTrue (M.writable memory.new)) }
-    ensures lawful { OnOk result (Always (M.stands memory.new) IsIndex) }
-{
-    assert_eq!(rt; put(memory, b"b", b"1", visits)?, Inserted::New);
-    assert_eq!(rt; put(memory, b"a", b"2", visits)?, Inserted::New);
-    assert_eq!(rt; put(memory, b"b", b"3", visits)?, Inserted::Replaced);
-    Ok(())
-}
-
-// Both are there.
-fn both<M: Memory, L: Ledger>(
-    rt: &impl Abort,
-    memory: &mut M,
-    visits: &mut Steps<L>,
-) -> Result<(), Fail>
-    requires size { M.size memory.old ≡ 512 }
-    requires writable { IsTrue (M.writable memory.old) }
-    requires lawful { Always (M.stands memory.old) IsIndex }
-    ensures size { OnOk result (M.size memory.new ≡ 512) }
-    ensures writable { OnOk result (IsTrue (M.writable memory.new)) }
-    ensures lawful { OnOk result (Always (M.stands memory.new) IsIndex) }
-{
-    assert_eq!(rt; look(memory, b"a", visits)?, (2, Some(98)));
-    assert_eq!(rt; look(memory, b"b", visits)?, (2, None));
-    assert_eq!(rt; read(memory, b"b", visits)?, Some(51));
-    Ok(())
-}
-
-// Long documents fill the lines, and leave no room for a third key.
-fn filled<M: Memory, L: Ledger>(
-    rt: &impl Abort,
-    memory: &mut M,
-    visits: &mut Steps<L>,
-) -> Result<(), Fail>
-    requires size { M.size memory.old ≡ 512 }
-    requires writable { IsTrue (M.writable memory.old) }
-    requires lawful { Always (M.stands memory.old) IsIndex }
-    ensures size { OnOk result (M.size memory.new ≡ 512) }
-    ensures writable { OnOk result (IsTrue (M.writable memory.new)) }
-    ensures lawful { OnOk result (Always (M.stands memory.new) IsIndex) }
-{
-    assert_eq!(rt; put(memory, b"a", &[52; 1024], visits)?, Inserted::Replaced);
-    assert_eq!(rt; put(memory, b"c", &[53; 1024], visits)?, Inserted::New);
-    assert_eq!(rt; put(memory, b"b", &[54; 1024], visits)?, Inserted::Replaced);
-    assert_eq!(rt; put(memory, b"d", b"6", visits)?, Inserted::NoRoom);
-    Ok(())
-}
-
-// A shorter document is put in place of a longer one.
-fn shortened<M: Memory, L: Ledger>(
-    rt: &impl Abort,
-    memory: &mut M,
-    visits: &mut Steps<L>,
-) -> Result<(), Fail>
-    requires size { M.size memory.old ≡ 512 }
-    requires writable { IsTrue (M.writable memory.old) }
-    requires lawful { Always (M.stands memory.old) IsIndex }
-    ensures size { OnOk result (M.size memory.new ≡ 512) }
-    ensures writable { OnOk result (IsTrue (M.writable memory.new)) }
-    ensures lawful { OnOk result (Always (M.stands memory.new) IsIndex) }
-{
-    assert_eq!(rt; put(memory, b"c", b"5", visits)?, Inserted::Replaced);
-    assert_eq!(rt; read(memory, b"a", visits)?, Some(0x34343434_34343434));
-    assert_eq!(rt; read(memory, b"c", visits)?, Some(53));
-    Ok(())
-}
-
-// Two keys are taken out, and one is left.
-fn taken<M: Memory, L: Ledger>(
-    rt: &impl Abort,
-    memory: &mut M,
-    visits: &mut Steps<L>,
-) -> Result<(), Fail>
-    requires size { M.size memory.old ≡ 512 }
-    requires writable { IsTrue (M.writable memory.old) }
-    requires lawful { Always (M.stands memory.old) IsIndex }
-    ensures size { OnOk result (M.size memory.new ≡ 512) }
-    ensures writable { OnOk result (IsTrue (M.writable memory.new)) }
-    ensures lawful { OnOk result (Always (M.stands memory.new) IsIndex) }
-{
-    assert!(rt; take(memory, b"c", visits)?);
-    assert!(rt; take(memory, b"a", visits)?);
-    assert_eq!(rt; read(memory, b"a", visits)?, None);
-    assert_eq!(rt; look(memory, b"a", visits)?, (1, Some(98)));
-    Ok(())
-}
-
-// These one after another.
-fn two_keys<M: Memory, L: Ledger>(
-    rt: &impl Abort,
-    memory: &mut M,
-    visits: &mut Steps<L>,
-) -> Result<(), Fail>
+) -> Result<Option<usize>, Halt>
     requires size { M.size memory.old ≡ 512 }
     requires writable { IsTrue (M.writable memory.old) }
 {
     format(memory)?;
-    nothing(rt, memory, visits)?;
-    two_puts(rt, memory, visits)?;
-    both(rt, memory, visits)?;
-    filled(rt, memory, visits)?;
-    shortened(rt, memory, visits)?;
-    taken(rt, memory, visits)
+    for (i, (key, call)) in rows.iter().enumerate() {
+        if *key < 33 || *key > 126 || !is_answered(memory, *key, call, visits)? {
+            return Ok(Some(i));
+        }
+    }
+    Ok(None)
 }
 
 // The same over a vector, with a counter of its own.
-fn over_a_vector<L: Ledger>(rt: &impl Abort, words: Vec<u64>, blank: Blank) -> Result<(), Fail>
+fn over_a_vector<L: Ledger>(words: Vec<u64>, blank: Blank) -> Result<Option<usize>, Halt>
     requires long { length words.items ≡ 512 }
     requires name { blank.name ≡ L.name }
     requires parts { blank.parts ≡ L.parts }
@@ -278,11 +249,15 @@ fn over_a_vector<L: Ledger>(rt: &impl Abort, words: Vec<u64>, blank: Blank) -> R
 {
     let mut memory = VecMemory::of(words, None);
     let mut visits = Steps::<L>::open(blank);
-    two_keys(rt, &mut memory, &mut visits)
+    first_other_call(&mut memory, &CALLS, &mut visits)
 }
 
 #[test]
 fn two_keys_over_a_vector(rt: HostRuntime) -> Result<(), Fail> {
     let words = vec![in rt.alloc(); 0; 512]?;
-    over_a_vector::<Brand>(&rt, words, Blank::new(1))
+    holds(
+        &rt,
+        over_a_vector::<Brand>(words, Blank::new(1)) == Ok(None),
+    );
+    Ok(())
 }

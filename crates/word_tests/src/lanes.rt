@@ -2,53 +2,55 @@
 
 ghost use Rattle.std.specs.Prelude.{◌*◌, ◌<◌, ◌≤◌, All, length};
 
+use crate::holds::holds;
 use crate::plain;
 use line_lanes::{add_touched, differing, touched};
-use std::process::Abort;
-use std::test::Fail;
 
 // The most lines that are tried, and some words behind the last of them.
 const LINES: usize = 40;
 
 const WORDS: usize = 8 * LINES + 3;
 
-#[test]
-fn one_word_of_two_lines_differs(rt: HostRuntime) {
+// Whether one word of two lines differs in the second.
+fn second_differs() -> bool {
     let zeros = [0; 16];
     let mut other = zeros;
     other[9] = 1;
     let mut out = [true, false];
     differing(&zeros, &other, &mut out);
-    assert_eq!(rt; out, [false, true]);
+    out == [false, true]
 }
 
-#[test]
-fn three_addresses_touch_two_lines(rt: HostRuntime) {
-    let mut out = [false; 2];
-    touched(&[0, 7, 8], &mut out);
-    assert_eq!(rt; out, [true, true]);
+// Whether the addresses of both lines touch both, and none touches none.
+fn are_touched() -> bool {
+    let mut both = [false; 2];
+    touched(&[0, 7, 8], &mut both);
+    let mut none = [true; 2];
+    touched(&[], &mut none);
+    both == [true, true] && none == [false, false]
 }
 
-#[test]
-fn no_address_touches_no_line(rt: HostRuntime) {
-    let mut out = [true; 2];
-    touched(&[], &mut out);
-    assert_eq!(rt; out, [false, false]);
-}
-
-#[test]
-fn marks_that_were_there_stay(rt: HostRuntime) {
+// Whether marks that were there stay.
+fn stay() -> bool {
     let mut out = [true, false, false];
     add_touched(&[8, 15], &mut out);
-    assert_eq!(rt; out, [true, true, false]);
+    out == [true, true, false]
 }
 
-#[test]
-fn no_line_at_all(rt: HostRuntime) {
+// Whether no line at all is marked in none.
+fn is_empty() -> bool {
     let mut out = [true; 0];
     differing(&[1, 2], &[3], &mut out);
     touched(&[], &mut out);
-    assert_eq!(rt; out.len(), 0);
+    out.is_empty()
+}
+
+#[test]
+fn worked_rows(rt: HostRuntime) {
+    holds(&rt, second_differs());
+    holds(&rt, are_touched());
+    holds(&rt, stay());
+    holds(&rt, is_empty());
 }
 
 // Numbers that look random.
@@ -63,55 +65,71 @@ fn scrambled(mut seed: u64) -> [u64; WORDS] {
     words
 }
 
-// Compares the kernel with the plain program over two lists of words, for every number of lines.
-fn compare_differing(rt: &impl Abort, a: &[u64; WORDS], b: &[u64; WORDS]) {
-    for lines in 0..LINES + 1 {
-        let mut out = [lines % 2 == 0; LINES];
-        let mut want = [false; LINES];
-        differing(a, b, &mut out[..lines]);
-        plain::differing(a, b, &mut want[..lines]);
-        assert_eq!(rt; &out[..lines], &want[..lines], "{lines} lines");
-        for mark in &out[lines..] {
-            assert_eq!(rt; *mark, lines % 2 == 0, "behind {lines} lines");
-        }
-    }
+// Whether the kernel marks the lines that differ as the plain program does, in so many lines, and no mark behind them.
+fn differ_as_plain(a: &[u64; WORDS], b: &[u64; WORDS], lines: usize) -> bool
+    requires { lines ≤ 40 }
+{
+    let is_even = lines % 2 == 0;
+    let mut out = [is_even; LINES];
+    let mut wanted = [is_even; LINES];
+    differing(a, b, &mut out[..lines]);
+    plain::differing(a, b, &mut wanted[..lines]);
+    out == wanted
 }
 
-#[test]
-fn one_word_differs_at_every_place(rt: HostRuntime) {
+// The first number of lines in which the kernel and the plain program differ.
+fn first_other_differing(a: &[u64; WORDS], b: &[u64; WORDS]) -> Option<usize> {
+    for lines in 0..LINES + 1 {
+        if !differ_as_plain(a, b, lines) {
+            return Some(lines);
+        }
+    }
+    None
+}
+
+// The first place at which one word that differs is marked otherwise.
+fn first_other_place() -> Option<usize> {
     let words = scrambled(1);
-    compare_differing(&rt, &words, &words);
     for at in 0..WORDS {
         let mut other = words;
         other[at] ^= 1 << (at % 64);
-        compare_differing(&rt, &words, &other);
+        if first_other_differing(&words, &other).is_some() {
+            return Some(at);
+        }
     }
+    None
 }
 
 #[test]
-fn every_word_differs(rt: HostRuntime) {
-    compare_differing(&rt, &scrambled(1), &scrambled(2));
+fn words_that_differ(rt: HostRuntime) {
+    let words = scrambled(1);
+    holds(&rt, first_other_differing(&words, &words).is_none());
+    holds(&rt, first_other_differing(&words, &scrambled(2)).is_none());
+    holds(&rt, first_other_place().is_none());
 }
 
-// Compares the kernel with the plain program over a list of addresses.
-fn compare_touched(rt: &impl Abort, addresses: &[u64], lines: usize)
+// Whether the kernel marks the lines of addresses as the plain program does.
+fn touch_as_plain(addresses: &[u64], lines: usize) -> bool
     requires few { lines ≤ 40 }
     requires within { All (λ address. address < 8 * lines) addresses.now }
 {
     let mut out = [addresses.len() % 2 == 0; LINES];
-    let mut want = [false; LINES];
+    let mut wanted = out;
     touched(addresses, &mut out[..lines]);
-    plain::touched(addresses, &mut want[..lines]);
-    assert_eq!(rt; &out[..lines], &want[..lines], "{addresses:?}");
+    plain::touched(addresses, &mut wanted[..lines]);
+    out == wanted
 }
 
-#[test]
-fn one_address_at_every_place(rt: HostRuntime) {
+// The first number of lines in which one address, at some place, is marked otherwise.
+fn first_other_address() -> Option<usize> {
     for lines in 1..LINES + 1 {
         for at in 0..8 * lines as u64 {
-            compare_touched(&rt, &[at], lines);
+            if !touch_as_plain(&[at], lines) {
+                return Some(lines);
+            }
         }
     }
+    None
 }
 
 // One address, over and over.
@@ -122,14 +140,17 @@ fn repeated(address: u64, lines: usize) -> [u64; 26]
     [address; 26]
 }
 
-#[test]
-fn the_last_address_many_times(rt: HostRuntime) {
+// The first number of lines in which the last address, up to 26 times, is marked otherwise.
+fn first_other_repeated() -> Option<usize> {
     for lines in 1..LINES + 1 {
         let last = repeated(8 * lines as u64 - 1, lines);
         for count in 0..27 {
-            compare_touched(&rt, &last[..count], lines);
+            if !touch_as_plain(&last[..count], lines) {
+                return Some(lines);
+            }
         }
     }
+    None
 }
 
 // Addresses of that many lines.
@@ -145,12 +166,22 @@ fn scattered(seed: u64, lines: usize) -> [u64; WORDS]
     addresses
 }
 
-#[test]
-fn scattered_addresses(rt: HostRuntime) {
+// The first number of lines in which scattered addresses, up to 59 of them, are marked otherwise.
+fn first_other_scattered() -> Option<usize> {
     for lines in 1..LINES + 1 {
         let addresses = scattered(lines as u64, lines);
         for count in 0..60 {
-            compare_touched(&rt, &addresses[..count], lines);
+            if !touch_as_plain(&addresses[..count], lines) {
+                return Some(lines);
+            }
         }
     }
+    None
+}
+
+#[test]
+fn addresses_touch_lines(rt: HostRuntime) {
+    holds(&rt, first_other_address().is_none());
+    holds(&rt, first_other_repeated().is_none());
+    holds(&rt, first_other_scattered().is_none());
 }

@@ -1,23 +1,23 @@
 //! Calls over a memory of a vector.
 
+use crate::holds::holds;
 use avl_words::{Subtree, height_of, set_node};
 use cx_base::VecMemory;
+use std::alloc::{AllocError, Global};
 use std::test::Fail;
+
+// Whether a node with no children, in words that are 5, is made a leaf.
+fn is_leaf(alloc: Global) -> Result<bool, AllocError> {
+    let mut memory = VecMemory::of(vec![in alloc; 5; 16]?, None);
+    let none = Subtree { root: 0, height: 0 };
+    let made = set_node(&mut memory, 1, 1, none, none) == Ok(Subtree { root: 1, height: 1 });
+    let high = height_of(&mut memory, 1) == Ok(1);
+    let words = memory.into_words();
+    Ok(made && high && words.len() == 16 && words[8..12] == [0, 0, 1, 5])
+}
 
 #[test]
 fn a_leaf_over_a_vector(rt: HostRuntime) -> Result<(), Fail> {
-    let words = vec![in rt.alloc(); 5; 16]?;
-    let mut memory = VecMemory::of(words, None);
-    let none = Subtree { root: 0, height: 0 };
-    let leaf = set_node(&mut memory, 1, 1, none, none).expect(&rt, "leaf");
-    assert_eq!(rt; leaf, Subtree { root: 1, height: 1 });
-    let height = height_of(&mut memory, 1).expect(&rt, "height");
-    assert_eq!(rt; height, 1);
-    let words = memory.into_words();
-    assert_eq!(rt; words.len(), 16);
-    assert_eq!(rt; words[8], 0);
-    assert_eq!(rt; words[9], 0);
-    assert_eq!(rt; words[10], 1);
-    assert_eq!(rt; words[11], 5);
+    holds(&rt, is_leaf(rt.alloc())?);
     Ok(())
 }

@@ -2,9 +2,9 @@
 
 ghost use Rattle.std.specs.Prelude.{◌≡◌, ◌*◌, ◌≤◌, IfOk, length};
 
-use pmem_model::{Mark, Medium, Word};
+use crate::holds::holds;
+use pmem_model::Medium;
 use std::alloc::{AllocError, Global};
-use std::process::Abort;
 use std::test::Fail;
 
 // A medium of that many lines of zeros, up to 8.
@@ -16,80 +16,67 @@ fn lines_of_zeros(alloc: Global, lines: usize) -> Result<Medium, AllocError>
     Medium::of(alloc, vec![in alloc; 0; 8 * lines]?)
 }
 
-// The first word of the image by a choice.
-fn first_left(medium: &Medium, choice: u64) -> u64
+// Choices, and what the first word of the image is by each.
+const STORED: [(u64, u64); 3] = [(0, 0), (1, 5), (3, 3)];
+
+const FENCED: [(u64, u64); 3] = [(0, 5), (1, 5), (3, 5)];
+
+const STORED_AGAIN: [(u64, u64); 2] = [(0, 0), (1, 6)];
+
+// Whether the first word of the image by each choice is so.
+fn leaves(medium: &Medium, rows: &[(u64, u64)]) -> bool
     requires { length medium.now.words ≡ 8 }
 {
     let mut image = [7; 8];
-    medium.image(choice, &mut image);
-    image[0]
+    for (choice, want) in rows {
+        medium.image(*choice, &mut image);
+        if image[0] != *want {
+            return false;
+        }
+    }
+    true
 }
 
-#[test]
-fn stored_written_back_and_fenced(rt: HostRuntime) -> Result<(), Fail> {
-    let mut medium = lines_of_zeros(rt.alloc(), 1)?;
+// Whether a store lasts once it was written back and fenced, and no earlier.
+fn lasts_once_fenced(alloc: Global) -> Result<bool, AllocError> {
+    let mut medium = lines_of_zeros(alloc, 1)?;
     medium.store(0, 5);
-    for (choice, want) in [(0, 0), (1, 5), (3, 3)] {
-        assert_eq!(rt;
-            first_left(&medium, choice),
-            want,
-            "stored, choice {choice}"
-        );
-    }
+    let stored = leaves(&medium, &STORED);
     medium.write_back(0);
-    for (choice, want) in [(0, 0), (1, 5), (3, 3)] {
-        assert_eq!(rt;
-            first_left(&medium, choice),
-            want,
-            "written back, choice {choice}"
-        );
-    }
+    let written_back = leaves(&medium, &STORED);
     medium.fence();
-    for choice in [0, 1, 3] {
-        assert_eq!(rt; first_left(&medium, choice), 5, "fenced, choice {choice}");
-    }
-    Ok(())
+    Ok(stored && written_back && leaves(&medium, &FENCED))
 }
 
-#[test]
-fn stored_again_before_the_fence(rt: HostRuntime) -> Result<(), Fail> {
-    let mut medium = lines_of_zeros(rt.alloc(), 1)?;
+// Whether a store between a write-back and the fence leaves the word dirty.
+fn is_dirty_again(alloc: Global) -> Result<bool, AllocError> {
+    let mut medium = lines_of_zeros(alloc, 1)?;
     medium.store(0, 5);
     medium.write_back(0);
     medium.store(0, 6);
     medium.fence();
-    for (choice, want) in [(0, 0), (1, 6)] {
-        assert_eq!(rt; first_left(&medium, choice), want, "choice {choice}");
-    }
-    assert_eq!(rt; medium.load(0), 6);
-    assert!(rt; medium.is_dirty(0));
-    assert_eq!(rt; medium.stores(0), 2);
-    Ok(())
+    let left = leaves(&medium, &STORED_AGAIN);
+    Ok(left && medium.load(0) == 6 && medium.is_dirty(0) && medium.stores(0) == 2)
 }
 
-// A line whose count of stores is at its end but one.
-fn worn_line(alloc: Global) -> Result<Medium, AllocError>
-    ensures words { IfOk result (λ m. length m.words ≡ 8) }
-    ensures stores { IfOk result (λ m. length m.stores ≡ 1) }
-{
-    let clean = Word {
-        value: 0,
-        durable: 0,
-        mark: Mark::Durable,
-    };
-    Ok(Medium {
-        words: vec![in alloc; clean; 8]?,
-        stores: vec![in alloc; u64::MAX - 1; 1]?,
-    })
+// Whether the count of stores of a line, at its end but one, goes to its end and stays there.
+fn stays_at_its_end(alloc: Global) -> Result<bool, AllocError> {
+    let words = vec![in alloc; 0; 8]?;
+    let stores = vec![in alloc; u64::MAX - 1; 1]?;
+    let mut medium = Medium::with_stores(alloc, words, stores)?;
+    medium.store(0, 1);
+    let first = medium.stores(0) == u64::MAX;
+    medium.store(1, 1);
+    let second = medium.stores(0) == u64::MAX;
+    medium.store(2, 1);
+    Ok(first && second && medium.stores(0) == u64::MAX)
 }
 
 #[test]
-fn stores_at_the_end_of_their_count(rt: HostRuntime) -> Result<(), Fail> {
-    let mut medium = worn_line(rt.alloc())?;
-    for at in 0..3 {
-        medium.store(at, 1);
-        assert_eq!(rt; medium.stores(0), u64::MAX, "store {at}");
-    }
+fn worked_rows(rt: HostRuntime) -> Result<(), Fail> {
+    holds(&rt, lasts_once_fenced(rt.alloc())?);
+    holds(&rt, is_dirty_again(rt.alloc())?);
+    holds(&rt, stays_at_its_end(rt.alloc())?);
     Ok(())
 }
 
@@ -101,6 +88,13 @@ struct Timed {
     stored: u64,
     settled: u64,
 }
+
+const FRESH: Timed = Timed {
+    value: 0,
+    durable: 0,
+    stored: 0,
+    settled: 0,
+};
 
 // The plain list, with the last write-back of each line and how often it was stored to.
 #[derive(Drop)]
@@ -116,6 +110,16 @@ fn scrambled(seed: u64) -> u64 {
         .wrapping_add(1442695040888963407)
 }
 
+// Makes durable what was written back since it was stored to.
+fn settle(plain: &mut Plain, time: u64) {
+    for (i, word) in plain.words.iter_mut().enumerate() {
+        if word.stored > word.settled && plain.backs[i / 8] > word.stored {
+            word.durable = word.value;
+            word.settled = time;
+        }
+    }
+}
+
 // Stores, writes back or fences, in the medium and in the plain list, as a number says.
 fn call(medium: &mut Medium, plain: &mut Plain, time: u64, number: u64)
     requires words { length medium.old.words ≡ 64 }
@@ -128,12 +132,7 @@ fn call(medium: &mut Medium, plain: &mut Plain, time: u64, number: u64)
     match number / 256 % 8 {
         0 => {
             medium.fence();
-            for (i, word) in plain.words.iter_mut().enumerate() {
-                if word.stored > word.settled && plain.backs[i / 8] > word.stored {
-                    word.durable = word.value;
-                    word.settled = time;
-                }
-            }
+            settle(plain, time);
         }
         1 | 2 => {
             medium.write_back(line);
@@ -149,54 +148,82 @@ fn call(medium: &mut Medium, plain: &mut Plain, time: u64, number: u64)
     }
 }
 
-// Whether the medium holds what the plain list says, by each of four choices.
-fn agrees(medium: &Medium, words: &[Timed; 64]) -> bool
+// What the plain list has of a word by a choice.
+fn left(word: &Timed, choice: u64, place: u64) -> u64 {
+    if word.stored <= word.settled {
+        return word.value;
+    }
+    match choice {
+        0 => word.durable,
+        1 => word.value,
+        _ => choice.wrapping_mul(place),
+    }
+}
+
+// Whether the medium holds what the plain list says, by a choice.
+fn agrees_by(medium: &Medium, words: &[Timed; 64], choice: u64) -> bool
     requires { length medium.now.words ≡ 64 }
 {
-    for choice in [0, 1, 2, u64::MAX] {
-        let mut image = [0; 64];
-        medium.image(choice, &mut image);
-        for (i, word) in words.iter().enumerate() {
-            let dirty = word.stored > word.settled;
-            let left = match choice {
-                _ if !dirty => word.value,
-                0 => word.durable,
-                1 => word.value,
-                _ => choice.wrapping_mul(i as u64 + 1),
-            };
-            if image[i] != left
-                || medium.is_dirty(i as u64) != dirty
-                || medium.load(i as u64) != word.value
-            {
-                return false;
-            }
+    let mut image = [0; 64];
+    medium.image(choice, &mut image);
+    for (i, word) in words.iter().enumerate() {
+        let at = i as u64;
+        if image[i] != left(word, choice, at + 1)
+            || medium.is_dirty(at) != (word.stored > word.settled)
+            || medium.load(at) != word.value
+        {
+            return false;
         }
     }
     true
 }
 
-#[test]
-fn two_thousand_mixed_calls(rt: HostRuntime) -> Result<(), Fail> {
-    let mut medium = lines_of_zeros(rt.alloc(), 8)?;
-    let fresh = Timed {
-        value: 0,
-        durable: 0,
-        stored: 0,
-        settled: 0,
-    };
+// Whether it does by each of four choices.
+fn agrees(medium: &Medium, words: &[Timed; 64]) -> bool
+    requires { length medium.now.words ≡ 64 }
+{
+    agrees_by(medium, words, 0)
+        && agrees_by(medium, words, 1)
+        && agrees_by(medium, words, 2)
+        && agrees_by(medium, words, u64::MAX)
+}
+
+// Whether the lines were stored to as often as the plain list says.
+fn are_counted(medium: &Medium, stores: &[u64; 8]) -> bool
+    requires { length medium.now.stores ≡ 8 }
+{
+    for (line, count) in stores.iter().enumerate() {
+        if medium.stores(line as u64) != *count {
+            return false;
+        }
+    }
+    true
+}
+
+// Whether the medium holds what the plain list says after each of two thousand calls.
+fn agree(medium: &mut Medium) -> bool
+    requires words { length medium.old.words ≡ 64 }
+    requires stores { length medium.old.stores ≡ 8 }
+{
     let mut plain = Plain {
-        words: [fresh; 64],
+        words: [FRESH; 64],
         backs: [0; 8],
         stores: [0; 8],
     };
     let mut number = 1;
     for time in 1..2001 {
         number = scrambled(number);
-        call(&mut medium, &mut plain, time, number);
-        assert!(rt; agrees(&medium, &plain.words), "call {time}");
+        call(medium, &mut plain, time, number);
+        if !agrees(medium, &plain.words) {
+            return false;
+        }
     }
-    for (line, stores) in plain.stores.iter().enumerate() {
-        assert_eq!(rt; medium.stores(line as u64), *stores, "line {line}");
-    }
+    are_counted(medium, &plain.stores)
+}
+
+#[test]
+fn two_thousand_mixed_calls(rt: HostRuntime) -> Result<(), Fail> {
+    let mut medium = lines_of_zeros(rt.alloc(), 8)?;
+    holds(&rt, agree(&mut medium));
     Ok(())
 }

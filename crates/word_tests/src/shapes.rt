@@ -4,9 +4,8 @@ ghost use Rattle.std.specs.Prelude.{length};
 ghost use Rattle.avl_checks.specs.Order.{HasTree};
 ghost use Rattle.avl_words.specs.Lines.{IsPartLength};
 
+use crate::holds::holds;
 use avl_checks::{InOrder, is_balanced};
-use std::process::Abort;
-use std::test::Fail;
 
 // Four lines: the second is a node over the first and the third.
 const TREE: [u64; 32] = [
@@ -16,44 +15,47 @@ const TREE: [u64; 32] = [
     0, 0, 1, 0, 0, 0, 0, 0, // a leaf
 ];
 
-#[test]
-fn shapes_are_told(rt: HostRuntime) -> Result<(), Fail> {
-    let rows = [
-        (0, 0, true),
-        (0, 1, false),
-        (1, 1, true),
-        (2, 0, false),
-        (2, 2, false),
-        (2, 3, true),
-        (2, 4, false),
-        (4, 1, false),
-        (u64::MAX, 1, false),
-    ];
-    for (root, count, truth) in rows {
-        assert_eq!(rt;
-            (root, count, is_balanced(&TREE, root, count)),
-            (root, count, truth)
-        );
+// A root, a number of nodes, and whether they are a tree.
+const SHAPES: [(u64, u32, bool); 9] = [
+    (0, 0, true),
+    (0, 1, false),
+    (1, 1, true),
+    (2, 0, false),
+    (2, 2, false),
+    (2, 3, true),
+    (2, 4, false),
+    (4, 1, false),
+    (u64::MAX, 1, false),
+];
+
+// The first row that is told otherwise of these words.
+fn first_other_shape(words: &[u64], rows: &[(u64, u32, bool)]) -> Option<usize>
+    requires { IsPartLength (length words.now) }
+{
+    for (i, (root, count, truth)) in rows.iter().enumerate() {
+        if is_balanced(words, *root, *count as u64) != *truth {
+            return Some(i);
+        }
     }
-    Ok(())
+    None
 }
 
-// A walk over three nodes whose order is that of their lines.
-fn walks(rt: &impl Abort, words: &[u64])
+// Whether a walk from line 2 is over three nodes in the order of their lines.
+fn are_walked(words: &[u64]) -> bool
     requires sized { IsPartLength (length words.now) }
     requires tree { HasTree words.now 2 0 }
 {
     let mut walk = InOrder::of(words, 2);
     for line in 1..4 {
-        assert!(rt; walk.depth > 0);
-        assert_eq!(rt; walk.next_node(words), line);
+        if walk.depth == 0 || walk.next_node(words) != line {
+            return false;
+        }
     }
-    assert_eq!(rt; walk.depth, 0);
+    walk.depth == 0
 }
 
 #[test]
-fn nodes_are_walked_in_order(rt: HostRuntime) -> Result<(), Fail> {
-    assert!(rt; is_balanced(&TREE, 2, 3));
-    walks(&rt, &TREE);
-    Ok(())
+fn shapes_are_told_and_walked(rt: HostRuntime) {
+    holds(&rt, first_other_shape(&TREE, &SHAPES).is_none());
+    holds(&rt, is_balanced(&TREE, 2, 3) && are_walked(&TREE));
 }

@@ -1,5 +1,0 @@
-use Rattle.std.proofs.Common.{◌≡◌, length}
-use Rattle.word_tests.proofs.medium.two_thousand_mixed_calls.Given as goal
-
-abbrev pub invariant-loop-time : goal.invariant-loop-time
-invariant-loop-time g l = record { words : length l.medium.words ≡ 64; stores : length l.medium.stores ≡ 8 }

@@ -1,0 +1,5 @@
+use Rattle.avl_checks.specs.Order.{AreNoted}
+use Rattle.word_tests.proofs.shapes.are_walked.Given as goal
+
+abbrev pub invariant-loop-line : goal.invariant-loop-line
+invariant-loop-line l = AreNoted l.words l.walk.nodes l.walk.depth

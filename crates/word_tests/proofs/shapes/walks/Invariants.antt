@@ -1,5 +1,0 @@
-use Rattle.avl_checks.specs.Order.{AreNoted}
-use Rattle.word_tests.proofs.shapes.walks.Given as goal
-
-abbrev pub invariant-loop-line : goal.invariant-loop-line
-invariant-loop-line g l = AreNoted l.words l.walk.nodes l.walk.depth
