@@ -1,5 +1,6 @@
 pub mod Codes
 pub mod Memory
+pub mod Noted
 pub mod Outside
 pub mod Packing
 pub mod Store

@@ -2,7 +2,7 @@
 
 ghost use Rattle.std.specs.Prelude.{◌≡◌, ◌+◌, ◌-◌, ◌<◌, ◌≤◌, ◌++◌, ◌∷◌, ℕ, Bool, true, List, [], Some, length, vec_len, vec_capacity, IfOk};
 ghost use Rattle.cx_base.specs.Memory.{Words};
-ghost use Rattle.word_tests.specs.Noted.{NotesShow, IsToldByNotes, some_shown, shown_words};
+ghost use Rattle.cx_base.specs.Noted.{NotesShow, IsToldByNotes, some_shown, shown_words};
 
 use cx_base::{Halt, Memory};
 use std::alloc::{AllocError, Global};

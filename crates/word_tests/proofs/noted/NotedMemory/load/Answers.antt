@@ -1,6 +1,6 @@
 use Rattle.std.proofs.Common.{◌≡◌, slice_index, length, rules, sym}
 use Rattle.std.proofs.lemmas.List.{get_or_read}
-use Rattle.word_tests.specs.Noted.{shown_after_load, shows_load}
+use Rattle.cx_base.specs.Noted.{shown_after_load, shows_load}
 use Rattle.word_tests.proofs.noted.NotedMemory.load.Goals as goal
 
 pub invariant_of-self-clause-shown : goal.invariant_of-self-clause-shown

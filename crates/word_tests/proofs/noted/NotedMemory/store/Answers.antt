@@ -1,6 +1,6 @@
 use Rattle.std.proofs.Common.{◌<◌, ◌^◌, length, arith}
 use Rattle.std.proofs.lemmas.List.{length-set}
-use Rattle.word_tests.specs.Noted.{shown_after_store, shows_store}
+use Rattle.cx_base.specs.Noted.{shown_after_store, shows_store}
 use Rattle.word_tests.proofs.noted.NotedMemory.store.Goals as goal
 
 pub invariant_of-self-clause-shown : goal.invariant_of-self-clause-shown
