@@ -1,20 +1,22 @@
-//! Tables of two callers, replicas that are taken, and how the tables end.
+//! Tables of two callers, and how they end.
 
-ghost use Rattle.std.specs.Prelude.{◌≡◌, ◌*◌, ◌<◌, ◌≤◌, ◌∷◌, [], IfOk, IfSome, IsTrue, OnOk};
+ghost use Rattle.std.specs.Prelude.{◌≡◌, ◌≤◌, ◌∷◌, [], IfOk, IfSome, IsTrue, OnOk};
 ghost use Rattle.cx_core.specs.Base.{LawfulBase};
 ghost use Rattle.cx_rule.specs.Running.{IsSeatOf};
 ghost use Rattle.mutation_queue.specs.Tests.{IsPairOf};
 ghost use Rattle.replica.specs.Held.{IsSized};
-ghost use Rattle.replica.specs.Laws.{IsTaken};
-ghost use Rattle.replica.specs.Tests.{IsFree, IsNew, Keeps, KnowsLinked};
+ghost use Rattle.replica.specs.Tests.{IsNew};
+ghost use Rattle.strong_trylock.specs.Held.{all_rights, no_rights};
 
 use cx_base::{Halt, Object};
 use cx_core::Base;
-use cx_table::{CallerSeat, Exclusive, Remains, Shared};
+use cx_table::{CallerSeat, Remains, Shared};
 use mutation_queue::{LinkTried, announce, link};
 use std::alloc::{AllocError, Global};
 
 pub(crate) const NO_LIMIT: u64 = u64::MAX;
+
+pub(crate) const NO_LIMITS: [u64; 2] = [NO_LIMIT, NO_LIMIT];
 
 /// A table of two callers and its seats.
 pub(crate) fn made<O: Object>(
@@ -53,23 +55,6 @@ fn two(mut seats: Vec<CallerSeat>) -> Option<(CallerSeat, CallerSeat)>
     }
 }
 
-/// Takes a replica, if nobody holds it.
-pub(crate) fn take<O: Object>(
-    shared: &Shared<O>,
-    seat: &mut CallerSeat,
-    r: u64,
-) -> Result<Option<Exclusive>, Halt>
-    requires free { IsFree shared.now seat.old }
-    requires sized { IsSized (O.line_count shared.now.object) shared.now }
-    requires few { r < 2 * shared.now.callers }
-    ensures taken { IfOk result (λ o. IfSome o (λ held. IsTaken (O.line_count shared.now.object) shared.now (O.lawful shared.now.object) seat.new held)) }
-    ensures keeps { IfOk result (λ o. IfSome o (λ _. Keeps seat.old seat.new)) }
-    ensures seat { IsSeatOf shared.now seat.new }
-{
-    let (_, right) = shared.try_exclusive(seat, r)?;
-    Ok(right)
-}
-
 /// A caller without entries announces an operation in its cell 0 and tries to link it.
 pub(crate) fn update<O: Object>(
     shared: &Shared<O>,
@@ -77,8 +62,7 @@ pub(crate) fn update<O: Object>(
     op: &[u64; 144],
 ) -> Result<LinkTried, Halt>
     requires { IsNew shared.now seat.old }
-    ensures free { OnOk result (IsFree shared.now seat.new) }
-    ensures linked { IfOk result (KnowsLinked seat.new) }
+    ensures free { OnOk result (all_rights seat.new ≡ no_rights) }
     ensures seat { IsSeatOf shared.now seat.new }
 {
     announce(shared, seat, 0, op)?;
@@ -109,9 +93,4 @@ pub(crate) fn closed<O: Object>(
     }
     let seats = vec![in alloc; first, second]?;
     Ok(shared.gather(alloc, seats).ok())
-}
-
-/// The words of a replica among those of all replicas.
-pub(crate) fn of_replica<T>(all: &[T], r: usize, region: usize) -> Option<&[T]> {
-    all.get(r.saturating_mul(region)..r.saturating_add(1).saturating_mul(region))
 }
