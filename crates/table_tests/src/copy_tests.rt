@@ -15,7 +15,6 @@ use crate::images::{
 use crate::tables::{NO_LIMIT, closed, made, update};
 use crate::turns::{try_one, turn};
 use cx_base::{Halt, Object};
-use cx_core::Base;
 use cx_table::{CallerSeat, Exclusive, Remains, Shared, SharedHold};
 use doc_store::DocStore;
 use mutation_queue::LinkTried;
@@ -102,9 +101,7 @@ pub(crate) fn at_limit(
     op: &[u64; 144],
     limit: u64,
 ) -> Result<Option<Outcome>, AllocError> {
-    let base = Base::fresh(alloc, &DocStore::of(LINES))?;
-    let limits = [limit, NO_LIMIT];
-    let (shared, mut first, second) = made(alloc, DocStore::of(LINES), &limits, &base)?;
+    let (shared, mut first, second) = made(alloc, DocStore::of(LINES), &[limit, NO_LIMIT])?;
     let copied = renew_and_copy(&shared, &mut first, op).ok().flatten();
     let steps = first.steps();
     match closed(alloc, shared, first, second)? {

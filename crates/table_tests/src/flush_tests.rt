@@ -1,6 +1,6 @@
 //! What a flush leaves in the medium, and what a copy leaves that finds no word that differs.
 
-ghost use Rattle.std.specs.Prelude.{◌≡◌};
+ghost use Rattle.std.specs.Prelude.{◌≡◌, ◌<◌};
 ghost use Rattle.cx_base.specs.Tally.{IsTally};
 ghost use Rattle.cx_rule.specs.Running.{IsSeatOf};
 ghost use Rattle.replica.specs.Held.{IsHeld};
@@ -25,6 +25,20 @@ const REGION: u64 = 1680;
 // What is stored into a word.
 const WORD: u64 = 1 << 40;
 
+// Stores a word into a replica.
+fn store_at(
+    shared: &Shared<Tally>,
+    seat: &mut CallerSeat,
+    held: &Exclusive,
+    at: u64,
+) -> Result<(), Halt>
+    requires held { IsHeld 64 shared.now IsTally seat.old held.now }
+    requires at { at < 1680 }
+    ensures { IsHeld 64 shared.now IsTally seat.new held.now }
+{
+    shared.store_held(seat, held, at, WORD)
+}
+
 // Stores a word over the last words of a replica, so many, and persists them.
 fn store_and_flush(
     shared: &Shared<Tally>,
@@ -36,7 +50,7 @@ fn store_and_flush(
     ensures { IsHeld 64 shared.now IsTally seat.new held.now }
 {
     for at in REGION.saturating_sub(count)..REGION {
-        shared.store_held(seat, held, at, WORD)?;
+        store_at(shared, seat, held, at)?;
     }
     flush(shared, seat, held)
 }
@@ -71,18 +85,28 @@ fn copy_at_opening(shared: &Shared<Tally>, seat: &mut CallerSeat) -> Result<bool
     Ok(copy_from(shared, seat, &held, &source)? == 0)
 }
 
+// Flushes so many words, or else copies. It says whether that was done.
+fn flush_or_copy(
+    shared: &Shared<Tally>,
+    seat: &mut CallerSeat,
+    flushed: Option<u64>,
+) -> Result<bool, Halt>
+    requires callers { shared.now.callers ≡ 2 }
+    requires new { IsNew shared.now seat.old }
+    ensures seat { IsSeatOf shared.now seat.new }
+{
+    match flushed {
+        Some(count) => take_and_flush(shared, seat, count),
+        None => copy_at_opening(shared, seat),
+    }
+}
+
 // What the table of a caller left that flushed so many words, or else copied, where it did.
 fn left_by(alloc: Global, flushed: Option<u64>) -> Result<Option<Remains>, AllocError> {
-    let base = Base::fresh(alloc, &Tally)?;
-    let (shared, mut first, second) = made(alloc, Tally, &NO_LIMITS, &base)?;
-    let is_done = match flushed {
-        Some(count) => take_and_flush(&shared, &mut first, count),
-        None => copy_at_opening(&shared, &mut first),
-    };
-    if is_done != Ok(true) {
-        return Ok(None);
-    }
-    closed(alloc, shared, first, second)
+    let (shared, mut first, second) = made(alloc, Tally, &NO_LIMITS)?;
+    let is_done = flush_or_copy(&shared, &mut first, flushed) == Ok(true);
+    let left = closed(alloc, shared, first, second)?;
+    Ok(if is_done { left } else { None })
 }
 
 // The words that a table of this object opens with, and those where so many of the last are stored.
@@ -90,8 +114,8 @@ fn words_with(alloc: Global, count: u64) -> Result<Vec<u64>, AllocError> {
     let base = Base::fresh(alloc, &Tally)?;
     let mut words = base.words.into_vec();
     let kept = REGION.saturating_sub(count) as usize;
-    for word in words.iter_mut().skip(kept) {
-        *word = WORD;
+    if let Some(last) = words.as_mut_slice().get_mut(kept..) {
+        last.fill(WORD);
     }
     Ok(words)
 }

@@ -174,10 +174,9 @@ fn agreed<O: Object>(alloc: Global, object: O) -> Result<Option<Vec<u64>>, Alloc
     requires small { O.line_count object ≤ 16384 }
 {
     let base = Base::fresh(alloc, &object)?;
-    let words = Vec::from_slice(alloc, base.words.as_slice())?;
-    let (shared, mut first, second) = made(alloc, object, &NO_LIMITS, &base)?;
+    let (shared, mut first, second) = made(alloc, object, &NO_LIMITS)?;
     let _other = second;
-    Ok(agree_plain(&shared, &mut first, words, 1000))
+    Ok(agree_plain(&shared, &mut first, base.words.into_vec(), 1000))
 }
 
 // Whether the words after a thousand entries are so many, and the place is right.

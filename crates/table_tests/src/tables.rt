@@ -1,10 +1,8 @@
 //! Tables of two callers, and how they end.
 
 ghost use Rattle.std.specs.Prelude.{◌≡◌, ◌≤◌, ◌∷◌, [], IfOk, IfSome, IsTrue, OnOk};
-ghost use Rattle.cx_core.specs.Base.{LawfulBase};
 ghost use Rattle.cx_rule.specs.Running.{IsSeatOf};
 ghost use Rattle.mutation_queue.specs.Tests.{IsPairOf};
-ghost use Rattle.replica.specs.Held.{IsSized};
 ghost use Rattle.replica.specs.Tests.{IsNew};
 ghost use Rattle.strong_trylock.specs.Held.{all_rights, no_rights};
 
@@ -18,24 +16,21 @@ pub(crate) const NO_LIMIT: u64 = u64::MAX;
 
 pub(crate) const NO_LIMITS: [u64; 2] = [NO_LIMIT, NO_LIMIT];
 
-/// A table of two callers and its seats.
+/// A table of two callers, that opens with an object's first base, and its seats.
 pub(crate) fn made<O: Object>(
     alloc: Global,
     object: O,
     limits: &[u64; 2],
-    base: &Base,
 ) -> Result<(Shared<O>, CallerSeat, CallerSeat), AllocError>
     requires enough { 64 ≤ O.line_count object }
     requires small { O.line_count object ≤ 16384 }
-    requires base { LawfulBase (O.line_count object) (O.lawful object) base.now }
-    ensures sized { IfOk result (λ r. IsSized (O.line_count object) r.0) }
     ensures object { IfOk result (λ r. r.0.object ≡ object) }
     ensures callers { IfOk result (λ r. r.0.callers ≡ 2) }
-    ensures base { IfOk result (λ r. r.0.base ≡ base.now) }
     ensures first { IfOk result (λ r. IsNew r.0 r.1) }
     ensures second { IfOk result (λ r. IsNew r.0 r.2) }
 {
-    let (shared, seats) = Shared::make(alloc, object, 2, limits, base)?;
+    let base = Base::fresh(alloc, &object)?;
+    let (shared, seats) = Shared::make(alloc, object, 2, limits, &base)?;
     match two(seats) {
         Some((first, second)) => Ok((shared, first, second)),
         None => Err(AllocError),

@@ -66,21 +66,36 @@ struct Ended {
 }
 
 // Two callers on threads of their own link an entry each and make so many turns.
+fn joined<R: Runtime + Threads + Sync>(
+    rt: &R,
+    shared: &Shared<DocStore>,
+    first: CallerSeat,
+    second: CallerSeat,
+    ops: &[[u64; 144]; 2],
+    count: u64,
+) -> ((CallerSeat, Option<Done>), (CallerSeat, Option<Done>))
+    requires first { IsNew shared.now first }
+    requires second { IsNew shared.now second }
+    ensures first { IsSeatOf shared.now result.0.0 }
+    ensures second { IsSeatOf shared.now result.1.0 }
+{
+    let [one, other] = ops;
+    join(
+        rt,
+        move || on_thread(shared, first, one, count),
+        move || on_thread(shared, second, other, count),
+    )
+}
+
+// The same on a table of their own, which is closed.
 fn two_threads<R: Runtime + Threads + Sync>(
     rt: &R,
     alloc: Global,
     ops: &[[u64; 144]; 2],
     count: u64,
 ) -> Result<Option<Ended>, AllocError> {
-    let base = Base::fresh(alloc, &DocStore::of(LINES))?;
-    let (shared, first, second) = made(alloc, DocStore::of(LINES), &NO_LIMITS, &base)?;
-    let table = &shared;
-    let [one, other] = ops;
-    let ((first, one), (second, other)) = join(
-        rt,
-        move || on_thread(table, first, one, count),
-        move || on_thread(table, second, other, count),
-    );
+    let (shared, first, second) = made(alloc, DocStore::of(LINES), &NO_LIMITS)?;
+    let ((first, one), (second, other)) = joined(rt, &shared, first, second, ops, count);
     Ok(both_ended(one, other, closed(alloc, shared, first, second)?))
 }
 
