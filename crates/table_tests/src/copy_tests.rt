@@ -1,21 +1,20 @@
 //! A replica is brought up and given up, and copied over another that differs, at each limit of steps within the copy.
 
-ghost use Rattle.std.specs.Prelude.{◌≡◌, ◌*◌, ◌<◌, ◌≤◌, IfOk, IfSome};
-ghost use Rattle.cx_core.specs.Base.{LawfulBase};
+ghost use Rattle.std.specs.Prelude.{◌≡◌, IfOk, IfSome};
 ghost use Rattle.cx_core.specs.LockEvents.{CanTryShared};
 ghost use Rattle.cx_rule.specs.Running.{IsSeatOf};
-ghost use Rattle.doc_store.specs.ExactStep.{IsImage};
-ghost use Rattle.table_tests.specs.Turns.{TakesIt};
 ghost use Rattle.replica.specs.Copies.{HoldsBoth};
 ghost use Rattle.replica.specs.Held.{IsHeld};
 ghost use Rattle.replica.specs.Tests.{IsNew};
+ghost use Rattle.table_tests.specs.Turns.{TakesIt};
 
-use crate::commands::put;
-use crate::limit_tests::{Image, is_left, modelled, untouched};
+use crate::holds::holds;
+use crate::images::{
+    LINES, Replica, differing, first_entry, is_clean, is_marked, opening, replica_of, stepped,
+};
 use crate::tables::{NO_LIMIT, closed, made, update};
 use crate::turns::{try_one, turn};
 use cx_base::{Halt, Object};
-use cx_core::{Base, Entry};
 use cx_table::{CallerSeat, Exclusive, Remains, Shared, SharedHold};
 use doc_store::DocStore;
 use mutation_queue::LinkTried;
@@ -23,9 +22,10 @@ use replica::renew_from;
 use std::alloc::{AllocError, Global};
 use std::test::Fail;
 
-// The replica that is copied, and the one that it is copied over.
-const SOURCE: u32 = 1;
+/// The replica that is brought up, and then copied.
+pub(crate) const SOURCE: u32 = 1;
 
+// The one that it is copied over.
 const TARGET: u32 = 2;
 
 /// Takes a replica shared beside one held exclusively.
@@ -45,8 +45,8 @@ pub(crate) fn share_beside<O: Object>(
     Ok(right.ok())
 }
 
-// What a copy came to: the steps before it, and the place that it gave.
-type Copied = (u64, u64);
+/// What a copy came to: the steps before it, and the place that it gave.
+pub(crate) type Copied = (u64, u64);
 
 // Copies a replica over one that was just taken.
 fn copy_beside<O: Object>(
@@ -87,48 +87,66 @@ fn renew_and_copy<O: Object>(
     }
 }
 
-// What a caller with a limit came to, its steps, and what the table left.
+/// What a caller with a limit came to, its steps, and what the table left.
 #[derive(Drop)]
-struct Outcome {
-    copied: Option<Copied>,
-    steps: u64,
-    left: Remains,
+pub(crate) struct Outcome {
+    pub(crate) copied: Option<Copied>,
+    pub(crate) steps: u64,
+    pub(crate) left: Remains,
 }
 
-// Runs a copy with a limit of steps, and closes the table.
-fn at_limit(alloc: Global, base: &Base, op: &[u64; 144], limit: u64) -> Result<Outcome, AllocError>
-    requires { LawfulBase 64 (IsImage 64) base.now }
-{
-    let (shared, mut first, second) = made(alloc, DocStore::of(64), &[limit, NO_LIMIT], base)?;
+/// Renews a replica and copies it with a limit of steps, and closes the table.
+pub(crate) fn at_limit(
+    alloc: Global,
+    op: &[u64; 144],
+    limit: u64,
+) -> Result<Option<Outcome>, AllocError> {
+    let (shared, mut first, second) = made(alloc, DocStore::of(LINES), &[limit, NO_LIMIT])?;
     let copied = renew_and_copy(&shared, &mut first, op).ok().flatten();
     let steps = first.steps();
-    let Some(left) = closed(alloc, shared, first, second)? else {
-        return Err(AllocError);
-    };
-    Ok(Outcome {
-        copied,
-        steps,
-        left,
-    })
+    match closed(alloc, shared, first, second)? {
+        Some(left) => Ok(Some(Outcome {
+            copied,
+            steps,
+            left,
+        })),
+        None => Ok(None),
+    }
+}
+
+/// The steps before the copy, those of the whole run, and the place that it gave.
+pub(crate) type Whole = (u64, u64, u64);
+
+/// What a run without a limit came to.
+pub(crate) fn whole_run(alloc: Global, op: &[u64; 144]) -> Result<Option<Whole>, AllocError> {
+    match at_limit(alloc, op, NO_LIMIT)? {
+        Some(outcome) => Ok(whole_of(outcome.copied, outcome.steps)),
+        None => Ok(None),
+    }
+}
+
+fn whole_of(copied: Option<Copied>, steps: u64) -> Option<Whole> {
+    let (before, place) = copied?;
+    Some((before, steps, place))
 }
 
 // The loads of a line of both replicas.
 const LINE_LOADS: u64 = 16;
 
-// The words and the marks of the replica that is copied over, after so many steps.
-fn copy_plainly(from: &[u64], target: &mut Image, steps: u64) {
-    let lines = from.len() / 8;
+// Whether a copy of these words over those that stood before was left with the words found, after so many steps.
+fn is_copied_to(words: &[u64], before: &[u64], found: &[u64], steps: u64) -> bool {
+    let lines = words.len() / 8;
     let mut line = 0usize;
     let mut left = steps;
-    for ((words, into), marks) in from
-        .chunks(8)
-        .zip(target.volatile.chunks_mut(8))
-        .zip(target.dirty.chunks_mut(8))
-    {
+    for ((words, before), found) in words.chunks(8).zip(before.chunks(8)).zip(found.chunks(8)) {
         left = left.saturating_sub(loads_before(line, lines));
-        left = store_line(words, into, marks, left);
+        match line_left(words, before, found, left) {
+            Some(steps) => left = steps,
+            None => return false,
+        }
         line = line.saturating_add(1);
     }
+    true
 }
 
 // The loads between the stores of the line before a line and its own. The first line, and behind it each eight lines or as many as are
@@ -143,113 +161,108 @@ fn loads_before(line: usize, lines: usize) -> u64 {
     LINE_LOADS.saturating_mul(lines.saturating_sub(line).min(8) as u64)
 }
 
-// A store of each word of a line that differs, at most so many steps. It gives the steps that are left then.
-fn store_line(words: &[u64], into: &mut [u64], marks: &mut [bool], steps: u64) -> u64 {
+// The steps left after a store of each word of a line that differs, at most so many, where the words found are those.
+fn line_left(words: &[u64], before: &[u64], found: &[u64], steps: u64) -> Option<u64> {
     let mut left = steps;
-    for ((word, into), mark) in words.iter().zip(into.iter_mut()).zip(marks.iter_mut()) {
-        if *word != *into && left > 0 {
+    for ((word, before), found) in words.iter().zip(before.iter()).zip(found.iter()) {
+        let is_stored = *word != *before && left > 0;
+        if is_stored {
             left -= 1;
-            *into = *word;
-            *mark = true;
+        }
+        let want = if is_stored { *word } else { *before };
+        if *found != want {
+            return None;
         }
     }
-    left
+    Some(left)
 }
 
-// How many words differ.
-fn differing(one: &[u64], other: &[u64]) -> u64 {
-    let mut count = 0u64;
-    for (a, b) in one.iter().zip(other.iter()) {
-        if a != b {
-            count = count.saturating_add(1);
-        }
-    }
-    count
+// Whether the replica that is copied over has the words that were stored in so many steps, of which none is durable yet.
+fn is_begun(replica: &Replica, source: &[u64], opening: &[u64], steps: u64) -> bool {
+    replica.durable == opening
+        && is_copied_to(source, opening, replica.volatile, steps)
+        && is_marked(replica)
 }
 
 // Whether a caller that made so many steps of a copy left the replicas so: that which is copied durable, the other with the words that
-// were stored so far, of which none is durable yet, and two untouched.
-fn is_copied(
-    alloc: Global,
-    base: &Base,
-    source: &Image,
-    left: &Remains,
-    steps: u64,
-) -> Result<bool, AllocError> {
-    let other = untouched(alloc, base.words.as_slice())?;
-    let mut target = untouched(alloc, base.words.as_slice())?;
-    copy_plainly(source.volatile.as_slice(), &mut target, steps);
-    Ok(is_left(left, [&other, source, &target, &other]))
+// were stored so far, and two untouched.
+fn is_copied(left: &Remains, source: &[u64], opening: &[u64], steps: u64) -> bool {
+    let Some(target) = replica_of(left, TARGET as usize, opening.len()) else {
+        return false;
+    };
+    is_begun(&target, source, opening, steps)
+        && is_clean(left, SOURCE as usize, source)
+        && is_clean(left, 0, opening)
+        && is_clean(left, 3, opening)
 }
 
-// The entry that makes the replicas differ.
-fn entry() -> Entry
-    ensures { result.caller ≡ 0 }
-{
-    Entry {
-        caller: 0,
-        number: 1,
-        op: put(b"key", 40),
-    }
+// The words that differ at first, where the run without a limit is right: the copy loads each word of both replicas, stores those that
+// differ, and gives the shared right back. It gives the place of the replica copied.
+fn whole_copy(alloc: Global) -> Result<Option<u64>, AllocError> {
+    let entry = first_entry();
+    let Some((before, steps, place)) = whole_run(alloc, &entry.op)? else {
+        return Ok(None);
+    };
+    let (source, _) = stepped(alloc, &entry, None)?;
+    let differ = differing(&opening(alloc)?, &source);
+    let all = before
+        .saturating_add(2 * 1680)
+        .saturating_add(differ)
+        .saturating_add(1);
+    Ok(if place == 1 && steps == all {
+        Some(differ)
+    } else {
+        None
+    })
 }
 
-// The copy loads each word of both replicas, stores those that differ, and gives the shared right back. It gives the place of the
-// replica copied.
 #[test]
 fn a_whole_copy_gives_the_place(rt: HostRuntime) -> Result<(), Fail> {
-    let alloc = rt.alloc();
-    let base = Base::fresh(alloc, &DocStore::of(64))?;
-    let entry = entry();
-    let source = persisted(alloc, &base, &entry)?;
-    let whole = at_limit(alloc, &base, &entry.op, NO_LIMIT)?;
-    let differ = differing(base.words.as_slice(), source.volatile.as_slice());
-    let Some((before, place)) = whole.copied else {
-        panic!(rt; "not copied");
-    };
-    assert_eq!(rt; place, 1);
-    assert!(rt; differ >= 12, "{differ} words differ");
-    assert_eq!(rt;
-        whole.steps,
-        before
-            .saturating_add(2 * 1680)
-            .saturating_add(differ)
-            .saturating_add(1)
-    );
+    let differ = whole_copy(rt.alloc())?;
+    holds(&rt, differ.is_some_and(|differ| differ >= 12));
     Ok(())
 }
 
-// The replica that is copied: an entry was replayed on it, and all words that it stores are durable.
-fn persisted(alloc: Global, base: &Base, entry: &Entry) -> Result<Image, AllocError>
-    requires base { LawfulBase 64 (IsImage 64) base.now }
-    requires place { base.now.place ≡ 0 }
-    requires caller { entry.now.caller < 8 }
-{
-    let none = Vec::from_elem(alloc, false, base.words.len())?;
-    modelled(alloc, &DocStore::of(64), base, entry, 1 << 20, &none)
+// The words that are copied, and those that stood before.
+#[derive(Drop)]
+struct Words<'a> {
+    op: &'a [u64; 144],
+    source: &'a [u64],
+    opening: &'a [u64],
 }
 
-// How many limits of steps within a copy were tried, each fourth from one on, until all were or one left something else.
-fn limits_tried(alloc: Global, from: u64) -> Result<Option<u64>, AllocError> {
-    let base = Base::fresh(alloc, &DocStore::of(64))?;
-    let entry = entry();
-    let source = persisted(alloc, &base, &entry)?;
-    let whole = at_limit(alloc, &base, &entry.op, NO_LIMIT)?;
-    let Some((before, _)) = whole.copied else {
+// Whether a limit of so many steps behind those before the copy, which is whole or not, leaves the copy begun.
+fn is_right_at(
+    alloc: Global,
+    words: &Words,
+    before: u64,
+    steps: u64,
+    is_whole: bool,
+) -> Result<bool, AllocError> {
+    let limit = before.saturating_add(steps);
+    match at_limit(alloc, words.op, limit)? {
+        Some(outcome) => Ok(
+            outcome.steps == limit
+                && outcome.copied.is_some() == is_whole
+                && is_copied(&outcome.left, words.source, words.opening, steps),
+        ),
+        None => Ok(false),
+    }
+}
+
+// How many limits of steps within a copy are right, each fourth from one on, until all were tried or one leaves something else.
+fn right_limits(alloc: Global, words: &Words, from: u64) -> Result<Option<u64>, AllocError> {
+    let Some((before, all, _)) = whole_run(alloc, words.op)? else {
         return Ok(None);
     };
-    let copy = whole.steps.saturating_sub(before);
+    let copy = all.saturating_sub(before);
     let mut tried = 0u64;
     for k in 0..=copy / 4 {
         let steps = k.saturating_mul(4).saturating_add(from);
         if steps > copy {
             return Ok(Some(tried));
         }
-        let limit = before.saturating_add(steps);
-        let outcome = at_limit(alloc, &base, &entry.op, limit)?;
-        if outcome.steps != limit
-            || outcome.copied.is_some() != (steps == copy)
-            || !is_copied(alloc, &base, &source, &outcome.left, steps)?
-        {
+        if !is_right_at(alloc, words, before, steps, steps == copy)? {
             return Ok(None);
         }
         tried = tried.saturating_add(1);
@@ -257,31 +270,41 @@ fn limits_tried(alloc: Global, from: u64) -> Result<Option<u64>, AllocError> {
     Ok(Some(tried))
 }
 
+// Whether each fourth limit from one on, of 840 or more, leaves the copy begun.
+fn are_right(alloc: Global, from: u64) -> Result<bool, AllocError> {
+    let entry = first_entry();
+    let (source, _) = stepped(alloc, &entry, None)?;
+    let opening = opening(alloc)?;
+    let words = Words {
+        op: &entry.op,
+        source: &source,
+        opening: &opening,
+    };
+    let tried = right_limits(alloc, &words, from)?;
+    Ok(tried.is_some_and(|tried| tried >= 840))
+}
+
 // Each limit from that at which the copy begins to that with which it ends, in four parts.
 #[test]
 fn limits_leave_a_copy_begun(rt: HostRuntime) -> Result<(), Fail> {
-    let tried = limits_tried(rt.alloc(), 0)?;
-    assert!(rt; tried.is_some_and(|tried| tried >= 840));
+    holds(&rt, are_right(rt.alloc(), 0)?);
     Ok(())
 }
 
 #[test]
 fn limits_past_one_step_leave_a_copy_begun(rt: HostRuntime) -> Result<(), Fail> {
-    let tried = limits_tried(rt.alloc(), 1)?;
-    assert!(rt; tried.is_some_and(|tried| tried >= 840));
+    holds(&rt, are_right(rt.alloc(), 1)?);
     Ok(())
 }
 
 #[test]
 fn limits_past_two_steps_leave_a_copy_begun(rt: HostRuntime) -> Result<(), Fail> {
-    let tried = limits_tried(rt.alloc(), 2)?;
-    assert!(rt; tried.is_some_and(|tried| tried >= 840));
+    holds(&rt, are_right(rt.alloc(), 2)?);
     Ok(())
 }
 
 #[test]
 fn limits_past_three_steps_leave_a_copy_begun(rt: HostRuntime) -> Result<(), Fail> {
-    let tried = limits_tried(rt.alloc(), 3)?;
-    assert!(rt; tried.is_some_and(|tried| tried >= 840));
+    holds(&rt, are_right(rt.alloc(), 3)?);
     Ok(())
 }

@@ -1,15 +1,15 @@
 //! What a flush leaves in the medium, and what a copy leaves that finds no word that differs.
 
-ghost use Rattle.std.specs.Prelude.{◌≡◌, ◌*◌, ◌≤◌};
+ghost use Rattle.std.specs.Prelude.{◌≡◌, ◌<◌};
 ghost use Rattle.cx_base.specs.Tally.{IsTally};
-ghost use Rattle.cx_core.specs.Base.{LawfulBase};
 ghost use Rattle.cx_rule.specs.Running.{IsSeatOf};
 ghost use Rattle.replica.specs.Held.{IsHeld};
 ghost use Rattle.replica.specs.Tests.{IsNew};
 
 use crate::copy_tests::share_beside;
-use crate::limit_tests::{is_left, untouched};
-use crate::tables::{NO_LIMIT, closed, made};
+use crate::holds::holds;
+use crate::images::is_clean;
+use crate::tables::{NO_LIMITS, closed, made};
 use crate::turns::try_one;
 use cx_base::Halt;
 use cx_base::tally::Tally;
@@ -25,6 +25,20 @@ const REGION: u64 = 1680;
 // What is stored into a word.
 const WORD: u64 = 1 << 40;
 
+// Stores a word into a replica.
+fn store_at(
+    shared: &Shared<Tally>,
+    seat: &mut CallerSeat,
+    held: &Exclusive,
+    at: u64,
+) -> Result<(), Halt>
+    requires held { IsHeld 64 shared.now IsTally seat.old held.now }
+    requires at { at < 1680 }
+    ensures { IsHeld 64 shared.now IsTally seat.new held.now }
+{
+    shared.store_held(seat, held, at, WORD)
+}
+
 // Stores a word over the last words of a replica, so many, and persists them.
 fn store_and_flush(
     shared: &Shared<Tally>,
@@ -32,86 +46,122 @@ fn store_and_flush(
     held: &Exclusive,
     count: u64,
 ) -> Result<(), Halt>
-    requires held { IsHeld 64 shared.now IsTally seat.old held.now }
-    requires few { count ≤ 1680 }
+    requires { IsHeld 64 shared.now IsTally seat.old held.now }
     ensures { IsHeld 64 shared.now IsTally seat.new held.now }
 {
-    for at in REGION - count..REGION {
-        shared.store_held(seat, held, at, WORD)?;
+    for at in REGION.saturating_sub(count)..REGION {
+        store_at(shared, seat, held, at)?;
     }
     flush(shared, seat, held)
 }
 
-// A caller that takes a replica, stores that many words into it and persists them, and what its table left.
-fn flushed(alloc: Global, base: &Base, count: u64) -> Result<Option<Remains>, AllocError>
-    requires base { LawfulBase 64 IsTally base.now }
-    requires few { count ≤ 1680 }
+// Takes replica 1 and stores that many words into it, and persists them. It says whether it was taken.
+fn take_and_flush(shared: &Shared<Tally>, seat: &mut CallerSeat, count: u64) -> Result<bool, Halt>
+    requires callers { shared.now.callers ≡ 2 }
+    requires new { IsNew shared.now seat.old }
+    ensures seat { IsSeatOf shared.now seat.new }
 {
-    let (shared, mut first, second) = made(alloc, Tally, &[NO_LIMIT, NO_LIMIT], base)?;
-    let Ok(Some(held)) = try_one(&shared, &mut first, 1) else {
-        return Ok(None);
-    };
-    if store_and_flush(&shared, &mut first, &held, count).is_err() {
-        return Ok(None);
+    match try_one(shared, seat, 1)? {
+        Some(held) => {
+            store_and_flush(shared, seat, &held, count)?;
+            Ok(true)
+        }
+        None => Ok(false),
     }
-    closed(alloc, shared, first, second)
 }
 
-// Whether the medium then has each word that was stored, and no other is changed.
-fn is_flushed(alloc: Global, count: u64) -> Result<bool, AllocError>
-    requires { count ≤ 1680 }
-{
-    let base = Base::fresh(alloc, &Tally)?;
-    let Some(left) = flushed(alloc, &base, count)? else {
-        return Ok(false);
-    };
-    let other = untouched(alloc, base.words.as_slice())?;
-    let mut image = untouched(alloc, base.words.as_slice())?;
-    let kept = (REGION - count) as usize;
-    for word in image.volatile.iter_mut().skip(kept) {
-        *word = WORD;
-    }
-    for word in image.durable.iter_mut().skip(kept) {
-        *word = WORD;
-    }
-    Ok(is_left(&left, [&other, &image, &other, &other]))
-}
-
-// As many words as a seat lists, one fewer and one more, and the whole region.
-#[test]
-fn flushed_words_are_durable(rt: HostRuntime) -> Result<(), Fail> {
-    for count in [0, 12, 511, 512, 513, 1025, 1680] {
-        assert!(rt; is_flushed(rt.alloc(), count)?, "{count} words");
-    }
-    Ok(())
-}
-
-// A caller without entries takes replica 1 exclusively and replica 0 shared, and copies: the place.
-fn copy_at_opening(shared: &Shared<Tally>, seat: &mut CallerSeat) -> Result<Option<u64>, Halt>
+// A caller without entries takes replica 1 exclusively and replica 0 shared, and copies. It says whether the place was 0.
+fn copy_at_opening(shared: &Shared<Tally>, seat: &mut CallerSeat) -> Result<bool, Halt>
     requires callers { shared.now.callers ≡ 2 }
     requires new { IsNew shared.now seat.old }
     ensures seat { IsSeatOf shared.now seat.new }
 {
     let Some(held) = try_one(shared, seat, 1)? else {
-        return Ok(None);
+        return Ok(false);
     };
     let Some(source) = share_beside(shared, seat, &held, 0)? else {
-        return Ok(None);
+        return Ok(false);
     };
-    Ok(Some(copy_from(shared, seat, &held, &source)?))
+    Ok(copy_from(shared, seat, &held, &source)? == 0)
 }
 
-// In the opening state no word differs, so no word becomes dirty.
-#[test]
-fn a_copy_at_opening_leaves_no_word_dirty(rt: HostRuntime) -> Result<(), Fail> {
-    let alloc = rt.alloc();
+// Flushes so many words, or else copies. It says whether that was done.
+fn flush_or_copy(
+    shared: &Shared<Tally>,
+    seat: &mut CallerSeat,
+    flushed: Option<u64>,
+) -> Result<bool, Halt>
+    requires callers { shared.now.callers ≡ 2 }
+    requires new { IsNew shared.now seat.old }
+    ensures seat { IsSeatOf shared.now seat.new }
+{
+    match flushed {
+        Some(count) => take_and_flush(shared, seat, count),
+        None => copy_at_opening(shared, seat),
+    }
+}
+
+// What the table of a caller left that flushed so many words, or else copied, where it did.
+fn left_by(alloc: Global, flushed: Option<u64>) -> Result<Option<Remains>, AllocError> {
+    let (shared, mut first, second) = made(alloc, Tally, &NO_LIMITS)?;
+    let is_done = flush_or_copy(&shared, &mut first, flushed) == Ok(true);
+    let left = closed(alloc, shared, first, second)?;
+    Ok(if is_done { left } else { None })
+}
+
+// The words that a table of this object opens with, and those where so many of the last are stored.
+fn words_with(alloc: Global, count: u64) -> Result<Vec<u64>, AllocError> {
     let base = Base::fresh(alloc, &Tally)?;
-    let (shared, mut first, second) = made(alloc, Tally, &[NO_LIMIT, NO_LIMIT], &base)?;
-    assert_eq!(rt; copy_at_opening(&shared, &mut first), Ok(Some(0)));
-    let Some(left) = closed(alloc, shared, first, second)? else {
-        panic!(rt; "not closed");
-    };
-    let dirty = left.dirty.iter().filter(|mark| **mark).count();
-    assert_eq!(rt; (left.dirty.len(), dirty), (4 * 1680, 0));
+    let mut words = base.words.into_vec();
+    let kept = REGION.saturating_sub(count) as usize;
+    if let Some(last) = words.as_mut_slice().get_mut(kept..) {
+        last.fill(WORD);
+    }
+    Ok(words)
+}
+
+// Whether replica 1 was left with these words durable, and the three others with the words that they opened with, none of them dirty.
+fn is_left(left: &Remains, opening: &[u64], words: &[u64]) -> bool {
+    is_clean(left, 0, opening)
+        && is_clean(left, 1, words)
+        && is_clean(left, 2, opening)
+        && is_clean(left, 3, opening)
+}
+
+// Whether the medium has each word that was flushed, or that was copied, and no other is changed.
+fn is_right(alloc: Global, flushed: Option<u64>) -> Result<bool, AllocError> {
+    let opening = words_with(alloc, 0)?;
+    let words = words_with(alloc, flushed.unwrap_or(0))?;
+    match left_by(alloc, flushed)? {
+        Some(left) => Ok(left.dirty.len() == 4 * 1680 && is_left(&left, &opening, &words)),
+        None => Ok(false),
+    }
+}
+
+// As many words as a seat lists, one fewer and one more, and the whole region. In the opening state no word differs from another
+// replica's, so a copy then makes no word dirty.
+const ROWS: [Option<u64>; 8] = [
+    Some(0),
+    Some(12),
+    Some(511),
+    Some(512),
+    Some(513),
+    Some(1025),
+    Some(1680),
+    None,
+];
+
+fn first_wrong(alloc: Global, rows: &[Option<u64>]) -> Result<Option<usize>, AllocError> {
+    for (i, row) in rows.iter().enumerate() {
+        if !is_right(alloc, *row)? {
+            return Ok(Some(i));
+        }
+    }
+    Ok(None)
+}
+
+#[test]
+fn flushed_words_are_durable_and_copied_ones_clean(rt: HostRuntime) -> Result<(), Fail> {
+    holds(&rt, first_wrong(rt.alloc(), &ROWS)?.is_none());
     Ok(())
 }

@@ -10,11 +10,13 @@ mod copying;
 #[cfg(test)]
 mod flush_tests;
 #[cfg(test)]
+mod holds;
+#[cfg(test)]
+mod images;
+#[cfg(test)]
 mod limit_tests;
 #[cfg(test)]
 mod linking;
-#[cfg(test)]
-mod marking;
 #[cfg(test)]
 mod publishing;
 #[cfg(test)]

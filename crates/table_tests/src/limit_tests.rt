@@ -1,228 +1,16 @@
 //! A table is handed to its closing at each step of an update: the marks of dirty words, and the words of memory and of the
 //! medium, are those of a plain model that makes the same stores and persists.
 
-ghost use Rattle.std.specs.Prelude.{◌≡◌, ◌*◌, ◌<◌, ◌≤◌, None};
-ghost use Rattle.cx_core.specs.Base.{LawfulBase};
-ghost use Rattle.cx_base.specs.VecMemory.{words_of};
-ghost use Rattle.cx_core.specs.Region.{place_of};
-ghost use Rattle.cx_rule.specs.Fitting.{base_of};
-ghost use Rattle.cx_rule.specs.Running.{IsSeatOf};
-ghost use Rattle.doc_store.specs.ExactStep.{IsImage};
-ghost use Rattle.replica.specs.Held.{IsSized};
-ghost use Rattle.replica.specs.Laws.{IsTaken};
-ghost use Rattle.replica.specs.Tests.{IsFree, IsNew};
+ghost use Rattle.std.specs.Prelude.{◌<◌};
 
-use crate::commands::put;
-use crate::marking::Marking;
-use crate::tables::{NO_LIMIT, closed, made, of_replica, take, update};
-use crate::turns::replay_protected;
-use cx_base::{Halt, Object, VecMemory};
-use cx_core::{Base, Entry, full_step};
-use cx_table::{CallerSeat, Exclusive, Remains, Shared};
-use doc_store::DocStore;
-use mutation_queue::LinkTried;
-use replica::{begin, flush};
+use crate::copy_tests::{Outcome, SOURCE, at_limit, whole_run};
+use crate::holds::holds;
+use crate::images::{
+    Replica, differing, first_entry, is_clean, is_marked, opening, replica_of, stepped,
+};
+use cx_core::Entry;
 use std::alloc::{AllocError, Global};
 use std::test::Fail;
-use strong_trylock::downgrade;
-
-// Brings a replica that was just taken up to a ticket, persists what was stored, and turns the right into a shared one.
-fn renew<O: Object>(
-    shared: &Shared<O>,
-    seat: &mut CallerSeat,
-    held: Exclusive,
-    ticket: u64,
-) -> Result<(), Halt>
-    requires taken { IsTaken (O.line_count shared.now.object) shared.now (O.lawful shared.now.object) seat.old held }
-    requires single { seat.old.known.local.downgraded ≡ None }
-    requires linked { ticket < seat.old.known.local.front }
-    ensures seat { IsSeatOf shared.now seat.new }
-{
-    begin(shared, seat, &held)?;
-    replay_protected(shared, seat, &held, ticket)?;
-    flush(shared, seat, &held)?;
-    downgrade(shared, seat, held)?;
-    Ok(())
-}
-
-// A caller without entries links one, and brings a replica up to it. A caller that was halted did not.
-fn update_and_renew<O: Object>(
-    shared: &Shared<O>,
-    seat: &mut CallerSeat,
-    op: &[u64; 144],
-    r: u64,
-) -> Result<bool, Halt>
-    requires new { IsNew shared.now seat.old }
-    requires sized { IsSized (O.line_count shared.now.object) shared.now }
-    requires few { r < 2 * shared.now.callers }
-    ensures seat { IsSeatOf shared.now seat.new }
-{
-    match update(shared, seat, op)? {
-        LinkTried::Linked { ticket } => taken_and_renewed(shared, seat, r, ticket),
-        LinkTried::Again | LinkTried::Worn => Ok(false),
-    }
-}
-
-// Takes a replica and brings it up to a ticket.
-fn taken_and_renewed<O: Object>(
-    shared: &Shared<O>,
-    seat: &mut CallerSeat,
-    r: u64,
-    ticket: u64,
-) -> Result<bool, Halt>
-    requires free { IsFree shared.now seat.old }
-    requires sized { IsSized (O.line_count shared.now.object) shared.now }
-    requires few { r < 2 * shared.now.callers }
-    requires linked { ticket < seat.old.known.local.front }
-    ensures seat { IsSeatOf shared.now seat.new }
-{
-    let Some(held) = take(shared, seat, r)? else {
-        return Ok(false);
-    };
-    renew(shared, seat, held, ticket)?;
-    Ok(true)
-}
-
-/// The words and the marks of a replica.
-#[derive(Drop)]
-pub(crate) struct Image {
-    pub(crate) volatile: Vec<u64>,
-    pub(crate) durable: Vec<u64>,
-    pub(crate) dirty: Vec<bool>,
-}
-
-/// The image of a replica into which nothing was stored since the table was made.
-pub(crate) fn untouched(alloc: Global, words: &[u64]) -> Result<Image, AllocError> {
-    Ok(Image {
-        volatile: Vec::from_slice(alloc, words)?,
-        durable: Vec::from_slice(alloc, words)?,
-        dirty: Vec::from_elem(alloc, false, words.len())?,
-    })
-}
-
-/// What the model has after so many steps: the accesses of the full step of an entry, one that gives the protection up, and then
-/// persists, first of those words that are not among these.
-pub(crate) fn modelled<O: Object>(
-    alloc: Global,
-    object: &O,
-    base: &Base,
-    entry: &Entry,
-    left: u64,
-    last: &[bool],
-) -> Result<Image, AllocError>
-    requires base { LawfulBase (O.line_count object.now) (O.lawful object.now) base.now }
-    requires place { base.now.place ≡ 0 }
-    requires small { O.line_count object.now ≤ 16384 }
-    requires caller { entry.now.caller < 8 }
-{
-    let words = base.words.as_slice();
-    let mut dirty = Vec::from_elem(alloc, false, words.len())?;
-    let mut plain = VecMemory::of(Vec::from_slice(alloc, words)?, Some(left));
-    let mut made = 0;
-    let stepped = step_marked(object, &mut plain, entry, &mut dirty, &mut made);
-    let volatile = plain.into_words();
-    let mut durable = Vec::from_slice(alloc, words)?;
-    if stepped {
-        let count = left.saturating_sub(made).saturating_sub(1);
-        let none = Vec::from_elem(alloc, false, words.len())?;
-        let more = persist_some(&volatile, &mut durable, &mut dirty, last, count);
-        persist_some(&volatile, &mut durable, &mut dirty, &none, more);
-    }
-    Ok(Image {
-        volatile,
-        durable,
-        dirty,
-    })
-}
-
-// Does the full step of an entry on a plain memory, marks the words that it stores, counts its accesses, and says whether it
-// was done.
-fn step_marked<O: Object>(
-    object: &O,
-    plain: &mut VecMemory,
-    entry: &Entry,
-    stored: &mut [bool],
-    made: &mut u64,
-) -> bool
-    requires base { LawfulBase (O.line_count object.now) (O.lawful object.now) (base_of (words_of plain.old)) }
-    requires place { place_of (words_of plain.old) ≡ 0 }
-    requires small { O.line_count object.now ≤ 16384 }
-    requires caller { entry.now.caller < 8 }
-{
-    let mut memory = Marking {
-        inner: plain,
-        stored,
-        accesses: made,
-    };
-    full_step(object, &mut memory, entry).is_ok()
-}
-
-// Persists dirty words that are not among these, at most so many. It gives how many more could be persisted.
-fn persist_some(
-    volatile: &[u64],
-    durable: &mut [u64],
-    dirty: &mut [bool],
-    last: &[bool],
-    count: u64,
-) -> u64 {
-    let mut left = count;
-    for (((from, into), mark), last) in volatile
-        .iter()
-        .zip(durable.iter_mut())
-        .zip(dirty.iter_mut())
-        .zip(last.iter())
-    {
-        if *mark && !*last && left > 0 {
-            *into = *from;
-            *mark = false;
-            left -= 1;
-        }
-    }
-    left
-}
-
-/// Whether a table of two callers was left with these words and marks of each replica.
-pub(crate) fn is_left(left: &Remains, images: [&Image; 4]) -> bool {
-    for (r, image) in images.iter().enumerate() {
-        let region = image.volatile.len();
-        let (Some(volatile), Some(durable), Some(dirty)) = (
-            of_replica(&left.volatile, r, region),
-            of_replica(&left.durable, r, region),
-            of_replica(&left.dirty, r, region),
-        ) else {
-            return false;
-        };
-        let same = volatile == image.volatile.as_slice()
-            && durable == image.durable.as_slice()
-            && dirty == image.dirty.as_slice();
-        if !same {
-            return false;
-        }
-    }
-    true
-}
-
-// The accesses of the full step of an entry, and how many words it stores.
-fn whole_step<O: Object>(
-    alloc: Global,
-    object: &O,
-    base: &Base,
-    entry: &Entry,
-) -> Result<Option<(u64, usize)>, AllocError>
-    requires base { LawfulBase (O.line_count object.now) (O.lawful object.now) base.now }
-    requires place { base.now.place ≡ 0 }
-    requires small { O.line_count object.now ≤ 16384 }
-    requires caller { entry.now.caller < 8 }
-{
-    let words = base.words.as_slice();
-    let mut stored = Vec::from_elem(alloc, false, words.len())?;
-    let mut plain = VecMemory::of(Vec::from_slice(alloc, words)?, None);
-    let mut made = 0;
-    if !step_marked(object, &mut plain, entry, &mut stored, &mut made) {
-        return Ok(None);
-    }
-    Ok(Some((made, stored.iter().filter(|mark| **mark).count())))
-}
 
 // The steps before the full step of the first entry: its number and its words that are not 0, which the cell does not have yet, 2
 // to link, a try, the load of the place, 2 to protect it, and 146 for the entry.
@@ -236,73 +24,154 @@ fn steps_before(op: &[u64; 144]) -> u64 {
     announced.saturating_add(2 + 2 + 2 + 146)
 }
 
-// What a caller with a limit comes to.
-#[derive(Debug, Drop)]
-struct Outcome {
-    done: bool,
-    steps: u64,
-    same: bool,
-    dirty: usize,
-}
-
-// Runs an update with a limit of steps, closes the table, and compares what it left with the model. Which dirty words are
-// persisted first is not promised, so the model begins with those that the table left clean.
-fn at_limit(alloc: Global, base: &Base, entry: &Entry, limit: u64) -> Result<Outcome, AllocError>
-    requires base { LawfulBase 64 (IsImage 64) base.now }
-    requires place { base.now.place ≡ 0 }
-    requires caller { entry.now.caller < 8 }
+// The accesses of the full step of an entry: the fewest with which it is done.
+fn accesses_of(alloc: Global, entry: &Entry) -> Result<Option<u64>, AllocError>
+    requires { entry.now.caller < 8 }
 {
-    let (shared, mut first, second) = made(alloc, DocStore::of(64), &[limit, NO_LIMIT], base)?;
-    let done = update_and_renew(&shared, &mut first, &entry.op, 1) == Ok(true);
-    let steps = first.steps();
-    let Some(left) = closed(alloc, shared, first, second)? else {
-        return Err(AllocError);
-    };
-    let Some(last) = of_replica(&left.dirty, 1, base.words.len()) else {
-        return Err(AllocError);
-    };
-    let more = limit.saturating_sub(steps_before(&entry.op));
-    let image = modelled(alloc, &DocStore::of(64), base, entry, more, last)?;
-    let other = untouched(alloc, base.words.as_slice())?;
-    let same = is_left(&left, [&other, &image, &other, &other]);
-    let dirty = left.dirty.iter().filter(|mark| **mark).count();
-    Ok(Outcome {
-        done,
-        steps,
-        same,
-        dirty,
-    })
-}
-
-// From no steps up to the first limit that does not halt: the steps before the full step, its accesses, one that gives the protection
-// up, one to persist each word that it stores, and a downgrade. Before the first persist, all words that it stores are dirty.
-#[test]
-fn each_limit_leaves_the_words_of_the_model(rt: HostRuntime) -> Result<(), Fail> {
-    let alloc = rt.alloc();
-    let base = Base::fresh(alloc, &DocStore::of(64))?;
-    let entry = Entry {
-        caller: 0,
-        number: 1,
-        op: put(b"key", 40),
-    };
-    let Some((accesses, stored)) = whole_step(alloc, &DocStore::of(64), &base, &entry)? else {
-        panic!(rt; "the model halts");
-    };
-    let all = steps_before(&entry.op)
-        .saturating_add(accesses)
-        .saturating_add(1)
-        .saturating_add(stored as u64)
-        .saturating_add(1);
-    let mut most = 0;
-    for limit in 0..2000u64 {
-        let outcome = at_limit(alloc, &base, &entry, limit)?;
-        assert!(rt; outcome.same, "at {limit}");
-        assert_eq!(rt; outcome.steps, limit, "at {limit}");
-        most = outcome.dirty.max(most);
-        if outcome.done {
-            assert_eq!(rt; (limit, most), (all, stored));
-            return Ok(());
+    for accesses in 0..2000u64 {
+        let (_, is_done) = stepped(alloc, entry, Some(accesses))?;
+        if is_done {
+            return Ok(Some(accesses));
         }
     }
-    panic!(rt; "each limit halts");
+    Ok(None)
+}
+
+// What the model is after so many steps: the words in memory, and how many of those that are stored are persisted then.
+#[derive(Drop)]
+struct Model<'a> {
+    opening: &'a [u64],
+    words: &'a [u64],
+    persisted: u64,
+}
+
+// Whether each word that the medium has is the one in memory or the one before.
+fn are_old_or_new(durable: &[u64], old: &[u64], new: &[u64]) -> bool {
+    for ((durable, old), new) in durable.iter().zip(old.iter()).zip(new.iter()) {
+        if *durable != *old && *durable != *new {
+            return false;
+        }
+    }
+    true
+}
+
+// Whether a replica is the model. Which dirty words are persisted first is not promised, but how many.
+fn is_modelled(replica: &Replica, model: &Model) -> bool {
+    replica.volatile == model.words
+        && are_old_or_new(replica.durable, model.opening, model.words)
+        && differing(replica.durable, model.opening) == model.persisted
+        && is_marked(replica)
+}
+
+// The dirty words of the replica, where a caller with a limit left it as the model and the three others untouched.
+fn dirty_of(outcome: &Outcome, limit: u64, model: &Model) -> Option<u64> {
+    let region = model.opening.len();
+    let replica = replica_of(&outcome.left, SOURCE as usize, region)?;
+    let is_right = outcome.steps == limit
+        && outcome.copied.is_none()
+        && is_modelled(&replica, model)
+        && is_clean(&outcome.left, 0, model.opening)
+        && is_clean(&outcome.left, 2, model.opening)
+        && is_clean(&outcome.left, 3, model.opening);
+    if is_right {
+        Some(differing(replica.volatile, replica.durable))
+    } else {
+        None
+    }
+}
+
+// The same of a caller that is run with a limit.
+fn dirty_at(
+    alloc: Global,
+    op: &[u64; 144],
+    limit: u64,
+    model: &Model,
+) -> Result<Option<u64>, AllocError> {
+    match at_limit(alloc, op, limit)? {
+        Some(outcome) => Ok(dirty_of(&outcome, limit, model)),
+        None => Ok(None),
+    }
+}
+
+// The words that the full step of the entry stores.
+fn stored_by(alloc: Global, entry: &Entry) -> Result<u64, AllocError>
+    requires { entry.now.caller < 8 }
+{
+    let (words, _) = stepped(alloc, entry, None)?;
+    Ok(differing(&words, &opening(alloc)?))
+}
+
+// How many words were persisted after so many steps since the full step began, one of which gives the protection up.
+fn persisted_after(steps: u64, accesses: u64, is_done: bool) -> u64 {
+    if is_done {
+        steps.saturating_sub(accesses).saturating_sub(1)
+    } else {
+        0
+    }
+}
+
+// The dirty words that a limit leaves, where it leaves the words of the model.
+fn dirty_after(
+    alloc: Global,
+    entry: &Entry,
+    opening: &[u64],
+    accesses: u64,
+    limit: u64,
+) -> Result<Option<u64>, AllocError>
+    requires { entry.now.caller < 8 }
+{
+    let steps = limit.saturating_sub(steps_before(&entry.op));
+    let (words, is_done) = stepped(alloc, entry, Some(steps))?;
+    let most = differing(&words, opening);
+    let model = Model {
+        opening,
+        words: &words,
+        persisted: persisted_after(steps, accesses, is_done).min(most),
+    };
+    dirty_at(alloc, &entry.op, limit, &model)
+}
+
+// The most dirty words that a limit up to one leaves, where each leaves the words of the model.
+fn most_dirty(
+    alloc: Global,
+    entry: &Entry,
+    accesses: u64,
+    last: u64,
+) -> Result<Option<u64>, AllocError>
+    requires { entry.now.caller < 8 }
+{
+    let opening = opening(alloc)?;
+    let mut most = 0u64;
+    for limit in 0..=last {
+        match dirty_after(alloc, entry, &opening, accesses, limit)? {
+            Some(dirty) => most = most.max(dirty),
+            None => return Ok(None),
+        }
+    }
+    Ok(Some(most))
+}
+
+// Whether the steps before the copy are those before the full step, its accesses, one that gives the protection up, one to persist each
+// word that it stores, a downgrade, one that gives the right up, and one try for each of the two rights of a copy. Each limit of fewer
+// leaves the words of the model, and before the first persist all words that the full step stores are dirty.
+fn are_right(alloc: Global) -> Result<bool, AllocError> {
+    let entry = first_entry();
+    let (Some(accesses), Some((before, _, _))) = (
+        accesses_of(alloc, &entry)?,
+        whole_run(alloc, &entry.op)?,
+    ) else {
+        return Ok(false);
+    };
+    let stored = stored_by(alloc, &entry)?;
+    let all = steps_before(&entry.op)
+        .saturating_add(accesses)
+        .saturating_add(stored)
+        .saturating_add(1 + 1 + 1 + 2);
+    Ok(before == all && most_dirty(alloc, &entry, accesses, before)? == Some(stored))
+}
+
+#[test]
+fn each_limit_leaves_the_words_of_the_model(rt: HostRuntime) -> Result<(), Fail> {
+    holds(&rt, are_right(rt.alloc())?);
+    Ok(())
 }

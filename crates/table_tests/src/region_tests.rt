@@ -1,23 +1,27 @@
 //! Entries of the document store on a replica held exclusively and on a plain memory, word by word.
 
-ghost use Rattle.std.specs.Prelude.{◌≡◌, ◌+◌, ◌-◌, ◌*◌, ◌^◌, ◌<◌, ◌≤◌, IsTrue, OnOk, length};
+ghost use Rattle.std.specs.Prelude.{◌≡◌, ◌+◌, ◌-◌, ◌*◌, ◌^◌, ◌<◌, ◌≤◌, OnOk};
 ghost use Rattle.cx_base.specs.Memory.{Becomes, Words};
 ghost use Rattle.cx_core.specs.Base.{LawfulBase};
 ghost use Rattle.cx_core.specs.Region.{place_of, region_words};
 ghost use Rattle.cx_rule.specs.Fitting.{base_of};
-ghost use Rattle.replica.specs.Held.{IsHeld, IsSized};
+ghost use Rattle.cx_rule.specs.Running.{IsSeatOf};
+ghost use Rattle.replica.specs.Held.{IsHeld};
 ghost use Rattle.replica.specs.Replays.{IsImage, noted_place};
-ghost use Rattle.replica.specs.Tests.{IsFree};
 ghost use Rattle.replica.specs.Stepping.{IsSteppable};
+ghost use Rattle.strong_trylock.specs.Held.{all_rights, no_rights};
 
 use crate::commands::{Numbers, next_entry};
-use crate::tables::{NO_LIMIT, made, take};
+use crate::holds::holds;
+use crate::tables::{NO_LIMITS, made};
+use crate::turns::try_one;
 use cx_base::tally::Tally;
 use cx_base::{Halt, Memory, Object, VecMemory};
 use cx_core::{Base, Entry, HEAD_LINES, LINE_WORDS, full_step};
 use cx_table::{CallerSeat, Exclusive, Shared};
 use doc_store::DocStore;
 use replica::{Region, begin};
+use std::alloc::{AllocError, Global};
 use std::test::Fail;
 
 // Does the full step of an entry, where so many are left before the end of places.
@@ -120,61 +124,76 @@ fn agree_held<O: Object, N: Memory>(
     agree(object, &mut region, plain, count)
 }
 
-// The same over a replica that is taken, and the words of the plain memory then.
-fn agree_taken<O: Object>(
+// The same over a replica that is taken.
+fn agree_taken<O: Object, N: Memory>(
     shared: &Shared<O>,
     seat: &mut CallerSeat,
-    r: u64,
-    words: Vec<u64>,
+    r: u32,
+    plain: &mut N,
     count: u64,
-) -> Result<Option<(u64, Vec<u64>)>, Halt>
-    requires free { IsFree shared.now seat.old }
-    requires sized { IsSized (O.line_count shared.now.object) shared.now }
+) -> Result<Option<u64>, Halt>
+    requires seat { IsSeatOf shared.now seat.old }
+    requires free { all_rights seat.old ≡ no_rights }
     requires few { r < 2 * shared.now.callers }
-    requires base { LawfulBase (O.line_count shared.now.object) (O.lawful shared.now.object) (base_of words.items) }
-    requires place { place_of words.items + count ≤ 2 ^ 40 }
     requires count { count ≤ 1000 }
+    requires plain { IsSteppable (O.line_count shared.now.object) (O.lawful shared.now.object) (N.size plain.old) (N.writable plain.old) (N.stands plain.old) count }
 {
-    let Some(held) = take(shared, seat, r)? else {
+    let Some(held) = try_one(shared, seat, r)? else {
         return Ok(None);
     };
     if begin(shared, seat, &held)? > 1 << 20 {
         return Ok(None);
     }
+    Ok(Some(agree_held(shared, seat, &held, plain, count)?))
+}
+
+// The same on replica 2 and on a plain memory of these words: its words then, where all entries were done.
+fn agree_plain<O: Object>(
+    shared: &Shared<O>,
+    seat: &mut CallerSeat,
+    words: Vec<u64>,
+    count: u64,
+) -> Option<Vec<u64>>
+    requires seat { IsSeatOf shared.now seat.old }
+    requires free { all_rights seat.old ≡ no_rights }
+    requires callers { shared.now.callers ≡ 2 }
+    requires base { LawfulBase (O.line_count shared.now.object) (O.lawful shared.now.object) (base_of words.items) }
+    requires place { place_of words.items + count ≤ 2 ^ 40 }
+    requires count { count ≤ 1000 }
+{
     let mut plain = VecMemory::of(words, None);
-    let done = agree_held(shared, seat, &held, &mut plain, count)?;
-    Ok(Some((done, plain.into_words())))
+    match agree_taken(shared, seat, 2, &mut plain, count) {
+        Ok(Some(done)) if done == count => Some(plain.into_words()),
+        _ => None,
+    }
 }
 
-// A thousand puts, removals, sums and readings on 50 keys: after each, every word of the replica is that of the plain memory.
-#[test]
-fn documents_are_replayed_word_by_word(rt: HostRuntime) -> Result<(), Fail> {
-    let alloc = rt.alloc();
-    let store = DocStore::of(512);
-    let base = Base::fresh(alloc, &store)?;
-    let (shared, mut first, second) = made(alloc, store, &[NO_LIMIT, NO_LIMIT], &base)?;
+// The words of a plain memory after a thousand entries, where those of a replica were the same after each.
+fn agreed<O: Object>(alloc: Global, object: O) -> Result<Option<Vec<u64>>, AllocError>
+    requires enough { 64 ≤ O.line_count object }
+    requires small { O.line_count object ≤ 16384 }
+{
+    let base = Base::fresh(alloc, &object)?;
+    let (shared, mut first, second) = made(alloc, object, &NO_LIMITS)?;
     let _other = second;
-    let words = Vec::from_slice(alloc, base.words.as_slice())?;
-    let Ok(Some((done, plain))) = agree_taken(&shared, &mut first, 2, words, 1000) else {
-        panic!(rt; "halted");
-    };
-    assert_eq!(rt; done, 1000);
-    assert!(rt; plain.len() == 5264 && plain[0] == 1000);
-    Ok(())
+    Ok(agree_plain(&shared, &mut first, base.words.into_vec(), 1000))
 }
 
-// The same words are operations of a running sum.
+// Whether the words after a thousand entries are so many, and the place is right.
+fn are_right(words: &Option<Vec<u64>>, count: usize) -> bool {
+    match words {
+        Some(words) => words.len() == count && words.first() == Some(&1000),
+        None => false,
+    }
+}
+
+// A thousand puts, removals, sums and readings on 50 keys: after each, every word of the replica is that of the plain memory. The same
+// words are operations of a running sum.
 #[test]
-fn sums_are_replayed_word_by_word(rt: HostRuntime) -> Result<(), Fail> {
-    let alloc = rt.alloc();
-    let base = Base::fresh(alloc, &Tally)?;
-    let (shared, mut first, second) = made(alloc, Tally, &[NO_LIMIT, NO_LIMIT], &base)?;
-    let _other = second;
-    let words = Vec::from_slice(alloc, base.words.as_slice())?;
-    let Ok(Some((done, plain))) = agree_taken(&shared, &mut first, 2, words, 1000) else {
-        panic!(rt; "halted");
-    };
-    assert_eq!(rt; done, 1000);
-    assert!(rt; plain.len() == 1680 && plain[0] == 1000);
+fn entries_are_replayed_word_by_word(rt: HostRuntime) -> Result<(), Fail> {
+    let documents = agreed(rt.alloc(), DocStore::of(512))?;
+    holds(&rt, are_right(&documents, 5264));
+    let sums = agreed(rt.alloc(), Tally)?;
+    holds(&rt, are_right(&sums, 1680));
     Ok(())
 }

@@ -1,39 +1,36 @@
-//! Tables of two callers, replicas that are taken, and how the tables end.
+//! Tables of two callers, and how they end.
 
-ghost use Rattle.std.specs.Prelude.{◌≡◌, ◌*◌, ◌<◌, ◌≤◌, ◌∷◌, [], IfOk, IfSome, IsTrue, OnOk};
-ghost use Rattle.cx_core.specs.Base.{LawfulBase};
+ghost use Rattle.std.specs.Prelude.{◌≡◌, ◌≤◌, ◌∷◌, [], IfOk, IfSome, IsTrue, OnOk};
 ghost use Rattle.cx_rule.specs.Running.{IsSeatOf};
 ghost use Rattle.mutation_queue.specs.Tests.{IsPairOf};
-ghost use Rattle.replica.specs.Held.{IsSized};
-ghost use Rattle.replica.specs.Laws.{IsTaken};
-ghost use Rattle.replica.specs.Tests.{IsFree, IsNew, Keeps, KnowsLinked};
+ghost use Rattle.replica.specs.Tests.{IsNew};
+ghost use Rattle.strong_trylock.specs.Held.{all_rights, no_rights};
 
 use cx_base::{Halt, Object};
 use cx_core::Base;
-use cx_table::{CallerSeat, Exclusive, Remains, Shared};
+use cx_table::{CallerSeat, Remains, Shared};
 use mutation_queue::{LinkTried, announce, link};
 use std::alloc::{AllocError, Global};
 
 pub(crate) const NO_LIMIT: u64 = u64::MAX;
 
-/// A table of two callers and its seats.
+pub(crate) const NO_LIMITS: [u64; 2] = [NO_LIMIT, NO_LIMIT];
+
+/// A table of two callers, that opens with an object's first base, and its seats.
 pub(crate) fn made<O: Object>(
     alloc: Global,
     object: O,
     limits: &[u64; 2],
-    base: &Base,
 ) -> Result<(Shared<O>, CallerSeat, CallerSeat), AllocError>
     requires enough { 64 ≤ O.line_count object }
     requires small { O.line_count object ≤ 16384 }
-    requires base { LawfulBase (O.line_count object) (O.lawful object) base.now }
-    ensures sized { IfOk result (λ r. IsSized (O.line_count object) r.0) }
     ensures object { IfOk result (λ r. r.0.object ≡ object) }
     ensures callers { IfOk result (λ r. r.0.callers ≡ 2) }
-    ensures base { IfOk result (λ r. r.0.base ≡ base.now) }
     ensures first { IfOk result (λ r. IsNew r.0 r.1) }
     ensures second { IfOk result (λ r. IsNew r.0 r.2) }
 {
-    let (shared, seats) = Shared::make(alloc, object, 2, limits, base)?;
+    let base = Base::fresh(alloc, &object)?;
+    let (shared, seats) = Shared::make(alloc, object, 2, limits, &base)?;
     match two(seats) {
         Some((first, second)) => Ok((shared, first, second)),
         None => Err(AllocError),
@@ -53,23 +50,6 @@ fn two(mut seats: Vec<CallerSeat>) -> Option<(CallerSeat, CallerSeat)>
     }
 }
 
-/// Takes a replica, if nobody holds it.
-pub(crate) fn take<O: Object>(
-    shared: &Shared<O>,
-    seat: &mut CallerSeat,
-    r: u64,
-) -> Result<Option<Exclusive>, Halt>
-    requires free { IsFree shared.now seat.old }
-    requires sized { IsSized (O.line_count shared.now.object) shared.now }
-    requires few { r < 2 * shared.now.callers }
-    ensures taken { IfOk result (λ o. IfSome o (λ held. IsTaken (O.line_count shared.now.object) shared.now (O.lawful shared.now.object) seat.new held)) }
-    ensures keeps { IfOk result (λ o. IfSome o (λ _. Keeps seat.old seat.new)) }
-    ensures seat { IsSeatOf shared.now seat.new }
-{
-    let (_, right) = shared.try_exclusive(seat, r)?;
-    Ok(right)
-}
-
 /// A caller without entries announces an operation in its cell 0 and tries to link it.
 pub(crate) fn update<O: Object>(
     shared: &Shared<O>,
@@ -77,8 +57,7 @@ pub(crate) fn update<O: Object>(
     op: &[u64; 144],
 ) -> Result<LinkTried, Halt>
     requires { IsNew shared.now seat.old }
-    ensures free { OnOk result (IsFree shared.now seat.new) }
-    ensures linked { IfOk result (KnowsLinked seat.new) }
+    ensures free { OnOk result (all_rights seat.new ≡ no_rights) }
     ensures seat { IsSeatOf shared.now seat.new }
 {
     announce(shared, seat, 0, op)?;
@@ -109,9 +88,4 @@ pub(crate) fn closed<O: Object>(
     }
     let seats = vec![in alloc; first, second]?;
     Ok(shared.gather(alloc, seats).ok())
-}
-
-/// The words of a replica among those of all replicas.
-pub(crate) fn of_replica<T>(all: &[T], r: usize, region: usize) -> Option<&[T]> {
-    all.get(r.saturating_mul(region)..r.saturating_add(1).saturating_mul(region))
 }

@@ -1,20 +1,18 @@
 //! Two threads take replicas from each other, replay on them, make them durable, and give them up.
 
-ghost use Rattle.std.specs.Prelude.{◌≡◌, ◌<◌, ◌≤◌};
+ghost use Rattle.std.specs.Prelude.{◌<◌};
 ghost use Rattle.cx_base.specs.Memory.{Words};
-ghost use Rattle.cx_core.specs.Base.{LawfulBase};
-ghost use Rattle.cx_core.specs.Region.{place_of};
-ghost use Rattle.cx_rule.specs.Fitting.{base_of};
 ghost use Rattle.cx_rule.specs.Running.{IsSeatOf};
-ghost use Rattle.doc_store.specs.ExactStep.{IsImage};
 ghost use Rattle.replica.specs.Tests.{IsNew};
 
 use crate::commands::{entry_of, put};
+use crate::holds::holds;
+use crate::images::{LINES, is_clean, opening, stepped};
 use crate::region_tests::step_one;
-use crate::tables::{NO_LIMIT, closed, made, of_replica, update};
+use crate::tables::{NO_LIMITS, closed, made, update};
 use crate::turns::{Turns, make_turns};
 use cx_base::{Halt, Object, VecMemory};
-use cx_core::{Base, Entry, full_step};
+use cx_core::{Base, Entry};
 use cx_table::{CallerSeat, Remains, Shared};
 use doc_store::DocStore;
 use mutation_queue::LinkTried;
@@ -68,132 +66,149 @@ struct Ended {
 }
 
 // Two callers on threads of their own link an entry each and make so many turns.
+fn joined<R: Runtime + Threads + Sync>(
+    rt: &R,
+    shared: &Shared<DocStore>,
+    first: CallerSeat,
+    second: CallerSeat,
+    ops: &[[u64; 144]; 2],
+    count: u64,
+) -> ((CallerSeat, Option<Done>), (CallerSeat, Option<Done>))
+    requires first { IsNew shared.now first }
+    requires second { IsNew shared.now second }
+    ensures first { IsSeatOf shared.now result.0.0 }
+    ensures second { IsSeatOf shared.now result.1.0 }
+{
+    let [one, other] = ops;
+    join(
+        rt,
+        move || on_thread(shared, first, one, count),
+        move || on_thread(shared, second, other, count),
+    )
+}
+
+// The same on a table of their own, which is closed.
 fn two_threads<R: Runtime + Threads + Sync>(
     rt: &R,
     alloc: Global,
-    base: &Base,
     ops: &[[u64; 144]; 2],
     count: u64,
-) -> Result<Option<Ended>, AllocError>
-    requires { LawfulBase 64 (IsImage 64) base.now }
-{
-    let store = DocStore::of(64);
-    let (shared, first, second) = made(alloc, store, &[NO_LIMIT, NO_LIMIT], base)?;
-    let table = &shared;
-    let [one, other] = ops;
-    let ((first, one), (second, other)) = join(
-        rt,
-        move || on_thread(table, first, one, count),
-        move || on_thread(table, second, other, count),
-    );
-    let (Some(one), Some(other)) = (one, other) else {
-        return Ok(None);
-    };
-    let Some(left) = closed(alloc, shared, first, second)? else {
-        return Ok(None);
-    };
-    Ok(Some(Ended {
-        first: one,
-        second: other,
-        left,
-    }))
+) -> Result<Option<Ended>, AllocError> {
+    let (shared, first, second) = made(alloc, DocStore::of(LINES), &NO_LIMITS)?;
+    let ((first, one), (second, other)) = joined(rt, &shared, first, second, ops, count);
+    Ok(both_ended(one, other, closed(alloc, shared, first, second)?))
 }
 
-// The words of a plain memory after the full step of an entry.
-fn after_one<O: Object>(object: &O, words: Vec<u64>, one: &Entry) -> Option<Vec<u64>>
-    requires base { LawfulBase (O.line_count object.now) (O.lawful object.now) (base_of words.items) }
-    requires place { place_of words.items ≡ 0 }
-    requires small { O.line_count object.now ≤ 16384 }
-    requires one { one.now.caller < 8 }
-{
-    let mut plain = VecMemory::of(words, None);
-    full_step(object, &mut plain, one).ok()?;
-    Some(plain.into_words())
+// What they came to, where both made their turns and the table was closed.
+fn both_ended(first: Option<Done>, second: Option<Done>, left: Option<Remains>) -> Option<Ended> {
+    Some(Ended {
+        first: first?,
+        second: second?,
+        left: left?,
+    })
 }
 
-// The same after those of two entries.
-fn after_both<O: Object>(
-    object: &O,
-    words: Vec<u64>,
-    one: &Entry,
-    other: &Entry,
-) -> Option<Vec<u64>>
-    requires base { LawfulBase (O.line_count object.now) (O.lawful object.now) (base_of words.items) }
-    requires place { place_of words.items ≡ 0 }
-    requires small { O.line_count object.now ≤ 16384 }
+// The words of a plain memory after the full steps of two entries.
+fn after_both(alloc: Global, one: &Entry, other: &Entry) -> Result<Option<Vec<u64>>, AllocError>
     requires one { (one.now.caller < 8) × Words 144 one.now.op }
     requires other { (other.now.caller < 8) × Words 144 other.now.op }
 {
-    let mut plain = VecMemory::of(words, None);
-    step_one(object, &mut plain, one, 2).ok()?;
-    step_one(object, &mut plain, other, 1).ok()?;
-    Some(plain.into_words())
+    let store = DocStore::of(LINES);
+    let base = Base::fresh(alloc, &store)?;
+    let mut plain = VecMemory::of(base.words.into_vec(), None);
+    if step_one(&store, &mut plain, one, 2).is_err() {
+        return Ok(None);
+    }
+    if step_one(&store, &mut plain, other, 1).is_err() {
+        return Ok(None);
+    }
+    Ok(Some(plain.into_words()))
 }
 
-// The words of the image after each place.
-fn images(
+// How many replicas were left with these words in memory and on the medium, with no word dirty.
+fn clean_with(left: &Remains, words: &[u64]) -> u64 {
+    let mut count = 0u64;
+    for r in 0..4 {
+        if is_clean(left, r, words) {
+            count = count.saturating_add(1);
+        }
+    }
+    count
+}
+
+// How many were left as the image that a table opens with.
+fn at_opening(alloc: Global, left: &Remains) -> Result<u64, AllocError> {
+    Ok(clean_with(left, &opening(alloc)?))
+}
+
+// How many were left as the image after one entry.
+fn after_first(alloc: Global, left: &Remains, one: &Entry) -> Result<u64, AllocError>
+    requires { one.now.caller < 8 }
+{
+    let (words, _) = stepped(alloc, one, None)?;
+    Ok(clean_with(left, &words))
+}
+
+// How many were left as the image after two entries.
+fn after_second(
     alloc: Global,
-    base: &Base,
+    left: &Remains,
     one: &Entry,
     other: &Entry,
-) -> Result<Option<[Vec<u64>; 3]>, AllocError>
-    requires base { LawfulBase 64 (IsImage 64) base.now }
-    requires place { base.now.place ≡ 0 }
+) -> Result<u64, AllocError>
     requires one { (one.now.caller < 8) × Words 144 one.now.op }
     requires other { (other.now.caller < 8) × Words 144 other.now.op }
 {
-    let store = DocStore::of(64);
-    let words = base.words.as_slice();
-    let Some(middle) = after_one(&store, Vec::from_slice(alloc, words)?, one) else {
-        return Ok(None);
-    };
-    let Some(last) = after_both(&store, Vec::from_slice(alloc, words)?, one, other) else {
-        return Ok(None);
-    };
-    Ok(Some([Vec::from_slice(alloc, words)?, middle, last]))
+    match after_both(alloc, one, other)? {
+        Some(words) => Ok(clean_with(left, &words)),
+        None => Ok(0),
+    }
 }
 
-// Whether each replica was left as the image after its place, in memory and on the medium, with no word dirty.
-fn are_images(left: &Remains, images: &[Vec<u64>; 3]) -> bool {
-    let region = images[0].len();
-    for r in 0..4 {
-        let (Some(volatile), Some(durable), Some(dirty)) = (
-            of_replica(&left.volatile, r, region),
-            of_replica(&left.durable, r, region),
-            of_replica(&left.dirty, r, region),
-        ) else {
-            return false;
-        };
-        let Some(image) = image_at(volatile, images) else {
-            return false;
-        };
-        if volatile != image || durable != image || dirty.iter().any(|mark| *mark) {
-            return false;
-        }
-    }
-    true
+// The places of all replicas, added up, where each was left as the image after its place.
+fn places(
+    alloc: Global,
+    left: &Remains,
+    one: &Entry,
+    other: &Entry,
+) -> Result<Option<u64>, AllocError>
+    requires one { (one.now.caller < 8) × Words 144 one.now.op }
+    requires other { (other.now.caller < 8) × Words 144 other.now.op }
+{
+    let none = at_opening(alloc, left)?;
+    let first = after_first(alloc, left, one)?;
+    let both = after_second(alloc, left, one, other)?;
+    let all = none.saturating_add(first).saturating_add(both);
+    Ok(if all == 4 {
+        Some(first.saturating_add(both.saturating_mul(2)))
+    } else {
+        None
+    })
 }
 
-// The image after the place of a region.
-fn image_at<'a>(region: &[u64], images: &'a [Vec<u64>; 3]) -> Option<&'a [u64]> {
-    let place = *region.first()?;
-    for (k, image) in images.iter().enumerate() {
-        if k as u64 == place {
-            return Some(image.as_slice());
-        }
+// The same of what two threads left, in the order of their entries.
+fn places_of(
+    alloc: Global,
+    ended: &Ended,
+    ops: &[[u64; 144]; 2],
+) -> Result<Option<u64>, AllocError> {
+    let (one, other) = (entry_of(0, 1, &ops[0]), entry_of(1, 1, &ops[1]));
+    if ended.first.0 < ended.second.0 {
+        places(alloc, &ended.left, &one, &other)
+    } else {
+        places(alloc, &ended.left, &other, &one)
     }
-    None
 }
 
-// The places of all replicas, added up.
-fn places(left: &Remains, region: usize) -> u64 {
-    let mut all = 0u64;
-    for r in 0..4 {
-        if let Some(words) = of_replica(&left.volatile, r, region) {
-            all = all.saturating_add(words.first().copied().unwrap_or(0));
-        }
+// The entries that two callers replayed, where each made so many turns rightly.
+fn replayed(first: &Turns, second: &Turns, count: u64) -> Option<u64> {
+    let all = first.taken.saturating_add(first.refused) == count
+        && second.taken.saturating_add(second.refused) == count;
+    if all && first.right && second.right {
+        Some(first.replayed.saturating_add(second.replayed))
+    } else {
+        None
     }
-    all
 }
 
 // Whether two threads on a table of their own each made so many turns rightly, and left images on all replicas, with as many
@@ -201,39 +216,32 @@ fn places(left: &Remains, region: usize) -> u64 {
 fn turned<R: Runtime + Threads + Sync>(
     rt: &R,
     alloc: Global,
-    base: &Base,
+    ops: &[[u64; 144]; 2],
     count: u64,
-) -> Result<Option<u64>, AllocError>
-    requires base { LawfulBase 64 (IsImage 64) base.now }
-    requires place { base.now.place ≡ 0 }
-{
+) -> Result<Option<u64>, AllocError> {
+    let Some(ended) = two_threads(rt, alloc, ops, count)? else {
+        return Ok(None);
+    };
+    let entries = replayed(&ended.first.1, &ended.second.1, count);
+    let places = places_of(alloc, &ended, ops)?;
+    Ok(if places == entries { entries } else { None })
+}
+
+// The entries that were replayed on so many tables, where each was left rightly.
+fn replayed_on<R: Runtime + Threads + Sync>(
+    rt: &R,
+    alloc: Global,
+    tables: u64,
+) -> Result<Option<u64>, AllocError> {
     let ops = [put(b"one", 40), put(b"other", 150)];
-    let Some(ended) = two_threads(rt, alloc, base, &ops, count)? else {
-        return Ok(None);
-    };
-    let (ticket, first) = ended.first;
-    let (next, second) = ended.second;
-    let (one, other) = (entry_of(0, 1, &ops[0]), entry_of(1, 1, &ops[1]));
-    let images = if ticket < next {
-        images(alloc, base, &one, &other)?
-    } else {
-        images(alloc, base, &other, &one)?
-    };
-    let Some(images) = images else {
-        return Ok(None);
-    };
-    let all = first.taken.saturating_add(first.refused) == count
-        && second.taken.saturating_add(second.refused) == count;
-    let entries = first.replayed.saturating_add(second.replayed);
-    if all
-        && first.right
-        && second.right
-        && are_images(&ended.left, &images)
-        && places(&ended.left, images[0].len()) == entries
-    {
-        return Ok(Some(entries));
+    let mut replayed = 0u64;
+    for _ in 0..tables {
+        let Some(entries) = turned(rt, alloc, &ops, 100)? else {
+            return Ok(None);
+        };
+        replayed = replayed.saturating_add(entries);
     }
-    Ok(None)
+    Ok(Some(replayed))
 }
 
 // On each of a hundred tables, two threads make a hundred turns each. Replica 0 is the current one, and refused to both. What is
@@ -241,15 +249,10 @@ fn turned<R: Runtime + Threads + Sync>(
 // both, and the other thread holds at most one at a time.
 #[test]
 fn two_threads_leave_images(rt: HostRuntime) -> Result<(), Fail> {
-    let alloc = rt.alloc();
-    let base = Base::fresh(alloc, &DocStore::of(64))?;
-    let mut replayed = 0u64;
-    for table in 0..100 {
-        let Some(entries) = turned(&rt, alloc, &base, 100)? else {
-            panic!(rt; "table {table} was left otherwise");
-        };
-        replayed = replayed.saturating_add(entries);
-    }
-    assert!(rt; replayed >= 200 && replayed <= 600);
+    let replayed = replayed_on(&rt, rt.alloc(), 100)?;
+    holds(
+        &rt,
+        replayed.is_some_and(|entries| entries >= 200 && entries <= 600),
+    );
     Ok(())
 }

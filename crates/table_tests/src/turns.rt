@@ -18,7 +18,7 @@ use strong_trylock::{ExclusiveTried, downgrade, release_downgraded, try_exclusiv
 
 /// What the turns of a caller came to: how many replicas it took, how many others held, how many entries it replayed, and
 /// whether each place was that of the image up to the ticket.
-#[derive(Clone, Copy, Debug, PartialEq, Eq, Drop)]
+#[derive(Drop)]
 pub(crate) struct Turns {
     pub(crate) taken: u64,
     pub(crate) refused: u64,
@@ -48,10 +48,10 @@ pub(crate) fn try_one<O: Object>(
     }
 }
 
-/// Brings a replica held exclusively up to a ticket: where its place is at most the ticket, the entries are read under a protection,
-/// which is given up again. Nobody collects cells here, so that no caller is behind, and none has a protection before: one that is, or
-/// has, stops as if it was halted.
-pub(crate) fn replay_protected<O: Object>(
+// Brings a replica held exclusively up to a ticket: where its place is at most the ticket, the entries are read under a protection,
+// which is given up again. Nobody collects cells here, so that no caller is behind, and none has a protection before: one that is, or
+// has, stops as if it was halted.
+fn replay_protected<O: Object>(
     shared: &Shared<O>,
     seat: &mut CallerSeat,
     held: &Exclusive,
@@ -63,7 +63,6 @@ pub(crate) fn replay_protected<O: Object>(
     ensures held { OnOk result (IsHeld (O.line_count shared.now.object) shared.now (O.lawful shared.now.object) seat.new held.now) }
     ensures image { OnOk result (IsImage (O.line_count shared.now.object) (O.lawful shared.now.object) shared.now.base (O.step shared.now.object) seat.new.known) }
     ensures rights { OnOk result (all_rights seat.new ≡ all_rights seat.old) }
-    ensures single { OnOk result (seat.new.known.local.downgraded ≡ seat.old.known.local.downgraded) }
     ensures seat { IsSeatOf shared.now seat.new }
 {
     // tickets are few

@@ -2,10 +2,10 @@ use Rattle.std.proofs.Common.{length, true, subst, sym}
 use Rattle.cx_base.specs.Memory.{Known}
 use Rattle.replica.specs.Stepping.{IsSteppable}
 use Rattle.replica.proofs.Stepping.{plain_steppable}
-use Rattle.table_tests.proofs.region_tests.agree_taken.Goals as goal
+use Rattle.table_tests.proofs.region_tests.agree_plain.Goals as goal
 
-pub agree_held-requires-clause-plain : goal.agree_held-requires-clause-plain
-agree_held-requires-clause-plain g c =
+pub agree_taken-requires-clause-plain : goal.agree_taken-requires-clause-plain
+agree_taken-requires-clause-plain g c =
     let object = c.args.shared.now.object in
     let lines = g.O.Object.line_count object in
     let lawful = g.O.Object.lawful object in
