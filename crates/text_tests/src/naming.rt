@@ -1,8 +1,7 @@
 //! Whether records name commands of the lives that they are of.
 
-ghost use Rattle.std.specs.Prelude.{◌≡◌, IsTrue, All, length};
+ghost use Rattle.std.specs.Prelude.{◌≡◌, ◌==◌, IsTrue, All, count_by};
 ghost use Rattle.life_records.specs.Lives.{NameCommands, NamesCommands, Names};
-ghost use Rattle.life_records.specs.Scripts.{own_ops};
 
 use doc_text::{Command, JournalLine, Life, LifeRecord, ReadLine};
 
@@ -10,13 +9,15 @@ use doc_text::{Command, JournalLine, Life, LifeRecord, ReadLine};
 pub(crate) fn name_commands(lives: &[Life], records: &[LifeRecord]) -> bool
     ensures { IsTrue result → NameCommands lives.now records.now }
 {
-    match (lives, records) {
-        ([], []) => true,
-        ([life, lives @ ..], [told, records @ ..]) => {
-            names_commands(life, told) && name_commands(lives, records)
-        }
-        _ => false,
+    if lives.len() != records.len() {
+        return false;
     }
+    for (number, told) in records.iter().enumerate() {
+        if !names_commands(&lives[number], told) {
+            return false;
+        }
+    }
+    true
 }
 
 fn names_commands(life: &Life, told: &LifeRecord) -> bool
@@ -48,16 +49,22 @@ fn names_reads(life: &Life, reads: &[ReadLine]) -> bool
 }
 
 /// Whether a life has this command of this client.
+#[tactic(auto, using(crate::proofs::OwnOps::is_named))]
 fn names(life: &Life, client: u32, command: u64) -> bool
     ensures { IsTrue result → Names life.now client command }
 {
-    let own = own_count(life.commands.as_slice(), client);
-    client < life.clients && 1 <= command && command <= own
+    client < life.clients && 1 <= command && command <= own_count(life.commands.as_slice(), client)
 }
 
 /// The number of a client's commands.
 fn own_count(commands: &[Command], client: u32) -> u64
-    ensures { result ≡ length (own_ops client commands.now) }
+    ensures { result ≡ count_by (λ c. c.client == client) commands.now }
 {
-    commands.iter().filter(|c| c.client == client).count() as u64
+    let mut count = 0;
+    for command in commands {
+        if command.client == client {
+            count += 1;
+        }
+    }
+    count
 }
