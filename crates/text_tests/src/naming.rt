@@ -1,7 +1,8 @@
 //! Whether records name commands of the lives that they are of.
 
-ghost use Rattle.std.specs.Prelude.{◌≡◌, ◌==◌, IsTrue, All, count_by};
+ghost use Rattle.std.specs.Prelude.{◌≡◌, ◌==◌, IsTrue, IsSome, All, count_by};
 ghost use Rattle.life_records.specs.Lives.{NameCommands, NamesCommands, Names};
+ghost use Rattle.life_records.specs.Scripts.{named_op};
 
 use doc_text::{Command, JournalLine, Life, LifeRecord, ReadLine};
 
@@ -49,11 +50,25 @@ fn names_reads(life: &Life, reads: &[ReadLine]) -> bool
 }
 
 /// Whether a life has this command of this client.
-#[tactic(auto, using(crate::proofs::OwnOps::is_named))]
 fn names(life: &Life, client: u32, command: u64) -> bool
     ensures { IsTrue result → Names life.now client command }
 {
-    client < life.clients && 1 <= command && command <= own_count(life.commands.as_slice(), client)
+    if client >= life.clients {
+        return false;
+    }
+    has_command(life, client, command)
+}
+
+fn has_command(life: &Life, client: u32, command: u64) -> bool
+    ensures { IsTrue result → IsSome (named_op life.now client command) }
+{
+    if command == 0 {
+        return false;
+    }
+    if command > own_count(life.commands.as_slice(), client) {
+        return false;
+    }
+    true
 }
 
 /// The number of a client's commands.

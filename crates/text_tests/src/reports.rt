@@ -404,7 +404,7 @@ power 1 kept 0 of 0 documents 0
 ",
 };
 
-const ROWS: [Worked; 12] = [
+static ROWS: [Worked; 12] = [
     NOTHING,
     WRITTEN_AND_READ,
     EMPTY_STORE,
