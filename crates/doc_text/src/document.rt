@@ -91,6 +91,3 @@ fn members_have_float(members: &Map<String, Value>) -> bool
     }
     false
 }
-
-#[cfg(test)]
-mod tests;

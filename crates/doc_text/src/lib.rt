@@ -12,8 +12,6 @@ mod measured_members;
 mod printing;
 mod reading;
 mod script_parts;
-#[cfg(test)]
-mod spread;
 mod words;
 
 pub use laws::different_lives_have_different_reports;

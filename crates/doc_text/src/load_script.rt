@@ -74,6 +74,3 @@ fn nth_command(alloc: Global, from: u64, client: u32, n: u64) -> Result<Command,
         },
     })
 }
-
-#[cfg(test)]
-mod tests;

@@ -49,6 +49,3 @@ fn write_wide(out: &mut Vec<u8>, number: i128) -> Result<(), AllocError>
     let mut digits = Buffer::new();
     out.extend_from_slice(digits.format(number).as_bytes())
 }
-
-#[cfg(test)]
-mod tests;

@@ -293,6 +293,3 @@ fn write_signed(out: &mut Vec<u8>, number: i64) -> Result<(), AllocError>
     let mut digits = Buffer::new();
     out.extend_from_slice(digits.format(number).as_bytes())
 }
-
-#[cfg(test)]
-mod tests;

@@ -296,6 +296,3 @@ fn is_text(bytes: &[u8]) -> bool
         Err(_) => false,
     }
 }
-
-#[cfg(test)]
-mod tests;

@@ -3,7 +3,7 @@ use Rattle.std.proofs.lemmas.List.{take_all}
 use Rattle.std.proofs.lemmas.List.Elements.{All-more, All-same}
 use Rattle.life_records.specs.Lives.{Names}
 use Rattle.life_records.specs.declared.record.JournalLine.{JournalLine}
-use Rattle.doc_text.proofs.printing.tests.names_journal.Goals as goal
+use Rattle.text_tests.proofs.naming.names_journal.Goals as goal
 
 pub loop-line-preserved : goal.loop-line-preserved
 loop-line-preserved c =

@@ -1,10 +1,10 @@
 use Rattle.std.proofs.Common.{◌≡◌, ℕ, suc, ◌+◌, ◌<◌, List, [], ◌∷◌, length, get_or, ⊎_elim, subst, arith, rules}
 use Rattle.std.proofs.lemmas.Bool.{cases_lt}
 use Rattle.std.proofs.lemmas.List.{get_or_read}
-use Rattle.doc_text.specs.Grammar.{Life}
+use Rattle.life_records.specs.declared.script.Life.{Life}
 use Rattle.life_records.specs.Lives.{NameCommands, NamesCommands}
 use Rattle.life_records.specs.declared.record.LifeRecord.{LifeRecord}
-use Rattle.doc_text.proofs.printing.tests.name_commands.Goals as goal
+use Rattle.text_tests.proofs.naming.name_commands.Goals as goal
 
 -- what is so at each place is so of the lists
 NameCommands-from_places : (lives : List Life) (records : List LifeRecord) → length lives ≡ length records

@@ -1,8 +1,8 @@
 use Rattle.std.proofs.Common.{ℕ, ◌<◌, get_or}
-use Rattle.doc_text.specs.Grammar.{Life}
+use Rattle.life_records.specs.declared.script.Life.{Life}
 use Rattle.life_records.specs.Lives.{NamesCommands}
 use Rattle.life_records.specs.declared.record.LifeRecord.{LifeRecord}
-use Rattle.doc_text.proofs.printing.tests.name_commands.Given as goal
+use Rattle.text_tests.proofs.naming.name_commands.Given as goal
 
 abbrev pub invariant-loop-number : goal.invariant-loop-number
 invariant-loop-number l = (n : ℕ) (d : Life) (e : LifeRecord) → n < l.number → NamesCommands (get_or l.lives n d) (get_or l.records n e)

@@ -1,0 +1,25 @@
+//! Tests of the texts: scripts that are read or refused, reports, the script of a load and what it came to. It has tests alone.
+#![tactic(auto)]
+
+#[cfg(test)]
+mod documents;
+#[cfg(test)]
+mod holds;
+#[cfg(test)]
+mod loads;
+#[cfg(test)]
+mod many_lines;
+#[cfg(test)]
+mod naming;
+#[cfg(test)]
+mod outcome;
+#[cfg(test)]
+mod records;
+#[cfg(test)]
+mod reports;
+#[cfg(test)]
+mod scripts;
+#[cfg(test)]
+mod spread;
+#[cfg(test)]
+mod summaries;

@@ -1,0 +1,163 @@
+//! Records of lives, made from rows.
+
+use cx_base::{Bytes, Items};
+use cx_core::FullNote;
+use doc_model::Reply;
+use doc_text::{FullLine, JournalLine, LifeRecord, ReadLine, StopLine};
+use std::alloc::{AllocError, Global};
+
+/// A reply.
+#[derive(Clone, Copy)]
+pub(crate) enum Told {
+    New,
+    Replaced,
+    Deleted,
+    Absent,
+    Doc(&'static [u8]),
+    Sum(i64),
+    NotNumber,
+    Overflow,
+    NoRoom,
+    Key(&'static [u8]),
+    Number(u64),
+}
+
+/// Ticket, client, command, and the reply, if there is one.
+pub(crate) type JournalRow = (u64, u32, u64, Option<Told>);
+
+/// Command, place and reply of a read of client 0.
+pub(crate) type ReadRow = (u64, u64, Told);
+
+/// Client, command, steps, and whether the command is kept.
+pub(crate) type StopRow = (u32, u64, u64, bool);
+
+/// Client, command, holder, need and ticket.
+pub(crate) type FullRow = (u32, u64, u32, u64, u64);
+
+/// A life: its history, the reads, the clients that were stopped, those that gave up, and the end.
+#[derive(Clone, Copy)]
+pub(crate) struct Lived {
+    pub(crate) clients: u32,
+    pub(crate) from: u64,
+    pub(crate) journal: &'static [JournalRow],
+    pub(crate) reads: &'static [ReadRow],
+    pub(crate) stops: &'static [StopRow],
+    pub(crate) fulls: &'static [FullRow],
+    pub(crate) choice: u64,
+    pub(crate) kept: u64,
+    pub(crate) documents: u64,
+}
+
+/// The records of lives. `Err` is want of memory.
+pub(crate) fn records_of(alloc: Global, lives: &[Lived]) -> Result<Vec<LifeRecord>, AllocError> {
+    let mut records = Vec::new(alloc);
+    for life in lives {
+        records.push(record_of(alloc, life)?)?;
+    }
+    Ok(records)
+}
+
+fn record_of(alloc: Global, life: &Lived) -> Result<LifeRecord, AllocError> {
+    let mut told = LifeRecord {
+        clients: life.clients,
+        from: life.from,
+        journal: Items::new(alloc),
+        reads: Items::new(alloc),
+        stops: Items::new(alloc),
+        fulls: Items::new(alloc),
+        choice: life.choice,
+        kept: life.kept,
+        documents: life.documents,
+    };
+    match add_lines(alloc, &mut told, life) {
+        Ok(()) => Ok(told),
+        Err(AllocError) => Err(AllocError),
+    }
+}
+
+fn add_lines(alloc: Global, told: &mut LifeRecord, life: &Lived) -> Result<(), AllocError> {
+    add_journal(alloc, &mut told.journal, life.journal)?;
+    add_reads(alloc, &mut told.reads, life.reads)?;
+    add_stops(&mut told.stops, life.stops)?;
+    add_fulls(&mut told.fulls, life.fulls)
+}
+
+fn add_journal(
+    alloc: Global,
+    journal: &mut Items<JournalLine>,
+    rows: &[JournalRow],
+) -> Result<(), AllocError> {
+    for (ticket, client, command, told) in rows {
+        let reply = match told {
+            Some(told) => Some(reply_of(alloc, *told)?),
+            None => None,
+        };
+        journal.push(JournalLine {
+            ticket: *ticket,
+            client: *client,
+            command: *command,
+            reply,
+        })?;
+    }
+    Ok(())
+}
+
+fn add_reads(
+    alloc: Global,
+    reads: &mut Items<ReadLine>,
+    rows: &[ReadRow],
+) -> Result<(), AllocError> {
+    for (command, place, told) in rows {
+        let reply = reply_of(alloc, *told)?;
+        reads.push(ReadLine {
+            client: 0,
+            command: *command,
+            place: *place,
+            reply,
+        })?;
+    }
+    Ok(())
+}
+
+fn add_stops(stops: &mut Items<StopLine>, rows: &[StopRow]) -> Result<(), AllocError> {
+    for (client, command, steps, kept) in rows {
+        stops.push(StopLine {
+            client: *client,
+            command: *command,
+            steps: *steps,
+            kept: *kept,
+        })?;
+    }
+    Ok(())
+}
+
+fn add_fulls(fulls: &mut Items<FullLine>, rows: &[FullRow]) -> Result<(), AllocError> {
+    for (client, command, holder, need, ticket) in rows {
+        fulls.push(FullLine {
+            client: *client,
+            command: *command,
+            note: FullNote {
+                holder: *holder,
+                need: *need,
+                ticket: *ticket,
+            },
+        })?;
+    }
+    Ok(())
+}
+
+fn reply_of(alloc: Global, told: Told) -> Result<Reply, AllocError> {
+    Ok(match told {
+        Told::New => Reply::New,
+        Told::Replaced => Reply::Replaced,
+        Told::Deleted => Reply::Deleted,
+        Told::Absent => Reply::Absent,
+        Told::Doc(document) => Reply::Doc(Bytes::of(alloc, document)?),
+        Told::Sum(sum) => Reply::Sum(sum),
+        Told::NotNumber => Reply::NotNumber,
+        Told::Overflow => Reply::Overflow,
+        Told::NoRoom => Reply::NoRoom,
+        Told::Key(key) => Reply::Key(Bytes::of(alloc, key)?),
+        Told::Number(count) => Reply::Number(count),
+    })
+}

@@ -1,0 +1,475 @@
+//! The reports of worked lives.
+
+use crate::holds::holds;
+use crate::naming::name_commands;
+use crate::records::{Lived, Told, records_of};
+use cx_base::Items;
+use doc_text::{LifeRecord, Script, read_script, report};
+use std::alloc::{AllocError, Global};
+use std::test::Fail;
+
+/// A script, its lives and their report. A life has as many clients as is told of it.
+#[derive(Clone, Copy)]
+struct Worked {
+    script: &'static [u8],
+    lives: &'static [Lived],
+    report: &'static [u8],
+}
+
+const NOTHING: Worked = Worked {
+    script: b"lines 64\n",
+    lives: &[],
+    report: b"",
+};
+
+const WRITTEN_AND_READ: Worked = Worked {
+    script: b"\
+lines 64
+life 1 power 0
+0 put a 1
+0 put a 2
+0 get a
+",
+    lives: &[Lived {
+        clients: 1,
+        from: 0,
+        journal: &[(0, 0, 1, Some(Told::New)), (1, 0, 2, Some(Told::Replaced))],
+        reads: &[(3, 2, Told::Doc(b"2"))],
+        stops: &[],
+        fulls: &[],
+        choice: 0,
+        kept: 2,
+        documents: 1,
+    }],
+    report: b"\
+life 0 clients 1 from 0
+0 0.1 put a 1 = new
+1 0.2 put a 2 = replaced
+read 0.3 at 2 get a = 2
+power 0 kept 2 of 2 documents 1
+",
+};
+
+const EMPTY_STORE: Worked = Worked {
+    script: b"\
+lines 64
+life 1 power 0
+0 get a
+",
+    lives: &[Lived {
+        clients: 1,
+        from: 0,
+        journal: &[],
+        reads: &[(1, 0, Told::Absent)],
+        stops: &[],
+        fulls: &[],
+        choice: 0,
+        kept: 0,
+        documents: 0,
+    }],
+    report: b"\
+life 0 clients 1 from 0
+read 0.1 at 0 get a = none
+power 0 kept 0 of 0 documents 0
+",
+};
+
+const END_OF_TYPE: Worked = Worked {
+    script: b"\
+lines 64
+life 1 power 0
+0 add k 9223372036854775807
+0 add k 1
+0 get k
+",
+    lives: &[Lived {
+        clients: 1,
+        from: 0,
+        journal: &[
+            (0, 0, 1, Some(Told::Sum(i64::MAX))),
+            (1, 0, 2, Some(Told::Overflow)),
+        ],
+        reads: &[(3, 2, Told::Doc(b"9223372036854775807"))],
+        stops: &[],
+        fulls: &[],
+        choice: 0,
+        kept: 2,
+        documents: 1,
+    }],
+    report: b"\
+life 0 clients 1 from 0
+0 0.1 add k 9223372036854775807 = sum 9223372036854775807
+1 0.2 add k 1 = overflow
+read 0.3 at 2 get k = 9223372036854775807
+power 0 kept 2 of 2 documents 1
+",
+};
+
+const COMPACT_TEXT: Worked = Worked {
+    script: b"\
+lines 64
+life 1 power 0
+0 put a {\"a\":[],\"b\":1}
+0 get a
+0 add a 1
+0 del a
+0 del a
+",
+    lives: &[Lived {
+        clients: 1,
+        from: 0,
+        journal: &[
+            (0, 0, 1, Some(Told::New)),
+            (1, 0, 3, Some(Told::NotNumber)),
+            (2, 0, 4, Some(Told::Deleted)),
+            (3, 0, 5, Some(Told::Absent)),
+        ],
+        reads: &[(2, 1, Told::Doc(b"{\"a\":[],\"b\":1}"))],
+        stops: &[],
+        fulls: &[],
+        choice: 0,
+        kept: 4,
+        documents: 0,
+    }],
+    report: b"\
+life 0 clients 1 from 0
+0 0.1 put a {\"a\":[],\"b\":1} = new
+1 0.3 add a 1 = notnumber
+2 0.4 del a = deleted
+3 0.5 del a = none
+read 0.2 at 1 get a = {\"a\":[],\"b\":1}
+power 0 kept 4 of 4 documents 0
+",
+};
+
+const KEYS_AND_COUNT: Worked = Worked {
+    script: b"\
+lines 64
+life 1 power 0
+0 put a 1
+0 put c 2
+0 next
+0 next a
+0 next b
+0 next c
+0 count
+",
+    lives: &[Lived {
+        clients: 1,
+        from: 0,
+        journal: &[(0, 0, 1, Some(Told::New)), (1, 0, 2, Some(Told::New))],
+        reads: &[
+            (3, 2, Told::Key(b"a")),
+            (4, 2, Told::Key(b"c")),
+            (5, 2, Told::Key(b"c")),
+            (6, 2, Told::Absent),
+            (7, 2, Told::Number(2)),
+        ],
+        stops: &[],
+        fulls: &[],
+        choice: 0,
+        kept: 2,
+        documents: 2,
+    }],
+    report: b"\
+life 0 clients 1 from 0
+0 0.1 put a 1 = new
+1 0.2 put c 2 = new
+read 0.3 at 2 next = key a
+read 0.4 at 2 next a = key c
+read 0.5 at 2 next b = key c
+read 0.6 at 2 next c = none
+read 0.7 at 2 count = count 2
+power 0 kept 2 of 2 documents 2
+",
+};
+
+const TWO_CLIENTS: Worked = Worked {
+    script: b"\
+lines 64
+life 2 power 0
+0 add n 1
+1 add n 1
+",
+    lives: &[Lived {
+        clients: 2,
+        from: 0,
+        journal: &[(0, 1, 1, Some(Told::Sum(1))), (1, 0, 1, Some(Told::Sum(2)))],
+        reads: &[],
+        stops: &[],
+        fulls: &[],
+        choice: 0,
+        kept: 2,
+        documents: 1,
+    }],
+    report: b"\
+life 0 clients 2 from 0
+0 1.1 add n 1 = sum 1
+1 0.1 add n 1 = sum 2
+power 0 kept 2 of 2 documents 1
+",
+};
+
+const TWO_LIVES: Worked = Worked {
+    script: b"\
+lines 64
+life 2 power 1
+0 put stock:apple {\"name\":\"apple\",\"price\":120}
+1 put stock:pear {\"name\":\"pear\",\"price\":95}
+0 add sold 3
+1 add sold 4
+life 1 power 0
+0 next stock:
+0 get sold
+0 count
+",
+    lives: &[
+        Lived {
+            clients: 2,
+            from: 0,
+            journal: &[
+                (0, 0, 1, Some(Told::New)),
+                (1, 1, 1, Some(Told::New)),
+                (2, 0, 2, Some(Told::Sum(3))),
+                (3, 1, 2, Some(Told::Sum(7))),
+            ],
+            reads: &[],
+            stops: &[],
+            fulls: &[],
+            choice: 1,
+            kept: 4,
+            documents: 3,
+        },
+        Lived {
+            clients: 1,
+            from: 4,
+            journal: &[],
+            reads: &[
+                (1, 4, Told::Key(b"stock:apple")),
+                (2, 4, Told::Doc(b"7")),
+                (3, 4, Told::Number(3)),
+            ],
+            stops: &[],
+            fulls: &[],
+            choice: 0,
+            kept: 0,
+            documents: 3,
+        },
+    ],
+    report: b"\
+life 0 clients 2 from 0
+0 0.1 put stock:apple {\"name\":\"apple\",\"price\":120} = new
+1 1.1 put stock:pear {\"name\":\"pear\",\"price\":95} = new
+2 0.2 add sold 3 = sum 3
+3 1.2 add sold 4 = sum 7
+power 1 kept 4 of 4 documents 3
+life 1 clients 1 from 4
+read 0.1 at 4 next stock: = key stock:apple
+read 0.2 at 4 get sold = 7
+read 0.3 at 4 count = count 3
+power 0 kept 0 of 0 documents 3
+",
+};
+
+// A command with no room, and one whose client was stopped in it. A command that names a client outside the life is
+// no one's.
+const WITHOUT_ROOM: Worked = Worked {
+    script: b"\
+lines 64
+life 2 power 0
+1 count
+0 put a 1
+0 add a -1
+",
+    lives: &[Lived {
+        clients: 1,
+        from: 0,
+        journal: &[(0, 0, 1, Some(Told::NoRoom)), (1, 0, 2, None)],
+        reads: &[],
+        stops: &[],
+        fulls: &[],
+        choice: 0,
+        kept: 2,
+        documents: 0,
+    }],
+    report: b"\
+life 0 clients 1 from 0
+0 0.1 put a 1 = noroom
+1 0.2 add a -1 = unanswered
+power 0 kept 2 of 2 documents 0
+",
+};
+
+// Two clients that were stopped: the command of one is linked and kept, that of the other is linked and lost.
+const STOPPED: Worked = Worked {
+    script: b"\
+lines 64
+life 3 power 2
+0 put a 1
+1 add a 2
+2 del a
+0 get a
+life 2 power 0
+1 put a 1
+",
+    lives: &[
+        Lived {
+            clients: 3,
+            from: 0,
+            journal: &[(0, 0, 1, Some(Told::New)), (1, 1, 1, None), (2, 2, 1, None)],
+            reads: &[(2, 1, Told::Doc(b"1"))],
+            stops: &[(1, 1, 12, true), (2, 1, 18_446_744_073_709_551_614, false)],
+            fulls: &[],
+            choice: 2,
+            kept: 2,
+            documents: 1,
+        }, // One that was stopped before its first step.
+        Lived {
+            clients: 2,
+            from: 2,
+            journal: &[],
+            reads: &[],
+            stops: &[(1, 1, 0, false)],
+            fulls: &[],
+            choice: 0,
+            kept: 0,
+            documents: 1,
+        },
+    ],
+    report: b"\
+life 0 clients 3 from 0
+0 0.1 put a 1 = new
+1 1.1 add a 2 = unanswered
+2 2.1 del a = unanswered
+read 0.2 at 1 get a = 1
+stopped 1.1 at 12 kept
+stopped 2.1 at 18446744073709551614 lost
+power 2 kept 2 of 3 documents 1
+life 1 clients 2 from 2
+stopped 1.1 at 0 lost
+power 0 kept 0 of 0 documents 1
+",
+};
+
+// A client that gave up, since one that was stopped keeps its cells.
+const GAVE_UP: Worked = Worked {
+    script: b"\
+lines 64
+life 2 power 0
+0 count
+",
+    lives: &[Lived {
+        clients: 2,
+        from: 0,
+        journal: &[],
+        reads: &[],
+        stops: &[],
+        fulls: &[(0, 17, 1, 0, 1)],
+        choice: 0,
+        kept: 0,
+        documents: 0,
+    }],
+    report: b"\
+life 0 clients 2 from 0
+full 0.17 holder 1 need 0 ticket 1
+power 0 kept 0 of 0 documents 0
+",
+};
+
+// Both, and two that gave up.
+const STOPPED_AND_GAVE_UP: Worked = Worked {
+    script: b"\
+lines 64
+life 3 power 1
+0 count
+",
+    lives: &[Lived {
+        clients: 3,
+        from: 7,
+        journal: &[],
+        reads: &[(1, 7, Told::Number(0))],
+        stops: &[(1, 2, 40, false)],
+        fulls: &[(0, 2, 1, 7, 8), (2, 1, 1, 7, 18_446_744_073_709_551_615)],
+        choice: 1,
+        kept: 0,
+        documents: 0,
+    }],
+    report: b"\
+life 0 clients 3 from 7
+read 0.1 at 7 count = count 0
+stopped 1.2 at 40 lost
+full 0.2 holder 1 need 7 ticket 8
+full 2.1 holder 1 need 7 ticket 18446744073709551615
+power 1 kept 0 of 0 documents 0
+",
+};
+
+static ROWS: [Worked; 12] = [
+    NOTHING,
+    WRITTEN_AND_READ,
+    EMPTY_STORE,
+    END_OF_TYPE,
+    COMPACT_TEXT,
+    KEYS_AND_COUNT,
+    TWO_CLIENTS,
+    TWO_LIVES,
+    WITHOUT_ROOM,
+    STOPPED,
+    GAVE_UP,
+    STOPPED_AND_GAVE_UP,
+];
+
+#[test]
+fn writes_worked_reports(rt: HostRuntime) -> Result<(), Fail> {
+    holds(&rt, first_wrong(rt.alloc(), &ROWS)?.is_none());
+    Ok(())
+}
+
+/// The first row that has another report.
+fn first_wrong(alloc: Global, rows: &[Worked]) -> Result<Option<usize>, AllocError> {
+    for (i, row) in rows.iter().enumerate() {
+        let records = records_of(alloc, row.lives)?;
+        if !is_reported(alloc, row.script, &records, row.report)? {
+            return Ok(Some(i));
+        }
+    }
+    Ok(None)
+}
+
+/// Whether a script with these records has this report.
+fn is_reported(
+    alloc: Global,
+    script: &[u8],
+    records: &[LifeRecord],
+    text: &[u8],
+) -> Result<bool, AllocError> {
+    match read_script(alloc, script) {
+        Ok(script) => has_report(alloc, &with_clients(script, records), records, text),
+        Err(_) => Ok(false),
+    }
+}
+
+/// The script, with as many clients in each life as its record tells.
+fn with_clients(script: Script, records: &[LifeRecord]) -> Script {
+    let mut lives = script.lives.into_vec();
+    for (life, told) in lives.iter_mut().zip(records) {
+        life.clients = told.clients;
+    }
+    Script {
+        lines: script.lines,
+        lives: Items::of(lives),
+    }
+}
+
+fn has_report(
+    alloc: Global,
+    script: &Script,
+    records: &[LifeRecord],
+    text: &[u8],
+) -> Result<bool, AllocError> {
+    if !name_commands(script.lives.as_slice(), records) {
+        return Ok(false);
+    }
+    let written = report(alloc, script, records)?;
+    Ok(written.as_slice() == text)
+}

@@ -1,0 +1,78 @@
+//! The lines on a life, written out.
+
+use crate::holds::holds;
+use cx_base::{Bytes, Items};
+use doc_model::Pair;
+use doc_text::{LifeRecord, summary};
+use std::alloc::{AllocError, Global};
+use std::test::Fail;
+
+/// The documents of the pairs that a life left, and its lines.
+type Row = (&'static [&'static [u8]], &'static [u8]);
+
+const ROWS: [Row; 4] = [
+    (&[], b"clients 5\nupdates 0\ndocuments 0\nsum 0\n"),
+    (
+        &[b"3", b"{}", b"\"4\"", b"-10"],
+        b"clients 5\nupdates 0\ndocuments 4\nsum -7\n",
+    ),
+    (
+        &[b"9223372036854775807", b"9223372036854775807"],
+        b"clients 5\nupdates 0\ndocuments 2\nsum 18446744073709551614\n",
+    ),
+    (
+        &[b"-9223372036854775808", b"-9223372036854775808", b"00"],
+        b"clients 5\nupdates 0\ndocuments 3\nsum -18446744073709551616\n",
+    ),
+];
+
+#[test]
+fn documents_that_are_integers_are_summed(rt: HostRuntime) -> Result<(), Fail> {
+    holds(&rt, first_wrong(rt.alloc(), &ROWS)?.is_none());
+    Ok(())
+}
+
+/// The first row whose documents have other lines.
+fn first_wrong(alloc: Global, rows: &[Row]) -> Result<Option<usize>, AllocError> {
+    for (i, (documents, lines)) in rows.iter().enumerate() {
+        let pairs = pairs_of(alloc, documents)?;
+        if !has_lines(alloc, &pairs, lines)? {
+            return Ok(Some(i));
+        }
+    }
+    Ok(None)
+}
+
+/// Whether a life that left these pairs has these lines.
+fn has_lines(alloc: Global, pairs: &[Pair], lines: &[u8]) -> Result<bool, AllocError> {
+    let told = LifeRecord {
+        clients: 5,
+        from: 1,
+        journal: Items::new(alloc),
+        reads: Items::new(alloc),
+        stops: Items::new(alloc),
+        fulls: Items::new(alloc),
+        choice: 2,
+        kept: 3,
+        documents: 4,
+    };
+    match summary(alloc, &told, pairs) {
+        Ok(text) => Ok(text.as_slice() == lines),
+        Err(AllocError) => Err(AllocError),
+    }
+}
+
+/// Pairs with these documents.
+fn pairs_of(alloc: Global, documents: &[&[u8]]) -> Result<Vec<Pair>, AllocError> {
+    let mut pairs = Vec::new(alloc);
+    for document in documents {
+        pairs.push(pair_of(alloc, document)?)?;
+    }
+    Ok(pairs)
+}
+
+fn pair_of(alloc: Global, document: &[u8]) -> Result<Pair, AllocError> {
+    let key = Bytes::of(alloc, b"k")?;
+    let doc = Bytes::of(alloc, document)?;
+    Ok(Pair { key, doc })
+}
