@@ -10,6 +10,8 @@ mod copying;
 #[cfg(test)]
 mod flush_tests;
 #[cfg(test)]
+mod holds;
+#[cfg(test)]
 mod limit_tests;
 #[cfg(test)]
 mod linking;
