@@ -40,13 +40,13 @@ pub(crate) fn made(
     }
 }
 
-// The items of a list of two.
-fn two(mut seats: Vec<CallerSeat>) -> Option<(CallerSeat, CallerSeat)>
-    ensures { IfSome result (λ r. seats.items ≡ r.0 ∷ r.1 ∷ []) }
+/// The items of a list of two.
+pub(crate) fn two<T: Drop>(mut items: Vec<T>) -> Option<(T, T)>
+    ensures { IfSome result (λ r. items.items ≡ r.0 ∷ r.1 ∷ []) }
 {
-    let second = seats.pop()?;
-    let first = seats.pop()?;
-    if seats.is_empty() {
+    let second = items.pop()?;
+    let first = items.pop()?;
+    if items.is_empty() {
         Some((first, second))
     } else {
         None
@@ -104,9 +104,13 @@ fn announced_twice(
     if let Err(halt) = announce(shared, &mut seat, 0, one) {
         return (seat, Err(halt));
     }
-    let done = announce(shared, &mut seat, 0, other);
-    let steps = seat.steps();
-    (seat, done.map(|_| steps))
+    match announce(shared, &mut seat, 0, other) {
+        Ok(()) => {
+            let steps = seat.steps();
+            (seat, Ok(steps))
+        }
+        Err(halt) => (seat, Err(halt)),
+    }
 }
 
 // Closes a table of two callers.
@@ -120,7 +124,10 @@ fn closed(
     ensures merged { IfOk result (λ r. IsHistory shared.base.place r.trail.history (locals_of (first ∷ second ∷ []))) }
 {
     let seats = vec![in alloc; first, second]?;
-    shared.gather(alloc, seats).map_err(|_| AllocError)
+    match shared.gather(alloc, seats) {
+        Ok(remains) => Ok(remains),
+        Err(_) => Err(AllocError),
+    }
 }
 
 // An operation, and the ticket with which its entry is linked.

@@ -8,8 +8,8 @@ ghost use Rattle.replica.specs.Held.{IsSized};
 ghost use Rattle.replica.specs.Tests.{GivenBack, IsNew};
 
 use crate::holds::holds;
-use crate::replaying::{adds, renew};
-use crate::tables::{NO_LIMIT, closed, made, update};
+use crate::replaying::{adds, renew, update};
+use crate::tables::{NO_LIMIT, closed, made};
 use cx_base::tally::Tally;
 use cx_base::{Halt, Object, root_place};
 use cx_core::Base;

@@ -1,8 +1,7 @@
 //! A replica is taken, replayed with linked entries, made durable and given up.
 
-ghost use Rattle.std.specs.Prelude.{◌≡◌, ◌+◌, ◌*◌, [], ◌∷◌, ◌≤◌, ◌<◌, IfOk, IfSome, OnOk, length};
+ghost use Rattle.std.specs.Prelude.{◌≡◌, ◌+◌, ◌*◌, ◌∷◌, ◌≤◌, ◌<◌, IfOk, IfSome, OnOk, length};
 ghost use Rattle.cx_base.specs.Memory.{Words};
-ghost use Rattle.cx_core.specs.Base.{LawfulBase};
 ghost use Rattle.cx_core.specs.declared.local.Protection.TheVariants.{Confirmed, Unprotected};
 ghost use Rattle.cx_core.specs.Region.{region_words};
 ghost use Rattle.cx_core.specs.RingEvents.{Protects};
@@ -16,15 +15,31 @@ ghost use Rattle.replica.specs.Replays.{IsImage, noted_place};
 ghost use Rattle.replica.specs.Tests.{IsFree, IsNew, IsReady, Keeps, KnowsLinked};
 
 use crate::holds::holds;
-use crate::tables::{NO_LIMIT, made, take, update};
+use crate::tables::{NO_LIMIT, made};
 use cx_base::tally::Tally;
 use cx_base::{Halt, Memory, Object};
 use cx_core::{Base, Entry};
 use cx_table::{CallerSeat, Downgraded, Exclusive, Shared, SharedHold};
-use mutation_queue::{LinkTried, Protected, entry, protect, unprotect};
+use mutation_queue::{LinkTried, Protected, announce, entry, link, protect, unprotect};
 use replica::{ReadRegion, Region, begin, flush, outcome, place, replay_one};
 use std::alloc::{AllocError, Global};
 use std::test::Fail;
+
+// Takes a replica, if nobody holds it.
+fn take<O: Object>(
+    shared: &Shared<O>,
+    seat: &mut CallerSeat,
+    r: u64,
+) -> Result<Option<Exclusive>, Halt>
+    requires free { IsFree shared.now seat.old }
+    requires sized { IsSized (O.line_count shared.now.object) shared.now }
+    requires few { r < 2 * shared.now.callers }
+    ensures taken { IfOk result (λ o. IfSome o (λ held. IsTaken (O.line_count shared.now.object) shared.now (O.lawful shared.now.object) seat.new held)) }
+    ensures keeps { IfOk result (λ o. IfSome o (λ _. Keeps seat.old seat.new)) }
+{
+    let (_, right) = shared.try_exclusive(seat, r)?;
+    Ok(right)
+}
 
 // The entry of a caller, of these words.
 fn entry_of(caller: u32, words: &[u64; 145]) -> Entry
@@ -159,6 +174,20 @@ pub(crate) fn renew<O: Object>(
     Ok(Some(token))
 }
 
+// A caller without entries announces an operation in its cell 0 and tries to link it.
+pub(crate) fn update<O: Object>(
+    shared: &Shared<O>,
+    seat: &mut CallerSeat,
+    op: &[u64; 144],
+) -> Result<LinkTried, Halt>
+    requires { IsNew shared.now seat.old }
+    ensures free { OnOk result (IsFree shared.now seat.new) }
+    ensures linked { IfOk result (KnowsLinked seat.new) }
+{
+    announce(shared, seat, 0, op)?;
+    link(shared, seat, 0, 4)
+}
+
 // What a caller sees of a replica: its place, the number and the reply of caller 0, and its first two words.
 #[derive(Drop)]
 struct Seen {
@@ -276,7 +305,7 @@ fn update_and_renew<O: Object>(
     match update(shared, seat, op) {
         Ok(LinkTried::Linked { ticket: _ }) => {
             let end = seat.front();
-            renew(shared, seat, r, end).is_ok_and(|token| token.is_some())
+            matches!(renew(shared, seat, r, end), Ok(Some(_)))
         }
         Ok(_) | Err(_) => false,
     }

@@ -34,11 +34,11 @@ fn made(alloc: Global, limit: u64) -> Result<(Shared<Tally>, CallerSeat), AllocE
 }
 
 // The item of a list of one.
-fn only(mut seats: Vec<CallerSeat>) -> Option<CallerSeat>
-    ensures { IfSome result (λ s. seats.items ≡ s ∷ []) }
+fn only<T: Drop>(mut items: Vec<T>) -> Option<T>
+    ensures { IfSome result (λ x. items.items ≡ x ∷ []) }
 {
-    let seat = seats.pop()?;
-    if seats.is_empty() { Some(seat) } else { None }
+    let item = items.pop()?;
+    if items.is_empty() { Some(item) } else { None }
 }
 
 // Stores a word of the replica held.

@@ -1,11 +1,12 @@
 //! Exact lock words, two callers in each outcome, and each limit of steps of a shared try that is refused.
 
-ghost use Rattle.std.specs.Prelude.{◌≡◌, ◌≢◌, ◌*◌, ◌<◌, [], ◌∷◌, IfOk, IfSome, OnOk, length};
+ghost use Rattle.std.specs.Prelude.{◌≡◌, ◌≢◌, ◌*◌, ◌<◌, IfOk, IfSome, OnOk, length};
 ghost use Rattle.cx_base.specs.Tally.{IsTally};
 ghost use Rattle.cx_core.specs.Base.{LawfulBase};
 ghost use Rattle.strong_trylock.specs.Tests.{ArePair, HoldsDowngraded, IsFreeIn};
 
 use crate::holds::holds;
+use crate::linking::{NO_LIMIT, two};
 use cx_base::Halt;
 use cx_base::tally::Tally;
 use cx_core::Base;
@@ -16,8 +17,6 @@ use strong_trylock::{
     ExclusiveTried, SharedTried, downgrade, release, release_downgraded, release_shared,
     try_exclusive, try_shared,
 };
-
-const NO_LIMIT: u64 = u64::MAX;
 
 // A table of two callers without rights, and their seats.
 fn made(
@@ -31,19 +30,6 @@ fn made(
     match two(seats) {
         Some((first, second)) => Ok((shared, first, second)),
         None => Err(AllocError),
-    }
-}
-
-// The items of a list of two.
-fn two(mut seats: Vec<CallerSeat>) -> Option<(CallerSeat, CallerSeat)>
-    ensures { IfSome result (λ r. seats.items ≡ r.0 ∷ r.1 ∷ []) }
-{
-    let second = seats.pop()?;
-    let first = seats.pop()?;
-    if seats.is_empty() {
-        Some((first, second))
-    } else {
-        None
     }
 }
 
