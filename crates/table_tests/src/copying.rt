@@ -103,7 +103,7 @@ fn store_beside(
 ) -> Result<(), Halt>
     requires both { HoldsBoth 64 shared.now IsTally seat.old held.now source.now }
     requires at { at < 1680 }
-    ensures both { HoldsBoth 64 shared.now IsTally seat.new held.now source.now }
+    ensures { HoldsBoth 64 shared.now IsTally seat.new held.now source.now }
 {
     let _ = source;
     shared.store_word(seat, held.replica() as u64, at, OTHER)
