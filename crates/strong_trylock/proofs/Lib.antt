@@ -1,2 +1,1 @@
 mod Backing
-mod Replays

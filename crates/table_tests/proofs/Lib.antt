@@ -1,1 +1,4 @@
+mod OneOfEach
+mod Replays
 mod Rights
+mod Updates

@@ -1,30 +1,29 @@
 //! A replica is copied over another.
 
-ghost use Rattle.std.specs.Prelude.{◌≡◌, ◌≤◌, IfOk, IfSome};
+ghost use Rattle.std.specs.Prelude.{◌≡◌, ◌<◌, ◌≤◌, IfOk, IfSome};
 ghost use Rattle.cx_base.specs.Tally.{IsTally};
-ghost use Rattle.cx_core.specs.Base.{LawfulBase};
 ghost use Rattle.cx_core.specs.LockEvents.{CanTryShared};
 ghost use Rattle.replica.specs.Copies.{HoldsBoth};
 ghost use Rattle.replica.specs.Held.{IsHeld, IsSized};
 ghost use Rattle.replica.specs.Tests.{IsFree};
 
-
-use replica::{copy_from, flush, renew_from};
+use crate::holds::holds;
 use cx_base::Halt;
 use cx_base::tally::Tally;
 use cx_core::Base;
 use cx_table::{CallerSeat, Exclusive, Shared, SharedHold};
+use replica::{copy_from, flush, renew_from};
 use std::alloc::{AllocError, Global};
 use std::test::Fail;
 
 // A table of two callers, and the seat of the first.
-fn made(alloc: Global, base: &Base) -> Result<(Shared<Tally>, CallerSeat), AllocError>
-    requires { LawfulBase 64 IsTally base.now }
+fn made(alloc: Global) -> Result<(Shared<Tally>, CallerSeat), AllocError>
     ensures callers { IfOk result (λ r. r.0.callers ≡ 2) }
     ensures sized { IfOk result (λ r. IsSized 64 r.0) }
     ensures free { IfOk result (λ r. IsFree r.0 r.1) }
 {
-    let (shared, mut seats) = Shared::make(alloc, Tally, 2, &[u64::MAX, u64::MAX], base)?;
+    let base = Base::fresh(alloc, &Tally)?;
+    let (shared, mut seats) = Shared::make(alloc, Tally, 2, &[u64::MAX, u64::MAX], &base)?;
     let _second = seats.pop();
     match seats.pop() {
         Some(seat) => Ok((shared, seat)),
@@ -66,36 +65,52 @@ fn share_beside(
     Ok(right.ok())
 }
 
-// A copy in the opening state: both replicas are at place 0, and no word differs, so none is stored. Each word is loaded twice.
-#[test]
-fn copied_at_opening(rt: HostRuntime) -> Result<(), Fail> {
-    let alloc = rt.alloc();
-    let base = Base::fresh(alloc, &Tally)?;
-    let (shared, mut seat) = made(alloc, &base)?;
-    let Ok(Some((held, source))) = hold_both(&shared, &mut seat) else {
-        panic!(rt; "a replica is held");
-    };
-    let Ok(place) = copy_from(&shared, &mut seat, &held, &source) else {
-        panic!(rt; "halted");
-    };
-    assert_eq!(rt; place, 0);
-    assert_eq!(rt; seat.steps(), 2 + 2 * 1680);
-    let Ok(again) = renew_from(&shared, &mut seat, &held, source) else {
-        panic!(rt; "halted");
-    };
-    assert_eq!(rt; again, 0);
-    assert_eq!(rt; seat.steps(), 2 + 4 * 1680 + 1);
+// Whether no word of the replica held exclusively is dirty.
+fn is_clean(seat: &CallerSeat) -> bool
+    requires { seat.now.region ≡ 1680 }
+{
     for at in 0..1680 {
-        assert!(rt; !seat.is_dirty(at));
+        if seat.is_dirty(at) {
+            return false;
+        }
     }
-    Ok(())
+    true
+}
+
+// Whether a copy in the opening state stores no word: both replicas are at place 0, and no word differs. Each word is loaded twice.
+fn is_copied_at_opening(alloc: Global) -> Result<bool, AllocError> {
+    let (shared, mut seat) = made(alloc)?;
+    let Ok(Some((held, source))) = hold_both(&shared, &mut seat) else {
+        return Ok(false);
+    };
+    let is_copied = copy_from(&shared, &mut seat, &held, &source) == Ok(0)
+        && seat.steps() == 2 + 2 * 1680;
+    let is_renewed = renew_from(&shared, &mut seat, &held, source) == Ok(0)
+        && seat.steps() == 2 + 4 * 1680 + 1;
+    Ok(is_copied && is_renewed && is_clean(&seat))
 }
 
 // A word that no region has when a table is made.
 const OTHER: u64 = 1 << 40;
 
-// Stores that word over so many words of the replica held exclusively, from one on, and copies the other replica over it. It
-// gives the place, and the steps of the copy.
+// Stores a word of the replica held exclusively.
+fn store_beside(
+    shared: &Shared<Tally>,
+    seat: &mut CallerSeat,
+    held: &Exclusive,
+    source: &SharedHold,
+    at: u64,
+) -> Result<(), Halt>
+    requires both { HoldsBoth 64 shared.now IsTally seat.old held.now source.now }
+    requires at { at < 1680 }
+    ensures { HoldsBoth 64 shared.now IsTally seat.new held.now source.now }
+{
+    let _ = source;
+    shared.store_word(seat, held.replica() as u64, at, OTHER)
+}
+
+// Stores that word over the words of the replica held exclusively from one on up to another, copies the other replica over it, and
+// makes what was stored durable. It gives the place, the steps of the copy, and those of the flush.
 fn copy_over(
     shared: &Shared<Tally>,
     seat: &mut CallerSeat,
@@ -103,64 +118,66 @@ fn copy_over(
     source: &SharedHold,
     from: u64,
     to: u64,
-) -> Result<(u64, u64), Halt>
+) -> Result<[u64; 3], Halt>
     requires both { HoldsBoth 64 shared.now IsTally seat.old held.now source.now }
     requires to { to ≤ 1680 }
-    ensures both { HoldsBoth 64 shared.now IsTally seat.new held.now source.now }
 {
     for at in from..to {
-        store_copied(shared, seat, held, source, at, OTHER)?;
+        store_beside(shared, seat, held, source, at)?;
     }
     let before = seat.steps();
     let place = copy_from(shared, seat, held, source)?;
-    Ok((place, seat.steps().saturating_sub(before)))
+    let between = seat.steps();
+    flush(shared, seat, held)?;
+    let after = seat.steps();
+    Ok([
+        place,
+        between.saturating_sub(before),
+        after.saturating_sub(between),
+    ])
 }
 
-// Copies over a replica of which so many words from one on differ, and makes what was stored durable: the place, the steps of the copy,
-// and those of the flush. Then no word is dirty.
-fn copy_and_flush(alloc: Global, from: u64, to: u64) -> Result<Option<[u64; 3]>, AllocError>
-    requires to { to ≤ 1680 }
+// The words of a replica that differ from the other: none, one, a line and all, and as many as a seat lists, one fewer and one more,
+// and twice as many. Each is persisted once.
+const DIFFERING: [(u64, u64); 10] = [
+    (0, 0),
+    (0, 1),
+    (1679, 1680),
+    (800, 808),
+    (0, 1680),
+    (1680 - 511, 1680),
+    (1680 - 512, 1680),
+    (1680 - 513, 1680),
+    (1680 - 1024, 1680),
+    (1680 - 1025, 1680),
+];
+
+// Whether a copy over a replica of which these words differ stores these, and a flush persists each once.
+fn is_copied_over(alloc: Global, from: u64, to: u64) -> Result<bool, AllocError>
+    requires { to ≤ 1680 }
 {
-    let base = Base::fresh(alloc, &Tally)?;
-    let (shared, mut seat) = made(alloc, &base)?;
+    let (shared, mut seat) = made(alloc)?;
     let Ok(Some((held, source))) = hold_both(&shared, &mut seat) else {
-        return Ok(None);
+        return Ok(false);
     };
-    let Ok((place, copy)) = copy_over(&shared, &mut seat, &held, &source, from, to) else {
-        return Ok(None);
-    };
-    let before = seat.steps();
-    if flush(&shared, &mut seat, &held).is_err() {
-        return Ok(None);
-    }
-    let flushed = seat.steps().saturating_sub(before);
-    Ok(Some([place, copy, flushed]))
+    let count = to.saturating_sub(from);
+    let want = [0, count.saturating_add(2 * 1680), count];
+    Ok(copy_over(&shared, &mut seat, &held, &source, from, to) == Ok(want))
 }
 
-// Regions that differ in no word, in one, in a line, and in all.
+// The first row that is copied otherwise.
+fn first_wrong_copy(alloc: Global) -> Result<Option<usize>, AllocError> {
+    for (i, (from, to)) in DIFFERING.iter().enumerate() {
+        if *to > 1680 || !is_copied_over(alloc, *from, *to)? {
+            return Ok(Some(i));
+        }
+    }
+    Ok(None)
+}
+
 #[test]
 fn copies_store_what_differs(rt: HostRuntime) -> Result<(), Fail> {
-    let alloc = rt.alloc();
-    let whole = 2 * 1680;
-    assert_eq!(rt; copy_and_flush(alloc, 0, 0)?, Some([0, whole, 0]));
-    assert_eq!(rt; copy_and_flush(alloc, 0, 1)?, Some([0, whole + 1, 1]));
-    assert_eq!(rt; copy_and_flush(alloc, 1679, 1680)?, Some([0, whole + 1, 1]));
-    assert_eq!(rt; copy_and_flush(alloc, 800, 808)?, Some([0, whole + 8, 8]));
-    assert_eq!(rt;
-        copy_and_flush(alloc, 0, 1680)?,
-        Some([0, whole + 1680, 1680])
-    );
-    Ok(())
-}
-
-// As many words as a seat lists, one fewer and one more, and twice as many.
-#[test]
-fn flushes_persist_each_word_once(rt: HostRuntime) -> Result<(), Fail> {
-    for count in [511, 512, 513, 1024, 1025] {
-        assert_eq!(rt;
-            copy_and_flush(rt.alloc(), 1680 - count, 1680)?,
-            Some([0, 2 * 1680 + count, count])
-        );
-    }
+    holds(&rt, is_copied_at_opening(rt.alloc())?);
+    holds(&rt, first_wrong_copy(rt.alloc())?.is_none());
     Ok(())
 }

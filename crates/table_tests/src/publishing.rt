@@ -4,15 +4,16 @@ ghost use Rattle.std.specs.Prelude.{◌≡◌, ◌*◌, ◌<◌, ◌≤◌, IfOk
 ghost use Rattle.cx_core.specs.RootEvents.{CanPublish};
 ghost use Rattle.cx_rule.specs.Running.{IsSeatOf};
 ghost use Rattle.cx_table.specs.Tokens.{IsDowngradedOf};
-ghost use Rattle.mutation_queue.specs.Tests.{IsPairOf};
 ghost use Rattle.replica.specs.Held.{IsSized};
 ghost use Rattle.replica.specs.Tests.{GivenBack, IsNew};
 
-use crate::replaying::{NO_LIMIT, adds, made, renew, update};
+use crate::holds::holds;
+use crate::replaying::{adds, renew, update};
+use crate::tables::{NO_LIMIT, closed, made};
 use cx_base::tally::Tally;
 use cx_base::{Halt, Object, root_place};
 use cx_core::Base;
-use cx_table::{CallerSeat, Downgraded, Remains, Shared, Won};
+use cx_table::{CallerSeat, Downgraded, Shared, Won};
 use mutation_queue::LinkTried;
 use std::alloc::{AllocError, Global};
 use std::test::Fail;
@@ -76,60 +77,70 @@ fn link_and_renew<O: Object>(
     }
 }
 
-// Whether two seats are of callers 0 and 1, and there are no others.
-fn are_pair<O: Object>(shared: &Shared<O>, first: &CallerSeat, second: &CallerSeat) -> bool
-    requires first { IsSeatOf shared.now first.now }
-    requires second { IsSeatOf shared.now second.now }
-    ensures { IsTrue result → IsPairOf shared.now first.now second.now }
-{
-    shared.callers() == 2 && first.number() == 0 && second.number() == 1
+// Whether a win is of this code, over this one, and of this caller.
+fn is_won(won: &Won, code: u64, old: u64, caller: u32) -> bool {
+    won.code() == code && won.old() == old && won.caller() == caller
 }
 
-// Closes a table of two callers.
-fn closed<O: Object>(
-    alloc: Global,
-    shared: Shared<O>,
-    first: CallerSeat,
-    second: CallerSeat,
-) -> Result<Option<Remains>, AllocError>
-    requires first { IsSeatOf shared first }
-    requires second { IsSeatOf shared second }
+// Whether the first caller publishes replica 1 over the opening code, with this code.
+fn first_publishes<O: Object>(shared: &Shared<O>, seat: &mut CallerSeat) -> Option<bool>
+    requires new { IsNew shared.now seat.old }
+    requires sized { IsSized (O.line_count shared.now.object) shared.now }
+    requires callers { shared.now.callers ≡ 2 }
+    requires base { shared.now.base.place ≡ 0 }
+    ensures seat { IfSome result (λ _. IsSeatOf shared.now seat.new) }
 {
-    if !are_pair(&shared, &first, &second) {
-        return Ok(None);
+    let Ok(Some(held)) = link_and_renew(shared, seat, &adds(5), 1) else {
+        return None;
+    };
+    let is_opening = shared.load_cur(seat) == Ok(0);
+    match publish(shared, seat, held) {
+        Ok(Some((0, Ok(won)))) => Some(is_opening && is_won(&won, 5, 0, 0)),
+        _ => None,
     }
-    let seats = vec![in alloc; first, second]?;
-    Ok(shared.gather(alloc, seats).ok())
 }
 
-// Two callers publish one after another. The second first expects the opening code, and is told the first one's. The closing
-// hands out the codes of both, since neither retired its win.
-#[test]
-fn published_codes_are_handed_out(rt: HostRuntime) -> Result<(), Fail> {
-    let alloc = rt.alloc();
+// Whether the second caller is told that code where it publishes replica 3 over the opening one, and then publishes it.
+fn second_publishes<O: Object>(shared: &Shared<O>, seat: &mut CallerSeat) -> Option<bool>
+    requires new { IsNew shared.now seat.old }
+    requires sized { IsSized (O.line_count shared.now.object) shared.now }
+    requires callers { shared.now.callers ≡ 2 }
+    requires base { shared.now.base.place ≡ 0 }
+    ensures seat { IfSome result (λ _. IsSeatOf shared.now seat.new) }
+{
+    let Ok(Some(held)) = link_and_renew(shared, seat, &adds(6), 3) else {
+        return None;
+    };
+    let Ok(Some((5, Err(held)))) = publish(shared, seat, held) else {
+        return None;
+    };
+    match publish(shared, seat, held) {
+        Ok(Some((5, Ok(won)))) => Some(is_won(&won, 11, 5, 1)),
+        _ => None,
+    }
+}
+
+// Whether two callers publish one after another. The second first expects the opening code, and is told the first one's. The
+// closing hands out the codes of both, since neither retired its win.
+fn are_handed_out(alloc: Global) -> Result<bool, AllocError> {
     let base = Base::fresh(alloc, &Tally)?;
     let (shared, mut first, mut second) = made(alloc, Tally, &[NO_LIMIT, NO_LIMIT], &base)?;
-    let Ok(Some(held)) = link_and_renew(&shared, &mut first, &adds(5), 1) else {
-        panic!(rt; "replica 1 was not renewed");
+    let Some(is_first) = first_publishes(&shared, &mut first) else {
+        return Ok(false);
     };
-    assert!(rt; shared.load_cur(&mut first) == Ok(0));
-    let Ok(Some((0, Ok(won)))) = publish(&shared, &mut first, held) else {
-        panic!(rt; "replica 1 was not published");
+    let Some(is_second) = second_publishes(&shared, &mut second) else {
+        return Ok(false);
     };
-    assert_eq!(rt; (won.code(), won.old(), won.caller()), (5, 0, 0));
-    let Ok(Some(held)) = link_and_renew(&shared, &mut second, &adds(6), 3) else {
-        panic!(rt; "replica 3 was not renewed");
-    };
-    let Ok(Some((5, Err(held)))) = publish(&shared, &mut second, held) else {
-        panic!(rt; "replica 3 was published over a code that was not there");
-    };
-    let Ok(Some((5, Ok(won)))) = publish(&shared, &mut second, held) else {
-        panic!(rt; "replica 3 was not published");
-    };
-    assert_eq!(rt; (won.code(), won.old(), won.caller()), (11, 5, 1));
-    let Some(left) = closed(alloc, shared, first, second)? else {
-        panic!(rt; "no memory");
-    };
-    assert!(rt; left.published.as_slice() == [0, 5, 11].as_slice());
+    match closed(alloc, shared, first, second)? {
+        Some(left) => Ok(
+            is_first && is_second && left.published.as_slice() == [0, 5, 11].as_slice(),
+        ),
+        None => Ok(false),
+    }
+}
+
+#[test]
+fn published_codes_are_handed_out(rt: HostRuntime) -> Result<(), Fail> {
+    holds(&rt, are_handed_out(rt.alloc())?);
     Ok(())
 }

@@ -4,12 +4,14 @@ ghost use Rattle.std.specs.Prelude.{◌≡◌, ◌*◌, ◌<◌, ◌≤◌, OnEr
 ghost use Rattle.cx_core.specs.declared.local.Protection.TheVariants.{Confirmed};
 ghost use Rattle.cx_table.specs.Running.{IsSeatOf};
 
-use crate::linking::{NO_LIMIT, made, update};
-use mutation_queue::{LinkTried, Protected, entry, protect, unprotect};
+use crate::holds::holds;
+use crate::linking::{NO_LIMIT, is_linked, made, update};
 use cx_base::Halt;
 use cx_base::tally::Tally;
-use cx_core::{Base, Protection};
+use cx_core::Protection;
 use cx_table::{CallerSeat, Shared};
+use mutation_queue::{Protected, entry, protect, unprotect};
+use std::alloc::{AllocError, Global};
 use std::test::Fail;
 
 // Protects the tickets from one on, reads its entry and gives the protection up, if the caller knows it to be linked and protects
@@ -55,61 +57,86 @@ fn read_kept(
     Ok(caller)
 }
 
-// Looks at a slot of a table of two callers.
-fn look(shared: &Shared<Tally>, seat: &mut CallerSeat, slot: u64) -> Result<u64, Halt>
+// Whether words are those of an entry with this number, whose operation is one word again and again.
+fn is_entry(words: &[u64; 145], number: u64, word: u64) -> bool {
+    let mut wanted = [word; 145];
+    wanted[0] = number;
+    *words == wanted
+}
+
+// Whether a caller reads the first entry of a caller with a ticket, whose operation is one word again and again.
+fn reads(shared: &Shared<Tally>, seat: &mut CallerSeat, ticket: u64, caller: u32, word: u64) -> bool
     requires seat { IsSeatOf shared.now seat.old }
-    requires slot { slot < 16 * shared.now.callers }
+    requires later { shared.now.base.place ≤ ticket }
     ensures seat { IsSeatOf shared.now seat.new }
 {
-    shared.look(seat, slot)
+    let mut into = [0; 145];
+    match read(shared, seat, ticket, &mut into) {
+        Some(Ok(of)) => of == caller && is_entry(&into, 1, word),
+        _ => false,
+    }
 }
 
-// The words of an entry with this number, whose operation is one word again and again.
-fn entry_of(number: u64, word: u64) -> [u64; 145] {
-    let mut words = [word; 145];
-    words[0] = number;
-    words
+// Whether a caller does not know that a ticket is linked until it looks at the slot, and then reads its entry.
+fn reads_once_seen(
+    shared: &Shared<Tally>,
+    seat: &mut CallerSeat,
+    ticket: u64,
+    caller: u32,
+    word: u64,
+) -> bool
+    requires seat { IsSeatOf shared.now seat.old }
+    requires later { shared.now.base.place ≤ ticket }
+    requires slot { ticket < 16 * shared.now.callers }
+    ensures seat { IsSeatOf shared.now seat.new }
+{
+    let mut into = [0; 145];
+    if read(shared, seat, ticket, &mut into).is_some() {
+        return false;
+    }
+    shared.look(seat, ticket).is_ok() && reads(shared, seat, ticket, caller, word)
 }
 
-#[test]
-fn each_reads_both_entries(rt: HostRuntime) -> Result<(), Fail> {
-    let alloc = rt.alloc();
-    let base = Base::fresh(alloc, &Tally)?;
-    let (shared, first, second) = made(alloc, &[NO_LIMIT, NO_LIMIT], &base)?;
+// Whether two callers that linked one after the other read both entries.
+fn both_read(alloc: Global) -> Result<bool, AllocError> {
+    let (shared, first, second) = made(alloc, 0, &[NO_LIMIT, NO_LIMIT])?;
     let (mut first, one) = update(&shared, first, &[5; 144], 2);
     let (mut second, other) = update(&shared, second, &[7; 144], 2);
-    assert!(rt; one == Ok(LinkTried::Linked { ticket: 0 }));
-    assert!(rt; other == Ok(LinkTried::Linked { ticket: 1 }));
+    let by_second = reads(&shared, &mut second, 0, 0, 5) && reads(&shared, &mut second, 1, 1, 7);
+    let by_first = reads_once_seen(&shared, &mut first, 1, 1, 7)
+        && reads(&shared, &mut first, 0, 0, 5);
+    Ok(is_linked(one, 0) && is_linked(other, 1) && by_second && by_first)
+}
+
+// 147 steps link an entry, 2 protect it, 146 read it, and 1 gives the protection up.
+const LIMITS: [u64; 7] = [147, 148, 149, 150, 200, 295, 296];
+
+// Whether a caller with a limit of steps that reads its entry stops there, or reads it.
+fn stops_at(alloc: Global, limit: u64) -> Result<bool, AllocError> {
+    let (shared, first, _second) = made(alloc, 0, &[limit, NO_LIMIT])?;
+    let (mut first, _) = update(&shared, first, &[5; 144], 2);
     let mut into = [0; 145];
-    assert!(rt; read(&shared, &mut second, 0, &mut into) == Some(Ok(0)));
-    assert!(rt; into == entry_of(1, 5));
-    assert!(rt; read(&shared, &mut second, 1, &mut into) == Some(Ok(1)));
-    assert!(rt; into == entry_of(1, 7));
-    // the first caller does not know that the second ticket is linked until it looks at its slot
-    assert!(rt; read(&shared, &mut first, 1, &mut into).is_none());
-    assert!(rt; look(&shared, &mut first, 1).is_ok());
-    assert!(rt; read(&shared, &mut first, 1, &mut into) == Some(Ok(1)));
-    assert!(rt; into == entry_of(1, 7));
-    assert!(rt; read(&shared, &mut first, 0, &mut into) == Some(Ok(0)));
-    assert!(rt; into == entry_of(1, 5));
-    Ok(())
+    let is_read = match read(&shared, &mut first, 0, &mut into) {
+        Some(Ok(of)) => limit >= 296 && of == 0,
+        Some(Err(Halt)) => limit < 296,
+        None => false,
+    };
+    Ok(is_read && first.steps() == limit)
+}
+
+// The first of the limits at which a caller does otherwise.
+fn first_wrong_limit(alloc: Global) -> Result<Option<u64>, AllocError> {
+    for limit in LIMITS {
+        if !stops_at(alloc, limit)? {
+            return Ok(Some(limit));
+        }
+    }
+    Ok(None)
 }
 
 #[test]
-fn a_reading_halts_at_each_limit(rt: HostRuntime) -> Result<(), Fail> {
-    let alloc = rt.alloc();
-    let base = Base::fresh(alloc, &Tally)?;
-    // 147 steps link an entry, 2 protect it, 146 read it, and 1 gives the protection up
-    for limit in [147, 148, 149, 150, 200, 295, 296] {
-        let (shared, first, _second) = made(alloc, &[limit, NO_LIMIT], &base)?;
-        let (mut first, _) = update(&shared, first, &[5; 144], 2);
-        let mut into = [0; 145];
-        let want = if limit < 296 { Err(Halt) } else { Ok(0) };
-        assert!(rt;
-            read(&shared, &mut first, 0, &mut into) == Some(want),
-            "at {limit}"
-        );
-        assert_eq!(rt; first.steps(), limit);
-    }
+fn entries_are_read_unless_a_limit_halts(rt: HostRuntime) -> Result<(), Fail> {
+    holds(&rt, both_read(rt.alloc())?);
+    holds(&rt, first_wrong_limit(rt.alloc())?.is_none());
     Ok(())
 }

@@ -1,8 +1,7 @@
 //! A replica is taken, replayed with linked entries, made durable and given up.
 
-ghost use Rattle.std.specs.Prelude.{◌≡◌, ◌+◌, ◌*◌, [], ◌∷◌, ◌≤◌, ◌<◌, IfOk, IfSome, OnOk, length};
+ghost use Rattle.std.specs.Prelude.{◌≡◌, ◌+◌, ◌*◌, ◌∷◌, ◌≤◌, ◌<◌, IfOk, IfSome, OnOk, length};
 ghost use Rattle.cx_base.specs.Memory.{Words};
-ghost use Rattle.cx_core.specs.Base.{LawfulBase};
 ghost use Rattle.cx_core.specs.declared.local.Protection.TheVariants.{Confirmed, Unprotected};
 ghost use Rattle.cx_core.specs.Region.{region_words};
 ghost use Rattle.cx_core.specs.RingEvents.{Protects};
@@ -15,17 +14,19 @@ ghost use Rattle.replica.specs.Laws.{IsTaken};
 ghost use Rattle.replica.specs.Replays.{IsImage, noted_place};
 ghost use Rattle.replica.specs.Tests.{IsFree, IsNew, IsReady, Keeps, KnowsLinked};
 
-use replica::{ReadRegion, Region, begin, flush, outcome, place, replay_one};
+use crate::holds::holds;
+use crate::tables::{NO_LIMIT, made};
 use cx_base::tally::Tally;
 use cx_base::{Halt, Memory, Object};
 use cx_core::{Base, Entry};
 use cx_table::{CallerSeat, Downgraded, Exclusive, Shared, SharedHold};
 use mutation_queue::{LinkTried, Protected, announce, entry, link, protect, unprotect};
+use replica::{ReadRegion, Region, begin, flush, outcome, place, replay_one};
 use std::alloc::{AllocError, Global};
 use std::test::Fail;
 
 // Takes a replica, if nobody holds it.
-pub(crate) fn take<O: Object>(
+fn take<O: Object>(
     shared: &Shared<O>,
     seat: &mut CallerSeat,
     r: u64,
@@ -34,7 +35,6 @@ pub(crate) fn take<O: Object>(
     requires sized { IsSized (O.line_count shared.now.object) shared.now }
     requires few { r < 2 * shared.now.callers }
     ensures taken { IfOk result (λ o. IfSome o (λ held. IsTaken (O.line_count shared.now.object) shared.now (O.lawful shared.now.object) seat.new held)) }
-    ensures of { IfOk result (λ o. IfSome o (λ held. held.replica ≡ r)) }
     ensures keeps { IfOk result (λ o. IfSome o (λ _. Keeps seat.old seat.new)) }
 {
     let (_, right) = shared.try_exclusive(seat, r)?;
@@ -159,7 +159,6 @@ pub(crate) fn renew<O: Object>(
     requires base { shared.now.base.place ≡ 0 }
     requires linked { end ≤ seat.old.known.local.front }
     ensures downgraded { IfOk result (λ o. IfSome o (λ held. IsDowngradedOf shared.now.callers seat.new held)) }
-    ensures of { IfOk result (λ o. IfSome o (λ held. held.replica ≡ r)) }
     ensures seat { IfOk result (λ o. IfSome o (λ _. IsSeatOf shared.now seat.new)) }
 {
     let Some(held) = take(shared, seat, r)? else {
@@ -173,43 +172,6 @@ pub(crate) fn renew<O: Object>(
     flush(shared, seat, &held)?;
     let (_, token) = shared.downgrade(seat, held)?;
     Ok(Some(token))
-}
-
-// A table of two callers and its seats.
-pub(crate) fn made<O: Object>(
-    alloc: Global,
-    object: O,
-    limits: &[u64; 2],
-    base: &Base,
-) -> Result<(Shared<O>, CallerSeat, CallerSeat), AllocError>
-    requires enough { 64 ≤ O.line_count object }
-    requires small { O.line_count object ≤ 16384 }
-    requires base { LawfulBase (O.line_count object) (O.lawful object) base.now }
-    ensures sized { IfOk result (λ r. IsSized (O.line_count object) r.0) }
-    ensures object { IfOk result (λ r. r.0.object ≡ object) }
-    ensures callers { IfOk result (λ r. r.0.callers ≡ 2) }
-    ensures base { IfOk result (λ r. r.0.base ≡ base.now) }
-    ensures first { IfOk result (λ r. IsNew r.0 r.1) }
-    ensures second { IfOk result (λ r. IsNew r.0 r.2) }
-{
-    let (shared, seats) = Shared::make(alloc, object, 2, limits, base)?;
-    match two(seats) {
-        Some((first, second)) => Ok((shared, first, second)),
-        None => Err(AllocError),
-    }
-}
-
-// The items of a list of two.
-fn two(mut seats: Vec<CallerSeat>) -> Option<(CallerSeat, CallerSeat)>
-    ensures { IfSome result (λ r. seats.items ≡ r.0 ∷ r.1 ∷ []) }
-{
-    let second = seats.pop()?;
-    let first = seats.pop()?;
-    if seats.is_empty() {
-        Some((first, second))
-    } else {
-        None
-    }
 }
 
 // A caller without entries announces an operation in its cell 0 and tries to link it.
@@ -226,30 +188,24 @@ pub(crate) fn update<O: Object>(
     link(shared, seat, 0, 4)
 }
 
-// What a caller sees of a replica: its place, the number and the reply of caller 0, and whether its words are these.
-#[derive(Debug, PartialEq, Eq, Drop)]
+// What a caller sees of a replica: its place, the number and the reply of caller 0, and its first two words.
+#[derive(Drop)]
 struct Seen {
     place: u64,
     number: u64,
     reply: [u64; 144],
-    same: bool,
+    words: [u64; 2],
 }
 
-// Looks at a replica that can be shared.
-fn look<O: Object>(
-    shared: &Shared<O>,
-    seat: &mut CallerSeat,
-    r: u64,
-    words: &[u64],
-) -> Result<Option<Seen>, Halt>
+// Whether a caller that can share a replica sees it so.
+fn sees<O: Object>(shared: &Shared<O>, seat: &mut CallerSeat, r: u64, want: &Seen) -> bool
     requires free { IsFree shared.now seat.old }
     requires sized { IsSized (O.line_count shared.now.object) shared.now }
     requires few { r < 2 * shared.now.callers }
-    requires words { length words.now ≤ region_words (O.line_count shared.now.object) }
 {
-    match share(shared, seat, r)? {
-        Some(held) => look_at(shared, seat, &held, words),
-        None => Ok(None),
+    match share(shared, seat, r) {
+        Ok(Some(held)) => sees_held(shared, seat, &held, want) == Ok(true),
+        Ok(None) | Err(Halt) => false,
     }
 }
 
@@ -268,96 +224,70 @@ fn share<O: Object>(
     Ok(right.ok())
 }
 
-// Looks at a replica that is held shared.
-fn look_at<O: Object>(
+// Whether a replica that is held shared is seen so.
+fn sees_held<O: Object>(
     shared: &Shared<O>,
     seat: &mut CallerSeat,
     held: &SharedHold,
-    words: &[u64],
-) -> Result<Option<Seen>, Halt>
+    want: &Seen,
+) -> Result<bool, Halt>
     requires held { IsHeldShared (O.line_count shared.now.object) shared.now (O.lawful shared.now.object) seat.old held.now }
-    requires words { length words.now ≤ region_words (O.line_count shared.now.object) }
 {
     let mut region = ReadRegion::of(shared, seat, held);
     let place = place(&mut region)?;
     let (number, reply) = outcome(&mut region, 0)?;
-    let same = has_words(&mut region, words)?;
-    Ok(Some(Seen {
-        place,
-        number,
-        reply,
-        same,
-    }))
+    let words = [region.load(0)?, region.load(1)?];
+    Ok(place == want.place && number == want.number && reply == want.reply && words == want.words)
 }
 
-// Whether a memory begins with these words.
-fn has_words<M: Memory>(mem: &mut M, words: &[u64]) -> Result<bool, Halt>
-    requires { length words.now ≤ M.size mem.old }
-{
-    for i in 0..words.len() {
-        if mem.load(i as u64)? != words[i] {
-            return Ok(false);
-        }
-    }
-    Ok(true)
-}
-
-pub(crate) const NO_LIMIT: u64 = u64::MAX;
-
-// An operation of Tally that adds.
+// An operation of Tally that adds, and the reply with that sum.
 pub(crate) fn adds(n: u64) -> [u64; 144] {
     let mut op = [0; 144];
     op[0] = n;
     op
 }
 
-// The reply of Tally with this sum.
-fn sum(n: u64) -> [u64; 144] {
-    adds(n)
-}
-
-#[test]
-fn own_entry_is_replayed(rt: HostRuntime) -> Result<(), Fail> {
-    let alloc = rt.alloc();
+// Whether a caller that linked an entry replays it on a replica, as the other caller then sees it.
+fn is_own_replayed(alloc: Global) -> Result<bool, AllocError> {
     let base = Base::fresh(alloc, &Tally)?;
     let (shared, mut first, mut second) = made(alloc, Tally, &[NO_LIMIT, NO_LIMIT], &base)?;
     let Ok(LinkTried::Linked { ticket: 0 }) = update(&shared, &mut first, &adds(5)) else {
-        panic!(rt; "the entry was not linked");
+        return Ok(false);
     };
     let Ok(Some(token)) = renew(&shared, &mut first, 1, 1) else {
-        panic!(rt; "the replica was not renewed");
+        return Ok(false);
     };
-    assert_eq!(rt; (token.replica(), token.caller()), (1, 0));
     let want = Seen {
         place: 1,
         number: 1,
-        reply: sum(5),
-        same: true,
+        reply: adds(5),
+        words: [1, 0],
     };
-    assert!(rt; look(&shared, &mut second, 1, &[1, 0]) == Ok(Some(want)));
-    Ok(())
+    Ok(token.replica() == 1 && token.caller() == 0 && sees(&shared, &mut second, 1, &want))
 }
 
-#[test]
-fn each_limit_halts_a_replay_or_not(rt: HostRuntime) -> Result<(), Fail> {
-    let alloc = rt.alloc();
+// The number and a word of the operation, which the cell does not have yet, and 2 steps to link; a try and the load of
+// the place; 2 steps to protect it; 146 steps for the entry; for the full step the place loaded, Tally's load and store, the
+// number loaded and stored, the reply loaded and its first word stored, the place stored; 1 step to give the protection up;
+// 4 words to persist; a downgrade.
+const ALL: u64 = 4 + 2 + 2 + 146 + (1 + 2 + 2 + 145 + 1) + 1 + 4 + 1;
+
+// Whether a caller with a limit of steps stops there, or links an entry and renews a replica with it.
+fn stops_at(alloc: Global, limit: u64) -> Result<bool, AllocError> {
     let base = Base::fresh(alloc, &Tally)?;
-    // the number and a word of the operation, which the cell does not have yet, and 2 steps to link; a try and the load of
-    // the place; 2 steps to protect it; 146 steps for the entry; for the full step the place loaded, Tally's load and store, the
-    // number loaded and stored, the reply loaded and its first word stored, the place stored; 1 step to give the protection up;
-    // 4 words to persist; a downgrade
-    let all = 4 + 2 + 2 + 146 + (1 + 2 + 2 + 145 + 1) + 1 + 4 + 1;
-    for limit in 0..=all {
-        let (shared, mut first, second) = made(alloc, Tally, &[limit, NO_LIMIT], &base)?;
-        let _other = second;
-        let done = update_and_renew(&shared, &mut first, &adds(5), 1);
-        assert_eq!(rt;
-            (done, first.steps()),
-            (limit >= all, limit.min(all)),
-            "at {limit}"
-        );
+    let (shared, mut first, _second) = made(alloc, Tally, &[limit, NO_LIMIT], &base)?;
+    let is_done = update_and_renew(&shared, &mut first, &adds(5), 1);
+    Ok(is_done == (limit >= ALL) && first.steps() == limit.min(ALL))
+}
+
+// The first limit at which a caller does otherwise.
+fn first_wrong_limit(alloc: Global) -> Result<Option<u64>, AllocError> {
+    for limit in 0..=ALL {
+        if !stops_at(alloc, limit)? {
+            return Ok(Some(limit));
+        }
     }
-    Ok(())
+    Ok(None)
 }
 
 // A caller without entries links one and renews a replica with it. A halted caller did not.
@@ -375,7 +305,7 @@ fn update_and_renew<O: Object>(
     match update(shared, seat, op) {
         Ok(LinkTried::Linked { ticket: _ }) => {
             let end = seat.front();
-            renew(shared, seat, r, end).is_ok_and(|token| token.is_some())
+            matches!(renew(shared, seat, r, end), Ok(Some(_)))
         }
         Ok(_) | Err(_) => false,
     }
@@ -402,44 +332,47 @@ fn take_and_load<O: Object>(
     }
 }
 
-// Loads five words of a replica in the opening state, from a place on, under a limit: whether they were loaded, how many steps were
-// made, and the words. A word that was not loaded is `OTHER`.
-fn loaded_at_limit(
-    alloc: Global,
-    from: u64,
-    limit: u64,
-) -> Result<(bool, u64, [u64; 5]), AllocError>
+// From a place on under a limit of steps, the words of a replica in the opening state: a try, and a step for each word. A word
+// that was not loaded is `OTHER`. The first word of the object part is Tally's version.
+const LOADS: [(u64, u64, [u64; 5]); 10] = [
+    (1166, 0, [OTHER, OTHER, OTHER, OTHER, OTHER]),
+    (1166, 1, [OTHER, OTHER, OTHER, OTHER, OTHER]),
+    (1166, 2, [0, OTHER, OTHER, OTHER, OTHER]),
+    (1166, 3, [0, 0, OTHER, OTHER, OTHER]),
+    (1166, 4, [0, 0, 7, OTHER, OTHER]),
+    (1166, 5, [0, 0, 7, 0, OTHER]),
+    (1166, 6, [0, 0, 7, 0, 0]),
+    (1166, 7, [0, 0, 7, 0, 0]),
+    (0, 6, [0, 0, 0, 0, 0]),
+    (0, 3, [0, 0, OTHER, OTHER, OTHER]),
+];
+
+// Whether a run of loads from a place on halts exactly at a limit of steps, and which words were loaded.
+fn loads_at(alloc: Global, from: u64, limit: u64, want: &[u64; 5]) -> Result<bool, AllocError>
     requires { from ≤ 1675 }
 {
     let base = Base::fresh(alloc, &Tally)?;
-    let (shared, mut first, second) = made(alloc, Tally, &[limit, NO_LIMIT], &base)?;
-    let _other = second;
+    let (shared, mut first, _second) = made(alloc, Tally, &[limit, NO_LIMIT], &base)?;
     let mut words = [OTHER; 5];
-    let done = take_and_load(&shared, &mut first, from, &mut words).is_ok();
-    Ok((done, first.steps(), words))
+    let is_done = take_and_load(&shared, &mut first, from, &mut words).is_ok();
+    Ok(is_done == (limit >= 6) && first.steps() == limit.min(6) && words == *want)
 }
 
-// A try, and a step for each word. Where the limit leaves fewer, it halts exactly there, and the first words were loaded.
-#[test]
-fn each_limit_halts_a_run_of_loads_or_not(rt: HostRuntime) -> Result<(), Fail> {
-    let alloc = rt.alloc();
-    // the first word of the object part is Tally's version
-    let there = [0, 0, 7, 0, 0];
-    for limit in 0..=7u64 {
-        let first = limit.saturating_sub(1).min(5);
-        let mut words = [OTHER; 5];
-        words[..first as usize].copy_from_slice(&there[..first as usize]);
-        assert_eq!(rt;
-            loaded_at_limit(alloc, 1166, limit)?,
-            (limit >= 6, limit.min(6), words),
-            "at {limit}"
-        );
+// The first run of loads that is otherwise.
+fn first_wrong_loads(alloc: Global) -> Result<Option<usize>, AllocError> {
+    for (i, (from, limit, want)) in LOADS.iter().enumerate() {
+        if *from > 1675 || !loads_at(alloc, *from, *limit, want)? {
+            return Ok(Some(i));
+        }
     }
-    // from the place on
-    assert_eq!(rt; loaded_at_limit(alloc, 0, 6)?, (true, 6, [0; 5]));
-    assert_eq!(rt;
-        loaded_at_limit(alloc, 0, 3)?,
-        (false, 3, [0, 0, OTHER, OTHER, OTHER])
-    );
+    Ok(None)
+}
+
+#[test]
+fn entries_are_replayed_unless_a_limit_halts(rt: HostRuntime) -> Result<(), Fail> {
+    let alloc = rt.alloc();
+    holds(&rt, is_own_replayed(alloc)?);
+    holds(&rt, first_wrong_limit(alloc)?.is_none());
+    holds(&rt, first_wrong_loads(alloc)?.is_none());
     Ok(())
 }

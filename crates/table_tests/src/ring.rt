@@ -3,12 +3,14 @@
 ghost use Rattle.std.specs.Prelude.{◌≡◌, ◌^◌, ◌≤◌, None, IfSome, OnOk};
 ghost use Rattle.cx_table.specs.Running.{IsSeatOf};
 
-use crate::linking::{NO_LIMIT, base_at, made};
-use mutation_queue::{Collected, Protected, collect, protect, unprotect};
+use crate::holds::holds;
+use crate::linking::{NO_LIMIT, made};
 use cx_base::tally::Tally;
 use cx_base::{Halt, root_place};
 use cx_core::Protection;
 use cx_table::{CallerSeat, Shared};
+use mutation_queue::{Collected, Protected, collect, protect, unprotect};
+use std::alloc::{AllocError, Global};
 use std::test::Fail;
 
 // Protects the tickets from a place on, if the caller protects nothing yet.
@@ -83,66 +85,86 @@ fn collect_beside(
     collected
 }
 
-#[test]
-fn low_is_compared_with_the_place(rt: HostRuntime) -> Result<(), Fail> {
-    let alloc = rt.alloc();
-    // LOW and FREE open at the place of the base
-    let base = base_at(alloc, 100)?;
-    let (shared, mut first, _second) = made(alloc, &[NO_LIMIT, NO_LIMIT], &base)?;
-    let behind = try_protect(&shared, &mut first, 99);
-    assert!(rt; behind == Some(Ok(Protected::Behind { low: 100 })));
-    assert!(rt; first.protection() == Protection::Unprotected);
-    assert_eq!(rt; (first.steps(), first.met()), (3, 0));
-    let kept = try_protect(&shared, &mut first, 100);
-    assert!(rt; kept == Some(Ok(Protected::Kept)));
-    assert!(rt; first.protection() == Protection::Confirmed(100));
-    assert_eq!(rt; first.steps(), 5);
-    Ok(())
-}
-
-#[test]
-fn another_callers_need_is_noted(rt: HostRuntime) -> Result<(), Fail> {
-    let alloc = rt.alloc();
-    let base = base_at(alloc, 100)?;
-    let (shared, mut first, mut second) = made(alloc, &[NO_LIMIT, NO_LIMIT], &base)?;
-    let noted = collect_beside(&shared, &mut first, &mut second, 100, 103);
-    let want = Collected {
-        free: 100,
-        holder: 1,
-        need: 103,
-    };
-    assert!(rt; noted == Some(Ok(want)));
-    // no caller needs any, and FREE never falls
-    let none = try_collect(&shared, &mut second, 90);
-    let want = Collected {
-        free: 100,
-        holder: 0,
-        need: u64::MAX,
-    };
-    assert!(rt; none == Some(Ok(want)));
-    assert_eq!(rt; (second.steps(), second.scans()), (8, 1));
-    Ok(())
-}
-
-#[test]
-fn collecting_halts_at_each_limit(rt: HostRuntime) -> Result<(), Fail> {
-    let alloc = rt.alloc();
-    let base = base_at(alloc, 100)?;
-    for limit in 0..7u64 {
-        let (shared, mut first, _second) = made(alloc, &[limit, NO_LIMIT], &base)?;
-        let collected = try_collect(&shared, &mut first, 100);
-        // LOW is raised, two callers are scanned, and FREE is raised and loaded
-        let want = if limit < 5 {
-            Err(Halt)
-        } else {
-            Ok(Collected {
-                free: 100,
-                holder: 0,
-                need: u64::MAX,
-            })
-        };
-        assert!(rt; collected == Some(want), "at {limit}");
-        assert_eq!(rt; first.steps(), limit.min(5));
+// Whether a caller protects the tickets from this place on, and this is confirmed.
+fn protects_from(seat: &CallerSeat, place: u64) -> bool {
+    match seat.protection() {
+        Protection::Confirmed(from) => from == place,
+        _ => false,
     }
+}
+
+// Whether LOW, which is 100, is compared with the place: 99 is behind it, and 100 is kept.
+fn is_low_compared(alloc: Global) -> Result<bool, AllocError> {
+    // LOW and FREE open at the place of the base
+    let (shared, mut first, _second) = made(alloc, 100, &[NO_LIMIT, NO_LIMIT])?;
+    let is_behind = matches!(
+        try_protect(&shared, &mut first, 99),
+        Some(Ok(Protected::Behind { low: 100 }))
+    );
+    let is_free = matches!(first.protection(), Protection::Unprotected)
+        && first.steps() == 3
+        && first.met() == 0;
+    let is_kept = matches!(
+        try_protect(&shared, &mut first, 100),
+        Some(Ok(Protected::Kept))
+    );
+    Ok(is_behind && is_free && is_kept && protects_from(&first, 100) && first.steps() == 5)
+}
+
+// Whether this was collected.
+fn is_collected(
+    collected: Option<Result<Collected, Halt>>,
+    free: u64,
+    holder: u32,
+    need: u64,
+) -> bool {
+    match collected {
+        Some(Ok(found)) => found.free == free && found.holder == holder && found.need == need,
+        _ => false,
+    }
+}
+
+// Whether a caller that collects notes another's need, and where no caller needs any, none. FREE never falls.
+fn is_need_noted(alloc: Global) -> Result<bool, AllocError> {
+    let (shared, mut first, mut second) = made(alloc, 100, &[NO_LIMIT, NO_LIMIT])?;
+    let noted = collect_beside(&shared, &mut first, &mut second, 100, 103);
+    let none = try_collect(&shared, &mut second, 90);
+    Ok(
+        is_collected(noted, 100, 1, 103)
+            && is_collected(none, 100, 0, u64::MAX)
+            && second.steps() == 8
+            && second.scans() == 1,
+    )
+}
+
+// Whether a caller with a limit of steps that collects stops there, or collects.
+fn stops_at(alloc: Global, limit: u64) -> Result<bool, AllocError> {
+    let (shared, mut first, _second) = made(alloc, 100, &[limit, NO_LIMIT])?;
+    let collected = try_collect(&shared, &mut first, 100);
+    // LOW is raised, two callers are scanned, and FREE is raised and loaded
+    let is_right = if limit < 5 {
+        matches!(collected, Some(Err(Halt)))
+    } else {
+        is_collected(collected, 100, 0, u64::MAX)
+    };
+    Ok(is_right && first.steps() == limit.min(5))
+}
+
+// The first limit at which a caller does otherwise.
+fn first_wrong_limit(alloc: Global) -> Result<Option<u64>, AllocError> {
+    for limit in 0..7 {
+        if !stops_at(alloc, limit)? {
+            return Ok(Some(limit));
+        }
+    }
+    Ok(None)
+}
+
+#[test]
+fn tickets_are_protected_and_cells_collected(rt: HostRuntime) -> Result<(), Fail> {
+    let alloc = rt.alloc();
+    holds(&rt, is_low_compared(alloc)?);
+    holds(&rt, is_need_noted(alloc)?);
+    holds(&rt, first_wrong_limit(alloc)?.is_none());
     Ok(())
 }

@@ -8,24 +8,25 @@ ghost use Rattle.cx_core.specs.RootEvents.{unanswered};
 ghost use Rattle.cx_table.specs.Running.{IsSeatOf};
 ghost use Rattle.cx_table.specs.Tokens.{IsExclusiveOf};
 
+use crate::holds::holds;
 use core_events::{CoreState, apply};
 use cx_base::Halt;
 use cx_base::tally::Tally;
 use cx_core::{Base, Event, Kind};
-use cx_table::{CallerSeat, Exclusive, Shared};
+use cx_table::{CallerSeat, Exclusive, Remains, Shared};
 use std::alloc::{AllocError, Global};
 use std::test::Fail;
 
 // A table of one caller, and its seat.
-fn made(alloc: Global, limit: u64, base: &Base) -> Result<(Shared<Tally>, CallerSeat), AllocError>
-    requires { LawfulBase 64 IsTally base.now }
+fn made(alloc: Global, limit: u64) -> Result<(Shared<Tally>, CallerSeat), AllocError>
     ensures of { IfOk result (λ r. IsSeatOf r.0 r.1) }
     ensures callers { IfOk result (λ r. r.0.callers ≡ 1) }
-    ensures base { IfOk result (λ r. r.0.base ≡ base.now) }
+    ensures size { IfOk result (λ r. 6 < length r.0.base.words) }
     ensures fresh { IfOk result (λ r. CanTryExclusive 1 1 r.1.known.local) }
     ensures unanswered { IfOk result (λ r. unanswered r.1.known.local ≡ None) }
 {
-    let (shared, seats) = Shared::make(alloc, Tally, 1, &[limit], base)?;
+    let base = Base::fresh(alloc, &Tally)?;
+    let (shared, seats) = Shared::make(alloc, Tally, 1, &[limit], &base)?;
     match only(seats) {
         Some(seat) => Ok((shared, seat)),
         None => Err(AllocError),
@@ -33,11 +34,11 @@ fn made(alloc: Global, limit: u64, base: &Base) -> Result<(Shared<Tally>, Caller
 }
 
 // The item of a list of one.
-fn only(mut seats: Vec<CallerSeat>) -> Option<CallerSeat>
-    ensures { IfSome result (λ s. seats.items ≡ s ∷ []) }
+fn only<T: Drop>(mut items: Vec<T>) -> Option<T>
+    ensures { IfSome result (λ x. items.items ≡ x ∷ []) }
 {
-    let seat = seats.pop()?;
-    if seats.is_empty() { Some(seat) } else { None }
+    let item = items.pop()?;
+    if items.is_empty() { Some(item) } else { None }
 }
 
 // Stores a word of the replica held.
@@ -109,11 +110,10 @@ struct Board {
     ghost lawful: { LawfulBase 64 IsTally state.base },
 }
 
-fn opened(alloc: Global, base: &Base) -> Result<Board, AllocError>
-    requires { LawfulBase 64 IsTally base.now }
-{
+fn opened(alloc: Global) -> Result<Board, AllocError> {
+    let base = Base::fresh(alloc, &Tally)?;
     Ok(Board {
-        state: CoreState::opening(alloc, &Tally, 1, base)?,
+        state: CoreState::opening(alloc, &Tally, 1, &base)?,
     })
 }
 
@@ -130,31 +130,57 @@ const STEPS: [Kind; 4] = [
     Kind::Persist { r: 1, i: 5 },
 ];
 
-// Each limit of steps from 0 up to none: the words and the marks that the closing hands out are the model's, which makes as
-// many of the steps.
-#[test]
-fn closed_while_held(rt: HostRuntime) -> Result<(), Fail> {
-    let alloc = rt.alloc();
-    let base = Base::fresh(alloc, &Tally)?;
-    for limit in 0..5 {
-        let (shared, mut seat) = made(alloc, limit, &base)?;
-        let done = leave_one_dirty(&shared, &mut seat);
-        assert_eq!(rt; done.is_ok(), limit >= 4);
-        assert_eq!(rt; seat.steps(), limit.min(4));
-        let mut model = opened(alloc, &base)?;
-        for kind in &STEPS[..limit.min(4) as usize] {
-            assert!(rt; steps(alloc, &mut model, *kind)?);
-        }
-        let Ok(left) = shared.gather(alloc, vec![in alloc; seat]?) else {
-            panic!(rt; "no memory");
-        };
-        assert!(rt; left.volatile.as_slice() == model.state.vol());
-        assert!(rt; left.durable.as_slice() == model.state.per());
-        for (at, dirty) in left.dirty.iter().enumerate() {
-            assert_eq!(rt; *dirty, left.volatile[at] != left.durable[at], "{at}");
+// The model after so many of the steps, where it may make each.
+fn stepped(alloc: Global, count: usize) -> Result<Option<Board>, AllocError> {
+    let mut model = opened(alloc)?;
+    for kind in STEPS.iter().take(count) {
+        if !steps(alloc, &mut model, *kind)? {
+            return Ok(None);
         }
     }
-    Ok(())
+    Ok(Some(model))
+}
+
+// Closes a table whose caller makes at most so many steps, where these are all or the limit halts it.
+fn closed_at(alloc: Global, limit: u64) -> Result<Option<Remains>, AllocError> {
+    let (shared, mut seat) = made(alloc, limit)?;
+    let is_done = leave_one_dirty(&shared, &mut seat).is_ok();
+    if is_done != (limit >= 4) || seat.steps() != limit.min(4) {
+        return Ok(None);
+    }
+    Ok(shared.gather(alloc, vec![in alloc; seat]?).ok())
+}
+
+// Whether the words and the marks that a closing handed out are the model's.
+fn is_left(left: &Remains, model: &Board) -> bool {
+    left.volatile.as_slice() == model.state.vol()
+        && left.durable.as_slice() == model.state.per()
+        && are_marked(&left.volatile, &left.durable, &left.dirty)
+}
+
+// Whether there is a mark for each word, which says whether the words differ.
+fn are_marked(volatile: &[u64], durable: &[u64], dirty: &[bool]) -> bool {
+    for ((now, then), mark) in volatile.iter().zip(durable.iter()).zip(dirty.iter()) {
+        if *mark != (*now != *then) {
+            return false;
+        }
+    }
+    volatile.len() == dirty.len() && durable.len() == dirty.len()
+}
+
+// The first limit of steps, from 0 up to none, at which the closing hands out otherwise than the model, which makes as many of
+// the steps.
+fn first_wrong_limit(alloc: Global) -> Result<Option<usize>, AllocError> {
+    for limit in 0..5 {
+        let (Some(left), Some(model)) = (closed_at(alloc, limit as u64)?, stepped(alloc, limit)?)
+        else {
+            return Ok(Some(limit));
+        };
+        if !is_left(&left, &model) {
+            return Ok(Some(limit));
+        }
+    }
+    Ok(None)
 }
 
 // Raises DUR by the code with which CUR opened, which answers nothing.
@@ -166,21 +192,23 @@ fn raise_opening(shared: &Shared<Tally>, seat: &mut CallerSeat) -> Result<u64, H
     shared.raise(seat, code, None)
 }
 
-// A raise finds the word that it raises, and its seat's numbers are as the model says; it is allowed by the model.
-#[test]
-fn raised_by_the_opening_code(rt: HostRuntime) -> Result<(), Fail> {
-    let alloc = rt.alloc();
-    let base = Base::fresh(alloc, &Tally)?;
-    let (shared, mut seat) = made(alloc, u64::MAX, &base)?;
+// Whether a raise by the opening code finds the word that it raises, and its seat's numbers are as the model says, which allows it.
+fn is_raised(alloc: Global) -> Result<bool, AllocError> {
+    let (shared, mut seat) = made(alloc, u64::MAX)?;
     let code = seat.seen_cur();
-    let Ok(found) = raise_opening(&shared, &mut seat) else {
-        panic!(rt; "halted");
-    };
-    assert_eq!(rt; found, code);
-    assert_eq!(rt; seat.raised(), code);
-    assert_eq!(rt; seat.steps(), 1);
-    assert_eq!(rt; seat.unanswered(), None);
-    let mut model = opened(alloc, &base)?;
-    assert!(rt; steps(alloc, &mut model, Kind::Raise { code, read: None })?);
+    let found = raise_opening(&shared, &mut seat);
+    let is_right = found == Ok(code)
+        && seat.raised() == code
+        && seat.steps() == 1
+        && seat.unanswered().is_none();
+    let mut model = opened(alloc)?;
+    Ok(is_right && steps(alloc, &mut model, Kind::Raise { code, read: None })?)
+}
+
+#[test]
+fn steps_are_the_models(rt: HostRuntime) -> Result<(), Fail> {
+    let alloc = rt.alloc();
+    holds(&rt, first_wrong_limit(alloc)?.is_none());
+    holds(&rt, is_raised(alloc)?);
     Ok(())
 }

@@ -1,22 +1,22 @@
 //! Exact lock words, two callers in each outcome, and each limit of steps of a shared try that is refused.
 
-ghost use Rattle.std.specs.Prelude.{◌≡◌, ◌≢◌, ◌*◌, ◌<◌, [], ◌∷◌, IfOk, IfSome, OnOk, length};
+ghost use Rattle.std.specs.Prelude.{◌≡◌, ◌≢◌, ◌*◌, ◌<◌, IfOk, IfSome, OnOk, length};
 ghost use Rattle.cx_base.specs.Tally.{IsTally};
 ghost use Rattle.cx_core.specs.Base.{LawfulBase};
 ghost use Rattle.strong_trylock.specs.Tests.{ArePair, HoldsDowngraded, IsFreeIn};
 
+use crate::holds::holds;
+use crate::linking::{NO_LIMIT, two};
+use cx_base::Halt;
+use cx_base::tally::Tally;
+use cx_core::Base;
+use cx_table::{CallerSeat, Downgraded, Shared};
+use std::alloc::{AllocError, Global};
+use std::test::Fail;
 use strong_trylock::{
     ExclusiveTried, SharedTried, downgrade, release, release_downgraded, release_shared,
     try_exclusive, try_shared,
 };
-use cx_base::Halt;
-use cx_base::tally::Tally;
-use cx_core::Base;
-use cx_table::{CallerSeat, Downgraded, Exclusive, Shared};
-use std::alloc::{AllocError, Global};
-use std::test::Fail;
-
-const NO_LIMIT: u64 = u64::MAX;
 
 // A table of two callers without rights, and their seats.
 fn made(
@@ -33,19 +33,6 @@ fn made(
     }
 }
 
-// The items of a list of two.
-fn two(mut seats: Vec<CallerSeat>) -> Option<(CallerSeat, CallerSeat)>
-    ensures { IfSome result (λ r. seats.items ≡ r.0 ∷ r.1 ∷ []) }
-{
-    let second = seats.pop()?;
-    let first = seats.pop()?;
-    if seats.is_empty() {
-        Some((first, second))
-    } else {
-        None
-    }
-}
-
 // The word found by an exclusive try that was refused.
 fn refused(shared: &Shared<Tally>, seat: &mut CallerSeat, r: u32) -> Option<u64>
     requires free { IsFreeIn shared.now seat.old }
@@ -58,65 +45,53 @@ fn refused(shared: &Shared<Tally>, seat: &mut CallerSeat, r: u32) -> Option<u64>
     }
 }
 
-// Tries one replica exclusively and another one shared.
-fn both(
+// Whether a caller takes one replica exclusively and tries another one shared: it gets that too, or finds this word.
+fn tries_both(
     shared: &Shared<Tally>,
     seat: &mut CallerSeat,
+    caller: u32,
     r: u32,
     q: u32,
-) -> Result<(ExclusiveTried, SharedTried), Halt>
+    found: Option<u64>,
+) -> bool
     requires free { IsFreeIn shared.now seat.old }
     requires few { (r < 2 * shared.now.callers) × (q < 2 * shared.now.callers) }
     requires apart { r ≢ q }
 {
-    let exclusive = try_exclusive(shared, seat, r)?;
-    let tried = try_shared(shared, seat, q)?;
-    Ok((exclusive, tried))
+    let Ok(ExclusiveTried::Got(held)) = try_exclusive(shared, seat, r) else {
+        return false;
+    };
+    let is_other = match (try_shared(shared, seat, q), found) {
+        (Ok(SharedTried::Got(hold)), None) => hold.replica() == q && hold.caller() == caller,
+        (Ok(SharedTried::Held { found }), Some(word)) => found == word,
+        _ => false,
+    };
+    is_other && held.replica() == r && held.caller() == caller
 }
 
-// The token of an exclusive try.
-fn exclusive(tried: ExclusiveTried) -> Option<Exclusive> {
-    match tried {
-        ExclusiveTried::Got(held) => Some(held),
-        ExclusiveTried::Held { .. } => None,
-    }
+// The mark of an exclusive right.
+const EXCLUSIVE: u64 = 4_294_967_296;
+
+// Whether the words that two callers find beside each other's rights are exact.
+fn are_words_exact(alloc: Global) -> Result<bool, AllocError> {
+    let (shared, mut first, mut second) = made(alloc, &[NO_LIMIT, NO_LIMIT])?;
+    let is_first = tries_both(&shared, &mut first, 0, 1, 0, None);
+    let is_second = is_refused_then_tries(&shared, &mut second);
+    Ok(is_first && is_second && first.steps() == 2 && second.steps() == 5)
 }
 
-#[test]
-fn lock_words_are_exact(rt: HostRuntime) -> Result<(), Fail> {
-    let (shared, mut first, mut second) = made(rt.alloc(), &[NO_LIMIT, NO_LIMIT])?;
-    let Ok((one, other)) = both(&shared, &mut first, 1, 0) else {
-        panic!(rt; "a try halted");
+// Whether a caller is refused the replicas that the other holds, the one held shared and the one held exclusively.
+fn is_refused_then_tries(shared: &Shared<Tally>, seat: &mut CallerSeat) -> bool
+    requires free { IsFreeIn shared.now seat.old }
+    requires callers { shared.now.callers ≡ 2 }
+{
+    let Some(2) = refused(shared, seat, 0) else {
+        return false;
     };
-    let Some(held) = exclusive(one) else {
-        panic!(rt; "a free replica was refused");
+    let Some(EXCLUSIVE) = refused(shared, seat, 1) else {
+        return false;
     };
-    assert_eq!(rt; (held.replica(), held.caller()), (1, 0));
-    let SharedTried::Got(hold) = other else {
-        panic!(rt; "a replica that nobody holds exclusively was refused");
-    };
-    assert_eq!(rt; (hold.replica(), hold.caller()), (0, 0));
-    let Some(word) = refused(&shared, &mut second, 0) else {
-        panic!(rt; "a replica held shared was given exclusively");
-    };
-    assert_eq!(rt; word, 2);
-    let Some(word) = refused(&shared, &mut second, 1) else {
-        panic!(rt; "a replica held exclusively was given exclusively");
-    };
-    assert_eq!(rt; word, 4_294_967_296);
-    let Ok((one, other)) = both(&shared, &mut second, 2, 1) else {
-        panic!(rt; "a try halted");
-    };
-    let Some(held) = exclusive(one) else {
-        panic!(rt; "a free replica was refused");
-    };
-    assert_eq!(rt; (held.replica(), held.caller()), (2, 1));
-    let SharedTried::Held { found } = other else {
-        panic!(rt; "a replica held exclusively was given shared");
-    };
-    assert_eq!(rt; found, 4_294_967_296);
-    assert_eq!(rt; (first.steps(), second.steps()), (2, 5));
-    Ok(())
+    tries_both(shared, seat, 1, 2, 1, Some(EXCLUSIVE))
 }
 
 // Takes a replica exclusively and gives it up again, or gives the word found.
@@ -175,29 +150,50 @@ fn take_and_downgrade(
     Ok(Some(downgrade(shared, seat, held)?))
 }
 
-#[test]
-fn rights_are_given_up(rt: HostRuntime) -> Result<(), Fail> {
-    let (shared, mut first, mut second) = made(rt.alloc(), &[NO_LIMIT, NO_LIMIT])?;
+// Whether a caller finds a replica that the other downgraded held shared, and can share it beside the other.
+fn is_shared_beside(shared: &Shared<Tally>, seat: &mut CallerSeat, r: u32) -> Option<bool>
+    requires free { IsFreeIn shared.now seat.old }
+    requires few { r < 2 * shared.now.callers }
+    ensures { IfSome result (λ _. IsFreeIn shared.now seat.new) }
+{
+    let word = refused(shared, seat, r)?;
+    match share_and_release(shared, seat, r) {
+        Ok(None) => Some(word == 1),
+        _ => None,
+    }
+}
+
+// Whether a caller takes a replica and gives it up, twice.
+fn takes_twice(shared: &Shared<Tally>, seat: &mut CallerSeat, r: u32) -> bool
+    requires free { IsFreeIn shared.now seat.old }
+    requires few { r < 2 * shared.now.callers }
+{
+    let Ok(None) = take_and_release(shared, seat, r) else {
+        return false;
+    };
+    matches!(take_and_release(shared, seat, r), Ok(None))
+}
+
+// Whether rights that are given up can be taken again.
+fn are_given_up(alloc: Global) -> Result<bool, AllocError> {
+    let (shared, mut first, mut second) = made(alloc, &[NO_LIMIT, NO_LIMIT])?;
     let Ok(Some(token)) = take_and_downgrade(&shared, &mut first, 1) else {
-        panic!(rt; "a free replica was refused");
+        return Ok(false);
     };
-    assert_eq!(rt; (token.replica(), token.caller()), (1, 0));
-    let Some(word) = refused(&shared, &mut second, 1) else {
-        panic!(rt; "a replica held shared was given exclusively");
+    let is_of_first = token.replica() == 1 && token.caller() == 0;
+    let Some(is_beside) = is_shared_beside(&shared, &mut second, 1) else {
+        return Ok(false);
     };
-    assert_eq!(rt; word, 1);
-    let Ok(None) = share_and_release(&shared, &mut second, 1) else {
-        panic!(rt; "a replica that nobody holds exclusively was refused");
-    };
-    assert!(rt; release_downgraded(&shared, &mut first, token).is_ok());
-    let Ok(None) = take_and_release(&shared, &mut second, 1) else {
-        panic!(rt; "a replica that was given up was refused");
-    };
-    let Ok(None) = take_and_release(&shared, &mut second, 1) else {
-        panic!(rt; "a replica that was given up was refused");
-    };
-    assert_eq!(rt; (first.steps(), second.steps()), (4, 7));
-    Ok(())
+    let is_released = release_downgraded(&shared, &mut first, token).is_ok();
+    let is_taken = takes_twice(&shared, &mut second, 1);
+    Ok(
+        is_of_first
+            && is_beside
+            && is_released
+            && is_taken
+            && first.steps() == 4
+            && second.steps() == 7,
+    )
 }
 
 // While one caller holds a replica exclusively, the other one tries it shared: what that came to, and the word that is left
@@ -221,26 +217,48 @@ fn words_left(
     Ok((tried, left))
 }
 
-#[test]
-fn each_limit_halts_a_refused_try(rt: HostRuntime) -> Result<(), Fail> {
-    for limit in 0..3u64 {
-        let (shared, mut first, mut second) = made(rt.alloc(), &[NO_LIMIT, limit])?;
-        let Ok((tried, left)) = words_left(&shared, &mut first, &mut second, 1) else {
-            panic!(rt; "the caller without a limit halted");
-        };
-        let found = match tried {
-            Ok(SharedTried::Held { found }) => Some(found),
-            Ok(SharedTried::Got(_)) => Some(0),
-            Err(Halt) => None,
-        };
-        // with one step the passer's mark stands
-        let want = match limit {
-            0 => (None, None),
-            1 => (None, Some(1)),
-            _ => (Some(4_294_967_296), None),
-        };
-        assert!(rt; (found, left) == want, "at {limit}");
-        assert_eq!(rt; second.steps(), limit);
+// For each limit of steps of the other caller, the word that it found and the one that is left then. With one step the passer's
+// mark stands.
+const REFUSED: [(Option<u64>, Option<u64>); 3] = [
+    (None, None),
+    (None, Some(1)),
+    (Some(EXCLUSIVE), None),
+];
+
+// Whether a shared try that is refused stops at a limit of steps, or finds the word, and what it leaves.
+fn stops_at(
+    alloc: Global,
+    limit: u64,
+    found: Option<u64>,
+    left: Option<u64>,
+) -> Result<bool, AllocError> {
+    let (shared, mut first, mut second) = made(alloc, &[NO_LIMIT, limit])?;
+    let Ok((tried, word)) = words_left(&shared, &mut first, &mut second, 1) else {
+        return Ok(false);
+    };
+    let is_tried = match (tried, found) {
+        (Ok(SharedTried::Held { found }), Some(word)) => found == word,
+        (Err(Halt), None) => true,
+        _ => false,
+    };
+    Ok(is_tried && word == left && second.steps() == limit)
+}
+
+// The first limit at which a caller does otherwise.
+fn first_wrong_limit(alloc: Global) -> Result<Option<usize>, AllocError> {
+    for (limit, (found, left)) in REFUSED.iter().enumerate() {
+        if !stops_at(alloc, limit as u64, *found, *left)? {
+            return Ok(Some(limit));
+        }
     }
+    Ok(None)
+}
+
+#[test]
+fn lock_words_are_exact(rt: HostRuntime) -> Result<(), Fail> {
+    let alloc = rt.alloc();
+    holds(&rt, are_words_exact(alloc)?);
+    holds(&rt, are_given_up(alloc)?);
+    holds(&rt, first_wrong_limit(alloc)?.is_none());
     Ok(())
 }

@@ -1,6 +1,6 @@
 use Rattle.std.proofs.Common.{refl, sym, ◌∙◌}
 use Rattle.std.proofs.lemmas.Result.{IfOk-weaker}
-use Rattle.mutation_queue.proofs.OneOfEach.{one_of_each}
+use Rattle.table_tests.proofs.OneOfEach.{one_of_each}
 use Rattle.table_tests.proofs.linking.closed_after_both.Goals as goal
 
 pub returns : goal.returns

@@ -1,5 +1,5 @@
 use Rattle.std.proofs.lemmas.Result.{IfOk-weaker}
-use Rattle.mutation_queue.proofs.Updates.{has_tried}
+use Rattle.table_tests.proofs.Updates.{has_tried}
 use Rattle.table_tests.proofs.linking.update.Goals as goal
 
 pub returns-clause-tried : goal.returns-clause-tried

@@ -3,7 +3,7 @@ use Rattle.cx_base.specs.Tally.{IsTally}
 use Rattle.cx_table.specs.Seats.{Seated}
 use Rattle.strong_trylock.specs.Held.{AllRights}
 use Rattle.strong_trylock.specs.Tries.{AnswersExclusive}
-use Rattle.strong_trylock.proofs.Replays.{first_load, place_loaded}
+use Rattle.table_tests.proofs.Replays.{first_load, place_loaded}
 use Rattle.table_tests.proofs.trylocks.take_and_downgrade.Goals as goal
 
 pub load_word-requires-clause-guard : goal.load_word-requires-clause-guard

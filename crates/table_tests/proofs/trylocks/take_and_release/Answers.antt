@@ -1,7 +1,7 @@
 use Rattle.std.proofs.Common.{ap}
 use Rattle.cx_base.specs.Tally.{IsTally}
 use Rattle.cx_table.specs.Seats.{Seated}
-use Rattle.strong_trylock.proofs.Replays.{just_taken}
+use Rattle.table_tests.proofs.Replays.{just_taken}
 use Rattle.table_tests.proofs.trylocks.take_and_release.Goals as goal
 
 pub release-requires-clause-replayed : goal.release-requires-clause-replayed

@@ -11,7 +11,6 @@ use Rattle.mutation_queue.specs.declared.linking.LinkTried.TheVariants.{Again, L
 use Rattle.mutation_queue.specs.Cells.{Announces}
 use Rattle.mutation_queue.specs.Links.{LinksAt, LinksNone, Tried}
 use Rattle.mutation_queue.specs.Tests.{HasLinked, HasTried}
-use Rattle.mutation_queue.proofs.Tries.{linked_number}
 
 module _ {O : Type 0} (r : Running O) (op : List ℕ) (s t u : Seated) (of : IsSeatOf r s) (none : s.known.local.own ≡ []) (long : length op ≡ 144)
     (done : Announces 0 (next_number r.base s.known.local ∷ op) s t) where
@@ -27,7 +26,7 @@ module _ {O : Type 0} (r : Running O) (op : List ℕ) (s t u : Seated) (of : IsS
       let before : u.before ≡ slot_number s.known.local.number r.base.words = ap (λ (x : Seated). x.before) at.same ∙ ap (λ (x : Seated). x.before) done.rest ∙ of.before in
       let number : slice_index (cell_of t.known.local 0).words 0 ≡ u.before + 1 = ap (λ ws. slice_index ws 0) words ∙ (let e = ap length none in omega (arith, before)) in
       let same_op : slice_range (cell_of t.known.local 0).words 1 145 ≡ op = ap (λ ws. slice_range ws 1 145) words ∙ take_all 144 op (omega (arith, long)) in
-      let caller : t.known.local.number ≡ u.known.local.number = sym (linked_number 0 ticket t u at) in
+      let caller : t.known.local.number ≡ u.known.local.number = sym (ap (λ (x : Seated). x.known.local.number) at.same) in
       let linked = λ (c n : ℕ) (o : List ℕ). (let x : Linked = record { ticket = ticket; entry = record { caller = c; number = n; op = o } } in x ∷ []) in
       at.own
       ∙ ap (λ xs. xs ++ record { ticket = ticket; entry = entry_in t.known.local 0 } ∷ []) still_none
