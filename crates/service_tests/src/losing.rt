@@ -5,7 +5,8 @@ ghost use Rattle.cx_base.specs.Tally.{IsTally};
 ghost use Rattle.cx_core.specs.Base.{LawfulBase};
 ghost use Rattle.cx_service.specs.Callers.{IsCallerOf};
 ghost use Rattle.cx_service.specs.Closes.{seat_of};
-ghost use Rattle.recovery_tests.specs.Tests.{IsBack, IsClosedTally};
+ghost use Rattle.service_tests.specs.Closed.{IsClosedTally};
+ghost use Rattle.service_tests.specs.Tests.{IsBack};
 
 use crate::closing::{NO_LIMIT, closed, left, recovered, started};
 use cx_base::tally::Tally;

@@ -5,12 +5,12 @@ ghost use Rattle.cx_core.specs.Base.{LawfulBase, fresh_region};
 ghost use Rattle.doc_store.specs.ExactStep.{IsImage, opening_image};
 ghost use Rattle.life_laws.specs.Begins.{IsBaseOf, nothing_begun};
 
-use crate::{
+use cx_core::Base;
+use doc_store::DocStore;
+use life_laws::{
     fresh_bases_begin_with_nothing, histories_mean_stores, kept_bases_begin_the_next_life,
     kept_lives_go_on, replies_are_the_stores,
 };
-use cx_core::Base;
-use doc_store::DocStore;
 use std::test::Fail;
 
 // What the first base of a store begins with, and that the laws of lives hold from it on.

@@ -9,7 +9,7 @@ ghost use Rattle.cx_service.specs.Closes.{seat_of};
 ghost use Rattle.mutation_queue.specs.Tests.{IsPairOf};
 ghost use Rattle.recovery.specs.Crashes.{left_root};
 ghost use Rattle.recovery.specs.declared.recovering.ImageFault.TheVariants.{Memory};
-ghost use Rattle.recovery_tests.specs.Tests.{IsClosedTally, IsOpenedTally};
+ghost use Rattle.service_tests.specs.Closed.{IsClosedTally, IsOpenedTally};
 
 use cx_base::tally::Tally;
 use cx_core::Base;

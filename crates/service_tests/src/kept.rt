@@ -1,6 +1,6 @@
 //! Tables of entries that are kept, and of the flags of stop lines.
 
-use crate::kept::{flag_stops, is_kept};
+use journals::{flag_stops, is_kept};
 use life_records::{JournalLine, StopLine};
 use std::alloc::{AllocError, Global};
 use std::test::Fail;
