@@ -76,11 +76,21 @@ fn is_slot(region: &[u64], caller: u32, log: Option<&Vec<Told>>) -> bool {
     let Some((number, reply)) = region.get(at..).and_then(|slot| slot.split_first()) else {
         return false;
     };
-    let told = log.map_or(&[][..], |log| log.as_slice());
-    let last = told.iter().rev().find(|told| !told.beside);
-    let want = last.map_or([0; 144], |told| told.reply);
-    *number == told.iter().filter(|told| !told.beside).count() as u64
-        && reply.get(..144) == Some(&want[..])
+    let (updates, last) = log.map_or((0, [0; 144]), |log| last_update(log));
+    *number == updates && reply.get(..144) == Some(&last[..])
+}
+
+// How many updates a caller made, and the reply to the last of them, which is 0 where there is none.
+fn last_update(log: &[Told]) -> (u64, [u64; 144]) {
+    let mut updates = 0u64;
+    let mut reply = [0; 144];
+    for told in log {
+        if !told.is_beside() {
+            updates = updates.wrapping_add(1);
+            reply = told.reply;
+        }
+    }
+    (updates, reply)
 }
 
 // The same over a memory, from the opening image on. Of each caller so many calls were made before.
@@ -125,22 +135,65 @@ fn replied<O: Object, M: Memory>(
     object.run(mem, op)
 }
 
-// A call that comes next, with its caller and its number among the caller's: one at this place, a read before an update.
-fn next_of<'a>(
-    logs: &'a [Vec<Told>],
-    done: &[usize],
-    place: u64,
-) -> Option<(usize, usize, &'a Told)> {
-    for beside in [true, false] {
-        for (caller, (log, k)) in logs.iter().zip(done).enumerate() {
-            if let Some(told) = log.get(*k) {
-                if told.at == place && told.beside == beside {
-                    return Some((caller, *k, told));
-                }
-            }
+// The first caller whose next call is answered at this place, a read beside the queue or an update.
+fn caller_at(logs: &[Vec<Told>], done: &[usize], place: u64, beside: bool) -> Option<usize> {
+    for (caller, log) in logs.iter().enumerate() {
+        if is_next(log, done.get(caller).copied(), place, beside) {
+            return Some(caller);
         }
     }
     None
+}
+
+// Whether a caller's call of this number is answered so.
+fn is_next(log: &[Told], number: Option<usize>, place: u64, beside: bool) -> bool {
+    let Some(told) = number.and_then(|k| log.get(k)) else {
+        return false;
+    };
+    if beside {
+        told.is_read(place)
+    } else {
+        told.is_updated(place)
+    }
+}
+
+// A call that comes next, with its caller and its number among the caller's: one at this place, a read before an update.
+fn next_of(logs: &[Vec<Told>], done: &[usize], place: u64) -> Option<(usize, usize)> {
+    let caller = match caller_at(logs, done, place, true) {
+        Some(caller) => caller,
+        None => caller_at(logs, done, place, false)?,
+    };
+    Some((caller, done.get(caller).copied()?))
+}
+
+// What a caller was told of its call of this number.
+fn told_of(logs: &[Vec<Told>], caller: usize, k: usize) -> Option<&Told> {
+    logs.get(caller)?.get(k)
+}
+
+// The place after a call at a place.
+fn place_after(told: &Told, place: u64) -> u64 {
+    if told.is_beside() {
+        place
+    } else {
+        place.wrapping_add(1)
+    }
+}
+
+// Of a caller one call more was made.
+fn count_call(done: &mut [usize], caller: usize) {
+    if let Some(count) = done.get_mut(caller) {
+        *count = count.saturating_add(1);
+    }
+}
+
+// The number of all calls.
+fn calls_in(logs: &[Vec<Told>]) -> usize {
+    let mut count = 0usize;
+    for log in logs {
+        count = count.saturating_add(log.len());
+    }
+    count
 }
 
 // From a lawful image on: each call at its place has the reply of the object.
@@ -155,24 +208,17 @@ fn replies_in_order<O: Object, M: Memory>(
     requires writable { IsTrue (M.writable mem.old) }
     requires lawful { Always (M.stands mem.old) (O.lawful object.now) }
 {
-    let calls = logs
-        .iter()
-        .fold(0usize, |sum, log| sum.saturating_add(log.len()));
     let mut place = 0u64;
-    for _ in 0..calls {
-        let Some((caller, k, told)) = next_of(logs, done, place) else {
+    for _ in 0..calls_in(logs) {
+        let Some((caller, k)) = next_of(logs, done, place) else {
             return Ok(None);
         };
         let reply = replied(object, mem, &work.task(caller as u64, k as u64))?;
-        if told.reply != reply {
-            return Ok(None);
+        match told_of(logs, caller, k) {
+            Some(told) if told.reply == reply => place = place_after(told, place),
+            _ => return Ok(None),
         }
-        if let Some(count) = done.get_mut(caller) {
-            *count = k.saturating_add(1);
-        }
-        if !told.beside {
-            place = place.wrapping_add(1);
-        }
+        count_call(done, caller);
     }
     Ok(Some(place))
 }

@@ -11,11 +11,15 @@ mod cells;
 #[cfg(test)]
 mod closing;
 #[cfg(test)]
+mod holds;
+#[cfg(test)]
 mod kept;
 #[cfg(test)]
 mod laws;
 #[cfg(test)]
 mod losing;
+#[cfg(test)]
+mod playing;
 #[cfg(test)]
 mod rows;
 #[cfg(test)]
