@@ -32,11 +32,13 @@ pub(crate) fn made_alone<O: Object>(
     };
     let mut memory = VecMemory::of(vec![in alloc; 0; count as usize]?, None);
     let mut done = Vec::from_elem(alloc, 0, logs.len())?;
-    let updates = replies_from_opening(object, &mut memory, work, logs, &mut done).unwrap_or(None);
-    Ok(updates.map(|updates| Alone {
-        updates,
-        words: memory.into_words(),
-    }))
+    match replies_from_opening(object, &mut memory, work, logs, &mut done) {
+        Ok(Some(updates)) => Ok(Some(Alone {
+            updates,
+            words: memory.into_words(),
+        })),
+        _ => Ok(None),
+    }
 }
 
 impl Alone {
@@ -45,10 +47,31 @@ impl Alone {
         let Some(region) = last_region(remains) else {
             return false;
         };
-        region.first() == Some(&self.updates)
-            && region.get(OBJECT_START as usize..) == Some(self.words.as_slice())
-            && (0..8u32).all(|caller| is_slot(region, caller, logs.get(caller as usize)))
+        self.is_of(region) && are_slots(region, logs)
     }
+
+    // Whether a region has this place and object part.
+    fn is_of(&self, region: &[u64]) -> bool {
+        let (Some(place), Some(words)) = (region.first(), region.get(OBJECT_START as usize..))
+        else {
+            return false;
+        };
+        *place == self.updates && words == self.words.as_slice()
+    }
+}
+
+// Whether the slots of a region are those of these callers.
+fn are_slots(region: &[u64], logs: &[Vec<Told>]) -> bool {
+    for caller in 0..8u32 {
+        let log = match logs.get(caller as usize) {
+            Some(log) => log.as_slice(),
+            None => &[],
+        };
+        if !is_slot(region, caller, log) {
+            return false;
+        }
+    }
+    true
 }
 
 // The words of the region that a closed service published last.
@@ -68,16 +91,15 @@ fn last_region(remains: &Remains) -> Option<&[u64]> {
 }
 
 // Whether the slot of a caller has the number of its updates and the reply to the last of them.
-fn is_slot(region: &[u64], caller: u32, log: Option<&Vec<Told>>) -> bool {
-    if caller >= 8 {
-        return false;
-    }
+fn is_slot(region: &[u64], caller: u32, log: &[Told]) -> bool
+    requires { caller < 8 }
+{
     let at = slot_start(caller) as usize;
-    let Some((number, reply)) = region.get(at..).and_then(|slot| slot.split_first()) else {
-        return false;
-    };
-    let (updates, last) = log.map_or((0, [0; 144]), |log| last_update(log));
-    *number == updates && reply.get(..144) == Some(&last[..])
+    let (updates, last) = last_update(log);
+    match region.get(at..at + 145) {
+        Some([number, reply @ ..]) => *number == updates && reply == &last[..],
+        _ => false,
+    }
 }
 
 // How many updates a caller made, and the reply to the last of them, which is 0 where there is none.
@@ -138,7 +160,8 @@ fn replied<O: Object, M: Memory>(
 // The first caller whose next call is answered at this place, a read beside the queue or an update.
 fn caller_at(logs: &[Vec<Told>], done: &[usize], place: u64, beside: bool) -> Option<usize> {
     for (caller, log) in logs.iter().enumerate() {
-        if is_next(log, done.get(caller).copied(), place, beside) {
+        let k = *done.get(caller)?;
+        if is_next(log, k, place, beside) {
             return Some(caller);
         }
     }
@@ -146,14 +169,11 @@ fn caller_at(logs: &[Vec<Told>], done: &[usize], place: u64, beside: bool) -> Op
 }
 
 // Whether a caller's call of this number is answered so.
-fn is_next(log: &[Told], number: Option<usize>, place: u64, beside: bool) -> bool {
-    let Some(told) = number.and_then(|k| log.get(k)) else {
-        return false;
-    };
-    if beside {
-        told.is_read(place)
-    } else {
-        told.is_updated(place)
+fn is_next(log: &[Told], k: usize, place: u64, beside: bool) -> bool {
+    match log.get(k) {
+        Some(told) if beside => told.is_read(place),
+        Some(told) => told.is_updated(place),
+        None => false,
     }
 }
 

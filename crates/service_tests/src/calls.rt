@@ -107,6 +107,12 @@ fn noted(came: Came, steps: u64) -> Told {
     }
 }
 
+// What is told with a reply.
+fn replied(came: Came, steps: u64, reply: &[u64; 144]) -> Told {
+    let reply = *reply;
+    Told { came, steps, reply }
+}
+
 /// How a call is made.
 #[derive(Clone, Copy)]
 pub(crate) struct Way {
@@ -205,11 +211,8 @@ fn driven<O: Object>(service: &Service<O>, linked: Linked) -> (Handed, Told)
             (Handed::Linked(linked), told)
         }
         Driven::Done(caller, answer) => {
-            let told = Told {
-                came: Came::Updated(answer.ticket),
-                steps: caller.steps(),
-                reply: answer.reply,
-            };
+            let reply = answer.reply;
+            let told = replied(Came::Updated(answer.ticket), caller.steps(), &reply);
             (Handed::Idle(caller), told)
         }
         Driven::Halted(stopped) => {
@@ -231,11 +234,8 @@ fn looked<O: Object>(service: &Service<O>, caller: Caller, op: &[u64; 144]) -> (
             (Handed::Idle(caller), told)
         }
         ReadTried::Read(caller, seen) => {
-            let told = Told {
-                came: Came::Read(seen.place),
-                steps: caller.steps(),
-                reply: seen.reply,
-            };
+            let reply = seen.reply;
+            let told = replied(Came::Read(seen.place), caller.steps(), &reply);
             (Handed::Idle(caller), told)
         }
         ReadTried::Halted(stopped) => {

@@ -87,8 +87,9 @@ fn are_kept_at_some_limit(alloc: Global) -> Result<bool, AllocError> {
             Some(full) => kept = kept || full,
             None => return Ok(false),
         }
-        if !log.first().is_some_and(is_stopped) {
-            return Ok(kept);
+        match log.first() {
+            Some(first) if is_stopped(first) => {}
+            _ => return Ok(kept),
         }
     }
     Ok(false)

@@ -41,7 +41,10 @@ const PARTS: [Part; 2] = [
 
 // Whether caller 0 was answered, the last.
 fn is_answered(log: &[Told]) -> bool {
-    log.last().is_some_and(|told| told.is_answered())
+    match log.last() {
+        Some(told) => told.is_answered(),
+        None => false,
+    }
 }
 
 // The word of a base.
@@ -162,12 +165,22 @@ fn published_updates_may_be_kept_and_answered_ones_are(rt: HostRuntime) -> Resul
 // Lays the pairs of an image out as words. It says whether each has its place, and none is 0.
 fn laid_out(image: &Image, words: &mut [u64]) -> bool {
     for (at, word) in image.pairs.as_slice() {
-        match words.get_mut(*at as usize) {
-            Some(place) if *word != 0 => *place = *word,
-            _ => return false,
+        if *word == 0 || !is_put(words, *at as usize, *word) {
+            return false;
         }
     }
     true
+}
+
+// Puts a word at a place. It says whether there is the place.
+fn is_put(words: &mut [u64], at: usize, word: u64) -> bool {
+    match words.get_mut(at) {
+        Some(place) => {
+            *place = word;
+            true
+        }
+        None => false,
+    }
 }
 
 // The word that a choice leaves.

@@ -3,16 +3,16 @@
 ghost use Rattle.std.specs.Prelude.{IfOk};
 ghost use Rattle.cx_base.specs.Tally.{IsTally};
 ghost use Rattle.cx_core.specs.Base.{LawfulBase};
-ghost use Rattle.cx_service.specs.Callers.{IsCallerOf};
+ghost use Rattle.cx_service.specs.Closes.{seat_of};
 ghost use Rattle.service_tests.specs.Closed.{IsClosedTally};
-ghost use Rattle.service_tests.specs.Tests.{IsBack};
+ghost use Rattle.service_tests.specs.Tests.{IsBack, IsOf};
 
 use crate::calls::{Told, Way, all_asked};
 use crate::starting::{base_at, one_started, two_closed, two_started};
 use crate::tasks::{Work, adds};
 use cx_base::tally::Tally;
 use cx_core::Base;
-use cx_service::{Caller, Handed, Service};
+use cx_service::{Handed, Service};
 use cx_table::Remains;
 use std::alloc::{AllocError, Global};
 
@@ -51,34 +51,54 @@ pub(crate) fn played_from(
 {
     let (service, first, second) = two_started(alloc, limits, base)?;
     let mut log = Vec::new(alloc);
-    let (first, second) = both_asked(&service, first, second, parts, &mut log);
-    let remains = two_closed(alloc, service, first, second)?;
-    Ok(Outcome { log, remains })
+    let pair = Pair {
+        first: Handed::Idle(first),
+        second: Handed::Idle(second),
+    };
+    let Pair { first, second } = parts_asked(&service, pair, parts, &mut log);
+    match two_closed(alloc, service, first, second) {
+        Ok(remains) => Ok(Outcome { log, remains }),
+        Err(fault) => Err(fault),
+    }
+}
+
+// Two callers.
+#[derive(Drop)]
+struct Pair {
+    first: Handed,
+    second: Handed,
+}
+
+// One of two callers asks for its operations.
+fn part_asked(service: &Service<Tally>, pair: Pair, part: &Part, log: &mut Vec<Told>) -> Pair
+    requires first { IsOf service.now pair.first }
+    requires second { IsOf service.now pair.second }
+    ensures first { IsBack service.now (seat_of pair.first) result.first }
+    ensures second { IsBack service.now (seat_of pair.second) result.second }
+{
+    let (number, work, way) = *part;
+    let Pair { first, second } = pair;
+    if number == 0 {
+        let first = all_asked(service, first, work, way, log);
+        Pair { first, second }
+    } else {
+        let second = all_asked(service, second, work, way, log);
+        Pair { first, second }
+    }
 }
 
 // The parts of two callers, one after another.
-fn both_asked(
-    service: &Service<Tally>,
-    first: Caller,
-    second: Caller,
-    parts: &[Part],
-    log: &mut Vec<Told>,
-) -> (Handed, Handed)
-    requires first { IsCallerOf service.now first }
-    requires second { IsCallerOf service.now second }
-    ensures first { IsBack service.now first result.0 }
-    ensures second { IsBack service.now second result.1 }
+fn parts_asked(service: &Service<Tally>, pair: Pair, parts: &[Part], log: &mut Vec<Told>) -> Pair
+    requires first { IsOf service.now pair.first }
+    requires second { IsOf service.now pair.second }
+    ensures first { IsBack service.now (seat_of pair.first) result.first }
+    ensures second { IsBack service.now (seat_of pair.second) result.second }
 {
-    let mut first = Handed::Idle(first);
-    let mut second = Handed::Idle(second);
-    for (number, work, way) in parts {
-        if *number == 0 {
-            first = all_asked(service, first, *work, *way, log);
-        } else {
-            second = all_asked(service, second, *work, *way, log);
-        }
+    let mut pair = pair;
+    for part in parts {
+        pair = part_asked(service, pair, part, log);
     }
-    (first, second)
+    pair
 }
 
 /// What the caller of a service of one is told, which opens from the first base at a place.

@@ -109,7 +109,10 @@ pub(crate) fn two_closed(
     ensures { IfOk result IsClosedTally }
 {
     let callers = vec![in alloc; first, second]?;
-    service.close(alloc, callers).map_err(|_| AllocError)
+    match service.close(alloc, callers) {
+        Ok(remains) => Ok(remains),
+        Err(_) => Err(AllocError),
+    }
 }
 
 /// A service of callers without limits that opens from the object's fresh base.

@@ -124,10 +124,10 @@ fn left_at(alloc: Global, limit: u64) -> Result<Option<Left>, AllocError> {
 
 // The place of the root that a closed service of two callers published first.
 fn durable_place(remains: &Remains) -> u64 {
-    remains
-        .published
-        .first()
-        .map_or(0, |code| root_place(2, *code))
+    match remains.published.first() {
+        Some(code) => root_place(2, *code),
+        None => 0,
+    }
 }
 
 // Whether a stopped caller has the ticket of its entry from the link on. Once the raise of the durable root, which puts the reply into the
