@@ -6,8 +6,6 @@ mod begins;
 mod kept;
 mod meanings;
 mod replies;
-#[cfg(test)]
-mod tests;
 mod values;
 
 pub use begins::{fresh_bases_begin_with_nothing, kept_bases_begin_the_next_life};

@@ -1,1 +1,2 @@
+mod PairsLookedThrough
 mod Working

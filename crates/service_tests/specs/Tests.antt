@@ -2,18 +2,23 @@
 use Rattle.std.specs.Prelude.{◌≡◌}
 use Rattle.cx_rule.specs.Running.{IsSeatOf, Running}
 use Rattle.cx_rule.specs.Seats.{Seated}
-use Rattle.cx_service.specs.declared.submit.Submitted.{Submitted}
-use Rattle.cx_service.specs.declared.submit.Submitted.TheVariants.{Linked, Again, Full, Worn, Halted}
+use Rattle.cx_service.specs.Callers.{IsCallerOf, IsLinkedOf}
+use Rattle.cx_service.specs.Closes.{seat_of}
+use Rattle.cx_service.specs.declared.close.Handed.{Handed}
+use Rattle.cx_service.specs.declared.close.Handed.TheVariants.{Idle, Linked, Stopped}
 
--- the caller as a call hands it back, in whatever state: it is of this service, and has the number that it had
-pub record IsBack {O : Type 0} (r : Running O) (before after : Seated) : Type 0 where
-  pub of : IsSeatOf r after
-  pub number : after.known.local.number ≡ before.known.local.number
+-- a caller of this service is in a state in which calls leave it
+abbrev pub IsLeft : {O : Type 0} → Running O → Handed → Type 0
+IsLeft r (Idle seat) = IsCallerOf r seat
+IsLeft r (Linked seat) = IsLinkedOf r seat
+IsLeft r (Stopped stopped) = IsSeatOf r stopped.seat
 
--- the seat of the caller that a submit hands back
-abbrev pub seat_in : Submitted → Seated
-seat_in (Linked seat) = seat
-seat_in (Again seat) = seat
-seat_in (Full seat note) = seat
-seat_in (Worn seat) = seat
-seat_in (Halted stopped) = stopped.seat
+-- it is that, and its seat the service's
+pub record IsOf {O : Type 0} (r : Running O) (handed : Handed) : Type 0 where
+  pub seat : IsSeatOf r (seat_of handed)
+  pub left : IsLeft r handed
+
+-- the caller as a call hands it back: it is of this service, and has the number that it had
+pub record IsBack {O : Type 0} (r : Running O) (before : Seated) (after : Handed) : Type 0 where
+  pub of : IsOf r after
+  pub number : (seat_of after).known.local.number ≡ before.known.local.number

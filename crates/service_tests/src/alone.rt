@@ -32,11 +32,13 @@ pub(crate) fn made_alone<O: Object>(
     };
     let mut memory = VecMemory::of(vec![in alloc; 0; count as usize]?, None);
     let mut done = Vec::from_elem(alloc, 0, logs.len())?;
-    let updates = replies_from_opening(object, &mut memory, work, logs, &mut done).unwrap_or(None);
-    Ok(updates.map(|updates| Alone {
-        updates,
-        words: memory.into_words(),
-    }))
+    match replies_from_opening(object, &mut memory, work, logs, &mut done) {
+        Ok(Some(updates)) => Ok(Some(Alone {
+            updates,
+            words: memory.into_words(),
+        })),
+        _ => Ok(None),
+    }
 }
 
 impl Alone {
@@ -45,10 +47,31 @@ impl Alone {
         let Some(region) = last_region(remains) else {
             return false;
         };
-        region.first() == Some(&self.updates)
-            && region.get(OBJECT_START as usize..) == Some(self.words.as_slice())
-            && (0..8u32).all(|caller| is_slot(region, caller, logs.get(caller as usize)))
+        self.is_of(region) && are_slots(region, logs)
     }
+
+    // Whether a region has this place and object part.
+    fn is_of(&self, region: &[u64]) -> bool {
+        let (Some(place), Some(words)) = (region.first(), region.get(OBJECT_START as usize..))
+        else {
+            return false;
+        };
+        *place == self.updates && words == self.words.as_slice()
+    }
+}
+
+// Whether the slots of a region are those of these callers.
+fn are_slots(region: &[u64], logs: &[Vec<Told>]) -> bool {
+    for caller in 0..8u32 {
+        let log = match logs.get(caller as usize) {
+            Some(log) => log.as_slice(),
+            None => &[],
+        };
+        if !is_slot(region, caller, log) {
+            return false;
+        }
+    }
+    true
 }
 
 // The words of the region that a closed service published last.
@@ -68,19 +91,28 @@ fn last_region(remains: &Remains) -> Option<&[u64]> {
 }
 
 // Whether the slot of a caller has the number of its updates and the reply to the last of them.
-fn is_slot(region: &[u64], caller: u32, log: Option<&Vec<Told>>) -> bool {
-    if caller >= 8 {
-        return false;
-    }
+fn is_slot(region: &[u64], caller: u32, log: &[Told]) -> bool
+    requires { caller < 8 }
+{
     let at = slot_start(caller) as usize;
-    let Some((number, reply)) = region.get(at..).and_then(|slot| slot.split_first()) else {
-        return false;
-    };
-    let told = log.map_or(&[][..], |log| log.as_slice());
-    let last = told.iter().rev().find(|told| !told.beside);
-    let want = last.map_or([0; 144], |told| told.reply);
-    *number == told.iter().filter(|told| !told.beside).count() as u64
-        && reply.get(..144) == Some(&want[..])
+    let (updates, last) = last_update(log);
+    match region.get(at..at + 145) {
+        Some([number, reply @ ..]) => *number == updates && reply == &last[..],
+        _ => false,
+    }
+}
+
+// How many updates a caller made, and the reply to the last of them, which is 0 where there is none.
+fn last_update(log: &[Told]) -> (u64, [u64; 144]) {
+    let mut updates = 0u64;
+    let mut reply = [0; 144];
+    for told in log {
+        if !told.is_beside() {
+            updates = updates.wrapping_add(1);
+            reply = told.reply;
+        }
+    }
+    (updates, reply)
 }
 
 // The same over a memory, from the opening image on. Of each caller so many calls were made before.
@@ -125,22 +157,63 @@ fn replied<O: Object, M: Memory>(
     object.run(mem, op)
 }
 
-// A call that comes next, with its caller and its number among the caller's: one at this place, a read before an update.
-fn next_of<'a>(
-    logs: &'a [Vec<Told>],
-    done: &[usize],
-    place: u64,
-) -> Option<(usize, usize, &'a Told)> {
-    for beside in [true, false] {
-        for (caller, (log, k)) in logs.iter().zip(done).enumerate() {
-            if let Some(told) = log.get(*k) {
-                if told.at == place && told.beside == beside {
-                    return Some((caller, *k, told));
-                }
-            }
+// The first caller whose next call is answered at this place, a read beside the queue or an update.
+fn caller_at(logs: &[Vec<Told>], done: &[usize], place: u64, beside: bool) -> Option<usize> {
+    for (caller, log) in logs.iter().enumerate() {
+        let k = *done.get(caller)?;
+        if is_next(log, k, place, beside) {
+            return Some(caller);
         }
     }
     None
+}
+
+// Whether a caller's call of this number is answered so.
+fn is_next(log: &[Told], k: usize, place: u64, beside: bool) -> bool {
+    match log.get(k) {
+        Some(told) if beside => told.is_read(place),
+        Some(told) => told.is_updated(place),
+        None => false,
+    }
+}
+
+// A call that comes next, with its caller and its number among the caller's: one at this place, a read before an update.
+fn next_of(logs: &[Vec<Told>], done: &[usize], place: u64) -> Option<(usize, usize)> {
+    let caller = match caller_at(logs, done, place, true) {
+        Some(caller) => caller,
+        None => caller_at(logs, done, place, false)?,
+    };
+    Some((caller, done.get(caller).copied()?))
+}
+
+// What a caller was told of its call of this number.
+fn told_of(logs: &[Vec<Told>], caller: usize, k: usize) -> Option<&Told> {
+    logs.get(caller)?.get(k)
+}
+
+// The place after a call at a place.
+fn place_after(told: &Told, place: u64) -> u64 {
+    if told.is_beside() {
+        place
+    } else {
+        place.wrapping_add(1)
+    }
+}
+
+// Of a caller one call more was made.
+fn count_call(done: &mut [usize], caller: usize) {
+    if let Some(count) = done.get_mut(caller) {
+        *count = count.saturating_add(1);
+    }
+}
+
+// The number of all calls.
+fn calls_in(logs: &[Vec<Told>]) -> usize {
+    let mut count = 0usize;
+    for log in logs {
+        count = count.saturating_add(log.len());
+    }
+    count
 }
 
 // From a lawful image on: each call at its place has the reply of the object.
@@ -155,24 +228,17 @@ fn replies_in_order<O: Object, M: Memory>(
     requires writable { IsTrue (M.writable mem.old) }
     requires lawful { Always (M.stands mem.old) (O.lawful object.now) }
 {
-    let calls = logs
-        .iter()
-        .fold(0usize, |sum, log| sum.saturating_add(log.len()));
     let mut place = 0u64;
-    for _ in 0..calls {
-        let Some((caller, k, told)) = next_of(logs, done, place) else {
+    for _ in 0..calls_in(logs) {
+        let Some((caller, k)) = next_of(logs, done, place) else {
             return Ok(None);
         };
         let reply = replied(object, mem, &work.task(caller as u64, k as u64))?;
-        if told.reply != reply {
-            return Ok(None);
+        match told_of(logs, caller, k) {
+            Some(told) if told.reply == reply => place = place_after(told, place),
+            _ => return Ok(None),
         }
-        if let Some(count) = done.get_mut(caller) {
-            *count = k.saturating_add(1);
-        }
-        if !told.beside {
-            place = place.wrapping_add(1);
-        }
+        count_call(done, caller);
     }
     Ok(Some(place))
 }

@@ -1,201 +1,342 @@
-//! A caller's calls, each made again in the next turn until it is answered.
+//! A caller's calls, turn by turn.
 
-ghost use Rattle.std.specs.Prelude.{◌≡◌, IfErr, IfOk, IsTrue};
+ghost use Rattle.std.specs.Prelude.{◌≤◌, IsTrue};
 ghost use Rattle.cx_service.specs.Callers.{IsCallerOf, IsLinkedOf};
 ghost use Rattle.cx_service.specs.Closes.{seat_of};
-ghost use Rattle.service_tests.specs.Tests.{IsBack};
+ghost use Rattle.service_tests.specs.Tests.{IsBack, IsOf};
 
 use crate::tasks::Work;
 use cx_base::Object;
-use cx_service::{Answer, Caller, Driven, Handed, Linked, ReadTried, Seen, Service, Submitted};
+use cx_core::FullNote;
+use cx_service::{Caller, Driven, Handed, Linked, ReadTried, Service, Submitted};
 use std::thread::yield_now;
 
-/// What a caller was answered of an operation: of an update the ticket, of a read beside the queue the place; and the reply.
-#[derive(Clone, Copy, Debug, PartialEq, Eq, Drop)]
+/// What a turn came to.
+#[derive(Clone, Copy)]
+pub(crate) enum Came {
+    /// The update at this ticket is answered.
+    Updated(u64),
+    /// The read beside the queue is answered at this place.
+    Read(u64),
+    /// The entry is linked at this ticket, and not driven yet.
+    Linked(u64),
+    /// Each try found another's link.
+    Again,
+    /// A refusal was met.
+    Pending,
+    /// No cell of the caller is idle.
+    Full(FullNote),
+    /// There is no further ticket, and the caller's front is this.
+    Worn(u64),
+    /// The step limit was reached: the ticket of the linked entry that no call has answered.
+    Halted(Option<u64>),
+}
+
+/// What a caller is told of a call, its steps then, and the reply, which is 0 where there is none.
+#[derive(Clone, Copy)]
 pub(crate) struct Told {
-    pub(crate) beside: bool,
-    pub(crate) at: u64,
+    pub(crate) came: Came,
+    pub(crate) steps: u64,
     pub(crate) reply: [u64; 144],
 }
 
-/// Submits an operation, in at most so many turns of one try. `Err` is the caller that did not link it.
-pub(crate) fn submitted<O: Object>(
+impl Told {
+    /// Whether the call is answered.
+    pub(crate) fn is_answered(&self) -> bool {
+        match self.came {
+            Came::Updated(_) | Came::Read(_) => true,
+            _ => false,
+        }
+    }
+
+    /// Whether the update at this ticket is answered.
+    pub(crate) fn is_updated(&self, ticket: u64) -> bool {
+        match self.came {
+            Came::Updated(at) => at == ticket,
+            _ => false,
+        }
+    }
+
+    /// Whether the read beside the queue is answered at this place.
+    pub(crate) fn is_read(&self, place: u64) -> bool {
+        match self.came {
+            Came::Read(at) => at == place,
+            _ => false,
+        }
+    }
+
+    /// Whether a read beside the queue is answered.
+    pub(crate) fn is_beside(&self) -> bool {
+        match self.came {
+            Came::Read(_) => true,
+            _ => false,
+        }
+    }
+
+    /// Whether the step limit was reached, with this ticket of a linked entry.
+    pub(crate) fn is_halted(&self, linked: Option<u64>) -> bool {
+        match self.came {
+            Came::Halted(at) => at == linked,
+            _ => false,
+        }
+    }
+
+    // Whether no further turn is of use.
+    fn is_last(&self) -> bool {
+        match self.came {
+            Came::Linked(_) | Came::Again | Came::Pending | Came::Full(_) => false,
+            _ => true,
+        }
+    }
+
+    // Whether another caller is to go on first: it holds a replica, or needs the entries in the cells as long as it drives.
+    fn waits(&self) -> bool {
+        match self.came {
+            Came::Pending | Came::Full(_) => true,
+            _ => false,
+        }
+    }
+}
+
+// What is told without a reply.
+fn noted(came: Came, steps: u64) -> Told {
+    Told {
+        came,
+        steps,
+        reply: [0; 144],
+    }
+}
+
+// What is told with a reply.
+fn replied(came: Came, steps: u64, reply: &[u64; 144]) -> Told {
+    let reply = *reply;
+    Told { came, steps, reply }
+}
+
+/// How a call is made.
+#[derive(Clone, Copy)]
+pub(crate) struct Way {
+    /// Whether each submit has two tries, and else one.
+    pub(crate) twice: bool,
+    /// The most turns: each submits, drives the linked entry once, or reads beside the queue once.
+    pub(crate) turns: u64,
+    /// Whether an operation that only reads is read beside the queue.
+    pub(crate) beside: bool,
+}
+
+/// One submit with one try.
+pub(crate) const SUBMIT: Way = Way {
+    twice: false,
+    turns: 1,
+    beside: false,
+};
+
+/// One submit with two tries.
+pub(crate) const SUBMIT_TWICE: Way = Way {
+    twice: true,
+    turns: 1,
+    beside: false,
+};
+
+/// One submit with one try, and one turn that drives.
+pub(crate) const UPDATE: Way = Way {
+    twice: false,
+    turns: 2,
+    beside: false,
+};
+
+/// One submit with two tries, and one turn that drives.
+pub(crate) const UPDATE_TWICE: Way = Way {
+    twice: true,
+    turns: 2,
+    beside: false,
+};
+
+/// One turn that reads.
+pub(crate) const READ: Way = Way {
+    twice: false,
+    turns: 1,
+    beside: true,
+};
+
+// The tries of a submit.
+fn tries(twice: bool) -> u64
+    ensures { 1 ≤ result }
+{
+    if twice { 2 } else { 1 }
+}
+
+// A submit.
+fn submitted<O: Object>(
     service: &Service<O>,
     caller: Caller,
     op: &[u64; 144],
-    turns: u64,
-) -> Result<Linked, Handed>
+    twice: bool,
+) -> (Handed, Told)
     requires { IsCallerOf service.now caller }
-    ensures linked { IfOk result (IsLinkedOf service.now) }
-    ensures number { IfOk result (λ l. l.known.local.number ≡ caller.known.local.number) }
-    ensures back { IfErr result (λ h. IsBack service.now caller (seat_of h)) }
+    ensures { IsBack service.now caller result.0 }
 {
-    let mut caller = caller;
-    for _turn in 0..turns {
-        match service.submit(caller, op, 1) {
-            Submitted::Linked(linked) => return Ok(linked),
-            Submitted::Again(back) => caller = back,
-            // another caller needs the entries in the cells as long as it drives
-            Submitted::Full(back, _) => {
-                caller = back;
-                yield_now();
-            }
-            Submitted::Worn(back) => return Err(Handed::Idle(back)),
-            Submitted::Halted(stopped) => return Err(Handed::Stopped(stopped)),
+    match service.submit(caller, op, tries(twice)) {
+        Submitted::Linked(linked) => {
+            let told = noted(Came::Linked(linked.ticket()), linked.steps());
+            (Handed::Linked(linked), told)
+        }
+        Submitted::Again(caller) => {
+            let told = noted(Came::Again, caller.steps());
+            (Handed::Idle(caller), told)
+        }
+        Submitted::Full(caller, note) => {
+            let told = noted(Came::Full(note), caller.steps());
+            (Handed::Idle(caller), told)
+        }
+        Submitted::Worn(caller) => {
+            let told = noted(Came::Worn(caller.front()), caller.steps());
+            (Handed::Idle(caller), told)
+        }
+        Submitted::Halted(stopped) => {
+            let told = noted(Came::Halted(stopped.linked()), stopped.steps());
+            (Handed::Stopped(stopped), told)
         }
     }
-    Err(Handed::Idle(caller))
 }
 
-/// Drives a linked entry, in at most so many turns. `Err` is the caller whose entry was not answered.
-pub(crate) fn driven<O: Object>(
-    service: &Service<O>,
-    linked: Linked,
-    turns: u64,
-) -> Result<(Caller, Answer), Handed>
+// A turn that drives.
+fn driven<O: Object>(service: &Service<O>, linked: Linked) -> (Handed, Told)
     requires { IsLinkedOf service.now linked }
-    ensures caller { IfOk result (λ r. IsCallerOf service.now r.0) }
-    ensures number { IfOk result (λ r. r.0.known.local.number ≡ linked.known.local.number) }
-    ensures back { IfErr result (λ h. IsBack service.now linked (seat_of h)) }
+    ensures { IsBack service.now linked result.0 }
 {
-    let mut linked = linked;
-    for _turn in 0..turns {
-        match service.drive(linked, 1) {
-            Driven::Pending(back) => {
-                linked = back;
-                yield_now();
-            }
-            Driven::Done(caller, answer) => return Ok((caller, answer)),
-            Driven::Halted(stopped) => return Err(Handed::Stopped(stopped)),
+    match service.drive(linked, 1) {
+        Driven::Pending(linked) => {
+            let told = noted(Came::Pending, linked.steps());
+            (Handed::Linked(linked), told)
+        }
+        Driven::Done(caller, answer) => {
+            let reply = answer.reply;
+            let told = replied(Came::Updated(answer.ticket), caller.steps(), &reply);
+            (Handed::Idle(caller), told)
+        }
+        Driven::Halted(stopped) => {
+            let told = noted(Came::Halted(stopped.linked()), stopped.steps());
+            (Handed::Stopped(stopped), told)
         }
     }
-    Err(Handed::Linked(linked))
 }
 
-/// Reads beside the queue, in at most so many turns. `Err` is the caller that was not answered.
-pub(crate) fn looked<O: Object>(
-    service: &Service<O>,
-    caller: Caller,
-    op: &[u64; 144],
-    turns: u64,
-) -> Result<(Caller, Seen), Handed>
+// A turn that reads beside the queue.
+fn looked<O: Object>(service: &Service<O>, caller: Caller, op: &[u64; 144]) -> (Handed, Told)
     requires caller { IsCallerOf service.now caller }
     requires reads { IsTrue (O.only_reads service.now.object op.now) }
-    ensures caller { IfOk result (λ r. IsCallerOf service.now r.0) }
-    ensures number { IfOk result (λ r. r.0.known.local.number ≡ caller.known.local.number) }
-    ensures back { IfErr result (λ h. IsBack service.now caller (seat_of h)) }
+    ensures { IsBack service.now caller result.0 }
 {
-    let mut caller = caller;
-    for _turn in 0..turns {
-        match service.try_read(caller, op, 1) {
-            ReadTried::Pending(back) => {
-                caller = back;
-                yield_now();
-            }
-            ReadTried::Read(back, seen) => return Ok((back, seen)),
-            ReadTried::Halted(stopped) => return Err(Handed::Stopped(stopped)),
+    match service.try_read(caller, op, 1) {
+        ReadTried::Pending(caller) => {
+            let told = noted(Came::Pending, caller.steps());
+            (Handed::Idle(caller), told)
+        }
+        ReadTried::Read(caller, seen) => {
+            let reply = seen.reply;
+            let told = replied(Came::Read(seen.place), caller.steps(), &reply);
+            (Handed::Idle(caller), told)
+        }
+        ReadTried::Halted(stopped) => {
+            let told = noted(Came::Halted(stopped.linked()), stopped.steps());
+            (Handed::Stopped(stopped), told)
         }
     }
-    Err(Handed::Idle(caller))
 }
 
-/// Makes an operation that only reads beside the queue, and any other an update.
+// A turn of a caller with no call under way.
+fn begun<O: Object>(
+    service: &Service<O>,
+    caller: Caller,
+    op: &[u64; 144],
+    way: Way,
+) -> (Handed, Told)
+    requires { IsCallerOf service.now caller }
+    ensures { IsBack service.now caller result.0 }
+{
+    if way.beside && service.object().reads(op) {
+        looked(service, caller, op)
+    } else {
+        submitted(service, caller, op, way.twice)
+    }
+}
+
+// A turn of a caller.
+fn turned<O: Object>(
+    service: &Service<O>,
+    handed: Handed,
+    op: &[u64; 144],
+    way: Way,
+) -> (Handed, Told)
+    requires { IsOf service.now handed }
+    ensures { IsBack service.now (seat_of handed) result.0 }
+{
+    match handed {
+        Handed::Idle(caller) => begun(service, caller, op, way),
+        Handed::Linked(linked) => driven(service, linked),
+        Handed::Stopped(stopped) => {
+            let told = noted(Came::Halted(stopped.linked()), stopped.steps());
+            (Handed::Stopped(stopped), told)
+        }
+    }
+}
+
+/// A caller asks for an operation, and is told what its last turn came to.
 pub(crate) fn asked<O: Object>(
     service: &Service<O>,
-    caller: Caller,
+    handed: Handed,
     op: &[u64; 144],
-    turns: u64,
-) -> Result<(Caller, Told), Handed>
-    requires { IsCallerOf service.now caller }
-    ensures caller { IfOk result (λ r. IsCallerOf service.now r.0) }
-    ensures number { IfOk result (λ r. r.0.known.local.number ≡ caller.known.local.number) }
-    ensures back { IfErr result (λ h. IsBack service.now caller (seat_of h)) }
+    way: Way,
+) -> (Handed, Told)
+    requires { IsOf service.now handed }
+    ensures { IsBack service.now (seat_of handed) result.0 }
 {
-    if service.object().reads(op) {
-        return asked_beside(service, caller, op, turns);
-    }
-    match submitted(service, caller, op, turns) {
-        Ok(linked) => told_by_drive(service, linked, turns),
-        Err(handed) => Err(handed),
-    }
-}
-
-// The note of what was told.
-fn noted(beside: bool, at: u64, reply: &[u64; 144]) -> Told {
-    let reply = *reply;
-    Told { beside, at, reply }
-}
-
-// Reads beside the queue.
-fn asked_beside<O: Object>(
-    service: &Service<O>,
-    caller: Caller,
-    op: &[u64; 144],
-    turns: u64,
-) -> Result<(Caller, Told), Handed>
-    requires caller { IsCallerOf service.now caller }
-    requires reads { IsTrue (O.only_reads service.now.object op.now) }
-    ensures caller { IfOk result (λ r. IsCallerOf service.now r.0) }
-    ensures number { IfOk result (λ r. r.0.known.local.number ≡ caller.known.local.number) }
-    ensures back { IfErr result (λ h. IsBack service.now caller (seat_of h)) }
-{
-    match looked(service, caller, op, turns) {
-        Ok((caller, seen)) => {
-            let reply = seen.reply;
-            let told = noted(true, seen.place, &reply);
-            Ok((caller, told))
+    let mut handed = handed;
+    let mut last = noted(Came::Pending, 0);
+    for _turn in 0..way.turns {
+        let (back, now) = turned(service, handed, op, way);
+        handed = back;
+        last = now;
+        if last.is_last() {
+            break;
         }
-        Err(handed) => Err(handed),
-    }
-}
-
-// Drives the entry of an operation.
-fn told_by_drive<O: Object>(
-    service: &Service<O>,
-    linked: Linked,
-    turns: u64,
-) -> Result<(Caller, Told), Handed>
-    requires { IsLinkedOf service.now linked }
-    ensures caller { IfOk result (λ r. IsCallerOf service.now r.0) }
-    ensures number { IfOk result (λ r. r.0.known.local.number ≡ linked.known.local.number) }
-    ensures back { IfErr result (λ h. IsBack service.now linked (seat_of h)) }
-{
-    match driven(service, linked, turns) {
-        Ok((caller, answer)) => {
-            let reply = answer.reply;
-            let told = noted(false, answer.ticket, &reply);
-            Ok((caller, told))
+        if last.waits() {
+            yield_now();
         }
-        Err(handed) => Err(handed),
+    }
+    (handed, last)
+}
+
+// The number of a caller.
+fn number_of(handed: &Handed) -> u32 {
+    match handed {
+        Handed::Idle(caller) => caller.number(),
+        Handed::Linked(linked) => linked.number(),
+        Handed::Stopped(stopped) => stopped.number(),
     }
 }
 
-/// Asks for the caller's operations one after another, each in at most so many turns, and notes what is told. `Err` is the caller that
-/// was not answered, or for whose note no memory was left.
+/// A caller asks for its operations one after another, as long as they are answered, and what it is told is put at the end of a list. It
+/// also ends where no memory is left for that.
 pub(crate) fn all_asked<O: Object>(
     service: &Service<O>,
-    caller: Caller,
+    handed: Handed,
     work: Work,
-    turns: u64,
+    way: Way,
     log: &mut Vec<Told>,
-) -> Result<Caller, Handed>
-    requires { IsCallerOf service.now caller }
-    ensures caller { IfOk result (IsCallerOf service.now) }
-    ensures number { IfOk result (λ r. r.known.local.number ≡ caller.known.local.number) }
-    ensures back { IfErr result (λ h. IsBack service.now caller (seat_of h)) }
+) -> Handed
+    requires { IsOf service.now handed }
+    ensures { IsBack service.now (seat_of handed) result }
 {
-    let mut caller = caller;
-    let number = u64::from(caller.number());
+    let mut handed = handed;
+    let number = u64::from(number_of(&handed));
     for k in 0..work.count() {
-        match asked(service, caller, &work.task(number, k), turns) {
-            Ok((back, told)) => {
-                if log.push(told).is_err() {
-                    return Err(Handed::Idle(back));
-                }
-                caller = back;
-            }
-            Err(handed) => return Err(handed),
+        let (back, told) = asked(service, handed, &work.task(number, k), way);
+        handed = back;
+        if log.push(told).is_err() || !told.is_answered() {
+            break;
         }
     }
-    Ok(caller)
+    handed
 }

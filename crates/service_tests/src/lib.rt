@@ -1,4 +1,5 @@
-//! A service of callers on threads, against the object alone, and callers that stop. It has tests alone.
+//! Tests of the service, of recovery and of the laws of lives: callers on threads against the object alone, callers that stop, what a
+//! loss of power leaves of services that are closed at each step, and images written by hand. It has tests alone.
 #![tactic(auto)]
 
 #[cfg(test)]
@@ -7,6 +8,18 @@ mod alone;
 mod calls;
 #[cfg(test)]
 mod cells;
+#[cfg(test)]
+mod closing;
+#[cfg(test)]
+mod holds;
+#[cfg(test)]
+mod kept;
+#[cfg(test)]
+mod laws;
+#[cfg(test)]
+mod losing;
+#[cfg(test)]
+mod playing;
 #[cfg(test)]
 mod rows;
 #[cfg(test)]
@@ -19,3 +32,5 @@ mod submits;
 mod tasks;
 #[cfg(test)]
 mod threads;
+#[cfg(test)]
+mod written;

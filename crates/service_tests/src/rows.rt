@@ -1,108 +1,140 @@
-//! Worked rows: a reader that stops, sixty-four updates of a caller alone, services that do not start, and the end of tickets.
+//! Worked rows: a reader that stops, callers alone up to the end of tickets, and services that do not start.
 
-ghost use Rattle.std.specs.Prelude.{IfOk};
-ghost use Rattle.cx_base.specs.Tally.{IsTally};
-ghost use Rattle.cx_core.specs.Base.{LawfulBase};
-
-use crate::calls::{all_asked, asked};
-use crate::starting::{NO_LIMIT, one_started, two_closed, two_started};
-use crate::tasks::{Work, adds, sum};
-use cx_base::Items;
+use crate::calls::{Came, READ, SUBMIT, Told, UPDATE, Way};
+use crate::holds::holds;
+use crate::playing::{Part, adds_up, played, played_alone};
+use crate::starting::{NO_LIMIT, all_started};
+use crate::tasks::{Work, adds};
 use cx_base::tally::Tally;
-use cx_core::Base;
-use cx_service::{Handed, Service, StartFault, Submitted};
+use cx_service::StartFault;
 use doc_store::DocStore;
 use std::alloc::{AllocError, Global};
 use std::test::Fail;
 
+// A reader with two steps, and then another's update.
+const READER: [Part; 2] = [
+    (0, Work::Sum, READ),
+    (
+        1,
+        Work::Adds {
+            amount: 5,
+            count: 1,
+        },
+        UPDATE,
+    ),
+];
+
+// Whether a reader is stopped after two steps, and the other caller answered in one turn.
+fn is_reader_stopped(log: &[Told]) -> bool {
+    match log {
+        [reader, other] => {
+            reader.is_halted(None)
+                && reader.steps == 2
+                && other.is_updated(0)
+                && other.reply == adds(5)
+        }
+        _ => false,
+    }
+}
+
 #[test]
 fn a_stopped_reader_blocks_nobody(rt: HostRuntime) -> Result<(), Fail> {
-    let alloc = rt.alloc();
-    let base = Base::fresh(alloc, &Tally)?;
-    let (service, first, second) = two_started(alloc, &[2, NO_LIMIT], &base)?;
-    let Err(first) = asked(&service, first, &sum(), 1) else {
-        panic!(rt; "a read of two steps was answered");
-    };
-    assert!(rt; stopped_at(&first) == Some(2));
-    let Ok((second, told)) = asked(&service, second, &adds(5), 1) else {
-        panic!(rt; "an update was not answered in one turn");
-    };
-    assert_eq!(rt; (told.beside, told.at), (false, 0));
-    assert!(rt; told.reply == adds(5));
-    two_closed(alloc, service, first, Handed::Idle(second))?;
+    let played = played(rt.alloc(), 0, &[2, NO_LIMIT], &READER)?;
+    holds(&rt, is_reader_stopped(&played.log));
     Ok(())
 }
 
-// The steps of a caller that stopped.
-fn stopped_at(handed: &Handed) -> Option<u64> {
-    match handed {
-        Handed::Stopped(stopped) => Some(stopped.steps()),
-        Handed::Idle(_) | Handed::Linked(_) => None,
+// What a caller alone is told.
+#[derive(Clone, Copy)]
+enum Want {
+    // each operation is answered, the first at ticket 0, and each adds an amount
+    Sums(u64, usize),
+    // each is answered, the first at ticket 0
+    Answers(usize),
+    // no ticket is left, and the front is this
+    Worn(u64),
+}
+
+// From which place on the service opens, what the caller asks for, and what it is told.
+const ALONE: [(u64, Work, Way, Want); 3] = [
+    (
+        0,
+        Work::Adds {
+            amount: 3,
+            count: 64,
+        },
+        UPDATE,
+        Want::Sums(3, 64),
+    ),
+    // cells are given again
+    (0, Work::Rising(64), UPDATE, Want::Answers(64)),
+    (
+        1 << 40,
+        Work::Adds {
+            amount: 5,
+            count: 1,
+        },
+        SUBMIT,
+        Want::Worn(1 << 40),
+    ),
+];
+
+fn is_told(log: &[Told], want: Want) -> bool {
+    match want {
+        Want::Sums(amount, count) => log.len() == count && adds_up(log, 0, 0, amount),
+        Want::Answers(count) => log.len() == count && are_in_order(log),
+        Want::Worn(front) => is_worn(log, front),
     }
+}
+
+// Whether updates are answered at the tickets from 0 on.
+fn are_in_order(log: &[Told]) -> bool {
+    let mut ticket = 0u64;
+    for told in log {
+        if !told.is_updated(ticket) {
+            return false;
+        }
+        ticket = ticket.wrapping_add(1);
+    }
+    true
+}
+
+// Whether the only call found no further ticket.
+fn is_worn(log: &[Told], front: u64) -> bool {
+    match log {
+        [told] => match told.came {
+            Came::Worn(at) => at == front,
+            _ => false,
+        },
+        _ => false,
+    }
+}
+
+// The first caller alone that is told otherwise.
+fn first_wrong(
+    alloc: Global,
+    rows: &[(u64, Work, Way, Want)],
+) -> Result<Option<usize>, AllocError> {
+    for (i, (place, work, way, want)) in rows.iter().enumerate() {
+        if !is_told(&played_alone(alloc, *place, *work, *way)?, *want) {
+            return Ok(Some(i));
+        }
+    }
+    Ok(None)
 }
 
 #[test]
 fn a_caller_alone_is_never_full(rt: HostRuntime) -> Result<(), Fail> {
-    let alloc = rt.alloc();
-    let base = Base::fresh(alloc, &Tally)?;
-    let (service, caller) = one_started(alloc, NO_LIMIT, &base)?;
-    let work = Work::Adds {
-        amount: 3,
-        count: 64,
-    };
-    let mut log = Vec::new(alloc);
-    if all_asked(&service, caller, work, 1, &mut log).is_err() {
-        panic!(rt; "an update was not answered in one turn");
-    }
-    assert_eq!(rt; log.len(), 64);
-    let mut tickets = 0;
-    for told in &log {
-        assert_eq!(rt; told.at, tickets);
-        tickets = tickets.wrapping_add(1);
-        assert!(rt; told.reply == adds(tickets.wrapping_mul(3)));
-    }
+    holds(&rt, first_wrong(rt.alloc(), &ALONE)?.is_none());
     Ok(())
 }
 
 #[test]
-fn services_that_do_not_start(rt: HostRuntime) -> Result<(), Fail> {
-    let alloc = rt.alloc();
-    let base = Base::fresh(alloc, &Tally)?;
-    for callers in [0, 9] {
-        let limits = Vec::from_elem(alloc, NO_LIMIT, callers as usize)?;
-        let fault = Service::start(alloc, Tally, callers, &limits, &base).err();
-        assert!(rt; fault == Some(StartFault::Callers { found: callers }));
-    }
-    let store = DocStore::of(63);
-    let base = Base::fresh(alloc, &store)?;
-    let fault = Service::start(alloc, store, 1, &[NO_LIMIT], &base).err();
-    assert!(rt; fault == Some(StartFault::Lines { found: 63 }));
-    Ok(())
-}
-
-#[test]
-fn no_ticket_is_left(rt: HostRuntime) -> Result<(), Fail> {
-    let alloc = rt.alloc();
-    let base = at_the_end(alloc)?;
-    let (service, caller) = one_started(alloc, NO_LIMIT, &base)?;
-    let worn = match service.submit(caller, &adds(5), 1) {
-        Submitted::Worn(caller) => Some(caller.front()),
-        _ => None,
-    };
-    assert_eq!(rt; worn, Some(1 << 40));
-    Ok(())
-}
-
-// The first base of Tally, at the place after all tickets.
-fn at_the_end(alloc: Global) -> Result<Base, AllocError>
-    ensures { IfOk result (LawfulBase 64 IsTally) }
-{
-    let fresh = Base::fresh(alloc, &Tally)?;
-    let place = 1 << 40;
-    let mut words = fresh.words.into_vec();
-    words[0] = place;
-    Ok(Base {
-        place,
-        words: Items::of(words),
-    })
+fn services_that_do_not_start(rt: HostRuntime) {
+    let none = all_started(rt.alloc(), Tally, 0).err();
+    holds(&rt, none == Some(StartFault::Callers { found: 0 }));
+    let nine = all_started(rt.alloc(), Tally, 9).err();
+    holds(&rt, nine == Some(StartFault::Callers { found: 9 }));
+    let small = all_started(rt.alloc(), DocStore::of(63), 1).err();
+    holds(&rt, small == Some(StartFault::Lines { found: 63 }));
 }

@@ -1,32 +1,48 @@
 //! Services that are started for the tests, and closed.
 
-ghost use Rattle.std.specs.Prelude.{◌≡◌, ◌≤◌, [], ◌∷◌, All, IfOk, IfSome, length};
+ghost use Rattle.std.specs.Prelude.{◌≡◌, [], ◌∷◌, All, IfOk, IfSome};
 ghost use Rattle.cx_base.specs.Tally.{IsTally};
 ghost use Rattle.cx_core.specs.Base.{LawfulBase};
 ghost use Rattle.cx_table.specs.Remains.{AreSeats};
 ghost use Rattle.cx_service.specs.Callers.{IsCallerOf};
-ghost use Rattle.cx_service.specs.Closes.{seat_of, seats_of};
+ghost use Rattle.cx_service.specs.Closes.{seat_of};
 ghost use Rattle.mutation_queue.specs.Tests.{IsPairOf};
+ghost use Rattle.service_tests.specs.Closed.{IsClosedTally, IsOpenedTally};
 
-use cx_base::Object;
 use cx_base::tally::Tally;
+use cx_base::{Items, Object};
 use cx_core::Base;
-use cx_service::{Caller, Handed, Service};
+use cx_service::{Caller, Handed, Service, StartFault};
 use cx_table::Remains;
 use std::alloc::{AllocError, Global};
 
 pub(crate) const NO_LIMIT: u64 = u64::MAX;
 
-/// A service of one caller.
+/// The first base of Tally at another place, which is none after 2^40.
+pub(crate) fn base_at(alloc: Global, place: u64) -> Result<Base, AllocError>
+    ensures { IfOk result (LawfulBase 64 IsTally) }
+{
+    if place > 1 << 40 {
+        return Err(AllocError);
+    }
+    let fresh = Base::fresh(alloc, &Tally)?;
+    let mut words = fresh.words.into_vec();
+    words[0] = place;
+    Ok(Base {
+        place,
+        words: Items::of(words),
+    })
+}
+
+/// A service of one caller without a limit.
 pub(crate) fn one_started(
     alloc: Global,
-    limit: u64,
     base: &Base,
 ) -> Result<(Service<Tally>, Caller), AllocError>
     requires { LawfulBase 64 IsTally base.now }
     ensures { IfOk result (λ r. IsCallerOf r.0 r.1) }
 {
-    let Ok((service, callers)) = Service::start(alloc, Tally, 1, &[limit], base) else {
+    let Ok((service, callers)) = Service::start(alloc, Tally, 1, &[NO_LIMIT], base) else {
         return Err(AllocError);
     };
     match one(callers) {
@@ -54,6 +70,7 @@ pub(crate) fn two_started(
     base: &Base,
 ) -> Result<(Service<Tally>, Caller, Caller), AllocError>
     requires { LawfulBase 64 IsTally base.now }
+    ensures opened { IfOk result (λ r. IsOpenedTally r.0) }
     ensures pair { IfOk result (λ r. IsPairOf r.0 r.1 r.2) }
     ensures first { IfOk result (λ r. IsCallerOf r.0 r.1) }
     ensures second { IfOk result (λ r. IsCallerOf r.0 r.2) }
@@ -80,21 +97,6 @@ fn two(mut callers: Vec<Caller>) -> Option<(Caller, Caller)>
     }
 }
 
-/// A service of callers without limits that opens from the object's fresh base.
-pub(crate) fn all_started<O: Object>(
-    alloc: Global,
-    object: O,
-    callers: u32,
-) -> Result<(Service<O>, Vec<Caller>), AllocError>
-    requires { callers ≤ 8 }
-    ensures each { IfOk result (λ r. All (IsCallerOf r.0) r.1.items) }
-    ensures all { IfOk result (λ r. AreSeats r.0 r.1.items) }
-{
-    let base = Base::fresh(alloc, &object)?;
-    let limits = Vec::from_elem(alloc, NO_LIMIT, callers as usize)?;
-    Service::start(alloc, object, callers, &limits, &base).map_err(|_| AllocError)
-}
-
 /// Closes a service of two callers.
 pub(crate) fn two_closed(
     alloc: Global,
@@ -102,21 +104,33 @@ pub(crate) fn two_closed(
     first: Handed,
     second: Handed,
 ) -> Result<Remains, AllocError>
-    requires { IsPairOf service (seat_of first) (seat_of second) }
+    requires opened { IsOpenedTally service }
+    requires pair { IsPairOf service (seat_of first) (seat_of second) }
+    ensures { IfOk result IsClosedTally }
 {
     let callers = vec![in alloc; first, second]?;
-    service.close(alloc, callers).map_err(|_| AllocError)
+    match service.close(alloc, callers) {
+        Ok(remains) => Ok(remains),
+        Err(_) => Err(AllocError),
+    }
 }
 
-/// Closes a service.
-pub(crate) fn all_closed<O: Object>(
+/// A service of callers without limits that opens from the object's fresh base.
+pub(crate) fn all_started<O: Object>(
     alloc: Global,
-    service: Service<O>,
-    callers: Vec<Handed>,
-) -> Result<Remains, AllocError>
-    requires { AreSeats service (seats_of callers.items) }
+    object: O,
+    callers: u32,
+) -> Result<(Service<O>, Vec<Caller>), StartFault>
+    ensures each { IfOk result (λ r. All (IsCallerOf r.0) r.1.items) }
+    ensures all { IfOk result (λ r. AreSeats r.0 r.1.items) }
 {
-    service.close(alloc, callers).map_err(|_| AllocError)
+    let Ok(base) = Base::fresh(alloc, &object) else {
+        return Err(StartFault::Memory);
+    };
+    let Ok(limits) = Vec::from_elem(alloc, NO_LIMIT, callers as usize) else {
+        return Err(StartFault::Memory);
+    };
+    Service::start(alloc, object, callers, &limits, &base)
 }
 
 /// Whether a closed service has published codes, and they rise.

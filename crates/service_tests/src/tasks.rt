@@ -1,10 +1,16 @@
 //! What the callers ask for.
 
 /// Operations of one kind.
-#[derive(Clone, Copy, Debug, PartialEq, Eq, Drop)]
+#[derive(Clone, Copy)]
 pub(crate) enum Work {
     /// Of Tally: so many updates that add a number.
     Adds { amount: u64, count: u64 },
+    /// Of Tally: an operation each of whose words is this.
+    Filled(u64),
+    /// Of Tally: so many operations, each word of operation k being k.
+    Rising(u64),
+    /// Of Tally: a read.
+    Sum,
     /// Of Tally: 24 updates and 6 reads of each caller.
     Sums,
     /// Of a document store: 24 updates and 6 reads of each caller.
@@ -19,7 +25,8 @@ impl Work {
     /// How many operations each caller has.
     pub(crate) fn count(self) -> u64 {
         match self {
-            Work::Adds { amount: _, count } => count,
+            Work::Adds { amount: _, count } | Work::Rising(count) => count,
+            Work::Filled(_) | Work::Sum => 1,
             Work::Sums | Work::Documents | Work::Apart => 30,
             Work::Long => 20_400,
         }
@@ -29,6 +36,9 @@ impl Work {
     pub(crate) fn task(self, caller: u64, k: u64) -> [u64; 144] {
         match self {
             Work::Adds { amount, count: _ } => adds(amount),
+            Work::Filled(word) => [word; 144],
+            Work::Rising(_) => [k; 144],
+            Work::Sum => sum(),
             Work::Documents => document_task(caller, k),
             Work::Long => long_task(caller, k),
             Work::Apart if caller >= 2 => sum(),

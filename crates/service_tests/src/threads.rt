@@ -1,25 +1,31 @@
 //! Callers on threads of their own, and the object alone.
 
-ghost use Rattle.std.specs.Prelude.{◌≡◌, ◌<◌, ◌≤◌, ℕ, All, IfOk, map, slice_index_or, vec_len};
+ghost use Rattle.std.specs.Prelude.{◌≡◌, ◌<◌, ℕ, All, IfOk, map, slice_index_or, vec_len};
 ghost use Rattle.cx_table.specs.Remains.{AreSeats};
 ghost use Rattle.cx_service.specs.Callers.{IsCallerOf};
 ghost use Rattle.cx_service.specs.Closes.{seat_of, seats_of};
 ghost use Rattle.service_tests.specs.Tests.{IsBack};
 
 use crate::alone::made_alone;
-use crate::calls::{Told, all_asked};
-use crate::starting::{all_closed, all_started, has_rising_codes};
+use crate::calls::{Told, Way, all_asked};
+use crate::holds::holds;
+use crate::starting::{all_started, has_rising_codes};
 use crate::tasks::Work;
 use cx_base::Object;
 use cx_base::tally::Tally;
 use cx_service::{Caller, Handed, Service};
+use cx_table::Remains;
 use doc_store::DocStore;
 use std::alloc::{AllocError, Global};
 use std::test::Fail;
 use std::thread::{Threads, map_vec};
 
-// The turns in which a call is answered.
-const TURNS: u64 = 1_000_000;
+// A call with so many turns that it is answered.
+const UNTIL_ANSWERED: Way = Way {
+    twice: false,
+    turns: 1_000_000,
+    beside: true,
+};
 
 // A caller after its calls, and what it was told.
 #[derive(Drop)]
@@ -31,13 +37,11 @@ struct Worked {
 // A caller asks for its operations.
 fn make_calls<O: Object>(alloc: Global, service: &Service<O>, caller: Caller, work: Work) -> Worked
     requires { IsCallerOf service.now caller }
-    ensures { IsBack service.now caller (seat_of result.caller) }
+    ensures { IsBack service.now caller result.caller }
 {
     let mut log = Vec::new(alloc);
-    let caller = match all_asked(service, caller, work, TURNS, &mut log) {
-        Ok(caller) => Handed::Idle(caller),
-        Err(handed) => handed,
-    };
+    let idle = Handed::Idle(caller);
+    let caller = all_asked(service, idle, work, UNTIL_ANSWERED, &mut log);
     Worked { caller, log }
 }
 
@@ -51,14 +55,14 @@ fn each_works<O: Object + Send + Sync, R: Threads + Sync>(
 ) -> Result<Vec<Worked>, AllocError>
     requires { All (IsCallerOf service.now) callers.items }
     ensures long { IfOk result (λ v. vec_len v ≡ vec_len callers) }
-    ensures each { IfOk result (λ v. (i : ℕ) (d : _) (e : _) → i < vec_len callers → IsBack service.now (slice_index_or callers.items i d) (seat_of (slice_index_or v.items i e).caller)) }
+    ensures each { IfOk result (λ v. (i : ℕ) (d : _) (e : _) → i < vec_len callers → IsBack service.now (slice_index_or callers.items i d) (slice_index_or v.items i e).caller) }
 {
     map_vec(
         rt,
         callers,
         &|caller: Caller| -> Worked
             requires { IsCallerOf service.now caller }
-            ensures { IsBack service.entry.now caller (seat_of result.caller) }
+            ensures { IsBack service.entry.now caller result.caller }
         { make_calls(alloc, service, caller, work) },
     )
 }
@@ -96,98 +100,146 @@ fn parted(
     Ok(callers)
 }
 
-// What came of callers on threads: the updates, where the object alone replies the same, the reads, whether the published codes rise, and
-// whether the region published last is the object's after them.
-#[derive(Clone, Copy, Debug, PartialEq, Eq, Drop)]
-struct Outcome {
-    updates: Option<u64>,
-    reads: u64,
-    codes: bool,
-    region: bool,
+// What callers were told on threads of their own, and what their service left when it was closed.
+#[derive(Drop)]
+struct Ran {
+    logs: Vec<Vec<Told>>,
+    remains: Remains,
+}
+
+// All the callers of a service ask for operations on threads of their own, and what each was told is put at the end of a list.
+fn all_worked<O: Object + Send + Sync, R: Threads + Sync>(
+    rt: &R,
+    alloc: Global,
+    service: &Service<O>,
+    callers: Vec<Caller>,
+    work: Work,
+    logs: &mut Vec<Vec<Told>>,
+) -> Result<Vec<Handed>, AllocError>
+    requires each { All (IsCallerOf service.now) callers.items }
+    requires all { AreSeats service.now callers.items }
+    ensures { IfOk result (λ h. AreSeats service.now (seats_of h.items)) }
+{
+    let all = all_work(rt, alloc, service, callers, work)?;
+    parted(alloc, all, logs)
 }
 
 // Callers of a service ask for operations on threads of their own, and the service is closed.
-fn on_threads<O: Object + Send + Sync, R: Threads + Sync>(
+fn run_on_threads<O: Object + Send + Sync, R: Threads + Sync>(
     rt: &R,
     alloc: Global,
     object: O,
     callers: u32,
     work: Work,
-) -> Result<Outcome, AllocError>
-    requires { callers ≤ 8 }
-{
-    let (service, seats) = all_started(alloc, object, callers)?;
-    let all = all_work(rt, alloc, &service, seats, work)?;
+) -> Result<Ran, AllocError> {
+    let Ok((service, seats)) = all_started(alloc, object, callers) else {
+        return Err(AllocError);
+    };
     let mut logs = Vec::new(alloc);
-    let handed = parted(alloc, all, &mut logs)?;
-    let alone = made_alone(alloc, service.object(), work, &logs)?;
-    let reads = logs
-        .iter()
-        .map(|log| log.iter().filter(|told| told.beside).count() as u64);
-    let reads = reads.fold(0, |sum: u64, own| sum.wrapping_add(own));
-    let remains = all_closed(alloc, service, handed)?;
-    Ok(Outcome {
-        updates: alone.as_ref().map(|alone| alone.updates),
-        reads,
-        codes: has_rising_codes(&remains),
-        region: alone.is_some_and(|alone| alone.is_left(&remains, &logs)),
+    let handed = all_worked(rt, alloc, &service, seats, work, &mut logs)?;
+    match service.close(alloc, handed) {
+        Ok(remains) => Ok(Ran { logs, remains }),
+        Err(_) => Err(AllocError),
+    }
+}
+
+// The number of callers, what they ask for, and how many updates and reads that is in all.
+type Row = (u32, Work, u64, u64);
+
+// How many reads were answered beside the queue.
+fn reads(logs: &[Vec<Told>]) -> u64 {
+    let mut count = 0u64;
+    for log in logs {
+        count = count.wrapping_add(reads_in(log));
+    }
+    count
+}
+
+fn reads_in(log: &[Told]) -> u64 {
+    let mut count = 0u64;
+    for told in log {
+        if told.is_beside() {
+            count = count.wrapping_add(1);
+        }
+    }
+    count
+}
+
+// Whether the object alone replies the same, the region published last is the object's after the updates, and the published codes rise.
+fn is_as_alone<O: Object>(
+    alloc: Global,
+    ran: &Ran,
+    object: &O,
+    row: &Row,
+) -> Result<bool, AllocError> {
+    let (_, work, updates, beside) = *row;
+    Ok(match made_alone(alloc, object, work, &ran.logs)? {
+        Some(alone) => {
+            alone.updates == updates
+                && reads(&ran.logs) == beside
+                && has_rising_codes(&ran.remains)
+                && alone.is_left(&ran.remains, &ran.logs)
+        }
+        None => false,
     })
 }
 
-#[test]
-fn sums_on_threads(rt: HostRuntime) -> Result<(), Fail> {
-    for callers in [2, 4, 8] {
-        let outcome = on_threads(&rt, rt.alloc(), Tally, callers, Work::Sums)?;
-        let want = Outcome {
-            updates: Some(24 * u64::from(callers)),
-            reads: 6 * u64::from(callers),
-            codes: true,
-            region: true,
-        };
-        assert_eq!(rt; outcome, want, "{callers} callers");
-    }
-    Ok(())
+// Whether an object on threads is as another of its kind alone.
+fn is_shared<O: Object + Send + Sync, R: Threads + Sync>(
+    rt: &R,
+    alloc: Global,
+    object: O,
+    alone: &O,
+    row: &Row,
+) -> Result<bool, AllocError> {
+    let (callers, work, _, _) = *row;
+    let ran = run_on_threads(rt, alloc, object, callers, work)?;
+    is_as_alone(alloc, &ran, alone, row)
 }
 
-#[test]
-fn documents_on_threads(rt: HostRuntime) -> Result<(), Fail> {
-    for callers in [2, 4, 8] {
-        let store = DocStore::of(64);
-        let outcome = on_threads(&rt, rt.alloc(), store, callers, Work::Documents)?;
-        let want = Outcome {
-            updates: Some(24 * u64::from(callers)),
-            reads: 6 * u64::from(callers),
-            codes: true,
-            region: true,
-        };
-        assert_eq!(rt; outcome, want, "{callers} callers");
+// Whether that is so of the object that a row's operations are of.
+fn is_right<R: Threads + Sync>(rt: &R, alloc: Global, row: &Row) -> Result<bool, AllocError> {
+    match row.1 {
+        Work::Documents => is_shared(rt, alloc, DocStore::of(64), &DocStore::of(64), row),
+        Work::Long => is_shared(rt, alloc, DocStore::of(256), &DocStore::of(256), row),
+        _ => is_shared(rt, alloc, Tally, &Tally, row),
     }
-    Ok(())
 }
 
+// The first row where it is not.
+fn first_wrong<R: Threads + Sync>(
+    rt: &R,
+    alloc: Global,
+    rows: &[Row],
+) -> Result<Option<usize>, AllocError> {
+    for (i, row) in rows.iter().enumerate() {
+        if !is_right(rt, alloc, row)? {
+            return Ok(Some(i));
+        }
+    }
+    Ok(None)
+}
+
+const ROWS: [Row; 7] = [
+    (2, Work::Sums, 48, 12),
+    (4, Work::Sums, 96, 24),
+    (8, Work::Sums, 192, 48),
+    (2, Work::Documents, 48, 12),
+    (4, Work::Documents, 96, 24),
+    (8, Work::Documents, 192, 48),
+    // readers beside updaters
+    (4, Work::Apart, 48, 72),
+];
+
 #[test]
-fn readers_beside_updaters(rt: HostRuntime) -> Result<(), Fail> {
-    let outcome = on_threads(&rt, rt.alloc(), Tally, 4, Work::Apart)?;
-    let want = Outcome {
-        updates: Some(48),
-        reads: 72,
-        codes: true,
-        region: true,
-    };
-    assert_eq!(rt; outcome, want);
+fn callers_on_threads(rt: HostRuntime) -> Result<(), Fail> {
+    holds(&rt, first_wrong(&rt, rt.alloc(), &ROWS)?.is_none());
     Ok(())
 }
 
 #[test]
 fn a_long_run_on_threads(rt: HostRuntime) -> Result<(), Fail> {
-    let store = DocStore::of(256);
-    let outcome = on_threads(&rt, rt.alloc(), store, 4, Work::Long)?;
-    let want = Outcome {
-        updates: Some(80_000),
-        reads: 1_600,
-        codes: true,
-        region: true,
-    };
-    assert_eq!(rt; outcome, want);
+    let row = (4, Work::Long, 80_000, 1_600);
+    holds(&rt, is_right(&rt, rt.alloc(), &row)?);
     Ok(())
 }

@@ -1,5 +1,5 @@
 use Rattle.std.proofs.Common.{IfErr, IfOk, MatchResult, Result, Ok, Err}
-use Rattle.recovery_tests.proofs.closing.recovered.Goals as goal
+use Rattle.service_tests.proofs.closing.recovered.Goals as goal
 
 in_ok : {A B : Type 0} (P P' : A → Type 0) (Q : B → Type 0) (r : Result A B) → ((x : A) → P x → P' x) → MatchResult r P Q → IfOk r P'
 in_ok P P' Q (Ok x) weaker is = weaker x is

@@ -1,8 +1,8 @@
--- What the tests speak of.
+-- What a closed service of the running sum left.
 use Rattle.std.specs.Prelude.{◌≡◌, List}
 use Rattle.cx_base.specs.declared.tally.Tally.{Tally}
 use Rattle.cx_base.specs.Tally.{IsTally, tally_reads, tally_step}
-use Rattle.cx_rule.specs.Running.{IsSeatOf, Running, instance_at}
+use Rattle.cx_rule.specs.Running.{Running, instance_at}
 use Rattle.cx_rule.specs.Seats.{Seated}
 use Rattle.cx_table.specs.declared.remains.Remains.{Remains}
 use Rattle.cx_table.specs.Remains.{Leaves}
@@ -18,8 +18,3 @@ pub record IsClosedTally (r : Remains) : Type 0 where
   pub seats : List Seated
   pub opened : IsOpenedTally table
   pub leaves : Leaves table (instance_at table (λ _. tally_step) (λ _. tally_reads)) seats r
-
--- the caller as a call hands it back, in whatever state: it is of this service, and has the number that it had
-pub record IsBack {O : Type 0} (r : Running O) (before after : Seated) : Type 0 where
-  pub of : IsSeatOf r after
-  pub number : after.known.local.number ≡ before.known.local.number

@@ -1,5 +1,5 @@
-use Rattle.recovery_tests.proofs.PairsLookedThrough.{rise_all, rise_more, rise_none}
-use Rattle.recovery_tests.proofs.written.rise_below.Goals as goal
+use Rattle.service_tests.proofs.PairsLookedThrough.{rise_all, rise_more, rise_none}
+use Rattle.service_tests.proofs.written.rise_below.Goals as goal
 
 pub loop-at-init : goal.loop-at-init
 loop-at-init c = rise_none c.args.pairs.now c.args.end

@@ -1,16 +1,18 @@
 //! The laws over the first bases of stores, as `Base::fresh` makes them.
 
-ghost use Rattle.std.specs.Prelude.{◌≡◌};
+ghost use Rattle.std.specs.Prelude.{◌≡◌, ◌≤◌};
 ghost use Rattle.cx_core.specs.Base.{LawfulBase, fresh_region};
 ghost use Rattle.doc_store.specs.ExactStep.{IsImage, opening_image};
 ghost use Rattle.life_laws.specs.Begins.{IsBaseOf, nothing_begun};
 
-use crate::{
+use crate::holds::holds;
+use cx_core::Base;
+use doc_store::DocStore;
+use life_laws::{
     fresh_bases_begin_with_nothing, histories_mean_stores, kept_bases_begin_the_next_life,
     kept_lives_go_on, replies_are_the_stores,
 };
-use cx_core::Base;
-use doc_store::DocStore;
+use std::alloc::{AllocError, Global};
 use std::test::Fail;
 
 // What the first base of a store begins with, and that the laws of lives hold from it on.
@@ -27,16 +29,28 @@ fn first_life(object: &DocStore, base: &Base)
     fresh_bases_begin_with_nothing(object, base);
 }
 
+// Whether the first base of a store of so many lines begins with nothing.
+fn begins_with_nothing(alloc: Global, lines: u64) -> Result<bool, AllocError>
+    requires some { 1 ≤ lines }
+    requires few { lines ≤ 200 }
+{
+    let store = DocStore::of(lines);
+    let base = Base::fresh(alloc, &store)?;
+    first_life(&store, &base);
+    Ok(base.place == 0 && are_first(base.words.as_slice(), lines))
+}
+
+// Whether words are as many as the regions of an object of so many lines have, and the head's are 0.
+fn are_first(words: &[u64], lines: u64) -> bool
+    requires { lines ≤ 200 }
+{
+    words.len() as u64 == 8 * (146 + lines) && words.iter().take(1168).all(|word| *word == 0)
+}
+
 #[test]
 fn first_bases_begin_with_nothing(rt: HostRuntime) -> Result<(), Fail> {
-    for lines in [1, 64, 200] {
-        let store = DocStore::of(lines);
-        let base = Base::fresh(rt.alloc(), &store)?;
-        first_life(&store, &base);
-        assert_eq!(rt; base.place, 0);
-        let words = base.words.as_slice();
-        assert_eq!(rt; words.len() as u64, 8 * (146 + lines));
-        assert!(rt; words.iter().take(1168).all(|word| *word == 0));
-    }
+    holds(&rt, begins_with_nothing(rt.alloc(), 1)?);
+    holds(&rt, begins_with_nothing(rt.alloc(), 64)?);
+    holds(&rt, begins_with_nothing(rt.alloc(), 200)?);
     Ok(())
 }

@@ -1,0 +1,251 @@
+//! Images made by hand: each refusal, and what is recovered from those that are accepted.
+
+ghost use Rattle.std.specs.Prelude.{◌≡◌, ◌<◌, All, IfOk, IsTrue, ℕ};
+ghost use Rattle.recovery.specs.Images.{IsReadable, RiseFrom};
+
+use crate::holds::holds;
+use cx_base::tally::Tally;
+use cx_base::{Items, Object};
+use cx_core::Base;
+use doc_store::DocStore;
+use recovery::{Image, ImageFault, recover};
+use std::alloc::{AllocError, Global};
+use std::test::Fail;
+
+// Whether the addresses of pairs rise below an end.
+fn rise_below(pairs: &[(u64, u64)], end: u64) -> bool
+    ensures { IsTrue result → RiseFrom 0 pairs.now × All (λ (p : ℕ × ℕ). p.0 < end) pairs.now }
+{
+    let mut from = 0;
+    for (at, _) in pairs {
+        if *at < from || *at >= end {
+            return false;
+        }
+        from = *at + 1;
+    }
+    true
+}
+
+// An image of an object of 64 lines, as it is written down: its callers, its number of words, its root, and its pairs.
+type Written = (u32, u64, u64, &'static [(u64, u64)]);
+
+// That image. `Err` is want of memory, or what may not be read.
+fn image_of(alloc: Global, written: &Written) -> Result<Image, AllocError>
+    ensures { IfOk result (IsReadable 64) }
+{
+    let (callers, count, root, pairs) = *written;
+    if callers < 1 || callers > 8 || !rise_below(pairs, count) {
+        return Err(AllocError);
+    }
+    let pairs = Items::of(Vec::from_slice(alloc, pairs)?);
+    Ok(Image {
+        callers,
+        lines: 64,
+        count,
+        root,
+        pairs,
+    })
+}
+
+// What is recovered: the place, the number in the slot of caller 0, and word 1 of the object part; or why it is refused.
+type Wanted = Result<(u64, u64, u64), ImageFault>;
+
+// Whether a base is that.
+fn is_base(base: &Base, want: Wanted) -> bool {
+    let words = base.words.as_slice();
+    match want {
+        Ok((place, number, word)) => {
+            base.place == place
+                && words.get(8).copied() == Some(number)
+                && words.get(1169).copied() == Some(word)
+        }
+        Err(_) => false,
+    }
+}
+
+// Whether an image is refused so.
+fn is_refused(fault: ImageFault, want: Wanted) -> bool {
+    match want {
+        Ok(_) => false,
+        Err(wanted) => fault == wanted,
+    }
+}
+
+// Whether an object recovers that from an image.
+fn is_recovered<O: Object>(
+    alloc: Global,
+    object: &O,
+    written: &Written,
+    want: Wanted,
+) -> Result<bool, AllocError>
+    requires { O.line_count object.now ≡ 64 }
+{
+    let image = image_of(alloc, written)?;
+    Ok(match recover(alloc, object, &image) {
+        Ok(base) => is_base(&base, want),
+        Err(fault) => is_refused(fault, want),
+    })
+}
+
+// The first image from which it recovers something else.
+fn first_wrong<O: Object>(
+    alloc: Global,
+    object: &O,
+    rows: &[(Written, Wanted)],
+) -> Result<Option<usize>, AllocError>
+    requires { O.line_count object.now ≡ 64 }
+{
+    for (i, (written, want)) in rows.iter().enumerate() {
+        if !is_recovered(alloc, object, written, *want)? {
+            return Ok(Some(i));
+        }
+    }
+    Ok(None)
+}
+
+// The root of the greatest place that is allowed, on replica 0, and of the place above it.
+const LAST: u64 = 2 << 40;
+
+const ABOVE: u64 = LAST + 2;
+
+// Images of the running sum. The two replicas of one caller have 3,360 words.
+const SUMS: [(Written, Wanted); 18] = [
+    // nothing was done yet
+    ((1, 3360, 0, &[(1168, 7)]), Ok((0, 0, 0))),
+    // replica 1 at place 1: the slot's number and reply, the version and the sum
+    (
+        (
+            1,
+            3360,
+            3,
+            &[(1680, 1), (1688, 1), (1689, 5), (2848, 7), (2849, 5)],
+        ),
+        Ok((1, 1, 5)),
+    ),
+    // replica 0 at place 1, beside replica 1 at place 2
+    (
+        (
+            1,
+            3360,
+            2,
+            &[
+                (0, 1),
+                (8, 1),
+                (9, 5),
+                (1168, 7),
+                (1169, 5),
+                (1680, 2),
+                (2848, 7),
+                (2849, 8),
+            ],
+        ),
+        Ok((1, 1, 5)),
+    ),
+    // replica 1 at place 1, beside replica 0 with words that are no region
+    (
+        (
+            1,
+            3360,
+            3,
+            &[
+                (0, 9),
+                (1, 1),
+                (9, 3),
+                (1680, 1),
+                (1688, 1),
+                (2848, 7),
+                (2849, 6),
+            ],
+        ),
+        Ok((1, 1, 6)),
+    ),
+    // the last place that there may be
+    (
+        (1, 3360, LAST, &[(0, 1 << 40), (1168, 7)]),
+        Ok((1 << 40, 0, 0)),
+    ),
+    // a number above the place, which recovery lets pass
+    ((1, 3360, 0, &[(8, 4), (1168, 7)]), Ok((0, 4, 0))),
+    // refused by the first check
+    ((1, 3359, 0, &[]), Err(ImageFault::Size { found: 3359 })),
+    ((1, 3361, ABOVE, &[]), Err(ImageFault::Size { found: 3361 })),
+    (
+        (1, 3360, ABOVE, &[]),
+        Err(ImageFault::Root { found: ABOVE }),
+    ),
+    (
+        (1, 3360, ABOVE, &[(0, (1 << 40) + 1), (1168, 7)]),
+        Err(ImageFault::Root { found: ABOVE }),
+    ),
+    ((1, 3360, 0, &[]), Err(ImageFault::Version { found: 0 })),
+    (
+        (1, 3360, 2, &[(1168, 1), (2848, 7)]),
+        Err(ImageFault::Version { found: 1 }),
+    ),
+    (
+        (2, 6720, 31, &[(5040, 6), (6208, 7)]),
+        Err(ImageFault::Place { root: 7, region: 6 }),
+    ),
+    (
+        (1, 3360, 2, &[(1, 1), (1168, 7), (1680, 1), (2848, 7)]),
+        Err(ImageFault::Place { root: 1, region: 0 }),
+    ),
+    ((1, 3360, 0, &[(1, 1), (1168, 7)]), Err(ImageFault::Body)),
+    ((1, 3360, 0, &[(7, 1), (1168, 7)]), Err(ImageFault::Body)),
+    ((1, 3360, 0, &[(9, 1), (1168, 7)]), Err(ImageFault::Body)),
+    ((1, 3360, 0, &[(1167, 1), (1168, 7)]), Err(ImageFault::Body)),
+];
+
+#[test]
+fn images_are_recovered_from_the_region_that_the_root_names(rt: HostRuntime) -> Result<(), Fail> {
+    holds(&rt, first_wrong(rt.alloc(), &Tally, &SUMS)?.is_none());
+    Ok(())
+}
+
+// The region of replica 1 at place 1, whose store has the document 1 under the key a.
+const DOCUMENT: [(u64, u64); 14] = [
+    (1680, 1),
+    (1688, 1),
+    (1689, 1),
+    (2848, 1),
+    (2849, 1),
+    (2851, 4),
+    (2853, 1),
+    (2858, 1),
+    (2859, 2),
+    (2860, 1),
+    (2861, 3),
+    (2862, 1),
+    (2865, 97),
+    (2873, 49),
+];
+
+// Images of a document store.
+const STORES: [(Written, Wanted); 8] = [
+    // no document, one, and none at the last place
+    ((1, 3360, 0, &[(1168, 1), (1171, 1)]), Ok((0, 0, 0))),
+    ((1, 3360, 3, &DOCUMENT), Ok((1, 1, 1))),
+    (
+        (1, 3360, LAST, &[(0, 1 << 40), (1168, 1), (1171, 1)]),
+        Ok((1 << 40, 0, 0)),
+    ),
+    ((1, 3359, 0, &[]), Err(ImageFault::Size { found: 3359 })),
+    (
+        (1, 3360, ABOVE, &[]),
+        Err(ImageFault::Root { found: ABOVE }),
+    ),
+    ((1, 3360, 0, &[]), Err(ImageFault::Version { found: 0 })),
+    (
+        (2, 6720, 31, &[(5040, 6), (6208, 1)]),
+        Err(ImageFault::Place { root: 7, region: 6 }),
+    ),
+    // the first line never given is 0
+    ((1, 3360, 0, &[(1168, 1)]), Err(ImageFault::Body)),
+];
+
+#[test]
+fn images_of_the_document_store(rt: HostRuntime) -> Result<(), Fail> {
+    let store = DocStore::of(64);
+    holds(&rt, first_wrong(rt.alloc(), &store, &STORES)?.is_none());
+    Ok(())
+}
