@@ -1,14 +1,16 @@
 #!/usr/bin/env python3
-"""Tests of the tools: python3 tools/test_tools.py
+"""Tests of the tools, and of the built program: python3 tools/test_tools.py [--with-program]
 
-No network, and no program is needed; where it is built, random scripts and the examples are run through it too.
+No network is needed. Where the program is not built, the tests that run it are skipped; with --with-program they fail there.
 """
 import contextlib
 import io
 import itertools
+import json
 import os
 import random
 import re
+import subprocess
 import sys
 import tempfile
 import unittest
@@ -21,6 +23,8 @@ ROWS = TESTS / "rows"
 ROOT = TOOLS.parent
 PICTURES = ROOT / "docs" / "pictures"
 EXAMPLES = ROOT / "examples"
+WITH_PROGRAM = "--with-program"
+MUST_RUN = WITH_PROGRAM in sys.argv
 sys.path[:0] = [str(TOOLS), str(TESTS)]
 
 import check_report
@@ -34,6 +38,19 @@ from script_text import Refusal, TooLong, read_script
 from wrong_reports import WRONG
 
 HEAD = b"lines 64\nlife 1 power 0\n"
+# rows whose report is one of many: clients that are stopped or give up, and reads whose places are free
+ONE_OF_MANY = {
+    "gave_up",
+    "reads_apart",
+    "stopped_in_first_of_three",
+    "stopped_linked_kept",
+    "stopped_linked_lost",
+    "stopped_not_linked",
+    "stopped_reading",
+    "two_stopped",
+}
+# how often a script with several reports is run
+TIMES = 20
 # of each reason: a script, its line at fault, and what is marked there
 REFUSED = {
     "utf8": (HEAD + b'0 put a "\xff"\n', 3, "\ufffd"),
@@ -118,6 +135,17 @@ def row(name):
     return tuple((ROWS / f"{name}.{kind}").read_bytes() for kind in ("script", "report"))
 
 
+def reports_of(name):
+    """The reports of a row: NAME.report, and NAME.2.report and so on where the order of the clients is free."""
+    return [path.read_bytes() for path in sorted(ROWS.glob("*.report")) if path.name.split(".")[0] == name]
+
+
+def legal_rows():
+    """Each report of a row, with its name and its script."""
+    for path in sorted(ROWS.glob("*.report")):
+        yield path.stem, (ROWS / f"{path.name.split('.')[0]}.script").read_bytes(), path.read_bytes()
+
+
 def judged(script, report):
     return check_report.judge(read_script(script), read_report(report))
 
@@ -162,11 +190,19 @@ def said_by(main, words):
 
 class LegalReports(unittest.TestCase):
     def test_every_row_is_legal(self):
-        names = sorted(path.stem for path in ROWS.glob("*.report"))
-        self.assertGreaterEqual(len(names), 20)
-        for name in names:
+        rows = list(legal_rows())
+        self.assertGreaterEqual(len(rows), 37)
+        for name, script, report in rows:
             with self.subTest(name):
-                self.assertTrue(judged(*row(name)).startswith("legal: "))
+                self.assertTrue(judged(script, report).startswith("legal: "))
+
+    def test_every_refusal_is_the_first(self):
+        refusals = sorted(ROWS.glob("*.refusal"))
+        self.assertGreaterEqual(len(refusals), 25)
+        for refusal in refusals:
+            with self.subTest(refusal.stem):
+                line, reason = first_refusal(refusal.with_suffix(".script").read_bytes())
+                self.assertEqual(f"refused line {line}: {reason}\n", refusal.read_text("utf-8"))
 
     def test_pictured_reports_are_legal(self):
         reports = sorted(PICTURES.glob("*.report"))
@@ -196,15 +232,6 @@ class LegalReports(unittest.TestCase):
             with self.subTest(seed):
                 self.assertTrue(judged(script, report).startswith("legal: "))
 
-    def test_program_writes_legal_reports(self):
-        if not random_lives.PROGRAM.exists():
-            self.skipTest("the program is not built")
-        self.assertIsNone(random_lives.compare(100, random_lives.Seen()))
-        for example in EXAMPLES.glob("*.script"):
-            with self.subTest(example.stem):
-                script = example.read_bytes()
-                self.assertIsNone(why_refused(script, random_lives.answer_of_program(random_lives.PROGRAM, script)))
-
 
 class TwoJudges(unittest.TestCase):
     """The judge that names a line, and the one that takes each condition by itself."""
@@ -222,7 +249,7 @@ class TwoJudges(unittest.TestCase):
 
     def reports(self, count):
         """Legal reports, of the rows among them, and most of them with faults."""
-        rows = [row(path.stem) for path in sorted(ROWS.glob("*.report"))]
+        rows = [(script, report) for _, script, report in legal_rows()]
         for seed in range(count):
             choice = random.Random(seed)
             script, report = choice.choice(rows) if seed % 4 == 0 else self.random_lives(choice)
@@ -261,8 +288,7 @@ class WrongReports(unittest.TestCase):
 
     def test_broken_off_after_each_line(self):
         """Every front of a legal report is refused where it ends, and not before."""
-        for name in sorted(path.stem for path in ROWS.glob("*.report")):
-            script, report = row(name)
+        for name, script, report in legal_rows():
             lines = report.splitlines(keepends=True)
             for count in range(len(lines)):
                 with self.subTest(f"{name}, {count} lines"), self.assertRaises(Fault) as caught:
@@ -440,9 +466,74 @@ class Explanations(unittest.TestCase):
             program.chmod(0o644)
             self.assertEqual((f"{program}: Permission denied\n", 2), said_by(explain.main, ["--program", program, script]))
 
-    def test_program_gives_the_same_reasons(self):
+
+class Program(unittest.TestCase):
+    """The built program: statuses, and what is written."""
+
+    def setUp(self):
         if not random_lives.PROGRAM.exists():
+            if MUST_RUN:
+                self.fail(f"{random_lives.PROGRAM} is not there")
             self.skipTest("the program is not built")
+
+    def ran(self, words, script):
+        """The status, what is written, and how many bytes of the script are read."""
+        with tempfile.TemporaryFile() as file:
+            file.write(script)
+            file.seek(0)
+            ended = subprocess.run(
+                [random_lives.PROGRAM, *words], stdin=file, capture_output=True, check=False, timeout=random_lives.MOST_SECONDS
+            )
+            return ended.returncode, ended.stdout, os.lseek(file.fileno(), 0, os.SEEK_CUR)
+
+    def test_each_row(self):
+        scripts = sorted(ROWS.glob("*.script"))
+        self.assertGreaterEqual(len(scripts), 56)
+        for path in scripts:
+            name, script = path.stem, path.read_bytes()
+            refusal, reports = path.with_suffix(".refusal"), reports_of(name)
+            for _ in range(TIMES if len(reports) > 1 else 1):
+                with self.subTest(name):
+                    status, written, read = self.ran(["run"], script)
+                    self.assertEqual(len(script), read)
+                    if refusal.exists():
+                        self.assertEqual((3, refusal.read_bytes()), (status, written))
+                        continue
+                    self.assertEqual(0, status)
+                    self.assertIsNone(why_refused(script, written))
+                    if name not in ONE_OF_MANY:
+                        self.assertIn(written, reports)
+
+    def test_largest_input(self):
+        rows = [(16_777_216, 0, b""), (16_777_217, 8, b"refused: input over 16777216 bytes\n")]
+        for size, status, text in rows:
+            with self.subTest(size):
+                self.assertEqual((status, text, size), self.ran(["run"], b"\n" * size))
+
+    def test_other_words_are_refused_unread(self):
+        refused = json.loads((ROWS / "words.json").read_text("utf-8"))["refused"]
+        self.assertGreaterEqual(len(refused), 38)
+        for words in refused:
+            with self.subTest(words):
+                self.assertEqual((2, b"usage: cx_tool run | load FROM CLIENTS OPS\n", 0), self.ran(words, HEAD))
+
+    def test_a_load_writes_four_lines_and_reads_nothing(self):
+        loads = json.loads((ROWS / "words.json").read_text("utf-8"))["loads"]
+        self.assertGreaterEqual(len(loads), 6)
+        for words, text in loads:
+            with self.subTest(words):
+                self.assertEqual((0, text.encode(), 0), self.ran(words, HEAD))
+
+    def test_random_scripts(self):
+        self.assertIsNone(random_lives.compare(100, random_lives.Seen()))
+
+    def test_examples(self):
+        for example in EXAMPLES.glob("*.script"):
+            with self.subTest(example.stem):
+                script = example.read_bytes()
+                self.assertIsNone(why_refused(script, random_lives.answer_of_program(random_lives.PROGRAM, script)))
+
+    def test_same_reasons_as_the_tools(self):
         for reason, (script, line, _) in REFUSED.items():
             if reason != "commands":
                 with self.subTest(reason):
@@ -486,8 +577,8 @@ class Pictures(unittest.TestCase):
         }
 
     def reports(self):
-        for path in sorted(ROWS.glob("*.report")):
-            yield path.stem, path.read_bytes()
+        for name, _, report in legal_rows():
+            yield name, report
         for clients, lives, commands in itertools.product((1, 2, 8), (1, 3), (12, 30, 300)):
             choice = random.Random(clients * 1_000 + lives * 100 + commands)
             text = random_lives.script_text(choice, clients, lives, commands // lives, cuts=clients > 1)
@@ -582,4 +673,6 @@ class Pictures(unittest.TestCase):
 
 
 if __name__ == "__main__":
-    unittest.main()
+    if not (MUST_RUN or random_lives.PROGRAM.exists()):
+        print(f"{random_lives.PROGRAM} is not built: the tests that run it are skipped", file=sys.stderr)
+    unittest.main(argv=[word for word in sys.argv if word != WITH_PROGRAM])

@@ -1,23 +1,8 @@
 //! Runs a script of clients over the document store, one that is read or one that is made, and writes what happened.
 #![tactic(auto)]
 
-mod arguments;
-mod command_line;
-mod counted_source;
-mod input;
-mod load;
-mod output;
-mod standard;
-mod status;
-#[cfg(test)]
-mod tests;
-mod top_call;
-
-use crate::arguments::words;
-use crate::standard::{StdSink, StdSource};
-use crate::status::Status;
-use crate::top_call::cx_run;
 use cx_base::OpenGate;
+use cx_program::{Status, StdSink, StdSource, cx_run, words};
 use std::alloc::AllocError;
 use std::process::ExitCode;
 

@@ -1,0 +1,98 @@
+-- What was read or written so far, piece by piece.
+use Rattle.std.proofs.Common.{◌≡◌, ◌∙◌, refl, sym, ap, subst, ℕ, ◌+◌, ◌<◌, ◌≤◌, List, [], ◌++◌, length, take, drop, arith, Option, Some, None, IfSome, append_assoc, append-nil}
+use Rattle.std.proofs.lemmas.List.{length-append, length-take-le, length-drop, take-append-drop}
+use Rattle.std.proofs.Math.Seq.{take-add}
+use Rattle.std.proofs.lemmas.List.{drop-drop}
+use Rattle.cx_base.specs.Outside.{Gave, Took}
+use Rattle.cx_program.specs.Input.{Moves, Moved, Takes, TookAtMost}
+
+-- these bytes are the front of all, and the rest is left
+pub record IsFront (all : List ℕ) (left : Option (List ℕ)) (bytes : List ℕ) : Type 0 where
+  pub front : bytes ≡ take (length bytes) all
+  pub rest : left ≡ Some (drop (length bytes) all)
+  pub within : length bytes ≤ length all
+
+-- the same, where the source told what it had
+abbrev pub HasRead : Option (List ℕ) → Option (List ℕ) → List ℕ → Type 0
+HasRead told left bytes = IfSome told (λ all. IsFront all left bytes)
+
+-- nothing was read yet
+pub read-none : (told : Option (List ℕ)) → HasRead told told []
+read-none None = tt
+read-none (Some all) = record { front = refl; rest = refl; within = omega arith }
+
+-- what a read gave moved behind the bytes
+pub moved : (before after : Option (List ℕ)) (n : ℕ) (buffer bytes longer : List ℕ) → Gave n before buffer after → longer ≡ bytes ++ take n buffer → Moved n before bytes longer after
+moved None after n buffer bytes longer gave e = tt
+moved (Some rest) after n buffer bytes longer gave e = record {
+  enough = gave.enough;
+  read = e ∙ ap (λ (xs : List ℕ). bytes ++ xs) gave.read;
+  left = gave.left;
+  end = gave.end;
+}
+
+-- what was read was taken
+pub taken_by_read : (before after : Option (List ℕ)) (n most : ℕ) (buffer : List ℕ) → Gave n before buffer after → n ≤ most → TookAtMost most before after
+taken_by_read None after n most buffer gave few = tt
+taken_by_read (Some rest) after n most buffer gave few = record { count = n; few = few; left = gave.left }
+
+-- one more piece was read
+front-more : (all : List ℕ) (n : ℕ) (bytes longer : List ℕ) (left after : Option (List ℕ)) → IsFront all left bytes → Moves n (drop (length bytes) all) bytes longer after → IsFront all after longer
+front-more all n bytes longer left after front moves =
+    let read : length (take n (drop (length bytes) all)) ≡ n = length-take-le n (drop (length bytes) all) moves.enough in
+    let len : length longer ≡ length bytes + n = ap length moves.read ∙ (length-append bytes (take n (drop (length bytes) all)) ∙ ap (λ (k : ℕ). length bytes + k) read) in
+    record {
+      front =
+          moves.read ∙ (ap (λ (xs : List ℕ). xs ++ take n (drop (length bytes) all)) front.front
+          ∙ (sym (take-add (length bytes) n all) ∙ ap (λ (k : ℕ). take k all) (sym len)));
+      rest = moves.left ∙ ap Some (drop-drop n (length bytes) all ∙ ap (λ (k : ℕ). drop k all) (sym len));
+      within = omega (arith, len, moves.enough, length-drop (length bytes) all, front.within);
+    }
+
+pub read-more : (told left after : Option (List ℕ)) (n : ℕ) (bytes longer : List ℕ) → HasRead told left bytes → Moved n left bytes longer after → HasRead told after longer
+read-more None left after n bytes longer read moves = tt
+read-more (Some all) left after n bytes longer read moves =
+    front-more all n bytes longer left after read
+    (subst (λ (o : Option (List ℕ)). IfSome o (λ rest. Moves n rest bytes longer after)) read.rest moves)
+
+-- all was read, where no byte came
+pub read-all : (told left after : Option (List ℕ)) (bytes longer : List ℕ) → HasRead told left bytes → Moved 0 left bytes longer after → IfSome told (λ all. longer ≡ all)
+read-all None left after bytes longer read moves = tt
+read-all (Some all) left after bytes longer read moves =
+    let m : Moves 0 (drop (length bytes) all) bytes longer after = subst (λ (o : Option (List ℕ)). IfSome o (λ rest. Moves 0 rest bytes longer after)) read.rest moves in
+    m.read
+    ∙ (ap (λ (xs : List ℕ). xs ++ []) read.front
+    ∙ (ap (λ (xs : List ℕ). take (length bytes) all ++ xs) (sym (m.end refl)) ∙ take-append-drop (length bytes) all))
+
+-- more is left than an input may have
+pub read-past : (told left : Option (List ℕ)) (most : ℕ) (bytes : List ℕ) → HasRead told left bytes → most < length bytes → IfSome told (λ all. most < length all)
+read-past None left most bytes read past = tt
+read-past (Some all) left most bytes read past = omega (arith, read.within)
+
+-- what was read so far was taken
+pub read-taken : (told left : Option (List ℕ)) (most : ℕ) (bytes : List ℕ) → HasRead told left bytes → length bytes ≤ most → TookAtMost most told left
+read-taken None left most bytes read few = tt
+read-taken (Some all) left most bytes read few = record { count = length bytes; few = few; left = read.rest }
+
+-- and so was a piece that was lost
+pub read-lost : (told left after : Option (List ℕ)) (most piece : ℕ) (bytes : List ℕ) → HasRead told left bytes → TookAtMost piece left after → length bytes + piece ≤ most → TookAtMost most told after
+read-lost None left after most piece bytes read lost few = tt
+read-lost (Some all) left after most piece bytes read lost few =
+    let takes : Takes piece (drop (length bytes) all) after = subst (λ (o : Option (List ℕ)). IfSome o (λ rest. Takes piece rest after)) read.rest lost in
+    record { count = length bytes + takes.count; few = omega (arith, takes.few); left = takes.left ∙ ap Some (drop-drop takes.count (length bytes) all) }
+
+-- the first n bytes of a text were written
+abbrev pub HasWritten : ℕ → List ℕ → Option (List ℕ) → Option (List ℕ) → Type 0
+HasWritten n text before after = IfSome before (λ written. after ≡ Some (written ++ take n text))
+
+-- nothing was written yet
+pub written-none : (text : List ℕ) (told : Option (List ℕ)) → HasWritten 0 text told told
+written-none text None = tt
+written-none text (Some written) = ap Some (sym (append-nil written))
+
+-- one more piece was written
+pub written-more : (text : List ℕ) (at n : ℕ) (before now after : Option (List ℕ)) → HasWritten at text before now → Took n (drop at text) now after → HasWritten (at + n) text before after
+written-more text at n None now after written took = tt
+written-more text at n (Some first) now after written took =
+    let took' : after ≡ Some ((first ++ take at text) ++ take n (drop at text)) = subst (λ (o : Option (List ℕ)). IfSome o (λ w. after ≡ Some (w ++ take n (drop at text)))) written took in
+    took' ∙ ap Some (append_assoc first (take at text) (take n (drop at text)) ∙ ap (λ (xs : List ℕ). first ++ xs) (sym (take-add at n text)))

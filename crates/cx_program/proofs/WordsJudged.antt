@@ -1,0 +1,194 @@
+-- Which words the parser of the command line refuses.
+use Rattle.std.proofs.Common.{◌≡◌, ◌⊎◌, inl, inr, ◌∙◌, refl, sym, ap, subst, ℕ, false, List, [], ◌∷◌, ◌++◌, codes, arith, Option, Some, None, All, append_assoc, append-nil, fold, length, get_or, ◌<◌}
+use Rattle.std.specs.Bool.{Decides}
+use Rattle.std.specs.Str.{bytes_eq}
+use Rattle.std.proofs.lemmas.Bool.{cases_Bool}
+use Rattle.std.proofs.lemmas.List.Elements.{All-head, All-tail}
+use Rattle.std.proofs.lemmas.Slice.Eq.{bytes_eq-Decides}
+use Rattle.clap.specs.Faults.{fault_of, word_fault, walk_fault, entered_fault, level_fault}
+use Rattle.clap.specs.Lexer.{long_of, short_of}
+use Rattle.clap.specs.Kinds.{Kinds, IsAmong, or_else}
+use Rattle.clap.specs.Simple.{Shape, built, built_leaf, inherited, names_of, new_shape}
+use Rattle.clap.specs.Walk.{Held, Names, Rule, Text, Walk, idle, value, word_met, walk, walked, walk_from, nothing_held}
+use Rattle.clap.specs.declared.error.kind.ErrorKind.{ErrorKind}
+use Rattle.clap.specs.declared.error.kind.ErrorKind.TheVariants.{InvalidSubcommand, MissingRequiredArgument, OutOfMemory, UnknownArgument}
+use Rattle.clap.proofs.OnLiterals.{clap_on_literals}
+use Rattle.cx_program.specs.CommandLine.{HasForm, begins_with_hyphen, load_app, program}
+
+-- without a command the words are refused
+pub none_missing : fault_of program [] ≡ [] → ⊥
+unfolding clap_on_literals
+none_missing e = cc
+
+-- the command `run` is taken
+pub run_taken : fault_of program (codes "run" ∷ []) ≡ []
+unfolding clap_on_literals
+run_taken = refl
+
+-- a word that does not begin with a hyphen, and one that is no flag
+abbrev IsPlain : List ℕ → Type 0
+IsPlain w = begins_with_hyphen w ≡ false
+
+record IsPlainWord (w : List ℕ) : Type 0 where
+  dashes : bytes_eq w (45 ∷ 45 ∷ []) ≡ false
+  long : long_of w ≡ None
+  short : short_of w ≡ None
+
+plain : (w : List ℕ) → begins_with_hyphen w ≡ false → IsPlainWord w
+plain [] h = record { dashes = refl; long = refl; short = refl }
+plain (x ∷ xs) h = record { dashes = rw (h) refl; long = rw (h) refl; short = rw (h) refl }
+
+nth_plain : (words : List (List ℕ)) → All IsPlain words → (i : ℕ) → i < length words → IsPlainWord (get_or words i [])
+nth_plain words are i lt = plain (get_or words i []) (are i [] lt)
+
+-- and so is `load` with three words more
+load_taken : (a b c : List ℕ) → IsPlainWord a → IsPlainWord b → IsPlainWord c → fault_of program (codes "load" ∷ a ∷ b ∷ c ∷ []) ≡ []
+unfolding clap_on_literals
+load_taken a b c p q r = rw (p.dashes, p.long, p.short, q.dashes, q.long, q.short, r.dashes, r.long, r.short) refl
+
+-- behind a command the walk goes on with the words that follow it
+fold_stopped : (c : List Rule) (names : Names) (w : Walk) (name : Text) (past rest : List Text)
+    → fold (walked c names) (record w { stopped = Some (name, past) }) rest ≡ record w { stopped = Some (name, past ++ rest) }
+unfolding walked
+fold_stopped c names w name past [] = ap (λ (ps : List Text). record w { stopped = Some (name, ps) }) (sym (append-nil past))
+fold_stopped c names w name past (v ∷ rest) =
+    fold_stopped c names w name (past ++ v ∷ []) rest ∙ ap (λ (ps : List Text). record w { stopped = Some (name, ps) }) (append_assoc past (v ∷ []) rest)
+
+plain_met : (c : List Rule) (position : ℕ) (w : List ℕ) (h : Held) → IsPlainWord w → word_met c [] false idle position w h ≡ (h, value)
+plain_met c position w h p = rw (p.dashes, p.long, p.short) refl
+
+plain_fault : (s : Shape) (w : List ℕ) (h : Held) → IsPlainWord w → word_fault s [] false idle w h ≡ []
+plain_fault s w h p = rw (p.dashes, p.long, p.short) refl
+
+none_first : (a b : Kinds) → or_else a b ≡ [] → a ≡ []
+none_first [] b e = refl
+none_first (k ∷ ks) b e = cc
+
+none_then : (a b : Kinds) → a ≡ [] → or_else a b ≡ [] → b ≡ []
+none_then [] b is e = e
+none_then (k ∷ ks) b is e = cc
+
+abbrev top : Shape
+top = (built program).top
+
+abbrev labels : Names
+labels = names_of (built program)
+
+-- the subcommands, as they are built
+abbrev run_level : Shape
+run_level = built_leaf (inherited top (new_shape (codes "run")))
+
+abbrev load_level : Shape
+load_level = built_leaf (inherited top load_app.top)
+
+-- no argument follows `run`
+run_strays : (v : List ℕ) (more : List (List ℕ)) → IsPlainWord v → level_fault run_level [] nothing_held (v ∷ more) false [] ≡ UnknownArgument ∷ []
+unfolding clap_on_literals
+run_strays v more p = rw (p.dashes, p.long, p.short) refl
+
+run_alone : (rest : List (List ℕ)) → All IsPlain rest → level_fault run_level [] nothing_held rest false [] ≡ [] → rest ≡ []
+run_alone [] plain e = refl
+run_alone (v ∷ more) plain e =
+    let strays : UnknownArgument ∷ [] ≡ [] = sym (run_strays v more (nth_plain (v ∷ more) plain 0 (omega arith))) ∙ e in cc
+
+-- three numbers follow `load`
+load_needs_from : level_fault load_level [] nothing_held [] false [] ≡ MissingRequiredArgument ∷ []
+unfolding clap_on_literals
+load_needs_from = refl
+
+load_needs_clients : (a : List ℕ) → IsPlainWord a → level_fault load_level [] nothing_held (a ∷ []) false [] ≡ MissingRequiredArgument ∷ []
+unfolding clap_on_literals
+load_needs_clients a p = rw (p.dashes, p.long, p.short) refl
+
+load_needs_ops : (a b : List ℕ) → IsPlainWord a → IsPlainWord b → level_fault load_level [] nothing_held (a ∷ b ∷ []) false [] ≡ MissingRequiredArgument ∷ []
+unfolding clap_on_literals
+load_needs_ops a b p q = rw (p.dashes, p.long, p.short, q.dashes, q.long, q.short) refl
+
+load_strays : (a b c d : List ℕ) (more : List (List ℕ)) → IsPlainWord a → IsPlainWord b → IsPlainWord c → IsPlainWord d → level_fault load_level [] nothing_held (a ∷ b ∷ c ∷ d ∷ more) false [] ≡ UnknownArgument ∷ []
+unfolding clap_on_literals
+load_strays a b c d more p q r s = rw (p.dashes, p.long, p.short, q.dashes, q.long, q.short, r.dashes, r.long, r.short, s.dashes, s.long, s.short) refl
+
+load_three : (rest : List (List ℕ)) → All IsPlain rest → level_fault load_level [] nothing_held rest false [] ≡ [] → (a b c : List ℕ) × (rest ≡ a ∷ b ∷ c ∷ [])
+load_three [] plain e = let needs : MissingRequiredArgument ∷ [] ≡ [] = sym load_needs_from ∙ e in cc
+load_three (a ∷ []) plain e =
+    let needs : MissingRequiredArgument ∷ [] ≡ [] = sym (load_needs_clients a (nth_plain (a ∷ []) plain 0 (omega arith))) ∙ e in cc
+load_three (a ∷ b ∷ []) plain e =
+    let ws : List (List ℕ) = a ∷ b ∷ [] in
+    let needs : MissingRequiredArgument ∷ [] ≡ [] = sym (load_needs_ops a b (nth_plain ws plain 0 (omega arith)) (nth_plain ws plain 1 (omega arith))) ∙ e in cc
+load_three (a ∷ b ∷ c ∷ []) plain e = (a, b, c, refl)
+load_three (a ∷ b ∷ c ∷ d ∷ more) plain e =
+    let ws : List (List ℕ) = a ∷ b ∷ c ∷ d ∷ more in
+    let strays : UnknownArgument ∷ [] ≡ [] =
+    sym (load_strays a b c d more (nth_plain ws plain 0 (omega arith)) (nth_plain ws plain 1 (omega arith)) (nth_plain ws plain 2 (omega arith)) (nth_plain ws plain 3 (omega arith))) ∙ e in cc
+
+-- behind the word of a command its own arguments decide
+after_run : (rest : List (List ℕ)) → fault_of program (codes "run" ∷ rest) ≡ [] → level_fault run_level [] nothing_held rest false [] ≡ []
+unfolding walked
+after_run rest e =
+    let walks : walk_fault top labels (walk_from nothing_held) (codes "run" ∷ rest) ≡ [] = none_first _ _ e in
+    let below : entered_fault (built program) (walk top.rules labels nothing_held (codes "run" ∷ rest)).stopped ≡ [] =
+    none_first _ _ (none_then (walk_fault top labels (walk_from nothing_held) (codes "run" ∷ rest)) _ walks e) in
+    let stops : (walk top.rules labels nothing_held (codes "run" ∷ rest)).stopped ≡ Some (codes "run", rest) =
+    ap (λ (w : Walk). w.stopped) (fold_stopped top.rules labels (walk_from nothing_held) (codes "run") [] rest) in
+    subst (λ (stop : Option (Text × List Text)). entered_fault (built program) stop ≡ []) stops below
+
+after_load : (rest : List (List ℕ)) → fault_of program (codes "load" ∷ rest) ≡ [] → level_fault load_level [] nothing_held rest false [] ≡ []
+unfolding walked
+after_load rest e =
+    let walks : walk_fault top labels (walk_from nothing_held) (codes "load" ∷ rest) ≡ [] = none_first _ _ e in
+    let below : entered_fault (built program) (walk top.rules labels nothing_held (codes "load" ∷ rest)).stopped ≡ [] =
+    none_first _ _ (none_then (walk_fault top labels (walk_from nothing_held) (codes "load" ∷ rest)) _ walks e) in
+    let stops : (walk top.rules labels nothing_held (codes "load" ∷ rest)).stopped ≡ Some (codes "load", rest) =
+    ap (λ (w : Walk). w.stopped) (fold_stopped top.rules labels (walk_from nothing_held) (codes "load") [] rest) in
+    subst (λ (stop : Option (Text × List Text)). entered_fault (built program) stop ≡ []) stops below
+
+-- a first word that names no command is refused
+strays : (w : List ℕ) (rest : List (List ℕ)) → IsPlainWord w → bytes_eq (codes "run") w ≡ false → bytes_eq (codes "load") w ≡ false → fault_of program (w ∷ rest) ≡ UnknownArgument ∷ InvalidSubcommand ∷ []
+unfolding clap_on_literals
+strays w rest p no_run no_load = rw (no_run, no_load, p.dashes, p.long, p.short) refl
+
+other_refused : (w : List ℕ) (rest : List (List ℕ)) → IsPlainWord w → bytes_eq (codes "run") w ≡ false → bytes_eq (codes "load") w ≡ false → fault_of program (w ∷ rest) ≡ [] → ⊥
+other_refused w rest p no_run no_load e =
+    let bad : UnknownArgument ∷ InvalidSubcommand ∷ [] ≡ [] = sym (strays w rest p no_run no_load) ∙ e in cc
+
+named_run : (w : List ℕ) (rest : List (List ℕ)) → All IsPlain rest → codes "run" ≡ w → fault_of program (w ∷ rest) ≡ [] → w ∷ rest ≡ codes "run" ∷ []
+named_run w rest plain is e =
+    let alone : rest ≡ [] = run_alone rest plain (after_run rest (subst (λ (v : List ℕ). fault_of program (v ∷ rest) ≡ []) (sym is) e)) in cc
+
+named_load : (w : List ℕ) (rest : List (List ℕ)) → All IsPlain rest → codes "load" ≡ w → fault_of program (w ∷ rest) ≡ [] → (a b c : List ℕ) × (w ∷ rest ≡ codes "load" ∷ a ∷ b ∷ c ∷ [])
+named_load w rest plain is e =
+    let three = load_three rest plain (after_load rest (subst (λ (v : List ℕ). fault_of program (v ∷ rest) ≡ []) (sym is) e)) in
+    (three.0, three.1, three.2, cc)
+
+-- words that pass are those of a command
+pub passes_only_forms : (words : List (List ℕ)) → All IsPlain words → fault_of program words ≡ [] → (words ≡ codes "run" ∷ []) ⊎ ((a b c : List ℕ) × (words ≡ codes "load" ∷ a ∷ b ∷ c ∷ []))
+passes_only_forms [] no_hyphen e = absurd (none_missing e)
+passes_only_forms (w ∷ rest) no_hyphen e =
+    let others : All IsPlain rest = All-tail IsPlain w rest no_hyphen in
+    let is_run : Decides (bytes_eq (codes "run") w) (codes "run" ≡ w) = bytes_eq-Decides (codes "run") w in
+    let is_load : Decides (bytes_eq (codes "load") w) (codes "load" ≡ w) = bytes_eq-Decides (codes "load") w in
+    elim (cases_Bool (bytes_eq (codes "run") w)) [
+      | inl run ↦ inl (named_run w rest others (is_run.0 run) e)
+      | inr no_run ↦ elim (cases_Bool (bytes_eq (codes "load") w)) [
+        | inl load ↦ inr (named_load w rest others (is_load.0 load) e)
+        | inr no_load ↦ absurd (other_refused w rest (plain w (All-head IsPlain w rest no_hyphen)) no_run no_load e)
+      ]
+    ]
+
+-- and those of a command pass
+pub forms_pass : (words : List (List ℕ)) → All IsPlain words → (words ≡ codes "run" ∷ []) ⊎ ((a b c : List ℕ) × (words ≡ codes "load" ∷ a ∷ b ∷ c ∷ [])) → fault_of program words ≡ []
+forms_pass words no_hyphen (inl run) = subst (λ (ws : List (List ℕ)). fault_of program ws ≡ []) (sym run) run_taken
+forms_pass words no_hyphen (inr load) =
+    let ws : List (List ℕ) = codes "load" ∷ load.0 ∷ load.1 ∷ load.2 ∷ [] in
+    let here : All IsPlain ws = subst (λ (ws : List (List ℕ)). All IsPlain ws) load.3 no_hyphen in
+    subst (λ (ws : List (List ℕ)). fault_of program ws ≡ []) (sym load.3)
+    (load_taken load.0 load.1 load.2 (nth_plain ws here 1 (omega arith)) (nth_plain ws here 2 (omega arith)) (nth_plain ws here 3 (omega arith)))
+
+none_among : (kind : ErrorKind) (kinds : Kinds) → kinds ≡ [] → IsAmong kind kinds → ⊥
+none_among kind [] none among = among
+none_among kind (k ∷ kinds) none among = cc
+
+-- so that words of which a fault has another kind than want of memory are not those of a command
+pub refused_has_no_form : (words : List (List ℕ)) (kind : ErrorKind) → (kind ≡ OutOfMemory) ⊎ IsAmong kind (fault_of program words) → (kind ≡ OutOfMemory → ⊥) → HasForm words → ⊥
+refused_has_no_form words kind (inl memory) other has = other memory
+refused_has_no_form words kind (inr among) other has = none_among kind _ (forms_pass words has.plain has.form) among

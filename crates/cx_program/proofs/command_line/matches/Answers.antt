@@ -1,0 +1,33 @@
+use Rattle.std.proofs.Common.{◌≡◌, ◌∙◌, refl, ap, ap₂, map, string_bytes, codes, true, subst}
+use Rattle.clap.specs.Faults.{fault_of, is_simple_and_free}
+use Rattle.clap.specs.Kinds.{FailsBy}
+use Rattle.clap.specs.Words.{app_of}
+use Rattle.clap.specs.Simple.{App, app_of_fields, new_app, with_subcommand}
+use Rattle.clap.specs.declared.builder.command.Command.{Command}
+use Rattle.clap.specs.declared.builder.command.Command.TheOpen.{Command-F}
+use Rattle.clap.proofs.OnLiterals.{clap_on_literals}
+use Rattle.cx_program.specs.CommandLine.{program}
+use Rattle.cx_program.proofs.command_line.matches.Goals as goal
+
+is_simple_program : is_simple_and_free program ≡ true
+unfolding clap_on_literals
+is_simple_program = refl
+
+abbrev with_settings : App → App
+with_settings a = record a { top = record a.top { no_binary_name = true; disable_help_flag = true; disable_help_subcommand = true; subcommand_required = true } }
+
+abbrev bare : App
+bare = with_settings (new_app (codes "cx_tool"))
+
+pub returns : goal.returns
+returns c =
+    let bare_is : app_of c.subcommand_required.result ≡ bare =
+    ap app_of_fields c.subcommand_required.ensures
+    ∙ ap (λ (f : Command-F Command). app_of_fields (record f { subcommand_required = true })) c.disable_help_subcommand.ensures
+    ∙ ap (λ (f : Command-F Command). app_of_fields (record f { disable_help_subcommand = true; subcommand_required = true })) c.disable_help_flag.ensures
+    ∙ ap (λ (f : Command-F Command). app_of_fields (record f { disable_help_flag = true; disable_help_subcommand = true; subcommand_required = true })) c.no_binary_name.ensures
+    ∙ ap with_settings c.new.ensures.app in
+    let app_is : app_of c.in_ok-subcommand-2.field-0 ≡ program =
+    c.in_ok-subcommand-2.ensures.shape c.in_ok-load.ensures.local
+    ∙ ap₂ with_subcommand (c.in_ok-subcommand.ensures.shape c.new-run.ensures.local ∙ ap₂ with_subcommand bare_is (ap (λ (a : App). a.top) c.new-run.ensures.app)) (ap (λ (a : App). a.top) c.in_ok-load.ensures.app) in
+    subst (λ (a : App). FailsBy (fault_of a (map string_bytes c.args.words.now)) c.try_get_matches_from.result) app_is (c.try_get_matches_from.ensures.kinds (ap is_simple_and_free app_is ∙ is_simple_program))

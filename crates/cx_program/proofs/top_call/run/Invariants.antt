@@ -1,0 +1,5 @@
+use Rattle.cx_program.proofs.top_call.run.Given as goal
+
+-- the counter of reads is on a new ledger
+abbrev pub ghosts-read_uncounted : goal.ghosts-read_uncounted
+ghosts-read_uncounted g a = record { name = a.blank.name; parts = a.blank.parts }

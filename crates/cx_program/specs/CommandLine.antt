@@ -1,0 +1,51 @@
+-- The program's command line, as its parser is told it.
+use Rattle.std.specs.Prelude.{◌≡◌, ◌⊎◌, ◌==◌, MatchResult, Result, ℕ, Bool, true, false, List, [], ◌∷◌, Some, codes, All}
+use Rattle.clap.specs.Kinds.{Kinds, IsAmong}
+use Rattle.clap.specs.declared.error.kind.ErrorKind.{ErrorKind}
+use Rattle.clap.specs.declared.error.kind.ErrorKind.TheVariants.{OutOfMemory}
+use Rattle.clap.specs.Simple.{App, new_app, new_rule, new_shape, with_rule}
+use Rattle.clap.specs.Walk.{Rule}
+use Rattle.clap.specs.declared.builder.action.ArgAction.TheVariants.{Set}
+use Rattle.cx_program.specs.Answer.{IsLoadOf, IsRun, NamesLoad}
+use Rattle.cx_program.specs.declared.command_line.Asked.{Asked}
+use Rattle.cx_program.specs.declared.command_line.Asked.TheVariants.{Run, Load, Nothing}
+
+-- a word begins with a hyphen
+abbrev pub begins_with_hyphen : List ℕ → Bool
+begins_with_hyphen [] = false
+begins_with_hyphen (c ∷ cs) = c == 45
+
+-- a number that a command wants
+abbrev pub number_rule : List ℕ → Rule
+number_rule name = record (new_rule name) { action = Some Set; required = true }
+
+-- the command `load` with its three numbers
+abbrev pub load_app : App
+load_app = with_rule (with_rule (with_rule (new_app (codes "load")) (number_rule (codes "from"))) (number_rule (codes "clients"))) (number_rule (codes "ops"))
+
+abbrev pub program : App
+program = record {
+  top = record (new_shape (codes "cx_tool")) {
+    is_leaf = false;
+    no_binary_name = true;
+    disable_help_flag = true;
+    disable_help_subcommand = true;
+    subcommand_required = true;
+  };
+  subs = new_shape (codes "run") ∷ load_app.top ∷ [];
+}
+
+-- The words have the form of a command, and none begins with a hyphen.
+pub record HasForm (words : List (List ℕ)) : Type 0 where
+  pub plain : All (λ word. begins_with_hyphen word ≡ false) words
+  pub form : (words ≡ codes "run" ∷ []) ⊎ ((a b c : List ℕ) × (words ≡ codes "load" ∷ a ∷ b ∷ c ∷ []))
+
+-- the words pass, where no kind of fault does; a fault has one of the kinds, or memory ran out
+abbrev pub IsJudged : Kinds → Result Unit ErrorKind → Type 0
+IsJudged kinds result = MatchResult result (λ _. kinds ≡ []) (λ kind. (kind ≡ OutOfMemory) ⊎ IsAmong kind kinds)
+
+-- what the words ask for
+abbrev pub Asks : List (List ℕ) → Asked → Type 0
+Asks words Run = IsRun words
+Asks words (Load load) = IsLoadOf words load.from load.clients load.ops
+Asks words Nothing = (IsRun words → ⊥) × (NamesLoad words → ⊥)

@@ -1,0 +1,31 @@
+-- What reading an input to its end shows of it.
+use Rattle.std.specs.Prelude.{◌≡◌, ◌<◌, ◌≤◌, ℕ, List, [], ◌++◌, length, take, drop, Option, Some, IfSome}
+use Rattle.cx_base.specs.Outside.{Rose}
+use Rattle.cx_program.specs.declared.input.Input.{Input}
+use Rattle.cx_program.specs.declared.input.Input.TheVariants.{Whole, TooLong, Failed}
+
+-- the bytes that the source had left, where it told them, and its count of faults before and after
+abbrev pub Shows : Option (List ℕ) → ℕ → ℕ → Input → Type 0
+Shows told before after (Whole bytes) = (length bytes.items ≤ 16777216) × IfSome told (λ all. bytes.items ≡ all)
+Shows told before after TooLong = IfSome told (λ all. 16777216 < length all)
+Shows told before after Failed = Rose before after
+
+-- a piece of n bytes moved from the front of what was left behind the bytes read so far; no byte is the end
+pub record Moves (n : ℕ) (rest bytes longer : List ℕ) (after : Option (List ℕ)) : Type 0 where
+  pub enough : n ≤ length rest
+  pub read : longer ≡ bytes ++ take n rest
+  pub left : after ≡ Some (drop n rest)
+  pub end : n ≡ 0 → rest ≡ []
+
+-- the same, where the source tells its bytes
+abbrev pub Moved : ℕ → Option (List ℕ) → List ℕ → List ℕ → Option (List ℕ) → Type 0
+Moved n before bytes longer after = IfSome before (λ rest. Moves n rest bytes longer after)
+
+-- bytes were taken from the front, at most so many
+pub record Takes (most : ℕ) (all : List ℕ) (rest : Option (List ℕ)) : Type 0 where
+  pub count : ℕ
+  pub few : count ≤ most
+  pub left : rest ≡ Some (drop count all)
+
+abbrev pub TookAtMost : ℕ → Option (List ℕ) → Option (List ℕ) → Type 0
+TookAtMost most before after = IfSome before (λ all. Takes most all after)

@@ -1,0 +1,132 @@
+//! What the words behind the program's name are, as the command line's parser reads them.
+
+ghost use Rattle.std.specs.Prelude.{◌≡◌, ◌↔◌, map, string_bytes, All, Any, IfOk, IsTrue, true, false};
+ghost use Rattle.clap.specs.Faults.{fault_of};
+ghost use Rattle.clap.specs.Kinds.{FailsBy};
+ghost use Rattle.clap.specs.Words.{app_of, rule_of};
+ghost use Rattle.clap.specs.declared.builder.command.Command.TheViews.{out-Command as fields_of};
+ghost use Rattle.cx_program.specs.CommandLine.{Asks, HasForm, IsJudged, begins_with_hyphen, load_app, number_rule, program};
+
+use crate::load::Load;
+use clap::error::ErrorKind;
+use clap::{Arg, ArgAction, ArgMatches, Command, Error};
+use std::alloc::{AllocError, Global};
+
+/// What the words ask for.
+#[derive(Drop)]
+pub(crate) enum Asked {
+    /// That a script is run.
+    Run,
+    /// That a script is made and run.
+    Load(Load),
+    /// Nothing: they are no command.
+    Nothing,
+}
+
+/// Reads the words of a command. `Err` is want of memory.
+pub(crate) fn read_words(alloc: Global, words: &[String]) -> Result<Asked, AllocError>
+    ensures { IfOk result (Asks (map string_bytes words.now)) }
+{
+    if have_form(alloc, words)? {
+        Ok(asked_by(words))
+    } else {
+        Ok(Asked::Nothing)
+    }
+}
+
+// What words ask for that have the form of a command: `run` alone, or `load` and three more.
+fn asked_by(words: &[String]) -> Asked
+    requires { HasForm (map string_bytes words.now) }
+    ensures { Asks (map string_bytes words.now) result }
+{
+    match words {
+        [_load, from, clients, ops] => match Load::read(from, clients, ops) {
+            Some(load) => Asked::Load(load),
+            None => Asked::Nothing,
+        },
+        _ => Asked::Run,
+    }
+}
+
+// Whether the words have the form of a command. A word that begins with a hyphen is in none. `Err` is want of
+// memory.
+fn have_form(alloc: Global, words: &[String]) -> Result<bool, AllocError>
+    ensures { IfOk result (λ is. IsTrue is ↔ HasForm (map string_bytes words.now)) }
+{
+    if has_option(words) {
+        return Ok(false);
+    }
+    match parse(alloc, words) {
+        Ok(()) => Ok(true),
+        Err(ErrorKind::OutOfMemory) => Err(AllocError),
+        Err(_) => Ok(false),
+    }
+}
+
+// Whether a word begins with a hyphen.
+fn is_option(word: &String) -> bool
+    ensures { result ≡ begins_with_hyphen (string_bytes word.now) }
+{
+    match word.as_str().as_bytes() {
+        [first, ..] => *first == b'-',
+        [] => false,
+    }
+}
+
+// Whether one of the words begins with a hyphen.
+fn has_option(words: &[String]) -> bool
+    ensures some { result ≡ true → Any (λ word. begins_with_hyphen (string_bytes word) ≡ true) words.now }
+    ensures none { result ≡ false → All (λ word. begins_with_hyphen (string_bytes word) ≡ false) words.now }
+{
+    for word in words {
+        if is_option(word) {
+            return true;
+        }
+    }
+    false
+}
+
+// Whether the words are those of a command; with the kind of the fault where they are not.
+fn parse(alloc: Global, words: &[String]) -> Result<(), ErrorKind>
+    ensures { IsJudged (fault_of program (map string_bytes words.now)) result }
+{
+    match matches(alloc, words) {
+        Ok(_matches) => Ok(()),
+        Err(error) => Err(error.kind()),
+    }
+}
+
+// A number that a command wants.
+fn number(alloc: Global, name: &str) -> Arg<'_>
+    ensures rule { rule_of result ≡ number_rule name.entry.now }
+    ensures local { result.global ≡ false }
+{
+    Arg::new(alloc, name).required(true).action(ArgAction::Set)
+}
+
+// The command `load` with its three numbers.
+fn load_command<'a>(alloc: Global) -> Result<Command<'a>, AllocError>
+    ensures app { IfOk result (λ command. app_of command ≡ load_app) }
+    ensures local { IfOk result (λ command. (fields_of command).has_globals ≡ false) }
+{
+    Command::new(alloc, "load")
+        .arg(number(alloc, "from"))?
+        .arg(number(alloc, "clients"))?
+        .arg(number(alloc, "ops"))
+}
+
+// Reads the words as those of a command.
+fn matches<'a>(alloc: Global, words: &'a [String]) -> Result<ArgMatches<'a>, Error>
+    ensures { FailsBy (fault_of program (map string_bytes words.entry.now)) result }
+{
+    let run = Command::new(alloc, "run");
+    let load = load_command(alloc)?;
+    Command::new(alloc, "cx_tool")
+        .no_binary_name(true)
+        .disable_help_flag(true)
+        .disable_help_subcommand(true)
+        .subcommand_required(true)
+        .subcommand(run)?
+        .subcommand(load)?
+        .try_get_matches_from(words)
+}

@@ -1,0 +1,103 @@
+//! The input, read to its end.
+
+ghost use Rattle.std.specs.Prelude.{◌≡◌, ◌+◌, ◌<◌, ◌≤◌, IfOk, OnErr, length, vec_len};
+ghost use Rattle.cx_base.specs.Outside.{Rose};
+ghost use Rattle.cx_program.specs.Input.{Shows, Moved, TookAtMost};
+
+use crate::counted_source::CountedSource;
+use cx_base::{Failed, Source, Steps};
+use std::alloc::{AllocError, Global};
+use std::sync::ledger::{Blank, Ledger};
+
+/// The bytes that an input may have.
+pub(crate) const LIMIT: usize = 16_777_216;
+
+/// The bytes that a read asks for, but where fewer are left of the limit.
+const PIECE: usize = 65_536;
+
+/// What reading to the end came to.
+#[derive(Drop)]
+pub(crate) enum Input {
+    /// All bytes, within the limit.
+    Whole(Vec<u8>),
+    /// One byte more than the limit was read.
+    TooLong,
+    /// The source failed.
+    Failed,
+}
+
+// So many bytes that are 0.
+fn zeros(alloc: Global, len: usize) -> Result<Vec<u8>, AllocError>
+    ensures { IfOk result (λ bytes. vec_len bytes ≡ len) }
+{
+    vec![in alloc; 0u8; len]
+}
+
+// Reads one piece, at most as long as the buffer, and puts it behind the bytes read so far. The outer `Err` is want of
+// memory: then the piece is lost.
+fn read_piece<S: Source, L: Ledger>(
+    source: &mut CountedSource<'_, S, L>,
+    bytes: &mut Vec<u8>,
+    buffer: &mut [u8],
+) -> Result<Result<usize, Failed>, AllocError>
+    requires { 0 < length buffer.old }
+    ensures same_reference { source.new.source.ghost_name ≡ source.old.source.ghost_name }
+    ensures counted { source.new.reads ≡ source.old.reads + 1 }
+    ensures moved { IfOk result (λ read. IfOk read (λ n. Moved n (S.left source.old.source.now) bytes.old.items bytes.new.items (S.left source.new.source.now))) }
+    ensures added { IfOk result (λ read. IfOk read (λ n. (n ≤ length buffer.old) × (vec_len bytes.new ≡ vec_len bytes.old + n))) }
+    ensures failed { IfOk result (λ read. OnErr read (Rose (S.faults source.old.source.now) (S.faults source.new.source.now))) }
+    ensures untouched { IfOk result (λ read. OnErr read (S.left source.new.source.now ≡ S.left source.old.source.now)) }
+    ensures lost { OnErr result (TookAtMost (length buffer.old) (S.left source.old.source.now) (S.left source.new.source.now)) }
+    ensures count { S.faults source.old.source.now ≤ S.faults source.new.source.now }
+{
+    let n = match source.read(buffer) {
+        Ok(n) => n,
+        Err(Failed) => return Ok(Err(Failed)),
+    };
+    let (piece, _) = buffer.split_at(n);
+    bytes.extend_from_slice(piece)?;
+    Ok(Ok(n))
+}
+
+/// Reads a source to its end, or to one byte behind the limit. `Err` is want of memory.
+pub(crate) fn read_input<S: Source, L: Ledger>(
+    alloc: Global,
+    source: &mut CountedSource<'_, S, L>,
+) -> Result<Input, AllocError>
+    ensures same_reference { source.new.source.ghost_name ≡ source.old.source.ghost_name }
+    ensures reads { source.new.reads ≤ source.old.reads + 16777217 }
+    ensures input { IfOk result (Shows (S.left source.old.source.now) (S.faults source.old.source.now) (S.faults source.new.source.now)) }
+    ensures taken { TookAtMost 16777217 (S.left source.old.source.now) (S.left source.new.source.now) }
+    ensures count { S.faults source.old.source.now ≤ S.faults source.new.source.now }
+{
+    let mut bytes = Vec::new(alloc);
+    let mut buffer = zeros(alloc, PIECE)?;
+    while bytes.len() <= LIMIT {
+        let most = PIECE.min(LIMIT + 1 - bytes.len());
+        match read_piece(source, &mut bytes, &mut buffer[..most])? {
+            Ok(0) => return Ok(Input::Whole(bytes)),
+            Ok(_) => {}
+            Err(Failed) => return Ok(Input::Failed),
+        }
+    }
+    Ok(Input::TooLong)
+}
+
+/// The same from a source whose reads nobody counts further, on a new ledger.
+pub(crate) fn read_uncounted<S: Source, L: Ledger>(
+    alloc: Global,
+    source: &mut S,
+    blank: Blank,
+) -> Result<Input, AllocError>
+    requires name { blank.name ≡ L.name }
+    requires parts { blank.parts ≡ L.parts }
+    requires some { 0 < L.parts }
+    ensures input { IfOk result (Shows (S.left source.old) (S.faults source.old) (S.faults source.new)) }
+    ensures taken { TookAtMost 16777217 (S.left source.old) (S.left source.new) }
+    ensures count { S.faults source.old ≤ S.faults source.new }
+{
+    let mut counted = CountedSource::new(source, Steps::<L>::open(blank));
+    let input = read_input(alloc, &mut counted);
+    let _ = counted.finish();
+    input
+}

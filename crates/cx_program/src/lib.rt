@@ -1,0 +1,17 @@
+//! The program behind its `main`: the top call, words and input in, status and text out, and what stands between it and the system.
+#![tactic(auto)]
+
+mod arguments;
+mod command_line;
+mod counted_source;
+mod input;
+mod load;
+mod output;
+mod standard;
+mod status;
+mod top_call;
+
+pub use arguments::words;
+pub use standard::{StdSink, StdSource};
+pub use status::{Ended, Status};
+pub use top_call::cx_run;

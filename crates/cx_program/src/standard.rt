@@ -1,0 +1,68 @@
+//! Standard input and output as a source and a sink. They tell no bytes: what they do is trusted.
+
+ghost use Rattle.std.specs.Prelude.{None};
+
+use cx_base::{Failed, Sink, Source};
+use std::io::{Read, Write};
+
+/// A reader as a source. Each of its errors is a fault.
+#[derive(Drop)]
+pub struct StdSource<R: Read + Drop> {
+    pub reader: R,
+    /// How many of its reads failed.
+    pub faults: u64,
+}
+
+impl<R: Read + Drop> StdSource<R> {
+    /// A source that has not failed yet.
+    pub fn new(reader: R) -> Self {
+        StdSource { reader, faults: 0 }
+    }
+}
+
+impl<R: Read + Drop> Source for StdSource<R> {
+    ghost left = { λ _. None };
+
+    ghost faults = { λ s. s.faults };
+
+    fn read(&mut self, into: &mut [u8]) -> Result<usize, Failed> {
+        match self.reader.read(into) {
+            Ok(n) => Ok(n),
+            Err(_) => {
+                self.faults = self.faults.saturating_add(1);
+                Err(Failed)
+            }
+        }
+    }
+}
+
+/// A writer as a sink. Each of its errors is a fault, and so is a write that takes nothing.
+#[derive(Drop)]
+pub struct StdSink<W: Write + Drop> {
+    pub writer: W,
+    /// How many of its writes failed.
+    pub faults: u64,
+}
+
+impl<W: Write + Drop> StdSink<W> {
+    /// A sink that has not failed yet.
+    pub fn new(writer: W) -> Self {
+        StdSink { writer, faults: 0 }
+    }
+}
+
+impl<W: Write + Drop> Sink for StdSink<W> {
+    ghost written = { λ _. None };
+
+    ghost faults = { λ s. s.faults };
+
+    fn write(&mut self, piece: &[u8]) -> Result<usize, Failed> {
+        match self.writer.write(piece) {
+            Ok(n) if n > 0 => Ok(n),
+            _ => {
+                self.faults = self.faults.saturating_add(1);
+                Err(Failed)
+            }
+        }
+    }
+}

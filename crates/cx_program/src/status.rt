@@ -1,0 +1,71 @@
+//! How a run ended.
+
+ghost use Rattle.std.specs.Prelude.{◌≡◌, []};
+ghost use Rattle.cx_program.specs.Status.{code_of};
+
+use cx_base::Items;
+use cx_table::Trail;
+use std::alloc::Global;
+
+/// What a run came to.
+#[derive(Clone, Copy, Debug, PartialEq, Eq)]
+pub enum Status {
+    /// The output was written.
+    Fine,
+    /// The words are none of the commands.
+    Usage,
+    /// The input is no script.
+    Refused,
+    /// The source failed.
+    ReadFault,
+    /// The sink failed.
+    WriteFault,
+    /// Memory was wanting.
+    Memory,
+    /// The image was refused.
+    BadImage,
+    /// The input has too many bytes.
+    TooLong,
+}
+
+impl Status {
+    /// The exit code of the program.
+    pub fn code(self) -> u8
+        ensures { result ≡ code_of self }
+    {
+        match self {
+            Status::Fine => 0,
+            Status::Usage => 2,
+            Status::Refused => 3,
+            Status::ReadFault => 4,
+            Status::WriteFault => 5,
+            Status::Memory => 6,
+            Status::BadImage => 7,
+            Status::TooLong => 8,
+        }
+    }
+}
+
+/// What a run leaves behind: how it ended, and the trail of each life that was run, in order. Where the status is not `Fine` there is
+/// none.
+#[derive(Drop)]
+pub struct Ended {
+    pub status: Status,
+    pub trails: Items<Trail>,
+}
+
+impl Ended {
+    /// A run that ended so, with the trails of its lives. Every run ends by this.
+    pub(crate) fn new(status: Status, trails: Items<Trail>) -> Ended
+        ensures { result ≡ record { status = status; trails = trails } }
+    {
+        Ended { status, trails }
+    }
+
+    /// A run that ended without lives.
+    pub(crate) fn without_lives(alloc: Global, status: Status) -> Ended
+        ensures { result ≡ record { status = status; trails = [] } }
+    {
+        Ended::new(status, Items::new(alloc))
+    }
+}

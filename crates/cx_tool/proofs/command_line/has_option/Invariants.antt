@@ -1,6 +1,0 @@
-use Rattle.std.proofs.Common.{◌≡◌, string_bytes, false, take, All}
-use Rattle.cx_tool.specs.CommandLine.{begins_with_hyphen}
-use Rattle.cx_tool.proofs.command_line.has_option.Given as goal
-
-abbrev pub invariant-loop-word : goal.invariant-loop-word
-invariant-loop-word l = All (λ word. begins_with_hyphen (string_bytes word) ≡ false) (take l.word-index l.words)

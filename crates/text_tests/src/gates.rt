@@ -1,0 +1,109 @@
+//! Gates that a run's commands pass: one that compares, and one that holds a client.
+
+use crate::holds::holds;
+use crate::program_runs::{REPORT, SCRIPT, run_over, words_of};
+use cx_base::{Gate, Sink, SureSink, SureSource};
+use std::alloc::AllocError;
+use std::sync::Wait;
+use std::sync::atomic::{AtomicBool, AtomicU64, AtomicUsize, Ordering};
+use std::test::Fail;
+use std::thread::{Threads, yield_now};
+
+/// The calls of a gate, in order: the client, the number of its command, and whether it was answered.
+const PASSED: [(u32, u64, bool); 6] = [
+    (0, 1, false),
+    (0, 1, true),
+    (0, 2, false),
+    (0, 2, true),
+    (0, 3, false),
+    (0, 3, true),
+];
+
+/// A gate that counts its calls, and tells whether one is another than it is to be.
+#[derive(Drop)]
+struct ComparingGate {
+    calls: AtomicUsize,
+    is_wrong: AtomicBool,
+}
+
+impl Gate for ComparingGate {
+    fn pass(&self, client: u32, command: u64, after: bool) {
+        let call = self.calls.fetch_add(1, Ordering::SeqCst);
+        let is_right = match PASSED.get(call) {
+            Some((c, n, a)) => *c == client && *n == command && *a == after,
+            None => false,
+        };
+        if !is_right {
+            self.is_wrong.store(true, Ordering::SeqCst);
+        }
+    }
+}
+
+/// Whether a run of the script past a gate ends with status 0, having written this.
+fn writes<R: Threads + Wait + Sync + AllocGlobal, G: Gate + Sync>(
+    rt: &R,
+    script: &str,
+    gate: &G,
+    text: &str,
+) -> Result<bool, AllocError> {
+    let alloc = rt.alloc();
+    let words = words_of(alloc, &["run"])?;
+    let mut sink = SureSink::new(Vec::with_capacity(alloc, 256)?);
+    let mut source = SureSource::new(Vec::from_slice(alloc, script.as_bytes())?);
+    let (code, _) = run_over(rt, &words, &mut source, &mut sink, gate);
+    Ok(code == 0 && sink.written() == text.as_bytes())
+}
+
+#[test]
+fn each_command_passes_the_gate_before_and_after_it(rt: HostRuntime) -> Result<(), Fail> {
+    let gate = ComparingGate {
+        calls: AtomicUsize::new(0),
+        is_wrong: AtomicBool::new(false),
+    };
+    holds(&rt, writes(&rt, SCRIPT, &gate, REPORT)?);
+    holds(&rt, gate.calls.load(Ordering::SeqCst) == PASSED.len());
+    holds(&rt, !gate.is_wrong.load(Ordering::SeqCst));
+    Ok(())
+}
+
+const TWO_CLIENTS: &str = "lines 64\nlife 2 power 0\n0 add n 1\n1 add n 1\n";
+
+const TURNED: &str =
+    "life 0 clients 2 from 0\n0 1.1 add n 1 = sum 1\n1 0.1 add n 1 = sum 2\npower 0 kept 2 of 2 documents 1\n";
+
+/// A gate that holds client 0's first command until client 1's first was answered, for a while.
+#[derive(Drop)]
+struct HoldingGate {
+    answered: AtomicBool,
+    turns_left: AtomicU64,
+}
+
+impl Gate for HoldingGate {
+    fn pass(&self, client: u32, command: u64, after: bool) {
+        if client == 1 && command == 1 && after {
+            self.answered.store(true, Ordering::SeqCst);
+        }
+        if client != 0 || command != 1 || after {
+            return;
+        }
+        for turn in 0..1_000_000_000u64 {
+            if self.answered.load(Ordering::SeqCst) {
+                self.turns_left
+                    .store(1_000_000_000 - turn, Ordering::SeqCst);
+                return;
+            }
+            yield_now();
+        }
+    }
+}
+
+#[test]
+fn a_client_that_is_held_comes_second(rt: HostRuntime) -> Result<(), Fail> {
+    let gate = HoldingGate {
+        answered: AtomicBool::new(false),
+        turns_left: AtomicU64::new(0),
+    };
+    holds(&rt, writes(&rt, TWO_CLIENTS, &gate, TURNED)?);
+    holds(&rt, gate.turns_left.load(Ordering::SeqCst) > 0);
+    Ok(())
+}

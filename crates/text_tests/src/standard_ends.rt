@@ -1,0 +1,253 @@
+//! A reader and a writer that do little, nothing, or fail.
+
+use crate::holds::holds;
+use crate::program_runs::{REPORT, SCRIPT, run_over, words_of};
+use cx_base::{Failed, OpenGate, Sink, Source};
+use cx_program::{StdSink, StdSource};
+use std::alloc::{AllocError, Global};
+use std::io;
+use std::io::{ErrorKind, Read, Write};
+use std::sync::Wait;
+use std::test::Fail;
+use std::thread::Threads;
+
+/// What a call does. Behind the last of a list, calls do all that they can.
+#[derive(Clone, Copy)]
+enum Does {
+    /// So many bytes at most.
+    Bytes(usize),
+    Fails(ErrorKind),
+}
+
+/// What the call of this number does, from 0.
+fn done(all: &[Does], call: usize) -> Does {
+    all.get(call).copied().unwrap_or(Does::Bytes(usize::MAX))
+}
+
+/// A reader of a script.
+#[derive(Drop)]
+struct FakeReader<'a> {
+    does: &'a [Does],
+    calls: usize,
+    left: &'a [u8],
+}
+
+impl Read for FakeReader<'_> {
+    fn read(&mut self, buf: &mut [u8]) -> io::Result<usize> {
+        let does = done(self.does, self.calls);
+        self.calls = self.calls.saturating_add(1);
+        match does {
+            Does::Fails(kind) => Err(io::Error::from(kind)),
+            Does::Bytes(most) => {
+                let n = most.min(buf.len()).min(self.left.len());
+                let (piece, left) = self.left.split_at(n);
+                buf[..n].copy_from_slice(piece);
+                self.left = left;
+                Ok(n)
+            }
+        }
+    }
+}
+
+/// A writer that keeps what is written.
+#[derive(Drop)]
+struct FakeWriter<'a> {
+    does: &'a [Does],
+    calls: usize,
+    written: Vec<u8>,
+}
+
+impl Write for FakeWriter<'_> {
+    fn write(&mut self, buf: &[u8]) -> io::Result<usize> {
+        let does = done(self.does, self.calls);
+        self.calls = self.calls.saturating_add(1);
+        match does {
+            Does::Fails(kind) => Err(io::Error::from(kind)),
+            Does::Bytes(most) => {
+                let n = most.min(buf.len());
+                self.written.extend_from_slice(&buf[..n])?;
+                Ok(n)
+            }
+        }
+    }
+
+    fn flush(&mut self) -> io::Result<()> {
+        Ok(())
+    }
+}
+
+fn source<'a>(does: &'a [Does]) -> StdSource<FakeReader<'a>> {
+    StdSource::new(FakeReader {
+        does,
+        calls: 0,
+        left: SCRIPT.as_bytes(),
+    })
+}
+
+fn sink<'a>(alloc: Global, does: &'a [Does]) -> StdSink<FakeWriter<'a>> {
+    StdSink::new(FakeWriter {
+        does,
+        calls: 0,
+        written: Vec::new(alloc),
+    })
+}
+
+const READS: [Does; 6] = [
+    Does::Bytes(3),
+    Does::Fails(ErrorKind::Interrupted),
+    Does::Bytes(2),
+    Does::Bytes(0),
+    Does::Fails(ErrorKind::Other),
+    Does::Fails(ErrorKind::UnexpectedEof),
+];
+
+/// What each of those reads gives, where it does not fail, and the faults behind it; and one read more.
+const GIVEN: [(Option<&[u8]>, u64); 7] = [
+    (Some(b"lin"), 0),
+    (None, 1),
+    (Some(b"es"), 1),
+    (Some(b""), 1),
+    (None, 2),
+    (None, 3),
+    (Some(b" 64\n"), 3),
+];
+
+/// Whether a read gave these bytes, or failed where none are wanted.
+fn is_given(read: Result<usize, Failed>, buffer: &[u8], want: Option<&[u8]>) -> bool {
+    match (read, want) {
+        (Ok(n), Some(bytes)) => n == bytes.len() && buffer.get(..n) == Some(bytes),
+        (Err(Failed), None) => true,
+        _ => false,
+    }
+}
+
+/// The first read that comes to something else.
+fn first_wrong_read(does: &[Does], rows: &[(Option<&[u8]>, u64)]) -> Option<usize> {
+    let mut source = source(does);
+    for (i, (want, faults)) in rows.iter().enumerate() {
+        let mut buffer = [0; 4];
+        let read = source.read(&mut buffer);
+        if !is_given(read, &buffer, *want) || source.faults != *faults {
+            return Some(i);
+        }
+    }
+    None
+}
+
+const WRITES: [Does; 5] = [
+    Does::Bytes(3),
+    Does::Fails(ErrorKind::Interrupted),
+    Does::Bytes(0),
+    Does::Bytes(1),
+    Does::Fails(ErrorKind::BrokenPipe),
+];
+
+/// What each of those writes takes, where it does not fail, and the faults and the bytes behind it; and one write more.
+const TAKEN: [(Option<usize>, u64, &[u8]); 6] = [
+    (Some(3), 0, b"abc"),
+    (None, 1, b"abc"),
+    (None, 2, b"abc"),
+    (Some(1), 2, b"abca"),
+    (None, 3, b"abca"),
+    (Some(4), 3, b"abcaabcd"),
+];
+
+/// The first write that comes to something else.
+fn first_wrong_write(
+    alloc: Global,
+    does: &[Does],
+    rows: &[(Option<usize>, u64, &[u8])],
+) -> Option<usize> {
+    let mut sink = sink(alloc, does);
+    for (i, (want, faults, written)) in rows.iter().enumerate() {
+        let took = sink.write(b"abcd").ok();
+        if took != *want || sink.faults != *faults || sink.writer.written.as_slice() != *written {
+            return Some(i);
+        }
+    }
+    None
+}
+
+const FAILING: [Does; 2] = [Does::Fails(ErrorKind::Other), Does::Fails(ErrorKind::Other)];
+
+/// Whether a count of faults that stands below its end rises to it, and stands still there.
+fn count_ends(alloc: Global) -> bool {
+    let mut source = source(&FAILING);
+    source.faults = u64::MAX - 1;
+    let mut sink = sink(alloc, &FAILING);
+    sink.faults = u64::MAX - 1;
+    for _ in 0..2 {
+        let has_failed = source.read(&mut [0; 4]).is_err() && sink.write(b"a").is_err();
+        if !has_failed || source.faults != u64::MAX || sink.faults != u64::MAX {
+            return false;
+        }
+    }
+    true
+}
+
+#[test]
+fn each_call_is_told(rt: HostRuntime) {
+    holds(&rt, first_wrong_read(&READS, &GIVEN).is_none());
+    holds(
+        &rt,
+        first_wrong_write(rt.alloc(), &WRITES, &TAKEN).is_none(),
+    );
+    holds(&rt, count_ends(rt.alloc()));
+}
+
+/// A run of the script: what its reads and its writes do, its exit code, and what it writes.
+type Row = (&'static [Does], &'static [Does], u8, &'static str);
+
+const ROWS: [Row; 9] = [
+    (&[], &[], 0, REPORT),
+    (&[Does::Bytes(1), Does::Bytes(7)], &[], 0, REPORT),
+    (&[], &[Does::Bytes(1), Does::Bytes(7)], 0, REPORT),
+    // no byte is the end of the input
+    (&[Does::Bytes(0)], &[], 0, ""),
+    (
+        &[Does::Bytes(24), Does::Bytes(0)],
+        &[],
+        0,
+        "life 0 clients 1 from 0\npower 0 kept 0 of 0 documents 0\n",
+    ),
+    // an error is a fault, whatever its kind
+    (
+        &[Does::Bytes(24), Does::Fails(ErrorKind::Other)],
+        &[],
+        4,
+        "",
+    ),
+    (&[Does::Fails(ErrorKind::Interrupted)], &[], 4, ""),
+    (
+        &[],
+        &[Does::Bytes(5), Does::Fails(ErrorKind::Interrupted)],
+        5,
+        "life ",
+    ),
+    // and so is a write that takes nothing
+    (&[], &[Does::Bytes(5), Does::Bytes(0)], 5, "life "),
+];
+
+/// The first run that ends with another status, or writes something else.
+fn first_wrong_run<R: Threads + Wait + Sync + AllocGlobal>(
+    rt: &R,
+    rows: &[Row],
+) -> Result<Option<usize>, AllocError> {
+    let alloc = rt.alloc();
+    let words = words_of(alloc, &["run"])?;
+    for (i, (reads, writes, code, text)) in rows.iter().enumerate() {
+        let mut source = source(reads);
+        let mut sink = sink(alloc, writes);
+        let (got, _) = run_over(rt, &words, &mut source, &mut sink, &OpenGate);
+        if got != *code || sink.writer.written.as_slice() != text.as_bytes() {
+            return Ok(Some(i));
+        }
+    }
+    Ok(None)
+}
+
+#[test]
+fn a_run_goes_on_past_short_reads_and_writes_alone(rt: HostRuntime) -> Result<(), Fail> {
+    holds(&rt, first_wrong_run(&rt, &ROWS)?.is_none());
+    Ok(())
+}
