@@ -30,6 +30,7 @@ sys.path[:0] = [str(TOOLS), str(TESTS)]
 import check_report
 import draw_life
 import explain
+import gate_minutes
 import plain_judge
 import random_faults
 import random_lives
@@ -670,6 +671,51 @@ class Pictures(unittest.TestCase):
         for report in (b"life 0 clients 1 from 0\n", b"life 0 clients 9 from 0\npower 0 kept 0 of 0 documents 0\n", b"x\n"):
             with self.assertRaises(Fault):
                 draw_life.drawn(report)
+
+
+class GateMinutesTest(unittest.TestCase):
+    """What a crate cost, by what its provers took."""
+
+    PROVER = ["/opt/rattle/bin/rattle", "check", "--crate-name", "publish", "src/lib.rt", "--jobs", "1"]
+
+    def test_what_a_prover_is_for(self):
+        rows = [
+            (self.PROVER, "/work/main/crates/publish", ("publish", "proof")),
+            (["rattle", "build", *self.PROVER[2:], "--test"], "/work/main/crates/publish", ("publish", "tests")),
+            (self.PROVER, "/tmp/rt-edit-7-abc", ("publish", "edits")),
+            (["rattle", "fmt", "--check", "src/lib.rt"], "/work/main/crates/publish", None),
+            (["python3", *self.PROVER[1:]], "/work/main/crates/publish", None),
+            (["rattle", "check", "--crate-name"], "/work/main/crates/publish", None),
+            ([], "/", None),
+        ]
+        for words, folder, want in rows:
+            self.assertEqual(gate_minutes.kind_of(words, folder), want, words)
+
+    def test_a_process_tells_its_parent_and_its_seconds(self):
+        stat = "17 (a ) name) S 5 17 17 0 -1 4194560 900 0 0 0 {0} {1} {2} {3} 20 0 1 0 9".format(*(
+            seconds * gate_minutes.TICKS for seconds in (3, 1, 4, 2)
+        ))
+        self.assertEqual(gate_minutes.seconds_of(stat), (5, 10))
+
+    def test_the_dearest_crate_stands_first(self):
+        seen = {
+            (1, ("line_lanes", "proof")): 20.0,
+            (2, ("publish", "proof")): 30.0,
+            (3, ("publish", "edits")): 12.0,
+            (4, ("publish", "edits")): 8.0,
+        }
+        lines = [line.split() for line in gate_minutes.table(seen, 90)]
+        self.assertEqual(lines[1:4], [
+            ["publish", "30", "0", "20", "50"],
+            ["line_lanes", "20", "0", "0", "20"],
+            ["all", "crates", "50", "0", "20", "70"],
+        ])
+        self.assertEqual(lines[4], "left 20 seconds; all 1.5 processor minutes".split())
+
+    def test_a_command_s_status_is_handed_on(self):
+        with contextlib.redirect_stderr(io.StringIO()) as told:
+            self.assertEqual(gate_minutes.main([sys.executable, "-c", "raise SystemExit(3)"]), 3)
+        self.assertIn("processor minutes", told.getvalue())
 
 
 if __name__ == "__main__":
