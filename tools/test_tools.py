@@ -27,6 +27,7 @@ WITH_PROGRAM = "--with-program"
 MUST_RUN = WITH_PROGRAM in sys.argv
 sys.path[:0] = [str(TOOLS), str(TESTS)]
 
+import check_documents
 import check_report
 import draw_life
 import explain
@@ -671,6 +672,34 @@ class Pictures(unittest.TestCase):
         for report in (b"life 0 clients 1 from 0\n", b"life 0 clients 9 from 0\npower 0 kept 0 of 0 documents 0\n", b"x\n"):
             with self.assertRaises(Fault):
                 draw_life.drawn(report)
+
+
+class DocumentsTest(unittest.TestCase):
+    """The pages name what there is."""
+
+    def test_the_pages_name_nothing_that_is_not_there(self):
+        self.assertEqual(check_documents.faults_of(ROOT), [])
+
+    def test_what_is_not_there_is_found(self):
+        with tempfile.TemporaryDirectory() as folder:
+            root = Path(folder)
+            source = root / "crates" / "one" / "src" / "lib.rt"
+            source.parent.mkdir(parents=True)
+            source.write_text("pub fn made() -> Made\n    ensures whole { true }\n")
+            page = root / "README.md"
+            rows = [
+                ("`made` (`whole`), `crates/one/src/lib.rt`, `lib.rt`, `one/src/*.rt`, `crates/NAME/out/NAME`", []),
+                ("`made_anew`", ["README.md:1: made_anew"]),
+                ("`Made::other`", ["README.md:1: other"]),
+                ("`crates/two/src/lib.rt`", ["README.md:1: crates/two/src/lib.rt"]),
+                ("a line\n[page](docs/PAGE.md)", []),
+                ("a line\n[page](docs/page.md)", ["README.md:2: docs/page.md"]),
+            ]
+            (root / "docs").mkdir()
+            (root / "docs" / "Other.md").write_text("")
+            for text, want in rows:
+                page.write_text(text)
+                self.assertEqual(check_documents.faults_of(root), want, text)
 
 
 class GateMinutesTest(unittest.TestCase):

@@ -9,10 +9,9 @@ ghost use Rattle.replica.specs.Tests.{GivenBack, IsNew};
 
 use crate::holds::holds;
 use crate::replaying::{adds, renew, update};
-use crate::tables::{NO_LIMIT, closed, made};
+use crate::tables::{NO_LIMITS, closed, made};
 use cx_base::tally::Tally;
 use cx_base::{Halt, Object, root_place};
-use cx_core::Base;
 use cx_table::{CallerSeat, Downgraded, Shared, Won};
 use mutation_queue::LinkTried;
 use std::alloc::{AllocError, Global};
@@ -123,8 +122,7 @@ fn second_publishes<O: Object>(shared: &Shared<O>, seat: &mut CallerSeat) -> Opt
 // Whether two callers publish one after another. The second first expects the opening code, and is told the first one's. The
 // closing hands out the codes of both, since neither retired its win.
 fn are_handed_out(alloc: Global) -> Result<bool, AllocError> {
-    let base = Base::fresh(alloc, &Tally)?;
-    let (shared, mut first, mut second) = made(alloc, Tally, &[NO_LIMIT, NO_LIMIT], &base)?;
+    let (shared, mut first, mut second) = made(alloc, Tally, &NO_LIMITS)?;
     let Some(is_first) = first_publishes(&shared, &mut first) else {
         return Ok(false);
     };

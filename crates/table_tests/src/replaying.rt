@@ -15,10 +15,10 @@ ghost use Rattle.replica.specs.Replays.{IsImage, noted_place};
 ghost use Rattle.replica.specs.Tests.{IsFree, IsNew, IsReady, Keeps, KnowsLinked};
 
 use crate::holds::holds;
-use crate::tables::{NO_LIMIT, made};
+use crate::tables::{NO_LIMIT, NO_LIMITS, made};
 use cx_base::tally::Tally;
 use cx_base::{Halt, Memory, Object};
-use cx_core::{Base, Entry};
+use cx_core::Entry;
 use cx_table::{CallerSeat, Downgraded, Exclusive, Shared, SharedHold};
 use mutation_queue::{LinkTried, Protected, announce, entry, link, protect, unprotect};
 use replica::{ReadRegion, Region, begin, flush, outcome, place, replay_one};
@@ -249,8 +249,7 @@ pub(crate) fn adds(n: u64) -> [u64; 144] {
 
 // Whether a caller that linked an entry replays it on a replica, as the other caller then sees it.
 fn is_own_replayed(alloc: Global) -> Result<bool, AllocError> {
-    let base = Base::fresh(alloc, &Tally)?;
-    let (shared, mut first, mut second) = made(alloc, Tally, &[NO_LIMIT, NO_LIMIT], &base)?;
+    let (shared, mut first, mut second) = made(alloc, Tally, &NO_LIMITS)?;
     let Ok(LinkTried::Linked { ticket: 0 }) = update(&shared, &mut first, &adds(5)) else {
         return Ok(false);
     };
@@ -274,8 +273,7 @@ const ALL: u64 = 4 + 2 + 2 + 146 + (1 + 2 + 2 + 145 + 1) + 1 + 4 + 1;
 
 // Whether a caller with a limit of steps stops there, or links an entry and renews a replica with it.
 fn stops_at(alloc: Global, limit: u64) -> Result<bool, AllocError> {
-    let base = Base::fresh(alloc, &Tally)?;
-    let (shared, mut first, _second) = made(alloc, Tally, &[limit, NO_LIMIT], &base)?;
+    let (shared, mut first, _second) = made(alloc, Tally, &[limit, NO_LIMIT])?;
     let is_done = update_and_renew(&shared, &mut first, &adds(5), 1);
     Ok(is_done == (limit >= ALL) && first.steps() == limit.min(ALL))
 }
@@ -351,8 +349,7 @@ const LOADS: [(u64, u64, [u64; 5]); 10] = [
 fn loads_at(alloc: Global, from: u64, limit: u64, want: &[u64; 5]) -> Result<bool, AllocError>
     requires { from ≤ 1675 }
 {
-    let base = Base::fresh(alloc, &Tally)?;
-    let (shared, mut first, _second) = made(alloc, Tally, &[limit, NO_LIMIT], &base)?;
+    let (shared, mut first, _second) = made(alloc, Tally, &[limit, NO_LIMIT])?;
     let mut words = [OTHER; 5];
     let is_done = take_and_load(&shared, &mut first, from, &mut words).is_ok();
     Ok(is_done == (limit >= 6) && first.steps() == limit.min(6) && words == *want)

@@ -1,11 +1,12 @@
 //! Tables of two callers, and how they end.
 
-ghost use Rattle.std.specs.Prelude.{◌≡◌, ◌≤◌, ◌∷◌, [], IfOk, IfSome, IsTrue, OnOk};
+ghost use Rattle.std.specs.Prelude.{◌≡◌, ◌≤◌, IfOk, IsTrue, OnOk};
 ghost use Rattle.cx_rule.specs.Running.{IsSeatOf};
 ghost use Rattle.mutation_queue.specs.Tests.{IsPairOf};
 ghost use Rattle.replica.specs.Tests.{IsNew};
 ghost use Rattle.strong_trylock.specs.Held.{all_rights, no_rights};
 
+use crate::linking::two;
 use cx_base::{Halt, Object};
 use cx_core::Base;
 use cx_table::{CallerSeat, Remains, Shared};
@@ -34,19 +35,6 @@ pub(crate) fn made<O: Object>(
     match two(seats) {
         Some((first, second)) => Ok((shared, first, second)),
         None => Err(AllocError),
-    }
-}
-
-// The items of a list of two.
-fn two(mut seats: Vec<CallerSeat>) -> Option<(CallerSeat, CallerSeat)>
-    ensures { IfSome result (λ r. seats.items ≡ r.0 ∷ r.1 ∷ []) }
-{
-    let second = seats.pop()?;
-    let first = seats.pop()?;
-    if seats.is_empty() {
-        Some((first, second))
-    } else {
-        None
     }
 }
 

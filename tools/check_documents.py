@@ -1,0 +1,85 @@
+#!/usr/bin/env python3
+"""Says which names in README.md and docs/ are none of this repository: python3 tools/check_documents.py [ROOT]
+
+What stands between backticks is looked up: a path has to exist; a name, with its parts apart at `::` and `.`, has to stand as a whole word in a
+source, as an item, a clause's label, a crate or a word that a format fixes. Links of pages have to lead to a file. Each that is found nowhere
+is a line `FILE:LINE: NAME`, and the status is 1 where there is one. A word in capitals stands for what a reader puts there; `*` for anything, as does what
+is left out before `_`; what a build makes, under `out`, is not looked for.
+"""
+import os
+import re
+import sys
+from pathlib import Path
+
+PAGES = ("README.md", "docs/*.md", "tools/README.md")
+SOURCE = re.compile(r"/(crates/.*\.(rt|antt|edit)|crates\.txt|(tools|bench)/.*\.(py|txt|rs|json)|examples/.*|\.ci/run)")
+WORD = re.compile(r"[^\W\d]\w*")
+TICKED = re.compile(r"`([^`\n]+)`")
+LINK = re.compile(r"\]\(([^)#\s]+)\)")
+ENDINGS = ("rt", "antt", "py", "md", "txt", "script", "report", "svg", "json", "edit", "rs", "toml")
+PATH = re.compile(rf"[\w.*-]+(?:/[\w.*-]+)+/?|[\w-]+\.(?:{'|'.join(ENDINGS)})")
+PLACE = re.compile(r"\b[A-Z]{2,}\b")
+# the toolchain's own line, and a form of JSON
+FOREIGN = {"kit", "logic", "dac8208d650f15bf", "u00xx"}
+
+
+def paths_of(root):
+    """Each file and folder but what a build makes, with a `/` before it."""
+    found = []
+    for folder, folders, files in os.walk(root):
+        folders[:] = [name for name in folders if name not in (".git", "out", "__pycache__")]
+        found += [f"/{Path(folder, name).relative_to(root)}" for name in folders + files]
+    return found
+
+
+def words_of(root, paths):
+    """All words of the sources, and those of the names of files and folders."""
+    words = set(WORD.findall(" ".join(paths)))
+    for path in paths:
+        if SOURCE.fullmatch(path):
+            words.update(WORD.findall((root / path[1:]).read_text(encoding="utf-8", errors="replace")))
+    return words
+
+
+def is_path(paths, text):
+    """Whether a path leads somewhere, from the top or from a folder."""
+    if "out" in text.split("/"):
+        return True
+    ending = re.escape(PLACE.sub("*", re.sub(r"^(\.\./)+", "", text).rstrip("/"))).replace(r"\*", "[^/]*")
+    return any(map(re.compile(f".*/{ending}").fullmatch, paths))
+
+
+def is_word(word, words):
+    """Whether a word stands in a source, or is none that has to."""
+    if word in words or word in FOREIGN or PLACE.fullmatch(word):
+        return True
+    return any(other.endswith(word) if word.startswith("_") else word.endswith("_") and other.startswith(word) for other in words)
+
+
+def lacks(text, paths, words):
+    """The parts of what stands between backticks that are found nowhere."""
+    if PATH.fullmatch(text):
+        return [] if is_path(paths, text) else [text]
+    return [word for word in WORD.findall(text) if not is_word(word, words)]
+
+
+def faults_of(root):
+    """Each name of a page that is found nowhere, with its line."""
+    paths, faults = paths_of(root), []
+    words = words_of(root, paths)
+    for page in sorted(path for pattern in PAGES for path in root.glob(pattern)):
+        for number, line in enumerate(page.read_text(encoding="utf-8").split("\n"), 1):
+            found = [word for text in TICKED.findall(line) for word in lacks(text, paths, words)]
+            found += [link for link in LINK.findall(line) if "://" not in link and not is_path(paths, link)]
+            faults += [f"{page.relative_to(root)}:{number}: {name}" for name in found]
+    return faults
+
+
+def main(root):
+    faults = faults_of(root)
+    print("\n".join(faults), end="\n" if faults else "", file=sys.stderr)
+    return 1 if faults else 0
+
+
+if __name__ == "__main__":
+    sys.exit(main(Path(sys.argv[1] if len(sys.argv) > 1 else Path(__file__).parent.parent).resolve()))
