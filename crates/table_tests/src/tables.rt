@@ -27,6 +27,7 @@ pub(crate) fn made<O: Object>(
     requires small { O.line_count object ≤ 16384 }
     ensures object { IfOk result (λ r. r.0.object ≡ object) }
     ensures callers { IfOk result (λ r. r.0.callers ≡ 2) }
+    ensures base { IfOk result (λ r. r.0.base.place ≡ 0) }
     ensures first { IfOk result (λ r. IsNew r.0 r.1) }
     ensures second { IfOk result (λ r. IsNew r.0 r.2) }
 {
