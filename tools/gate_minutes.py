@@ -3,7 +3,8 @@
 
 With no command it runs `rt ci --anew`, which takes nothing from earlier runs. What the command prints goes on as it comes; the table comes
 last, on standard error: for each crate the seconds of its own proof, of the proof of its tests, and of its edits (the check that they begin
-with included), then what is left (programs and tests that are built and run, and the command itself), and all in minutes. The status is the command's.
+with included), then what is left (programs and tests that are built and run, and the command itself), and all in minutes; and each edit that took over
+15 seconds. The status is the command's.
 
 The gate prints no times. So the prover's processes are looked at while they run, twice a second, by Linux's /proc: what one takes after
 the last look is counted as left. Only what this run proved is seen: what is kept of earlier runs costs nothing here.
@@ -13,22 +14,33 @@ import resource
 import subprocess
 import sys
 import threading
+from pathlib import Path
 
 PAUSE = 0.5
+# what an edit may take
+MOST = 15
 KINDS = ("proof", "tests", "edits")
 TICKS = os.sysconf("SC_CLK_TCK")
 
 
 def kind_of(words, folder):
-    """The crate that a command line of the prover checks, and what for; None where it is none."""
+    """The crate that a command line of the prover checks, what for, and of an edit its number; None where it is none."""
     if not words or os.path.basename(words[0]) != "rattle" or len(words) < 2 or words[1] not in ("check", "build"):
         return None
     if "--crate-name" not in words[:-1]:
         return None
     crate = words[words.index("--crate-name") + 1]
     if os.path.basename(folder).startswith("rt-edit-"):
-        return crate, "edits"
-    return crate, "tests" if "--test" in words else "proof"
+        return crate, "edits", number_of(words)
+    return crate, "tests" if "--test" in words else "proof", None
+
+
+def number_of(words):
+    """The number of the edit that is tried, by the folder that its check begins with; None of the check that edits begin with."""
+    if "--incremental" not in words[:-1]:
+        return None
+    name = os.path.basename(words[words.index("--incremental") + 1])
+    return int(name) if name.isdigit() else None
 
 
 def seconds_of(stat):
@@ -69,9 +81,24 @@ def is_below(process, own, parents):
 def rows_of(seen):
     """The seconds of each crate by kind, the dearest first."""
     rows = {}
-    for (_, (crate, kind)), seconds in seen.items():
+    for (_, (crate, kind, _)), seconds in seen.items():
         rows.setdefault(crate, dict.fromkeys(KINDS, 0.0))[kind] += seconds
     return sorted(rows.items(), key=lambda row: -sum(row[1].values()))
+
+
+def long_edits(seen):
+    """The edits that took too long, the longest first."""
+    edits = {}
+    for (_, (crate, kind, number)), seconds in seen.items():
+        if kind == "edits" and number is not None:
+            edits[crate, number] = edits.get((crate, number), 0) + seconds
+    return sorted(((*edit, seconds) for edit, seconds in edits.items() if seconds > MOST), key=lambda row: -row[2])
+
+
+def edit_name(crate, number):
+    """The name of an edit, which the gate counts in their order."""
+    names = sorted(path.stem for path in Path("crates", crate, "must-fail").glob("*.edit"))
+    return names[number] if number < len(names) else f"edit {number}"
 
 
 def table(seen, total):
@@ -81,6 +108,7 @@ def table(seen, total):
     lines = [f"{'seconds of':24}" + "".join(f"{kind:>8}" for kind in (*KINDS, "all"))]
     for crate, row in [*rows, ("all crates", sums)]:
         lines.append(f"{crate:24}" + "".join(f"{seconds:8.0f}" for seconds in (*row.values(), sum(row.values()))))
+    lines += [f"{crate}/{edit_name(crate, number)} took {seconds:.0f} seconds" for crate, number, seconds in long_edits(seen)]
     lines.append(f"left {total - sum(sums.values()):.0f} seconds; all {total / 60:.1f} processor minutes")
     return lines
 

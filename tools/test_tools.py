@@ -709,9 +709,11 @@ class GateMinutesTest(unittest.TestCase):
 
     def test_what_a_prover_is_for(self):
         rows = [
-            (self.PROVER, "/work/main/crates/publish", ("publish", "proof")),
-            (["rattle", "build", *self.PROVER[2:], "--test"], "/work/main/crates/publish", ("publish", "tests")),
-            (self.PROVER, "/tmp/rt-edit-7-abc", ("publish", "edits")),
+            (self.PROVER, "/work/main/crates/publish", ("publish", "proof", None)),
+            (["rattle", "build", *self.PROVER[2:], "--test"], "/work/main/crates/publish", ("publish", "tests", None)),
+            ([*self.PROVER, "--incremental", "/tmp/rt-edits-7-def/seed"], "/tmp/rt-edit-7-abc", ("publish", "edits", None)),
+            ([*self.PROVER, "--incremental", "/tmp/rt-edits-7-def/2"], "/tmp/rt-edit-7-abc", ("publish", "edits", 2)),
+            (self.PROVER, "/tmp/rt-edit-7-abc", ("publish", "edits", None)),
             (["rattle", "fmt", "--check", "src/lib.rt"], "/work/main/crates/publish", None),
             (["python3", *self.PROVER[1:]], "/work/main/crates/publish", None),
             (["rattle", "check", "--crate-name"], "/work/main/crates/publish", None),
@@ -728,10 +730,10 @@ class GateMinutesTest(unittest.TestCase):
 
     def test_the_dearest_crate_stands_first(self):
         seen = {
-            (1, ("line_lanes", "proof")): 20.0,
-            (2, ("publish", "proof")): 30.0,
-            (3, ("publish", "edits")): 12.0,
-            (4, ("publish", "edits")): 8.0,
+            (1, ("line_lanes", "proof", None)): 20.0,
+            (2, ("publish", "proof", None)): 30.0,
+            (3, ("publish", "edits", None)): 2.0,
+            (4, ("publish", "edits", 90)): 18.0,
         }
         lines = [line.split() for line in gate_minutes.table(seen, 90)]
         self.assertEqual(lines[1:4], [
@@ -739,7 +741,8 @@ class GateMinutesTest(unittest.TestCase):
             ["line_lanes", "20", "0", "0", "20"],
             ["all", "crates", "50", "0", "20", "70"],
         ])
-        self.assertEqual(lines[4], "left 20 seconds; all 1.5 processor minutes".split())
+        self.assertEqual(lines[4], "publish/edit 90 took 18 seconds".split())
+        self.assertEqual(lines[5], "left 20 seconds; all 1.5 processor minutes".split())
 
     def test_a_command_s_status_is_handed_on(self):
         with contextlib.redirect_stderr(io.StringIO()) as told:
