@@ -4,7 +4,7 @@ use Rattle.std.specs.List.{slice_get}
 use Rattle.cx_core.specs.declared.entry.Entry.{Entry}
 use Rattle.cx_core.specs.declared.kinds.Event.{Event}
 use Rattle.cx_core.specs.declared.kinds.Kind.{Kind}
-use Rattle.cx_core.specs.declared.kinds.Kind.TheVariants.{WriteCell, Link, Look, ReadCell, LoadFree, TryExclusive, TryShared, BackOff, Downgrade, ReleaseExclusive, LoadWord, StoreWord, Persist, LoadCur, Publish, Raise, Retire, Protect, Confirm, Unprotect, CloseLow, Scan, OpenFree}
+use Rattle.cx_core.specs.declared.kinds.Kind.TheVariants.{WriteCell, Link, Look, ReadCell, LoadFree, TryExclusive, TryShared, BackOff, Downgrade, ReleaseExclusive, LoadWord, StoreWord, Persist, LoadCur, Publish, Raise, Retire, Protect, Confirm, Unprotect, CloseLow, Scan, OpenFree, WriteSet, Offer, LoadOffer, ReadSet}
 use Rattle.cx_core.specs.declared.local.Local.{Local}
 use Rattle.cx_core.specs.Events.{Guard, Makes, found_by, local_after, new_word, step_word, words_after}
 use Rattle.cx_core.specs.Lawful.{Fronts, Shape, Tickets}
@@ -97,6 +97,10 @@ kind_kept instance history scene locals caller l Unprotect grounds old same at g
 kind_kept instance history scene locals caller l (CloseLow target) grounds old same at guard = framed instance history scene locals caller l old at (CloseLow target) (omega arith) (record { own = refl; answered = refl; seen_reads = refl; floor = refl })
 kind_kept instance history scene locals caller l (Scan d) grounds old same at guard = framed instance history scene locals caller l old at (Scan d) (omega arith) (record { own = refl; answered = refl; seen_reads = refl; floor = refl })
 kind_kept instance history scene locals caller l OpenFree grounds old same at guard = framed instance history scene locals caller l old at OpenFree (omega arith) (record { own = refl; answered = refl; seen_reads = refl; floor = refl })
+kind_kept instance history scene locals caller l (WriteSet j i v) grounds old same at guard = framed instance history scene locals caller l old at (WriteSet j i v) (omega arith) (record { own = refl; answered = refl; seen_reads = refl; floor = refl })
+kind_kept instance history scene locals caller l (Offer j) grounds old same at guard = framed instance history scene locals caller l old at (Offer j) (omega arith) (record { own = refl; answered = refl; seen_reads = refl; floor = refl })
+kind_kept instance history scene locals caller l (LoadOffer k t) grounds old same at guard = framed instance history scene locals caller l old at (LoadOffer k t) (omega arith) (record { own = refl; answered = refl; seen_reads = refl; floor = refl })
+kind_kept instance history scene locals caller l (ReadSet k t i) grounds old same at guard = framed instance history scene locals caller l old at (ReadSet k t i) (omega arith) (record { own = refl; answered = refl; seen_reads = refl; floor = refl })
 
 -- so it is of an allowed step in a state
 pub answers_kept : (instance : Instance) (history : List Entry) (s : State) (caller : ℕ) (l : Local) (kind : Kind) → Shape instance s.words s.locals → Tickets instance history s.locals → Fronts instance history s.words s.locals →

@@ -6,7 +6,7 @@ use Rattle.std.specs.List.{slice_get}
 use Rattle.cx_base.specs.Codes.{root_place_of}
 use Rattle.cx_core.specs.declared.kinds.Event.{Event}
 use Rattle.cx_core.specs.declared.kinds.Kind.{Kind}
-use Rattle.cx_core.specs.declared.kinds.Kind.TheVariants.{WriteCell, Link, Look, ReadCell, LoadFree, TryExclusive, TryShared, BackOff, Downgrade, ReleaseExclusive, LoadWord, StoreWord, Persist, LoadCur, Publish, Raise, Retire, Protect, Confirm, Unprotect, CloseLow, Scan, OpenFree}
+use Rattle.cx_core.specs.declared.kinds.Kind.TheVariants.{WriteCell, Link, Look, ReadCell, LoadFree, TryExclusive, TryShared, BackOff, Downgrade, ReleaseExclusive, LoadWord, StoreWord, Persist, LoadCur, Publish, Raise, Retire, Protect, Confirm, Unprotect, CloseLow, Scan, OpenFree, WriteSet, Offer, LoadOffer, ReadSet}
 use Rattle.cx_core.specs.declared.local.Local.{Local}
 use Rattle.cx_core.specs.Events.{Makes, Run, local_after, next}
 use Rattle.cx_core.specs.LockEvents.{exclusive_mark, passing, refused_by, shared_by, taken}
@@ -61,6 +61,10 @@ has_next instance scene Unprotect l found = record { answered = λ _ _ there. th
 has_next instance scene (CloseLow target) l found = record { answered = λ _ _ there. there; reads = λ _ _ there. there; floor = omega arith }
 has_next instance scene (Scan d) l found = record { answered = λ _ _ there. there; reads = λ _ _ there. there; floor = omega arith }
 has_next instance scene OpenFree l found = record { answered = λ _ _ there. there; reads = λ _ _ there. there; floor = omega arith }
+has_next instance scene (WriteSet j i v) l found = record { answered = λ _ _ there. there; reads = λ _ _ there. there; floor = omega arith }
+has_next instance scene (Offer j) l found = record { answered = λ _ _ there. there; reads = λ _ _ there. there; floor = omega arith }
+has_next instance scene (LoadOffer k t) l found = record { answered = λ _ _ there. there; reads = λ _ _ there. there; floor = omega arith }
+has_next instance scene (ReadSet k t i) l found = record { answered = λ _ _ there. there; reads = λ _ _ there. there; floor = omega arith }
 
 has_event : (instance : Instance) (event : Event) (before after : State) (caller : ℕ) (l : Local) → Makes instance event before after → slice_get before.locals caller ≡ Some l → StillAnswered after caller l
 has_event instance event before after caller l m there =

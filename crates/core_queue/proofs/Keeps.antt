@@ -9,7 +9,7 @@ use Rattle.cx_base.specs.Codes.{link_code_of}
 use Rattle.cx_core.specs.declared.entry.Entry.{Entry}
 use Rattle.cx_core.specs.declared.kinds.Event.{Event}
 use Rattle.cx_core.specs.declared.kinds.Kind.{Kind}
-use Rattle.cx_core.specs.declared.kinds.Kind.TheVariants.{WriteCell, Link, Look, ReadCell, LoadFree, TryExclusive, TryShared, BackOff, Downgrade, ReleaseExclusive, LoadWord, StoreWord, Persist, LoadCur, Publish, Raise, Retire, Protect, Confirm, Unprotect, CloseLow, Scan, OpenFree}
+use Rattle.cx_core.specs.declared.kinds.Kind.TheVariants.{WriteCell, Link, Look, ReadCell, LoadFree, TryExclusive, TryShared, BackOff, Downgrade, ReleaseExclusive, LoadWord, StoreWord, Persist, LoadCur, Publish, Raise, Retire, Protect, Confirm, Unprotect, CloseLow, Scan, OpenFree, WriteSet, Offer, LoadOffer, ReadSet}
 use Rattle.cx_core.specs.declared.local.Local.{Local}
 use Rattle.cx_core.specs.declared.local.SeenSlot.{SeenSlot}
 use Rattle.cx_core.specs.Events.{Guard, Makes, local_after, step_word, words_after}
@@ -31,6 +31,8 @@ use Rattle.core_queue.proofs.RingKinds.{close_low_kept, confirm_kept, open_free_
 use Rattle.core_queue.proofs.RingLaws.{ring_framed, ring_local}
 use Rattle.core_queue.proofs.RootKinds.{load_cur_kept, publish_kept, raise_kept, retire_kept}
 use Rattle.cx_core.proofs.Putting.{either}
+use Rattle.core_queue.proofs.SetKinds.{load_offer_kept, offer_kept, read_set_kept, write_set_kept}
+use Rattle.cx_core.proofs.MergeLemmas.{history_is}
 use Rattle.core_queue.proofs.Shapes.{cell_there, shape_kept, shape_linked, shape_written}
 use Rattle.core_queue.proofs.TicketLaws.{tickets_framed, tickets_linked}
 
@@ -194,40 +196,44 @@ module _ (instance : Instance) (history : List Entry) (scene : Scene) (locals : 
 
 -- an allowed step of any kind
 pub queue_kept : (instance : Instance) (history : List Entry) (scene : Scene) (locals : List Local) (caller : ℕ) (l : Local) (kind : Kind) → QueueLawful instance history scene.words locals →
-    RootBounds instance history scene.words locals → slice_get locals caller ≡ Some l → Guard instance scene kind l →
+    RootBounds instance history scene.words locals → scene.history ≡ history → slice_get locals caller ≡ Some l → Guard instance scene kind l →
     QueueContinues instance history (words_after instance kind l scene.words) (set locals caller (local_after instance scene kind l))
-queue_kept instance history scene locals caller l (WriteCell j i v) law bounds at guard = write_cell_kept instance history scene locals caller l law at j i v guard
-queue_kept instance history scene locals caller l (Link j) law bounds at guard = link_kept instance history scene locals caller l law at j guard
-queue_kept instance history scene locals caller l (Look slot) law bounds at guard = look_kept instance history scene locals caller l law at slot guard
-queue_kept instance history scene locals caller l (ReadCell t k i) law bounds at guard = read_cell_kept instance history scene locals caller l law at t k i
-queue_kept instance history scene locals caller l LoadFree law bounds at guard = load_free_kept instance history scene locals caller l law at
-queue_kept instance history scene locals caller l (TryExclusive r) law bounds at guard =
+queue_kept instance history scene locals caller l (WriteCell j i v) law bounds told at guard = write_cell_kept instance history scene locals caller l law at j i v guard
+queue_kept instance history scene locals caller l (Link j) law bounds told at guard = link_kept instance history scene locals caller l law at j guard
+queue_kept instance history scene locals caller l (Look slot) law bounds told at guard = look_kept instance history scene locals caller l law at slot guard
+queue_kept instance history scene locals caller l (ReadCell t k i) law bounds told at guard = read_cell_kept instance history scene locals caller l law at t k i
+queue_kept instance history scene locals caller l LoadFree law bounds told at guard = load_free_kept instance history scene locals caller l law at
+queue_kept instance history scene locals caller l (TryExclusive r) law bounds told at guard =
     apart_kept instance history scene locals caller l law at (TryExclusive r) (off_lock instance r guard.0) (either (SameQueue l) _ _ _ (same_but l _ _ _ _ _ _ _ _ _) (same_but l _ _ _ _ _ _ _ _ _))
-queue_kept instance history scene locals caller l (TryShared r) law bounds at guard =
+queue_kept instance history scene locals caller l (TryShared r) law bounds told at guard =
     apart_kept instance history scene locals caller l law at (TryShared r) (off_lock instance r guard.0) (either (SameQueue l) _ _ _ (same_but l _ _ _ _ _ _ _ _ _) (same_but l _ _ _ _ _ _ _ _ _))
-queue_kept instance history scene locals caller l (BackOff r) law bounds at guard =
+queue_kept instance history scene locals caller l (BackOff r) law bounds told at guard =
     apart_kept instance history scene locals caller l law at (BackOff r) (off_lock instance r guard.0)
     (either (SameQueue l) (is_at r (shared_on l)) _ _ (same_but l _ _ _ _ _ _ _ _ _) (either (SameQueue l) (is_at r l.passer) _ _ (same_but l _ _ _ _ _ _ _ _ _) (same_but l _ _ _ _ _ _ _ _ _)))
-queue_kept instance history scene locals caller l (Downgrade r) law bounds at guard =
+queue_kept instance history scene locals caller l (Downgrade r) law bounds told at guard =
     apart_kept instance history scene locals caller l law at (Downgrade r) (off_lock instance r guard.0.0) (same_but l _ _ _ _ _ _ _ _ _)
-queue_kept instance history scene locals caller l (ReleaseExclusive r) law bounds at guard =
+queue_kept instance history scene locals caller l (ReleaseExclusive r) law bounds told at guard =
     apart_kept instance history scene locals caller l law at (ReleaseExclusive r) (off_lock instance r guard.0.0) (same_but l _ _ _ _ _ _ _ _ _)
-queue_kept instance history scene locals caller l (LoadWord r i refused) law bounds at guard =
+queue_kept instance history scene locals caller l (LoadWord r i refused) law bounds told at guard =
     apart_kept instance history scene locals caller l law at (LoadWord r i refused) (off_region instance _ (omega arith)) (same_but l _ _ _ _ _ _ _ _ _)
-queue_kept instance history scene locals caller l (StoreWord r i v) law bounds at guard =
+queue_kept instance history scene locals caller l (StoreWord r i v) law bounds told at guard =
     apart_kept instance history scene locals caller l law at (StoreWord r i v) (off_region instance _ (omega arith)) (same_but l _ _ _ _ _ _ _ _ _)
-queue_kept instance history scene locals caller l (Persist r i) law bounds at guard =
+queue_kept instance history scene locals caller l (Persist r i) law bounds told at guard =
     apart_kept instance history scene locals caller l law at (Persist r i) (off_region instance _ (omega arith)) (same_but l _ _ _ _ _ _ _ _ _)
-queue_kept instance history scene locals caller l LoadCur law bounds at guard = same_history (load_cur_kept instance history scene locals caller l law bounds at)
-queue_kept instance history scene locals caller l Publish law bounds at guard = same_history (publish_kept instance history scene locals caller l law bounds at guard)
-queue_kept instance history scene locals caller l (Raise code read) law bounds at guard = same_history (raise_kept instance history scene locals caller l law bounds at code read guard)
-queue_kept instance history scene locals caller l Retire law bounds at guard = same_history (retire_kept instance history scene locals caller l law bounds at)
-queue_kept instance history scene locals caller l (Protect p) law bounds at guard = same_history (protect_kept instance history scene locals caller l law bounds at p)
-queue_kept instance history scene locals caller l Confirm law bounds at guard = same_history (confirm_kept instance history scene locals caller l law bounds at)
-queue_kept instance history scene locals caller l Unprotect law bounds at guard = same_history (unprotect_kept instance history scene locals caller l law bounds at)
-queue_kept instance history scene locals caller l (CloseLow target) law bounds at guard = same_history (close_low_kept instance history scene locals caller l law bounds at target guard)
-queue_kept instance history scene locals caller l (Scan d) law bounds at guard = same_history (scan_kept instance history scene locals caller l law bounds at d guard)
-queue_kept instance history scene locals caller l OpenFree law bounds at guard = same_history (open_free_kept instance history scene locals caller l law bounds at guard)
+queue_kept instance history scene locals caller l LoadCur law bounds told at guard = same_history (load_cur_kept instance history scene locals caller l law bounds at)
+queue_kept instance history scene locals caller l Publish law bounds told at guard = same_history (publish_kept instance history scene locals caller l law bounds at guard)
+queue_kept instance history scene locals caller l (Raise code read) law bounds told at guard = same_history (raise_kept instance history scene locals caller l law bounds at code read guard)
+queue_kept instance history scene locals caller l Retire law bounds told at guard = same_history (retire_kept instance history scene locals caller l law bounds at)
+queue_kept instance history scene locals caller l (Protect p) law bounds told at guard = same_history (protect_kept instance history scene locals caller l law bounds at p)
+queue_kept instance history scene locals caller l Confirm law bounds told at guard = same_history (confirm_kept instance history scene locals caller l law bounds at)
+queue_kept instance history scene locals caller l Unprotect law bounds told at guard = same_history (unprotect_kept instance history scene locals caller l law bounds at)
+queue_kept instance history scene locals caller l (CloseLow target) law bounds told at guard = same_history (close_low_kept instance history scene locals caller l law bounds at target guard)
+queue_kept instance history scene locals caller l (Scan d) law bounds told at guard = same_history (scan_kept instance history scene locals caller l law bounds at d guard)
+queue_kept instance history scene locals caller l OpenFree law bounds told at guard = same_history (open_free_kept instance history scene locals caller l law bounds at guard)
+queue_kept instance history scene locals caller l (WriteSet j i v) law bounds told at guard = same_history (write_set_kept instance history scene locals caller l law at j i v guard)
+queue_kept instance history scene locals caller l (Offer j) law bounds told at guard = same_history (offer_kept instance history scene locals caller l law at j told guard)
+queue_kept instance history scene locals caller l (LoadOffer k t) law bounds told at guard = same_history (load_offer_kept instance history scene locals caller l law at k t guard)
+queue_kept instance history scene locals caller l (ReadSet k t i) law bounds told at guard = same_history (read_set_kept instance history scene locals caller l law at k t i)
 
 -- an event
 pub queue_event_kept : (instance : Instance) (history : List Entry) (event : Event) (before after : State) → QueueLawful instance history before.words before.locals →
@@ -235,4 +241,4 @@ pub queue_event_kept : (instance : Instance) (history : List Entry) (event : Eve
 queue_event_kept instance history event before after law bounds m =
     subst (λ ws. QueueContinues instance history ws after.locals) (sym m.words)
     (subst (λ ls. QueueContinues instance history (words_after instance event.kind m.local before.words) ls) (sym m.locals)
-    (queue_kept instance history (scene_of instance before) before.locals event.caller m.local event.kind law bounds m.of_caller m.guard))
+    (queue_kept instance history (scene_of instance before) before.locals event.caller m.local event.kind law bounds (history_is instance.base.place history before.locals law.tickets.merged) m.of_caller m.guard))

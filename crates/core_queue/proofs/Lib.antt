@@ -14,6 +14,10 @@ pub mod RingKinds
 pub mod RingLaws
 pub mod RootFronts
 pub mod RootKinds
+pub mod SetPuts
+pub mod SetKinds
+pub mod SetStays
+pub mod OwnSets
 pub mod Shapes
 pub mod StayLaws
 pub mod TicketLaws

@@ -16,7 +16,7 @@ pub cell_there : (caller : ℕ) (l : Local) (j : ℕ) → LocalShape caller l �
 cell_there caller l j shape below = let within : j < length l.cells = omega (arith, shape.cells) in slice_get-get_or l.cells j _ within
 
 -- a cell of a caller, after one cell was put
-shape_put : (caller : ℕ) (l l' : Local) (j : ℕ) (new : Cell) → LocalShape caller l → j < 16 → CellShape new → l'.number ≡ l.number →
+pub shape_put : (caller : ℕ) (l l' : Local) (j : ℕ) (new : Cell) → LocalShape caller l → j < 16 → CellShape new → l'.number ≡ l.number →
     l'.cells ≡ set l.cells j new → LocalShape caller l'
 shape_put caller l l' j new shape below here number cells = record {
   number = number ∙ shape.number;

@@ -9,13 +9,13 @@ use Rattle.cx_base.specs.Codes.{link_code_of}
 use Rattle.cx_core.specs.declared.entry.Entry.{Entry}
 use Rattle.cx_core.specs.declared.kinds.Event.{Event}
 use Rattle.cx_core.specs.declared.kinds.Kind.{Kind}
-use Rattle.cx_core.specs.declared.kinds.Kind.TheVariants.{WriteCell, Link, Look, ReadCell, LoadFree, TryExclusive, TryShared, BackOff, Downgrade, ReleaseExclusive, LoadWord, StoreWord, Persist, LoadCur, Publish, Raise, Retire, Protect, Confirm, Unprotect, CloseLow, Scan, OpenFree}
+use Rattle.cx_core.specs.declared.kinds.Kind.TheVariants.{WriteCell, Link, Look, ReadCell, LoadFree, TryExclusive, TryShared, BackOff, Downgrade, ReleaseExclusive, LoadWord, StoreWord, Persist, LoadCur, Publish, Raise, Retire, Protect, Confirm, Unprotect, CloseLow, Scan, OpenFree, WriteSet, Offer, LoadOffer, ReadSet}
 use Rattle.cx_core.specs.declared.local.Local.{Local}
 use Rattle.cx_core.specs.declared.local.Protection.{Protection}
 use Rattle.cx_core.specs.declared.local.Protection.TheVariants.{Unprotected, Stated, Confirmed}
 use Rattle.cx_core.specs.Events.{Guard, Makes, words_after}
 use Rattle.cx_core.specs.Frames.{IsOff}
-use Rattle.cx_core.specs.Layout.{cell_at, cell_count, free_at, link_at, need_at, replicas_at}
+use Rattle.cx_core.specs.Layout.{cell_at, cell_count, free_at, link_at, need_at, offer_at, replicas_at}
 use Rattle.cx_core.specs.Lawful.{IsLive}
 use Rattle.cx_core.specs.Merge.{IsLinked, scene_of}
 use Rattle.cx_core.specs.QueueEvents.{seen_word}
@@ -73,6 +73,13 @@ module _ (instance : Instance) (s : State) (history : List Entry) (law : QueueLa
       let slot = slot_small in
       let cell = cell_small in
       stays_other at v (elim off [ inl a ↦ omega arith | inr b ↦ omega arith ]) (λ i below. elim off [ inl a ↦ omega arith | inr b ↦ omega arith ])
+
+  -- a step on an offer or a set
+  stays_beside : (at v : ℕ) → offer_at instance.callers 0 ≤ at → Stays (set s.words at v)
+  stays_beside at v from =
+      let slot = slot_small in
+      let cell = cell_small in
+      stays_other at v (omega arith) (λ i below. omega arith)
 
   -- a load
   stays_loaded : (at : ℕ) → Stays (set s.words at (slice_index s.words at))
@@ -145,6 +152,10 @@ module _ (instance : Instance) (s : State) (history : List Entry) (law : QueueLa
     stays_kind (CloseLow target) guard = stays_off _ _ (inl (omega arith))
     stays_kind (Scan d) guard = stays_loaded _
     stays_kind OpenFree guard = stays_off _ _ (inl (omega arith))
+    stays_kind (WriteSet j i v) guard = stays_beside _ v (omega arith)
+    stays_kind (Offer j) guard = stays_beside _ _ (omega arith)
+    stays_kind (LoadOffer k t) guard = stays_loaded _
+    stays_kind (ReadSet k t i) guard = stays_loaded _
 
 -- an event
 pub kept_stays : (instance : Instance) (history : List Entry) (before after : State) (event : Event) (caller ticket : ℕ) (entry : Entry) → QueueLawful instance history before.words before.locals →

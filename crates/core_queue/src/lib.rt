@@ -7,3 +7,6 @@ pub mod entries;
 pub mod frames;
 pub mod kinds;
 pub mod live;
+mod notes;
+
+pub use notes::SetNoted;

@@ -8,7 +8,7 @@ use Rattle.std.specs.List.{slice_get}
 use Rattle.std.specs.Option.{option_map}
 use Rattle.cx_base.specs.Codes.{root_replica_of}
 use Rattle.cx_core.specs.declared.kinds.Kind.{Kind}
-use Rattle.cx_core.specs.declared.kinds.Kind.TheVariants.{WriteCell, Link, Look, ReadCell, LoadFree, TryExclusive, TryShared, BackOff, Downgrade, ReleaseExclusive, LoadWord, StoreWord, Persist, LoadCur, Publish, Raise, Retire, Protect, Confirm, Unprotect, CloseLow, Scan, OpenFree}
+use Rattle.cx_core.specs.declared.kinds.Kind.TheVariants.{WriteCell, Link, Look, ReadCell, LoadFree, TryExclusive, TryShared, BackOff, Downgrade, ReleaseExclusive, LoadWord, StoreWord, Persist, LoadCur, Publish, Raise, Retire, Protect, Confirm, Unprotect, CloseLow, Scan, OpenFree, WriteSet, Offer, LoadOffer, ReadSet}
 use Rattle.cx_core.specs.declared.local.HeldDowngraded.{HeldDowngraded}
 use Rattle.cx_core.specs.declared.local.HeldExclusive.{HeldExclusive}
 use Rattle.cx_core.specs.declared.local.HeldShared.{HeldShared}
@@ -303,3 +303,11 @@ locks_kept instance scene locals caller l (CloseLow target) shape locks at guard
 locks_kept instance scene locals caller l (Scan d) shape locks at guard = word_kept instance scene locals caller l shape locks at _ _ (record { exclusive = refl; shared = refl; passer = refl; downgraded = refl; won = refl })
 locks_kept instance scene locals caller l OpenFree shape locks at guard =
     apart_kept instance scene locals caller l shape locks at OpenFree (omega arith, inl (omega arith)) (record { exclusive = refl; shared = refl; passer = refl; downgraded = refl; won = refl })
+locks_kept instance scene locals caller l (WriteSet j i v) shape locks at guard =
+    apart_kept instance scene locals caller l shape locks at (WriteSet j i v) (omega arith, inr (omega arith)) (record { exclusive = refl; shared = refl; passer = refl; downgraded = refl; won = refl })
+locks_kept instance scene locals caller l (Offer j) shape locks at guard =
+    apart_kept instance scene locals caller l shape locks at (Offer j) (omega arith, inr (omega arith)) (record { exclusive = refl; shared = refl; passer = refl; downgraded = refl; won = refl })
+locks_kept instance scene locals caller l (LoadOffer k t) shape locks at guard =
+    apart_kept instance scene locals caller l shape locks at (LoadOffer k t) (omega arith, inr (omega arith)) (record { exclusive = refl; shared = refl; passer = refl; downgraded = refl; won = refl })
+locks_kept instance scene locals caller l (ReadSet k t i) shape locks at guard =
+    apart_kept instance scene locals caller l shape locks at (ReadSet k t i) (omega arith, inr (omega arith)) (record { exclusive = refl; shared = refl; passer = refl; downgraded = refl; won = refl })

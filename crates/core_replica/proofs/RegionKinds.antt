@@ -9,7 +9,7 @@ use Rattle.std.specs.List.{All, Contains, slice_get}
 use Rattle.std.specs.Option.{option_map}
 use Rattle.cx_core.specs.declared.entry.Entry.{Entry}
 use Rattle.cx_core.specs.declared.kinds.Kind.{Kind}
-use Rattle.cx_core.specs.declared.kinds.Kind.TheVariants.{WriteCell, Link, Look, ReadCell, LoadFree, TryExclusive, TryShared, BackOff, Downgrade, ReleaseExclusive, LoadWord, StoreWord, Persist, LoadCur, Publish, Raise, Retire, Protect, Confirm, Unprotect, CloseLow, Scan, OpenFree}
+use Rattle.cx_core.specs.declared.kinds.Kind.TheVariants.{WriteCell, Link, Look, ReadCell, LoadFree, TryExclusive, TryShared, BackOff, Downgrade, ReleaseExclusive, LoadWord, StoreWord, Persist, LoadCur, Publish, Raise, Retire, Protect, Confirm, Unprotect, CloseLow, Scan, OpenFree, WriteSet, Offer, LoadOffer, ReadSet}
 use Rattle.cx_core.specs.declared.local.HeldExclusive.{HeldExclusive}
 use Rattle.cx_core.specs.declared.local.HeldShared.{HeldShared}
 use Rattle.cx_core.specs.declared.local.Local.{Local}
@@ -257,6 +257,21 @@ module _ (instance : Instance) (history : List Entry) (scene : Scene) (locals : 
       let i_below = guard.1 in
       framed _ _ _ (omega (arith, number, within, shape.count)) (record { exclusive = refl; shared = refl })
 
+  set_kept : (j i v : ℕ) → Guard instance scene (WriteSet j i v) l → After (WriteSet j i v)
+  set_kept j i v guard =
+      let number = (shape.each caller l at).number in
+      let within = slice_get_within locals caller l at in
+      let j_below = guard.0.0 in
+      let i_below = guard.1 in
+      framed _ _ _ (omega (arith, number, within, shape.count)) (record { exclusive = refl; shared = refl })
+
+  offer_kept : (j : ℕ) → Guard instance scene (Offer j) l → After (Offer j)
+  offer_kept j guard =
+      let number = (shape.each caller l at).number in
+      let within = slice_get_within locals caller l at in
+      let j_below = guard.0.0 in
+      framed _ _ _ (omega (arith, number, within, shape.count)) (record { exclusive = refl; shared = refl })
+
   link_kept : (j : ℕ) → After (Link j)
   link_kept j =
       let q = cell_count callers in
@@ -328,3 +343,7 @@ regions_kept instance history scene locals caller l Unprotect shape locks region
 regions_kept instance history scene locals caller l (CloseLow target) shape locks regions same at guard = framed instance history scene locals caller l shape locks regions at _ _ _ (omega arith) (record { exclusive = refl; shared = refl })
 regions_kept instance history scene locals caller l (Scan d) shape locks regions same at guard = word_kept instance history scene locals caller l shape locks regions at _ _ (record { exclusive = refl; shared = refl })
 regions_kept instance history scene locals caller l OpenFree shape locks regions same at guard = framed instance history scene locals caller l shape locks regions at _ _ _ (omega arith) (record { exclusive = refl; shared = refl })
+regions_kept instance history scene locals caller l (WriteSet j i v) shape locks regions same at guard = set_kept instance history scene locals caller l shape locks regions at j i v guard
+regions_kept instance history scene locals caller l (Offer j) shape locks regions same at guard = offer_kept instance history scene locals caller l shape locks regions at j guard
+regions_kept instance history scene locals caller l (LoadOffer k t) shape locks regions same at guard = word_kept instance history scene locals caller l shape locks regions at _ _ (record { exclusive = refl; shared = refl })
+regions_kept instance history scene locals caller l (ReadSet k t i) shape locks regions same at guard = word_kept instance history scene locals caller l shape locks regions at _ _ (record { exclusive = refl; shared = refl })

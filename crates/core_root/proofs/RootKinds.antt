@@ -9,7 +9,7 @@ use Rattle.std.specs.List.{Contains, slice_get}
 use Rattle.cx_base.specs.Codes.{root_code_of, root_place_of, root_replica_of}
 use Rattle.cx_core.specs.declared.entry.Entry.{Entry}
 use Rattle.cx_core.specs.declared.kinds.Kind.{Kind}
-use Rattle.cx_core.specs.declared.kinds.Kind.TheVariants.{WriteCell, Link, Look, ReadCell, LoadFree, TryExclusive, TryShared, BackOff, Downgrade, ReleaseExclusive, LoadWord, StoreWord, Persist, LoadCur, Publish, Raise, Retire, Protect, Confirm, Unprotect, CloseLow, Scan, OpenFree}
+use Rattle.cx_core.specs.declared.kinds.Kind.TheVariants.{WriteCell, Link, Look, ReadCell, LoadFree, TryExclusive, TryShared, BackOff, Downgrade, ReleaseExclusive, LoadWord, StoreWord, Persist, LoadCur, Publish, Raise, Retire, Protect, Confirm, Unprotect, CloseLow, Scan, OpenFree, WriteSet, Offer, LoadOffer, ReadSet}
 use Rattle.cx_core.specs.declared.local.HeldDowngraded.{HeldDowngraded}
 use Rattle.cx_core.specs.declared.local.HeldExclusive.{HeldExclusive}
 use Rattle.cx_core.specs.declared.local.Local.{Local}
@@ -104,6 +104,21 @@ module _ (instance : Instance) (scene : Scene) (locals : List Local) (caller : �
       let within = slice_get_within locals caller l at in
       let j_below = guard.0 in
       let i_below = guard.1 in
+      framed _ _ _ (low_off instance _ (omega arith) (omega (arith, number, within, shape.count))) (same_root l _ refl refl refl)
+
+  set_kept : (j i v : ℕ) → Guard instance scene (WriteSet j i v) l → After (WriteSet j i v)
+  set_kept j i v guard =
+      let number = (shape.each caller l at).number in
+      let within = slice_get_within locals caller l at in
+      let j_below = guard.0.0 in
+      let i_below = guard.1 in
+      framed _ _ _ (low_off instance _ (omega arith) (omega (arith, number, within, shape.count))) (same_root l _ refl refl refl)
+
+  offer_kept : (j : ℕ) → Guard instance scene (Offer j) l → After (Offer j)
+  offer_kept j guard =
+      let number = (shape.each caller l at).number in
+      let within = slice_get_within locals caller l at in
+      let j_below = guard.0.0 in
       framed _ _ _ (low_off instance _ (omega arith) (omega (arith, number, within, shape.count))) (same_root l _ refl refl refl)
 
   link_kept : (j : ℕ) → After (Link j)
@@ -334,3 +349,7 @@ root_kind_kept instance history scene locals caller l Unprotect shape locks regi
 root_kind_kept instance history scene locals caller l (CloseLow target) shape locks regions fronts root at guard = framed instance scene locals caller l shape locks root at _ _ _ (low_off instance _ (omega arith) (omega arith)) (same_root l _ refl refl refl)
 root_kind_kept instance history scene locals caller l (Scan d) shape locks regions fronts root at guard = load_framed instance scene locals caller l shape locks root at _ _ (same_root l _ refl refl refl)
 root_kind_kept instance history scene locals caller l OpenFree shape locks regions fronts root at guard = framed instance scene locals caller l shape locks root at _ _ _ (low_off instance _ (omega arith) (omega arith)) (same_root l _ refl refl refl)
+root_kind_kept instance history scene locals caller l (WriteSet j i v) shape locks regions fronts root at guard = set_kept instance scene locals caller l shape locks root at j i v guard
+root_kind_kept instance history scene locals caller l (Offer j) shape locks regions fronts root at guard = offer_kept instance scene locals caller l shape locks root at j guard
+root_kind_kept instance history scene locals caller l (LoadOffer k t) shape locks regions fronts root at guard = load_framed instance scene locals caller l shape locks root at _ _ (same_root l _ refl refl refl)
+root_kind_kept instance history scene locals caller l (ReadSet k t i) shape locks regions fronts root at guard = load_framed instance scene locals caller l shape locks root at _ _ (same_root l _ refl refl refl)

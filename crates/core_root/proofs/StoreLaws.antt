@@ -7,7 +7,7 @@ use Rattle.std.specs.List.{Contains, slice_get}
 use Rattle.cx_base.specs.Codes.{root_replica_of}
 use Rattle.cx_core.specs.declared.kinds.Event.{Event}
 use Rattle.cx_core.specs.declared.kinds.Kind.{Kind}
-use Rattle.cx_core.specs.declared.kinds.Kind.TheVariants.{WriteCell, Link, Look, ReadCell, LoadFree, TryExclusive, TryShared, BackOff, Downgrade, ReleaseExclusive, LoadWord, StoreWord, Persist, LoadCur, Publish, Raise, Retire, Protect, Confirm, Unprotect, CloseLow, Scan, OpenFree}
+use Rattle.cx_core.specs.declared.kinds.Kind.TheVariants.{WriteCell, Link, Look, ReadCell, LoadFree, TryExclusive, TryShared, BackOff, Downgrade, ReleaseExclusive, LoadWord, StoreWord, Persist, LoadCur, Publish, Raise, Retire, Protect, Confirm, Unprotect, CloseLow, Scan, OpenFree, WriteSet, Offer, LoadOffer, ReadSet}
 use Rattle.cx_core.specs.declared.local.Local.{Local}
 use Rattle.cx_core.specs.Chain.{IsCodeChain}
 use Rattle.cx_core.specs.Events.{Guard, Makes, words_after}
@@ -80,6 +80,10 @@ module _ (instance : Instance) (scene : Scene) (locals : List Local) (caller : �
   leaves (CloseLow target) guard = tt
   leaves (Scan d) guard = tt
   leaves OpenFree guard = tt
+  leaves (WriteSet j i v) guard = tt
+  leaves (Offer j) guard = tt
+  leaves (LoadOffer k t) guard = tt
+  leaves (ReadSet k t i) guard = tt
 
   low : (place v : ℕ) → place < replicas_at callers → SameWords instance words (set words place v) r
   low place v below = low_words instance words place v r below
@@ -131,6 +135,19 @@ module _ (instance : Instance) (scene : Scene) (locals : List Local) (caller : �
   words_left (CloseLow target) guard = low _ _ (omega arith)
   words_left (Scan d) guard = found_words instance words _ r
   words_left OpenFree guard = low _ _ (omega arith)
+  words_left (WriteSet j i v) guard =
+      let number = (shape.each caller l at).number in
+      let within = slice_get_within locals caller l at in
+      let j_below = guard.0.0 in
+      let i_below = guard.1 in
+      low _ _ (omega (arith, number, within, shape.count))
+  words_left (Offer j) guard =
+      let number = (shape.each caller l at).number in
+      let within = slice_get_within locals caller l at in
+      let j_below = guard.0.0 in
+      low _ _ (omega (arith, number, within, shape.count))
+  words_left (LoadOffer k t) guard = found_words instance words _ r
+  words_left (ReadSet k t i) guard = found_words instance words _ r
 
 -- so no event stores to a replica that a code of the chain names
 module _ (instance : Instance) (before after : State) (event : Event) (codes : List ℕ) (code : ℕ) (shape : Shape instance before.words before.locals) (locks : Locks instance.callers before.words before.locals)

@@ -9,6 +9,7 @@ use Rattle.cx_core.specs.Lawful.{Lawful}
 use Rattle.cx_core.specs.LawfulAnswers.{Answers}
 use Rattle.cx_core.specs.LawfulRoot.{Root, RootBounds}
 use Rattle.cx_core.specs.Layout.{low_at}
+use Rattle.cx_core.proofs.MergeLemmas.{history_is}
 use Rattle.cx_core.specs.Merge.{scene_of}
 use Rattle.cx_core.specs.Region.{place_of}
 use Rattle.cx_core.specs.State.{Instance, State, opening_state}
@@ -65,7 +66,7 @@ kind_kept instance s caller l kind law at guard =
     let scene = scene_of instance s in
     let words' = words_after instance kind l s.words in
     let locals' = set s.locals caller (local_after instance scene kind l) in
-    let q = queue_kept instance law.history scene s.locals caller l kind (queue_of law) (bounds_of instance s law) at guard in
+    let q = queue_kept instance law.history scene s.locals caller l kind (queue_of law) (bounds_of instance s law) (history_is instance.base.place law.history s.locals law.tickets.merged) at guard in
     let r = replicas_kept instance law.history s caller l kind law.shape law.tickets.merged (record { locks = law.locks; regions = law.regions }) at guard in
     let root' = root_kept instance law.history s caller l kind law.shape law.locks law.regions law.fronts law.root at guard in
     let answers' = answers_kept instance law.history s caller l kind law.shape law.tickets law.fronts law.locks law.regions law.answers at guard in

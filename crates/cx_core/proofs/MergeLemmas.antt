@@ -6,7 +6,7 @@ use Rattle.std.specs.List.{slice_get}
 use Rattle.std.specs.Option.{option_to_list}
 use Rattle.cx_core.specs.declared.entry.Entry.{Entry}
 use Rattle.cx_core.specs.declared.kinds.Kind.{Kind}
-use Rattle.cx_core.specs.declared.kinds.Kind.TheVariants.{WriteCell, Link, Look, ReadCell, LoadFree, TryExclusive, TryShared, BackOff, Downgrade, ReleaseExclusive, LoadWord, StoreWord, Persist, LoadCur, Publish, Raise, Retire, Protect, Confirm, Unprotect, CloseLow, Scan, OpenFree}
+use Rattle.cx_core.specs.declared.kinds.Kind.TheVariants.{WriteCell, Link, Look, ReadCell, LoadFree, TryExclusive, TryShared, BackOff, Downgrade, ReleaseExclusive, LoadWord, StoreWord, Persist, LoadCur, Publish, Raise, Retire, Protect, Confirm, Unprotect, CloseLow, Scan, OpenFree, WriteSet, Offer, LoadOffer, ReadSet}
 use Rattle.cx_core.specs.declared.local.Linked.{Linked}
 use Rattle.cx_core.specs.declared.local.Local.{Local}
 use Rattle.cx_core.specs.Events.{next}
@@ -218,6 +218,10 @@ goes_on instance scene Unprotect l found = λ _ _ at. at
 goes_on instance scene (CloseLow target) l found = λ _ _ at. at
 goes_on instance scene (Scan d) l found = λ _ _ at. at
 goes_on instance scene OpenFree l found = λ _ _ at. at
+goes_on instance scene (WriteSet j i v) l found = λ _ _ at. at
+goes_on instance scene (Offer j) l found = λ _ _ at. at
+goes_on instance scene (LoadOffer k t) l found = λ _ _ at. at
+goes_on instance scene (ReadSet k t i) l found = λ _ _ at. at
 
 -- what is linked stays linked where one caller's own list goes on
 pub still_linked : (instance : Instance) (place : ℕ) (history history' : List Entry) (locals : List Local) (caller : ℕ) (l l' : Local) →

@@ -4,19 +4,20 @@ use Rattle.std.specs.Prelude.{◌≡◌, ◌+◌, ◌-◌, ◌*◌, ◌%◌, ◌
 use Rattle.std.specs.Option.{option_map}
 use Rattle.cx_core.specs.declared.kinds.Event.{Event}
 use Rattle.cx_core.specs.declared.kinds.Kind.{Kind}
-use Rattle.cx_core.specs.declared.kinds.Kind.TheVariants.{WriteCell, Link, Look, ReadCell, LoadFree, TryExclusive, TryShared, BackOff, Downgrade, ReleaseExclusive, LoadWord, StoreWord, Persist, LoadCur, Publish, Raise, Retire, Protect, Confirm, Unprotect, CloseLow, Scan, OpenFree}
+use Rattle.cx_core.specs.declared.kinds.Kind.TheVariants.{WriteCell, Link, Look, ReadCell, LoadFree, TryExclusive, TryShared, BackOff, Downgrade, ReleaseExclusive, LoadWord, StoreWord, Persist, LoadCur, Publish, Raise, Retire, Protect, Confirm, Unprotect, CloseLow, Scan, OpenFree, WriteSet, Offer, LoadOffer, ReadSet}
 use Rattle.cx_core.specs.declared.local.Local.{Local}
 use Rattle.cx_core.specs.declared.local.Protection.TheVariants.{Unprotected}
 use Rattle.cx_core.specs.History.{IsFull}
 use Rattle.cx_base.specs.Codes.{root_replica_of}
-use Rattle.cx_core.specs.Layout.{cell_count, cell_at, cur_at, dur_at, free_at, link_at, lock_at, low_at, max_word, need_at, per_at, vol_at}
+use Rattle.cx_core.specs.Layout.{cell_count, cell_at, cur_at, dur_at, free_at, link_at, lock_at, low_at, max_word, need_at, offer_at, per_at, set_at, vol_at}
 use Rattle.cx_core.specs.LockEvents.{CanBackOff, CanGiveUp, CanTryExclusive, CanTryShared, backed_off, downgraded_to, exclusive_mark, minus, passing, plus, refused_by, shared_by, taken}
 use Rattle.cx_core.specs.Merge.{scene_of}
-use Rattle.cx_core.specs.QueueEvents.{CanLink, IsIdle, ShowsTicket, exchanged, linked, lost, raised_front, seen_word, written}
+use Rattle.cx_core.specs.QueueEvents.{CanLink, IsIdle, ShowsTicket, cell_of, exchanged, linked, lost, raised_front, seen_word, written}
 use Rattle.cx_core.specs.RegionEvents.{CanLoadAs, CanPersist, CanStore, loaded_by, persisted, stored_into}
 use Rattle.cx_core.specs.Rights.{held_words}
 use Rattle.cx_core.specs.RingEvents.{CanClose, IsNext, IsProtected, IsStated, IsUnprotected, Protects, bound_in, closing, confirmed, opened, scanned, stated}
 use Rattle.cx_core.specs.RootEvents.{CanPublish, CanRaise, CanRetire, before_in, code_in, loaded_cur, outrun, published, raised_by}
+use Rattle.cx_core.specs.SetEvents.{CanOffer, CanWriteSet, ShowsOffer, offer_of, with_offer, with_set}
 use Rattle.cx_core.specs.State.{Instance, Scene, State, one_more}
 
 -- when a step is allowed
@@ -44,6 +45,10 @@ Guard instance scene Unprotect l = IsProtected l.protection
 Guard instance scene (CloseLow target) l = CanClose instance.callers target l
 Guard instance scene (Scan d) l = (d < instance.callers) × IsNext d l.scan
 Guard instance scene OpenFree l = IsNext instance.callers l.scan
+Guard instance scene (WriteSet j i v) l = CanWriteSet l j × (i < 513) × (v < 2 ^ 64)
+Guard instance scene (Offer j) l = CanOffer instance scene.history l j
+Guard instance scene (LoadOffer k t) l = (t < l.front) × ShowsTicket instance.callers l.seen_slot t k × Protects t l.protection
+Guard instance scene (ReadSet k t i) l = (t < l.front) × (i < 513) × ShowsTicket instance.callers l.seen_slot t k × Protects t l.protection × ShowsOffer l.seen_offer k t
 
 -- the word that a step is on
 abbrev pub step_word : Instance → Kind → Local → ℕ
@@ -70,6 +75,10 @@ step_word instance Unprotect l = need_at l.number
 step_word instance (CloseLow target) l = low_at
 step_word instance (Scan d) l = need_at d
 step_word instance OpenFree l = free_at
+step_word instance (WriteSet j i v) l = set_at instance.callers (16 * l.number + j) i
+step_word instance (Offer j) l = offer_at instance.callers (16 * l.number + j)
+step_word instance (LoadOffer k t) l = offer_at instance.callers k
+step_word instance (ReadSet k t i) l = set_at instance.callers k i
 
 -- what the word becomes, given the word found
 abbrev pub new_word : Instance → Kind → Local → ℕ → ℕ
@@ -96,6 +105,10 @@ new_word instance Unprotect l found = max_word
 new_word instance (CloseLow target) l found = max found target
 new_word instance (Scan d) l found = found
 new_word instance OpenFree l found = max found (bound_in l.scan)
+new_word instance (WriteSet j i v) l found = v
+new_word instance (Offer j) l found = offer_of (cell_of l j).ticket (cell_of l j).offer
+new_word instance (LoadOffer k t) l found = found
+new_word instance (ReadSet k t i) l found = found
 
 -- the caller's local state afterwards, given the word found
 abbrev pub next : Instance → Scene → Kind → Local → ℕ → Local
@@ -126,6 +139,10 @@ next instance scene Unprotect l found = record l { protection = Unprotected; ste
 next instance scene (CloseLow target) l found = closing target l
 next instance scene (Scan d) l found = scanned d l found
 next instance scene OpenFree l found = opened l found
+next instance scene (WriteSet j i v) l found = record l { cells = with_set l j i v; steps = one_more l.steps }
+next instance scene (Offer j) l found = record l { cells = with_offer l j; steps = one_more l.steps }
+next instance scene (LoadOffer k t) l found = record l { seen_offer = Some (record { cell = k; ticket = t; word = found }); steps = one_more l.steps }
+next instance scene (ReadSet k t i) l found = record l { steps = one_more l.steps }
 
 -- the word that a step of a caller with this local state finds, and the words after it
 abbrev pub found_by : Instance → Kind → Local → List ℕ → ℕ

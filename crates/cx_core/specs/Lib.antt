@@ -25,3 +25,4 @@ pub mod Shown
 pub mod State
 pub mod Step
 pub mod WriteSet
+pub mod SetEvents

@@ -50,6 +50,14 @@ pub enum Kind {
     Scan { d: u64 },
     /// Raises FREE, the ticket below which cells may be written again, to the bound that the caller's scan found.
     OpenFree,
+    /// Stores `v` as word `i` of the write set of the entry in the caller's cell `j`.
+    WriteSet { j: u64, i: u64, v: u64 },
+    /// Offers the write set of the entry in the caller's cell `j`.
+    Offer { j: u64 },
+    /// Loads the offer word of cell `k`, which the slot last looked at names with ticket `t`.
+    LoadOffer { k: u64, t: u64 },
+    /// Loads word `i` of the write set of cell `k`, which is offered with ticket `t`.
+    ReadSet { k: u64, t: u64, i: u64 },
 }
 
 /// A step of a caller.

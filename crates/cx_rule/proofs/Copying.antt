@@ -101,5 +101,6 @@ learns_copied instance r known word small on at agree words within locals law l 
       shows = plain.shows;
       notes = plain.notes;
       traced = record { first = there.0; now = there.0; origin = there.1; leads = leads; held = λ x has. sym now ∙ t.held x has };
+      sets = plain.sets;
       fits = plain.fits;
     }

@@ -33,7 +33,7 @@ module _ (lines : ℕ) (lawful : List ℕ → Type 0) (instance : Instance) (law
   are_lawful : AreLawful instance.base.place history
   are_lawful = entries_lawful lines lawful instance history base entries
 
-  full_at : (place : ℕ) → instance.base.place ≤ place → place ≤ instance.base.place + length history → LawfulBase lines lawful (record { place = place; words = full_image instance.step instance.base history place })
+  pub full_at : (place : ℕ) → instance.base.place ≤ place → place ≤ instance.base.place + length history → LawfulBase lines lawful (record { place = place; words = full_image instance.step instance.base history place })
   full_at place from to = full_lawful lines lawful instance laws history base are_lawful small place from to
 
   -- the words of a full image are the full image
@@ -51,7 +51,7 @@ module _ (lines : ℕ) (lawful : List ℕ → Type 0) (instance : Instance) (law
   traced_fits accesses first now o leads = record { origin = full_base first (origin_full first o); from = o.from; leads = leads }
 
   -- an entry that is noted whole is the history's
-  noted_linked : (notes : List Noted) (ticket : ℕ) (e : Entry) → NotesHold instance history notes → instance.base.place ≤ ticket → IsNoted notes ticket e → IsLinked instance.base.place history ticket e
+  pub noted_linked : (notes : List Noted) (ticket : ℕ) (e : Entry) → NotesHold instance history notes → instance.base.place ≤ ticket → IsNoted notes ticket e → IsLinked instance.base.place history ticket e
   noted_linked notes ticket e hold from noted =
       let first = noted.each 0 (omega arith) in
       let is = hold first.0 _ first.1 from in
@@ -78,7 +78,7 @@ module _ (lines : ℕ) (lawful : List ℕ → Type 0) (instance : Instance) (law
       subst (λ t. IsLawfulEntry t e) there (are_lawful (ticket - instance.base.place) e linked.at)
 
   -- noted entries in order lead from a full image to full images
-  chain_on : (notes : List Noted) → NotesHold instance history notes → (first : List ℕ) → IsFull instance history first → (place : ℕ) (now : List ℕ) → ReplayedTo instance.step notes first place now →
+  pub chain_on : (notes : List Noted) → NotesHold instance history notes → (first : List ℕ) → IsFull instance history first → (place : ℕ) (now : List ℕ) → ReplayedTo instance.step notes first place now →
       (instance.base.place ≤ place) × (place ≤ instance.base.place + length history) × (now ≡ full_image instance.step instance.base history place)
   chain_on notes hold first origin place now (start _ _ at is) =
       (subst (λ q. instance.base.place ≤ q) (sym at) origin.from, subst (λ q. q ≤ instance.base.place + length history) (sym at) origin.to, is ∙ origin.full ∙ ap (full_image instance.step instance.base history) (sym at))

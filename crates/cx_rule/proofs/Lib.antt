@@ -1,7 +1,7 @@
 pub mod ShownLaws
 pub mod Telling
 pub mod Notes
-pub mod Still
+
 pub mod Entries
 pub mod Traced
 pub mod Behind
@@ -13,3 +13,5 @@ pub mod Opening
 pub mod Moves
 pub mod Replies
 pub mod Raising
+pub mod Offering
+pub mod Having

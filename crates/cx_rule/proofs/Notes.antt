@@ -4,7 +4,7 @@ use Rattle.std.proofs.lemmas.Option.{same_Some, none-some}
 use Rattle.std.specs.List.{slice_get}
 use Rattle.cx_core.specs.declared.entry.Entry.{Entry}
 use Rattle.cx_core.specs.declared.kinds.Kind.{Kind}
-use Rattle.cx_core.specs.declared.kinds.Kind.TheVariants.{WriteCell, Link, Look, ReadCell, LoadFree, TryExclusive, TryShared, BackOff, Downgrade, ReleaseExclusive, LoadWord, StoreWord, Persist, LoadCur, Publish, Raise, Retire, Protect, Confirm, Unprotect, CloseLow, Scan, OpenFree}
+use Rattle.cx_core.specs.declared.kinds.Kind.TheVariants.{WriteCell, Link, Look, ReadCell, LoadFree, TryExclusive, TryShared, BackOff, Downgrade, ReleaseExclusive, LoadWord, StoreWord, Persist, LoadCur, Publish, Raise, Retire, Protect, Confirm, Unprotect, CloseLow, Scan, OpenFree, WriteSet, Offer, LoadOffer, ReadSet}
 use Rattle.cx_core.specs.declared.local.Local.{Local}
 use Rattle.cx_core.specs.Events.{Guard, found_by}
 use Rattle.cx_core.specs.Lawful.{Lawful}
@@ -90,3 +90,7 @@ noted_hold instance Unprotect s law caller l at guard = no_notes instance law.hi
 noted_hold instance (CloseLow target) s law caller l at guard = no_notes instance law.history
 noted_hold instance (Scan d) s law caller l at guard = no_notes instance law.history
 noted_hold instance OpenFree s law caller l at guard = no_notes instance law.history
+noted_hold instance (WriteSet j i v) s law caller l at guard = no_notes instance law.history
+noted_hold instance (Offer j) s law caller l at guard = no_notes instance law.history
+noted_hold instance (LoadOffer k t) s law caller l at guard = no_notes instance law.history
+noted_hold instance (ReadSet k t i) s law caller l at guard = no_notes instance law.history

@@ -1,20 +1,22 @@
 -- The rule holds of the table as it is opened.
-use Rattle.std.proofs.Common.{◌≡◌, ◌≢◌, ◌^◌, ◌<◌, ◌≤◌, inl, inr, ℕ, zero, suc, List, [], ◌∷◌, length, map, set, slice_index, refl, ap, sym, subst, ◌∙◌, arith, Some}
+use Rattle.std.proofs.Common.{◌≡◌, ◌≢◌, ◌^◌, ◌<◌, ◌≤◌, inl, inr, ℕ, zero, suc, List, [], ◌∷◌, length, map, replicate, set, slice_index, refl, ap, sym, subst, ◌∙◌, arith, Some}
 use Rattle.std.proofs.lemmas.List.FromFn.{length-map-range_with_len, get_or-map-range_with_len}
 use Rattle.std.proofs.lemmas.Bool.{cases_eq}
-use Rattle.std.proofs.lemmas.Option.{slice_get_within, slice_get-get_or, get_or_from_slice_get, none-some}
+use Rattle.std.proofs.lemmas.Option.{same_Some, slice_get_within, slice_get-get_or, get_or_from_slice_get, none-some}
 use Rattle.std.specs.List.{range_with_len, slice_get}
 use mathlib.Core.Option.{some, some-injective, some-ne-none}
 use lib.ListN.{get_elem?}
 use Rattle.atomic_table.specs.Table as atomic
 use Rattle.cx_core.specs.declared.entry.Entry.{Entry}
+use Rattle.cx_core.specs.declared.local.Cell.{Cell}
 use Rattle.cx_core.specs.declared.local.Local.{Local}
 use Rattle.cx_core.specs.History.{full_image}
 use Rattle.cx_core.specs.Lawful.{Lawful}
 use Rattle.cx_core.specs.Region.{place_of}
-use Rattle.cx_core.specs.State.{Instance, opening_local, opening_locals, opening_words}
+use Rattle.cx_core.specs.State.{Instance, blank_cell, opening_local, opening_locals, opening_words}
 use Rattle.cx_core.proofs.HistoryLemmas.{begins}
 use Rattle.cx_core.proofs.ListLemmas.{slice_get-set_same, slice_get-set_other}
+use Rattle.core_queue.specs.NotedSets.{SetNotesHold}
 use Rattle.cx_rule.specs.declared.rule.Known.{Known}
 use Rattle.cx_rule.specs.Rule.{RuleHolds, IsKnown, IsOrigin}
 use Rattle.cx_rule.specs.Seats.{opening_known, opening_view}
@@ -90,6 +92,11 @@ base_origin instance history at = record {
   words = λ i below. ap (λ ws. slice_index ws i) (sym (begins instance.step instance.base history)) ∙ ap (λ p. slice_index (full_image instance.step instance.base history p) i) (sym at);
 }
 
+replicate_item : {A : Type 0} (n j : ℕ) (x y : A) → slice_get (replicate n x) j ≡ Some y → x ≡ y
+replicate_item zero j x y at = absurd (none-some y at)
+replicate_item (suc n) zero x y at = same_Some x y at
+replicate_item (suc n) (suc j) x y at = replicate_item n j x y at
+
 -- the rule holds at the opening, where the first seat knows all callers
 pub opening_held : (instance : Instance) (limits : List ℕ) → 1 ≤ instance.callers → instance.callers ≤ 8 → instance.base.place ≤ 2 ^ 40 → place_of instance.base.words ≡ instance.base.place → 0 < length instance.base.words →
     RuleHolds instance (atomic.opening (opening_words instance.callers instance.base) [] (opening_view instance.callers instance.base.place limits))
@@ -113,6 +120,15 @@ opening_held instance limits one few place at_place full =
             traced = record { first = instance.base.words; now = instance.base.words; origin = base_origin instance all.law.history at_place; leads = refl; held = λ h has. absurd (none-some h has) };
           } in
           subst (IsKnown instance all.law.history all.locals (λ c. (0, c)) seat i) (sym at.1) (subst (λ n. IsKnown instance all.law.history all.locals (λ c. (0, c)) n i (f i)) (sym first.0) here));
-      still = λ at off. refl;
+      own = λ c x there_c j cell t there named offer. (
+          let within = slice_get_within all.locals c x there_c in
+          let mine : (f c).local ≡ x = same_Some (f c).local x (sym (all.done c (omega (arith, within, all.law.shape.count))) ∙ there_c) in
+          let blank : blank_cell ≡ cell = replicate_item 16 j blank_cell cell (ap (λ (y : Local). slice_get y.cells j) mine ∙ there) in
+          absurd (none-some t (ap (λ (y : Cell). y.ticket) blank ∙ named)));
+      sets = λ seat i v known view_at item. (
+          let first = only_view view v seat view_at in
+          let at = mapped_at f instance.callers i known (ap (λ (w : List Known). slice_get w i) first.1 ∙ item) in
+          subst (λ (x : Known). SetNotesHold instance (record { words = opening_words instance.callers instance.base; locals = all.locals }) all.law.history x.sets) (sym at.1)
+          (record { stand = λ n note there. absurd (none-some note there); whole = λ t set read. (let p = read.each 0 (omega arith) in absurd (none-some _ p.1)) }));
       some = full;
     }

@@ -136,6 +136,7 @@ module _ (lines : ℕ) (lawful : List ℕ → Type 0) (instance : Instance) (law
             ∙ ap (λ (told : List Answer). answered_local instance code told (reads_at instance scene.history place (length l.answered + length told) (op_in read)) (shown l)) given;
         notes = noted;
         traced = record { first = traced.first; now = traced.now; origin = traced.origin; leads = traced.leads; held = λ h has. traced.held h has };
+        sets = still;
         fits = tt;
       }
 
@@ -181,8 +182,8 @@ allows_raised instance code answers read known slots id word me one learn =
           let then = known_answered instance code told read known in
           let mine = held.each id 0 (known ∷ []) known view refl in
           let is : known'.local ≡ then.local =
-          (learn s.words held.locals held.law mine.local mine.of_caller mine.shows mine.notes mine.traced held.still held.some).shows
-          ∙ sym (learnt s.words held.locals held.law mine.local mine.of_caller mine.shows mine.notes mine.traced held.still held.some).shows in
+          (learn s.words held.locals held.law mine.local mine.of_caller mine.shows mine.notes mine.traced (held.sets id 0 (known ∷ []) known view refl) held.some).shows
+          ∙ sym (learnt s.words held.locals held.law mine.local mine.of_caller mine.shows mine.notes mine.traced (held.sets id 0 (known ∷ []) known view refl) held.some).shows in
           let leaves = event_leaves instance kind s id known then word put held view (learnt s.words) in
           record {
             knows = ap (λ (x : Local). the_me (record known { local = x })) is;

@@ -5,7 +5,7 @@ use Rattle.std.proofs.lemmas.Bool.{false≢true}
 use Rattle.std.specs.Prelude.{nat_lt}
 use Rattle.std.specs.Option.{option_map}
 use Rattle.cx_core.specs.declared.kinds.Kind.{Kind}
-use Rattle.cx_core.specs.declared.kinds.Kind.TheVariants.{WriteCell, Link, Look, ReadCell, LoadFree, TryExclusive, TryShared, BackOff, Downgrade, ReleaseExclusive, LoadWord, StoreWord, Persist, LoadCur, Publish, Raise, Retire, Protect, Confirm, Unprotect, CloseLow, Scan, OpenFree}
+use Rattle.cx_core.specs.declared.kinds.Kind.TheVariants.{WriteCell, Link, Look, ReadCell, LoadFree, TryExclusive, TryShared, BackOff, Downgrade, ReleaseExclusive, LoadWord, StoreWord, Persist, LoadCur, Publish, Raise, Retire, Protect, Confirm, Unprotect, CloseLow, Scan, OpenFree, WriteSet, Offer, LoadOffer, ReadSet}
 use Rattle.cx_core.specs.declared.local.HeldExclusive.{HeldExclusive}
 use Rattle.cx_core.specs.declared.local.Local.{Local}
 use Rattle.cx_core.specs.Events.{Guard, new_word, next, step_word}
@@ -82,6 +82,10 @@ next_holding instance scene Unprotect l o found by = refl
 next_holding instance scene (CloseLow target) l o found by = refl
 next_holding instance scene (Scan d) l o found by = refl
 next_holding instance scene OpenFree l o found by = refl
+next_holding instance scene (WriteSet j i v) l o found by = refl
+next_holding instance scene (Offer j) l o found by = absurd by
+next_holding instance scene (LoadOffer k t) l o found by = refl
+next_holding instance scene (ReadSet k t i) l o found by = refl
 
 -- what is shown of the local state after a step is what the step makes of the one that is shown
 pub next_shown : (instance : Instance) (scene : Scene) (kind : Kind) (l : Local) (found : ℕ) → IsByShown kind → shown (next instance scene kind l found) ≡ shown_next instance kind (shown l) found
@@ -112,6 +116,10 @@ known_by_shown instance Unprotect k found by = refl
 known_by_shown instance (CloseLow target) k found by = refl
 known_by_shown instance (Scan d) k found by = refl
 known_by_shown instance OpenFree k found by = refl
+known_by_shown instance (WriteSet j i v) known found by = refl
+known_by_shown instance (Offer j) known found by = absurd by
+known_by_shown instance (LoadOffer k t) known found by = refl
+known_by_shown instance (ReadSet k t i) known found by = refl
 
 pub known_shown : (instance : Instance) (scene : Scene) (kind : Kind) (k : Known) (l : Local) (found : ℕ) → IsByShown kind → k.local ≡ shown l → known_local instance kind k found ≡ shown (next instance scene kind l found)
 known_shown instance scene kind k l found by shows = known_by_shown instance kind k found by ∙ ap (λ (x : Local). shown_next instance kind x found) shows ∙ sym (next_shown instance scene kind l found by)
@@ -141,6 +149,10 @@ guard_holding instance scene Unprotect l (Some h) by g = g
 guard_holding instance scene (CloseLow target) l (Some h) by g = g
 guard_holding instance scene (Scan d) l (Some h) by g = g
 guard_holding instance scene OpenFree l (Some h) by g = g
+guard_holding instance scene (WriteSet j i v) l (Some h) by g = g
+guard_holding instance scene (Offer j) l (Some h) by g = absurd by
+guard_holding instance scene (LoadOffer k t) l (Some h) by g = g
+guard_holding instance scene (ReadSet k t i) l (Some h) by g = g
 
 -- a guard that does not look at the scene
 guard_seen : (instance : Instance) (scene : Scene) (kind : Kind) (l : Local) → IsByShown kind → Guard instance unseen kind l → Guard instance scene kind l
@@ -168,6 +180,10 @@ guard_seen instance scene Unprotect l by g = g
 guard_seen instance scene (CloseLow target) l by g = g
 guard_seen instance scene (Scan d) l by g = g
 guard_seen instance scene OpenFree l by g = g
+guard_seen instance scene (WriteSet j i v) l by g = g
+guard_seen instance scene (Offer j) l by g = absurd by
+guard_seen instance scene (LoadOffer k t) l by g = g
+guard_seen instance scene (ReadSet k t i) l by g = g
 
 -- a guard over what is shown is the guard
 pub guard_shown : (instance : Instance) (scene : Scene) (kind : Kind) (l : Local) → IsByShown kind → Guard instance unseen kind (shown l) → Guard instance scene kind l
@@ -198,6 +214,10 @@ word_shown instance Unprotect l = refl
 word_shown instance (CloseLow target) l = refl
 word_shown instance (Scan d) l = refl
 word_shown instance OpenFree l = refl
+word_shown instance (WriteSet j i v) l = refl
+word_shown instance (Offer j) l = refl
+word_shown instance (LoadOffer k t) l = refl
+word_shown instance (ReadSet k t i) l = refl
 
 pub put_shown : (instance : Instance) (kind : Kind) (l : Local) (found : ℕ) → IsByShown kind → new_word instance kind (shown l) found ≡ new_word instance kind l found
 put_shown instance (WriteCell j i v) l found by = refl
@@ -223,6 +243,10 @@ put_shown instance Unprotect l found by = refl
 put_shown instance (CloseLow target) l found by = refl
 put_shown instance (Scan d) l found by = refl
 put_shown instance OpenFree l found by = refl
+put_shown instance (WriteSet j i v) l found by = refl
+put_shown instance (Offer j) l found by = absurd by
+put_shown instance (LoadOffer k t) l found by = refl
+put_shown instance (ReadSet k t i) l found by = refl
 
 -- the rights of a local state are those of what is shown of it
 shown_rights : (l : Local) → SameRights l (shown l)
@@ -257,6 +281,10 @@ told_shown instance Unprotect l found told = tt
 told_shown instance (CloseLow target) l found told = tt
 told_shown instance (Scan d) l found told = told
 told_shown instance OpenFree l found told = told
+told_shown instance (WriteSet j i v) l found told = tt
+told_shown instance (Offer j) l found told = tt
+told_shown instance (LoadOffer k t) l found told = tt
+told_shown instance (ReadSet k t i) l found told = tt
 
 -- what the lawful state says of a local state by itself, it says of what is shown of it
 pub lawful_shown : (instance : Instance) (l : Local) → IsLawfulLocal instance l → IsLawfulLocal instance (shown l)

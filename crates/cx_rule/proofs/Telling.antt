@@ -5,7 +5,7 @@ use Rattle.std.specs.List.{slice_get}
 use Rattle.cx_base.specs.Codes.{link_cell_of, link_code_of, link_ticket_of, root_replica_of}
 use Rattle.cx_core.specs.declared.entry.Entry.{Entry}
 use Rattle.cx_core.specs.declared.kinds.Kind.{Kind}
-use Rattle.cx_core.specs.declared.kinds.Kind.TheVariants.{WriteCell, Link, Look, ReadCell, LoadFree, TryExclusive, TryShared, BackOff, Downgrade, ReleaseExclusive, LoadWord, StoreWord, Persist, LoadCur, Publish, Raise, Retire, Protect, Confirm, Unprotect, CloseLow, Scan, OpenFree}
+use Rattle.cx_core.specs.declared.kinds.Kind.TheVariants.{WriteCell, Link, Look, ReadCell, LoadFree, TryExclusive, TryShared, BackOff, Downgrade, ReleaseExclusive, LoadWord, StoreWord, Persist, LoadCur, Publish, Raise, Retire, Protect, Confirm, Unprotect, CloseLow, Scan, OpenFree, WriteSet, Offer, LoadOffer, ReadSet}
 use Rattle.cx_core.specs.declared.local.Local.{Local}
 use Rattle.cx_core.specs.declared.local.SeenSlot.{SeenSlot}
 use Rattle.cx_core.specs.declared.local.Protection.{Protection}
@@ -185,3 +185,7 @@ told_holds instance Unprotect s law caller l at guard = tt
 told_holds instance (CloseLow target) s law caller l at guard = tt
 told_holds instance (Scan d) s law caller l at guard = own_need instance s law caller l d at
 told_holds instance OpenFree s law caller l at guard = (law.fronts.each caller l at).free
+told_holds instance (WriteSet j i v) s law caller l at guard = tt
+told_holds instance (Offer j) s law caller l at guard = tt
+told_holds instance (LoadOffer k t) s law caller l at guard = tt
+told_holds instance (ReadSet k t i) s law caller l at guard = tt

@@ -7,7 +7,7 @@ use Rattle.std.specs.Option.{option_map}
 use Rattle.cx_base.specs.Noted.{Note, load_leads, store_leads}
 use Rattle.cx_core.specs.declared.entry.Entry.{Entry}
 use Rattle.cx_core.specs.declared.kinds.Kind.{Kind}
-use Rattle.cx_core.specs.declared.kinds.Kind.TheVariants.{WriteCell, Link, Look, ReadCell, LoadFree, TryExclusive, TryShared, BackOff, Downgrade, ReleaseExclusive, LoadWord, StoreWord, Persist, LoadCur, Publish, Raise, Retire, Protect, Confirm, Unprotect, CloseLow, Scan, OpenFree}
+use Rattle.cx_core.specs.declared.kinds.Kind.TheVariants.{WriteCell, Link, Look, ReadCell, LoadFree, TryExclusive, TryShared, BackOff, Downgrade, ReleaseExclusive, LoadWord, StoreWord, Persist, LoadCur, Publish, Raise, Retire, Protect, Confirm, Unprotect, CloseLow, Scan, OpenFree, WriteSet, Offer, LoadOffer, ReadSet}
 use Rattle.cx_core.specs.declared.local.HeldExclusive.{HeldExclusive}
 use Rattle.cx_core.specs.declared.local.Local.{Local}
 use Rattle.cx_core.specs.Events.{Guard, found_by, local_after}
@@ -44,7 +44,7 @@ longer {X = X} (x ∷ xs) (y ∷ ys) stays =
     (rest.0, ap (λ (z : X). z ∷ ys) first ∙ ap (λ (zs : List X). x ∷ zs) rest.1)
 
 -- a history in which all stay linked goes on
-goes_on : (place : ℕ) (history history' : List Entry) → ((ticket : ℕ) (entry : Entry) → IsLinked place history ticket entry → IsLinked place history' ticket entry) → (more : List Entry) × (history' ≡ history ++ more)
+pub goes_on : (place : ℕ) (history history' : List Entry) → ((ticket : ℕ) (entry : Entry) → IsLinked place history ticket entry → IsLinked place history' ticket entry) → (more : List Entry) × (history' ≡ history ++ more)
 goes_on place history history' grows = longer history history' (λ i entry at. (
     let here : place + i - place ≡ i = omega arith in
     let now = grows (place + i) entry (record { from = omega arith; at = ap (slice_get history) here ∙ at }) in
@@ -202,3 +202,7 @@ module _ (instance : Instance) (s : State) (law : Lawful instance s) (caller : �
   traced_next (CloseLow target) guard small = same_held _ refl
   traced_next (Scan d) guard small = same_held _ refl
   traced_next OpenFree guard small = same_held _ refl
+  traced_next (WriteSet j i v) guard small = same_held _ refl
+  traced_next (Offer j) guard small = same_held _ refl
+  traced_next (LoadOffer k t) guard small = same_held _ refl
+  traced_next (ReadSet k t i) guard small = same_held _ refl

@@ -7,3 +7,5 @@ pub mod Learns
 pub mod Steps
 pub mod Raises
 pub mod Ending
+pub mod Offers
+pub mod Having

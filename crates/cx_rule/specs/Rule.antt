@@ -17,11 +17,12 @@ use Rattle.cx_core.specs.declared.local.SeenRead.{SeenRead}
 use Rattle.cx_core.specs.History.{full_image}
 use Rattle.cx_core.specs.Lawful.{Lawful, LocalShape, OwnTickets}
 use Rattle.cx_core.specs.LawfulLocks.{FewRights}
-use Rattle.cx_core.specs.Layout.{offer_at, replicas_at}
 use Rattle.cx_core.specs.Merge.{IsLinked}
 use Rattle.cx_core.specs.Region.{place_of, slot_number}
 use Rattle.cx_core.specs.Shown.{shown}
-use Rattle.cx_core.specs.State.{Instance, opening_words}
+use Rattle.core_queue.specs.NotedSets.{SetNotesHold}
+use Rattle.core_queue.proofs.OwnSets.{OwnSets}
+use Rattle.cx_core.specs.State.{Instance}
 use Rattle.cx_rule.specs.declared.rule.Known.{Known}
 use Rattle.cx_rule.specs.declared.rule.Noted.{Noted}
 use Rattle.cx_rule.specs.Fitting.{loads_of}
@@ -101,17 +102,13 @@ pub record IsBehindNotes (instance : Instance) (known : Known) : Type 0 where
   pub leads : NotesLead known.accesses first now
   pub shared : (h : HeldShared) → known.local.shared ≡ Some h → (words : List ℕ) × IsOrigin instance history words × NotesLead (loads_of h.loaded) words words
 
--- the words that no step call changes stay as they were opened: those of offers and sets
-abbrev pub StandStill : Instance → List ℕ → Type 0
-StandStill instance words =
-    (at : ℕ) → (offer_at instance.callers 0 ≤ at) × (at < replicas_at instance.callers) →
-    slice_index words at ≡ slice_index (opening_words instance.callers instance.base) at
-
 pub record RuleHolds (instance : Instance) (s : atomic.State ℕ (List Known)) : Type 0 where
   pub locals : List Local
   -- the seat, and the place in its view, that have a caller's local state
   pub place_of : ℕ → ℕ × ℕ
   pub law : Lawful instance (record { words = s.words; locals = locals })
   pub each : (seat i : ℕ) (view : List Known) (known : Known) → get_elem? s.views seat ≡ some view → slice_get view i ≡ Some known → IsKnown instance law.history locals place_of seat i known
-  pub still : StandStill instance s.words
+  -- each own cell that is offered with its ticket has a write set of it
+  pub own : (caller : ℕ) (l : Local) → slice_get locals caller ≡ Some l → OwnSets instance law.history l
+  pub sets : (seat i : ℕ) (view : List Known) (known : Known) → get_elem? s.views seat ≡ some view → slice_get view i ≡ Some known → SetNotesHold instance (record { words = s.words; locals = locals }) law.history known.sets
   pub some : 0 < length instance.base.words

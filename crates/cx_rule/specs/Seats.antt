@@ -6,7 +6,7 @@ use Rattle.atomic_table.specs.Seated.{TableId}
 use Rattle.cx_core.specs.declared.kinds.Kind.{Kind}
 use Rattle.cx_base.specs.Codes.{root_place_of}
 use Rattle.cx_base.specs.Noted.{Note}
-use Rattle.cx_core.specs.declared.kinds.Kind.TheVariants.{WriteCell, ReadCell, TryExclusive, Downgrade, ReleaseExclusive, LoadWord, StoreWord, Persist, Raise}
+use Rattle.cx_core.specs.declared.kinds.Kind.TheVariants.{WriteCell, ReadCell, TryExclusive, Downgrade, ReleaseExclusive, LoadWord, StoreWord, Persist, Raise, Offer, ReadSet, WriteSet}
 use Rattle.cx_core.specs.declared.local.Cell.{Cell}
 use Rattle.cx_core.specs.declared.local.Linked.{Linked}
 use Rattle.cx_core.specs.declared.local.Local.{Local}
@@ -16,6 +16,8 @@ use Rattle.cx_core.specs.Layout.{max_word}
 use Rattle.cx_core.specs.LockEvents.{IsClean, is_fresh_on}
 use Rattle.cx_core.specs.RegionEvents.{CanLoad}
 use Rattle.cx_core.specs.Rights.{exclusive_on, is_at, shared_on}
+use Rattle.cx_core.specs.SetEvents.{CanWriteSet}
+use Rattle.core_queue.specs.declared.notes.SetNoted.{SetNoted}
 use Rattle.cx_core.specs.State.{Instance, Scene, one_more, opening_local}
 use Rattle.cx_rule.specs.declared.rule.Known.{Known}
 use Rattle.cx_rule.specs.declared.rule.Noted.{Noted}
@@ -34,6 +36,7 @@ IsByShown (ReleaseExclusive r) = ⊥
 IsByShown (Persist r i) = ⊥
 IsByShown (LoadWord r i true) = ⊥
 IsByShown (Raise code read) = ⊥
+IsByShown (Offer j) = ⊥
 IsByShown _ = Unit {0}
 
 -- the guard as far as a seat sees it: not that words are a full image, nor what a load will find
@@ -41,12 +44,14 @@ abbrev pub SeenGuard : Instance → Kind → Local → Type 0
 SeenGuard instance (Downgrade r) l = IsClean instance.callers r l
 SeenGuard instance (ReleaseExclusive r) l = IsClean instance.callers r l
 SeenGuard instance (LoadWord r i refused) l = CanLoad instance.callers (length instance.base.words) r i l
+SeenGuard instance (Offer j) l = CanWriteSet l j
 SeenGuard instance kind l = Guard instance unseen kind l
 
 -- what the rule asks of a kind beside its guard: a word that a step stores has 64 bits
 abbrev pub WordFits : Kind → Type 0
 WordFits (WriteCell j i v) = v < 2 ^ 64
 WordFits (StoreWord r i v) = v < 2 ^ 64
+WordFits (WriteSet j i v) = v < 2 ^ 64
 WordFits _ = Unit {0}
 
 -- what a seat shows of its caller's local state after a step that found this word
@@ -55,7 +60,7 @@ shown_next instance kind l found = next instance unseen kind l found
 
 -- what a caller knows that made no step: its opening local state, with its limit of steps
 abbrev pub opening_known : ℕ → ℕ → List ℕ → ℕ → Known
-opening_known callers place limits caller = record { local = record (opening_local callers place caller) { limit = slice_index limits caller }; noted = []; accesses = [] }
+opening_known callers place limits caller = record { local = record (opening_local callers place caller) { limit = slice_index limits caller }; noted = []; accesses = []; sets = [] }
 
 -- what the first seat knows: the openings of all callers, in order
 abbrev pub opening_view : ℕ → ℕ → List ℕ → List Known
@@ -63,7 +68,7 @@ opening_view callers place limits = map (opening_known callers place limits) (ra
 
 -- the caller of a seat with one caller
 abbrev pub nobody : Known
-nobody = record { local = opening_local 1 0 0; noted = []; accesses = [] }
+nobody = record { local = opening_local 1 0 0; noted = []; accesses = []; sets = [] }
 
 abbrev pub known_of : List Known → Known
 known_of [] = nobody
@@ -80,6 +85,11 @@ accesses_after (TryExclusive r) k found = []
 accesses_after (LoadWord r i refused) k found = if is_at r (exclusive_on k.local) then k.accesses ++ (false, i, found) ∷ [] else k.accesses
 accesses_after (StoreWord r i v) k found = k.accesses ++ (true, i, v) ∷ []
 accesses_after _ k found = k.accesses
+
+-- the words of write sets noted after a step that found this word
+abbrev pub sets_after : Kind → Known → ℕ → List SetNoted
+sets_after (ReadSet k t i) known found = known.sets ++ record { ticket = t; index = i; word = found } ∷ []
+sets_after _ known found = known.sets
 
 -- the last word that was loaded from the place of a replica or stored there, where this one was known before
 abbrev pub place_noted : ℕ → List Note → ℕ
@@ -101,6 +111,7 @@ known_after instance kind k found = record {
   local = known_local instance kind k found;
   noted = k.noted ++ noted_by kind found;
   accesses = accesses_after kind k found;
+  sets = sets_after kind k found;
 }
 
 -- whether the place word of a replica held shared, which the code last loaded from CUR names, was found to be another place

@@ -2,6 +2,7 @@
 
 use atomic_table::TableRule;
 use cx_base::{Items, Object};
+use core_queue::SetNoted;
 use cx_core::{Base, Local};
 use std::marker::PhantomData;
 use std::snapshot::Snapshot;
@@ -22,6 +23,7 @@ pub struct Known {
     pub local: Local,
     pub noted: Items<Noted>,
     pub accesses: Items<(bool, u64, u64)>,
+    pub sets: Items<SetNoted>,
 }
 
 /// What a seat of the table knows: one item for each caller whose seat it is. A caller's seat has one item, the first

@@ -8,7 +8,7 @@ use Rattle.std.specs.List.{Contains, slice_get}
 use Rattle.std.specs.Option.{option_map}
 use Rattle.cx_base.specs.Noted.{Note, led_by_load, led_by_store}
 use Rattle.cx_core.specs.declared.kinds.Kind.{Kind}
-use Rattle.cx_core.specs.declared.kinds.Kind.TheVariants.{WriteCell, Link, Look, ReadCell, LoadFree, TryExclusive, TryShared, BackOff, Downgrade, ReleaseExclusive, LoadWord, StoreWord, Persist, LoadCur, Publish, Raise, Retire, Protect, Confirm, Unprotect, CloseLow, Scan, OpenFree}
+use Rattle.cx_core.specs.declared.kinds.Kind.TheVariants.{WriteCell, Link, Look, ReadCell, LoadFree, TryExclusive, TryShared, BackOff, Downgrade, ReleaseExclusive, LoadWord, StoreWord, Persist, LoadCur, Publish, Raise, Retire, Protect, Confirm, Unprotect, CloseLow, Scan, OpenFree, WriteSet, Offer, LoadOffer, ReadSet}
 use Rattle.cx_core.specs.declared.local.Cell.{Cell}
 use Rattle.cx_core.specs.declared.local.HeldExclusive.{HeldExclusive}
 use Rattle.cx_core.specs.declared.local.Local.{Local}
@@ -17,6 +17,7 @@ use Rattle.cx_core.specs.RootEvents.{outrun, published}
 use Rattle.cx_core.specs.QueueEvents.{cell_of, linked, lost, seen_word, written}
 use Rattle.cx_core.specs.RegionEvents.{persisted, stored_into}
 use Rattle.cx_core.specs.Rights.{exclusive_on, held_dirty, is_at, shared_on}
+use Rattle.cx_core.specs.SetEvents.{offer_of}
 use Rattle.cx_core.specs.State.{Instance, one_more}
 use Rattle.cx_core.proofs.ListLemmas.{slice_get-set_same, slice_get-set_other}
 use Rattle.cx_core.proofs.HeldLists.{Contains-filter, Contains-still, Contains-with, is_none, other_passes}
@@ -104,6 +105,14 @@ ticketed (c ∷ cells) zero zero ticket = refl
 ticketed (c ∷ cells) zero (suc i) ticket = refl
 ticketed (c ∷ cells) (suc j) zero ticket = refl
 ticketed (c ∷ cells) (suc j) (suc i) ticket = ticketed cells j i ticket
+
+-- a cell that keeps its words was put
+words_kept : (cells : List Cell) (j i : ℕ) (f : Cell → Cell) → ((c : Cell) → (f c).words ≡ c.words) → (get_or (set cells j (f (get_or cells j no_cell))) i no_cell).words ≡ (get_or cells i no_cell).words
+words_kept [] j i f same = refl
+words_kept (c ∷ cells) zero zero f same = same c
+words_kept (c ∷ cells) zero (suc i) f same = refl
+words_kept (c ∷ cells) (suc j) zero f same = refl
+words_kept (c ∷ cells) (suc j) (suc i) f same = words_kept cells j i f same
 
 -- a word was written into a cell
 written_cells : (l l' : Local) (cells : List ℕ) (j i v : ℕ) → HasCells l → j < 16 → i < 145 → l'.cells ≡ written l j i v → HasCellWords l cells → HasCellWords l' (set cells (145 * j + i) v)
@@ -289,7 +298,7 @@ copy_kept instance (BackOff r) k found c guard shape long is = (let b = backed (
 copy_kept instance (Downgrade r) k found c guard shape long is = (refl, still k _ c refl (sym guard.3) (λ j. refl) is)
 copy_kept instance (ReleaseExclusive r) k found c guard shape long is = (refl, still k _ c refl (sym guard.3) (λ j. refl) is)
 copy_kept instance (LoadWord r i refused) k found c guard shape long is =
-    let known' : Bool → Known = λ b. record { local = known_local instance (LoadWord r i refused) k found; noted = k.noted ++ []; accesses = cond b (k.accesses ++ (false, i, found) ∷ []) k.accesses } in
+    let known' : Bool → Known = λ b. record { local = known_local instance (LoadWord r i refused) k found; noted = k.noted ++ []; accesses = cond b (k.accesses ++ (false, i, found) ∷ []) k.accesses; sets = k.sets } in
     let after : Bool → Copied = λ b. cond b (record c { place = cond (i == 0) found c.place }) c in
     elim (is_at r (exclusive_on k.local)) as (λ b. (length (after b).words ≡ length c.words) × IsCopied (known' b) (after b)) [
       | true ↦ (refl, loaded k (known' true) c i found refl refl (λ j. refl) is)
@@ -315,3 +324,7 @@ copy_kept instance Unprotect k found c guard shape long is = (refl, still k _ c 
 copy_kept instance (CloseLow target) k found c guard shape long is = (refl, still k _ c refl refl (λ j. refl) is)
 copy_kept instance (Scan d) k found c guard shape long is = (refl, still k _ c refl refl (λ j. refl) is)
 copy_kept instance OpenFree k found c guard shape long is = (refl, still k _ c refl refl (λ j. refl) is)
+copy_kept instance (WriteSet j i v) k found c guard shape long is = (refl, still k _ c refl refl (λ n. words_kept k.local.cells j n (λ x. record x { set = set x.set i v }) (λ x. refl)) is)
+copy_kept instance (Offer j) k found c guard shape long is = (refl, still k _ c refl refl (λ n. words_kept k.local.cells j n (λ x. record x { offer = offer_of x.ticket x.offer }) (λ x. refl)) is)
+copy_kept instance (LoadOffer e t) k found c guard shape long is = (refl, still k _ c refl refl (λ j. refl) is)
+copy_kept instance (ReadSet e t i) k found c guard shape long is = (refl, still k _ c refl refl (λ j. refl) is)

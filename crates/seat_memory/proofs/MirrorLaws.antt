@@ -1,13 +1,13 @@
 -- The numbers that code reads follow each kind of step.
 use Rattle.std.proofs.Common.{◌≡◌, ◌≢◌, ◌+◌, ◌^◌, ◌==◌, ◌<◌, ◌≤◌, ℕ, nat_lt, Bool, max, true, false, cond, List, [], ◌∷◌, ◌++◌, length, set, refl, ap, sym, subst, ◌∙◌, arith, Option, Some, None, length-append}
-use Rattle.std.proofs.lemmas.List.{map-set}
+use Rattle.std.proofs.lemmas.List.{length-set, map-set}
 use Rattle.std.specs.List.{slice_get}
 use Rattle.std.specs.Option.{option_map}
 use Rattle.atomic_table.specs.Seated.{TableId}
 use Rattle.atomic_table.specs.Table.{Me}
 use Rattle.cx_base.specs.Codes.{link_ticket_of}
 use Rattle.cx_core.specs.declared.kinds.Kind.{Kind}
-use Rattle.cx_core.specs.declared.kinds.Kind.TheVariants.{WriteCell, Link, Look, ReadCell, LoadFree, TryExclusive, TryShared, BackOff, Downgrade, ReleaseExclusive, LoadWord, StoreWord, Persist, LoadCur, Publish, Raise, Retire, Protect, Confirm, Unprotect, CloseLow, Scan, OpenFree}
+use Rattle.cx_core.specs.declared.kinds.Kind.TheVariants.{WriteCell, Link, Look, ReadCell, LoadFree, TryExclusive, TryShared, BackOff, Downgrade, ReleaseExclusive, LoadWord, StoreWord, Persist, LoadCur, Publish, Raise, Retire, Protect, Confirm, Unprotect, CloseLow, Scan, OpenFree, WriteSet, Offer, LoadOffer, ReadSet}
 use Rattle.cx_core.specs.declared.local.Cell.{Cell}
 use Rattle.cx_core.specs.declared.local.Linked.{Linked}
 use Rattle.cx_core.specs.declared.local.Local.{Local}
@@ -20,7 +20,7 @@ use Rattle.cx_core.specs.Lawful.{LocalShape}
 use Rattle.cx_core.specs.Layout.{max_word}
 use Rattle.cx_core.specs.Region.{slot_number}
 use Rattle.cx_core.proofs.Locals.{slice_get-last}
-use Rattle.core_queue.proofs.Shapes.{shape_linked, shape_same, shape_written}
+use Rattle.core_queue.proofs.Shapes.{cell_there, shape_linked, shape_put, shape_same, shape_written}
 use Rattle.seat_memory.specs.declared.mirror.Mirror.{Mirror}
 use Rattle.cx_rule.specs.declared.rule.Known.{Known}
 use Rattle.seat_memory.specs.Copies.{Copied, IsCopied, copied_after}
@@ -133,6 +133,14 @@ goes_on instance Unprotect k found guard small shape = quiet k.local _ small sha
 goes_on instance (CloseLow target) k found guard small shape = quiet k.local _ small shape refl refl refl refl refl refl
 goes_on instance (Scan d) k found guard small shape = quiet k.local _ small shape refl refl refl refl refl refl
 goes_on instance OpenFree k found guard small shape = quiet k.local _ small shape refl refl refl refl refl refl
+goes_on instance (WriteSet j i v) k found guard small shape =
+    let old = shape.each j (cell_of k.local j) (cell_there k.local.number k.local j shape guard.0.0) in
+    record { small = small; shape = shape_put k.local.number k.local _ j _ shape guard.0.0 (record { words = old.words; fit = old.fit; set = length-set (cell_of k.local j).set i v ∙ old.set }) refl refl; steps = refl; limit = refl }
+goes_on instance (Offer j) k found guard small shape =
+    let old = shape.each j (cell_of k.local j) (cell_there k.local.number k.local j shape guard.0) in
+    record { small = small; shape = shape_put k.local.number k.local _ j _ shape guard.0 (record { words = old.words; fit = old.fit; set = old.set }) refl refl; steps = refl; limit = refl }
+goes_on instance (LoadOffer c t) k found guard small shape = quiet k.local _ small shape refl refl refl refl refl refl
+goes_on instance (ReadSet c t i) k found guard small shape = quiet k.local _ small shape refl refl refl refl refl refl
 
 -- one step more within the limit
 pub one_step : (l : Local) → IsWithinLimit l → ¬ IsAtLimit l → l.limit < max_word → one_more l.steps ≤ l.limit
