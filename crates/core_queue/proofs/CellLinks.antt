@@ -50,16 +50,21 @@ names_small instance words locals d j ticket cell shape names =
     let within = slice_get_within names.local.cells j cell names.at in
     omega (arith, within, (shape.each d names.local names.of_caller).cells)
 
+-- cells at one number are one
+pub one_cell : (instance : Instance) (words : List ℕ) (locals : List Local) (t u d e j k : ℕ) (a b : Cell) → Shape instance words locals → NamesCell locals d j t a → NamesCell locals e k u b →
+    16 * d + j ≡ 16 * e + k → a ≡ b
+one_cell instance words locals t u d e j k a b shape one other both =
+    let a_small = names_small instance words locals d j t a shape one in
+    let b_small = names_small instance words locals e k u b shape other in
+    let d_same : d ≡ e = omega arith in
+    let j_same : j ≡ k = omega arith in
+    let local : one.local ≡ other.local = same_Some one.local other.local (sym one.of_caller ∙ ap (slice_get locals) d_same ∙ other.of_caller) in
+    same_Some a b (sym one.at ∙ ap (λ (x : Local). slice_get x.cells j) local ∙ ap (slice_get other.local.cells) j_same ∙ other.at)
+
 -- a cell is named with one ticket
 pub named_once : (instance : Instance) (words : List ℕ) (locals : List Local) (t u k : ℕ) → Shape instance words locals → Taken locals t k → Taken locals u k → t ≡ u
 named_once instance words locals t u k shape a b =
-    let a_small = names_small instance words locals a.d a.j t a.cell shape a.names in
-    let b_small = names_small instance words locals b.d b.j u b.cell shape b.names in
-    let both : 16 * a.d + a.j ≡ 16 * b.d + b.j = sym a.is ∙ b.is in
-    let d_same : a.d ≡ b.d = omega arith in
-    let j_same : a.j ≡ b.j = omega arith in
-    let local : a.names.local ≡ b.names.local = same_Some a.names.local b.names.local (sym a.names.of_caller ∙ ap (slice_get locals) d_same ∙ b.names.of_caller) in
-    let cell : a.cell ≡ b.cell = same_Some a.cell b.cell (sym a.names.at ∙ ap (λ (x : Local). slice_get x.cells a.j) local ∙ ap (slice_get b.names.local.cells) j_same ∙ b.names.at) in
+    let cell : a.cell ≡ b.cell = one_cell instance words locals t u a.d b.d a.j b.j a.cell b.cell shape a.names b.names (sym a.is ∙ b.is) in
     same_Some t u (sym a.names.named ∙ ap (λ (x : Cell). x.ticket) cell ∙ b.names.named)
 
 -- an idle cell is not taken by a live ticket

@@ -25,6 +25,7 @@ use Rattle.core_queue.specs.Queue.{QueueContinues, QueueLawful}
 use Rattle.core_queue.proofs.CellLinks.{Wins, cells_linked}
 use Rattle.core_queue.proofs.CellPuts.{cells_written}
 use Rattle.core_queue.proofs.FrontLaws.{behind_free, behind_kept, behind_raised, fronts_framed, fronts_put, same_words}
+use Rattle.core_queue.proofs.LiveCells.{linked_callers}
 use Rattle.core_queue.proofs.LinkLaws.{links_framed, links_linked, raised_within, won_at_end}
 use Rattle.core_queue.proofs.QueueFrames.{off_lock, off_region, queue_loaded, queue_put, same_but}
 use Rattle.core_queue.proofs.RingKinds.{close_low_kept, confirm_kept, open_free_kept, protect_kept, scan_kept, unprotect_kept}
@@ -41,10 +42,8 @@ pub same_history : {instance : Instance} {history : List Entry} {words : List �
 same_history {history = history} law = record { after = history; continues = record { more = []; is = sym (append-nil history) }; lawful = law }
 
 module _ (instance : Instance) (history : List Entry) (words : List ℕ) (locals : List Local) (law : QueueLawful instance history words locals) where
-  -- each linked entry is of one of the callers
-  pub linked_callers : (ticket : ℕ) (entry : Entry) → IsLinked instance.base.place history ticket entry → entry.caller < instance.callers
-  linked_callers ticket entry is_linked =
-      subst (λ n. entry.caller < n) law.shape.count (law.tickets.merged.of_callers (ticket - instance.base.place) entry is_linked.at)
+  callers : (ticket : ℕ) (entry : Entry) → IsLinked instance.base.place history ticket entry → entry.caller < instance.callers
+  callers = linked_callers instance history words locals law
 
   module _ (caller : ℕ) (l : Local) (at : slice_get locals caller ≡ Some l) where
     -- the front of a caller that found a link word
@@ -53,7 +52,7 @@ module _ (instance : Instance) (history : List Entry) (words : List ℕ) (locals
     behind_found l' slot below front fields =
         let old = law.fronts.each caller l at in
         let word = slice_index words (link_at instance.callers slot) in
-        let rises = raised_within instance history l.front slot word linked_callers old.to (law.links.each slot below) in
+        let rises = raised_within instance history l.front slot word callers old.to (law.links.each slot below) in
         behind_raised instance history history words words l l' old (omega arith) (record { dur = refl; low = refl; free = refl })
         (omega (arith, front, rises.0)) (omega (arith, front, rises.1)) fields
 
@@ -69,12 +68,12 @@ module _ (instance : Instance) (history : List Entry) (words : List ℕ) (locals
           shape = law.shape;
           links = law.links;
           cells = law.cells;
-          callers = linked_callers;
+          callers = callers;
           at = at;
           small = guard.0;
           idle = guard.1;
           behind = old.free;
-          end = won_at_end instance history l.front (slice_index words (link_at instance.callers (l.front % q))) l.seen_slot linked_callers some old.from old.to guard.4 found (law.links.each (l.front % q) slot_small);
+          end = won_at_end instance history l.front (slice_index words (link_at instance.callers (l.front % q))) l.seen_slot callers some old.from old.to guard.4 found (law.links.each (l.front % q) slot_small);
           open_ = guard.4;
           found = found;
         }

@@ -15,28 +15,11 @@ use Rattle.cx_core.specs.Lawful.{IsLive, Lawful}
 use Rattle.cx_core.specs.Merge.{IsLinked, scene_of}
 use Rattle.cx_core.specs.State.{Instance, State}
 use Rattle.core_queue.proofs.CellLinks.{Taken, named_once, names_small}
-use Rattle.core_queue.proofs.Keeps.{linked_callers}
+use Rattle.core_queue.proofs.LiveCells.{held_cell, seen_shown}
 use Rattle.core_queue.proofs.QueueFrames.{queue_of}
 use Rattle.core_queue.proofs.Pigeonhole.{pigeonhole}
 use Rattle.core_queue.specs.Live.{HasLive, named_cell}
 use Rattle.core_queue.specs.Queue.{QueueLawful}
-
--- a link code gives its cell back
-code_cell : (callers ticket k : ℕ) → k < 16 * callers → link_cell_of callers (link_code_of callers ticket k) ≡ k
-code_cell callers ticket k below =
-    let w = 16 * callers in
-    let one_off : ticket * w + k + 1 - 1 ≡ ticket * w + k = omega arith in
-    ap (λ n. n % w) one_off ∙ mod-mul-add ticket w k below
-
--- the cell that the link slot of a live ticket names
-pub held_cell : (instance : Instance) (s : State) (history : List Entry) (law : QueueLawful instance history s.words s.locals) (ticket : ℕ) (entry : Entry) →
-    IsLinked instance.base.place history ticket entry → (held : IsLive instance history s.words s.locals ticket entry) →
-    (named_cell instance s ticket ≡ 16 * entry.caller + held.j) × (16 * entry.caller + held.j < 16 * instance.callers)
-held_cell instance s history law ticket entry linked held =
-    let small = names_small instance s.words s.locals entry.caller held.j ticket held.cell law.shape held.names in
-    let by = linked_callers instance history s.words s.locals law ticket entry linked in
-    let within : 16 * entry.caller + held.j < 16 * instance.callers = omega (arith, small, by) in
-    (ap (link_cell_of instance.callers) held.link ∙ code_cell instance.callers ticket (16 * entry.caller + held.j) within, within)
 
 -- two live tickets with the same cell are one
 pub live_apart : (instance : Instance) (s : State) (law : Lawful instance s) (t u : ℕ) (e f : Entry) → IsLinked instance.base.place law.history t e → IsLinked instance.base.place law.history u f →
@@ -72,10 +55,6 @@ few_live instance s law caller count has =
           has.apart i k (omega arith) (omega arith) (named_once instance s.words s.locals (has.ticket i) (has.ticket k) (16 * caller + j) law.shape one other)))
       | inr few ↦ omega arith
     ]
-
-seen_shown : (callers : ℕ) (seen : Option SeenSlot) (ticket cell : ℕ) → ShowsTicket callers seen ticket cell → (x : SeenSlot) × (seen ≡ Some x) × ShowsTicket callers (Some x) ticket cell
-seen_shown callers None ticket cell shows = absurd shows
-seen_shown callers (Some x) ticket cell shows = (x, refl, shows)
 
 -- the word that a load of a cell finds for a live ticket is the history's at that ticket
 pub read_gives : (instance : Instance) (s : State) (law : Lawful instance s) (caller : ℕ) (l : Local) (t k i : ℕ) → slice_get s.locals caller ≡ Some l → Guard instance (scene_of instance s) (ReadCell t k i) l →

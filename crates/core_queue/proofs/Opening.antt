@@ -71,8 +71,8 @@ nothing_linked : (place ticket : ℕ) (entry : Entry) → IsLinked place [] tick
 nothing_linked place ticket entry linked = none-some entry linked.at
 
 -- each cell is blank
-blank : (j : ℕ) (cell : Cell) → slice_get (replicate 16 blank_cell) j ≡ Some cell → (j < 16) × (cell ≡ blank_cell)
-blank j cell at =
+pub cell_blank : (j : ℕ) (cell : Cell) → slice_get (replicate 16 blank_cell) j ≡ Some cell → (j < 16) × (cell ≡ blank_cell)
+cell_blank j cell at =
     let within : j < 16 = (let w = slice_get_within (replicate 16 blank_cell) j cell at in w) in
     (within, sym (get_or_from_slice_get (replicate 16 blank_cell) j cell blank_cell at) ∙ get_or-replicate 16 j blank_cell blank_cell within)
 
@@ -108,7 +108,7 @@ opening_lawful instance some few place_small =
         few = few;
         long = length-opening callers base some;
         count = length-map-range_with_len (opening_local callers place) 0 callers;
-        each = own LocalShape (λ c _. record { number = refl; cells = length-replicate 16 blank_cell; each = λ j cell there. subst CellShape (sym (blank j cell there).1) blank_shape });
+        each = own LocalShape (λ c _. record { number = refl; cells = length-replicate 16 blank_cell; each = λ j cell there. subst CellShape (sym (cell_blank j cell there).1) blank_shape });
       };
       tickets = record {
         merged = record { own = own (λ c l. l.own ≡ []) (λ _ _. refl); of_callers = λ i entry there. absurd (none-some entry there) };
@@ -119,12 +119,12 @@ opening_lawful instance some few place_small =
       cells = record {
         live = λ ticket entry linked _. absurd (nothing_linked place ticket entry linked);
         shown = own _ (λ c below j cell there. (
-            let b = blank j cell there in
+            let b = cell_blank j cell there in
             let small = b.0 in
             subst (IsShown callers words (16 * c + j)) (sym b.1) (blank_shown callers base (16 * c + j) some (omega arith))));
         seen = own _ (λ _ _ seen is. absurd (none-some seen is));
         seen_offers = own _ (λ _ _ seen is. absurd (none-some seen is));
-        offers = own _ (λ _ _ j cell there some_offer. (let zero : cell.offer ≡ 0 = ap (λ (x : Cell). x.offer) (blank j cell there).1 in absurd (omega arith)));
+        offers = own _ (λ _ _ j cell there some_offer. (let zero : cell.offer ≡ 0 = ap (λ (x : Cell). x.offer) (cell_blank j cell there).1 in absurd (omega arith)));
       };
       fronts = record {
         each = own _ (λ c _. (

@@ -5,7 +5,7 @@
 ghost use Rattle.std.specs.Prelude.{◌^◌, ◌≤◌, ℕ, []};
 ghost use Rattle.core_queue.specs.Queue.{KeepsQueue, QueueLawful};
 ghost use Rattle.cx_core.specs.State.{Instance, opening_locals, opening_words};
-ghost use Rattle.cx_core.specs.declared.kinds.Kind.TheVariants.{CloseLow, Confirm, Link, LoadCur, LoadFree, Look, OpenFree, Protect, Publish, Raise, ReadCell, Retire, Scan, Unprotect, WriteCell};
+ghost use Rattle.cx_core.specs.declared.kinds.Kind.TheVariants.{CloseLow, Confirm, Link, LoadCur, LoadFree, LoadOffer, Look, Offer, OpenFree, Protect, Publish, Raise, ReadCell, ReadSet, Retire, Scan, Unprotect, WriteCell, WriteSet};
 
 /// The opening state of 1 to 8 callers, where the base's place is at most 2^40.
 pub fn opening_has_the_queue()
@@ -86,6 +86,26 @@ pub fn scan_keeps()
 /// A raise of FREE to the bound of a scan that passed every caller.
 pub fn open_free_keeps()
     ensures { KeepsQueue OpenFree }
+{}
+
+/// A word written into the set of an own entry that is not offered yet.
+pub fn write_set_keeps()
+    ensures { (j i v : ℕ) → KeepsQueue (WriteSet j i v) }
+{}
+
+/// A write set offered.
+pub fn offer_keeps()
+    ensures { (j : ℕ) → KeepsQueue (Offer j) }
+{}
+
+/// A load of a cell's offer word.
+pub fn load_offer_keeps()
+    ensures { (k t : ℕ) → KeepsQueue (LoadOffer k t) }
+{}
+
+/// A load of a word of a set that is offered.
+pub fn read_set_keeps()
+    ensures { (k t i : ℕ) → KeepsQueue (ReadSet k t i) }
 {}
 
 /// Any kind: those on locks and on the words of replicas touch nothing that these parts name.

@@ -86,9 +86,9 @@ agree_equal lines lawful base known n is agree first now from read fits reads =
 -- full image, and they are there.
 pub learns_copied : (instance : Instance) (r : ℕ) (known : Known) (word : ℕ) → r < 2 * instance.callers → shared_on known.local ≡ Some r → word ≡ step_word instance (BackOff r) known.local → AgreeTo known (length instance.base.words) →
     IsCopyLearned instance (BackOff r) known word (λ x. new_word instance (BackOff r) known.local x)
-learns_copied instance r known word small on at agree words within locals law l of_caller shows noted traced still some =
+learns_copied instance r known word small on at agree words within locals law l of_caller shows noted traced sets own some =
     let state : State = record { words = words; locals = locals } in
-    let plain = learns_shown instance (BackOff r) known words word (new_word instance (BackOff r) known.local (slice_index words word)) tt tt (small, inl on) at refl locals law l of_caller shows noted traced still some in
+    let plain = learns_shown instance (BackOff r) known words word (new_word instance (BackOff r) known.local (slice_index words word)) tt tt (small, inl on) at refl locals law l of_caller shows noted traced sets own some in
     let held = mapped (λ (x : HeldShared). x.replica) known.local.shared r on in
     let there = shared_there instance state law some known.local.number l of_caller held.0 (ap (λ (x : Local). x.shared) (sym shows) ∙ held.1) in
     let leads = subst (λ (o : Option HeldShared). NotesLead (loads_of (loaded_of o)) there.0 there.0) (sym held.1) there.2 in

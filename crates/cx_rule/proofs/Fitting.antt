@@ -13,10 +13,12 @@ use Rattle.cx_core.specs.Merge.{IsLinked}
 use Rattle.cx_core.specs.Region.{place_of}
 use Rattle.cx_core.specs.State.{Instance}
 use Rattle.cx_core.specs.Step.{full_step_of}
+use Rattle.cx_core.specs.WriteSet.{stored}
 use Rattle.cx_core.proofs.HistoryLemmas.{ObjectLaws, full_lawful, full_next}
 use Rattle.cx_rule.specs.declared.rule.Known.{Known}
 use Rattle.cx_rule.specs.declared.rule.Noted.{Noted}
-use Rattle.cx_rule.specs.Fitting.{Fits, Fitting, IsNoted, ReplayedTo, base_of, start, with_entry, with_set}
+use Rattle.cx_rule.specs.Fitting.{Chain, Fits, Fitting, IsNoted, ReplayedTo, base_of, no_set, start, with_entry, with_set}
+use Rattle.cx_rule.specs.Having.{HadHold, Has}
 use Rattle.cx_rule.specs.Rule.{IsBehindNotes, IsEntryFrom, IsOrigin, NotesHold}
 
 -- entries by their callers' numbers in a lawful base are lawful
@@ -77,26 +79,38 @@ module _ (lines : ℕ) (lawful : List ℕ → Type 0) (instance : Instance) (law
       let there : instance.base.place + (ticket - instance.base.place) ≡ ticket = omega arith in
       subst (λ t. IsLawfulEntry t e) there (are_lawful (ticket - instance.base.place) e linked.at)
 
-  -- noted entries in order lead from a full image to full images
-  pub chain_on : (notes : List Noted) → NotesHold instance history notes → (first : List ℕ) → IsFull instance history first → (place : ℕ) (now : List ℕ) → ReplayedTo instance.step notes first place now →
+  -- entries and sets that are the history's lead in order from a full image to full images
+  pub chain_on : (has : Has) → HadHold instance history has → (first : List ℕ) → IsFull instance history first → (place : ℕ) (now : List ℕ) → Chain instance.step has.entry has.set first place now →
       (instance.base.place ≤ place) × (place ≤ instance.base.place + length history) × (now ≡ full_image instance.step instance.base history place)
-  chain_on notes hold first origin place now (start _ _ at is) =
+  chain_on has hold first origin place now (start _ _ at is) =
       (subst (λ q. instance.base.place ≤ q) (sym at) origin.from, subst (λ q. q ≤ instance.base.place + length history) (sym at) origin.to, is ∙ origin.full ∙ ap (full_image instance.step instance.base history) (sym at))
-  chain_on notes hold first origin place now (with_entry _ _ t before e at is noted rest) =
-      let r = chain_on notes hold first origin t before rest in
-      let l = noted_linked notes t e hold r.0 noted in
+  chain_on has hold first origin place now (with_entry _ _ t before e at is had rest) =
+      let r = chain_on has hold first origin t before rest in
+      let l = hold.entries t e r.0 had in
       let within = slice_get_within history (t - instance.base.place) e l.at in
       let from = r.0 in (
         omega (arith, at, from),
         omega (arith, at, within, from),
         is ∙ ap (full_step_of instance.step e) r.2 ∙ sym (full_next instance history t e l) ∙ ap (full_image instance.step instance.base history) (sym at),
       )
-  chain_on notes hold first origin place now (with_set _ _ t before set at is noted rest) = absurd noted
+  chain_on has hold first origin place now (with_set _ _ t before pairs at is had rest) =
+      let r = chain_on has hold first origin t before rest in
+      let l = hold.sets t pairs r.0 had in
+      let from = r.0 in
+      let below = l.0 in (
+        omega (arith, at, from),
+        omega (arith, at, below),
+        is ∙ ap (stored (slice_index pairs 0) pairs) r.2 ∙ l.1.gives ∙ ap (full_image instance.step instance.base history) (sym at),
+      )
+
+  -- noted entries alone
+  entries_hold : (notes : List Noted) → NotesHold instance history notes → HadHold instance history (record { entry = IsNoted notes; set = no_set })
+  entries_hold notes hold = record { entries = λ t e from noted. noted_linked notes t e hold from noted; sets = λ t pairs from none. absurd none }
 
   -- so they are the full image after their place
   pub chain_full : (notes : List Noted) → NotesHold instance history notes → (first : List ℕ) → IsOrigin instance history first → (place : ℕ) (now : List ℕ) → ReplayedTo instance.step notes first place now → IsFull instance history now × (place_of now ≡ place)
   chain_full notes hold first origin place now chain =
-      let r = chain_on notes hold first (origin_full first origin) place now chain in
+      let r = chain_on (record { entry = IsNoted notes; set = no_set }) (entries_hold notes hold) first (origin_full first origin) place now chain in
       let at : place_of now ≡ place = ap place_of r.2 ∙ (full_at place r.0 r.1).at_place in (
         record {
           from = subst (λ q. instance.base.place ≤ q) (sym at) r.0;

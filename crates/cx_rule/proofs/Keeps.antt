@@ -8,20 +8,27 @@ use Rattle.atomic_table.specs.Seated.{TableId}
 use Rattle.atomic_table.specs.Table as atomic
 use Rattle.atomic_table.proofs.Lists.{at_set, set_here}
 use Rattle.cx_core.specs.declared.entry.Base.{Base}
+use Rattle.cx_core.specs.declared.kinds.Event.{Event}
 use Rattle.cx_core.specs.declared.kinds.Kind.{Kind}
+use Rattle.cx_core.specs.declared.kinds.Kind.TheVariants.{WriteCell, Link, Look, ReadCell, LoadFree, TryExclusive, TryShared, BackOff, Downgrade, ReleaseExclusive, LoadWord, StoreWord, Persist, LoadCur, Publish, Raise, Retire, Protect, Confirm, Unprotect, CloseLow, Scan, OpenFree, WriteSet, Offer, LoadOffer, ReadSet}
 use Rattle.cx_core.specs.declared.local.Local.{Local}
-use Rattle.cx_core.specs.Events.{Makes, Guard, found_by, local_after, new_word, next, step_word, words_after}
+use Rattle.cx_core.specs.Events.{Guard, Makes, found_by, local_after, new_word, next, step_word, words_after}
 use Rattle.cx_core.specs.Lawful.{Lawful, LocalShape, OwnTickets}
 use Rattle.cx_core.specs.Merge.{scene_of}
 use Rattle.cx_core.specs.Shown.{shown}
-use Rattle.cx_core.specs.State.{Instance, Scene, State}
+use Rattle.cx_core.specs.State.{EachLocal, Instance, Scene, State}
 use Rattle.cx_core.proofs.ListLemmas.{slice_get-set_same, slice_get-set_other}
 use Rattle.cx_core.proofs.MergeLemmas.{goes_on, still_linked}
+use Rattle.core_queue.specs.declared.notes.SetNoted.{SetNoted}
+use Rattle.core_queue.specs.NotedSets.{OwnSetsHold, SetNotesHold}
+use Rattle.core_queue.proofs.OwnSets.{own_event}
+use Rattle.core_queue.proofs.QueueFrames.{queue_of}
+use Rattle.core_queue.proofs.SetNotes.{notes_event, notes_read}
 use Rattle.cx_rule.specs.declared.rule.Known.{Known}
-use Rattle.cx_rule.specs.Learns.{LearnsAnyway, LearnsBy}
+use Rattle.cx_rule.specs.Learns.{Learns, LearnsAnyway, LearnsBy}
 use Rattle.cx_rule.specs.Rule.{RuleHolds, IsBehindNotes, IsKnown, IsLawfulLocal, IsTraced, NotesHold}
 use Rattle.cx_rule.specs.Running.{Running, instance_at}
-use Rattle.cx_rule.specs.Seats.{sets_after, IsByShown, WordFits, accesses_after, known_after, known_local, known_of, noted_by, unseen}
+use Rattle.cx_rule.specs.Seats.{IsByShown, WordFits, accesses_after, known_after, known_local, known_of, noted_by, sets_after, unseen}
 use Rattle.core_runs.proofs.Keeps.{bounds_of, kind_kept}
 use Rattle.cx_rule.proofs.ShownLaws.{guard_shown, known_shown, lawful_shown, put_shown, told_shown, word_shown}
 use Rattle.cx_rule.proofs.Notes.{noted_hold, notes-append, notes_still}
@@ -31,14 +38,6 @@ use Rattle.cx_rule.proofs.Telling.{told_holds}
 use Rattle.cx_rule.proofs.Behind.{behind_notes}
 use Rattle.cx_rule.proofs.Traced.{traced_longer, traced_next}
 use Rattle.cx_rule.proofs.Traced.{goes_on as goes_further}
-use Rattle.core_queue.specs.declared.notes.SetNoted.{SetNoted}
-use Rattle.core_queue.specs.NotedSets.{SetNotesHold}
-use Rattle.core_queue.proofs.QueueFrames.{queue_of}
-use Rattle.core_queue.proofs.SetStays.{notes_event, notes_read}
-use Rattle.core_queue.proofs.OwnSets.{OwnSets, own_grows, own_sets}
-use Rattle.cx_core.proofs.Locals.{EachLocal-set}
-use Rattle.cx_core.proofs.MergeLemmas.{history_is}
-use Rattle.cx_core.specs.declared.kinds.Kind.TheVariants.{WriteCell, Link, Look, ReadCell, LoadFree, TryExclusive, TryShared, BackOff, Downgrade, ReleaseExclusive, LoadWord, StoreWord, Persist, LoadCur, Publish, Raise, Retire, Protect, Confirm, Unprotect, CloseLow, Scan, OpenFree, WriteSet, Offer, LoadOffer, ReadSet}
 
 -- an event is allowed, puts that word, and its caller's seat then shows the local state after it
 pub record Sees (instance : Instance) (scene : Scene) (kind : Kind) (known : Known) (l : Local) (new found : ℕ) : Type 0 where
@@ -60,7 +59,7 @@ event_held instance kind s id known after word new held at learns =
     let caller = known.local.number in
     let state : State = record { words = s.words; locals = held.locals } in
     let law = held.law in
-    let learnt = learns held.locals law l mine.of_caller mine.shows mine.notes mine.traced (held.sets id 0 (known ∷ []) known at refl) held.some in
+    let learnt = learns held.locals law l mine.of_caller mine.shows mine.notes mine.traced (held.sets id 0 (known ∷ []) known at refl) (held.own caller l mine.of_caller) held.some in
     let l' = local_after instance (scene_of instance state) kind l in
     let locals' = set held.locals caller l' in
     let put : words_after instance kind l s.words ≡ set s.words word new =
@@ -74,9 +73,10 @@ event_held instance kind s id known after word new held at learns =
     let grows = still_linked instance instance.base.place law.history law'.history held.locals caller l l' law.tickets.merged law'.tickets.merged mine.of_caller (goes_on instance (scene_of instance state) kind l (found_by instance kind l s.words)) in
     let state' : State = record { words = set s.words word new; locals = locals' } in
     let more = goes_further instance.base.place law.history law'.history grows in
-    let makes : Makes instance (record { caller = caller; kind = kind }) state state' = record { local = l; of_caller = mine.of_caller; guard = learnt.guard; words = sym put; locals = refl } in
+    let event : Event = record { caller = caller; kind = kind } in
+    let makes : Makes instance event state state' = record { local = l; of_caller = mine.of_caller; guard = learnt.guard; words = sym put; locals = refl } in
     let moved : (notes : List SetNoted) → SetNotesHold instance state law.history notes → SetNotesHold instance state' law'.history notes =
-    λ notes hold. subst (λ h. SetNotesHold instance state' h notes) (sym more.1) (notes_event instance law.history more.0 state state' (record { caller = caller; kind = kind }) notes (queue_of law) makes hold) in
+    λ notes hold. subst (λ h. SetNotesHold instance state' h notes) (sym more.1) (notes_event instance law.history more.0 state state' event notes (queue_of law) makes hold) in
     record {
       locals = locals';
       place_of = held.place_of;
@@ -107,11 +107,7 @@ event_held instance kind s id known after word new held at learns =
             traced = traced_longer instance law.history law'.history k.accesses was.local grows was.traced;
           }))
           (at_set s.views id seat (after ∷ []) view view_at);
-      own = λ c x there_c. (
-          let grown : (y : Local) → OwnSets instance law.history y → OwnSets instance law'.history y = λ y own. subst (λ h. OwnSets instance h y) (sym more.1) (own_grows instance law.history more.0 y own) in
-          let told = history_is instance.base.place law.history held.locals law.tickets.merged in
-          EachLocal-set held.locals caller l l' (λ _ y. OwnSets instance law'.history y) mine.of_caller (λ d y at_d. grown y (held.own d y at_d))
-          (grown l' (own_sets instance law.history (scene_of instance state) held.locals caller l (queue_of law) mine.of_caller told (held.own caller l mine.of_caller) kind learnt.guard)) c x there_c);
+      own = subst (λ h. EachLocal locals' (λ _ x. OwnSetsHold instance h x.cells)) (sym more.1) (own_event instance law.history more.0 state state' event (queue_of law) makes held.own);
       sets = λ seat i view k view_at item. ⊎_elim
           (λ (e : (seat ≡ id) × (after ∷ [] ≡ view)). (
           let only = only_item after i k (ap (λ v. slice_get v i) e.1 ∙ item) in
@@ -152,19 +148,19 @@ sets_next instance s law caller l at known (Offer j) guard hold = hold
 sets_next instance s law caller l at known (LoadOffer k t) guard hold = hold
 sets_next instance s law caller l at known (ReadSet k t i) guard hold = notes_read instance s law.history (queue_of law) caller l at k t i known.sets guard hold
 
--- an event whose guard and whose word put are known teaches its seat so
-pub learns_of : (instance : Instance) (kind : Kind) (known : Known) (words : List ℕ) (word new : ℕ) → WordFits kind → word ≡ step_word instance kind known.local →
-    ((locals : List Local) (law : Lawful instance (record { words = words; locals = locals })) (l : Local) → slice_get locals known.local.number ≡ Some l → known.local ≡ shown l → NotesHold instance law.history known.noted →
-    IsTraced instance law.history known.accesses l → Sees instance (scene_of instance (record { words = words; locals = locals })) kind known l new (slice_index words word)) →
-    LearnsAnyway instance words kind known word new (known_after instance kind known (slice_index words word))
-learns_of instance kind known words word new fits at sees locals law l of_caller shows noted traced sets full =
+-- an event whose guard and whose word put are known in a state teaches its seat so there
+pub learns_there : (instance : Instance) (kind : Kind) (known : Known) (words : List ℕ) (word new : ℕ) → WordFits kind → word ≡ step_word instance kind known.local →
+    (locals : List Local) (law : Lawful instance (record { words = words; locals = locals })) (l : Local) → slice_get locals known.local.number ≡ Some l → known.local ≡ shown l → NotesHold instance law.history known.noted →
+    IsTraced instance law.history known.accesses l → SetNotesHold instance (record { words = words; locals = locals }) law.history known.sets → 0 < length instance.base.words →
+    Sees instance (scene_of instance (record { words = words; locals = locals })) kind known l new (slice_index words word) →
+    Learns instance (record { words = words; locals = locals }) law.history kind l word new (known_after instance kind known (slice_index words word))
+learns_there instance kind known words word new fits at locals law l of_caller shows noted traced sets full seen =
     let state : State = record { words = words; locals = locals } in
     let scene = scene_of instance state in
     let caller = known.local.number in
     let here : word ≡ step_word instance kind l = at ∙ ap (step_word instance kind) shows ∙ word_shown instance kind l in
     let found = slice_index words word in
     let same : found_by instance kind l words ≡ found = ap (slice_index words) (sym here) in
-    let seen = sees locals law l of_caller shows noted traced in
     record {
       guard = seen.guard;
       word_is = here;
@@ -177,6 +173,14 @@ learns_of instance kind known words word new fits at sees locals law l of_caller
       sets = subst (λ (n : ℕ). SetNotesHold instance state law.history (sets_after kind known n)) same (sets_next instance state law caller l of_caller known kind seen.guard sets);
       fits = fits;
     }
+
+-- and where they are known in each state, it does so in each
+pub learns_of : (instance : Instance) (kind : Kind) (known : Known) (words : List ℕ) (word new : ℕ) → WordFits kind → word ≡ step_word instance kind known.local →
+    ((locals : List Local) (law : Lawful instance (record { words = words; locals = locals })) (l : Local) → slice_get locals known.local.number ≡ Some l → known.local ≡ shown l → NotesHold instance law.history known.noted →
+    IsTraced instance law.history known.accesses l → Sees instance (scene_of instance (record { words = words; locals = locals })) kind known l new (slice_index words word)) →
+    LearnsAnyway instance words kind known word new (known_after instance kind known (slice_index words word))
+learns_of instance kind known words word new fits at sees locals law l of_caller shows noted traced sets own full =
+    learns_there instance kind known words word new fits at locals law l of_caller shows noted traced sets full (sees locals law l of_caller shows noted traced)
 
 -- a step whose guard and word the seat's shown local state tells teaches it so, whatever else is not shown
 pub learns_shown : (instance : Instance) (kind : Kind) (known : Known) (words : List ℕ) (word new : ℕ) → IsByShown kind → WordFits kind → Guard instance unseen kind known.local → word ≡ step_word instance kind known.local →
@@ -248,7 +252,7 @@ event_teaches instance kind s id known word new held view learns =
     let l = mine.local in
     let leaves = event_leaves instance kind s id known (known_after instance kind known found) word new held view learns in
     let state : State = record { words = s.words; locals = held.locals } in
-    let learnt = learns held.locals held.law l mine.of_caller mine.shows mine.notes mine.traced (held.sets id 0 (known ∷ []) known view refl) held.some in
+    let learnt = learns held.locals held.law l mine.of_caller mine.shows mine.notes mine.traced (held.sets id 0 (known ∷ []) known view refl) (held.own known.local.number l mine.of_caller) held.some in
     let told = told_holds instance kind state held.law known.local.number l mine.of_caller learnt.guard in
     let here : step_word instance kind l ≡ word = sym learnt.word_is in
     record {

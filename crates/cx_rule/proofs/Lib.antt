@@ -1,7 +1,6 @@
 pub mod ShownLaws
 pub mod Telling
 pub mod Notes
-
 pub mod Entries
 pub mod Traced
 pub mod Behind

@@ -1,5 +1,5 @@
 -- The rule holds of the table as it is opened.
-use Rattle.std.proofs.Common.{◌≡◌, ◌≢◌, ◌^◌, ◌<◌, ◌≤◌, inl, inr, ℕ, zero, suc, List, [], ◌∷◌, length, map, replicate, set, slice_index, refl, ap, sym, subst, ◌∙◌, arith, Some}
+use Rattle.std.proofs.Common.{◌≡◌, ◌≢◌, ◌^◌, ◌<◌, ◌≤◌, inl, inr, ℕ, zero, suc, List, [], ◌∷◌, length, map, set, slice_index, refl, ap, sym, subst, ◌∙◌, arith, Some}
 use Rattle.std.proofs.lemmas.List.FromFn.{length-map-range_with_len, get_or-map-range_with_len}
 use Rattle.std.proofs.lemmas.Bool.{cases_eq}
 use Rattle.std.proofs.lemmas.Option.{same_Some, slice_get_within, slice_get-get_or, get_or_from_slice_get, none-some}
@@ -13,7 +13,7 @@ use Rattle.cx_core.specs.declared.local.Local.{Local}
 use Rattle.cx_core.specs.History.{full_image}
 use Rattle.cx_core.specs.Lawful.{Lawful}
 use Rattle.cx_core.specs.Region.{place_of}
-use Rattle.cx_core.specs.State.{Instance, blank_cell, opening_local, opening_locals, opening_words}
+use Rattle.cx_core.specs.State.{Instance, opening_local, opening_locals, opening_words}
 use Rattle.cx_core.proofs.HistoryLemmas.{begins}
 use Rattle.cx_core.proofs.ListLemmas.{slice_get-set_same, slice_get-set_other}
 use Rattle.core_queue.specs.NotedSets.{SetNotesHold}
@@ -92,11 +92,6 @@ base_origin instance history at = record {
   words = λ i below. ap (λ ws. slice_index ws i) (sym (begins instance.step instance.base history)) ∙ ap (λ p. slice_index (full_image instance.step instance.base history p) i) (sym at);
 }
 
-replicate_item : {A : Type 0} (n j : ℕ) (x y : A) → slice_get (replicate n x) j ≡ Some y → x ≡ y
-replicate_item zero j x y at = absurd (none-some y at)
-replicate_item (suc n) zero x y at = same_Some x y at
-replicate_item (suc n) (suc j) x y at = replicate_item n j x y at
-
 -- the rule holds at the opening, where the first seat knows all callers
 pub opening_held : (instance : Instance) (limits : List ℕ) → 1 ≤ instance.callers → instance.callers ≤ 8 → instance.base.place ≤ 2 ^ 40 → place_of instance.base.words ≡ instance.base.place → 0 < length instance.base.words →
     RuleHolds instance (atomic.opening (opening_words instance.callers instance.base) [] (opening_view instance.callers instance.base.place limits))
@@ -123,8 +118,8 @@ opening_held instance limits one few place at_place full =
       own = λ c x there_c j cell t there named offer. (
           let within = slice_get_within all.locals c x there_c in
           let mine : (f c).local ≡ x = same_Some (f c).local x (sym (all.done c (omega (arith, within, all.law.shape.count))) ∙ there_c) in
-          let blank : blank_cell ≡ cell = replicate_item 16 j blank_cell cell (ap (λ (y : Local). slice_get y.cells j) mine ∙ there) in
-          absurd (none-some t (ap (λ (y : Cell). y.ticket) blank ∙ named)));
+          let blank = cell_blank j cell (ap (λ (y : Local). slice_get y.cells j) mine ∙ there) in
+          absurd (none-some t (sym (ap (λ (y : Cell). y.ticket) blank.1) ∙ named)));
       sets = λ seat i v known view_at item. (
           let first = only_view view v seat view_at in
           let at = mapped_at f instance.callers i known (ap (λ (w : List Known). slice_get w i) first.1 ∙ item) in

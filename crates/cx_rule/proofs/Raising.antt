@@ -115,7 +115,7 @@ module _ (lines : ℕ) (lawful : List ℕ → Type 0) (instance : Instance) (law
   -- A raise is learned by what its caller noted.
   pub learns_raise : (code : ℕ) (answers : List Answer) (read : Option (List ℕ × List ℕ)) (known : Known) (word : ℕ) → CanRaise instance code (op_in read) known.local → word ≡ dur_at →
       TellsAnswers lines lawful instance.base instance.step known (root_place_of instance.callers code) answers → TellsReads lines lawful instance.base instance.step known read → IsRaiseLearned instance code answers read known word
-  learns_raise code answers read known word can at tells reads words locals law l of_caller shows noted traced still some =
+  learns_raise code answers read known word can at tells reads words locals law l of_caller shows noted traced sets own some =
       let scene = scene_of instance (record { words = words; locals = locals }) in
       let place = root_place_of instance.callers code in
       let same : scene.history ≡ law.history = history_is instance.base.place law.history locals law.tickets.merged in
@@ -136,7 +136,7 @@ module _ (lines : ℕ) (lawful : List ℕ → Type 0) (instance : Instance) (law
             ∙ ap (λ (told : List Answer). answered_local instance code told (reads_at instance scene.history place (length l.answered + length told) (op_in read)) (shown l)) given;
         notes = noted;
         traced = record { first = traced.first; now = traced.now; origin = traced.origin; leads = traced.leads; held = λ h has. traced.held h has };
-        sets = still;
+        sets = sets;
         fits = tt;
       }
 
@@ -182,8 +182,8 @@ allows_raised instance code answers read known slots id word me one learn =
           let then = known_answered instance code told read known in
           let mine = held.each id 0 (known ∷ []) known view refl in
           let is : known'.local ≡ then.local =
-          (learn s.words held.locals held.law mine.local mine.of_caller mine.shows mine.notes mine.traced (held.sets id 0 (known ∷ []) known view refl) held.some).shows
-          ∙ sym (learnt s.words held.locals held.law mine.local mine.of_caller mine.shows mine.notes mine.traced (held.sets id 0 (known ∷ []) known view refl) held.some).shows in
+          (learn s.words held.locals held.law mine.local mine.of_caller mine.shows mine.notes mine.traced (held.sets id 0 (known ∷ []) known view refl) (held.own known.local.number mine.local mine.of_caller) held.some).shows
+          ∙ sym (learnt s.words held.locals held.law mine.local mine.of_caller mine.shows mine.notes mine.traced (held.sets id 0 (known ∷ []) known view refl) (held.own known.local.number mine.local mine.of_caller) held.some).shows in
           let leaves = event_leaves instance kind s id known then word put held view (learnt s.words) in
           record {
             knows = ap (λ (x : Local). the_me (record known { local = x })) is;

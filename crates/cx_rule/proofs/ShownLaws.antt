@@ -284,7 +284,7 @@ told_shown instance OpenFree l found told = told
 told_shown instance (WriteSet j i v) l found told = tt
 told_shown instance (Offer j) l found told = tt
 told_shown instance (LoadOffer k t) l found told = tt
-told_shown instance (ReadSet k t i) l found told = tt
+told_shown instance (ReadSet k t i) l found told = told
 
 -- what the lawful state says of a local state by itself, it says of what is shown of it
 pub lawful_shown : (instance : Instance) (l : Local) → IsLawfulLocal instance l → IsLawfulLocal instance (shown l)

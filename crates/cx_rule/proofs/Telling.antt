@@ -12,26 +12,23 @@ use Rattle.cx_core.specs.declared.local.Protection.{Protection}
 use Rattle.cx_core.specs.declared.local.Protection.TheVariants.{Unprotected, Stated, Confirmed}
 use Rattle.cx_core.specs.Events.{Guard, found_by}
 use Rattle.cx_core.specs.QueueEvents.{ShowsOpen, ShowsTicket, seen_word}
-use Rattle.cx_core.specs.Layout.{cell_count, cur_at, free_at, link_at, need_at}
+use Rattle.cx_core.specs.Layout.{cell_count, cur_at, free_at, link_at, need_at, set_at}
 use Rattle.cx_core.specs.Lawful.{Lawful, LinkWord}
 use Rattle.cx_core.specs.Lawful.LinkWord.{Never, Names}
 use Rattle.cx_core.specs.Merge.{IsLinked, scene_of}
 use Rattle.cx_core.specs.RingEvents.{Protects, need_word}
 use Rattle.cx_core.specs.State.{Instance, State}
 use Rattle.core_queue.proofs.CellLinks.{names_small}
-use Rattle.core_queue.proofs.Keeps.{linked_callers}
 use Rattle.core_queue.proofs.LinkLaws.{code_ticket}
+use Rattle.core_queue.proofs.LiveCells.{linked_callers, seen_shown}
 use Rattle.core_queue.proofs.QueueFrames.{queue_of}
+use Rattle.core_queue.proofs.SetNotes.{read_count}
 use Rattle.core_root.proofs.Unheld.{current_unheld}
 use Rattle.cx_core.proofs.Claims.{unheld_none}
 use Rattle.cx_core.proofs.Locals.{linked_below}
 use Rattle.cx_rule.specs.Told.{CurTold, LinkTold, LookTold, NamesTicket, Told}
 
 -- the slot that a guard speaks of was seen
-ticket_seen : (callers : ℕ) (seen : Option SeenSlot) (ticket cell : ℕ) → ShowsTicket callers seen ticket cell → (x : SeenSlot) × (seen ≡ Some x) × ShowsTicket callers (Some x) ticket cell
-ticket_seen callers None ticket cell shows = absurd shows
-ticket_seen callers (Some x) ticket cell shows = (x, refl, shows)
-
 open_seen : (callers : ℕ) (seen : Option SeenSlot) (ticket : ℕ) → ShowsOpen callers seen ticket → (x : SeenSlot) × (seen ≡ Some x) × (x.slot ≡ ticket % cell_count callers)
 open_seen callers None ticket shows = absurd shows
 open_seen callers (Some x) ticket shows = (x, refl, shows.0)
@@ -49,7 +46,7 @@ held_word instance s law t e live linked =
 pub cell_of_entry : (instance : Instance) (s : State) (law : Lawful instance s) (caller : ℕ) (l : Local) (t k i : ℕ) → slice_get s.locals caller ≡ Some l → Guard instance (scene_of instance s) (ReadCell t k i) l →
     slice_index s.words free_at ≤ t → (e : Entry) → IsLinked instance.base.place law.history t e → e.caller ≡ k / 16
 cell_of_entry instance s law caller l t k i at guard live e linked =
-    let shown = ticket_seen instance.callers l.seen_slot t k guard.2 in
+    let shown = seen_shown instance.callers l.seen_slot t k guard.2 in
     let x = shown.0 in
     let shows = shown.2 in
     let seen = law.cells.seen caller l at x shown.1 in
@@ -159,6 +156,13 @@ own_need instance s law caller l d at own =
     let number = (law.shape.each caller l at).number in
     ap (λ c. slice_index s.words (need_at c)) (own ∙ number) ∙ (law.ring.each caller l at).need
 
+-- word 0 of a set
+count_told : (instance : Instance) (s : State) (law : Lawful instance s) (caller : ℕ) (l : Local) (k t i : ℕ) → slice_get s.locals caller ≡ Some l → i ≡ 0 → Guard instance (scene_of instance s) (ReadSet k t i) l →
+    slice_index s.words (set_at instance.callers k i) ≤ 256
+count_told instance s law caller l k t i at first guard =
+    subst (λ n. slice_index s.words (set_at instance.callers k n) ≤ 256) (sym first)
+    (read_count instance s law.history (queue_of law) caller l at k t (subst (λ n. Guard instance (scene_of instance s) (ReadSet k t n) l) first guard))
+
 -- what a step tells of the word found
 pub told_holds : (instance : Instance) (kind : Kind) (s : State) (law : Lawful instance s) (caller : ℕ) (l : Local) → slice_get s.locals caller ≡ Some l → Guard instance (scene_of instance s) kind l →
     Told instance kind l (found_by instance kind l s.words)
@@ -188,4 +192,4 @@ told_holds instance OpenFree s law caller l at guard = (law.fronts.each caller l
 told_holds instance (WriteSet j i v) s law caller l at guard = tt
 told_holds instance (Offer j) s law caller l at guard = tt
 told_holds instance (LoadOffer k t) s law caller l at guard = tt
-told_holds instance (ReadSet k t i) s law caller l at guard = tt
+told_holds instance (ReadSet k t i) s law caller l at guard = λ first. count_told instance s law caller l k t i at first guard

@@ -7,15 +7,15 @@ use Rattle.cx_core.specs.Events.{Guard, local_after, new_word, step_word}
 use Rattle.cx_core.specs.Lawful.{Lawful}
 use Rattle.cx_core.specs.Merge.{scene_of}
 use Rattle.cx_core.specs.Shown.{shown}
-use Rattle.core_queue.specs.NotedSets.{SetNotesHold}
 use Rattle.cx_core.specs.State.{Instance, State}
+use Rattle.core_queue.specs.NotedSets.{OwnSetsHold, SetNotesHold}
 use Rattle.cx_rule.specs.declared.rule.Known.{Known}
 use Rattle.cx_rule.specs.Rule.{IsTraced, NotesHold}
 use Rattle.cx_rule.specs.Seats.{WordFits, known_after}
 
 -- An event of a caller with this local state is allowed in this state, is on this word and puts that one, and what the
--- caller's seat knows afterwards is so: it shows the local state after the event, what it notes is the history's, and its
--- accesses are those of the replica held exclusively.
+-- caller's seat knows afterwards is so: it shows the local state after the event, what it notes of entries and of write sets is the
+-- history's, and its accesses are those of the replica held exclusively.
 pub record Learns (instance : Instance) (s : State) (history : List Entry) (kind : Kind) (l : Local) (word new : ℕ) (after : Known) : Type 0 where
   pub guard : Guard instance (scene_of instance s) kind l
   pub word_is : word ≡ step_word instance kind l
@@ -30,7 +30,8 @@ pub record Learns (instance : Instance) (s : State) (history : List Entry) (kind
 abbrev pub LearnsAnyway : Instance → List ℕ → Kind → Known → ℕ → ℕ → Known → Type 0
 LearnsAnyway instance words kind known word new after =
     (locals : List Local) (law : Lawful instance (record { words = words; locals = locals })) (l : Local) → slice_get locals known.local.number ≡ Some l → known.local ≡ shown l →
-    NotesHold instance law.history known.noted → IsTraced instance law.history known.accesses l → SetNotesHold instance (record { words = words; locals = locals }) law.history known.sets → 0 < length instance.base.words → Learns instance (record { words = words; locals = locals }) law.history kind l word new after
+    NotesHold instance law.history known.noted → IsTraced instance law.history known.accesses l → SetNotesHold instance (record { words = words; locals = locals }) law.history known.sets →
+    OwnSetsHold instance law.history l.cells → 0 < length instance.base.words → Learns instance (record { words = words; locals = locals }) law.history kind l word new after
 
 -- what an event teaches, by the word found, of which its kind and the word put may depend on it
 abbrev pub LearnsBy : Instance → (ℕ → Kind) → Known → ℕ → (ℕ → ℕ) → Type 0

@@ -20,9 +20,8 @@ use Rattle.cx_core.specs.LawfulLocks.{FewRights}
 use Rattle.cx_core.specs.Merge.{IsLinked}
 use Rattle.cx_core.specs.Region.{place_of, slot_number}
 use Rattle.cx_core.specs.Shown.{shown}
-use Rattle.core_queue.specs.NotedSets.{SetNotesHold}
-use Rattle.core_queue.proofs.OwnSets.{OwnSets}
-use Rattle.cx_core.specs.State.{Instance}
+use Rattle.cx_core.specs.State.{EachLocal, Instance}
+use Rattle.core_queue.specs.NotedSets.{OwnSetsHold, SetNotesHold}
 use Rattle.cx_rule.specs.declared.rule.Known.{Known}
 use Rattle.cx_rule.specs.declared.rule.Noted.{Noted}
 use Rattle.cx_rule.specs.Fitting.{loads_of}
@@ -108,7 +107,8 @@ pub record RuleHolds (instance : Instance) (s : atomic.State ℕ (List Known)) :
   pub place_of : ℕ → ℕ × ℕ
   pub law : Lawful instance (record { words = s.words; locals = locals })
   pub each : (seat i : ℕ) (view : List Known) (known : Known) → get_elem? s.views seat ≡ some view → slice_get view i ≡ Some known → IsKnown instance law.history locals place_of seat i known
-  -- each own cell that is offered with its ticket has a write set of it
-  pub own : (caller : ℕ) (l : Local) → slice_get locals caller ≡ Some l → OwnSets instance law.history l
+  -- each cell that is offered with the ticket that it still has has a write set of it
+  pub own : EachLocal locals (λ _ l. OwnSetsHold instance law.history l.cells)
+  -- what is noted of write sets is so
   pub sets : (seat i : ℕ) (view : List Known) (known : Known) → get_elem? s.views seat ≡ some view → slice_get view i ≡ Some known → SetNotesHold instance (record { words = s.words; locals = locals }) law.history known.sets
   pub some : 0 < length instance.base.words

@@ -2,7 +2,7 @@
 use Rattle.std.specs.Prelude.{◌≡◌, ◌≢◌, ◌%◌, ◌<◌, ◌≤◌, ℕ, Some}
 use Rattle.cx_base.specs.Codes.{link_cell_of, link_ticket_of, root_replica_of}
 use Rattle.cx_core.specs.declared.kinds.Kind.{Kind}
-use Rattle.cx_core.specs.declared.kinds.Kind.TheVariants.{Link, Look, LoadFree, LoadCur, Publish, Confirm, Scan, OpenFree}
+use Rattle.cx_core.specs.declared.kinds.Kind.TheVariants.{Link, Look, LoadFree, LoadCur, Publish, Confirm, Scan, OpenFree, ReadSet}
 use Rattle.cx_core.specs.declared.local.Local.{Local}
 use Rattle.cx_core.specs.QueueEvents.{seen_word}
 use Rattle.cx_core.specs.Layout.{cell_count}
@@ -34,7 +34,7 @@ pub record CurTold (instance : Instance) (l : Local) (found : ℕ) : Type 0 wher
   pub most : l.seen_cur ≤ found
   pub apart : exclusive_on l ≡ Some (root_replica_of instance.callers found) → ⊥
 
--- FREE, LOW and CUR never fall, and the caller's own need is the one that it stated
+-- FREE, LOW and CUR never fall, the caller's own need is the one that it stated, and word 0 of a write set is the number of its pairs
 abbrev pub Told : Instance → Kind → Local → ℕ → Type 0
 Told instance (Link j) l found = LinkTold instance l found
 Told instance (Look s) l found = LookTold instance s l found
@@ -44,4 +44,5 @@ Told instance Publish l found = l.seen_cur ≤ found
 Told instance Confirm l found = l.seen_low ≤ found
 Told instance (Scan d) l found = d ≡ l.number → found ≡ need_word l.protection
 Told instance OpenFree l found = l.seen_free ≤ found
+Told instance (ReadSet k t i) l found = i ≡ 0 → found ≤ 256
 Told instance _ l found = Unit {0}

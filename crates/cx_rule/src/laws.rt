@@ -1,15 +1,44 @@
 //! The laws of the rule.
 
-ghost use Rattle.std.specs.Prelude.{◌≡◌, ℕ, [], ◌∷◌};
+ghost use Rattle.std.specs.Prelude.{◌≡◌, ℕ, List, Some, [], ◌∷◌, slice_get};
 ghost use mathlib.Core.Option.{some};
 ghost use lib.ListN.{get_elem?};
 ghost use Rattle.atomic_table.specs.Table.{State, keeps, stepped};
+ghost use Rattle.cx_core.specs.Base.{LawfulBase};
+ghost use Rattle.cx_core.specs.Events.{step_word};
+ghost use Rattle.cx_core.specs.QueueEvents.{cell_of};
+ghost use Rattle.cx_core.specs.SetEvents.{CanWriteSet, offer_of};
+ghost use Rattle.cx_core.specs.State.{Instance};
+ghost use Rattle.cx_core.specs.declared.kinds.Kind.TheVariants.{Offer};
 ghost use Rattle.cx_rule.specs.declared.rule.Known.{Known};
-ghost use Rattle.cx_rule.specs.Learns.{LearnsAnyway};
+ghost use Rattle.cx_rule.specs.Having.{FitsThere};
+ghost use Rattle.cx_rule.specs.Learns.{LearnsAnyway, LearnsBy};
+ghost use Rattle.cx_rule.specs.Offers.{TellsOffer};
 ghost use Rattle.cx_rule.specs.Rule.{RuleHolds};
+
+use cx_base::Object;
+use cx_core::Base;
 
 /// An event of the core, made by the seat of its caller, keeps the rule, of whatever kind it is: it has to be allowed in each lawful
 /// state that the seat may stand before, and there the seat has to show afterwards what the event makes.
 pub fn events_keep_the_rule()
     ensures { (instance : _) (kind : _) (s : State ℕ _) (seat : ℕ) (known after : Known) (word new : ℕ) → RuleHolds instance s → get_elem? s.views seat ≡ some (known ∷ []) → LearnsAnyway instance s.words kind known word new after → RuleHolds instance (stepped s word new seat [] (after ∷ []) keeps) }
+{}
+
+/// What is really there fits what a seat knows, and it stays lawful through each entry and each write set that the seat has: those that it
+/// read whole, and its caller's own.
+pub fn what_is_there_fits<O: Object>(object: &O, base: &Base)
+    requires { LawfulBase (O.line_count object.now) (O.lawful object.now) base.now }
+    ensures { (callers : ℕ) (s : State ℕ _) (seat i : ℕ) (view : _) (known : Known) (l : _) → let instance : Instance = record { callers = callers; base = base.now; step = O.step object.now; reads = O.only_reads object.now } in
+        (rule : RuleHolds instance s) → get_elem? s.views seat ≡ some view → slice_get view i ≡ Some known → slice_get rule.locals known.local.number ≡ Some l →
+        FitsThere (O.line_count object.now) (O.lawful object.now) base.now (O.step object.now) known l }
+{}
+
+/// A set that a caller wrote into the cell of its own entry may be offered, where whatever fits what its seat knows tells that the set is one
+/// of the entry's ticket.
+pub fn told_sets_may_be_offered<O: Object>(object: &O, base: &Base)
+    requires { LawfulBase (O.line_count object.now) (O.lawful object.now) base.now }
+    ensures { (callers j : ℕ) (known : Known) → let instance : Instance = record { callers = callers; base = base.now; step = O.step object.now; reads = O.only_reads object.now } in
+        CanWriteSet known.local j → TellsOffer (O.line_count object.now) (O.lawful object.now) base.now (O.step object.now) known j →
+        LearnsBy instance (λ _. Offer j) known (step_word instance (Offer j) known.local) (λ _. offer_of (cell_of known.local j).ticket (cell_of known.local j).offer) }
 {}

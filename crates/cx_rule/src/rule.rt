@@ -1,8 +1,8 @@
 //! The rule of the table: its words and the local states that its seats know are a lawful state of the core.
 
 use atomic_table::TableRule;
-use cx_base::{Items, Object};
 use core_queue::SetNoted;
+use cx_base::{Items, Object};
 use cx_core::{Base, Local};
 use std::marker::PhantomData;
 use std::snapshot::Snapshot;
@@ -16,8 +16,8 @@ pub struct Noted {
     pub word: u64,
 }
 
-/// What a seat knows of one caller: its local state, the words of entries that it read, and in order the loads (false) and
-/// stores (true) of words of the replica that it holds exclusively. It exists in proofs alone.
+/// What a seat knows of one caller: its local state, the words of entries that it read, in order the loads (false) and stores
+/// (true) of words of the replica that it holds exclusively, and the words of write sets that it read. It exists in proofs alone.
 #[derive(Drop)]
 pub struct Known {
     pub local: Local,
