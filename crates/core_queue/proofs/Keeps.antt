@@ -1,5 +1,5 @@
 -- Each kind of step keeps the parts on tickets, links, cells, fronts and the ring.
-use Rattle.std.proofs.Common.{◌≡◌, ◌+◌, ◌-◌, ◌*◌, ◌%◌, ◌==◌, ◌<◌, ◌≤◌, inl, inr, ℕ, Bool, cond, List, [], ◌∷◌, ◌++◌, length, set, slice_index, refl, sym, subst, arith, Some, length-append}
+use Rattle.std.proofs.Common.{◌≡◌, ◌+◌, ◌*◌, ◌%◌, ◌==◌, ◌<◌, ◌≤◌, inl, inr, ℕ, Bool, cond, List, [], ◌∷◌, ◌++◌, length, set, slice_index, refl, sym, subst, arith, Some, length-append}
 use Rattle.std.proofs.lemmas.Bool.{cases_Bool, eqb-true}
 use Rattle.std.proofs.lemmas.List.{append-nil}
 use Rattle.std.proofs.lemmas.Nat.{mod_below}

@@ -1,17 +1,14 @@
 -- What a live ticket's cell gives: its entry, and no other live ticket.
-use Rattle.std.proofs.Common.{◌≡◌, ◌+◌, ◌-◌, ◌*◌, ◌%◌, ◌<◌, ◌≤◌, inl, inr, ℕ, List, ◌∷◌, slice_index, refl, ap, sym, subst, ◌∙◌, arith, Option, Some, None}
+use Rattle.std.proofs.Common.{◌≡◌, ◌+◌, ◌*◌, ◌%◌, ◌<◌, ◌≤◌, inl, inr, ℕ, ◌∷◌, slice_index, refl, ap, sym, subst, ◌∙◌, arith, Some}
 use Rattle.std.proofs.lemmas.Bool.{cases_lt}
-use Rattle.std.proofs.lemmas.Nat.{mod-mul-add}
 use Rattle.std.specs.List.{slice_get}
-use Rattle.cx_base.specs.Codes.{link_cell_of, link_code_of}
+use Rattle.cx_base.specs.Codes.{link_cell_of}
 use Rattle.cx_core.specs.declared.entry.Entry.{Entry}
 use Rattle.cx_core.specs.declared.kinds.Kind.TheVariants.{ReadCell}
 use Rattle.cx_core.specs.declared.local.Local.{Local}
-use Rattle.cx_core.specs.declared.local.SeenSlot.{SeenSlot}
 use Rattle.cx_core.specs.Events.{Guard}
-use Rattle.cx_core.specs.QueueEvents.{ShowsTicket}
 use Rattle.cx_core.specs.Layout.{cell_count, cell_at, free_at, link_at}
-use Rattle.cx_core.specs.Lawful.{IsLive, Lawful}
+use Rattle.cx_core.specs.Lawful.{Lawful}
 use Rattle.cx_core.specs.Merge.{IsLinked, scene_of}
 use Rattle.cx_core.specs.State.{Instance, State}
 use Rattle.core_queue.proofs.CellLinks.{Taken, named_once, names_small}
@@ -19,7 +16,6 @@ use Rattle.core_queue.proofs.LiveCells.{held_cell, seen_shown}
 use Rattle.core_queue.proofs.QueueFrames.{queue_of}
 use Rattle.core_queue.proofs.Pigeonhole.{pigeonhole}
 use Rattle.core_queue.specs.Live.{HasLive, named_cell}
-use Rattle.core_queue.specs.Queue.{QueueLawful}
 
 -- two live tickets with the same cell are one
 pub live_apart : (instance : Instance) (s : State) (law : Lawful instance s) (t u : ℕ) (e f : Entry) → IsLinked instance.base.place law.history t e → IsLinked instance.base.place law.history u f →

@@ -1,6 +1,6 @@
 -- What was read of a set under a protection stays true, since no step changes the offer and the set of a live ticket that is offered. So
 -- what was read whole is a write set of its ticket.
-use Rattle.std.proofs.Common.{◌≡◌, ◌≢◌, ◌+◌, ◌-◌, ◌*◌, ◌%◌, ◌<◌, ◌≤◌, inl, inr, ℕ, zero, suc, List, [], ◌∷◌, ◌++◌, Option, length, max, set, slice_index, refl, ap, sym, subst, ◌∙◌, arith, Some, None}
+use Rattle.std.proofs.Common.{◌≡◌, ◌≢◌, ◌+◌, ◌-◌, ◌*◌, ◌<◌, ◌≤◌, inl, inr, ℕ, zero, suc, List, [], ◌∷◌, ◌++◌, Option, length, max, set, slice_index, refl, ap, sym, subst, ◌∙◌, arith, Some, None}
 use Rattle.std.proofs.lemmas.Bool.{cases_eq}
 use Rattle.std.proofs.lemmas.List.{get_or-set_other, get_or-set_same, set-get_or}
 use Rattle.std.proofs.lemmas.Option.{none-some, same_Some, slice_get_within}
@@ -15,8 +15,8 @@ use Rattle.cx_core.specs.declared.local.Local.{Local}
 use Rattle.cx_core.specs.declared.local.SeenOffer.{SeenOffer}
 use Rattle.cx_core.specs.Events.{Guard, Makes, words_after}
 use Rattle.cx_core.specs.History.{full_image}
-use Rattle.cx_core.specs.Layout.{cell_count, free_at, link_at, offer_at, set_at}
-use Rattle.cx_core.specs.Merge.{IsLinked, scene_of}
+use Rattle.cx_core.specs.Layout.{free_at, offer_at, set_at}
+use Rattle.cx_core.specs.Merge.{scene_of}
 use Rattle.cx_core.specs.RingEvents.{bound_in}
 use Rattle.cx_core.specs.SetEvents.{ShowsOffer}
 use Rattle.cx_core.specs.State.{Instance, State}
