@@ -18,7 +18,7 @@ use Rattle.cx_core.proofs.HistoryLemmas.{ObjectLaws, full_lawful, full_next}
 use Rattle.cx_rule.specs.declared.rule.Known.{Known}
 use Rattle.cx_rule.specs.declared.rule.Noted.{Noted}
 use Rattle.cx_rule.specs.Fitting.{Chain, Fits, Fitting, IsNoted, ReplayedTo, base_of, no_set, start, with_entry, with_set}
-use Rattle.cx_rule.specs.Having.{HadHold, Has}
+use Rattle.cx_rule.specs.Having.{IsOfHistory, Has}
 use Rattle.cx_rule.specs.Rule.{IsBehindNotes, IsEntryFrom, IsOrigin, NotesHold}
 
 -- entries by their callers' numbers in a lawful base are lawful
@@ -80,7 +80,7 @@ module _ (lines : ℕ) (lawful : List ℕ → Type 0) (instance : Instance) (law
       subst (λ t. IsLawfulEntry t e) there (are_lawful (ticket - instance.base.place) e linked.at)
 
   -- entries and sets that are the history's lead in order from a full image to full images
-  pub chain_on : (has : Has) → HadHold instance history has → (first : List ℕ) → IsFull instance history first → (place : ℕ) (now : List ℕ) → Chain instance.step has.entry has.set first place now →
+  pub chain_on : (has : Has) → IsOfHistory instance history has → (first : List ℕ) → IsFull instance history first → (place : ℕ) (now : List ℕ) → Chain instance.step has.entry has.set first place now →
       (instance.base.place ≤ place) × (place ≤ instance.base.place + length history) × (now ≡ full_image instance.step instance.base history place)
   chain_on has hold first origin place now (start _ _ at is) =
       (subst (λ q. instance.base.place ≤ q) (sym at) origin.from, subst (λ q. q ≤ instance.base.place + length history) (sym at) origin.to, is ∙ origin.full ∙ ap (full_image instance.step instance.base history) (sym at))
@@ -104,13 +104,13 @@ module _ (lines : ℕ) (lawful : List ℕ → Type 0) (instance : Instance) (law
       )
 
   -- noted entries alone
-  entries_hold : (notes : List Noted) → NotesHold instance history notes → HadHold instance history (record { entry = IsNoted notes; set = no_set })
-  entries_hold notes hold = record { entries = λ t e from noted. noted_linked notes t e hold from noted; sets = λ t pairs from none. absurd none }
+  entries_of_history : (notes : List Noted) → NotesHold instance history notes → IsOfHistory instance history (record { entry = IsNoted notes; set = no_set })
+  entries_of_history notes hold = record { entries = λ t e from noted. noted_linked notes t e hold from noted; sets = λ t pairs from none. absurd none }
 
   -- so they are the full image after their place
   pub chain_full : (notes : List Noted) → NotesHold instance history notes → (first : List ℕ) → IsOrigin instance history first → (place : ℕ) (now : List ℕ) → ReplayedTo instance.step notes first place now → IsFull instance history now × (place_of now ≡ place)
   chain_full notes hold first origin place now chain =
-      let r = chain_on (record { entry = IsNoted notes; set = no_set }) (entries_hold notes hold) first (origin_full first origin) place now chain in
+      let r = chain_on (record { entry = IsNoted notes; set = no_set }) (entries_of_history notes hold) first (origin_full first origin) place now chain in
       let at : place_of now ≡ place = ap place_of r.2 ∙ (full_at place r.0 r.1).at_place in (
         record {
           from = subst (λ q. instance.base.place ≤ q) (sym at) r.0;

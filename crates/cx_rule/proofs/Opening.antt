@@ -17,6 +17,7 @@ use Rattle.cx_core.specs.State.{Instance, opening_local, opening_locals, opening
 use Rattle.cx_core.proofs.HistoryLemmas.{begins}
 use Rattle.cx_core.proofs.ListLemmas.{slice_get-set_same, slice_get-set_other}
 use Rattle.core_queue.specs.NotedSets.{SetNotesHold}
+use Rattle.core_queue.proofs.Opening.{cell_blank}
 use Rattle.cx_rule.specs.declared.rule.Known.{Known}
 use Rattle.cx_rule.specs.Rule.{RuleHolds, IsKnown, IsOrigin}
 use Rattle.cx_rule.specs.Seats.{opening_known, opening_view}
