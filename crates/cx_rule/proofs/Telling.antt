@@ -1,5 +1,5 @@
 -- What the rule of the table says of the word that a step found.
-use Rattle.std.proofs.Common.{◌≡◌, ◌+◌, ◌-◌, ◌*◌, ◌/◌, ◌%◌, ◌<◌, ◌≤◌, ⊎_elim, inl, inr, ℕ, slice_index, refl, ap, sym, subst, ◌∙◌, arith, Option, Some, None}
+use Rattle.std.proofs.Common.{◌≡◌, ◌+◌, ◌-◌, ◌*◌, ◌/◌, ◌%◌, ◌<◌, ◌≤◌, inl, inr, ℕ, slice_index, refl, ap, sym, subst, ◌∙◌, arith, Option, Some, None}
 use Rattle.std.proofs.lemmas.Nat.{div-mul-add, mod-mul-add, mod_below}
 use Rattle.std.specs.List.{slice_get}
 use Rattle.cx_base.specs.Codes.{link_cell_of, link_code_of, link_ticket_of, root_replica_of}
@@ -11,7 +11,7 @@ use Rattle.cx_core.specs.declared.local.SeenSlot.{SeenSlot}
 use Rattle.cx_core.specs.declared.local.Protection.{Protection}
 use Rattle.cx_core.specs.declared.local.Protection.TheVariants.{Unprotected, Stated, Confirmed}
 use Rattle.cx_core.specs.Events.{Guard, found_by}
-use Rattle.cx_core.specs.QueueEvents.{ShowsOpen, ShowsTicket, seen_word}
+use Rattle.cx_core.specs.QueueEvents.{ShowsOpen, seen_word}
 use Rattle.cx_core.specs.Layout.{cell_count, cur_at, free_at, link_at, need_at, set_at}
 use Rattle.cx_core.specs.Lawful.{Lawful, LinkWord}
 use Rattle.cx_core.specs.Lawful.LinkWord.{Never, Names}
