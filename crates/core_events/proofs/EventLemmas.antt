@@ -11,7 +11,7 @@ use Rattle.core_events.specs.declared.events.Told.{Told}
 use Rattle.cx_core.specs.declared.entry.Base.{Base}
 use Rattle.cx_core.specs.declared.kinds.Event.{Event}
 use Rattle.cx_core.specs.declared.kinds.Kind.{Kind}
-use Rattle.cx_core.specs.declared.kinds.Kind.TheVariants.{WriteCell, Link, Look, ReadCell, LoadFree, TryExclusive, TryShared, BackOff, Downgrade, ReleaseExclusive, LoadWord, StoreWord, Persist, LoadCur, Publish, Raise, Retire, Protect, Confirm, Unprotect, CloseLow, Scan, OpenFree}
+use Rattle.cx_core.specs.declared.kinds.Kind.TheVariants.{WriteCell, Link, Look, ReadCell, LoadFree, TryExclusive, TryShared, BackOff, Downgrade, ReleaseExclusive, LoadWord, StoreWord, Persist, LoadCur, Publish, Raise, Retire, Protect, Confirm, Unprotect, CloseLow, Scan, OpenFree, WriteSet, Offer, LoadOffer, ReadSet}
 use Rattle.cx_core.specs.declared.local.HeldDowngraded.{HeldDowngraded}
 use Rattle.cx_core.specs.declared.local.Linked.{Linked}
 use Rattle.cx_core.specs.declared.local.Local.{Local}
@@ -56,6 +56,10 @@ next-number instance scene Unprotect l found = refl
 next-number instance scene (CloseLow target) l found = refl
 next-number instance scene (Scan d) l found = refl
 next-number instance scene OpenFree l found = refl
+next-number instance scene (WriteSet j i v) l found = refl
+next-number instance scene (Offer j) l found = refl
+next-number instance scene (LoadOffer k t) l found = refl
+next-number instance scene (ReadSet k t i) l found = refl
 
 -- each own entry after a step is from before, or was linked by it
 abbrev OwnFrom : Local → Local → Type 0
@@ -105,6 +109,10 @@ own_next instance scene Unprotect l found guard = λ _ _ at. inl at
 own_next instance scene (CloseLow target) l found guard = λ _ _ at. inl at
 own_next instance scene (Scan d) l found guard = λ _ _ at. inl at
 own_next instance scene OpenFree l found guard = λ _ _ at. inl at
+own_next instance scene (WriteSet j i v) l found guard = λ _ _ at. inl at
+own_next instance scene (Offer j) l found guard = λ _ _ at. inl at
+own_next instance scene (LoadOffer k t) l found guard = λ _ _ at. inl at
+own_next instance scene (ReadSet k t i) l found guard = λ _ _ at. inl at
 
 -- what is downgraded after a step was so before, or is the full image after its place
 code_none : (callers : ℕ) → HasCode callers None
@@ -148,6 +156,10 @@ code_next instance scene Unprotect l found small guard has = has
 code_next instance scene (CloseLow target) l found small guard has = has
 code_next instance scene (Scan d) l found small guard has = has
 code_next instance scene OpenFree l found small guard has = has
+code_next instance scene (WriteSet j i v) l found small guard has = has
+code_next instance scene (Offer j) l found small guard has = has
+code_next instance scene (LoadOffer k t) l found small guard has = has
+code_next instance scene (ReadSet k t i) l found small guard has = has
 
 -- what a step keeps of its caller's number and own list, and of what is downgraded
 pub record Follows (callers : ℕ) (l l' : Local) : Type 0 where

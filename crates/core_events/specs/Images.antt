@@ -1,11 +1,16 @@
 -- What the executable full images stand on.
-use Rattle.std.specs.Prelude.{◌≡◌, ◌<◌, ℕ, List, Some, length, slice_get}
+use Rattle.std.specs.Prelude.{◌≡◌, ◌^◌, ◌<◌, ℕ, List, Some, length, slice_get}
 use Rattle.cx_core.specs.declared.entry.Entry.{Entry}
+use Rattle.cx_core.specs.declared.local.Linked.{Linked}
 use Rattle.cx_core.specs.Region.{object_part, region_words}
 
 -- the entries are of callers that there may be
 abbrev pub OfCallers : List Entry → Type 0
 OfCallers entries = (i : ℕ) (entry : Entry) → slice_get entries i ≡ Some entry → entry.caller < 8
+
+-- linked entries have tickets below 2^40
+abbrev pub HasTickets : List Linked → Type 0
+HasTickets own = (i : ℕ) (x : Linked) → slice_get own i ≡ Some x → x.ticket < 2 ^ 40
 
 -- the words of a region with a lawful object part
 pub record IsRegion (lines : ℕ) (lawful : List ℕ → Type 0) (region : List ℕ) : Type 0 where

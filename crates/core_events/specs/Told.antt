@@ -5,10 +5,12 @@ use Rattle.core_events.specs.declared.replies.Acknowledged.{Acknowledged}
 use Rattle.core_events.specs.declared.events.Told.{Told}
 use Rattle.cx_base.specs.Codes.{root_place_of}
 use Rattle.cx_core.specs.declared.kinds.Kind.{Kind}
-use Rattle.cx_core.specs.declared.kinds.Kind.TheVariants.{Downgrade, ReleaseExclusive, Raise}
+use Rattle.cx_core.specs.declared.kinds.Kind.TheVariants.{Downgrade, ReleaseExclusive, Raise, Offer}
 use Rattle.cx_core.specs.declared.local.Local.{Local}
 use Rattle.cx_core.specs.Events.{TellsFull}
+use Rattle.cx_core.specs.QueueEvents.{cell_of}
 use Rattle.cx_core.specs.RootEvents.{CanRaise, answers_below, reads_at, unanswered}
+use Rattle.cx_core.specs.SetEvents.{CanOffer, offer_of}
 use Rattle.cx_core.specs.State.{Instance, Scene}
 
 -- of a raise, whether it is allowed, and what it then answers
@@ -20,9 +22,15 @@ TellsAnswers (Some answers) instance scene code read l =
     × (option_to_list answers.entry ≡ below)
     × (option_to_list answers.read ≡ reads_at instance scene.history (root_place_of instance.callers code) (length l.answered + length below) read)
 
+-- of an offer, the offer word where it is allowed
+abbrev pub TellsOffer : Option ℕ → Instance → Scene → ℕ → Local → Type 0
+TellsOffer None instance scene j l = ¬ CanOffer instance scene.history l j
+TellsOffer (Some word) instance scene j l = CanOffer instance scene.history l j × (word ≡ offer_of (cell_of l j).ticket (cell_of l j).offer)
+
 -- of a kind that gives an exclusive right up, whether the words held are the full image after their place
 abbrev pub Tells : Told → Instance → Scene → Kind → Local → Type 0
 Tells told instance scene (Downgrade r) l = TellsFull told.full instance scene (Downgrade r) l
 Tells told instance scene (ReleaseExclusive r) l = TellsFull told.full instance scene (ReleaseExclusive r) l
 Tells told instance scene (Raise code read) l = TellsAnswers told.answers instance scene code read l
+Tells told instance scene (Offer j) l = TellsOffer told.offer instance scene j l
 Tells told instance scene _ l = Unit {0}

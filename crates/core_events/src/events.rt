@@ -3,7 +3,7 @@
 
 ghost use Rattle.std.specs.Prelude.{◌≡◌, ◌^◌, ◌<◌, ◌≤◌, ◌↔◌, length, slice_get, IsTrue, IfOk, OnErr, None, Some};
 ghost use Rattle.core_events.specs.Codes.{HasCode};
-ghost use Rattle.core_events.specs.Told.{Tells, TellsAnswers};
+ghost use Rattle.core_events.specs.Told.{Tells, TellsAnswers, TellsOffer};
 ghost use Rattle.cx_core.specs.Base.{LawfulBase};
 ghost use Rattle.cx_core.specs.Events.{Applied, Did};
 ghost use Rattle.cx_core.specs.History.{IsFull};
@@ -14,16 +14,17 @@ ghost use Rattle.cx_core.specs.State.{EachScene, instance_of};
 
 use crate::images::is_full;
 use crate::replies::{Acknowledged, replies_of};
+use crate::sets::offered_word;
 use crate::state::CoreState;
-use crate::{lock_events, queue_events, region_events, ring_events, root_events};
+use crate::{lock_events, queue_events, region_events, ring_events, root_events, set_events};
 use cx_base::Object;
 use cx_core::{Base, Event, Kind, Local, OBJECT_START};
 use std::alloc::{AllocError, Global};
 
 /// Makes an event of the core: one step of its caller. Ok(false) comes exactly where the event's guard fails, and the
 /// state is as it was. `Err` is want of memory, and leaves the state as it was. The time grows with the history only where
-/// an exclusive right is given up or a raise answers, since the object's steps are then made from the base on, and with
-/// the lists that a step appends to.
+/// an exclusive right is given up, a raise answers or a set is offered, since the object's steps are then made from the base
+/// on, and with the lists that a step appends to or looks through.
 pub fn apply<O: Object>(
     alloc: Global,
     object: &O,
@@ -53,11 +54,12 @@ pub fn apply<O: Object>(
 }
 
 /// What a step is told of the history: of a kind that gives an exclusive right up, whether the words held are the full image
-/// after their place, and of a raise what it answers, where it is allowed.
+/// after their place; of a raise what it answers, and of an offer the offer word, where these are allowed.
 #[derive(Drop)]
 pub(crate) struct Told {
     full: bool,
     answers: Option<Acknowledged>,
+    offer: Option<u64>,
 }
 
 /// A step of a caller with this local state, which is told what it has to know of the history. `Ok(false)` comes exactly
@@ -118,6 +120,10 @@ fn step(
         Kind::CloseLow { target } => Ok(ring_events::close_low(callers, words, local, target)),
         Kind::Scan { d } => Ok(ring_events::scan(callers, words, local, d)),
         Kind::OpenFree => Ok(ring_events::open_free(callers, words, local)),
+        Kind::WriteSet { j, i, v } => Ok(set_events::write_set(callers, words, local, j, i, v)),
+        Kind::Offer { j } => Ok(set_events::offer(callers, words, local, j, told.offer)),
+        Kind::LoadOffer { k, t } => Ok(set_events::load_offer(callers, words, local, k, t)),
+        Kind::ReadSet { k, t, i } => Ok(set_events::read_set(callers, words, local, k, t, i)),
     }
 }
 
@@ -141,6 +147,12 @@ fn tells<O: Object>(
         Kind::Raise { code, read } => Ok(Told {
             full: false,
             answers: answers_of(alloc, object, state, caller, code, &read)?,
+            offer: None,
+        }),
+        Kind::Offer { j } => Ok(Told {
+            full: false,
+            answers: None,
+            offer: offer_of(alloc, object, state, caller, j)?,
         }),
         _ => Ok(only_full(false)),
     }
@@ -148,11 +160,12 @@ fn tells<O: Object>(
 
 /// What a step is told that answers nothing.
 fn only_full(full: bool) -> Told
-    ensures { result ≡ record { full = full; answers = None } }
+    ensures { result ≡ record { full = full; answers = None; offer = None } }
 {
     Told {
         full,
         answers: None,
+        offer: None,
     }
 }
 
@@ -180,6 +193,22 @@ fn answers_of<O: Object>(
         code,
         read,
     )
+}
+
+/// The word with which a caller offers the set in its cell, where it may. `Err` is want of memory.
+fn offer_of<O: Object>(
+    alloc: Global,
+    object: &O,
+    state: &CoreState,
+    caller: usize,
+    j: u64,
+) -> Result<Option<u64>, AllocError>
+    requires base { LawfulBase (O.line_count object.now) (O.lawful object.now) state.now.base }
+    requires caller { caller < length state.now.state.locals }
+    ensures { let instance = instance_of state.now (O.step object.now) (O.only_reads object.now) in IfOk result (λ told. (l : Local) → slice_get state.now.state.locals caller ≡ Some l → TellsOffer told instance (scene_of instance state.now.state) j l) }
+{
+    let local = &state.locals[caller];
+    offered_word(alloc, object, &state.base, &state.locals, local, j)
 }
 
 /// Whether the words that a caller holds exclusively are the full image after their place. `Err` is want of memory.

@@ -4,7 +4,7 @@ ghost use Rattle.std.specs.Prelude.{◌≡◌, ◌+◌, ◌-◌, ◌^◌, ◌<�
 ghost use Rattle.cx_base.specs.Memory.{Words};
 ghost use Rattle.cx_base.specs.VecMemory.{words_of};
 ghost use Rattle.cx_core.specs.Base.{LawfulBase};
-ghost use Rattle.cx_core.specs.History.{IsFull, image_from};
+ghost use Rattle.cx_core.specs.History.{IsFull, full_image, image_from};
 ghost use Rattle.core_events.specs.Images.{IsRegion, OfCallers};
 ghost use Rattle.cx_core.specs.Merge.{all_own, entry_at, history_of};
 ghost use Rattle.cx_core.specs.Region.{place_of};
@@ -117,6 +117,24 @@ fn image_after<O: Object>(
         step_on(object, &mut memory, entry);
     }
     Ok(memory.into_words())
+}
+
+/// The full image after a place. `Err` is want of memory.
+#[tactic(auto, unfolding(cx_core::specs::History::full_image))]
+pub(crate) fn full_image<O: Object>(
+    alloc: Global,
+    object: &O,
+    base: &Base,
+    history: &[Entry],
+    place: u64,
+) -> Result<Vec<u64>, AllocError>
+    requires base { LawfulBase (O.line_count object.now) (O.lawful object.now) base.now }
+    requires few { base.now.place + length history.now ≤ 2 ^ 40 }
+    requires callers { OfCallers history.now }
+    ensures { IfOk result (λ image. image.items ≡ full_image (O.step object.now) base.now history.now place) }
+{
+    let count = place.saturating_sub(base.place).min(history.len() as u64) as usize;
+    image_after(alloc, object, base, &history[..count])
 }
 
 /// Does the full step of an entry on a region in a memory without a limit.

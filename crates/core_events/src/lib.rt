@@ -9,6 +9,8 @@ mod region_events;
 mod replies;
 mod ring_events;
 mod root_events;
+mod set_events;
+mod sets;
 mod state;
 
 pub use events::apply;

@@ -7,3 +7,4 @@ pub mod queue;
 pub mod regions;
 pub mod ring;
 pub mod root;
+pub mod sets;
