@@ -1,7 +1,7 @@
 //! What rows say of a board: of its shared words, and of what a caller knows and did.
 
 use crate::board::{Board, Row};
-use cx_core::{Local, Protection, Scan, SeenNeed, WonCode};
+use cx_core::{Local, Protection, Scan, SeenNeed, SeenOffer, WonCode};
 
 /// The words of a region.
 pub const REGION: usize = 1680;
@@ -31,6 +31,10 @@ pub enum Fact {
     Links([u64; 4]),
     /// A word of the cells by its place.
     CellWord(usize, u64),
+    /// The offer word of a cell.
+    OfferWord(usize, u64),
+    /// A word of the sets by its place.
+    SetWord(usize, u64),
     /// FREE.
     Free(u64),
     /// LOW, FREE, and the needs of two callers.
@@ -58,6 +62,8 @@ pub enum Known {
     Tried([u64; 4]),
     /// What its rights are on, exclusive, shared, a passer's mark and downgraded, and the place of the last one.
     Rights([Option<u64>; 5]),
+    /// The offer word that it loaded last.
+    Offer(Option<SeenOffer>),
     /// The words loaded from the replica that it holds shared, by address.
     Loaded(&'static [(u64, u64)]),
     /// The dirty addresses of the replica that it holds exclusively, and its words.
@@ -85,6 +91,8 @@ pub fn is_so(board: &Board, fact: &Fact) -> bool {
         }
         Fact::Links(words) => begins_with(board.state.link(), words),
         Fact::CellWord(at, word) => has_word(board.state.cell(), *at, *word),
+        Fact::OfferWord(cell, word) => has_word(board.state.offer(), *cell, *word),
+        Fact::SetWord(at, word) => has_word(board.state.set(), *at, *word),
         Fact::Free(free) => board.state.free() == *free,
         Fact::Ring(words) => is_ring(board, words),
         Fact::Root(codes, wins) => is_root(board, codes, wins),
@@ -158,6 +166,7 @@ fn is_known(local: &Local, known: &Known) -> bool {
         Known::Ticket(ticket) => first_ticket(local) == *ticket,
         Known::Tried(tried) => tried_by(local) == *tried,
         Known::Rights(rights) => rights_of(local) == *rights,
+        Known::Offer(seen) => local.seen_offer == *seen,
         Known::Loaded(words) => has_loaded(local, words),
         Known::Stored(dirty, words) => has_stored(local, dirty, words),
         Known::Refused(replicas) => local.refused.as_slice() == *replicas,

@@ -23,3 +23,5 @@ mod ring;
 mod root;
 #[cfg(test)]
 mod scripts;
+#[cfg(test)]
+mod sets;
