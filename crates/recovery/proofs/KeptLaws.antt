@@ -12,6 +12,7 @@ use Rattle.cx_core.specs.declared.local.Local.{Local}
 use Rattle.cx_core.specs.Base.{LawfulBase}
 use Rattle.cx_core.specs.Crash.{IsKept, image_at, recovered}
 use Rattle.cx_core.specs.History.{full_image}
+use Rattle.cx_core.specs.Lawful.{Lawful}
 use Rattle.cx_core.specs.Region.{object_part, region_words}
 use Rattle.cx_core.specs.State.{Instance, State}
 use Rattle.cx_core.proofs.HistoryLemmas.{ObjectLaws}
@@ -25,10 +26,10 @@ use Rattle.core_runs.proofs.WholeLaws.{crash_kept, entries_of}
 use Rattle.recovery.specs.declared.recovering.ImageFault.{ImageFault}
 use Rattle.recovery.specs.declared.recovering.ImageFault.TheVariants.{Size, Root, Version, Place, Body, Memory}
 use Rattle.recovery.specs.Crashes.{IsLeftOf}
-use Rattle.recovery.specs.Images.{image_size, image_word, region_of, region_start, words_from}
-use Rattle.recovery.specs.Kept.{IsKeptBy, IsOpened, crash_of}
+use Rattle.recovery.specs.Images.{image_word, region_of, region_start, words_from}
+use Rattle.recovery.specs.Kept.{IsKeptAt, IsKeptBy, IsOpened, MayBeLeftOf, crash_of}
 use Rattle.recovery.specs.Recovery.{IsAccepted, IsFaultOf, IsRecovered, recovered_from}
-use Rattle.recovery.proofs.Leaving.{left_crash, size_is}
+use Rattle.recovery.proofs.Leaving.{left_crash}
 use Rattle.recovery.proofs.Shown.{behind}
 
 -- a part of words that pairs give is the words that they give there
@@ -53,83 +54,96 @@ no_fault version lawful image (Place root found) ok is = absurd (is.2.3 ok.regio
 no_fault version lawful image Body ok is = absurd (is.2.2 ok.region.body)
 no_fault version lawful image Memory ok is = refl
 
-module _ {O : Type 0} (line_count : O → ℕ) (lawful : O → List ℕ → Type 0) (step : O → List ℕ → List ℕ → List ℕ × List ℕ) (reads : O → List ℕ → Bool) (version : O → ℕ)
-    (laws : (o : O) → ObjectLaws (line_count o) (lawful o) (step o)) (shape : (o : O) (words : List ℕ) → lawful o words → slice_index words 0 ≡ version o)
-    (table : Running O) (seats : List Seated) (r : Remains) (choice : ℕ) (image : Image)
-    (opened : IsOpened line_count lawful table) (leaves : Leaves table (instance_at table step reads) seats r) (left : IsLeftOf r choice image) where
-  abbrev instance : Instance
-  instance = instance_at table step reads
-
-  abbrev closed : State
-  closed = record { words = leaves.words; locals = leaves.whole }
-
+-- what a lawful state may leave
+module _ (lines : ℕ) (lawful : List ℕ → Type 0) (version : ℕ) (instance : Instance) (laws : ObjectLaws lines lawful instance.step)
+    (shape : (words : List ℕ) → lawful words → slice_index words 0 ≡ version) (base : LawfulBase lines lawful instance.base) (s : State) (law : Lawful instance s)
+    (image : Image) (left : MayBeLeftOf instance lines s image) where
   abbrev region : ℕ
-  region = length table.base.words
+  region = length instance.base.words
 
-  -- what is recovered from the image is what the core's definitions recover
-  same_callers : image.callers ≡ table.callers
-  same_callers = left.callers ∙ leaves.callers
-
-  same_lines : image.lines ≡ line_count table.object
-  same_lines = left.lines ∙ leaves.lines ∙ opened.lines
+  -- it has the words of all replicas
+  count_is : image.count ≡ region * (2 * instance.callers)
+  count_is = sym (length-map-range_with_len (image_word image.pairs) 0 image.count) ∙ left.crash.long
 
   same_length : region_words image.lines ≡ region
-  same_length = ap region_words same_lines ∙ sym opened.base.size.long
+  same_length = ap region_words left.lines ∙ sym base.size.long
 
   abbrev replica : ℕ
-  replica = root_replica_of table.callers image.root
+  replica = root_replica_of instance.callers image.root
 
-  small : replica < 2 * table.callers
-  small = mod_below image.root (2 * table.callers) (omega (arith, leaves.state.shape.some))
+  small : replica < 2 * instance.callers
+  small = mod_below image.root (2 * instance.callers) (omega (arith, law.shape.some))
 
+  -- what is recovered from the image is what the core's definitions recover
   same_region : region_of image ≡ (recovered instance (crash_of image)).words
   same_region =
       let start : region_start image ≡ image_at instance replica 0 =
-      ap (λ n. n * root_replica_of image.callers image.root) same_length ∙ ap (λ c. region * root_replica_of c image.root) same_callers ∙ sym (add-zero (region * replica)) in
-      let within : image_at instance replica 0 + region ≤ image.count =
-      omega (arith, replica_within table.callers region replica small, size_is line_count lawful step reads table seats r choice image opened leaves left) in
+      ap (λ n. n * root_replica_of image.callers image.root) same_length ∙ ap (λ c. region * root_replica_of c image.root) left.callers ∙ sym (add-zero (region * replica)) in
+      let within : image_at instance replica 0 + region ≤ image.count = omega (arith, replica_within instance.callers region replica small, count_is) in
       ap (λ a. words_from image.pairs a (region_words image.lines)) start
       ∙ ap (words_from image.pairs (image_at instance replica 0)) same_length
       ∙ sym (part_from image.pairs image.count (image_at instance replica 0) region within)
 
-  same_base : recovered_from image ≡ recovered instance (crash_of image)
-  same_base =
-      let place : root_place_of image.callers image.root ≡ root_place_of table.callers image.root = ap (λ c. root_place_of c image.root) same_callers in
-      λ i. record { place = place i; words = same_region i }
+  same_place : root_place_of image.callers image.root ≡ root_place_of instance.callers image.root
+  same_place = ap (λ c. root_place_of c image.root) left.callers
 
-  kept : IsKept instance leaves.state.history closed (recovered_from image)
-  kept = subst (IsKept instance leaves.state.history closed) (sym same_base)
-      (crash_kept instance closed leaves.state (crash_of image) (left_crash line_count lawful step reads table seats r choice image opened leaves left))
+  kept : IsKept instance law.history s (recovered_from image)
+  kept = subst (IsKept instance law.history s) (λ i. record { place = sym same_place i; words = sym same_region i }) (crash_kept instance s law (crash_of image) left.crash)
 
-  again : LawfulBase (line_count table.object) (lawful table.object) (recovered_from image) × ((recovered_from image).words ≡ full_image instance.step instance.base leaves.state.history (recovered_from image).place)
-  again = kept_lawful (line_count table.object) (lawful table.object) instance leaves.state.history closed (recovered_from image) (laws table.object) opened.base
-      (entries_of instance closed leaves.state opened.base.numbers) leaves.state.tickets.below kept
+  again : LawfulBase lines lawful (recovered_from image) × ((recovered_from image).words ≡ full_image instance.step instance.base law.history (recovered_from image).place)
+  again = kept_lawful lines lawful instance law.history s (recovered_from image) laws base (entries_of instance s law base.numbers) law.tickets.below kept
 
-  pub accepted : IsAccepted (version table.object) (lawful table.object) image
+  accepted : IsAccepted version lawful image
   accepted =
-      let base = again.0 in
+      let next = again.0 in
       record {
-        size = left.count ∙ ap (λ n. image_size n r.lines) (sym left.callers) ∙ ap (image_size image.callers) (sym left.lines);
-        root = base.place_within;
-        region = record { format = shape table.object (object_part (region_of image)) base.object; at_place = base.at_place; body = record { results = base.results; object = base.object } };
+        size = count_is ∙ ap (λ n. n * (2 * instance.callers)) (sym same_length) ∙ ap (λ c. region_words image.lines * (2 * c)) (sym left.callers);
+        root = next.place_within;
+        region = record { format = shape (object_part (region_of image)) next.object; at_place = next.at_place; body = record { results = next.results; object = next.object } };
       }
 
-  pub kept_by : IsKeptBy line_count lawful step table seats r choice (recovered_from image)
-  kept_by = record {
-    place = ap (λ c. root_place_of c image.root) same_callers ∙ ap (root_place_of table.callers) left.root;
-    from = kept.from;
-    to = subst (λ (es : List Entry). (recovered_from image).place ≤ table.base.place + length es) leaves.history kept.to;
-    words = again.1 ∙ ap (λ (es : List Entry). full_image instance.step instance.base es (recovered_from image).place) leaves.history;
+  -- what recovery answers
+  pub accepts : (answer : Result Base ImageFault) → MatchResult answer (IsRecovered version lawful image) (IsFaultOf version lawful image) →
+      MatchResult answer (IsKeptAt lines lawful instance law.history s image.root) (λ fault. fault ≡ Memory)
+  accepts (Ok found) is = subst (IsKeptAt lines lawful instance law.history s image.root) (sym is.is) (record { place = same_place; words = again.1; kept = kept; again = again.0 })
+  accepts (Err fault) is = no_fault version lawful image fault accepted is
+
+-- what a closed table leaves by choice
+module _ {O : Type 0} (line_count : O → ℕ) (lawful : O → List ℕ → Type 0) (step : O → List ℕ → List ℕ → List ℕ × List ℕ) (reads : O → List ℕ → Bool) (version : O → ℕ)
+    (laws : (o : O) → ObjectLaws (line_count o) (lawful o) (step o)) (shape : (o : O) (words : List ℕ) → lawful o words → slice_index words 0 ≡ version o)
+    (table : Running O) (seats : List Seated) (r : Remains) (choice : ℕ) (image : Image)
+    (opened : IsOpened line_count lawful table) (leaves : Leaves table (instance_at table step reads) seats r) (left : IsLeftOf r choice image) where
+  abbrev closed : State
+  closed = record { words = leaves.words; locals = leaves.whole }
+
+  may_be_left : MayBeLeftOf (instance_at table step reads) (line_count table.object) closed image
+  may_be_left = record {
+    callers = left.callers ∙ leaves.callers;
+    lines = left.lines ∙ leaves.lines ∙ opened.lines;
+    crash = left_crash line_count lawful step reads table seats r choice image opened leaves left;
+  }
+
+  by_choice : (base : Base) → IsKeptAt (line_count table.object) (lawful table.object) (instance_at table step reads) leaves.state.history closed image.root base →
+      IsKeptBy line_count lawful step table seats r choice base
+  by_choice base is = record {
+    place = is.place ∙ ap (root_place_of table.callers) left.root;
+    from = is.kept.from;
+    to = subst (λ (es : List Entry). base.place ≤ table.base.place + length es) leaves.history is.kept.to;
+    words = is.words ∙ ap (λ (es : List Entry). full_image (step table.object) table.base es base.place) leaves.history;
     answered = λ c l at i x told. (
         let b = behind leaves.whole c l (ap (λ ls. slice_get ls c) leaves.shows ∙ at) in
-        kept.answered c b.0 b.1 i x (ap (λ (y : Local). slice_get y.answered i) b.2 ∙ told));
+        is.kept.answered c b.0 b.1 i x (ap (λ (y : Local). slice_get y.answered i) b.2 ∙ told));
     reads = λ c l at i x told. (
         let b = behind leaves.whole c l (ap (λ ls. slice_get ls c) leaves.shows ∙ at) in
-        kept.reads c b.0 b.1 i x (ap (λ (y : Local). slice_get y.seen_reads i) b.2 ∙ told));
-    again = again.0;
+        is.kept.reads c b.0 b.1 i x (ap (λ (y : Local). slice_get y.seen_reads i) b.2 ∙ told));
+    again = is.again;
   }
+
+  abbrev found : (answer : Result Base ImageFault) → MatchResult answer (IsRecovered (version table.object) (lawful table.object) image) (IsFaultOf (version table.object) (lawful table.object) image) →
+      MatchResult answer (IsKeptAt (line_count table.object) (lawful table.object) (instance_at table step reads) leaves.state.history closed image.root) (λ fault. fault ≡ Memory)
+  found = accepts (line_count table.object) (lawful table.object) (version table.object) (instance_at table step reads) (laws table.object) (shape table.object) opened.base closed leaves.state image may_be_left
 
   pub recovers : (answer : Result Base ImageFault) → MatchResult answer (IsRecovered (version table.object) (lawful table.object) image) (IsFaultOf (version table.object) (lawful table.object) image) →
       MatchResult answer (IsKeptBy line_count lawful step table seats r choice) (λ fault. fault ≡ Memory)
-  recovers (Ok base) is = subst (IsKeptBy line_count lawful step table seats r choice) (sym is.is) kept_by
-  recovers (Err fault) is = no_fault (version table.object) (lawful table.object) image fault accepted is
+  recovers (Ok base) is = by_choice base (found (Ok base) is)
+  recovers (Err fault) is = found (Err fault) is

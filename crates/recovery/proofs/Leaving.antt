@@ -49,7 +49,7 @@ module _ {O : Type 0} (line_count : O → ℕ) (lawful : O → List ℕ → Type
   region = length table.base.words
 
   -- the image has the words of all replicas
-  pub size_is : image.count ≡ region * (2 * table.callers)
+  size_is : image.count ≡ region * (2 * table.callers)
   size_is =
       left.count
       ∙ ap (λ n. image_size n r.lines) leaves.callers

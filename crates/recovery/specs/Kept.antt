@@ -2,13 +2,14 @@
 use Rattle.std.specs.Prelude.{◌≡◌, ◌+◌, ◌<◌, ◌≤◌, ℕ, List, Some, length, slice_get}
 use Rattle.cx_base.specs.Codes.{root_place_of}
 use Rattle.cx_core.specs.declared.entry.Base.{Base}
+use Rattle.cx_core.specs.declared.entry.Entry.{Entry}
 use Rattle.cx_core.specs.declared.entry.Image.{Image}
 use Rattle.cx_core.specs.declared.local.Answer.{Answer}
 use Rattle.cx_core.specs.declared.local.SeenRead.{SeenRead}
 use Rattle.cx_core.specs.Base.{LawfulBase}
-use Rattle.cx_core.specs.Crash.{CrashImage}
+use Rattle.cx_core.specs.Crash.{CrashImage, IsCrashImage, IsKept}
 use Rattle.cx_core.specs.History.{full_image}
-use Rattle.cx_core.specs.State.{EachLocal}
+use Rattle.cx_core.specs.State.{EachLocal, Instance, State}
 use Rattle.cx_rule.specs.Running.{Running}
 use Rattle.cx_rule.specs.Seats.{Seated}
 use Rattle.cx_table.specs.declared.remains.Remains.{Remains}
@@ -19,6 +20,20 @@ use Rattle.recovery.specs.Images.{words_from}
 -- an image as the core's definitions see one: its root, and all its words
 abbrev pub crash_of : Image → CrashImage
 crash_of image = record { root = image.root; words = words_from image.pairs 0 image.count }
+
+-- an image may be what a loss of power leaves of a state: it is of as many callers, for an object of so many lines, and a crash image
+pub record MayBeLeftOf (instance : Instance) (line_count : ℕ) (s : State) (image : Image) : Type 0 where
+  pub callers : image.callers ≡ instance.callers
+  pub lines : image.lines ≡ line_count
+  pub crash : IsCrashImage instance s (crash_of image)
+
+-- What is recovered after a loss of power of a state with this history, by the root that was left: the full image after the root's
+-- place, which is at or above DUR's and each answer's. It is a lawful base.
+pub record IsKeptAt (lines : ℕ) (lawful : List ℕ → Type 0) (instance : Instance) (history : List Entry) (s : State) (root : ℕ) (base : Base) : Type 0 where
+  pub place : base.place ≡ root_place_of instance.callers root
+  pub words : base.words ≡ full_image instance.step instance.base history base.place
+  pub kept : IsKept instance history s base
+  pub again : LawfulBase lines lawful base
 
 -- a table is of its object's lines, which are 64 to 16,384, and was opened from a lawful base
 pub record IsOpened {O : Type 0} (line_count : O → ℕ) (lawful : O → List ℕ → Type 0) (table : Running O) : Type 0 where

@@ -1,18 +1,35 @@
-//! What a loss of power leaves of a closed table is a crash image of the state that was closed, and recovers. Each law is the
-//! contract of a function that does nothing.
+//! What a loss of power leaves of a lawful state recovers, and so does what it leaves of a closed table, which is a crash image of the
+//! state that was closed. Each law is the contract of a function that does nothing.
 
 ghost use Rattle.std.specs.Prelude.{◌≡◌, ℕ, List, MatchResult};
+ghost use Rattle.cx_core.specs.Base.{LawfulBase};
 ghost use Rattle.cx_core.specs.Crash.{IsCrashImage};
+ghost use Rattle.cx_core.specs.Lawful.{Lawful};
+ghost use Rattle.cx_core.specs.State.{Instance, State};
 ghost use Rattle.cx_rule.specs.Running.{Running, instance_at};
 ghost use Rattle.cx_rule.specs.Seats.{Seated};
 ghost use Rattle.cx_table.specs.Remains.{Leaves};
 ghost use Rattle.recovery.specs.Crashes.{IsLeftOf, IsWhole};
 ghost use Rattle.recovery.specs.Images.{IsReadable};
-ghost use Rattle.recovery.specs.Kept.{IsKeptBy, IsOpened, crash_of};
+ghost use Rattle.recovery.specs.Kept.{IsKeptAt, IsKeptBy, IsOpened, MayBeLeftOf, crash_of};
 ghost use Rattle.recovery.specs.Recovery.{IsFaultOf, IsRecovered};
 ghost use Rattle.recovery.specs.declared.recovering.ImageFault.TheVariants.{Memory};
 
 use cx_base::Object;
+
+/// Whatever a loss of power leaves of a lawful state, recovery answers no refusal: with any code of the chain as root, and any number
+/// for each word that is dirty. What it gives is the full image of the history after the root's place, at or above DUR's and each
+/// answer's.
+pub fn crash_images_are_accepted<O: Object>()
+    ensures { (object : O) (callers : ℕ) (base : _) (s : State) (image : _) (answer : _) →
+        let instance : Instance = record { callers = callers; base = base; step = O.step object; reads = O.only_reads object } in
+        LawfulBase (O.line_count object) (O.lawful object) base → (law : Lawful instance s) →
+        MayBeLeftOf instance (O.line_count object) s image →
+        MatchResult answer
+        (IsRecovered (O.version_number object) (O.lawful object) image)
+        (IsFaultOf (O.version_number object) (O.lawful object) image) →
+        MatchResult answer (IsKeptAt (O.line_count object) (O.lawful object) instance law.history s image.root) (λ fault. fault ≡ Memory) }
+{}
 
 /// A closed table leaves all that a crash image is made of, and what is left of it may be read for its object.
 pub fn closed_tables_are_whole<O: Object>()

@@ -8,5 +8,8 @@ mod region;
 
 pub use crash::crash_image;
 pub use cx_core::Image;
-pub use laws::{closed_tables_are_whole, closed_tables_recover, crash_images_are_left};
+pub use laws::{
+    closed_tables_are_whole, closed_tables_recover, crash_images_are_accepted,
+    crash_images_are_left,
+};
 pub use recovering::{ImageFault, recover};

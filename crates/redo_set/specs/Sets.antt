@@ -1,0 +1,26 @@
+-- Write sets as words, as they lie in a cell: word 0 is the number of pairs, words 2m + 1 and 2m + 2 are the address and the value of pair m.
+use Rattle.std.specs.Prelude.{◌≡◌, ◌+◌, ◌*◌, ◌<◌, ◌≤◌, ℕ, List, length, slice_index, slice_set}
+use Rattle.cx_core.specs.WriteSet.{stored}
+
+-- room for 256 pairs, and no more of them
+pub record IsSet (set : List ℕ) : Type 0 where
+  pub long : length set ≡ 513
+  pub few : slice_index set 0 ≤ 256
+
+-- a set with one pair more, behind the others
+abbrev pub with_pair : ℕ → ℕ → List ℕ → List ℕ
+with_pair at v set = slice_set (slice_set (slice_set set (2 * slice_index set 0 + 1) at) (2 * slice_index set 0 + 2) v) 0 (slice_index set 0 + 1)
+
+-- the words after all pairs of a set were stored over them in order
+unfoldable pub put_over : List ℕ → List ℕ → List ℕ
+put_over set words = stored (slice_index set 0) set words
+
+-- the words after so many pairs of a set, from the first one on, were stored over them in order
+pub record IsFrontOver (set before now : List ℕ) : Type 0 where
+  pub count : ℕ
+  pub some : count ≤ slice_index set 0
+  pub is : now ≡ stored count set before
+
+-- each address of a set is that of one of so many words
+abbrev pub AreWithin : ℕ → List ℕ → Type 0
+AreWithin size set = (m : ℕ) → m < slice_index set 0 → slice_index set (2 * m + 1) < size
