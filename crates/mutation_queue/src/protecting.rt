@@ -31,6 +31,7 @@ pub fn protect<O: Object>(
     requires none { IsUnprotected seat.old.known.local.protection }
     ensures allowed { OnOk result (¬ IsAtLimit seat.old.known.local) }
     ensures protected { EndsProtecting shared.now.callers place seat.old seat.new result }
+    ensures low { seat.old.known.local.seen_low ≤ seat.new.known.local.seen_low }
     ensures halted { OnErr result (IsAtLimit seat.new.known.local) }
     ensures rest { but_protected seat.new ≡ but_protected seat.old }
     ensures steps { seat.new.known.local.steps ≤ seat.old.known.local.steps + 3 }
