@@ -1,28 +1,31 @@
 -- What a step of a copy does to the seat.
-use Rattle.std.proofs.Common.{false, true, cond, nat_lt, IfSome, ◌≡◌, ◌+◌, ◌<◌, ℕ, Bool, All, List, [], ◌∷◌, ◌++◌, length, refl, ap, sym, subst, ◌∙◌, append-nil, Option, Some, None, Result, Ok, Err, IfOk, OnErr, OnOk}
+use Rattle.std.proofs.Common.{false, true, cond, nat_lt, IfSome, IsErrAnd, inl, inr, arith, ◌≡◌, ◌+◌, ◌*◌, ◌<◌, ◌≤◌, ◌⊎◌, ℕ, Bool, All, List, [], ◌∷◌, ◌++◌, length, refl, ap, sym, subst, ◌∙◌, append-nil, Option, Some, None, Result, Ok, Err, IfOk, OnErr, OnOk}
+use Rattle.std.proofs.lemmas.Bool.{cases_lt, false≢true}
 use Rattle.std.specs.Option.{option_map}
 use Rattle.std.specs.Result.{result_ok}
 use Rattle.cx_core.specs.declared.kinds.Kind.TheVariants.{LoadWord, StoreWord, TryShared}
 use Rattle.cx_core.specs.declared.local.HeldExclusive.{HeldExclusive}
 use Rattle.cx_core.specs.declared.local.HeldShared.{HeldShared}
 use Rattle.cx_core.specs.declared.local.Local.{Local}
+use Rattle.cx_core.specs.Layout.{max_word}
 use Rattle.cx_core.specs.LockEvents.{exclusive_mark, passing, shared_by}
 use Rattle.cx_core.specs.Region.{region_words}
 use Rattle.cx_core.specs.RegionEvents.{loaded_into, stored_into}
 use Rattle.cx_core.specs.Rights.{held_dirty}
+use Rattle.cx_core.specs.State.{Instance}
 use Rattle.cx_rule.specs.declared.rule.Known.{Known}
 use Rattle.cx_rule.specs.Fitting.{Fitting, SomeFits}
 use Rattle.cx_rule.specs.Running.{IsSeatOf, Running, instance_at}
-use Rattle.cx_rule.specs.Seats.{Seated, known_after}
+use Rattle.cx_rule.specs.Seats.{IsAtLimit, IsWithinLimit, Seated, known_after}
 use Rattle.cx_rule.specs.Steps.{Halts, Steps}
 use Rattle.cx_table.specs.Right.{Right}
 use Rattle.cx_table.specs.Runs.{Runs, loads_from, no_step, one_more_step}
 use Rattle.cx_table.specs.Tokens.{IsExclusiveOf, IsSharedOf, TriedShared}
-use Rattle.replica.specs.Copies.{HoldsBoth, beside_copy, but_loads, known_compared}
+use Rattle.replica.specs.Copies.{EndsRuns, HoldsBoth, LoadsAtMost, LoadsFewer, SomeDiffers, StoresAsMany, beside_copy, but_loads, known_compared, stores_in}
 use Rattle.replica.specs.Held.{IsHeld, but_words}
 use Rattle.replica.specs.Laws.{shared_held}
 use Rattle.replica.proofs.Access.{beside, dirty_stored, replica_but_words, unstored}
-use Rattle.replica.proofs.LineLoads.{IsRunOf, longer_run, no_run}
+use Rattle.replica.proofs.LineLoads.{Counts, IsRunOf, longer_run, no_run, one_store}
 
 unloaded_all : (r i found : ℕ) (o : Option HeldShared) → option_map but_loads (option_map (loaded_into r i found) o) ≡ option_map but_loads o
 unloaded_all r i found None = refl
@@ -166,3 +169,56 @@ module _ {O : Type 0} (lines : ℕ) (r : Running O) (step : O → List ℕ → L
         };
         shared = shared_held lines r lawful after source was.sized s.seat tried.2 fits;
       }
+
+-- ---- how many steps a copy makes
+
+-- what holds of every error holds of a result that is one
+pub at_err : {A E : Type 0} (Q : E → Type 0) (r : Result A E) (P : Result A E → Type 0) → IsErrAnd r Q → ((e : E) → P (Err e)) → P r
+at_err Q (Ok a) P h x = absurd h
+at_err Q (Err e) P h x = x e
+
+-- a load was refused, before or after another
+pub refused : (n : ℕ) (first mid last : Seated) → n < 2 → Counts n first.known mid.known → last ≡ mid → (last.known.local.steps < first.known.local.steps + 2) × StoresAsMany first.known last.known
+refused n first mid last few one same =
+    subst (λ (s : Seated). (s.known.local.steps < first.known.local.steps + 2) × StoresAsMany first.known s.known) (sym same) (let a = one.0 in (omega (arith, a, few), one.1))
+
+-- one run, and then another or none
+pub runs_end : (n : ℕ) (first mid last : Seated) (made : Bool) → Counts n first.known mid.known → mid.known.local.limit ≡ first.known.local.limit → (made ≡ true → Counts n mid.known last.known) → (made ≡ false → last ≡ mid) → (made ≡ false → mid.known.local.limit < mid.known.local.steps + n) →
+    EndsRuns (2 * n) first.known last.known made
+runs_end n first mid last true one limit made none short =
+    let two = made refl in
+    let a = one.0 in
+    let b = two.0 in
+    record { stores = two.1 ∙ one.1; steps = λ is. omega (arith, a, b); short = λ is. absurd (false≢true (sym is)) }
+runs_end n first mid last false one limit made none short =
+    let few = short refl in
+    let a = one.0 in
+    record { stores = ap (λ (s : Seated). stores_in s.known.accesses) (none refl) ∙ one.1; steps = λ is. absurd (false≢true is); short = λ is. omega (arith, a, few, limit) }
+
+-- where the limit does not leave both runs, it leaves fewer steps than both take
+pub left_of_runs : (n : ℕ) (first mid last : Seated) → EndsRuns n first.known mid.known false → beside_copy last ≡ beside_copy first → StoresAsMany mid.known last.known → IsWithinLimit last.known.local → last.known.local.steps ≤ max_word →
+    (last.known.local.steps < first.known.local.steps + n) × StoresAsMany first.known last.known
+left_of_runs n first mid last runs same stores within small =
+    let short = runs.short refl in
+    let limit : last.known.local.limit ≡ first.known.local.limit = ap (λ (s : Seated). s.known.local.limit) same in
+    let most : last.known.local.steps ≤ last.known.local.limit = elim (cases_lt last.known.local.limit max_word) [ inl few ↦ within few | inr none ↦ omega (arith, none, small) ] in
+    (omega (arith, short, limit, most), stores ∙ runs.stores)
+
+-- loads are no stores
+pub loads_most : (n : ℕ) (k k' : Known) → Counts n k k' → LoadsAtMost n k k'
+loads_most n k k' one = (let a = one.0 in let b = one.1 in omega (arith, a, b))
+
+pub loads_fewer : (n : ℕ) (k k' : Known) → (k'.local.steps < k.local.steps + n) × StoresAsMany k k' → LoadsFewer n k k'
+loads_fewer n k k' one = (let a = one.0 in let b = one.1 in omega (arith, a, b))
+
+pub loads_on : (m n l : ℕ) (k k' k'' : Known) → m + n ≡ l → LoadsAtMost m k k' → LoadsAtMost n k' k'' → LoadsAtMost l k k''
+loads_on m n l k k' k'' all one two = omega (arith, all, one, two)
+
+-- a store is counted apart
+pub store_counts : (instance : Instance) (h at v : ℕ) (k : Known) → LoadsAtMost 0 k (known_after instance (StoreWord h at v) k 0)
+store_counts instance h at v k = (let one = one_store k.accesses at v in omega (arith, one))
+
+-- where the rest of a copy came short, the whole did
+pub short_on : (m n l region : ℕ) (k k' k'' : Known) → m + n ≤ l → LoadsAtMost m k k' → LoadsFewer n k' k'' ⊎ SomeDiffers region k'' → LoadsFewer l k k'' ⊎ SomeDiffers region k''
+short_on m n l region k k' k'' all one (inl fewer) = inl (omega (arith, all, one, fewer))
+short_on m n l region k k' k'' all one (inr differs) = inr differs

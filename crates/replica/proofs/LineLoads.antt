@@ -16,7 +16,7 @@ use Rattle.cx_rule.specs.declared.rule.Known.{Known}
 use Rattle.cx_rule.specs.Fitting.{loaded_of, loads_of, word_noted}
 use Rattle.cx_rule.specs.Seats.{known_after}
 use Rattle.cx_rule.proofs.Copying.{here_or, or_there}
-use Rattle.replica.specs.Copies.{AreSeen, IsSeen, known_compared, read_notes}
+use Rattle.replica.specs.Copies.{AreSeen, IsSeen, StoresAsMany, known_compared, read_notes, stores_in}
 
 -- notes say the same of every word but these
 abbrev pub SameBut : (ℕ → Type 0) → List Note → List Note → Type 0
@@ -53,6 +53,35 @@ still_shared (Some h) r at v = refl
 -- what is noted of the replica held exclusively after a load
 abbrev with_load : Bool → List Note → ℕ → ℕ → List Note
 with_load b accesses at v = cond b (accesses ++ (false, at, v) ∷ []) accesses
+
+-- ---- how many steps are made, and how many words stored
+
+stores_more : (accesses : List Note) (stores : Bool) (at v : ℕ) → stores_in (accesses ++ (stores, at, v) ∷ []) ≡ stores_in accesses + cond stores 1 0
+stores_more [] stores at v = omega arith
+stores_more ((s, a, w) ∷ accesses) stores at v = (let rest = stores_more accesses stores at v in omega (arith, rest))
+
+-- one word more is stored
+pub one_store : (accesses : List Note) (at v : ℕ) → stores_in (accesses ++ (true, at, v) ∷ []) ≡ stores_in accesses + 1
+one_store accesses at v = stores_more accesses true at v
+
+load_stores : (b : Bool) (accesses : List Note) (at v : ℕ) → stores_in (with_load b accesses at v) ≡ stores_in accesses
+load_stores true accesses at v = (let e = stores_more accesses false at v in omega (arith, e))
+load_stores false accesses at v = refl
+
+-- so many steps at most, and no store
+abbrev pub Counts : ℕ → Known → Known → Type 0
+Counts n k k' = (k'.local.steps ≤ k.local.steps + n) × StoresAsMany k k'
+
+pub load_counts : (instance : Instance) (r at v : ℕ) (k : Known) → Counts 1 k (known_after instance (LoadWord r at false) k v)
+load_counts instance r at v k = (omega arith, load_stores (is_at r (exclusive_on k.local)) k.accesses at v)
+
+pub counts_on : (m n l : ℕ) (k k' k'' : Known) → m + n ≡ l → Counts m k k' → Counts n k' k'' → Counts l k k''
+counts_on m n l k k' k'' all one two = (let a = one.0 in let b = two.0 in (omega (arith, all, a, b), two.1 ∙ one.1))
+
+pub compared_counts : (instance : Instance) (h s at u v : ℕ) (k : Known) → Counts 2 k (known_compared instance h s at u v k)
+compared_counts instance h s at u v k =
+    let mid = known_after instance (LoadWord h at false) k u in
+    counts_on 1 1 2 k mid (known_compared instance h s at u v k) refl (load_counts instance h at u k) (load_counts instance s at v mid)
 
 -- ---- what loads leave
 
@@ -186,9 +215,10 @@ IsIn from n i = (from ≤ i) × (i < from + n)
 pub record IsRunOf (r from : ℕ) (words : List ℕ) (k k' : Known) : Type 0 where
   pub loaded : AreLoaded (IsIn from (length words)) k k'
   pub each : (i : ℕ) → i < length words → IsLoadOf r (from + i) (slice_index words i) k k'
+  pub count : Counts (length words) k k'
 
 pub no_run : (r from : ℕ) (k : Known) → IsRunOf r from [] k k
-no_run r from k = record { loaded = no_load (IsIn from 0) k; each = λ i below. absurd (omega (arith, below)) }
+no_run r from k = record { loaded = no_load (IsIn from 0) k; each = λ i below. absurd (omega (arith, below)); count = (omega arith, refl) }
 
 pub longer_run : (instance : Instance) (r from found : ℕ) (words : List ℕ) (k k' : Known) → IsRunOf r from words k k' → IsRunOf r from (words ++ found ∷ []) k (known_after instance (LoadWord r (from + length words) false) k' found)
 longer_run instance r from found words k k' run =
@@ -201,6 +231,7 @@ longer_run instance r from found words k k' run =
           (λ i x. (x.0, (let below = x.1 in omega (arith, long, below))))
           (λ i x. (omega (arith, x), omega (arith, long, x)))
           run.loaded last;
+      count = counts_on (length words) 1 (length (words ++ found ∷ [])) k k' k'' (sym long) run.count (load_counts instance r at found k');
       each = λ i below. elim (cases_eq i (length words)) [
         | inl e ↦ subst (λ j. IsLoadOf r (from + j) (slice_index (words ++ found ∷ []) j) k k'') (sym e)
             (subst (λ v. IsLoadOf r at v k k'') (sym (get_or_push words found 0 (length words) refl))

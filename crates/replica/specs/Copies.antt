@@ -1,5 +1,5 @@
 -- A replica held shared that is copied over one held exclusively.
-use Rattle.std.specs.Prelude.{◌≡◌, ◌≢◌, ◌+◌, ◌<◌, ◌≤◌, ◌⊎◌, ℕ, false, List, [], length, slice_index, Some, None}
+use Rattle.std.specs.Prelude.{◌≡◌, ◌≢◌, ◌+◌, ◌<◌, ◌≤◌, ◌⊎◌, ℕ, Bool, IsTrue, false, if◌then◌else◌, List, [], ◌∷◌, length, slice_index, Some, None, Result, Ok, Err}
 use Rattle.std.specs.List.{Contains}
 use Rattle.std.specs.Option.{option_map}
 use Rattle.cx_base.specs.Noted.{Note, NotesLead}
@@ -77,3 +77,46 @@ pub record IsCopiedTo (n region : ℕ) (before now : Known) : Type 0 where
 -- a copy goes on from one word to another, whenever it began
 abbrev pub CopiesOn : ℕ → ℕ → Known → Known → Type 0
 CopiesOn n m before after = (region : ℕ) (first : Known) → m ≤ region → IsCopiedTo n region first before → IsCopiedTo m region first after
+
+-- ---- the steps of a copy
+
+-- how many of the accesses noted are stores
+abbrev pub stores_in : List Note → ℕ
+stores_in [] = 0
+stores_in ((stores, at, word) ∷ accesses) = (if stores then 1 else 0) + stores_in accesses
+
+-- no word was stored
+abbrev pub StoresAsMany : Known → Known → Type 0
+StoresAsMany before after = stores_in after.accesses ≡ stores_in before.accesses
+
+-- Words are loaded by so many steps at most, and where the limit ends it, by fewer.
+abbrev pub EndsLoads : {A E : Type 0} → ℕ → Known → Known → Result A E → Type 0
+EndsLoads n before after (Ok x) = (after.local.steps ≤ before.local.steps + n) × StoresAsMany before after
+EndsLoads n before after (Err e) = (after.local.steps < before.local.steps + n) × StoresAsMany before after
+
+-- The same of words that are loaded by one call each, where the limit leaves so many steps.
+pub record EndsRuns (n : ℕ) (before after : Known) (made : Bool) : Type 0 where
+  pub stores : StoresAsMany before after
+  pub steps : IsTrue made → after.local.steps ≤ before.local.steps + n
+  pub short : made ≡ false → before.local.limit < before.local.steps + n
+
+-- some word of the region was loaded of both, and differs
+pub record SomeDiffers (region : ℕ) (known : Known) : Type 0 where
+  pub at : ℕ
+  pub within : at < region
+  pub held : ℕ
+  pub source : ℕ
+  pub apart : held ≢ source
+  pub seen : IsSeen at held source known
+
+-- beside one for each word stored, so many steps were made at most, or fewer
+abbrev pub LoadsAtMost : ℕ → Known → Known → Type 0
+LoadsAtMost n before after = after.local.steps + stores_in before.accesses ≤ before.local.steps + n + stores_in after.accesses
+
+abbrev pub LoadsFewer : ℕ → Known → Known → Type 0
+LoadsFewer n before after = after.local.steps + stores_in before.accesses < before.local.steps + n + stores_in after.accesses
+
+-- A copy makes so many loads at most. Where the limit ends it, it made fewer, or a word that differs is left to store.
+abbrev pub EndsCopy : {A E : Type 0} → ℕ → ℕ → Known → Known → Result A E → Type 0
+EndsCopy n region before after (Ok x) = LoadsAtMost n before after
+EndsCopy n region before after (Err e) = LoadsFewer n before after ⊎ SomeDiffers region after

@@ -1,12 +1,21 @@
 -- A replica held exclusively whose stored words are persisted.
-use Rattle.std.specs.Prelude.{◌≡◌, ℕ, []}
+use Rattle.std.specs.Prelude.{◌≡◌, ◌<◌, ℕ, [], length, Result, Ok, Err}
 use Rattle.cx_core.specs.Rights.{held_dirty}
-use Rattle.cx_rule.specs.Seats.{Seated}
+use Rattle.cx_rule.specs.Seats.{IsAtLimit, Seated}
 use Rattle.replica.specs.Held.{beside_held}
 
 -- no word is dirty
 abbrev pub IsFlushed : Seated → Type 0
 IsFlushed seat = held_dirty seat.known.local.exclusive ≡ []
+
+-- the limit came while a word was dirty
+pub record HaltsFlushing (seat : Seated) : Type 0 where
+  pub dirty : 0 < length (held_dirty seat.known.local.exclusive)
+  pub limit : IsAtLimit seat.known.local
+
+abbrev pub EndsFlushing : {A E : Type 0} → Seated → Result A E → Type 0
+EndsFlushing seat (Ok x) = IsFlushed seat
+EndsFlushing seat (Err e) = HaltsFlushing seat
 
 -- words were persisted: beside what is dirty and the steps nothing is changed
 pub record Persists (replica : ℕ) (before after : Seated) : Type 0 where

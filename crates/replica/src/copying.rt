@@ -1,13 +1,13 @@
 //! A replica held shared is copied over one held exclusively.
 
-ghost use Rattle.std.specs.Prelude.{◌≡◌, ◌+◌, ◌%◌, ◌<◌, ◌≤◌, ℕ, IfOk, IsTrue, OnErr, OnOk, length};
+ghost use Rattle.std.specs.Prelude.{◌≡◌, ◌+◌, ◌*◌, ◌%◌, ◌<◌, ◌≤◌, ℕ, IfOk, IsTrue, OnErr, OnOk, length};
 ghost use Rattle.std.specs.List.{Contains};
 ghost use Rattle.cx_core.specs.declared.kinds.Kind.TheVariants.{StoreWord};
 ghost use Rattle.cx_core.specs.Region.{region_words};
 ghost use Rattle.cx_rule.specs.Fitting.{AgreeTo, AreEqual, loaded_of};
 ghost use Rattle.cx_rule.specs.Running.{IsSeatOf, instance_at};
 ghost use Rattle.cx_rule.specs.Seats.{IsAtLimit, known_after};
-ghost use Rattle.replica.specs.Copies.{AreSeen, CopiesOn, DirtiesDiffering, HoldsBoth, KeepsLoaded, beside_copy, known_compared, without_shared};
+ghost use Rattle.replica.specs.Copies.{AreSeen, CopiesOn, DirtiesDiffering, EndsCopy, EndsLoads, EndsRuns, HoldsBoth, KeepsLoaded, beside_copy, known_compared, without_shared};
 ghost use Rattle.replica.specs.Held.{IsHeld};
 ghost use Rattle.replica.specs.Replays.{IsImage, noted_place};
 
@@ -27,7 +27,10 @@ const PIECE: usize = LINE * PIECE_LINES;
 
 /// Copies a replica held shared over one held exclusively, piece by piece, and stores only the words that differ. Then whatever
 /// fits the one is what fits the other, and each word that became dirty differed, so it lies in a line that differed. It gives
-/// their place. `Halt` comes only where the seat's steps equal its limit.
+/// their place. Both rights stand afterwards. What was stored is no replay, by which alone the replica would be the image after its
+/// place: so the exclusive right is given up, or entries are replayed, after the source was given back by `Shared::release_copied`,
+/// as `renew_from` does. It makes two steps for each word at most, and one for each word stored. `Halt` comes exactly where a
+/// further word is to be loaded, or one that differs to be stored, and the seat's steps equal its limit.
 pub fn copy_from<O: Object>(
     shared: &Shared<O>,
     seat: &mut CallerSeat,
@@ -41,6 +44,7 @@ pub fn copy_from<O: Object>(
     ensures differed { OnOk result (DirtiesDiffering (region_words (O.line_count shared.now.object)) seat.old.known seat.new.known) }
     ensures place { IfOk result (λ place. noted_place seat.new ≡ place) }
     ensures loaded { OnOk result (KeepsLoaded seat.old seat.new) }
+    ensures steps { EndsCopy (2 * region_words (O.line_count shared.now.object)) (region_words (O.line_count shared.now.object)) seat.old.known seat.new.known result }
     ensures rest { beside_copy seat.new ≡ beside_copy seat.old }
     ensures halts { OnErr result (IsAtLimit seat.new.known.local) }
 {
@@ -67,7 +71,8 @@ pub fn copy_from<O: Object>(
 
 /// Copies a replica held shared over one held exclusively, and gives the shared right back. The words copied are then those
 /// that the exclusive right began with, so that its replica is the image after its place, and entries can be replayed on it. It
-/// gives that place, which is the one that was loaded of the replica held shared before, if it was. `Halt` comes only where the seat's steps equal its limit.
+/// gives that place, which is the one that was loaded of the replica held shared before, if it was. `Halt` comes exactly where a
+/// further step is to be made and the seat's steps equal its limit: both rights then stand.
 pub fn renew_from<O: Object>(
     shared: &Shared<O>,
     seat: &mut CallerSeat,
@@ -121,6 +126,7 @@ fn copy_piece<O: Object>(
     requires lengths { length source_words.old ≡ length held_words.old }
     ensures both { HoldsBoth (O.line_count shared.now.object) shared.now (O.lawful shared.now.object) seat.new held.now source.now }
     ensures copied { OnOk result (CopiesOn from (from + length held_words.old) seat.old.known seat.new.known) }
+    ensures steps { EndsCopy (2 * length held_words.old) (region_words (O.line_count shared.now.object)) seat.old.known seat.new.known result }
     ensures rest { beside_copy seat.new ≡ beside_copy seat.old }
     ensures halts { OnErr result (IsAtLimit seat.new.known.local) }
 {
@@ -161,13 +167,17 @@ fn load_piece<O: Object>(
     ensures both { HoldsBoth (O.line_count shared.now.object) shared.now (O.lawful shared.now.object) seat.new held.now source.now }
     ensures seen { OnOk result (AreSeen from 0 (length held_words.old) held_words.new source_words.new seat.new.known) }
     ensures copied { OnOk result (CopiesOn from from seat.old.known seat.new.known) }
+    ensures steps { EndsLoads (2 * length held_words.old) seat.old.known seat.new.known result }
     ensures rest { beside_copy seat.new ≡ beside_copy seat.old }
     ensures halts { OnErr result (IsAtLimit seat.new.known.local) }
 {
     if from > 0 && load_runs(shared, seat, held, source, from, held_words, source_words) {
         return Ok(());
     }
-    load_each(shared, seat, held, source, from, held_words, source_words)
+    load_each(shared, seat, held, source, from, held_words, source_words)?;
+    // what the limit leaves is then less than both
+    let _steps = seat.steps();
+    Ok(())
 }
 
 /// Loads a piece of both replicas, behind the place, each by one call. It answers whether the limit leaves both.
@@ -187,6 +197,7 @@ fn load_runs<O: Object>(
     ensures both { HoldsBoth (O.line_count shared.now.object) shared.now (O.lawful shared.now.object) seat.new held.now source.now }
     ensures seen { IsTrue result → AreSeen from 0 (length held_words.old) held_words.new source_words.new seat.new.known }
     ensures copied { CopiesOn from from seat.old.known seat.new.known }
+    ensures steps { EndsRuns (2 * length held_words.old) seat.old.known seat.new.known result }
     ensures rest { beside_copy seat.new ≡ beside_copy seat.old }
 {
     shared.load_words(seat, held.replica() as u64, from, held_words)
@@ -209,6 +220,7 @@ fn load_each<O: Object>(
     ensures both { HoldsBoth (O.line_count shared.now.object) shared.now (O.lawful shared.now.object) seat.new held.now source.now }
     ensures seen { OnOk result (AreSeen from 0 (length held_words.old) held_words.new source_words.new seat.new.known) }
     ensures copied { OnOk result (CopiesOn from from seat.old.known seat.new.known) }
+    ensures steps { EndsLoads (2 * length held_words.old) seat.old.known seat.new.known result }
     ensures rest { beside_copy seat.new ≡ beside_copy seat.old }
     ensures halts { OnErr result (IsAtLimit seat.new.known.local) }
 {
@@ -232,6 +244,7 @@ fn load_both<O: Object>(
     requires at { at < region_words (O.line_count shared.now.object) }
     ensures both { HoldsBoth (O.line_count shared.now.object) shared.now (O.lawful shared.now.object) seat.new held.now source.now }
     ensures known { IfOk result (λ words. seat.new.known ≡ known_compared (instance_at shared.now O.step O.only_reads) held.now.replica source.now.replica at words.0 words.1 seat.old.known) }
+    ensures steps { EndsLoads 2 seat.old.known seat.new.known result }
     ensures rest { beside_copy seat.new ≡ beside_copy seat.old }
     ensures halts { OnErr result (IsAtLimit seat.new.known.local) }
 {
@@ -259,6 +272,7 @@ fn store_line<O: Object>(
     ensures both { HoldsBoth (O.line_count shared.now.object) shared.now (O.lawful shared.now.object) seat.new held.now source.now }
     ensures seen { OnOk result (AreSeen from (first + 8) (length held_words.now) held_words.now source_words.now seat.new.known) }
     ensures copied { OnOk result (CopiesOn (from + first) (from + first + 8) seat.old.known seat.new.known) }
+    ensures steps { EndsCopy 0 (region_words (O.line_count shared.now.object)) seat.old.known seat.new.known result }
     ensures rest { beside_copy seat.new ≡ beside_copy seat.old }
     ensures halts { OnErr result (IsAtLimit seat.new.known.local) }
 {
@@ -283,6 +297,7 @@ pub(crate) fn store_copied<O: Object>(
     requires at { at < region_words (O.line_count shared.now.object) }
     ensures both { HoldsBoth (O.line_count shared.now.object) shared.now (O.lawful shared.now.object) seat.new held.now source.now }
     ensures known { OnOk result (seat.new.known ≡ known_after (instance_at shared.now O.step O.only_reads) (StoreWord held.now.replica at word) seat.old.known 0) }
+    ensures still { OnErr result (seat.new ≡ seat.old) }
     ensures rest { beside_copy seat.new ≡ beside_copy seat.old }
     ensures halts { OnErr result (IsAtLimit seat.new.known.local) }
 {

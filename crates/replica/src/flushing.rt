@@ -5,7 +5,7 @@ ghost use Rattle.std.specs.List.{Contains};
 ghost use Rattle.cx_core.specs.Region.{region_words};
 ghost use Rattle.cx_core.specs.Rights.{held_dirty};
 ghost use Rattle.cx_rule.specs.Seats.{IsAtLimit};
-ghost use Rattle.replica.specs.Flushes.{IsFlushed, Persists};
+ghost use Rattle.replica.specs.Flushes.{EndsFlushing, Persists};
 ghost use Rattle.replica.specs.Held.{IsHeld};
 ghost use Rattle.replica.specs.Replays.{IsImage};
 
@@ -13,7 +13,7 @@ use cx_base::{Halt, Object};
 use cx_table::{CallerSeat, Exclusive, Shared};
 
 /// Persists every dirty word of a replica held exclusively, one step each. Then none is dirty. It loads and stores none, so
-/// that what was replayed stays so. `Halt` comes only where a word is dirty and the seat's steps equal its limit.
+/// that what was replayed stays so. `Halt` comes exactly where a word is dirty and the seat's steps equal its limit.
 pub fn flush<O: Object>(
     shared: &Shared<O>,
     seat: &mut CallerSeat,
@@ -21,7 +21,7 @@ pub fn flush<O: Object>(
 ) -> Result<(), Halt>
     requires { IsHeld (O.line_count shared.now.object) shared.now (O.lawful shared.now.object) seat.old held.now }
     ensures held { IsHeld (O.line_count shared.now.object) shared.now (O.lawful shared.now.object) seat.new held.now }
-    ensures clean { OnOk result (IsFlushed seat.new) }
+    ensures clean { EndsFlushing seat.new result }
     ensures persists { Persists held.now.replica seat.old seat.new }
     ensures image { IsImage (O.line_count shared.now.object) (O.lawful shared.now.object) shared.now.base (O.step shared.now.object) seat.old.known → IsImage (O.line_count shared.now.object) (O.lawful shared.now.object) shared.now.base (O.step shared.now.object) seat.new.known }
     ensures halts { OnErr result (IsAtLimit seat.new.known.local) }
@@ -45,6 +45,7 @@ fn persist_dirty<O: Object>(
     ensures held { IsHeld (O.line_count shared.now.object) shared.now (O.lawful shared.now.object) seat.new held.now }
     ensures fewer { OnOk result (length (held_dirty seat.new.known.local.exclusive) < length (held_dirty seat.old.known.local.exclusive)) }
     ensures persists { Persists held.now.replica seat.old seat.new }
+    ensures still { OnErr result (seat.new ≡ seat.old) }
     ensures halts { OnErr result (IsAtLimit seat.new.known.local) }
 {
     shared.persist(seat, held.replica() as u64, at)?;

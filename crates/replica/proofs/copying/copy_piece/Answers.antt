@@ -1,10 +1,12 @@
-use Rattle.std.proofs.Common.{false, ◌≡◌, ◌+◌, ◌*◌, ◌/◌, ◌<◌, ◌≤◌, ap, sym, subst, ◌∙◌, arith, length}
+use Rattle.std.proofs.Common.{false, ◌≡◌, ◌+◌, ◌*◌, ◌/◌, ◌<◌, ◌≤◌, inl, ap, sym, subst, ◌∙◌, arith, length}
 use Rattle.std.proofs.lemmas.Bool.{false≢true}
 use Rattle.std.proofs.lemmas.List.{get_or_append_left, length-take-le}
+use Rattle.cx_core.specs.Region.{region_words}
 use Rattle.cx_rule.specs.declared.rule.Known.{Known}
 use Rattle.cx_rule.specs.Seats.{Seated}
 use Rattle.line_lanes.specs.Lines.{DiffersInLine}
-use Rattle.replica.specs.Copies.{AreSeen, CopiesOn, HoldsBoth, IsCopiedTo, beside_copy}
+use Rattle.replica.specs.Copies.{AreSeen, CopiesOn, EndsCopy, HoldsBoth, IsCopiedTo, LoadsAtMost, beside_copy}
+use Rattle.replica.proofs.CopySteps.{at_err, loads_fewer, loads_most, loads_on, short_on}
 use Rattle.replica.proofs.LineCopies.{on_same_line, on_stored_line}
 use Rattle.replica.proofs.copying.copy_piece.Goals.{then-differs-line+in_ok-store_line, else-differs-line}
 use Rattle.replica.proofs.copying.copy_piece.Goals as goal
@@ -17,6 +19,7 @@ loop-line-init g c =
       both = now.both;
       seen = λ i least below. now.seen i least (omega (arith, below));
       copied = λ region first below copied. subst (λ n. IsCopiedTo n region first c.load_piece.new.seat.known) none (now.copied region first (omega (arith, below)) copied);
+      counts = loads_most (2 * length c.args.held_words.now) c.args.seat.now.known c.load_piece.new.seat.known now.steps;
       rest = now.rest;
     }
 
@@ -29,6 +32,7 @@ loop-line-preserved g c =
     let us = c.load_piece.new.held_words in
     let vs = c.load_piece.new.source_words in
     let n = length us in
+    let most = 2 * length c.args.held_words.now in
     let before = c.args.seat.now.known in
     let known = c.loop-line.seat.known in
     let in_line : 8 * line + 8 ≤ n = omega (arith, c.loop-line-test.true) in
@@ -41,6 +45,7 @@ loop-line-preserved g c =
             both = subst (λ (s : Seated). HoldsBoth (g.O.Object.line_count t.object) t (g.O.Object.lawful t.object) s c.args.held.now c.args.source.now) (sym now) after.both;
             seen = subst (λ (k : Known). AreSeen from (8 * (line + 1)) n us vs k) (sym knows) (λ i least below. after.seen i (omega (arith, least)) below);
             copied = subst (λ (k : Known). CopiesOn from (from + 8 * (line + 1)) before k) (sym knows) (on_stored_line from line before known w.store_line.new.seat.known was.copied after.copied);
+            counts = subst (λ (k : Known). LoadsAtMost most before k) (sym knows) (loads_on most 0 most before known w.store_line.new.seat.known (omega arith) was.counts after.steps);
             rest = ap beside_copy now ∙ after.rest ∙ was.rest;
           })
       | else-differs-line w ↦ (
@@ -53,6 +58,7 @@ loop-line-preserved g c =
             both = subst (λ (s : Seated). HoldsBoth (g.O.Object.line_count t.object) t (g.O.Object.lawful t.object) s c.args.held.now c.args.source.now) (sym now) was.both;
             seen = subst (λ (k : Known). AreSeen from (8 * (line + 1)) n us vs k) (sym knows) (λ i least below. was.seen i (omega (arith, least)) below);
             copied = subst (λ (k : Known). CopiesOn from (from + 8 * (line + 1)) before k) (sym knows) (on_same_line us vs from line n before known in_line none was.seen was.copied);
+            counts = subst (λ (k : Known). LoadsAtMost most before k) (sym knows) was.counts;
             rest = ap beside_copy now ∙ was.rest;
           })
     ]
@@ -61,3 +67,19 @@ pub returns-clause-copied : goal.returns-clause-copied
 returns-clause-copied g c =
     let end : c.args.from + 8 * c.loop-line.line ≡ c.args.from + length c.args.held_words.now = omega (arith, c.loop-line-test.false, c.loop-line.auto.line-end, c.requires.whole) in
     subst (λ m. CopiesOn c.args.from m c.args.seat.now.known c.loop-line.seat.known) end c.loop-line.invariant.copied
+
+pub returns-in_err-load_piece-clause-steps : goal.returns-in_err-load_piece-clause-steps
+returns-in_err-load_piece-clause-steps g c =
+    let most = 2 * length c.args.held_words.now in
+    at_err _ c.from_residual.result (EndsCopy most (region_words (g.O.Object.line_count c.args.shared.now.object)) c.args.seat.now.known c.load_piece.new.seat.known) c.from_residual.ensures.1
+    (λ e. inl (loads_fewer most c.args.seat.now.known c.load_piece.new.seat.known c.in_err-load_piece.ensures.steps))
+
+pub returns-in_err-store_line-clause-steps : goal.returns-in_err-store_line-clause-steps
+returns-in_err-store_line-clause-steps g c =
+    let most = 2 * length c.args.held_words.now in
+    let region = region_words (g.O.Object.line_count c.args.shared.now.object) in
+    at_err _ c.from_residual-in_err-store_line.result (EndsCopy most region c.args.seat.now.known c.store_line.new.seat.known) c.from_residual-in_err-store_line.ensures.1
+    (λ e. short_on most 0 most region c.args.seat.now.known c.loop-line.seat.known c.store_line.new.seat.known (omega arith) c.loop-line.invariant.counts c.in_err-store_line.ensures.steps)
+
+pub returns-clause-steps : goal.returns-clause-steps
+returns-clause-steps g c = c.loop-line.invariant.counts

@@ -1,10 +1,10 @@
-use Rattle.std.proofs.Common.{◌≡◌, ◌+◌, set, sym, subst, ◌∙◌, arith}
+use Rattle.std.proofs.Common.{◌≡◌, ◌+◌, ◌*◌, set, sym, subst, ◌∙◌, arith}
 use Rattle.std.proofs.lemmas.List.{length-set}
 use Rattle.cx_rule.specs.declared.rule.Known.{Known}
 use Rattle.cx_rule.specs.Running.{instance_at}
 use Rattle.replica.specs.Copies.{AreSeen, IsCopiedTo, known_compared}
 use Rattle.replica.proofs.LineCopies.{copied_loaded}
-use Rattle.replica.proofs.LineLoads.{compared_load, seen_more}
+use Rattle.replica.proofs.LineLoads.{compared_load, counts_on, seen_more}
 use Rattle.replica.proofs.copying.load_each.Goals as goal
 
 pub loop-i-preserved : goal.loop-i-preserved
@@ -24,5 +24,6 @@ loop-i-preserved g c =
           (seen_more instance h s c.args.from c.loop-i.i c.in_ok-old.old c.in_ok-old.new c.loop-i.held_words c.loop-i.source_words known was.both.exclusive.right.holds was.both.shared.right.holds (omega arith) (omega (arith, was.lengths)) was.seen);
       copied = λ region first below copied. subst (λ (k : Known). IsCopiedTo c.args.from region first k) (sym now.known)
           (copied_loaded (λ i. i ≡ at) c.args.from region first known (known_compared instance h s at c.in_ok-old.old c.in_ok-old.new known) (λ i e. omega (arith, e)) (compared_load instance h s at c.in_ok-old.old c.in_ok-old.new known) (was.copied region first below copied));
+      counts = counts_on (2 * c.loop-i.i) 2 (2 * (c.loop-i.i + 1)) c.args.seat.now.known known c.load_both.new.seat.known (omega arith) was.counts now.steps;
       rest = now.rest ∙ was.rest;
     }
