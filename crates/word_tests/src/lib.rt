@@ -41,3 +41,5 @@ mod rows;
 mod shapes;
 #[cfg(test)]
 mod single_stores;
+#[cfg(test)]
+mod write_sets;

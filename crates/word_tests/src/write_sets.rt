@@ -1,0 +1,153 @@
+//! Write sets over a vector.
+
+ghost use Rattle.redo_set.specs.Sets.{AreWithin};
+
+use crate::holds::holds;
+use cx_base::VecMemory;
+use redo_set::{WriteSet, apply_set};
+use std::alloc::{AllocError, Global};
+use std::test::Fail;
+
+/// Pairs that a set takes; how many accesses are then allowed; the words that are then not 0; and whether the set was stored whole.
+struct Row<'a> {
+    pairs: &'a [(u64, u64)],
+    left: Option<u64>,
+    words: &'a [(u64, u64)],
+    whole: bool,
+}
+
+const TWICE: [(u64, u64); 2] = [(1168, 1), (1168, 2)];
+
+const THREE: [(u64, u64); 3] = [(0, 7), (1679, 8), (0, 9)];
+
+static ROWS: [Row<'static>; 6] = [
+    Row {
+        pairs: &TWICE,
+        left: None,
+        words: &[(1168, 2)],
+        whole: true,
+    },
+    Row {
+        pairs: &TWICE,
+        left: Some(1),
+        words: &[(1168, 1)],
+        whole: false,
+    },
+    Row {
+        pairs: &THREE,
+        left: Some(3),
+        words: &[(0, 9), (1679, 8)],
+        whole: true,
+    },
+    Row {
+        pairs: &THREE,
+        left: Some(2),
+        words: &[(0, 7), (1679, 8)],
+        whole: false,
+    },
+    Row {
+        pairs: &TWICE,
+        left: Some(0),
+        words: &[],
+        whole: false,
+    },
+    Row {
+        pairs: &[],
+        left: Some(0),
+        words: &[],
+        whole: true,
+    },
+];
+
+// Notes pairs of addresses below 1,680 up to the first that is not taken, and tells how many were.
+fn note_all(set: &mut WriteSet, pairs: &[(u64, u64)]) -> usize
+    requires { AreWithin 1680 set.old }
+    ensures { AreWithin 1680 set.new }
+{
+    for (i, (at, v)) in pairs.iter().enumerate() {
+        if *at >= 1680 || !set.note(*at, *v) {
+            return i;
+        }
+    }
+    pairs.len()
+}
+
+// The words after a set was stored over 1,680 zeros with so many accesses allowed, and whether it was stored whole.
+fn stored(alloc: Global, set: &WriteSet, left: Option<u64>) -> Result<(Vec<u64>, bool), AllocError>
+    requires { AreWithin 1680 set.now }
+{
+    let mut mem = VecMemory::of(vec![in alloc; 0; 1680]?, left);
+    let whole = apply_set(&mut mem, set).is_ok();
+    Ok((mem.into_words(), whole))
+}
+
+// The word that pairs give at an address, 0 where none does.
+fn word_at(pairs: &[(u64, u64)], at: u64) -> u64 {
+    for (there, v) in pairs {
+        if *there == at {
+            return *v;
+        }
+    }
+    0
+}
+
+// Whether there are 1,680 words, and these are those that are not 0.
+fn are_words(words: &[u64], wanted: &[(u64, u64)]) -> bool {
+    for (at, word) in words.iter().enumerate() {
+        if *word != word_at(wanted, at as u64) {
+            return false;
+        }
+    }
+    words.len() == 1680
+}
+
+// Whether the set, which is emptied first, is as a row says.
+fn is_as_told(alloc: Global, set: &mut WriteSet, row: &Row) -> Result<bool, AllocError> {
+    set.clear();
+    let taken = note_all(set, row.pairs);
+    let count = set.len() as usize;
+    let (words, whole) = stored(alloc, set, row.left)?;
+    Ok(
+        taken == row.pairs.len()
+            && count == taken
+            && whole == row.whole
+            && are_words(&words, row.words),
+    )
+}
+
+// The first row that does not hold, of one set that takes them in turn.
+fn first_wrong(alloc: Global, rows: &[Row]) -> Result<Option<usize>, AllocError> {
+    let mut set = WriteSet::new(alloc)?;
+    for (i, row) in rows.iter().enumerate() {
+        if !is_as_told(alloc, &mut set, row)? {
+            return Ok(Some(i));
+        }
+    }
+    Ok(None)
+}
+
+// 257 pairs, of which the last has the address of the first.
+fn one_too_many(alloc: Global) -> Result<Vec<(u64, u64)>, AllocError> {
+    let mut pairs = Vec::new(alloc);
+    for i in 0..257 {
+        pairs.push((1168 + i % 256, i + 1))?;
+    }
+    Ok(pairs)
+}
+
+// Whether a set takes 256 pairs, and the next one changes nothing.
+fn takes_256(alloc: Global, pairs: &[(u64, u64)]) -> Result<bool, AllocError> {
+    let mut set = WriteSet::new(alloc)?;
+    let taken = note_all(&mut set, pairs);
+    let full = taken == 256 && set.len() == 256;
+    let (words, whole) = stored(alloc, &set, None)?;
+    Ok(full && whole && are_words(&words, pairs))
+}
+
+#[test]
+fn sets_are_stored_in_order(rt: HostRuntime) -> Result<(), Fail> {
+    holds(&rt, first_wrong(rt.alloc(), &ROWS)?.is_none());
+    let pairs = one_too_many(rt.alloc())?;
+    holds(&rt, takes_256(rt.alloc(), &pairs)?);
+    Ok(())
+}
