@@ -23,14 +23,14 @@ TellsAnswers (Some answers) instance scene code read l =
     × (option_to_list answers.read ≡ reads_at instance scene.history (root_place_of instance.callers code) (length l.answered + length below) read)
 
 -- of an offer, the offer word where it is allowed
-abbrev pub TellsOffer : Option ℕ → Instance → Scene → ℕ → Local → Type 0
-TellsOffer None instance scene j l = ¬ CanOffer instance scene.history l j
-TellsOffer (Some word) instance scene j l = CanOffer instance scene.history l j × (word ≡ offer_of (cell_of l j).ticket (cell_of l j).offer)
+abbrev pub TellsOfferWord : Option ℕ → Instance → Scene → ℕ → Local → Type 0
+TellsOfferWord None instance scene j l = ¬ CanOffer instance scene.history l j
+TellsOfferWord (Some word) instance scene j l = CanOffer instance scene.history l j × (word ≡ offer_of (cell_of l j).ticket (cell_of l j).offer)
 
 -- of a kind that gives an exclusive right up, whether the words held are the full image after their place
 abbrev pub Tells : Told → Instance → Scene → Kind → Local → Type 0
 Tells told instance scene (Downgrade r) l = TellsFull told.full instance scene (Downgrade r) l
 Tells told instance scene (ReleaseExclusive r) l = TellsFull told.full instance scene (ReleaseExclusive r) l
 Tells told instance scene (Raise code read) l = TellsAnswers told.answers instance scene code read l
-Tells told instance scene (Offer j) l = TellsOffer told.offer instance scene j l
+Tells told instance scene (Offer j) l = TellsOfferWord told.offer instance scene j l
 Tells told instance scene _ l = Unit {0}

@@ -3,7 +3,7 @@
 
 ghost use Rattle.std.specs.Prelude.{◌≡◌, ◌^◌, ◌<◌, ◌≤◌, ◌↔◌, length, slice_get, IsTrue, IfOk, OnErr, None, Some};
 ghost use Rattle.core_events.specs.Codes.{HasCode};
-ghost use Rattle.core_events.specs.Told.{Tells, TellsAnswers, TellsOffer};
+ghost use Rattle.core_events.specs.Told.{Tells, TellsAnswers, TellsOfferWord};
 ghost use Rattle.cx_core.specs.Base.{LawfulBase};
 ghost use Rattle.cx_core.specs.Events.{Applied, Did};
 ghost use Rattle.cx_core.specs.History.{IsFull};
@@ -205,7 +205,7 @@ fn offer_of<O: Object>(
 ) -> Result<Option<u64>, AllocError>
     requires base { LawfulBase (O.line_count object.now) (O.lawful object.now) state.now.base }
     requires caller { caller < length state.now.state.locals }
-    ensures { let instance = instance_of state.now (O.step object.now) (O.only_reads object.now) in IfOk result (λ told. (l : Local) → slice_get state.now.state.locals caller ≡ Some l → TellsOffer told instance (scene_of instance state.now.state) j l) }
+    ensures { let instance = instance_of state.now (O.step object.now) (O.only_reads object.now) in IfOk result (λ told. (l : Local) → slice_get state.now.state.locals caller ≡ Some l → TellsOfferWord told instance (scene_of instance state.now.state) j l) }
 {
     let local = &state.locals[caller];
     offered_word(alloc, object, &state.base, &state.locals, local, j)

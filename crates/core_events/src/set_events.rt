@@ -1,7 +1,7 @@
 //! The steps on write sets: a set is written and offered, and its offer word and its words are loaded.
 
 ghost use Rattle.std.specs.Prelude.{◌≡◌, ◌<◌, ◌≤◌, length};
-ghost use Rattle.core_events.specs.Told.{TellsOffer};
+ghost use Rattle.core_events.specs.Told.{TellsOfferWord};
 ghost use Rattle.cx_core.specs.declared.kinds.Kind.TheVariants.{WriteSet, Offer, LoadOffer, ReadSet};
 ghost use Rattle.cx_core.specs.Events.{Did};
 ghost use Rattle.cx_core.specs.Layout.{replicas_at};
@@ -48,7 +48,7 @@ pub(crate) fn offer(
     requires few { callers ≤ 8 }
     requires long { replicas_at callers ≤ length words.old }
     requires caller { local.old.number < callers }
-    ensures { (base : _) → EachScene callers base words.old (λ instance scene. TellsOffer told instance scene j local.old → Did result instance scene (Offer j) local.old local.new words.new) }
+    ensures { (base : _) → EachScene callers base words.old (λ instance scene. TellsOfferWord told instance scene j local.old → Did result instance scene (Offer j) local.old local.new words.new) }
 {
     let Some(word) = told else {
         return false;

@@ -3,7 +3,7 @@
 
 ghost use Rattle.std.specs.Prelude.{◌≡◌, ◌^◌, ◌<◌, ◌↔◌, ℕ, Bool, List, slice_get, IsTrue, IfOk, Some};
 ghost use Rattle.core_events.specs.Images.{HasTickets};
-ghost use Rattle.core_events.specs.Told.{TellsOffer};
+ghost use Rattle.core_events.specs.Told.{TellsOfferWord};
 ghost use Rattle.cx_core.specs.Base.{LawfulBase};
 ghost use Rattle.cx_core.specs.Merge.{history_of};
 ghost use Rattle.cx_core.specs.State.{HasEntries};
@@ -27,7 +27,7 @@ pub(crate) fn offered_word<O: Object>(
     requires base { LawfulBase (O.line_count object.now) (O.lawful object.now) base.now }
     requires entries { HasEntries locals.now }
     requires tickets { HasTickets local.now.own }
-    ensures { (callers : ℕ) (reads : List ℕ → Bool) (words : List ℕ) → IfOk result (λ told. TellsOffer told (record { callers = callers; base = base.now; step = O.step object.now; reads = reads }) (record { history = history_of base.now.place locals.now; words = words }) j local.now) }
+    ensures { (callers : ℕ) (reads : List ℕ → Bool) (words : List ℕ) → IfOk result (λ told. TellsOfferWord told (record { callers = callers; base = base.now; step = O.step object.now; reads = reads }) (record { history = history_of base.now.place locals.now; words = words }) j local.now) }
 {
     if !can_write_set(local, j) {
         return Ok(None);
