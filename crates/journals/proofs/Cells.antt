@@ -13,6 +13,7 @@ use Rattle.life_records.specs.declared.record.FullLine.{FullLine}
 use Rattle.life_records.specs.declared.record.JournalLine.{JournalLine}
 use Rattle.journals.specs.Works.{IsFullOf, IsLineOf, by_entry}
 use Rattle.journals.proofs.Lists.{Has, filter_has, has_contains, has_filter, has_get, zip_has}
+use Rattle.typed_object.specs.Meaning.{Encoding}
 
 few : {X : Type 0} (p : X → Bool) (xs : List X) → length (filter p xs) ≤ length xs
 few p [] = omega arith
@@ -56,16 +57,16 @@ some_is (Some x) has = refl
 le_is : (a b : ℕ) → a ≤ b → nat_le a b ≡ true
 le_is a b le = search (arith, le)
 
-module _ (life : Life) (client done : ℕ) (l : Local) (answered : List Answer) (journal : List JournalLine) (line : FullLine) (full : IsFullOf life client done l line)
-    (lines : AllZip (IsLineOf life client answered None) l.own (filter (by_entry client) journal)) (replied : (e : JournalLine) → Has (filter (by_entry client) journal) e → IsSome e.reply) where
+module _ {Op Reply : Type 0} (encoding : Encoding Op Reply) (life : Life Op) (client done : ℕ) (l : Local) (answered : List Answer) (journal : List (JournalLine Reply)) (line : FullLine) (full : IsFullOf life client done l line)
+    (lines : AllZip (IsLineOf encoding life client answered None) l.own (filter (by_entry client) journal)) (replied : (e : JournalLine Reply) → Has (filter (by_entry client) journal) e → IsSome e.reply) where
   -- the line of the entry that a cell holds
-  held : (j t : ℕ) → (cell_of l j).ticket ≡ Some t → (e : JournalLine) × Has journal e × (e.ticket ≡ t) × (e.client ≡ client) × IsSome e.reply
+  held : (j t : ℕ) → (cell_of l j).ticket ≡ Some t → (e : JournalLine Reply) × Has journal e × (e.ticket ≡ t) × (e.client ≡ client) × IsSome e.reply
   held j t at =
       let own = full.own j t at in
-      let found = zip_has (IsLineOf life client answered None) l.own (filter (by_entry client) journal) own.1 lines (has_get l.own own.0 own.1 own.2) in
+      let found = zip_has (IsLineOf encoding life client answered None) l.own (filter (by_entry client) journal) own.1 lines (has_get l.own own.0 own.1 own.2) in
       (found.0, filter_has (by_entry client) journal found.0 found.1, found.2.ticket ∙ own.3, found.2.client_is, replied found.0 found.1)
 
-  passes : (e : JournalLine) → e.client ≡ client → IsSome e.reply → line.note.ticket ≤ e.ticket → is_answered_from client line.note.ticket e ≡ true
+  passes : (e : JournalLine Reply) → e.client ≡ client → IsSome e.reply → line.note.ticket ≤ e.ticket → is_answered_from client line.note.ticket e ≡ true
   passes e by some from =
       ap (λ b. b && (is_some e.reply && nat_le line.note.ticket e.ticket)) (eq-eqb e.client client by)
       ∙ ap (λ b. b && nat_le line.note.ticket e.ticket) (some_is e.reply some)
@@ -75,7 +76,7 @@ module _ (life : Life) (client done : ℕ) (l : Local) (answered : List Answer) 
   pub enough : 16 ≤ count_by (is_answered_from client line.note.ticket) journal
   enough =
       let p = is_answered_from client line.note.ticket in
-      let many : 16 ≤ length (filter p journal) = as_many (λ (e : JournalLine). e.ticket) (λ j t. (cell_of l j).ticket ≡ Some t) full.apart 16 (filter p journal) (λ j less. (
+      let many : 16 ≤ length (filter p journal) = as_many (λ (e : JournalLine Reply). e.ticket) (λ j t. (cell_of l j).ticket ≡ Some t) full.apart 16 (filter p journal) (λ j less. (
       let cell = full.cells.each j less in
       let e = held j cell.0 cell.1 in
       let from : line.note.ticket ≤ e.0.ticket = omega (arith, e.2, cell.2) in
@@ -83,7 +84,7 @@ module _ (life : Life) (client done : ℕ) (l : Local) (answered : List Answer) 
       omega (arith, many, length-filter p journal)
 
   -- and one at it
-  pub least : (e : JournalLine) × Contains journal e × (e.client ≡ client) × (e.ticket ≡ line.note.ticket) × IsSome e.reply
+  pub least : (e : JournalLine Reply) × Contains journal e × (e.client ≡ client) × (e.ticket ≡ line.note.ticket) × IsSome e.reply
   least =
       let here = full.cells.here in
       let e = held here.0 line.note.ticket here.2 in

@@ -9,7 +9,6 @@ use Rattle.std.proofs.lemmas.Option.{slice_get_cases}
 use Rattle.cx_core.specs.declared.entry.Entry.{Entry}
 use Rattle.cx_core.specs.declared.local.Local.{Local}
 use Rattle.cx_core.proofs.ListLemmas.{item_below}
-use Rattle.doc_model.specs.declared.operations.Op.{Op}
 use Rattle.life_records.specs.declared.script.Life.{Life}
 use Rattle.life_records.specs.declared.record.FullLine.{FullLine}
 use Rattle.life_records.specs.declared.record.JournalLine.{JournalLine}
@@ -26,45 +25,46 @@ use Rattle.journals.proofs.Lists.{Has, all_each, each_get, filter_no, has_contai
 use Rattle.journals.proofs.Cells.{enough, least}
 use Rattle.journals.proofs.Firsts.{first_found, first_is, has-here}
 use Rattle.journals.proofs.Journals.{full_end, stop_end}
+use Rattle.typed_object.specs.Meaning.{Encoding}
 
 -- a client that gave up was not stopped
-full_alone : (life : Life) (client done : ℕ) (l : Local) (stop : Option StopLine) (line : FullLine) → IsEnd life client done l stop (Some line) → (stop ≡ None) × IsFullOf life client done l line
+full_alone : {Op : Type 0} → (life : Life Op) (client done : ℕ) (l : Local) (stop : Option StopLine) (line : FullLine) → IsEnd life client done l stop (Some line) → (stop ≡ None) × IsFullOf life client done l line
 full_alone life client done l None line end = (refl, end)
 full_alone life client done l (Some other) line end = absurd end
 
-module _ (life : Life) (locals : List Local) (journal : List JournalLine) (reads : List ReadLine) (stops : List StopLine) (fulls : List FullLine)
-    (m : AreWorks life locals journal reads stops fulls) (callers : length locals ≡ life.clients) where
+module _ {Op Reply : Type 0} (encoding : Encoding Op Reply) (life : Life Op) (locals : List Local) (journal : List (JournalLine Reply)) (reads : List (ReadLine Reply)) (stops : List StopLine) (fulls : List FullLine)
+    (m : AreWorks encoding life locals journal reads stops fulls) (callers : length locals ≡ life.clients) where
   -- a line stands among its client's
-  entry_local : (line : JournalLine) → Has journal line → (l : Local) × (slice_get locals line.client ≡ Some l) × Has (filter (by_entry line.client) journal) line
+  entry_local : (line : JournalLine Reply) → Has journal line → (l : Local) × (slice_get locals line.client ≡ Some l) × Has (filter (by_entry line.client) journal) line
   entry_local line has =
-      let l = item_below locals line.client (All-contains (λ (x : JournalLine). x.client < length locals) journal line m.of_entries (has_contains journal line has)) in
+      let l = item_below locals line.client (All-contains (λ (x : JournalLine Reply). x.client < length locals) journal line m.of_entries (has_contains journal line has)) in
       (l.0, l.1, has_filter (by_entry line.client) journal line has (eq-eqb line.client line.client refl))
 
   -- the journal interleaves the clients' commands
-  named_line : (k : ℕ) (line : JournalLine) → slice_get journal k ≡ Some line → Names life line.client line.command
+  named_line : (k : ℕ) (line : JournalLine Reply) → slice_get journal k ≡ Some line → Names life line.client line.command
   named_line k line at =
       let has = has_get journal k line at in
       let c = line.client in
-      let below : c < length locals = All-contains (λ (x : JournalLine). x.client < length locals) journal line m.of_entries (has_contains journal line has) in
+      let below : c < length locals = All-contains (λ (x : JournalLine Reply). x.client < length locals) journal line m.of_entries (has_contains journal line has) in
       let h = entry_local line has in
-      let x = zip_back (IsLineOf life c h.0.answered (stop_of c stops)) h.0.own (filter (by_entry c) journal) line (m.each c h.0 h.1).entry_lines h.2 in
+      let x = zip_back (IsLineOf encoding life c h.0.answered (stop_of c stops)) h.0.own (filter (by_entry c) journal) line (m.each c h.0 h.1).entry_lines h.2 in
       record { takes_part = omega arith; there = subst (λ (o : Option Op). IsSome o) (sym x.2.op.named) refl }
 
-  numbers_rise : (client : ℕ) → IsStrictlyIncreasing (map (λ (x : JournalLine). x.command) (filter (by_entry client) journal))
+  numbers_rise : (client : ℕ) → IsStrictlyIncreasing (map (λ (x : JournalLine Reply). x.command) (filter (by_entry client) journal))
   numbers_rise client =
       elim (slice_get_cases locals client).1 [
-        | inl a ↦ strictly_from (λ (x : JournalLine). x.command) (filter (by_entry client) journal) (m.each client a.0 a.2).entries_in_turn
+        | inl a ↦ strictly_from (λ (x : JournalLine Reply). x.command) (filter (by_entry client) journal) (m.each client a.0 a.2).entries_in_turn
         | inr b ↦ (
             let past : length locals ≤ client = b.0 in
-            let none : filter (by_entry client) journal ≡ [] = filter_no (by_entry client) journal (each_get (λ (x : JournalLine). by_entry client x ≡ false) journal (λ k line at.
-            let below : line.client < length locals = All-contains (λ (x : JournalLine). x.client < length locals) journal line m.of_entries (has_contains journal line (has_get journal k line at)) in
+            let none : filter (by_entry client) journal ≡ [] = filter_no (by_entry client) journal (each_get (λ (x : JournalLine Reply). by_entry client x ≡ false) journal (λ k line at.
+            let below : line.client < length locals = All-contains (λ (x : JournalLine Reply). x.client < length locals) journal line m.of_entries (has_contains journal line (has_get journal k line at)) in
             ne_eqb line.client client (λ e. omega arith))) in
-            subst (λ (ls : List JournalLine). IsStrictlyIncreasing (map (λ (x : JournalLine). x.command) ls)) (sym none) (λ k within. absurd (omega arith)))
+            subst (λ (ls : List (JournalLine Reply)). IsStrictlyIncreasing (map (λ (x : JournalLine Reply). x.command) ls)) (sym none) (λ k within. absurd (omega arith)))
       ]
 
   pub interleaves : Interleaves life journal
   interleaves = record {
-    named = all_each (λ (x : JournalLine). Names life x.client x.command) journal (each_get (λ (x : JournalLine). Names life x.client x.command) journal named_line);
+    named = all_each (λ (x : JournalLine Reply). Names life x.client x.command) journal (each_get (λ (x : JournalLine Reply). Names life x.client x.command) journal named_line);
     in_order = numbers_rise;
   }
 
@@ -93,7 +93,7 @@ module _ (life : Life) (locals : List Local) (journal : List JournalLine) (reads
       }
 
   -- a client that gave up did so in a command that it has, and another one, which was stopped, keeps its 16 answered entries
-  pub legal_full : (told : LifeRecord) → told.journal ≡ journal → All (IsToldFull locals told.stops) told.fulls → (k : ℕ) (line : FullLine) → slice_get fulls k ≡ Some line → told.fulls ≡ fulls → IsLegalFull life told line
+  pub legal_full : (told : LifeRecord Reply) → told.journal ≡ journal → All (IsToldFull locals told.stops) told.fulls → (k : ℕ) (line : FullLine) → slice_get fulls k ≡ Some line → told.fulls ≡ fulls → IsLegalFull life told line
   legal_full told js are k line at fs =
       let has = has_get fulls k line at in
       let below : line.client < length locals = All-contains (λ (x : FullLine). x.client < length locals) fulls line m.of_fulls (has_contains fulls line has) in
@@ -101,19 +101,19 @@ module _ (life : Life) (locals : List Local) (journal : List JournalLine) (reads
       let w = m.each line.client l.0 l.1 in
       let none = full_alone life line.client w.done l.0 (stop_of line.client stops) line (subst (λ (o : Option FullLine). IsEnd life line.client w.done l.0 (stop_of line.client stops) o) (first_is (λ (x : FullLine). x.client) fulls line m.fulls_in_order has) w.ends) in
       let full : IsFullOf life line.client w.done l.0 line = none.1 in
-      let lines = subst (λ (o : Option StopLine). AllZip (IsLineOf life line.client l.0.answered o) l.0.own (filter (by_entry line.client) journal)) none.0 w.entry_lines in
-      let replied : (e : JournalLine) → Has (filter (by_entry line.client) journal) e → IsSome e.reply = λ e h.
+      let lines = subst (λ (o : Option StopLine). AllZip (IsLineOf encoding life line.client l.0.answered o) l.0.own (filter (by_entry line.client) journal)) none.0 w.entry_lines in
+      let replied : (e : JournalLine Reply) → Has (filter (by_entry line.client) journal) e → IsSome e.reply = λ e h.
       all_replied w.done e (subst (λ (o : Option StopLine). IsDoneEntry w.done o e) none.0 (All-contains (IsDoneEntry w.done (stop_of line.client stops)) (filter (by_entry line.client) journal) e w.entries_done (has_contains (filter (by_entry line.client) journal) e h))) in
       let op = item_below (own_ops line.client life.commands) w.done full.within in
       let next : line.command ≡ suc w.done = full.command ∙ add-one w.done in
       let there : named_op life line.client line.command ≡ Some op.0 = ap (named_op life line.client) next ∙ op.1 in
-      let one = least life line.client w.done l.0 l.0.answered journal line full lines replied in
+      let one = least encoding life line.client w.done l.0 l.0.answered journal line full lines replied in
       record {
         named = record { takes_part = omega arith; there = subst (λ (o : Option Op). IsSome o) (sym there) refl };
         other = full.other;
         stopped = (All-contains (IsToldFull locals told.stops) told.fulls line are (rw fs (has_contains fulls line has))).stopped;
         need = full.need;
-        cells = rw js (enough life line.client w.done l.0 l.0.answered journal line full lines replied);
+        cells = rw js (enough encoding life line.client w.done l.0 l.0.answered journal line full lines replied);
         least = one.0;
         there = rw js one.1;
         own = one.2;
@@ -121,12 +121,12 @@ module _ (life : Life) (locals : List Local) (journal : List JournalLine) (reads
         answered = one.4;
       }
     where
-      all_replied : (done : ℕ) (e : JournalLine) → IsDoneEntry done None e → IsSome e.reply
+      all_replied : (done : ℕ) (e : JournalLine Reply) → IsDoneEntry done None e → IsSome e.reply
       all_replied done e (inl answered) = answered.2
       all_replied done e (inr last) = cc
 
   module _ (client : ℕ) (l : Local) (at : slice_get locals client ≡ Some l) where
-    abbrev mine : IsWork life client l (filter (by_entry client) journal) (filter (by_read client) reads) (stop_of client stops) (full_of client fulls)
+    abbrev mine : IsWork encoding life client l (filter (by_entry client) journal) (filter (by_read client) reads) (stop_of client stops) (full_of client fulls)
     mine = m.each client l at
 
     abbrev done : ℕ
@@ -148,18 +148,18 @@ module _ (life : Life) (locals : List Local) (journal : List JournalLine) (reads
         let found = first_found (λ (x : FullLine). x.client) client fulls line is in
         has-here (λ (x : FullLine). x.client) (λ (x : FullLine). x.command) client (done + 1) fulls line found.0 found.1 end.command
 
-    entry_done : (k : ℕ) (line : JournalLine) → slice_get journal k ≡ Some line → line.client ≡ client → IsDoneEntry done (stop_of client stops) line
+    entry_done : (k : ℕ) (line : JournalLine Reply) → slice_get journal k ≡ Some line → line.client ≡ client → IsDoneEntry done (stop_of client stops) line
     entry_done k line there by =
         All-contains (IsDoneEntry done (stop_of client stops)) (filter (by_entry client) journal) line mine.entries_done
         (has_contains (filter (by_entry client) journal) line (has_filter (by_entry client) journal line (has_get journal k line there) (eq-eqb line.client client by)))
 
-    ended_entry : (line : JournalLine) → IsDoneEntry done (stop_of client stops) line → IsEndedEntry client done stops line
+    ended_entry : (line : JournalLine Reply) → IsDoneEntry done (stop_of client stops) line → IsEndedEntry client done stops line
     ended_entry line (inl answered) = inl answered
     ended_entry line (inr last) = inr (last.0, last.1, stopped_in (stop_of client stops) refl last.2)
 
-    read_done : (k : ℕ) (line : ReadLine) → slice_get reads k ≡ Some line → line.client ≡ client → (1 ≤ line.command) × (line.command ≤ done)
+    read_done : (k : ℕ) (line : ReadLine Reply) → slice_get reads k ≡ Some line → line.client ≡ client → (1 ≤ line.command) × (line.command ≤ done)
     read_done k line there by =
-        All-contains (λ (x : ReadLine). (1 ≤ x.command) × (x.command ≤ done)) (filter (by_read client) reads) line mine.reads_done
+        All-contains (λ (x : ReadLine Reply). (1 ≤ x.command) × (x.command ≤ done)) (filter (by_read client) reads) line mine.reads_done
         (has_contains (filter (by_read client) reads) line (has_filter (by_read client) reads line (has_get reads k line there) (eq-eqb line.client client by)))
 
     stop_next : (k : ℕ) (line : StopLine) → slice_get stops k ≡ Some line → line.client ≡ client → line.command ≡ done + 1
@@ -172,7 +172,7 @@ module _ (life : Life) (locals : List Local) (journal : List JournalLine) (reads
         let is : full_of client fulls ≡ Some line = ap (λ c. full_of c fulls) (sym by) ∙ first_is (λ (x : FullLine). x.client) fulls line m.fulls_in_order (has_get fulls k line there) in
         (full_end life client done l (stop_of client stops) line (subst (λ (o : Option FullLine). IsEnd life client done l (stop_of client stops) o) is mine.ends)).command
 
-    replied : (line : JournalLine) (command : ℕ) → command ≤ done → line.command ≡ command → IsDoneEntry done (stop_of client stops) line → IsSome line.reply
+    replied : (line : JournalLine Reply) (command : ℕ) → command ≤ done → line.command ≡ command → IsDoneEntry done (stop_of client stops) line → IsSome line.reply
     replied line command low is (inl answered) = answered.2
     replied line command low is (inr last) = let next : line.command ≡ done + 1 = last.0 in absurd (omega arith)
 
@@ -183,18 +183,18 @@ module _ (life : Life) (locals : List Local) (journal : List JournalLine) (reads
     over_of (Some line) full is any = inr (inl (stopped_in (Some line) is refl))
 
     -- the client ended: it was answered, or stopped, or gave up
-    pub has_ended : (told : LifeRecord) → told.journal ≡ journal → told.reads ≡ reads → told.stops ≡ stops → told.fulls ≡ fulls → HasEnded life told client
+    pub has_ended : (told : LifeRecord Reply) → told.journal ≡ journal → told.reads ≡ reads → told.stops ≡ stops → told.fulls ≡ fulls → HasEnded life told client
     has_ended told js rs ss fs = record {
       answered = done;
       within = mine.within;
       once = λ command one up. rw (js, rs)
-          (answers_counted client command journal reads (each_get (λ (x : JournalLine). x.client ≡ client → x.command ≡ command → IsSome x.reply) journal
+          (answers_counted client command journal reads (each_get (λ (x : JournalLine Reply). x.client ≡ client → x.command ≡ command → IsSome x.reply) journal
           (λ k line there by is. replied line command up is (entry_done k line there by)))
           ∙ mine.once command one up);
-      entries = rw (js, ss) (all_each (λ (x : JournalLine). x.client ≡ client → IsEndedEntry client done stops x) journal
-          (each_get (λ (x : JournalLine). x.client ≡ client → IsEndedEntry client done stops x) journal (λ k line there by. ended_entry line (entry_done k line there by))));
-      reads = rw rs (all_each (λ (x : ReadLine). x.client ≡ client → (1 ≤ x.command) × (x.command ≤ done)) reads
-          (each_get (λ (x : ReadLine). x.client ≡ client → (1 ≤ x.command) × (x.command ≤ done)) reads read_done));
+      entries = rw (js, ss) (all_each (λ (x : JournalLine Reply). x.client ≡ client → IsEndedEntry client done stops x) journal
+          (each_get (λ (x : JournalLine Reply). x.client ≡ client → IsEndedEntry client done stops x) journal (λ k line there by. ended_entry line (entry_done k line there by))));
+      reads = rw rs (all_each (λ (x : ReadLine Reply). x.client ≡ client → (1 ≤ x.command) × (x.command ≤ done)) reads
+          (each_get (λ (x : ReadLine Reply). x.client ≡ client → (1 ≤ x.command) × (x.command ≤ done)) reads read_done));
       stops = rw ss (all_each (λ (x : StopLine). x.client ≡ client → x.command ≡ done + 1) stops
           (each_get (λ (x : StopLine). x.client ≡ client → x.command ≡ done + 1) stops stop_next));
       fulls = rw fs (all_each (λ (x : FullLine). x.client ≡ client → x.command ≡ done + 1) fulls
@@ -203,16 +203,16 @@ module _ (life : Life) (locals : List Local) (journal : List JournalLine) (reads
     }
 
 -- clients whose lines are told by a history have ended
-pub told_ended : (life : Life) (place : ℕ) (history : List Entry) (locals : List Local) (told : LifeRecord) → AreWorks life locals told.journal told.reads told.stops told.fulls → IsTold life place history locals told → IsEnded life told
-told_ended life place history locals told m is = record {
+pub told_ended : {Op Reply : Type 0} → (encoding : Encoding Op Reply) → (life : Life Op) (place : ℕ) (history : List Entry) (locals : List Local) (told : LifeRecord Reply) → AreWorks encoding life locals told.journal told.reads told.stops told.fulls → IsTold encoding life place history locals told → IsEnded life told
+told_ended encoding life place history locals told m is = record {
   tickets = λ i line at. is.tickets i line at ∙ ap (λ p. p + i) (sym is.from);
-  interleaved = interleaves life locals told.journal told.reads told.stops told.fulls m is.callers;
+  interleaved = interleaves encoding life locals told.journal told.reads told.stops told.fulls m is.callers;
   reads_in_order = m.reads_in_order;
   stops_in_order = m.stops_in_order;
   fulls_in_order = m.fulls_in_order;
   ended = λ client below.
       let l = item_below locals client (let same = is.callers in omega arith) in
-      has_ended life locals told.journal told.reads told.stops told.fulls m is.callers client l.0 l.1 told refl refl refl refl;
-  stops = all_each (IsLegalStop life) told.stops (each_get (IsLegalStop life) told.stops (legal_stop life locals told.journal told.reads told.stops told.fulls m is.callers is.limits));
-  fulls = all_each (IsLegalFull life told) told.fulls (each_get (IsLegalFull life told) told.fulls (λ k line at. legal_full life locals told.journal told.reads told.stops told.fulls m is.callers told refl is.fulls k line at refl));
+      has_ended encoding life locals told.journal told.reads told.stops told.fulls m is.callers client l.0 l.1 told refl refl refl refl;
+  stops = all_each (IsLegalStop life) told.stops (each_get (IsLegalStop life) told.stops (legal_stop encoding life locals told.journal told.reads told.stops told.fulls m is.callers is.limits));
+  fulls = all_each (IsLegalFull life told) told.fulls (each_get (IsLegalFull life told) told.fulls (λ k line at. legal_full encoding life locals told.journal told.reads told.stops told.fulls m is.callers told refl is.fulls k line at refl));
 }

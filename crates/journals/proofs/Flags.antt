@@ -1,4 +1,4 @@
--- Kept flags may be set, and the numbers of entries kept and of documents filled in: what a closed table tells of a record, and
+-- Kept flags may be set, and the numbers of entries kept and of items filled in: what a closed table tells of a record, and
 -- what clients came to, stays.
 use Rattle.std.proofs.Common.{◌≡◌, ◌+◌, ◌<◌, ◌==◌, ◌&&◌, ◌||◌, ℕ, zero, suc, Bool, true, false, cond, List, [], ◌∷◌, length, get_or, set, filter, slice_get, Option, None, Some, sym, ap, subst, ◌∙◌, refl, inl, inr, ◌⊎◌, arith}
 use Rattle.std.specs.Prelude.{All, map}
@@ -22,6 +22,7 @@ use Rattle.journals.specs.Ended.{IsEnded, IsSameButKept, IsSameStop}
 use Rattle.journals.specs.Told.{IsTold, IsToldFull, IsToldStop}
 use Rattle.journals.specs.Works.{AreReadLines, HasWords, IsLineOf, IsLineReply, IsStoppedRead, by_read, stop_of, stops_in}
 use Rattle.journals.proofs.Lists.{all_each, each_all, pairs_rise, rises_pairs, zip_each, zip_rises}
+use Rattle.typed_object.specs.Meaning.{Encoding}
 
 -- another flag is all that differs
 pub flags_of : (f : StopLine → StopLine) → ((line : StopLine) → IsSameStop line (f line)) → (stops : List StopLine) → AllZip IsSameStop stops (map f stops)
@@ -81,40 +82,40 @@ same_stopped client (x ∷ xs) (y ∷ ys) z =
     ap (λ k. (k == client) || is_stopped client xs) (sym z.0.client)
     ∙ ap (λ b. (y.client == client) || b) (same_stopped client xs ys z.1)
 
-line_flagged : (life : Life) (client : ℕ) (answered : List Answer) (a b : Option StopLine) (x : Linked) (line : JournalLine) → SameStopOf a b → IsLineOf life client answered a x line → IsLineOf life client answered b x line
-line_flagged life client answered a b x line same is = record {
+line_flagged : {Op Reply : Type 0} → (encoding : Encoding Op Reply) → (life : Life Op) (client : ℕ) (answered : List Answer) (a b : Option StopLine) (x : Linked) (line : JournalLine Reply) → SameStopOf a b → IsLineOf encoding life client answered a x line → IsLineOf encoding life client answered b x line
+line_flagged encoding life client answered a b x line same is = record {
   ticket = is.ticket;
   by = is.by;
   client_is = is.client_is;
   op = is.op;
-  reply = subst (λ s. IsLineReply s answered line.ticket line.reply) (same_stops_in a b same line.command) is.reply;
+  reply = subst (λ s. IsLineReply encoding s answered line.ticket line.reply) (same_stops_in a b same line.command) is.reply;
 }
 
-stopped_flagged : (life : Life) (client : ℕ) (a b : Option StopLine) (x : SeenRead) → SameStopOf a b → IsStoppedRead life client a x → IsStoppedRead life client b x
-stopped_flagged life client None b x same is = absurd (none-some is.line is.is)
-stopped_flagged life client (Some a) None x same is = absurd same
-stopped_flagged life client (Some a) (Some b) x same is =
+stopped_flagged : {Op Reply : Type 0} → (encoding : Encoding Op Reply) → (life : Life Op) (client : ℕ) (a b : Option StopLine) (x : SeenRead) → SameStopOf a b → IsStoppedRead encoding life client a x → IsStoppedRead encoding life client b x
+stopped_flagged encoding life client None b x same is = absurd (none-some is.line is.is)
+stopped_flagged encoding life client (Some a) None x same is = absurd same
+stopped_flagged encoding life client (Some a) (Some b) x same is =
     let command : is.line.command ≡ b.command = ap (λ (s : StopLine). s.command) (sym (same_Some a is.line is.is)) ∙ sym same.command in
-    record { line = b; is = refl; op = subst (λ k. HasWords life client k x.op) command is.op }
+    record { line = b; is = refl; op = subst (λ k. HasWords encoding life client k x.op) command is.op }
 
-reads_flagged : (life : Life) (client : ℕ) (a b : Option StopLine) (seen : List SeenRead) (lines : List ReadLine) → SameStopOf a b → AreReadLines life client a seen lines → AreReadLines life client b seen lines
-reads_flagged life client a b seen lines same are = record {
+reads_flagged : {Op Reply : Type 0} → (encoding : Encoding Op Reply) → (life : Life Op) (client : ℕ) (a b : Option StopLine) (seen : List SeenRead) (lines : List (ReadLine Reply)) → SameStopOf a b → AreReadLines encoding life client a seen lines → AreReadLines encoding life client b seen lines
+reads_flagged encoding life client a b seen lines same are = record {
   told = are.told;
   left = are.left;
   are = are.are;
   lines_are = are.lines_are;
   few = are.few;
-  stopped = All-weaker (IsStoppedRead life client a) (IsStoppedRead life client b) (λ x is. stopped_flagged life client a b x same is) are.left are.stopped;
+  stopped = All-weaker (IsStoppedRead encoding life client a) (IsStoppedRead encoding life client b) (λ x is. stopped_flagged encoding life client a b x same is) are.left are.stopped;
 }
 
 -- what holds of a stop line whatever its flag holds of those that got theirs
 stops_flagged : (P : StopLine → Type 0) → ((a b : StopLine) → IsSameStop a b → P a → P b) → (xs ys : List StopLine) → AllZip IsSameStop xs ys → All P xs → All P ys
 stops_flagged P f xs ys z all = all_each P ys (zip_each IsSameStop P P f xs ys z (each_all P xs all))
 
-module _ (life : Life) (told flagged : LifeRecord) (same : IsSameButKept told flagged) where
+module _ {Op Reply : Type 0} (life : Life Op) (told flagged : LifeRecord Reply) (same : IsSameButKept told flagged) where
   -- what a closed table tells of the record stays
-  pub told_flagged : (place : ℕ) (history : List Entry) (locals : List Local) → IsTold life place history locals told → IsTold life place history locals flagged
-  told_flagged place history locals is = record {
+  pub told_flagged : (encoding : Encoding Op Reply) (place : ℕ) (history : List Entry) (locals : List Local) → IsTold encoding life place history locals told → IsTold encoding life place history locals flagged
+  told_flagged encoding place history locals is = record {
     clients = same.clients ∙ is.clients;
     callers = is.callers;
     limits = is.limits;
@@ -122,10 +123,10 @@ module _ (life : Life) (told flagged : LifeRecord) (same : IsSameButKept told fl
     long = rw same.journal is.long;
     tickets = rw same.journal is.tickets;
     entries = rw same.journal (λ i line entry l at there of.
-        line_flagged life entry.caller l.answered (stop_of entry.caller told.stops) (stop_of entry.caller flagged.stops) (record { ticket = place + i; entry = entry }) line
+        line_flagged encoding life entry.caller l.answered (stop_of entry.caller told.stops) (stop_of entry.caller flagged.stops) (record { ticket = place + i; entry = entry }) line
         (same_stop_of entry.caller told.stops flagged.stops same.stops) (is.entries i line entry l at there of));
     reads = rw same.reads (λ client l at.
-        reads_flagged life client (stop_of client told.stops) (stop_of client flagged.stops) l.seen_reads (filter (by_read client) told.reads)
+        reads_flagged encoding life client (stop_of client told.stops) (stop_of client flagged.stops) l.seen_reads (filter (by_read client) told.reads)
         (same_stop_of client told.stops flagged.stops same.stops) (is.reads client l at));
     stops = stops_flagged (IsToldStop locals)
         (λ a b s t. record { local = t.local; of_client = ap (slice_get locals) s.client ∙ t.of_client; steps = t.steps })
@@ -144,7 +145,7 @@ module _ (life : Life) (told flagged : LifeRecord) (same : IsSameButKept told fl
   has_flag : (client command : ℕ) → has_stop client command told.stops ≡ has_stop client command flagged.stops
   has_flag client command = same_has_stop client command told.stops flagged.stops same.stops
 
-  entry_flagged : (client answered : ℕ) (line : JournalLine) → IsEndedEntry client answered told.stops line → IsEndedEntry client answered flagged.stops line
+  entry_flagged : (client answered : ℕ) (line : JournalLine Reply) → IsEndedEntry client answered told.stops line → IsEndedEntry client answered flagged.stops line
   entry_flagged client answered line (inl has) = inl has
   entry_flagged client answered line (inr last) = inr (last.0, last.1, sym (has_flag client (answered + 1)) ∙ last.2)
 
@@ -158,7 +159,7 @@ module _ (life : Life) (told flagged : LifeRecord) (same : IsSameButKept told fl
     answered = e.answered;
     within = e.within;
     once = rw (same.journal, same.reads) e.once;
-    entries = rw same.journal (All-weaker (λ (x : JournalLine). x.client ≡ client → IsEndedEntry client e.answered told.stops x) (λ (x : JournalLine). x.client ≡ client → IsEndedEntry client e.answered flagged.stops x)
+    entries = rw same.journal (All-weaker (λ (x : JournalLine Reply). x.client ≡ client → IsEndedEntry client e.answered told.stops x) (λ (x : JournalLine Reply). x.client ≡ client → IsEndedEntry client e.answered flagged.stops x)
         (λ x was by. entry_flagged client e.answered x (was by)) told.journal e.entries);
     reads = rw same.reads e.reads;
     stops = stops_flagged (λ (x : StopLine). x.client ≡ client → x.command ≡ e.answered + 1)

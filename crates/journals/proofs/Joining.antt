@@ -17,10 +17,11 @@ use Rattle.life_records.specs.Lives.{IsReadBefore}
 use Rattle.journals.specs.Works.{AreWorks, IsEnd, IsLineOf, IsReadLine, IsWork, by_entry, by_read, first_of, full_of, stop_of}
 use Rattle.journals.proofs.Lists.{Each, all_each, each_all, each_get, each_has, filter_mine, filter_other, has_get, pairs_append, zip_all}
 use Rattle.journals.proofs.Firsts.{first_later, first_of-option, first_other}
+use Rattle.typed_object.specs.Meaning.{Encoding}
 
 -- no client yet
-pub works_none : (life : Life) → AreWorks life [] [] [] [] []
-works_none life = record {
+pub works_none : {Op Reply : Type 0} → (encoding : Encoding Op Reply) → (life : Life Op) → AreWorks encoding life [] [] [] [] []
+works_none encoding life = record {
   each = λ i l at. absurd (none-some l at);
   of_entries = λ k d within. absurd (omega arith);
   of_reads = λ k d within. absurd (omega arith);
@@ -39,12 +40,12 @@ own_append (k ∷ ls) l =
     omega (arith, length-append k.own (all_own (ls ++ l ∷ [])), length-append k.own (all_own ls))
 
 -- a stop line is its client's, and so is a full line
-stop_by : (life : Life) (n done : ℕ) (l : Local) (stop : Option StopLine) (full : Option FullLine) → IsEnd life n done l stop full → Each (λ (s : StopLine). s.client ≡ n) (option_to_list stop)
+stop_by : {Op : Type 0} → (life : Life Op) (n done : ℕ) (l : Local) (stop : Option StopLine) (full : Option FullLine) → IsEnd life n done l stop full → Each (λ (s : StopLine). s.client ≡ n) (option_to_list stop)
 stop_by life n done l None full end = tt
 stop_by life n done l (Some line) None end = (end.client_is, tt)
 stop_by life n done l (Some line) (Some other) end = absurd end
 
-full_by : (life : Life) (n done : ℕ) (l : Local) (stop : Option StopLine) (full : Option FullLine) → IsEnd life n done l stop full → Each (λ (s : FullLine). s.client ≡ n) (option_to_list full)
+full_by : {Op : Type 0} → (life : Life Op) (n done : ℕ) (l : Local) (stop : Option StopLine) (full : Option FullLine) → IsEnd life n done l stop full → Each (λ (s : FullLine). s.client ≡ n) (option_to_list full)
 full_by life n done l stop None end = tt
 full_by life n done l None (Some line) end = (end.client_is, tt)
 full_by life n done l (Some other) (Some line) end = absurd end
@@ -54,16 +55,16 @@ one_item : {X : Type 0} (R : X → X → Type 0) (o : Option X) → AllPairs R (
 one_item R None i j d up within = absurd (omega arith)
 one_item R (Some line) i j d up within = absurd (omega arith)
 
-module _ (life : Life) (locals : List Local) (l : Local) (entries es : List JournalLine) (reads rs : List ReadLine) (stops : List StopLine) (stop : Option StopLine) (fulls : List FullLine) (full : Option FullLine)
-    (m : AreWorks life locals entries reads stops fulls) (w : IsWork life (length locals) l es rs stop full) where
+module _ {Op Reply : Type 0} (encoding : Encoding Op Reply) (life : Life Op) (locals : List Local) (l : Local) (entries es : List (JournalLine Reply)) (reads rs : List (ReadLine Reply)) (stops : List StopLine) (stop : Option StopLine) (fulls : List FullLine) (full : Option FullLine)
+    (m : AreWorks encoding life locals entries reads stops fulls) (w : IsWork encoding life (length locals) l es rs stop full) where
   abbrev n : ℕ
   n = length locals
 
-  es_by : Each (λ (x : JournalLine). x.client ≡ n) es
-  es_by = zip_all (IsLineOf life n l.answered stop) (λ (x : JournalLine). x.client ≡ n) (λ a b r. r.client_is) l.own es w.entry_lines
+  es_by : Each (λ (x : JournalLine Reply). x.client ≡ n) es
+  es_by = zip_all (IsLineOf encoding life n l.answered stop) (λ (x : JournalLine Reply). x.client ≡ n) (λ a b r. r.client_is) l.own es w.entry_lines
 
-  rs_by : Each (λ (x : ReadLine). x.client ≡ n) rs
-  rs_by = zip_all (IsReadLine life n) (λ (x : ReadLine). x.client ≡ n) (λ a b r. r.client_is) w.read_lines.told rs w.read_lines.lines_are
+  rs_by : Each (λ (x : ReadLine Reply). x.client ≡ n) rs
+  rs_by = zip_all (IsReadLine encoding life n) (λ (x : ReadLine Reply). x.client ≡ n) (λ a b r. r.client_is) w.read_lines.told rs w.read_lines.lines_are
 
   ss_by : Each (λ (x : StopLine). x.client ≡ n) (option_to_list stop)
   ss_by = stop_by life n w.done l stop full w.ends
@@ -117,33 +118,33 @@ module _ (life : Life) (locals : List Local) (l : Local) (entries es : List Jour
       omega arith)
 
   -- one client more
-  pub works_more : AreWorks life (locals ++ l ∷ []) (entries ++ es) (reads ++ rs) (stops ++ option_to_list stop) (fulls ++ option_to_list full)
+  pub works_more : AreWorks encoding life (locals ++ l ∷ []) (entries ++ es) (reads ++ rs) (stops ++ option_to_list stop) (fulls ++ option_to_list full)
   works_more = record {
     each = λ i g at.
         elim (slice_get-push locals l i g at) [
           | inl old ↦ (
               let less : i < n = slice_get_within locals i g old in
-              rw (filter_other (λ (x : JournalLine). x.client) n i entries es m.of_entries es_by less, filter_other (λ (x : ReadLine). x.client) n i reads rs m.of_reads rs_by less, stop_before i less, full_before i less) (m.each i g old))
+              rw (filter_other (λ (x : JournalLine Reply). x.client) n i entries es m.of_entries es_by less, filter_other (λ (x : ReadLine Reply). x.client) n i reads rs m.of_reads rs_by less, stop_before i less, full_before i less) (m.each i g old))
           | inr new ↦
-              subst (λ (k : ℕ). IsWork life k g (filter (by_entry k) (entries ++ es)) (filter (by_read k) (reads ++ rs)) (stop_of k (stops ++ option_to_list stop)) (full_of k (fulls ++ option_to_list full))) (sym new.0)
-              (rw (filter_mine (λ (x : JournalLine). x.client) n entries es m.of_entries es_by, filter_mine (λ (x : ReadLine). x.client) n reads rs m.of_reads rs_by, stop_mine, full_mine)
-              (subst (λ (x : Local). IsWork life n x es rs stop full) new.1 w))
+              subst (λ (k : ℕ). IsWork encoding life k g (filter (by_entry k) (entries ++ es)) (filter (by_read k) (reads ++ rs)) (stop_of k (stops ++ option_to_list stop)) (full_of k (fulls ++ option_to_list full))) (sym new.0)
+              (rw (filter_mine (λ (x : JournalLine Reply). x.client) n entries es m.of_entries es_by, filter_mine (λ (x : ReadLine Reply). x.client) n reads rs m.of_reads rs_by, stop_mine, full_mine)
+              (subst (λ (x : Local). IsWork encoding life n x es rs stop full) new.1 w))
         ];
-    of_entries = rw longer (below (λ (x : JournalLine). x.client) entries es m.of_entries es_by);
-    of_reads = rw longer (below (λ (x : ReadLine). x.client) reads rs m.of_reads rs_by);
+    of_entries = rw longer (below (λ (x : JournalLine Reply). x.client) entries es m.of_entries es_by);
+    of_reads = rw longer (below (λ (x : ReadLine Reply). x.client) reads rs m.of_reads rs_by);
     of_stops = rw longer (below (λ (x : StopLine). x.client) stops (option_to_list stop) m.of_stops ss_by);
     of_fulls = rw longer (below (λ (x : FullLine). x.client) fulls (option_to_list full) m.of_fulls fs_by);
-    long = omega (arith, length-append entries es, m.long, own_append locals l, AllZip-long (IsLineOf life n l.answered stop) l.own es w.entry_lines);
+    long = omega (arith, length-append entries es, m.long, own_append locals l, AllZip-long (IsLineOf encoding life n l.answered stop) l.own es w.entry_lines);
     reads_in_order = pairs_append IsReadBefore reads rs m.reads_in_order
         (λ i j d up within. inr (
-          (let a : (get_or rs i d).client ≡ n = all_each (λ (x : ReadLine). x.client ≡ n) rs rs_by i d (omega arith) in
-              let b : (get_or rs j d).client ≡ n = all_each (λ (x : ReadLine). x.client ≡ n) rs rs_by j d within in
+          (let a : (get_or rs i d).client ≡ n = all_each (λ (x : ReadLine Reply). x.client ≡ n) rs rs_by i d (omega arith) in
+              let b : (get_or rs j d).client ≡ n = all_each (λ (x : ReadLine Reply). x.client ≡ n) rs rs_by j d within in
               a ∙ sym b),
           w.reads_in_turn i j d up within,
         ))
         (λ x y a b. inl (
-        let low : x.client < n = each_has (λ (x : ReadLine). x.client < n) reads x (each_all (λ (x : ReadLine). x.client < n) reads m.of_reads) a in
-        let same : y.client ≡ n = each_has (λ (x : ReadLine). x.client ≡ n) rs y rs_by b in
+        let low : x.client < n = each_has (λ (x : ReadLine Reply). x.client < n) reads x (each_all (λ (x : ReadLine Reply). x.client < n) reads m.of_reads) a in
+        let same : y.client ≡ n = each_has (λ (x : ReadLine Reply). x.client ≡ n) rs y rs_by b in
         omega arith));
     stops_in_order = in_order (λ (x : StopLine). x.client) stops stop m.stops_in_order m.of_stops ss_by;
     fulls_in_order = in_order (λ (x : FullLine). x.client) fulls full m.fulls_in_order m.of_fulls fs_by;

@@ -26,46 +26,47 @@ use Rattle.journals.proofs.Lists.{Has, Rises, all_each, climbs_from, each_get, f
 use Rattle.journals.proofs.Owns.{own_rises}
 use Rattle.journals.proofs.Firsts.{first_is}
 use Rattle.life_records.specs.Lives.{is_stopped}
+use Rattle.typed_object.specs.Meaning.{Encoding}
 
 linked_is : (x : Linked) (ticket : ℕ) (entry : Entry) → x.ticket ≡ ticket → x.entry ≡ entry → x ≡ record { ticket = ticket; entry = entry }
 linked_is x ticket entry t e = ap (λ (k : ℕ). record { ticket = k; entry = x.entry }) t ∙ ap (λ (y : Entry). record { ticket = ticket; entry = y }) e
 
 -- a client with a stop line was stopped, and one with a full line gave up
-pub stop_end : (life : Life) (client done : ℕ) (l : Local) (line : StopLine) (full : Option FullLine) → IsEnd life client done l (Some line) full → IsStopOf life client done l line
+pub stop_end : {Op : Type 0} → (life : Life Op) (client done : ℕ) (l : Local) (line : StopLine) (full : Option FullLine) → IsEnd life client done l (Some line) full → IsStopOf life client done l line
 stop_end life client done l line None end = end
 stop_end life client done l line (Some other) end = absurd end
 
-pub full_end : (life : Life) (client done : ℕ) (l : Local) (stop : Option StopLine) (line : FullLine) → IsEnd life client done l stop (Some line) → IsFullOf life client done l line
+pub full_end : {Op : Type 0} → (life : Life Op) (client done : ℕ) (l : Local) (stop : Option StopLine) (line : FullLine) → IsEnd life client done l stop (Some line) → IsFullOf life client done l line
 full_end life client done l None line end = end
 full_end life client done l (Some other) line end = absurd end
 
-module _ (life : Life) (place : ℕ) (history : List Entry) (locals : List Local) (entries journal : List JournalLine) (reads : List ReadLine) (stops : List StopLine) (fulls : List FullLine)
-    (m : AreWorks life locals entries reads stops fulls) (merged : IsHistory place history locals) (sorted : IsByTicket entries journal) where
-  abbrev ticket_of : JournalLine → ℕ
+module _ {Op Reply : Type 0} (encoding : Encoding Op Reply) (life : Life Op) (place : ℕ) (history : List Entry) (locals : List Local) (entries journal : List (JournalLine Reply)) (reads : List (ReadLine Reply)) (stops : List StopLine) (fulls : List FullLine)
+    (m : AreWorks encoding life locals entries reads stops fulls) (merged : IsHistory place history locals) (sorted : IsByTicket entries journal) where
+  abbrev ticket_of : JournalLine Reply → ℕ
   ticket_of line = line.ticket
 
   -- a caller's lines rise by ticket
   own_lines_rise : (i : ℕ) (l : Local) → slice_get locals i ≡ Some l → Rises ticket_of (filter (by_entry i) entries)
   own_lines_rise i l at =
-      zip_rises (IsLineOf life i l.answered (stop_of i stops)) (λ (x : Linked). x.ticket) ticket_of (λ x line is. is.ticket) l.own (filter (by_entry i) entries) (m.each i l at).entry_lines
+      zip_rises (IsLineOf encoding life i l.answered (stop_of i stops)) (λ (x : Linked). x.ticket) ticket_of (λ x line is. is.ticket) l.own (filter (by_entry i) entries) (m.each i l at).entry_lines
       (subst (Rises (λ (x : Linked). x.ticket)) (sym (merged.own i l at)) (own_rises i place history))
 
   -- each ticket of the history has a line
-  has_line : (n : ℕ) (entry : Entry) → slice_get history n ≡ Some entry → (line : JournalLine) × Has entries line × (line.ticket ≡ place + n)
+  has_line : (n : ℕ) (entry : Entry) → slice_get history n ≡ Some entry → (line : JournalLine Reply) × Has entries line × (line.ticket ≡ place + n)
   has_line n entry at =
       let c = entry.caller in
       let l = item_below locals c (merged.of_callers n entry at) in
       let own = has_own c place history n entry at refl in
       let x : Linked = record { ticket = place + n; entry = entry } in
       let there : Has l.0.own x = has_get l.0.own own.0 x (ap (λ xs. slice_get xs own.0) (merged.own c l.0 l.1) ∙ own.1) in
-      let found = zip_has (IsLineOf life c l.0.answered (stop_of c stops)) l.0.own (filter (by_entry c) entries) x (m.each c l.0 l.1).entry_lines there in
+      let found = zip_has (IsLineOf encoding life c l.0.answered (stop_of c stops)) l.0.own (filter (by_entry c) entries) x (m.each c l.0 l.1).entry_lines there in
       (found.0, filter_has (by_entry c) entries found.0 found.1, found.2.ticket)
 
   long_journal : length journal ≡ length history
   long_journal = length_permutation entries journal sorted.moved ∙ m.long ∙ own_count place history locals merged
 
   -- by ticket, they have the tickets from the place on
-  tickets_are : (i : ℕ) (line : JournalLine) → slice_get journal i ≡ Some line → line.ticket ≡ place + i
+  tickets_are : (i : ℕ) (line : JournalLine Reply) → slice_get journal i ≡ Some line → line.ticket ≡ place + i
   tickets_are i line at =
       let long : length (map ticket_of journal) ≡ length history = length_map ticket_of journal ∙ long_journal in
       let all : (t : ℕ) → place ≤ t → t < place + length (map ticket_of journal) → Has (map ticket_of journal) t = λ t from below. (
@@ -80,7 +81,7 @@ module _ (life : Life) (place : ℕ) (history : List Entry) (locals : List Local
   same_lines : (i : ℕ) (l : Local) → slice_get locals i ≡ Some l → filter (by_entry i) journal ≡ filter (by_entry i) entries
   same_lines i l at =
       let p = by_entry i in
-      let passes : (xs : List JournalLine) (z : JournalLine) → Has (filter p xs) z → p z ≡ true = λ xs z h. All-contains (λ (x : JournalLine). p x ≡ true) (filter p xs) z (filter_passes p xs) (has_contains (filter p xs) z h) in
+      let passes : (xs : List (JournalLine Reply)) (z : JournalLine Reply) → Has (filter p xs) z → p z ≡ true = λ xs z h. All-contains (λ (x : JournalLine Reply). p x ≡ true) (filter p xs) z (filter_passes p xs) (has_contains (filter p xs) z h) in
       same_items ticket_of (filter p journal) (filter p entries)
       (rises_filter ticket_of p journal (rises_from ticket_of place journal tickets_are))
       (own_lines_rise i l at)
@@ -88,10 +89,10 @@ module _ (life : Life) (place : ℕ) (history : List Entry) (locals : List Local
       (λ z h. has_filter p journal z (has_moved entries journal z sorted.moved (filter_has p entries z h)) (passes entries z h))
 
   -- so the journal's lines are the clients', too
-  pub still_works : AreWorks life locals journal reads stops fulls
+  pub still_works : AreWorks encoding life locals journal reads stops fulls
   still_works = record {
-    each = λ i l at. subst (λ ls. IsWork life i l ls (filter (by_read i) reads) (stop_of i stops) (full_of i fulls)) (sym (same_lines i l at)) (m.each i l at);
-    of_entries = All-permutation (λ (x : JournalLine). x.client < length locals) entries journal sorted.moved m.of_entries;
+    each = λ i l at. subst (λ ls. IsWork encoding life i l ls (filter (by_read i) reads) (stop_of i stops) (full_of i fulls)) (sym (same_lines i l at)) (m.each i l at);
+    of_entries = All-permutation (λ (x : JournalLine Reply). x.client < length locals) entries journal sorted.moved m.of_entries;
     of_reads = m.of_reads;
     of_stops = m.of_stops;
     of_fulls = m.of_fulls;
@@ -102,14 +103,14 @@ module _ (life : Life) (place : ℕ) (history : List Entry) (locals : List Local
   }
 
   -- one line for each entry, at its ticket
-  line_at : (i : ℕ) (line : JournalLine) (entry : Entry) (l : Local) → slice_get journal i ≡ Some line → slice_get history i ≡ Some entry → slice_get locals entry.caller ≡ Some l →
-      IsLineOf life entry.caller l.answered (stop_of entry.caller stops) (record { ticket = place + i; entry = entry }) line
+  line_at : (i : ℕ) (line : JournalLine Reply) (entry : Entry) (l : Local) → slice_get journal i ≡ Some line → slice_get history i ≡ Some entry → slice_get locals entry.caller ≡ Some l →
+      IsLineOf encoding life entry.caller l.answered (stop_of entry.caller stops) (record { ticket = place + i; entry = entry }) line
   line_at i line entry l at there of =
       let c = line.client in
       let has = has_get journal i line at in
-      let h = item_below locals c (All-contains (λ (x : JournalLine). x.client < length locals) journal line still_works.of_entries (has_contains journal line has)) in
+      let h = item_below locals c (All-contains (λ (x : JournalLine Reply). x.client < length locals) journal line still_works.of_entries (has_contains journal line has)) in
       let mine : Has (filter (by_entry c) journal) line = has_filter (by_entry c) journal line has (eq-eqb c c refl) in
-      let x = zip_back (IsLineOf life c h.0.answered (stop_of c stops)) h.0.own (filter (by_entry c) journal) line (still_works.each c h.0 h.1).entry_lines mine in
+      let x = zip_back (IsLineOf encoding life c h.0.answered (stop_of c stops)) h.0.own (filter (by_entry c) journal) line (still_works.each c h.0 h.1).entry_lines mine in
       let own = get_has h.0.own x.0 x.1 in
       let place_of = own_at c place history own.0 x.0 (ap (λ xs. slice_get xs own.0) (sym (merged.own c h.0 h.1)) ∙ own.1) in
       let ticket : line.ticket ≡ place + i = tickets_are i line at in
@@ -119,8 +120,8 @@ module _ (life : Life) (place : ℕ) (history : List Entry) (locals : List Local
       let by : entry.caller ≡ c = ap (λ (e : Entry). e.caller) (sym same) ∙ x.2.by in
       let local : h.0 ≡ l = same_Some h.0 l (sym h.1 ∙ ap (slice_get locals) (sym by) ∙ of) in
       let whole = linked_is x.0 (place + i) entry from same in
-      subst (λ (w : Linked). IsLineOf life entry.caller l.answered (stop_of entry.caller stops) w line) whole
-      (subst (λ (k : ℕ). IsLineOf life k l.answered (stop_of k stops) x.0 line) (sym by) (subst (λ (w : Local). IsLineOf life c w.answered (stop_of c stops) x.0 line) local x.2))
+      subst (λ (w : Linked). IsLineOf encoding life entry.caller l.answered (stop_of entry.caller stops) w line) whole
+      (subst (λ (k : ℕ). IsLineOf encoding life k l.answered (stop_of k stops) x.0 line) (sym by) (subst (λ (w : Local). IsLineOf encoding life c w.answered (stop_of c stops) x.0 line) local x.2))
 
   -- a stopped client made all the steps that it may
   stopped_at : (line : StopLine) (k : ℕ) → slice_get stops k ≡ Some line → IsToldStop locals line
@@ -149,8 +150,8 @@ module _ (life : Life) (place : ℕ) (history : List Entry) (locals : List Local
       }
 
   -- and a record of them is told by the history
-  pub journal_told : All (λ (line : FullLine). is_stopped line.note.holder stops ≡ true) fulls → (told : LifeRecord) → IsRecordOf place locals journal reads stops fulls told → length locals ≡ life.clients →
-      ((client : ℕ) (l : Local) → slice_get locals client ≡ Some l → l.limit ≡ limit_in client life.cuts) → IsTold life place history locals told
+  pub journal_told : All (λ (line : FullLine). is_stopped line.note.holder stops ≡ true) fulls → (told : LifeRecord Reply) → IsRecordOf place locals journal reads stops fulls told → length locals ≡ life.clients →
+      ((client : ℕ) (l : Local) → slice_get locals client ≡ Some l → l.limit ≡ limit_in client life.cuts) → IsTold encoding life place history locals told
   journal_told stopped told is callers limits = record {
     clients = is.clients;
     callers = callers;

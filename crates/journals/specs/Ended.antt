@@ -10,8 +10,8 @@ use Rattle.life_records.specs.Lives.{HasEnded, Interleaves, IsFullBefore, IsKept
 -- What a legal life says of its clients' commands: one history, that interleaves them; lines in their order; each command answered
 -- once, up to its client's end; and clients that were stopped at their limits. Replies and places are not looked at, nor which
 -- stop lines are kept.
-pub record IsEnded (life : Life) (told : LifeRecord) : Type 0 where
-  pub tickets : (i : ℕ) (line : JournalLine) → slice_get told.journal i ≡ Some line → line.ticket ≡ told.from + i
+pub record IsEnded {Op Reply : Type 0} (life : Life Op) (told : LifeRecord Reply) : Type 0 where
+  pub tickets : (i : ℕ) (line : JournalLine Reply) → slice_get told.journal i ≡ Some line → line.ticket ≡ told.from + i
   pub interleaved : Interleaves life told.journal
   pub reads_in_order : AllPairs IsReadBefore told.reads
   pub stops_in_order : AllPairs IsStopBefore told.stops
@@ -26,8 +26,8 @@ pub record IsSameStop (a b : StopLine) : Type 0 where
   pub command : b.command ≡ a.command
   pub steps : b.steps ≡ a.steps
 
--- the same record, maybe with other kept flags, numbers of entries kept and of documents, and another choice
-pub record IsSameButKept (told flagged : LifeRecord) : Type 0 where
+-- the same record, maybe with other kept flags, numbers of entries kept and of items, and another choice
+pub record IsSameButKept {Reply : Type 0} (told flagged : LifeRecord Reply) : Type 0 where
   pub clients : flagged.clients ≡ told.clients
   pub from : flagged.from ≡ told.from
   pub journal : flagged.journal ≡ told.journal
@@ -36,10 +36,10 @@ pub record IsSameButKept (told flagged : LifeRecord) : Type 0 where
   pub fulls : flagged.fulls ≡ told.fulls
 
 -- the kept flag says whether the stopped command has an entry that is kept
-abbrev pub IsFlagged : ℕ → ℕ → List JournalLine → StopLine → Type 0
+abbrev pub IsFlagged : {Reply : Type 0} → ℕ → ℕ → List (JournalLine Reply) → StopLine → Type 0
 IsFlagged place kept journal line = (line.kept ≡ true) ↔ IsKeptStop place kept journal line
 
 -- the same stops, each with its kept flag
-pub record AreFlagged (place kept : ℕ) (journal : List JournalLine) (before after : List StopLine) : Type 0 where
+pub record AreFlagged {Reply : Type 0} (place kept : ℕ) (journal : List (JournalLine Reply)) (before after : List StopLine) : Type 0 where
   pub same : AllZip IsSameStop before after
   pub flags : All (IsFlagged place kept journal) after

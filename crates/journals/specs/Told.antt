@@ -10,6 +10,7 @@ use Rattle.life_records.specs.declared.record.StopLine.{StopLine}
 use Rattle.life_records.specs.Lives.{is_stopped}
 use Rattle.life_records.specs.Scripts.{limit_in}
 use Rattle.journals.specs.Works.{AreReadLines, HoldsFrom, IsLineOf, by_read, stop_of}
+use Rattle.typed_object.specs.Meaning.{Encoding}
 
 -- a client's stop line: its caller's steps equal its limit
 pub record IsToldStop (locals : List Local) (line : StopLine) : Type 0 where
@@ -27,7 +28,7 @@ pub record IsToldFull (locals : List Local) (stops : List StopLine) (line : Full
   pub stopped : is_stopped line.note.holder stops ≡ true
 
 -- The record of a life is told by a history that began at a place, and by these local states.
-pub record IsTold (life : Life) (place : ℕ) (history : List Entry) (locals : List Local) (told : LifeRecord) : Type 0 where
+pub record IsTold {Op Reply : Type 0} (encoding : Encoding Op Reply) (life : Life Op) (place : ℕ) (history : List Entry) (locals : List Local) (told : LifeRecord Reply) : Type 0 where
   -- one caller for each client, whose limit is the client's cut
   pub clients : told.clients ≡ length locals
   pub callers : length locals ≡ life.clients
@@ -36,10 +37,10 @@ pub record IsTold (life : Life) (place : ℕ) (history : List Entry) (locals : L
   -- one line for each entry of the history, at its ticket: of its caller, with the words of the line's command, and with the reply
   -- that was answered there, or none where the command was stopped
   pub long : length told.journal ≡ length history
-  pub tickets : (i : ℕ) (line : JournalLine) → slice_get told.journal i ≡ Some line → line.ticket ≡ place + i
-  pub entries : (i : ℕ) (line : JournalLine) (entry : Entry) (l : Local) → slice_get told.journal i ≡ Some line → slice_get history i ≡ Some entry → slice_get locals entry.caller ≡ Some l →
-      IsLineOf life entry.caller l.answered (stop_of entry.caller told.stops) (record { ticket = place + i; entry = entry }) line
+  pub tickets : (i : ℕ) (line : JournalLine Reply) → slice_get told.journal i ≡ Some line → line.ticket ≡ place + i
+  pub entries : (i : ℕ) (line : JournalLine Reply) (entry : Entry) (l : Local) → slice_get told.journal i ≡ Some line → slice_get history i ≡ Some entry → slice_get locals entry.caller ≡ Some l →
+      IsLineOf encoding life entry.caller l.answered (stop_of entry.caller told.stops) (record { ticket = place + i; entry = entry }) line
   -- the reads are those that the callers saw, but for one of a command that was stopped
-  pub reads : (client : ℕ) (l : Local) → slice_get locals client ≡ Some l → AreReadLines life client (stop_of client told.stops) l.seen_reads (filter (by_read client) told.reads)
+  pub reads : (client : ℕ) (l : Local) → slice_get locals client ≡ Some l → AreReadLines encoding life client (stop_of client told.stops) l.seen_reads (filter (by_read client) told.reads)
   pub stops : All (IsToldStop locals) told.stops
   pub fulls : All (IsToldFull locals told.stops) told.fulls

@@ -7,9 +7,6 @@ use Rattle.cx_core.specs.declared.local.Local.{Local}
 use Rattle.cx_core.specs.declared.local.SeenRead.{SeenRead}
 use Rattle.cx_core.specs.Merge.{all_own}
 use Rattle.cx_core.specs.QueueEvents.{cell_of}
-use Rattle.doc_model.specs.declared.operations.Op.{Op}
-use Rattle.doc_model.specs.declared.operations.Reply.{Reply}
-use Rattle.doc_model.specs.Words.{op_words, reply_words}
 use Rattle.life_records.specs.declared.script.Life.{Life}
 use Rattle.life_records.specs.declared.record.FullLine.{FullLine}
 use Rattle.life_records.specs.declared.record.JournalLine.{JournalLine}
@@ -17,21 +14,22 @@ use Rattle.life_records.specs.declared.record.ReadLine.{ReadLine}
 use Rattle.life_records.specs.declared.record.StopLine.{StopLine}
 use Rattle.life_records.specs.Lives.{IsFullBefore, IsReadBefore, IsStopBefore}
 use Rattle.life_records.specs.Scripts.{named_op, own_ops}
+use Rattle.typed_object.specs.Meaning.{Encoding}
 
 -- the client's command of this number has these words
-pub record HasWords (life : Life) (client command : ℕ) (words : List ℕ) : Type 0 where
+pub record HasWords {Op Reply : Type 0} (encoding : Encoding Op Reply) (life : Life Op) (client command : ℕ) (words : List ℕ) : Type 0 where
   pub op : Op
   pub named : named_op life client command ≡ Some op
-  pub words_are : op_words op ≡ words
+  pub words_are : encoding.op_words op ≡ words
 
 -- no answer has this ticket
 abbrev pub NoAnswer : List Answer → ℕ → Type 0
 NoAnswer answered ticket = All (λ (a : Answer). a.ticket ≢ ticket) answered
 
 -- the reply is the one whose words were answered at the ticket; without one, nothing was answered there
-abbrev pub IsReplyAt : List Answer → ℕ → Option Reply → Type 0
-IsReplyAt answered ticket None = NoAnswer answered ticket
-IsReplyAt answered ticket (Some reply) = Contains answered (record { ticket = ticket; reply = reply_words reply })
+abbrev pub IsReplyAt : {Op Reply : Type 0} → (encoding : Encoding Op Reply) → List Answer → ℕ → Option Reply → Type 0
+IsReplyAt encoding answered ticket None = NoAnswer answered ticket
+IsReplyAt encoding answered ticket (Some reply) = Contains answered (record { ticket = ticket; reply = encoding.reply_words reply })
 
 -- whether the client was stopped in this command
 abbrev pub stops_in : Option StopLine → ℕ → Bool
@@ -39,65 +37,67 @@ stops_in None command = false
 stops_in (Some stop) command = stop.command == command
 
 -- the reply of an entry's line: that of the answer at its ticket, and none where the command was stopped
-abbrev pub IsLineReply : Bool → List Answer → ℕ → Option Reply → Type 0
-IsLineReply true answered ticket reply = reply ≡ None
-IsLineReply false answered ticket reply = IsReplyAt answered ticket reply
+abbrev pub IsLineReply : {Op Reply : Type 0} → (encoding : Encoding Op Reply) → Bool → List Answer → ℕ → Option Reply → Type 0
+IsLineReply encoding true answered ticket reply = reply ≡ None
+IsLineReply encoding false answered ticket reply = IsReplyAt encoding answered ticket reply
 
 -- the line of a linked entry of a client
-pub record IsLineOf (life : Life) (client : ℕ) (answered : List Answer) (stop : Option StopLine) (x : Linked) (line : JournalLine) : Type 0 where
+pub record IsLineOf {Op Reply : Type 0} (encoding : Encoding Op Reply) (life : Life Op) (client : ℕ) (answered : List Answer) (stop : Option StopLine) (x : Linked) (line : JournalLine Reply) : Type 0 where
   pub ticket : line.ticket ≡ x.ticket
   pub by : x.entry.caller ≡ client
   pub client_is : line.client ≡ client
-  pub op : HasWords life client line.command x.entry.op
-  pub reply : IsLineReply (stops_in stop line.command) answered line.ticket line.reply
+  pub op : HasWords encoding life client line.command x.entry.op
+  pub reply : IsLineReply encoding (stops_in stop line.command) answered line.ticket line.reply
 
 -- the line of a read
-pub record IsReadLine (life : Life) (client : ℕ) (x : SeenRead) (line : ReadLine) : Type 0 where
+pub record IsReadLine {Op Reply : Type 0} (encoding : Encoding Op Reply) (life : Life Op) (client : ℕ) (x : SeenRead) (line : ReadLine Reply) : Type 0 where
   pub place : line.place ≡ x.place
   pub client_is : line.client ≡ client
-  pub op : HasWords life client line.command x.op
-  pub reply : reply_words line.reply ≡ x.reply
+  pub op : HasWords encoding life client line.command x.op
+  pub reply : encoding.reply_words line.reply ≡ x.reply
 
 -- a read of the command in which the client was stopped
-pub record IsStoppedRead (life : Life) (client : ℕ) (stop : Option StopLine) (x : SeenRead) : Type 0 where
+pub record IsStoppedRead {Op Reply : Type 0} (encoding : Encoding Op Reply) (life : Life Op) (client : ℕ) (stop : Option StopLine) (x : SeenRead) : Type 0 where
   pub line : StopLine
   pub is : stop ≡ Some line
-  pub op : HasWords life client line.command x.op
+  pub op : HasWords encoding life client line.command x.op
 
 -- The lines are those of the caller's reads, but for one at the most, behind them, whose command was stopped.
-pub record AreReadLines (life : Life) (client : ℕ) (stop : Option StopLine) (seen : List SeenRead) (lines : List ReadLine) : Type 0 where
+pub record AreReadLines {Op Reply : Type 0} (encoding : Encoding Op Reply) (life : Life Op) (client : ℕ) (stop : Option StopLine) (seen : List SeenRead) (lines : List (ReadLine Reply)) : Type 0 where
   pub told : List SeenRead
   pub left : List SeenRead
   pub are : seen ≡ told ++ left
-  pub lines_are : AllZip (IsReadLine life client) told lines
+  pub lines_are : AllZip (IsReadLine encoding life client) told lines
   pub few : length left ≤ 1
-  pub stopped : All (IsStoppedRead life client stop) left
+  pub stopped : All (IsStoppedRead encoding life client stop) left
 
 -- Of a read the count of entries before it: those entries' commands come before the read's, and all others behind it.
-abbrev pub StandsBetween : List JournalLine → SeenRead → ReadLine → Type 0
-StandsBetween entries x line =
-    ((i : ℕ) (entry : JournalLine) → slice_get entries i ≡ Some entry → i < x.before → entry.command < line.command)
-    × ((i : ℕ) (entry : JournalLine) → slice_get entries i ≡ Some entry → x.before ≤ i → line.command < entry.command)
+module _ {Reply : Type 0} where
+  abbrev pub StandsBetween : List (JournalLine Reply) → SeenRead → ReadLine Reply → Type 0
+  StandsBetween entries x line =
+      ((i : ℕ) (entry : JournalLine Reply) → slice_get entries i ≡ Some entry → i < x.before → entry.command < line.command)
+      × ((i : ℕ) (entry : JournalLine Reply) → slice_get entries i ≡ Some entry → x.before ≤ i → line.command < entry.command)
 
 -- lines by rising numbers of their commands
-abbrev pub IsEntryBefore : JournalLine → JournalLine → Type 0
+abbrev pub IsEntryBefore : {Reply : Type 0} → JournalLine Reply → JournalLine Reply → Type 0
 IsEntryBefore a b = a.command < b.command
 
-abbrev pub IsSeenBefore : ReadLine → ReadLine → Type 0
+abbrev pub IsSeenBefore : {Reply : Type 0} → ReadLine Reply → ReadLine Reply → Type 0
 IsSeenBefore a b = a.command < b.command
 
 -- how many lines a command has
-abbrev pub lines_of : ℕ → List JournalLine → List ReadLine → ℕ
-lines_of command entries reads = count_by (λ (l : JournalLine). l.command == command) entries + count_by (λ (r : ReadLine). r.command == command) reads
+module _ {Reply : Type 0} where
+  abbrev pub lines_of : ℕ → List (JournalLine Reply) → List (ReadLine Reply) → ℕ
+  lines_of command entries reads = count_by (λ (l : JournalLine Reply). l.command == command) entries + count_by (λ (r : ReadLine Reply). r.command == command) reads
 
 -- an entry of a client that was answered so many commands
-abbrev pub IsDoneEntry : ℕ → Option StopLine → JournalLine → Type 0
+abbrev pub IsDoneEntry : {Reply : Type 0} → ℕ → Option StopLine → JournalLine Reply → Type 0
 IsDoneEntry done stop line =
     ((1 ≤ line.command) × (line.command ≤ done) × IsSome line.reply)
     ⊎ ((line.command ≡ done + 1) × (line.reply ≡ None) × IsSome stop)
 
 -- a client that was stopped in the command behind those that it was answered, at its limit
-pub record IsStopOf (life : Life) (client done : ℕ) (l : Local) (line : StopLine) : Type 0 where
+pub record IsStopOf {Op : Type 0} (life : Life Op) (client done : ℕ) (l : Local) (line : StopLine) : Type 0 where
   pub client_is : line.client ≡ client
   pub command : line.command ≡ done + 1
   pub within : done < length (own_ops client life.commands)
@@ -113,7 +113,7 @@ pub record HoldsFrom (l : Local) (ticket : ℕ) : Type 0 where
 
 -- A client that gave up in the command behind those that it was answered: another caller, the one that its last scan found to need the
 -- least, keeps its cells, which hold entries of its own from the least ticket on. No two of them hold the same.
-pub record IsFullOf (life : Life) (client done : ℕ) (l : Local) (line : FullLine) : Type 0 where
+pub record IsFullOf {Op : Type 0} (life : Life Op) (client done : ℕ) (l : Local) (line : FullLine) : Type 0 where
   pub client_is : line.client ≡ client
   pub command : line.command ≡ done + 1
   pub within : done < length (own_ops client life.commands)
@@ -125,18 +125,18 @@ pub record IsFullOf (life : Life) (client done : ℕ) (l : Local) (line : FullLi
   pub apart : (j k t : ℕ) → (cell_of l j).ticket ≡ Some t → (cell_of l k).ticket ≡ Some t → j ≡ k
 
 -- how a client ended: all its commands are answered, or it was stopped, or it gave up
-abbrev pub IsEnd : Life → ℕ → ℕ → Local → Option StopLine → Option FullLine → Type 0
+abbrev pub IsEnd : {Op : Type 0} → Life Op → ℕ → ℕ → Local → Option StopLine → Option FullLine → Type 0
 IsEnd life client done l None None = done ≡ length (own_ops client life.commands)
 IsEnd life client done l (Some line) None = IsStopOf life client done l line
 IsEnd life client done l None (Some line) = IsFullOf life client done l line
 IsEnd life client done l (Some stop) (Some full) = ⊥
 
 -- What a client's lines are to its caller's lists.
-pub record IsWork (life : Life) (client : ℕ) (l : Local) (entries : List JournalLine) (reads : List ReadLine) (stop : Option StopLine)
+pub record IsWork {Op Reply : Type 0} (encoding : Encoding Op Reply) (life : Life Op) (client : ℕ) (l : Local) (entries : List (JournalLine Reply)) (reads : List (ReadLine Reply)) (stop : Option StopLine)
     (full : Option FullLine) : Type 0 where
   pub by : l.number ≡ client
-  pub entry_lines : AllZip (IsLineOf life client l.answered stop) l.own entries
-  pub read_lines : AreReadLines life client stop l.seen_reads reads
+  pub entry_lines : AllZip (IsLineOf encoding life client l.answered stop) l.own entries
+  pub read_lines : AreReadLines encoding life client stop l.seen_reads reads
   pub between : AllZip (StandsBetween entries) read_lines.told reads
   pub entries_in_turn : AllPairs IsEntryBefore entries
   pub reads_in_turn : AllPairs IsSeenBefore reads
@@ -144,14 +144,14 @@ pub record IsWork (life : Life) (client : ℕ) (l : Local) (entries : List Journ
   pub within : done ≤ length (own_ops client life.commands)
   pub once : (command : ℕ) → 1 ≤ command → command ≤ done → lines_of command entries reads ≡ 1
   pub entries_done : All (IsDoneEntry done stop) entries
-  pub reads_done : All (λ (line : ReadLine). (1 ≤ line.command) × (line.command ≤ done)) reads
+  pub reads_done : All (λ (line : ReadLine Reply). (1 ≤ line.command) × (line.command ≤ done)) reads
   pub ends : IsEnd life client done l stop full
 
 -- whose lines they are
-abbrev pub by_entry : ℕ → JournalLine → Bool
+abbrev pub by_entry : {Reply : Type 0} → ℕ → JournalLine Reply → Bool
 by_entry client line = line.client == client
 
-abbrev pub by_read : ℕ → ReadLine → Bool
+abbrev pub by_read : {Reply : Type 0} → ℕ → ReadLine Reply → Bool
 by_read client line = line.client == client
 
 -- the first item of a client
@@ -167,12 +167,12 @@ abbrev pub full_of : ℕ → List FullLine → Option FullLine
 full_of client fulls = first_of (λ (line : FullLine). line.client) client fulls
 
 -- Of each caller the lines are those of its lists, and there are no others.
-pub record AreWorks (life : Life) (locals : List Local) (entries : List JournalLine) (reads : List ReadLine) (stops : List StopLine)
+pub record AreWorks {Op Reply : Type 0} (encoding : Encoding Op Reply) (life : Life Op) (locals : List Local) (entries : List (JournalLine Reply)) (reads : List (ReadLine Reply)) (stops : List StopLine)
     (fulls : List FullLine) : Type 0 where
   pub each : (i : ℕ) (l : Local) → slice_get locals i ≡ Some l →
-      IsWork life i l (filter (by_entry i) entries) (filter (by_read i) reads) (stop_of i stops) (full_of i fulls)
-  pub of_entries : All (λ (line : JournalLine). line.client < length locals) entries
-  pub of_reads : All (λ (line : ReadLine). line.client < length locals) reads
+      IsWork encoding life i l (filter (by_entry i) entries) (filter (by_read i) reads) (stop_of i stops) (full_of i fulls)
+  pub of_entries : All (λ (line : JournalLine Reply). line.client < length locals) entries
+  pub of_reads : All (λ (line : ReadLine Reply). line.client < length locals) reads
   pub of_stops : All (λ (line : StopLine). line.client < length locals) stops
   pub of_fulls : All (λ (line : FullLine). line.client < length locals) fulls
   pub long : length entries ≡ length (all_own locals)

@@ -9,7 +9,13 @@ use life_records::{JournalLine, StopLine};
 
 /// Whether the command of this number of this client has an entry that is kept: one of the first `kept` entries of a life that
 /// began at `place`.
-pub fn is_kept(journal: &[JournalLine], place: u64, kept: u64, client: u32, command: u64) -> bool
+pub fn is_kept<Reply>(
+    journal: &[JournalLine<Reply>],
+    place: u64,
+    kept: u64,
+    client: u32,
+    command: u64,
+) -> bool
     ensures { (line : StopLine) → line.client ≡ client → line.command ≡ command →
         (result ≡ true) ↔ IsKeptStop place kept journal.now line }
 {
@@ -26,7 +32,12 @@ fn is_below(ticket: u64, place: u64, kept: u64) -> bool
 }
 
 /// Sets the kept flag of each stop line of a life that began at `place`, where the first `kept` entries outlive the loss of power.
-pub fn flag_stops(journal: &[JournalLine], place: u64, kept: u64, stops: &mut [StopLine])
+pub fn flag_stops<Reply>(
+    journal: &[JournalLine<Reply>],
+    place: u64,
+    kept: u64,
+    stops: &mut [StopLine],
+)
     ensures { AreFlagged place kept journal.now stops.old stops.new }
 {
     for stop in stops.iter_mut() {

@@ -2,7 +2,7 @@ pub mod Fresh
 pub mod Keeping
 pub mod Lists
 pub mod Recording
-pub mod ReplyWords
 pub mod Slots
 pub mod Steps
+pub mod TypedSteps
 pub mod Turns

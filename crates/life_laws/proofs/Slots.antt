@@ -2,7 +2,6 @@
 use Rattle.std.proofs.Common.{◌≡◌, ◌≢◌, ◌+◌, ◌^◌, ◌<◌, ◌≤◌, inl, inr, ℕ, zero, suc, cond, List, [], ◌∷◌, length, take, Option, None, Some, refl, sym, ap, subst, ◌∙◌, arith}
 use Rattle.std.specs.List.{cons_option, slice_get}
 use Rattle.std.proofs.lemmas.Bool.{cases_eq, cases_order, eq-eqb, ne_eqb}
-use Rattle.cx_base.specs.Store.{Store}
 use Rattle.cx_core.specs.Base.{LawfulBase}
 use Rattle.cx_core.specs.History.{AreLawful, IsLawfulEntry, image_from}
 use Rattle.cx_core.specs.Merge.{own_of}
@@ -13,21 +12,18 @@ use Rattle.cx_core.specs.declared.entry.Entry.{Entry}
 use Rattle.cx_core.specs.declared.local.Linked.{Linked}
 use Rattle.cx_core.proofs.KeepLemmas.{Keeps, keeps}
 use Rattle.cx_core.proofs.MergeLemmas.{own_mine, own_other}
-use Rattle.doc_model.specs.Meaning.{store_after}
-use Rattle.doc_model.specs.declared.operations.Op.{Op}
-use Rattle.doc_store.specs.ExactStep.{IsImage, store_step}
-use Rattle.doc_store.specs.StoreLaws.{step_keeps, step_replies}
-use Rattle.index_checks.specs.Layout.{StandsFor}
 use Rattle.journals.specs.Works.{HasWords}
 use Rattle.life_laws.specs.Begins.{Begun, IsBaseOf, begun_after, with_result, words_to}
 use Rattle.life_laws.specs.Meanings.{AreLinesOf}
-use Rattle.life_laws.specs.Replies.{HasAmounts}
+use Rattle.life_laws.specs.Replies.{HasOpValues}
 use Rattle.life_laws.proofs.Steps.{Stepped, op_is, rest_of, stepped, store_next}
+use Rattle.life_laws.proofs.TypedSteps.{TypedSteps}
 use Rattle.life_records.specs.Limits.{IsLifeInLimits}
 use Rattle.life_records.specs.Lives.{ops_of, store_after_all}
 use Rattle.life_records.specs.Scripts.{named_op}
 use Rattle.life_records.specs.declared.record.JournalLine.{JournalLine}
 use Rattle.life_records.specs.declared.script.Life.{Life}
+use Rattle.typed_object.specs.Meaning.{Meaning}
 
 -- the entries are of so many callers, and those of each are numbered on from its slot
 pub record Numbered (count ticket : ℕ) (history : List Entry) (region : List ℕ) : Type 0 where
@@ -35,30 +31,31 @@ pub record Numbered (count ticket : ℕ) (history : List Entry) (region : List �
   pub numbers : (caller : ℕ) → caller < count → (i : ℕ) (x : Linked) → slice_get (own_of caller ticket history) i ≡ Some x → x.entry.number ≡ slot_number caller region + i + 1
 
 -- each line is of its entry's caller
-abbrev pub AreOfCallers : List Entry → List JournalLine → Type 0
-AreOfCallers history journal = (i : ℕ) (line : JournalLine) (entry : Entry) → slice_get journal i ≡ Some line → slice_get history i ≡ Some entry → line.client ≡ entry.caller
+module _ {Reply : Type 0} where
+  abbrev pub AreOfCallers : List Entry → List (JournalLine Reply) → Type 0
+  AreOfCallers history journal = (i : ℕ) (line : JournalLine Reply) (entry : Entry) → slice_get journal i ≡ Some line → slice_get history i ≡ Some entry → line.client ≡ entry.caller
 
 -- operations one after another
-store_on : (lines : ℕ) (store : Store) (o : Option Op) (ops : List Op) → store_after_all lines (store_after_all lines store (cons_option o [])) ops ≡ store_after_all lines store (cons_option o ops)
-store_on lines store None ops = refl
-store_on lines store (Some op) ops = refl
+store_on : {Op Reply Store : Type 0} → (m : Meaning Op Reply Store) (store : Store) (o : Option Op) (ops : List Op) → store_after_all m (store_after_all m store (cons_option o [])) ops ≡ store_after_all m store (cons_option o ops)
+store_on m store None ops = refl
+store_on m store (Some op) ops = refl
 
-module _ (lines : ℕ) (life : Life) (limits : IsLifeInLimits life) (amounts : HasAmounts life) (count : ℕ) (few : count ≤ 8) where
+module _ {Op Reply Store : Type 0} (t : TypedSteps Op Reply Store) {most : ℕ} (life : Life Op) (limits : IsLifeInLimits t.meaning.is_op most life) (op_values : HasOpValues t.meaning life) (count : ℕ) (few : count ≤ 8) where
   -- one entry more
-  module _ (entry : Entry) (history : List Entry) (line : JournalLine) (journal : List JournalLine) (base : Base) (begun : Begun) (law : LawfulBase lines (IsImage lines) base)
-      (is : IsBaseOf base begun) (are : AreLinesOf life (entry ∷ history) (line ∷ journal)) (of : AreOfCallers (entry ∷ history) (line ∷ journal))
+  module _ (entry : Entry) (history : List Entry) (line : JournalLine Reply) (journal : List (JournalLine Reply)) (base : Base) (begun : Begun Store) (law : LawfulBase t.lines t.lawful base)
+      (is : IsBaseOf t.meaning base begun) (are : AreLinesOf t.meaning.encoding life (entry ∷ history) (line ∷ journal)) (of : AreOfCallers (entry ∷ history) (line ∷ journal))
       (lawful : AreLawful base.place (entry ∷ history)) (numbered : Numbered count base.place (entry ∷ history) base.words) (small : base.place + suc (length history) ≤ 2 ^ 40) where
     abbrev next : Base
-    next = record { place = base.place + 1; words = full_step_of (store_step lines) entry base.words }
+    next = record { place = base.place + 1; words = full_step_of t.step entry base.words }
 
-    abbrev begun_next : Begun
+    abbrev begun_next : Begun Store
     begun_next = record {
       place = begun.place + 1;
-      store = store_after_all lines begun.store (ops_of life (line ∷ []));
-      results = with_result lines begun.store life line begun.results;
+      store = store_after_all t.meaning begun.store (ops_of life (line ∷ []));
+      results = with_result t.meaning begun.store life line begun.results;
     }
 
-    has : HasWords life line.client line.command entry.op
+    has : HasWords t.meaning.encoding life line.client line.command entry.op
     has = are.words 0 line entry refl refl
 
     is_entry : IsLawfulEntry (base.place + 0) entry
@@ -67,13 +64,13 @@ module _ (lines : ℕ) (life : Life) (limits : IsLifeInLimits life) (amounts : H
     mine : line.client ≡ entry.caller
     mine = of 0 line entry refl refl
 
-    done : Stepped lines begun.store has.op (store_step lines (object_part base.words) entry.op)
-    done = stepped lines (object_part base.words) begun.store has.op entry.op (record { words = law.object.words; stands = is.stands }) (op_is lines life limits amounts line.client line.command entry.op has)
+    done : Stepped t begun.store has.op (t.step (object_part base.words) entry.op)
+    done = stepped t (object_part base.words) begun.store has.op entry.op (record { is_lawful = law.object; stands = is.stands }) (op_is t life limits op_values line.client line.command entry.op has)
 
-    kept : Keeps lines (IsImage lines) (store_step lines) base entry next
+    kept : Keeps t.lines t.lawful t.step base entry next
     kept =
-        let image = step_keeps lines (object_part base.words) entry.op law.object is_entry.op in
-        keeps lines (IsImage lines) (store_step lines) base entry next law (omega (arith, small)) is_entry.caller is_entry.some (let most = is_entry.most in omega (arith, most)) image image.words (step_replies lines (object_part base.words) entry.op law.object is_entry.op) refl refl
+        let image = t.object.keeps (object_part base.words) entry.op law.object is_entry.op in
+        keeps t.lines t.lawful t.step base entry next law (omega (arith, small)) is_entry.caller is_entry.some (let most = is_entry.most in omega (arith, most)) image (t.object.shape (t.step (object_part base.words) entry.op).0 image) (t.object.replies (object_part base.words) entry.op law.object is_entry.op) refl refl
 
     -- the entry's number is the next one of its caller
     number_is : entry.number ≡ slot_number entry.caller base.words + 1
@@ -85,11 +82,11 @@ module _ (lines : ℕ) (life : Life) (limits : IsLifeInLimits life) (amounts : H
     abbrev Told : (ℕ × List ℕ) → ℕ → Type 0
     Told result client = (slot_number client next.words ≡ result.0) × (slot_reply client next.words ≡ result.1)
 
-    own_result : (client : ℕ) → client ≡ line.client → client < 8 → Told ((begun.results client).0 + 1, words_to lines begun.store (named_op life line.client line.command)) client
+    own_result : (client : ℕ) → client ≡ line.client → client < 8 → Told ((begun.results client).0 + 1, words_to t.meaning begun.store (named_op life line.client line.command)) client
     own_result client same below =
         let caller = same ∙ mine in (
           ap (λ c. slot_number c next.words) caller ∙ kept.number ∙ number_is ∙ ap (λ c. slot_number c base.words + 1) (sym caller) ∙ ap (λ n. n + 1) (is.numbers client below),
-          ap (λ c. slot_reply c next.words) caller ∙ kept.reply ∙ done.answer ∙ ap (words_to lines begun.store) (sym has.named),
+          ap (λ c. slot_reply c next.words) caller ∙ kept.reply ∙ done.answer ∙ ap (words_to t.meaning begun.store) (sym has.named),
         )
 
     other_result : (client : ℕ) → client ≢ line.client → client < 8 → Told (begun.results client) client
@@ -98,25 +95,25 @@ module _ (lines : ℕ) (life : Life) (limits : IsLifeInLimits life) (amounts : H
       | inr apart ↦ (let stay = kept.others client below apart in (stay.0 ∙ is.numbers client below, stay.1 ∙ is.replies client below))
     ]
 
-    result_is : (client : ℕ) → client < 8 → Told (with_result lines begun.store life line begun.results client) client
+    result_is : (client : ℕ) → client < 8 → Told (with_result t.meaning begun.store life line begun.results client) client
     result_is client below =
-        let own : ℕ × List ℕ = ((begun.results client).0 + 1, words_to lines begun.store (named_op life line.client line.command)) in
+        let own : ℕ × List ℕ = ((begun.results client).0 + 1, words_to t.meaning begun.store (named_op life line.client line.command)) in
         elim (cases_eq client line.client) [
           | inl same ↦ subst (λ b. Told (cond b own (begun.results client)) client) (sym (eq-eqb client line.client same)) (own_result client same below)
           | inr other ↦ subst (λ b. Told (cond b own (begun.results client)) client) (sym (ne_eqb client line.client other)) (other_result client other below)
         ]
 
-    pub next_is : IsBaseOf next begun_next
+    pub next_is : IsBaseOf t.meaning next begun_next
     next_is = record {
       at_place = ap (λ p. p + 1) is.at_place;
       stands =
-          subst (StandsFor (object_part next.words) 1) (sym (store_next lines life limits amounts begun.store line has.op [] has.named))
-          (subst (λ image. StandsFor image 1 (store_after lines begun.store has.op)) (sym kept.object) done.after.stands);
+          subst (t.meaning.stands (object_part next.words)) (sym (store_next t life limits op_values begun.store line has.op [] has.named))
+          (subst (λ image. t.meaning.stands image (t.meaning.store_after begun.store has.op)) (sym kept.object) done.after.stands);
       numbers = λ client below. (result_is client below).0;
       replies = λ client below. (result_is client below).1;
     }
 
-    pub next_lawful : LawfulBase lines (IsImage lines) next
+    pub next_lawful : LawfulBase t.lines t.lawful next
     next_lawful = kept.lawful_next
 
     pub rest_lawful : AreLawful next.place history
@@ -139,9 +136,9 @@ module _ (lines : ℕ) (life : Life) (limits : IsLifeInLimits life) (amounts : H
     rest_numbered = record { callers = λ i e at. numbered.callers (suc i) e at; numbers = rest_numbers }
 
   -- so many entries more
-  pub goes_on : (n : ℕ) (history : List Entry) (journal : List JournalLine) (base : Base) (begun : Begun) → LawfulBase lines (IsImage lines) base → IsBaseOf base begun → AreLinesOf life history journal →
+  pub goes_on : (n : ℕ) (history : List Entry) (journal : List (JournalLine Reply)) (base : Base) (begun : Begun Store) → LawfulBase t.lines t.lawful base → IsBaseOf t.meaning base begun → AreLinesOf t.meaning.encoding life history journal →
       AreOfCallers history journal → AreLawful base.place history → Numbered count base.place history base.words → base.place + length history ≤ 2 ^ 40 → n ≤ length history →
-      IsBaseOf (record { place = base.place + n; words = image_from (store_step lines) base.words (take n history) }) (begun_after lines begun life journal n)
+      IsBaseOf t.meaning (record { place = base.place + n; words = image_from t.step base.words (take n history) }) (begun_after t.meaning begun life journal n)
   goes_on zero history journal base begun law is are of lawful numbered small within = record { at_place = ap (λ p. p + 0) is.at_place; stands = is.stands; numbers = is.numbers; replies = is.replies }
   goes_on (suc n) [] journal base begun law is are of lawful numbered small within = absurd (omega arith)
   goes_on (suc n) (entry ∷ history) [] base begun law is are of lawful numbered small within = absurd (omega (arith, are.long))
@@ -150,11 +147,11 @@ module _ (lines : ℕ) (life : Life) (limits : IsLifeInLimits life) (amounts : H
       let begun' = begun_next entry history line journal base begun law is are of lawful numbered small in
       let rest =
       goes_on n history journal after begun' (next_lawful entry history line journal base begun law is are of lawful numbered small) (next_is entry history line journal base begun law is are of lawful numbered small)
-      (rest_of life entry history line journal are) (λ i l e at_l at_e. of (suc i) l e at_l at_e) (rest_lawful entry history line journal base begun law is are of lawful numbered small)
+      (rest_of t life entry history line journal are) (λ i l e at_l at_e. of (suc i) l e at_l at_e) (rest_lawful entry history line journal base begun law is are of lawful numbered small)
       (rest_numbered entry history line journal base begun law is are of lawful numbered small) (omega (arith, small)) (omega arith) in
       record {
         at_place = (let place = rest.at_place in omega (arith, place));
-        stands = subst (StandsFor (object_part (image_from (store_step lines) after.words (take n history))) 1) (store_on lines begun.store (named_op life line.client line.command) (ops_of life (take n journal))) rest.stands;
+        stands = subst (t.meaning.stands (object_part (image_from t.step after.words (take n history)))) (store_on t.meaning begun.store (named_op life line.client line.command) (ops_of life (take n journal))) rest.stands;
         numbers = rest.numbers;
         replies = rest.replies;
       }

@@ -3,7 +3,6 @@ use Rattle.std.proofs.Common.{◌≡◌, ◌+◌, ◌<◌, ◌≤◌, ◌⊎◌,
 use Rattle.std.specs.List.{Contains, filter_map, slice_get}
 use Rattle.std.proofs.lemmas.Bool.{cases_lt, cases_order}
 use Rattle.std.proofs.lemmas.Option.{same_Some}
-use Rattle.cx_base.specs.Store.{Store}
 use Rattle.cx_core.specs.Base.{LawfulBase}
 use Rattle.cx_core.specs.Lawful.{Lawful}
 use Rattle.cx_core.specs.Shown.{shown}
@@ -11,40 +10,39 @@ use Rattle.cx_core.specs.State.{State}
 use Rattle.cx_core.specs.declared.entry.Base.{Base}
 use Rattle.cx_core.specs.declared.local.Linked.{Linked}
 use Rattle.core_answers.proofs.OwnLaws.{own_rises}
-use Rattle.doc_model.specs.declared.operations.Reply.{Reply}
-use Rattle.doc_store.specs.ExactStep.{IsImage}
 use Rattle.journals.specs.Works.{IsEntryBefore, IsSeenBefore, IsWork, StandsBetween, by_entry, by_read, full_of, stop_of}
-use Rattle.life_laws.specs.Meanings.{store_instance}
+use Rattle.life_laws.specs.Meanings.{object_instance}
 use Rattle.life_laws.specs.Recorded.{IsRecorded}
 use Rattle.life_laws.proofs.Lists.{contained_in, filter_map_item, map_item, pair_items, some_made, zip_items}
 use Rattle.life_laws.proofs.Recording.{Own, Read, Seat, entry_client, own_of_line, read_client, read_of_line, work_of}
+use Rattle.life_laws.proofs.TypedSteps.{TypedSteps}
 use Rattle.life_records.specs.Lives.{Answer, answers_of, journal_answer, read_answer}
 use Rattle.life_records.specs.declared.record.JournalLine.{JournalLine}
 use Rattle.life_records.specs.declared.record.LifeRecord.{LifeRecord}
 use Rattle.life_records.specs.declared.record.ReadLine.{ReadLine}
 use Rattle.life_records.specs.declared.script.Life.{Life}
 
-module _ (lines callers : ℕ) (base : Base) (s : State) (store : Store) (life : Life) (told : LifeRecord) (base_law : LawfulBase lines (IsImage lines) base)
-    (law : Lawful (store_instance lines callers base) s) (is : IsRecorded (store_instance lines callers base) s law.history store life told) where
+module _ {Op Reply Store : Type 0} (t : TypedSteps Op Reply Store) (callers : ℕ) (base : Base) (s : State) (store : Store) (life : Life Op) (told : LifeRecord Reply) (base_law : LawfulBase t.lines t.lawful base)
+    (law : Lawful (object_instance t.step t.reads callers base) s) (is : IsRecorded t.meaning (object_instance t.step t.reads callers base) s law.history store life told) where
   abbrev SeatOf : ℕ → Type 0
-  SeatOf client = Seat lines callers base s store life told base_law law is client
+  SeatOf client = Seat t callers base s store life told base_law law is client
 
-  abbrev OwnOf : (client : ℕ) → SeatOf client → JournalLine → Type 0
-  OwnOf = Own lines callers base s store life told base_law law is
+  abbrev OwnOf : (client : ℕ) → SeatOf client → JournalLine Reply → Type 0
+  OwnOf = Own t callers base s store life told base_law law is
 
-  abbrev ReadOf : (client : ℕ) → SeatOf client → ReadLine → Type 0
-  ReadOf = Read lines callers base s store life told base_law law is
+  abbrev ReadOf : (client : ℕ) → SeatOf client → ReadLine Reply → Type 0
+  ReadOf = Read t callers base s store life told base_law law is
 
   module _ (client : ℕ) (seat : SeatOf client) where
-    abbrev work : IsWork life client (shown seat.local) (filter (by_entry client) told.journal) (filter (by_read client) told.reads) (stop_of client is.stops) (full_of client told.fulls)
-    work = work_of lines callers base s store life told base_law law is client seat
+    abbrev work : IsWork t.meaning.encoding life client (shown seat.local) (filter (by_entry client) told.journal) (filter (by_read client) told.reads) (stop_of client is.stops) (full_of client told.fulls)
+    work = work_of t callers base s store life told base_law law is client seat
 
     -- two entries
-    entries_rise : (x y : JournalLine) → OwnOf client seat x → OwnOf client seat y → x.command < y.command → x.ticket + 1 ≤ y.ticket
+    entries_rise : (x y : JournalLine Reply) → OwnOf client seat x → OwnOf client seat y → x.command < y.command → x.ticket + 1 ≤ y.ticket
     entries_rise x y at_x at_y order = elim (cases_order at_x.index at_y.index) [
       | inl same ↦ (
           let one = same_Some x y (sym at_x.among ∙ ap (slice_get (filter (by_entry client) told.journal)) same ∙ at_y.among) in
-          absurd (omega (arith, ap (λ (l : JournalLine). l.command) one)))
+          absurd (omega (arith, ap (λ (l : JournalLine Reply). l.command) one)))
       | inr (inl less) ↦ (
           let history = law.tickets.merged.own client seat.local seat.of_client in
           let rise = own_rises client base.place law.history at_x.index at_y.index at_x.own at_y.own (ap (λ (o : List Linked). slice_get o at_x.index) (sym history) ∙ at_x.there) (ap (λ (o : List Linked). slice_get o at_y.index) (sym history) ∙ at_y.there) less in
@@ -55,27 +53,27 @@ module _ (lines callers : ℕ) (base : Base) (s : State) (store : Store) (life :
     ]
 
     -- where a read stands among the entries
-    stands : (x : ReadLine) (at_x : ReadOf client seat x) → StandsBetween (filter (by_entry client) told.journal) at_x.read x
+    stands : (x : ReadLine Reply) (at_x : ReadOf client seat x) → StandsBetween (filter (by_entry client) told.journal) at_x.read x
     stands x at_x = zip_items (StandsBetween (filter (by_entry client) told.journal)) work.read_lines.told (filter (by_read client) told.reads) at_x.index at_x.read x work.between at_x.in_told at_x.among
 
-    read_then_entry : (x : ReadLine) (y : JournalLine) → ReadOf client seat x → OwnOf client seat y → x.command < y.command → x.place ≤ y.ticket
+    read_then_entry : (x : ReadLine Reply) (y : JournalLine Reply) → ReadOf client seat x → OwnOf client seat y → x.command < y.command → x.place ≤ y.ticket
     read_then_entry x y at_x at_y order = elim (cases_lt at_y.index at_x.read.before) [
       | inl front ↦ (let before = (stands x at_x).0 at_y.index y at_y.among front in absurd (omega arith))
       | inr behind ↦ (let above = at_x.is_read.above at_y.index at_y.own at_y.there behind in omega (arith, above, at_x.is_line.place, at_y.ticket))
     ]
 
-    entry_then_read : (x : JournalLine) (y : ReadLine) → OwnOf client seat x → ReadOf client seat y → x.command < y.command → x.ticket + 1 ≤ y.place
+    entry_then_read : (x : JournalLine Reply) (y : ReadLine Reply) → OwnOf client seat x → ReadOf client seat y → x.command < y.command → x.ticket + 1 ≤ y.place
     entry_then_read x y at_x at_y order = elim (cases_lt at_x.index at_y.read.before) [
       | inl front ↦ (let below = at_y.is_read.below at_x.index at_x.own at_x.there front in omega (arith, below, at_y.is_line.place, at_x.ticket))
       | inr behind ↦ (let after = (stands y at_y).1 at_x.index x at_x.among behind in absurd (omega arith))
     ]
 
     -- two reads
-    reads_rise : (x y : ReadLine) → ReadOf client seat x → ReadOf client seat y → x.command < y.command → x.place ≤ y.place
+    reads_rise : (x y : ReadLine Reply) → ReadOf client seat x → ReadOf client seat y → x.command < y.command → x.place ≤ y.place
     reads_rise x y at_x at_y order = elim (cases_order at_x.index at_y.index) [
       | inl same ↦ (
           let one = same_Some x y (sym at_x.among ∙ ap (slice_get (filter (by_read client) told.reads)) same ∙ at_y.among) in
-          absurd (omega (arith, ap (λ (l : ReadLine). l.command) one)))
+          absurd (omega (arith, ap (λ (l : ReadLine Reply). l.command) one)))
       | inr (inl less) ↦ (
           let rise = (law.answers.each client seat.local seat.of_client).rise at_x.index at_y.index at_x.read at_y.read at_x.there at_y.there (omega arith) in
           omega (arith, rise.0, at_x.is_line.place, at_y.is_line.place))
@@ -87,7 +85,7 @@ module _ (lines callers : ℕ) (base : Base) (s : State) (store : Store) (life :
   -- the line behind an answer
   pub record OfEntry (a : Answer) : Type 0 where
     pub index : ℕ
-    pub line : JournalLine
+    pub line : JournalLine Reply
     pub there : slice_get told.journal index ≡ Some line
     pub reply : Reply
     pub has : line.reply ≡ Some reply
@@ -98,7 +96,7 @@ module _ (lines callers : ℕ) (base : Base) (s : State) (store : Store) (life :
 
   pub record OfRead (a : Answer) : Type 0 where
     pub index : ℕ
-    pub line : ReadLine
+    pub line : ReadLine Reply
     pub there : slice_get told.reads index ≡ Some line
     pub client : line.client ≡ a.client
     pub command : line.command ≡ a.command
@@ -143,15 +141,15 @@ module _ (lines callers : ℕ) (base : Base) (s : State) (store : Store) (life :
   ]
 
   own_line : (client : ℕ) (seat : SeatOf client) (a : Answer) (e : OfEntry a) → e.line.client ≡ client → OwnOf client seat e.line
-  own_line client seat a e mine = own_of_line lines callers base s store life told base_law law is client seat e.index e.line e.there mine
+  own_line client seat a e mine = own_of_line t callers base s store life told base_law law is client seat e.index e.line e.there mine
 
   read_line : (client : ℕ) (seat : SeatOf client) (a : Answer) (r : OfRead a) → r.line.client ≡ client → ReadOf client seat r.line
-  read_line client seat a r mine = read_of_line lines callers base s store life told base_law law is client seat r.index r.line r.there mine
+  read_line client seat a r mine = read_of_line t callers base s store life told base_law law is client seat r.index r.line r.there mine
 
   after_entry : (a b : Answer) → OfEntry a → OfEntry b ⊎ OfRead b → a.client ≡ b.client → a.command < b.command → a.next ≤ b.at
   after_entry a b x y same order =
       let client = x.line.client in
-      let seat = entry_client lines callers base s store life told base_law law is x.index x.line x.there in
+      let seat = entry_client t callers base s store life told base_law law is x.index x.line x.there in
       let own = own_line client seat a x refl in
       elim y [
         | inl e ↦ (
@@ -165,7 +163,7 @@ module _ (lines callers : ℕ) (base : Base) (s : State) (store : Store) (life :
   after_read : (a b : Answer) → OfRead a → OfEntry b ⊎ OfRead b → a.client ≡ b.client → a.command < b.command → a.next ≤ b.at
   after_read a b x y same order =
       let client = x.line.client in
-      let seat = read_client lines callers base s store life told base_law law is x.index x.line x.there in
+      let seat = read_client t callers base s store life told base_law law is x.index x.line x.there in
       let read = read_line client seat a x refl in
       elim y [
         | inl e ↦ (

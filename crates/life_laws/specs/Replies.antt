@@ -1,31 +1,14 @@
--- Replies as each value of the type is.
-use Rattle.std.specs.Prelude.{◌^◌, ◌<◌, All, FitsSigned, IfSome}
-use Rattle.std.specs.Int.{w64}
-use Rattle.doc_model.specs.Words.{HasIntegerAmount}
-use Rattle.doc_model.specs.declared.operations.Reply.{Reply}
-use Rattle.doc_model.specs.declared.operations.Reply.TheVariants.{New, Replaced, Deleted, Absent, Doc, Sum, NotNumber, Overflow, NoRoom, Key, Number}
+-- Operations and replies as each value of the types is.
+use Rattle.std.specs.Prelude.{All, IfSome}
 use Rattle.life_records.specs.declared.script.Life.{Life}
 use Rattle.life_records.specs.declared.record.LifeRecord.{LifeRecord}
+use Rattle.typed_object.specs.Meaning.{Meaning}
 
--- texts of bytes, and numbers of 64 bits
-abbrev pub IsReplyValue : Reply → Type 0
-IsReplyValue New = Unit {0}
-IsReplyValue Replaced = Unit {0}
-IsReplyValue Deleted = Unit {0}
-IsReplyValue Absent = Unit {0}
-IsReplyValue (Doc document) = All (λ b. b < 256) document
-IsReplyValue (Sum sum) = FitsSigned w64 sum
-IsReplyValue NotNumber = Unit {0}
-IsReplyValue Overflow = Unit {0}
-IsReplyValue NoRoom = Unit {0}
-IsReplyValue (Key key) = All (λ b. b < 256) key
-IsReplyValue (Number number) = number < 2 ^ 64
+-- the replies of a record are values of their type
+pub record HasReplyValues {Op Reply Store : Type 0} (m : Meaning Op Reply Store) (told : LifeRecord Reply) : Type 0 where
+  pub journal : All (λ line. IfSome line.reply m.is_reply_value) told.journal
+  pub reads : All (λ line. m.is_reply_value line.reply) told.reads
 
--- so it is of the replies of a record
-pub record HasReplyValues (told : LifeRecord) : Type 0 where
-  pub journal : All (λ line. IfSome line.reply IsReplyValue) told.journal
-  pub reads : All (λ line. IsReplyValue line.reply) told.reads
-
--- the amounts of a life's operations are 64-bit integers, as they are in each value of the type
-abbrev pub HasAmounts : Life → Type 0
-HasAmounts life = All (λ c. HasIntegerAmount c.op) life.commands
+-- so are the operations of a life
+abbrev pub HasOpValues : {Op Reply Store : Type 0} → Meaning Op Reply Store → Life Op → Type 0
+HasOpValues m life = All (λ c. m.is_op_value c.op) life.commands

@@ -1,25 +1,26 @@
 //! The replies of a record are the one-thread store's.
 
 ghost use Rattle.std.specs.Prelude.{ℕ};
-ghost use Rattle.cx_base.specs.Store.{Store};
 ghost use Rattle.cx_core.specs.Base.{LawfulBase};
 ghost use Rattle.cx_core.specs.Lawful.{Lawful};
 ghost use Rattle.cx_core.specs.State.{State};
-ghost use Rattle.doc_store.specs.ExactStep.{IsImage};
-ghost use Rattle.life_laws.specs.Meanings.{store_instance};
+ghost use Rattle.life_laws.specs.Meanings.{object_instance};
 ghost use Rattle.life_laws.specs.Recorded.{HasReplies, IsRecorded};
 ghost use Rattle.life_records.specs.declared.record.LifeRecord.{LifeRecord};
 ghost use Rattle.life_records.specs.declared.script.Life.{Life};
 
+use crate::meanings::steps_are_meant;
 use cx_core::Base;
-use doc_store::DocStore;
+use typed_object::TypedObject;
 
-/// Where a record is told by a lawful state of a service of the store, each of its replies is the one-thread store's at its place, and
+/// Where a record is told by a lawful state of a service of the object, each of its replies is the one-thread store's at its place, and
 /// no answer to a client lies below what the client was told before.
-pub fn replies_are_the_stores(object: &DocStore, base: &Base)
-    requires { LawfulBase object.now.lines (IsImage object.now.lines) base.now }
-    ensures { (callers : ℕ) (s : State) (store : Store) (life : Life) (told : LifeRecord)
-        (law : Lawful (store_instance object.now.lines callers base.now) s) →
-        IsRecorded (store_instance object.now.lines callers base.now) s law.history store life told →
-        HasReplies object.now.lines base.now.place store life told }
-{}
+pub fn replies_are_the_stores<O: TypedObject>(object: &O, base: &Base)
+    requires { LawfulBase (O.line_count object.now) (O.lawful object.now) base.now }
+    ensures { (callers : ℕ) (s : State) (store : O.Store) (life : Life O.Op) (told : LifeRecord O.Reply)
+        (law : Lawful (object_instance (O.step object.now) (O.only_reads object.now) callers base.now) s) →
+        IsRecorded (O.meaning object.now) (object_instance (O.step object.now) (O.only_reads object.now) callers base.now) s law.history store life told →
+        HasReplies (O.meaning object.now) base.now.place store life told }
+{
+    steps_are_meant(object);
+}

@@ -1,21 +1,22 @@
 -- The lines of records of legal lives name commands of their lives.
 use Rattle.std.proofs.Common.{ℕ, ◌+◌, List, [], ◌∷◌}
 use Rattle.std.proofs.lemmas.List.Elements.{All-weaker}
-use Rattle.cx_base.specs.Store.{Store}
 use Rattle.life_records.specs.Lives.{AreLivesFrom, IsLegalRead, NameCommands, Names, store_at}
 use Rattle.life_records.specs.declared.record.LifeRecord.{LifeRecord}
 use Rattle.life_records.specs.declared.record.ReadLine.{ReadLine}
 use Rattle.life_records.specs.declared.script.Life.{Life}
+use Rattle.typed_object.specs.Meaning.{Meaning}
 
-pub names_of_lives : (lines place : ℕ) (store : Store) (lives : List Life) (records : List LifeRecord) → AreLivesFrom lines place store lives records → NameCommands lives records
-names_of_lives lines place store [] [] are = tt
-names_of_lives lines place store [] (told ∷ records) are = absurd are
-names_of_lives lines place store (life ∷ lives) [] are = absurd are
-names_of_lives lines place store (life ∷ lives) (told ∷ records) are = (
-  record {
-    journal = are.0.legal.interleaved.named;
-    reads =
-        All-weaker (λ (line : ReadLine). IsLegalRead lines place store life told.journal line) (λ (line : ReadLine). Names life line.client line.command) (λ line legal. legal.named) told.reads are.0.legal.legal_reads;
-  },
-  names_of_lives lines (place + told.kept) (store_at lines store life told.journal told.kept) lives records are.1,
-)
+module _ {Op Reply Store : Type 0} where
+  pub names_of_lives : (m : Meaning Op Reply Store) (place : ℕ) (store : Store) (lives : List (Life Op)) (records : List (LifeRecord Reply)) → AreLivesFrom m place store lives records → NameCommands lives records
+  names_of_lives m place store [] [] are = tt
+  names_of_lives m place store [] (told ∷ records) are = absurd are
+  names_of_lives m place store (life ∷ lives) [] are = absurd are
+  names_of_lives m place store (life ∷ lives) (told ∷ records) are = (
+    record {
+      journal = are.0.legal.interleaved.named;
+      reads =
+          All-weaker (λ (line : ReadLine Reply). IsLegalRead m place store life told.journal line) (λ (line : ReadLine Reply). Names life line.client line.command) (λ line legal. legal.named) told.reads are.0.legal.legal_reads;
+    },
+    names_of_lives m (place + told.kept) (store_at m store life told.journal told.kept) lives records are.1,
+  )

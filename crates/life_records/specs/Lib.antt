@@ -1,5 +1,4 @@
 pub mod Scripts
 pub mod Lives
 pub mod Limits
-pub use Rattle.doc_model.specs.Meaning
-pub use Rattle.doc_model.specs.Store
+pub use Rattle.typed_object.specs.Meaning

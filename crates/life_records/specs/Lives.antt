@@ -3,10 +3,6 @@ use Rattle.std.specs.Prelude.{◌≡◌, ◌≢◌, ◌↔◌, ◌+◌, ◌-◌,
 use Rattle.std.specs.List.{filter_map, list_any}
 use Rattle.std.specs.Option.{option_map}
 use Rattle.std.specs.List.Sorted.{IsStrictlyIncreasing}
-use Rattle.cx_base.specs.Store.{Store}
-use Rattle.doc_model.specs.Meaning.{reply_to, store_after, only_reads}
-use Rattle.doc_model.specs.declared.operations.Op.{Op}
-use Rattle.doc_model.specs.declared.operations.Reply.{Reply}
 use Rattle.life_records.specs.Scripts.{limit_in, named_op, own_ops}
 use Rattle.life_records.specs.declared.script.Life.{Life}
 use Rattle.life_records.specs.declared.script.Script.{Script}
@@ -14,33 +10,34 @@ use Rattle.life_records.specs.declared.record.FullLine.{FullLine}
 use Rattle.life_records.specs.declared.record.JournalLine.{JournalLine}
 use Rattle.life_records.specs.declared.record.ReadLine.{ReadLine}
 use Rattle.life_records.specs.declared.record.StopLine.{StopLine}
+use Rattle.typed_object.specs.Meaning.{Meaning}
 pub use Rattle.life_records.specs.declared.record.LifeRecord.{LifeRecord}
 
 -- the life has this command of this client
-pub record Names (life : Life) (client command : ℕ) : Type 0 where
+pub record Names {Op : Type 0} (life : Life Op) (client command : ℕ) : Type 0 where
   pub takes_part : client < life.clients
   pub there : IsSome (named_op life client command)
 
 -- the operations of entries, in order
-abbrev pub ops_of : Life → List JournalLine → List Op
+abbrev pub ops_of : {Op Reply : Type 0} → Life Op → List (JournalLine Reply) → List Op
 ops_of life journal = filter_map (λ line. named_op life line.client line.command) journal
 
 -- the store after operations
-abbrev pub store_after_all : ℕ → Store → List Op → Store
-store_after_all lines store [] = store
-store_after_all lines store (op ∷ ops) = store_after_all lines (store_after lines store op) ops
+abbrev pub store_after_all : {Op Reply Store : Type 0} → Meaning Op Reply Store → Store → List Op → Store
+store_after_all m store [] = store
+store_after_all m store (op ∷ ops) = store_after_all m (m.store_after store op) ops
 
 -- the store after the first n entries
-abbrev pub store_at : ℕ → Store → Life → List JournalLine → ℕ → Store
-store_at lines store life journal n = store_after_all lines store (ops_of life (take n journal))
+abbrev pub store_at : {Op Reply Store : Type 0} → Meaning Op Reply Store → Store → Life Op → List (JournalLine Reply) → ℕ → Store
+store_at m store life journal n = store_after_all m store (ops_of life (take n journal))
 
 -- the numbers of a client's commands among the entries, in order
-abbrev pub numbers_of : ℕ → List JournalLine → List ℕ
+abbrev pub numbers_of : {Reply : Type 0} → ℕ → List (JournalLine Reply) → List ℕ
 numbers_of client journal = map (λ line. line.command) (filter (λ line. line.client == client) journal)
 
 -- the history interleaves the clients' linked commands: of each client, those that stand in it stand in script order,
 -- each once
-pub record Interleaves (life : Life) (journal : List JournalLine) : Type 0 where
+pub record Interleaves {Op Reply : Type 0} (life : Life Op) (journal : List (JournalLine Reply)) : Type 0 where
   pub named : All (λ line. Names life line.client line.command) journal
   pub in_order : (client : ℕ) → IsStrictlyIncreasing (numbers_of client journal)
 
@@ -53,14 +50,14 @@ pub record Answer : Type 0 where
   pub next : ℕ
 
 -- the answers in the history, and those beside it
-abbrev pub journal_answer : JournalLine → Option Answer
+abbrev pub journal_answer : {Reply : Type 0} → JournalLine Reply → Option Answer
 journal_answer line =
     option_map (λ _. record { client = line.client; command = line.command; at = line.ticket; next = line.ticket + 1 }) line.reply
 
-abbrev pub read_answer : ReadLine → Answer
+abbrev pub read_answer : {Reply : Type 0} → ReadLine Reply → Answer
 read_answer line = record { client = line.client; command = line.command; at = line.place; next = line.place }
 
-abbrev pub answers_of : List JournalLine → List ReadLine → List Answer
+abbrev pub answers_of : {Reply : Type 0} → List (JournalLine Reply) → List (ReadLine Reply) → List Answer
 answers_of journal reads = filter_map journal_answer journal ++ map read_answer reads
 
 -- the answers to one command
@@ -68,7 +65,7 @@ abbrev pub count_to : ℕ → ℕ → List Answer → ℕ
 count_to client command answers = count_by (λ a. (a.client == client) && (a.command == command)) answers
 
 -- reads stand by client, and those of one client by command
-abbrev pub IsReadBefore : ReadLine → ReadLine → Type 0
+abbrev pub IsReadBefore : {Reply : Type 0} → ReadLine Reply → ReadLine Reply → Type 0
 IsReadBefore a b = (a.client < b.client) ⊎ ((a.client ≡ b.client) × (a.command < b.command))
 
 -- stop lines and full lines stand by client, one a client at the most
@@ -96,28 +93,28 @@ abbrev pub is_stopped : ℕ → List StopLine → Bool
 is_stopped client stops = list_any (λ line. line.client == client) stops
 
 -- the reply that an operation has in a store
-abbrev pub HasReply : ℕ → Store → Option Op → Reply → Type 0
-HasReply lines store op reply = IfSome op (λ o. reply ≡ reply_to lines store o)
+abbrev pub HasReply : {Op Reply Store : Type 0} → Meaning Op Reply Store → Store → Option Op → Reply → Type 0
+HasReply m store op reply = IfSome op (λ o. reply ≡ m.reply_to store o)
 
 -- a read beside a history that began at a place with a store: its place is in the history, and its reply is that of the
 -- store after the entries below its place
-pub record IsLegalRead (lines place : ℕ) (store : Store) (life : Life) (journal : List JournalLine) (line : ReadLine) : Type 0 where
+pub record IsLegalRead {Op Reply Store : Type 0} (m : Meaning Op Reply Store) (place : ℕ) (store : Store) (life : Life Op) (journal : List (JournalLine Reply)) (line : ReadLine Reply) : Type 0 where
   pub named : Names life line.client line.command
-  pub reads : IfSome (named_op life line.client line.command) (λ op. only_reads op ≡ true)
+  pub reads : IfSome (named_op life line.client line.command) (λ op. m.is_reading op ≡ true)
   pub from : place ≤ line.place
   pub to : line.place ≤ place + length journal
-  pub reply : HasReply lines (store_at lines store life journal (line.place - place)) (named_op life line.client line.command) line.reply
+  pub reply : HasReply m (store_at m store life journal (line.place - place)) (named_op life line.client line.command) line.reply
 
 -- an entry of a client that was answered so many commands: it is one of them and has a reply; or it is the next one, which was
 -- stopped, and has none
-abbrev pub IsEndedEntry : ℕ → ℕ → List StopLine → JournalLine → Type 0
+abbrev pub IsEndedEntry : {Reply : Type 0} → ℕ → ℕ → List StopLine → JournalLine Reply → Type 0
 IsEndedEntry client answered stops line =
     ((1 ≤ line.command) × (line.command ≤ answered) × IsSome line.reply)
     ⊎ ((line.command ≡ answered + 1) × (line.reply ≡ None) × (has_stop client (answered + 1) stops ≡ true))
 
 -- What a client came to. Each of its commands up to a number has exactly one answer, in the history or beside it. They are all
 -- that it has, or it was stopped in the next one or gave up in it. No other command has a line.
-pub record HasEnded (life : Life) (told : LifeRecord) (client : ℕ) : Type 0 where
+pub record HasEnded {Op Reply : Type 0} (life : Life Op) (told : LifeRecord Reply) (client : ℕ) : Type 0 where
   pub answered : ℕ
   pub within : answered ≤ length (own_ops client life.commands)
   pub once : (command : ℕ) → 1 ≤ command → command ≤ answered → count_to client command (answers_of told.journal told.reads) ≡ 1
@@ -128,33 +125,33 @@ pub record HasEnded (life : Life) (told : LifeRecord) (client : ℕ) : Type 0 wh
   pub over : (answered ≡ length (own_ops client life.commands)) ⊎ ((has_stop client (answered + 1) told.stops ≡ true) ⊎ (has_full client (answered + 1) told.fulls ≡ true))
 
 -- A client was stopped in a command that it has, at the limit that its cut line gives it.
-pub record IsLegalStop (life : Life) (line : StopLine) : Type 0 where
+pub record IsLegalStop {Op : Type 0} (life : Life Op) (line : StopLine) : Type 0 where
   pub named : Names life line.client line.command
   pub steps : line.steps ≡ limit_in line.client life.cuts
   pub limit : line.steps < 2 ^ 64 - 1
 
 -- an answered entry of a client, from a ticket on
-abbrev pub is_answered_from : ℕ → ℕ → JournalLine → Bool
+abbrev pub is_answered_from : {Reply : Type 0} → ℕ → ℕ → JournalLine Reply → Bool
 is_answered_from client ticket line = (line.client == client) && (is_some line.reply && nat_le ticket line.ticket)
 
 -- A client gave up in a command that it has. Another client, which was stopped, needs a ticket at or below the one named, and all 16
 -- cells of the client hold answered entries from that ticket on, one of them at it.
-pub record IsLegalFull (life : Life) (told : LifeRecord) (line : FullLine) : Type 0 where
+pub record IsLegalFull {Op Reply : Type 0} (life : Life Op) (told : LifeRecord Reply) (line : FullLine) : Type 0 where
   pub named : Names life line.client line.command
   pub other : line.note.holder ≢ line.client
   pub stopped : is_stopped line.note.holder told.stops ≡ true
   pub need : line.note.need ≤ line.note.ticket
   pub cells : 16 ≤ count_by (is_answered_from line.client line.note.ticket) told.journal
-  pub least : JournalLine
+  pub least : JournalLine Reply
   pub there : Contains told.journal least
   pub own : least.client ≡ line.client
   pub at : least.ticket ≡ line.note.ticket
   pub answered : IsSome least.reply
 
 -- What happened in a life that began at a place with a store.
-pub record IsLegal (lines place : ℕ) (store : Store) (life : Life) (told : LifeRecord) : Type 0 where
+pub record IsLegal {Op Reply Store : Type 0} (m : Meaning Op Reply Store) (place : ℕ) (store : Store) (life : Life Op) (told : LifeRecord Reply) : Type 0 where
   -- one history, that interleaves the clients' commands
-  pub tickets : (i : ℕ) (line : JournalLine) → slice_get told.journal i ≡ Some line → line.ticket ≡ place + i
+  pub tickets : (i : ℕ) (line : JournalLine Reply) → slice_get told.journal i ≡ Some line → line.ticket ≡ place + i
   pub interleaved : Interleaves life told.journal
   -- the other lines stand in their order
   pub reads_in_order : AllPairs IsReadBefore told.reads
@@ -165,56 +162,56 @@ pub record IsLegal (lines place : ℕ) (store : Store) (life : Life) (told : Lif
   pub stops : All (IsLegalStop life) told.stops
   pub fulls : All (IsLegalFull life told) told.fulls
   -- each reply is the one-thread store's at its place
-  pub replies : (i : ℕ) (line : JournalLine) → slice_get told.journal i ≡ Some line →
-      IfSome line.reply (HasReply lines (store_at lines store life told.journal i) (named_op life line.client line.command))
-  pub legal_reads : All (IsLegalRead lines place store life told.journal) told.reads
+  pub replies : (i : ℕ) (line : JournalLine Reply) → slice_get told.journal i ≡ Some line →
+      IfSome line.reply (HasReply m (store_at m store life told.journal i) (named_op life line.client line.command))
+  pub legal_reads : All (IsLegalRead m place store life told.journal) told.reads
   -- no answer to a client lies below what the client was told before
   pub in_turn : (a b : Answer) → Contains (answers_of told.journal told.reads) a → Contains (answers_of told.journal told.reads) b →
       a.client ≡ b.client → a.command < b.command → a.next ≤ b.at
 
 -- the command in which a client was stopped has an entry that is kept
-pub record IsKeptStop (place kept : ℕ) (journal : List JournalLine) (line : StopLine) : Type 0 where
-  pub entry : JournalLine
+pub record IsKeptStop {Reply : Type 0} (place kept : ℕ) (journal : List (JournalLine Reply)) (line : StopLine) : Type 0 where
+  pub entry : JournalLine Reply
   pub there : Contains journal entry
   pub client : entry.client ≡ line.client
   pub command : entry.command ≡ line.command
   pub below : entry.ticket < place + kept
 
 -- What outlives the loss of power: a prefix of the history that holds everything answered.
-pub record IsKept (lines place : ℕ) (store : Store) (life : Life) (told : LifeRecord) : Type 0 where
+pub record IsKept {Op Reply Store : Type 0} (m : Meaning Op Reply Store) (place : ℕ) (store : Store) (life : Life Op) (told : LifeRecord Reply) : Type 0 where
   pub prefix : told.kept ≤ length told.journal
   pub answered : All (λ a. a.next ≤ place + told.kept) (answers_of told.journal told.reads)
   pub stops : All (λ line. (line.kept ≡ true) ↔ IsKeptStop place told.kept told.journal line) told.stops
-  pub documents : told.documents ≡ length (store_at lines store life told.journal told.kept)
+  pub items : told.documents ≡ m.items (store_at m store life told.journal told.kept)
 
 -- a record of a life that begins at a place with a store
-pub record IsLegalLife (lines place : ℕ) (store : Store) (life : Life) (told : LifeRecord) : Type 0 where
+pub record IsLegalLife {Op Reply Store : Type 0} (m : Meaning Op Reply Store) (place : ℕ) (store : Store) (life : Life Op) (told : LifeRecord Reply) : Type 0 where
   pub clients : told.clients ≡ life.clients
   pub choice : told.choice ≡ life.choice
   pub from : told.from ≡ place
-  pub legal : IsLegal lines place store life told
-  pub kept : IsKept lines place store life told
+  pub legal : IsLegal m place store life told
+  pub kept : IsKept m place store life told
 
 -- records of lives, the first of which begins at a place with a store, and each next one with what was kept
-abbrev pub AreLivesFrom : ℕ → ℕ → Store → List Life → List LifeRecord → Type 0
-AreLivesFrom lines place store [] [] = Unit {0}
-AreLivesFrom lines place store (life ∷ lives) (told ∷ records) =
-    IsLegalLife lines place store life told
-    × AreLivesFrom lines (place + told.kept) (store_at lines store life told.journal told.kept) lives records
-AreLivesFrom lines place store [] (told ∷ records) = ⊥
-AreLivesFrom lines place store (life ∷ lives) [] = ⊥
+abbrev pub AreLivesFrom : {Op Reply Store : Type 0} → Meaning Op Reply Store → ℕ → Store → List (Life Op) → List (LifeRecord Reply) → Type 0
+AreLivesFrom m place store [] [] = Unit {0}
+AreLivesFrom m place store (life ∷ lives) (told ∷ records) =
+    IsLegalLife m place store life told
+    × AreLivesFrom m (place + told.kept) (store_at m store life told.journal told.kept) lives records
+AreLivesFrom m place store [] (told ∷ records) = ⊥
+AreLivesFrom m place store (life ∷ lives) [] = ⊥
 
 -- the records are legal lives of the script, from place 0 and the empty store on
-abbrev pub AreLegalLives : Script → List LifeRecord → Type 0
-AreLegalLives script records = AreLivesFrom script.lines 0 [] script.lives records
+abbrev pub AreLegalLives : {Op Reply Store : Type 0} → Meaning Op Reply Store → Script Op → List (LifeRecord Reply) → Type 0
+AreLegalLives m script records = AreLivesFrom m 0 m.opening script.lives records
 
 -- the lines of a record name commands of the life
-pub record NamesCommands (life : Life) (told : LifeRecord) : Type 0 where
+pub record NamesCommands {Op Reply : Type 0} (life : Life Op) (told : LifeRecord Reply) : Type 0 where
   pub journal : All (λ line. Names life line.client line.command) told.journal
   pub reads : All (λ line. Names life line.client line.command) told.reads
 
 -- there is a record for each life, and its lines name commands of the life
-abbrev pub NameCommands : List Life → List LifeRecord → Type 0
+abbrev pub NameCommands : {Op Reply : Type 0} → List (Life Op) → List (LifeRecord Reply) → Type 0
 NameCommands [] [] = Unit {0}
 NameCommands (life ∷ lives) (told ∷ records) = NamesCommands life told × NameCommands lives records
 NameCommands [] (told ∷ records) = ⊥
@@ -225,7 +222,7 @@ abbrev pub Fits : ℕ → Type 0
 Fits n = n < 2 ^ 64
 
 -- the numbers of a record are within 64 bits, as they are in each value of the type
-pub record HasNumbers (told : LifeRecord) : Type 0 where
+pub record HasNumbers {Reply : Type 0} (told : LifeRecord Reply) : Type 0 where
   pub clients : Fits told.clients
   pub from : Fits told.from
   pub choice : Fits told.choice
@@ -237,5 +234,5 @@ pub record HasNumbers (told : LifeRecord) : Type 0 where
   pub stops : All (λ line. Fits line.client × Fits line.command × Fits line.steps) told.stops
   pub fulls : All (λ line. Fits line.client × Fits line.command × Fits line.note.holder × Fits line.note.need × Fits line.note.ticket) told.fulls
 
-abbrev pub AreNumbers : List LifeRecord → Type 0
+abbrev pub AreNumbers : {Reply : Type 0} → List (LifeRecord Reply) → Type 0
 AreNumbers records = All HasNumbers records

@@ -2,30 +2,29 @@
 
 use cx_base::Items;
 use cx_core::FullNote;
-use doc_model::Reply;
 
 /// A life as it went: the entries of its history by ticket; the reads that were answered beside it, the clients that were
 /// stopped and those that gave up, each by client; and how many of the entries the loss of power kept.
 #[derive(Drop)]
-pub struct LifeRecord {
+pub struct LifeRecord<Reply> {
     pub clients: u32,
     /// The place at which the life began, the number of entries kept in all lives before.
     pub from: u64,
-    pub journal: Items<JournalLine>,
-    pub reads: Items<ReadLine>,
+    pub journal: Items<JournalLine<Reply>>,
+    pub reads: Items<ReadLine<Reply>>,
     pub stops: Items<StopLine>,
     pub fulls: Items<FullLine>,
     pub choice: u64,
     /// The first so many entries outlive the loss of power.
     pub kept: u64,
-    /// The pairs of the store that the next life begins with.
+    /// The items of the store that the next life begins with, which are the documents of a document store.
     pub documents: u64,
 }
 
 /// An entry of the history: which command of which client it is, and its reply where the client was answered. A
 /// client's commands are counted from 1 in each life.
 #[derive(Drop)]
-pub struct JournalLine {
+pub struct JournalLine<Reply> {
     pub ticket: u64,
     pub client: u32,
     pub command: u64,
@@ -34,7 +33,7 @@ pub struct JournalLine {
 
 /// A read that did not go through the history. It was answered by the store after the entries below its place.
 #[derive(Drop)]
-pub struct ReadLine {
+pub struct ReadLine<Reply> {
     pub client: u32,
     pub command: u64,
     pub place: u64,

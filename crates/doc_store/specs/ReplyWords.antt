@@ -7,7 +7,7 @@ use Rattle.doc_model.specs.declared.operations.Reply.TheVariants.{New, Replaced,
 use Rattle.doc_model.proofs.PartPlaces.{carried, key_length_in, document_length_in, parts_same}
 use Rattle.doc_model.proofs.ReplyKinds.{reply_again, reply_document, reply_document_text, reply_key, reply_key_text, reply_kind, reply_number, reply_words_are}
 use Rattle.doc_model.proofs.WordTexts.{no_text}
-use Rattle.life_laws.specs.Replies.{IsReplyValue}
+use Rattle.doc_store.specs.DocumentMeaning.{IsReplyValue}
 
 -- the lengths of the texts stand in the words
 key_length : (reply : Reply) → get_or (reply_words reply) 1 0 ≡ length (reply_key reply)
