@@ -7,7 +7,6 @@ use Rattle.life_records.specs.declared.script.Command.{Command}
 use Rattle.life_records.specs.declared.script.Life.{Life}
 use Rattle.life_records.specs.Limits.{IsLifeInLimits}
 use Rattle.life_records.specs.Scripts.{named_op, own_ops}
-use Rattle.typed_object.specs.Meaning.{Meaning, AreOfNoReply, IsOpOf}
 
 module _ {Op : Type 0} where
   own_ops-append : (client : ℕ) (xs ys : List (Command Op)) → own_ops client (xs ++ ys) ≡ own_ops client xs ++ own_ops client ys

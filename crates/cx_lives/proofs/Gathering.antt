@@ -29,7 +29,7 @@ use Rattle.cx_lives.specs.Ends.{CannotBe, IsEndOf, IsWorkOf, full_in, stop_in}
 use Rattle.cx_lives.specs.Works.{AreNumbered, AreWorksOf, ServedOf}
 use Rattle.cx_lives.specs.declared.work.Served.{Served}
 use Rattle.cx_lives.specs.Gathering.{AddsWork, AreGathered, HasNever, IsLocalIn, is_never}
-use Rattle.typed_object.specs.Meaning.{Meaning, AreOfNoReply, IsOpOf}
+use Rattle.typed_object.specs.Meaning.{Meaning}
 
 abbrev number : Seated → ℕ
 number s = s.known.local.number

@@ -10,7 +10,6 @@ use Rattle.life_records.specs.declared.record.FullLine.{FullLine}
 use Rattle.life_records.specs.declared.record.StopLine.{StopLine}
 use Rattle.cx_lives.specs.Works.{stop_told, stops_left}
 use Rattle.cx_lives.specs.declared.work.Served.{Served}
-use Rattle.typed_object.specs.Meaning.{Meaning, AreOfNoReply, IsOpOf}
 
 -- a client is stopped in two lists of lines where it is in one of them
 pub stopped_both : (client : ℕ) (xs ys : List StopLine) → is_stopped client (xs ++ ys) ≡ is_stopped client xs || is_stopped client ys

@@ -26,7 +26,7 @@ use Rattle.life_records.specs.declared.record.StopLine.{StopLine}
 use Rattle.cx_lives.specs.Calls.{LinksEntry, one_read}
 use Rattle.cx_lives.specs.Serving.{HasServed, IsAnsweredEntry, IsAnsweredLine}
 use Rattle.cx_lives.proofs.Lines.{all_at, count_no, count_none, count_yes, zip_also, zip_with}
-use Rattle.typed_object.specs.Meaning.{Meaning, AreOfNoReply, IsOpOf}
+use Rattle.typed_object.specs.Meaning.{Meaning}
 
 -- a reply stays where it is while more is answered
 reply_stays : {Op Reply Store : Type 0} → (m : Meaning Op Reply Store) → (answered more : List Answer) (ticket : ℕ) (reply : Option Reply) → IsSome reply → IsReplyAt m.encoding answered ticket reply → IsReplyAt m.encoding (answered ++ more) ticket reply

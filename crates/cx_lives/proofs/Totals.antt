@@ -6,7 +6,6 @@ use Rattle.cx_core.specs.declared.local.Local.{Local}
 use Rattle.cx_core.specs.Merge.{all_own}
 use Rattle.life_records.specs.declared.script.Command.{Command}
 use Rattle.life_records.specs.Scripts.{own_ops}
-use Rattle.typed_object.specs.Meaning.{Meaning, AreOfNoReply, IsOpOf}
 
 -- the commands of so many clients from one on
 total : {Op : Type 0} → ℕ → ℕ → List (Command Op) → ℕ

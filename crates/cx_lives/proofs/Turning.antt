@@ -32,7 +32,7 @@ use Rattle.cx_lives.specs.Ends.{IsCallerIn, IsEndOf, IsKeptOut, IsNewIn, IsWorkO
 use Rattle.cx_lives.specs.Serving.{HasServed, IsServed}
 use Rattle.cx_lives.specs.Turns.{EntryTurn, ReadTurn, StopsIn, stop_line, with_linked}
 use Rattle.cx_lives.proofs.Serving.{few_own, is_given_up, is_whole, named_within, serves_entry, serves_none, serves_read, serves_still, stops_beside, stops_linked}
-use Rattle.typed_object.specs.Meaning.{Meaning, AreOfNoReply, IsOpOf}
+use Rattle.typed_object.specs.Meaning.{Meaning, IsOpOf}
 
 -- what holds of what came out
 pub if_ok : {T E : Type 0} (P Q : T → Type 0) → ((t : T) → P t → Q t) → (result : Result T E) → IfOk result P → IfOk result Q

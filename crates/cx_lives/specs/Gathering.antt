@@ -15,7 +15,7 @@ use Rattle.cx_lives.specs.declared.desk.End.TheVariants.{Whole, Stopped, Full, N
 use Rattle.cx_lives.specs.declared.desk.Work.{Work}
 use Rattle.cx_lives.specs.declared.gather.Gathered.{Gathered}
 use Rattle.cx_lives.specs.Ends.{CannotBe, full_in, stop_in}
-use Rattle.typed_object.specs.Meaning.{Meaning, AreOfNoReply, IsOpOf}
+use Rattle.typed_object.specs.Meaning.{Meaning}
 
 -- some caller has what none can have
 pub record HasNever {Op Reply Store : Type 0} (m : Meaning Op Reply Store) (life : Life Op) (locals : List Local) : Type 0 where

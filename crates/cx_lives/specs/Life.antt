@@ -10,7 +10,7 @@ use Rattle.life_records.specs.Limits.{IsLifeInLimits}
 use Rattle.life_records.specs.declared.script.Life.{Life}
 use Rattle.life_records.specs.declared.record.LifeRecord.{LifeRecord}
 use Rattle.cx_lives.specs.Ends.{IsNewIn}
-use Rattle.typed_object.specs.Meaning.{Meaning, AreOfNoReply, IsOpOf}
+use Rattle.typed_object.specs.Meaning.{Meaning}
 
 -- A life that may be run on a service by these callers: item i is caller i, with client i's limit and no call made, and there are
 -- all; the life is within its limits, and so many tickets are left as it has commands.

@@ -13,7 +13,7 @@ use Rattle.life_records.specs.declared.script.Life.{Life}
 use Rattle.life_records.specs.declared.record.JournalLine.{JournalLine}
 use Rattle.life_records.specs.declared.record.ReadLine.{ReadLine}
 use Rattle.cx_lives.specs.declared.desk.Desk.{Desk}
-use Rattle.typed_object.specs.Meaning.{Meaning, AreOfNoReply, IsOpOf}
+use Rattle.typed_object.specs.Meaning.{Meaning}
 
 -- the line of an entry that was answered
 abbrev pub IsAnsweredLine : {Op Reply Store : Type 0} → (m : Meaning Op Reply Store) → Life Op → ℕ → List Answer → Linked → JournalLine Reply → Type 0

@@ -12,7 +12,7 @@ use Rattle.cx_lives.specs.declared.desk.End.TheVariants.{Stopped, Never}
 use Rattle.cx_lives.specs.declared.desk.Turn.{Turn}
 use Rattle.cx_lives.specs.declared.desk.Turn.TheVariants.{Next, Over, Full}
 use Rattle.cx_lives.specs.declared.desk.Work.{Work}
-use Rattle.typed_object.specs.Meaning.{Meaning, AreOfNoReply, IsOpOf}
+use Rattle.typed_object.specs.Meaning.{Meaning, AreOfNoReply}
 
 -- one entry's line more
 pub record AddsEntry {Op Reply Store : Type 0} (m : Meaning Op Reply Store) (client number : ℕ) (answer : Answer) (desk next : Desk Reply) : Type 0 where

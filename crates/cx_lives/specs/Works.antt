@@ -13,7 +13,7 @@ use Rattle.cx_lives.specs.Serving.{IsServed}
 use Rattle.cx_lives.specs.declared.work.Left.{Left}
 use Rattle.cx_lives.specs.declared.work.Served.{Served}
 use Rattle.cx_lives.specs.declared.work.Served.TheVariants.{Done, Full}
-use Rattle.typed_object.specs.Meaning.{Meaning, AreOfNoReply, IsOpOf}
+use Rattle.typed_object.specs.Meaning.{Meaning}
 
 -- a client that is left: it was answered its commands among the first so many of the script
 pub record IsLeftOf {O Op Reply Store : Type 0} (m : Meaning Op Reply Store) (life : Life Op) (r : Running O) (client : ℕ) (left : Left Reply) : Type 0 where

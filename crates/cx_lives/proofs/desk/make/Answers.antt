@@ -1,4 +1,4 @@
-use Rattle.std.proofs.Common.{◌-◌, ◌∙◌, arith, refl, subst, sym}
+use Rattle.std.proofs.Common.{◌-◌, arith, refl}
 use Rattle.cx_lives.specs.declared.desk.Desk.{Desk}
 use Rattle.cx_lives.specs.Ends.{Turned}
 use Rattle.cx_lives.specs.Turns.{EntryTurn, ReadTurn}

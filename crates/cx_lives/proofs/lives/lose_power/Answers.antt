@@ -3,7 +3,7 @@ use Rattle.cx_core.specs.Base.{LawfulBase}
 use Rattle.cx_core.specs.declared.entry.Base.{Base}
 use Rattle.life_records.specs.declared.record.LifeRecord.{LifeRecord}
 use Rattle.recovery.specs.Crashes.{IsLeftOf}
-use Rattle.recovery.specs.Kept.{IsKeptBy, IsOpened}
+use Rattle.recovery.specs.Kept.{IsKeptBy}
 use Rattle.recovery.specs.Recovery.{IsFaultOf, IsRecovered}
 use Rattle.recovery.specs.declared.recovering.ImageFault.TheVariants.{Memory}
 use Rattle.cx_lives.specs.Lives.{HasLost, IsFlagged}

@@ -1,4 +1,4 @@
-use Rattle.std.proofs.Common.{◌≡◌, ap, subst, sym}
+use Rattle.std.proofs.Common.{ap, subst, sym}
 use Rattle.cx_lives.specs.Works.{IsFullLeft, IsLeftOf, ServedOf}
 use Rattle.cx_lives.proofs.Turning.{given_up_work}
 use Rattle.cx_lives.proofs.work.go_on.Goals as goal
