@@ -3,63 +3,63 @@ use Rattle.std.proofs.Common.{◌≡◌, ◌≢◌, ℕ, ◌+◌, ◌<◌, ◌�
 use Rattle.std.proofs.lemmas.Bool.{eq-eqb, ne_eqb}
 use Rattle.std.proofs.lemmas.List.{map-append, take_all, take_more, take-append-drop}
 use Rattle.std.proofs.lemmas.List.Elements.{filter-append}
-use Rattle.doc_model.specs.declared.operations.Op.{Op}
-use Rattle.doc_model.specs.Meaning.{IsOp}
 use Rattle.life_records.specs.declared.script.Command.{Command}
 use Rattle.life_records.specs.declared.script.Life.{Life}
 use Rattle.life_records.specs.Limits.{IsLifeInLimits}
 use Rattle.life_records.specs.Scripts.{named_op, own_ops}
 
-own_ops-append : (client : ℕ) (xs ys : List Command) → own_ops client (xs ++ ys) ≡ own_ops client xs ++ own_ops client ys
-own_ops-append client xs ys =
-    ap (map (λ (c : Command). c.op)) (filter-append (λ c. c.client == client) xs ys)
-    ∙ map-append (λ (c : Command). c.op) (filter (λ c. c.client == client) xs) (filter (λ c. c.client == client) ys)
+module _ {Op : Type 0} where
+  own_ops-append : (client : ℕ) (xs ys : List (Command Op)) → own_ops client (xs ++ ys) ≡ own_ops client xs ++ own_ops client ys
+  own_ops-append client xs ys =
+      ap (map (λ (c : Command Op). c.op)) (filter-append (λ c. c.client == client) xs ys)
+      ∙ map-append (λ (c : Command Op). c.op) (filter (λ c. c.client == client) xs) (filter (λ c. c.client == client) ys)
 
 get_middle : {X : Type 0} (xs : List X) (x : X) (ys : List X) → slice_get ((xs ++ x ∷ []) ++ ys) (length xs) ≡ Some x
 get_middle [] x ys = refl
 get_middle (z ∷ xs) x ys = get_middle xs x ys
 
-own_ops_next : (client : ℕ) (commands : List Command) (i : ℕ) (command : Command) → i < length commands → command ≡ get_or commands i command
-    → own_ops client (take (i + 1) commands) ≡ own_ops client (take i commands) ++ own_ops client (command ∷ [])
-own_ops_next client commands i command within at =
-    ap (own_ops client) (take_more commands i command within ∙ ap (λ (c : Command). take i commands ++ c ∷ []) (sym at))
-    ∙ own_ops-append client (take i commands) (command ∷ [])
+module _ {Op : Type 0} where
+  own_ops_next : (client : ℕ) (commands : List (Command Op)) (i : ℕ) (command : Command Op) → i < length commands → command ≡ get_or commands i command
+      → own_ops client (take (i + 1) commands) ≡ own_ops client (take i commands) ++ own_ops client (command ∷ [])
+  own_ops_next client commands i command within at =
+      ap (own_ops client) (take_more commands i command within ∙ ap (λ (c : Command Op). take i commands ++ c ∷ []) (sym at))
+      ∙ own_ops-append client (take i commands) (command ∷ [])
 
--- how many commands a client has among the first ones
-own_more : (client : ℕ) (commands : List Command) (i : ℕ) (command : Command) → i < length commands → command ≡ get_or commands i command → command.client ≡ client
-    → length (own_ops client (take (i + 1) commands)) ≡ length (own_ops client (take i commands)) + 1
-own_more client commands i command within at own =
-    let one : own_ops client (command ∷ []) ≡ command.op ∷ [] = ap (λ b. map (λ (c : Command). c.op) (cond b (command ∷ []) [])) (eq-eqb command.client client own) in
-    omega (arith, ap length (own_ops_next client commands i command within at), length-append (own_ops client (take i commands)) (own_ops client (command ∷ [])), ap length one)
+  -- how many commands a client has among the first ones
+  own_more : (client : ℕ) (commands : List (Command Op)) (i : ℕ) (command : Command Op) → i < length commands → command ≡ get_or commands i command → command.client ≡ client
+      → length (own_ops client (take (i + 1) commands)) ≡ length (own_ops client (take i commands)) + 1
+  own_more client commands i command within at own =
+      let one : own_ops client (command ∷ []) ≡ command.op ∷ [] = ap (λ b. map (λ (c : Command Op). c.op) (cond b (command ∷ []) [])) (eq-eqb command.client client own) in
+      omega (arith, ap length (own_ops_next client commands i command within at), length-append (own_ops client (take i commands)) (own_ops client (command ∷ [])), ap length one)
 
-own_none : (client : ℕ) (commands : List Command) (i : ℕ) (command : Command) → i < length commands → command ≡ get_or commands i command → command.client ≢ client
-    → length (own_ops client (take (i + 1) commands)) ≡ length (own_ops client (take i commands))
-own_none client commands i command within at other =
-    let none : own_ops client (command ∷ []) ≡ [] = ap (λ b. map (λ (c : Command). c.op) (cond b (command ∷ []) [])) (ne_eqb command.client client other) in
-    omega (arith, ap length (own_ops_next client commands i command within at), length-append (own_ops client (take i commands)) (own_ops client (command ∷ [])), ap length none)
+  own_none : (client : ℕ) (commands : List (Command Op)) (i : ℕ) (command : Command Op) → i < length commands → command ≡ get_or commands i command → command.client ≢ client
+      → length (own_ops client (take (i + 1) commands)) ≡ length (own_ops client (take i commands))
+  own_none client commands i command within at other =
+      let none : own_ops client (command ∷ []) ≡ [] = ap (λ b. map (λ (c : Command Op). c.op) (cond b (command ∷ []) [])) (ne_eqb command.client client other) in
+      omega (arith, ap length (own_ops_next client commands i command within at), length-append (own_ops client (take i commands)) (own_ops client (command ∷ [])), ap length none)
 
--- the next of a client's commands
-named_next : (life : Life) (i number : ℕ) (command : Command) → i < length life.commands → command ≡ get_or life.commands i command → number ≡ length (own_ops command.client (take i life.commands))
-    → named_op life command.client (number + 1) ≡ Some command.op
-named_next life i number command within at e =
-    let me = command.client in
-    let front = own_ops me (take i life.commands) in
-    let rest = own_ops me (drop (i + 1) life.commands) in
-    let one : own_ops me (command ∷ []) ≡ command.op ∷ [] = ap (λ b. map (λ (c : Command). c.op) (cond b (command ∷ []) [])) (eq-eqb me me refl) in
-    let parts : own_ops me life.commands ≡ (front ++ command.op ∷ []) ++ rest =
-    ap (own_ops me) (sym (take-append-drop (i + 1) life.commands))
-    ∙ own_ops-append me (take (i + 1) life.commands) (drop (i + 1) life.commands)
-    ∙ ap (λ ops. ops ++ rest) (own_ops_next me life.commands i command within at ∙ ap (λ ops. front ++ ops) one) in
-    rw add-one (ap (λ (ops : List Op). slice_get ops number) parts ∙ ap (λ n. slice_get ((front ++ command.op ∷ []) ++ rest) n) e ∙ get_middle front command.op rest)
+  -- the next of a client's commands
+  named_next : (life : Life Op) (i number : ℕ) (command : Command Op) → i < length life.commands → command ≡ get_or life.commands i command → number ≡ length (own_ops command.client (take i life.commands))
+      → named_op life command.client (number + 1) ≡ Some command.op
+  named_next life i number command within at e =
+      let me = command.client in
+      let front = own_ops me (take i life.commands) in
+      let rest = own_ops me (drop (i + 1) life.commands) in
+      let one : own_ops me (command ∷ []) ≡ command.op ∷ [] = ap (λ b. map (λ (c : Command Op). c.op) (cond b (command ∷ []) [])) (eq-eqb me me refl) in
+      let parts : own_ops me life.commands ≡ (front ++ command.op ∷ []) ++ rest =
+      ap (own_ops me) (sym (take-append-drop (i + 1) life.commands))
+      ∙ own_ops-append me (take (i + 1) life.commands) (drop (i + 1) life.commands)
+      ∙ ap (λ ops. ops ++ rest) (own_ops_next me life.commands i command within at ∙ ap (λ ops. front ++ ops) one) in
+      rw add-one (ap (λ (ops : List Op). slice_get ops number) parts ∙ ap (λ n. slice_get ((front ++ command.op ∷ []) ++ rest) n) e ∙ get_middle front command.op rest)
 
 -- what a loop over a life's commands knows of the one that it is at
-module _ (life : Life) (items : List Command) (same : items ≡ life.commands) (i : ℕ) (command : Command) (within : i < length items) (at : command ≡ get_or items i command)
+module _ {Op : Type 0} (life : Life Op) (items : List (Command Op)) (same : items ≡ life.commands) (i : ℕ) (command : Command Op) (within : i < length items) (at : command ≡ get_or items i command)
     (me number : ℕ) (count : number ≡ length (own_ops me (take i life.commands))) where
   here : i < length life.commands
   here = omega (arith, within, ap length same)
 
   there : command ≡ get_or life.commands i command
-  there = at ∙ ap (λ (all : List Command). get_or all i command) same
+  there = at ∙ ap (λ (all : List (Command Op)). get_or all i command) same
 
   pub named_here : command.client ≡ me → named_op life command.client (number + 1) ≡ Some command.op
   named_here own = named_next life i number command here there (count ∙ ap (λ (client : ℕ). length (own_ops client (take i life.commands))) (sym own))
@@ -71,10 +71,11 @@ module _ (life : Life) (items : List Command) (same : items ≡ life.commands) (
   count_none next is other = is ∙ omega (arith, count, own_none me life.commands i command here there other)
 
 -- no command is left
-pub count_all : (life : Life) (items : List Command) (i me number : ℕ) → items ≡ life.commands → length items ≤ i → number ≡ length (own_ops me (take i life.commands)) → number ≡ length (own_ops me life.commands)
-count_all life items i me number same over count =
-    count ∙ ap (λ (cs : List Command). length (own_ops me cs)) (take_all i life.commands (omega (arith, over, ap length same)))
+module _ {Op : Type 0} where
+  pub count_all : (life : Life Op) (items : List (Command Op)) (i me number : ℕ) → items ≡ life.commands → length items ≤ i → number ≡ length (own_ops me (take i life.commands)) → number ≡ length (own_ops me life.commands)
+  count_all life items i me number same over count =
+      count ∙ ap (λ (cs : List (Command Op)). length (own_ops me cs)) (take_all i life.commands (omega (arith, over, ap length same)))
 
--- its operation is within the limits
-pub next_is_op : (life : Life) (i : ℕ) (command : Command) → IsLifeInLimits life → i < length life.commands → command ≡ get_or life.commands i command → IsOp command.op
-next_is_op life i command limits within at = subst (λ (c : Command). IsOp c.op) (sym at) ((limits.commands i command within).op)
+  -- its operation is within the limits
+  pub next_is_op : (is_op : Op → Type 0) (life : Life Op) (i : ℕ) (command : Command Op) → IsLifeInLimits is_op 8 life → i < length life.commands → command ≡ get_or life.commands i command → is_op command.op
+  next_is_op is_op life i command limits within at = subst (λ (c : Command Op). is_op c.op) (sym at) ((limits.commands i command within).op)

@@ -29,6 +29,7 @@ use Rattle.cx_lives.specs.Ends.{CannotBe, IsEndOf, IsWorkOf, full_in, stop_in}
 use Rattle.cx_lives.specs.Works.{AreNumbered, AreWorksOf, ServedOf}
 use Rattle.cx_lives.specs.declared.work.Served.{Served}
 use Rattle.cx_lives.specs.Gathering.{AddsWork, AreGathered, HasNever, IsLocalIn, is_never}
+use Rattle.typed_object.specs.Meaning.{Meaning}
 
 abbrev number : Seated → ℕ
 number s = s.known.local.number
@@ -51,18 +52,18 @@ pub locals_long : (xs : List Handed) → length (locals_in xs) ≡ length xs
 locals_long [] = refl
 locals_long (x ∷ xs) = ap suc (locals_long xs)
 
-module _ (life : Life) (ls : List Local) (l : Local) where
-  never_stays : HasNever life ls → HasNever life (ls ++ l ∷ [])
+module _ {Op Reply Store : Type 0} (m : Meaning Op Reply Store) (life : Life Op) (ls : List Local) (l : Local) where
+  never_stays : HasNever m life ls → HasNever m life (ls ++ l ∷ [])
   never_stays h = record { client = h.client; local = h.local; of_client = slice_get-append_left ls (l ∷ []) h.client h.local h.of_client; is = h.is }
 
-  never_now : CannotBe life (length ls) l → HasNever life (ls ++ l ∷ [])
+  never_now : CannotBe m life (length ls) l → HasNever m life (ls ++ l ∷ [])
   never_now is = record { client = length ls; local = l; of_client = slice_get-last ls l; is = is }
 
-  module _ (es es' : List JournalLine) (rs rs' : List ReadLine) (ss : List StopLine) (fs : List FullLine)
-      (go_on : (stop : Option StopLine) (full : Option FullLine) → AreWorks life ls es rs ss fs → IsWork life (length ls) l es' rs' stop full
-      → AreWorks life (ls ++ l ∷ []) (es ++ es') (rs ++ rs') (ss ++ option_to_list stop) (fs ++ option_to_list full)) where
-    works_more : (b : Bool) (end_ : End) → MatchBool b (HasNever life ls) (AreWorks life ls es rs ss fs) → IsEndOf life (length ls) l es' rs' end_
-        → MatchBool (b || is_never end_) (HasNever life (ls ++ l ∷ [])) (AreWorks life (ls ++ l ∷ []) (es ++ es') (rs ++ rs') (ss ++ stop_in end_) (fs ++ full_in end_))
+  module _ (es es' : List (JournalLine Reply)) (rs rs' : List (ReadLine Reply)) (ss : List StopLine) (fs : List FullLine)
+      (go_on : (stop : Option StopLine) (full : Option FullLine) → AreWorks m.encoding life ls es rs ss fs → IsWork m.encoding life (length ls) l es' rs' stop full
+      → AreWorks m.encoding life (ls ++ l ∷ []) (es ++ es') (rs ++ rs') (ss ++ option_to_list stop) (fs ++ option_to_list full)) where
+    works_more : (b : Bool) (end_ : End) → MatchBool b (HasNever m life ls) (AreWorks m.encoding life ls es rs ss fs) → IsEndOf m life (length ls) l es' rs' end_
+        → MatchBool (b || is_never end_) (HasNever m life (ls ++ l ∷ [])) (AreWorks m.encoding life (ls ++ l ∷ []) (es ++ es') (rs ++ rs') (ss ++ stop_in end_) (fs ++ full_in end_))
     works_more true end_ w e = never_stays w
     works_more false Whole w e = go_on None None w e
     works_more false (Stopped line) w e = go_on (Some line) None w e
@@ -70,15 +71,16 @@ module _ (life : Life) (ls : List Local) (l : Local) where
     works_more false Never w e = never_now e
 
 -- what the laws of lines say of one client more
-abbrev pub GoesOn : Life → Type 0
-GoesOn life =
-    (locals : List Local) (l : Local) (entries es : List JournalLine) (reads rs : List ReadLine) (stops : List StopLine) (stop : Option StopLine) (fulls : List FullLine) (full : Option FullLine) →
-    AreWorks life locals entries reads stops fulls → IsWork life (length locals) l es rs stop full →
-    AreWorks life (locals ++ l ∷ []) (entries ++ es) (reads ++ rs) (stops ++ option_to_list stop) (fulls ++ option_to_list full)
+module _ {Op Reply Store : Type 0} where
+  abbrev pub GoesOn : (m : Meaning Op Reply Store) → Life Op → Type 0
+  GoesOn m life =
+      (locals : List Local) (l : Local) (entries es : List (JournalLine Reply)) (reads rs : List (ReadLine Reply)) (stops : List StopLine) (stop : Option StopLine) (fulls : List FullLine) (full : Option FullLine) →
+      AreWorks m.encoding life locals entries reads stops fulls → IsWork m.encoding life (length locals) l es rs stop full →
+      AreWorks m.encoding life (locals ++ l ∷ []) (entries ++ es) (reads ++ rs) (stops ++ option_to_list stop) (fulls ++ option_to_list full)
 
-pub gathered_more : {O : Type 0} (life : Life) (r : Running O) (before after : Gathered) (work : Work) → GoesOn life → AreGathered life r before → AddsWork before after work → IsWorkOf life r (length before.handed.items) work
-    → AreGathered life r after
-gathered_more life r before after work go_on g adds w =
+pub gathered_more : {O Op Reply Store : Type 0} (m : Meaning Op Reply Store) (life : Life Op) (r : Running O) (before after : Gathered Reply) (work : Work Reply) → GoesOn m life → AreGathered m life r before → AddsWork before after work → IsWorkOf m life r (length before.handed.items) work
+    → AreGathered m life r after
+gathered_more m life r before after work go_on g adds w =
     let hs = before.handed.items in
     let ls = locals_in hs in
     let s = seat_of work.handed in
@@ -90,8 +92,8 @@ gathered_more life r before after work go_on g adds w =
     let longer : length after.handed.items ≡ suc n = omega (arith, ap length adds.handed, length-append hs (work.handed ∷ [])) in
     let last : number s ≡ 0 + n = w.caller.by ∙ omega arith in
     let own : IsLocalIn life n l = record { limit = w.caller.limit; few = w.caller.few } in
-    let at_long = subst (λ k. IsEndOf life k l work.entries.items work.reads.items work.end) (sym long) w.ends in
-    let more = works_more life ls l before.entries.items work.entries.items before.reads.items work.reads.items before.stops.items before.fulls.items
+    let at_long = subst (λ k. IsEndOf m life k l work.entries.items work.reads.items work.end) (sym long) w.ends in
+    let more = works_more m life ls l before.entries.items work.entries.items before.reads.items work.reads.items before.stops.items before.fulls.items
     (λ stop full. go_on ls l before.entries.items work.entries.items before.reads.items work.reads.items before.stops.items stop before.fulls.items full) before.never work.end g.works at_long in
     record {
       of = rw seats (All-push (IsSeatOf r) (seats_of hs) s g.of w.caller.of);
@@ -103,8 +105,8 @@ gathered_more life r before after work go_on g adds w =
       works = rw (locals, adds.entries, adds.reads, adds.stops, adds.fulls, adds.never) more;
     }
 
-pub gathered_none : {O : Type 0} (life : Life) (r : Running O) (g : Gathered) → AreWorks life [] [] [] [] [] → g.handed.items ≡ [] → g.entries.items ≡ [] → g.reads.items ≡ [] → g.stops.items ≡ [] → g.fulls.items ≡ [] → g.never ≡ false → AreGathered life r g
-gathered_none life r g begin handed entries reads stops fulls never = record {
+pub gathered_none : {O Op Reply Store : Type 0} (m : Meaning Op Reply Store) (life : Life Op) (r : Running O) (g : Gathered Reply) → AreWorks m.encoding life [] [] [] [] [] → g.handed.items ≡ [] → g.entries.items ≡ [] → g.reads.items ≡ [] → g.stops.items ≡ [] → g.fulls.items ≡ [] → g.never ≡ false → AreGathered m life r g
+gathered_none m life r g begin handed entries reads stops fulls never = record {
   of = rw handed (All-nil (IsSeatOf r));
   numbers = rw handed refl;
   each = rw handed (λ i x at. cc);
@@ -112,15 +114,15 @@ gathered_none life r g begin handed entries reads stops fulls never = record {
 }
 
 -- the works of callers from one on, by the callers' numbers
-pub numbered : {O : Type 0} (life : Life) (r : Running O) (k : ℕ) (callers : List Seated) (works : List (Result Served AllocError)) → length works ≡ length callers → map number callers ≡ range_with_len k (length callers)
-    → AreWorksOf life r callers works → AreNumbered life r k works
-numbered life r k [] [] long numbers each = tt
-numbered life r k [] (w ∷ ws) long numbers each = absurd (omega (arith, long))
-numbered life r k (s ∷ cs) [] long numbers each = absurd (omega (arith, long))
-numbered life r k (s ∷ cs) (w ∷ ws) long numbers each =
+pub numbered : {O Op Reply Store : Type 0} (m : Meaning Op Reply Store) (life : Life Op) (r : Running O) (k : ℕ) (callers : List Seated) (works : List (Result (Served Reply) AllocError)) → length works ≡ length callers → map number callers ≡ range_with_len k (length callers)
+    → AreWorksOf m life r callers works → AreNumbered m life r k works
+numbered m life r k [] [] long numbers each = tt
+numbered m life r k [] (w ∷ ws) long numbers each = absurd (omega (arith, long))
+numbered m life r k (s ∷ cs) [] long numbers each = absurd (omega (arith, long))
+numbered m life r k (s ∷ cs) (w ∷ ws) long numbers each =
     let first : number s ≡ k = ap (λ (xs : List ℕ). get_or xs 0 0) numbers in (
-      subst (λ i. IfOk w (ServedOf life r i)) first (each 0 w s (omega arith)),
-      numbered life r (k + 1) cs ws (omega (arith, long)) (ap (λ (xs : List ℕ). drop 1 xs) numbers) (λ i d e within. each (suc i) d e (omega (arith, within))),
+      subst (λ i. IfOk w (ServedOf m life r i)) first (each 0 w s (omega arith)),
+      numbered m life r (k + 1) cs ws (omega (arith, long)) (ap (λ (xs : List ℕ). drop 1 xs) numbers) (λ i d e within. each (suc i) d e (omega (arith, within))),
     )
 
 -- as many seats as callers
@@ -128,8 +130,8 @@ pub seats_long : {O : Type 0} (r : Running O) (seats : List Seated) → AreSeats
 seats_long r seats are = omega (arith, ap length are.numbers, length-map seats number, length-range_with_len 0 r.callers)
 
 -- what is put together of all callers has all seats
-pub gathered_seats : {O : Type 0} (life : Life) (r : Running O) (callers : List Seated) (g : Gathered) → AreSeats r callers → length g.handed.items ≡ length callers → AreGathered life r g → AreSeats r (seats_of g.handed.items)
-gathered_seats life r callers g are long gathered =
+pub gathered_seats : {O Op Reply Store : Type 0} (m : Meaning Op Reply Store) (life : Life Op) (r : Running O) (callers : List Seated) (g : Gathered Reply) → AreSeats r callers → length g.handed.items ≡ length callers → AreGathered m life r g → AreSeats r (seats_of g.handed.items)
+gathered_seats m life r callers g are long gathered =
     let few = seats_long r callers are in
     let all : length g.handed.items ≡ r.callers = omega (arith, long, few) in
     record { of = gathered.of; numbers = gathered.numbers ∙ ap (range_with_len 0) all }

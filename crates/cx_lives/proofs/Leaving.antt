@@ -20,11 +20,11 @@ stopped_both client (x ∷ xs) ys = ap (λ b. (x.client == client) || b) (stoppe
     or_assoc true b c = refl
     or_assoc false b c = refl
 
-module _ (client i : ℕ) (works : List (Result Served AllocError)) (work : Result Served AllocError) (within : i < length works) (is : work ≡ get_or works i work) where
+module _ {Reply : Type 0} (client i : ℕ) (works : List (Result (Served Reply) AllocError)) (work : Result (Served Reply) AllocError) (within : i < length works) (is : work ≡ get_or works i work) where
   next_left : drop i works ≡ work ∷ drop (i + 1) works
   next_left =
       let next : suc i ≡ i + 1 = omega arith in
-      drop-cons works i work within ∙ ap (λ (w : Result Served AllocError). w ∷ drop (suc i) works) (sym is) ∙ ap (λ (n : ℕ). work ∷ drop n works) next
+      drop-cons works i work within ∙ ap (λ (w : Result (Served Reply) AllocError). w ∷ drop (suc i) works) (sym is) ∙ ap (λ (n : ℕ). work ∷ drop n works) next
 
   parts : is_stopped client (stops_left (drop i works)) ≡ is_stopped client (stop_told work) || is_stopped client (stops_left (drop (i + 1) works))
   parts = ap (λ ws. is_stopped client (stops_left ws)) next_left ∙ stopped_both client (stop_told work) (stops_left (drop (i + 1) works))
@@ -38,7 +38,7 @@ module _ (client i : ℕ) (works : List (Result Served AllocError)) (work : Resu
   stopped_later b here so_far = so_far ∙ parts ∙ ap (λ t. t || is_stopped client (stops_left (drop (i + 1) works))) here
 
 -- none is left
-pub stopped_never : (client i : ℕ) (works : List (Result Served AllocError)) (b : Bool) → length works ≤ i → b ≡ is_stopped client (stops_left (drop i works)) → b ≡ false
+pub stopped_never : {Reply : Type 0} → (client i : ℕ) (works : List (Result (Served Reply) AllocError)) (b : Bool) → length works ≤ i → b ≡ is_stopped client (stops_left (drop i works)) → b ≡ false
 stopped_never client i works b over so_far = so_far ∙ ap (λ ws. is_stopped client (stops_left ws)) (drop_all i works over)
 
 or_more : (a t s r : Bool) → (t ≡ true → s ≡ true) → a || (t || r) ≡ true → (a || s) || r ≡ true

@@ -1,8 +1,7 @@
 -- A life that was run, lost its power and was recovered is a legal life, told by its trail.
-use Rattle.std.proofs.Common.{◌≡◌, ◌↔◌, ◌+◌, ◌-◌, ◌%◌, ◌<◌, ◌≤◌, ℕ, Bool, true, List, length, map, slice_index, sym, ap, ap₂, subst, ◌∙◌, arith, Result, MatchResult}
+use Rattle.std.proofs.Common.{◌≡◌, ◌↔◌, ◌+◌, ◌-◌, ◌%◌, ◌<◌, ◌≤◌, ℕ, Bool, true, List, length, map, slice_index, sym, ap, ap₂, subst, ◌∙◌, arith}
 use Rattle.std.specs.Prelude.{All}
 use Rattle.cx_base.specs.Codes.{root_place_of}
-use Rattle.cx_base.specs.Store.{Store}
 use Rattle.cx_core.specs.Base.{LawfulBase}
 use Rattle.cx_core.specs.Crash.{IsKept as IsKeptOf, recovered}
 use Rattle.cx_core.specs.History.{full_image}
@@ -17,12 +16,10 @@ use Rattle.cx_rule.specs.Running.{Running, instance_at}
 use Rattle.cx_rule.specs.Seats.{Seated}
 use Rattle.cx_table.specs.Remains.{Leaves}
 use Rattle.cx_table.specs.declared.remains.Remains.{Remains}
-use Rattle.doc_store.specs.ExactStep.{IsImage, reads_in, store_step}
-use Rattle.doc_store.specs.declared.store.DocStore.{DocStore}
 use Rattle.journals.specs.Ended.{IsEnded}
 use Rattle.journals.specs.Told.{IsTold}
 use Rattle.life_laws.specs.Begins.{Begun, IsBaseOf, begun_after}
-use Rattle.life_laws.specs.Meanings.{store_instance}
+use Rattle.life_laws.specs.Meanings.{object_instance}
 use Rattle.life_laws.specs.Recorded.{GoesOn, HasReplies, IsKeptIn, IsRecorded}
 use Rattle.life_records.specs.Lives.{IsKept, IsKeptStop, IsLegal}
 use Rattle.life_records.specs.declared.record.JournalLine.{JournalLine}
@@ -30,24 +27,10 @@ use Rattle.life_records.specs.declared.record.LifeRecord.{LifeRecord}
 use Rattle.life_records.specs.declared.script.Life.{Life}
 use Rattle.recovery.specs.Crashes.{IsLeftOf}
 use Rattle.recovery.specs.Kept.{IsKeptBy, IsOpened, crash_of}
-use Rattle.recovery.specs.Recovery.{IsFaultOf, IsRecovered}
-use Rattle.recovery.specs.declared.recovering.ImageFault.{ImageFault}
-use Rattle.recovery.specs.declared.recovering.ImageFault.TheVariants.{Memory}
 use Rattle.cx_lives.specs.Life.{HasRun}
 use Rattle.cx_lives.specs.Lives.{HasLived, HasLost, IsServiceOf, IsToldBy}
 use Rattle.cx_lives.proofs.Entries.{few_entries}
-
-abbrev pub steps : DocStore → List ℕ → List ℕ → List ℕ × List ℕ
-steps store = store_step store.lines
-
-abbrev pub readings : DocStore → List ℕ → Bool
-readings _ = reads_in
-
-abbrev pub lines_in : DocStore → ℕ
-lines_in store = store.lines
-
-abbrev pub images : DocStore → List ℕ → Type 0
-images store = IsImage store.lines
+use Rattle.typed_object.specs.Meaning.{Meaning}
 
 -- a closed service of the store, and a base that was kept of it
 pub record Closed (instance : Instance) (remains : Remains) (next : Base) : Type 0 where
@@ -57,7 +40,7 @@ pub record Closed (instance : Instance) (remains : Remains) (next : Base) : Type
   pub shows : map shown s.locals ≡ remains.trail.locals
   pub kept : IsKeptOf instance law.history s next
 
-module _ (service : Running DocStore) (seats : List Seated) (remains : Remains) (choice : ℕ) (image : Image) (next : Base)
+module _ {O : Type 0} (lines_in : O → ℕ) (images : O → List ℕ → Type 0) (steps : O → List ℕ → List ℕ → List ℕ × List ℕ) (readings : O → List ℕ → Bool) (service : Running O) (seats : List Seated) (remains : Remains) (choice : ℕ) (image : Image) (next : Base)
     (opened : IsOpened lines_in images service) (leaves : Leaves service (instance_at service steps readings) seats remains) (left : IsLeftOf remains choice image)
     (by : IsKeptBy lines_in images steps service seats remains choice next)
     (rec : IsKeptOf (instance_at service steps readings) leaves.state.history (record { words = leaves.words; locals = leaves.whole }) (recovered (instance_at service steps readings) (crash_of image))) where
@@ -82,17 +65,17 @@ module _ (service : Running DocStore) (seats : List Seated) (remains : Remains) 
       }
 
 -- the same, said over the lines and the base
-pub closed_of : (lines : ℕ) (base : Base) (life : Life) (service : Running DocStore) (remains : Remains) (next : Base) → IsServiceOf lines base life service
-    → Closed (instance_at service steps readings) remains next → Closed (store_instance lines service.callers base) remains next
-closed_of lines base life service remains next is c =
-    let same : instance_at service steps readings ≡ store_instance lines service.callers base =
-    λ i. record { callers = service.callers; base = is.from i; step = store_step (is.store i); reads = reads_in } in
+pub closed_of : {O Op : Type 0} (steps : O → List ℕ → List ℕ → List ℕ × List ℕ) (readings : O → List ℕ → Bool) (o : O) (lines : ℕ) (base : Base) (life : Life Op) (service : Running O) (remains : Remains) (next : Base) →
+    IsServiceOf o lines base life service → Closed (instance_at service steps readings) remains next → Closed (object_instance (steps o) (readings o) service.callers base) remains next
+closed_of steps readings o lines base life service remains next is c =
+    let same : instance_at service steps readings ≡ object_instance (steps o) (readings o) service.callers base =
+    λ i. record { callers = service.callers; base = is.from i; step = steps (is.same i); reads = readings (is.same i) } in
     subst (λ (x : Instance). Closed x remains next) same c
 
 -- of a legal life, from what its parts say
-module _ (lines place : ℕ) (store : Store) (life : Life) (told flagged : LifeRecord) (next : Base) (from : flagged.from ≡ place) (told_from : told.from ≡ place)
-    (ended : IsEnded life flagged) (has : HasReplies lines place store life flagged) (goes : GoesOn lines place store life flagged next) where
-  legal_of : IsLegal lines place store life flagged
+module _ {Op Reply Store : Type 0} (m : Meaning Op Reply Store) (lines : ℕ) (is_lawful : List ℕ → Type 0) (place : ℕ) (store : Store) (life : Life Op) (told flagged : LifeRecord Reply) (next : Base) (from : flagged.from ≡ place) (told_from : told.from ≡ place)
+    (ended : IsEnded life flagged) (has : HasReplies m place store life flagged) (goes : GoesOn m lines is_lawful place store life flagged next) where
+  legal_of : IsLegal m place store life flagged
   legal_of = record {
     tickets = λ i line at. ended.tickets i line at ∙ ap (λ (p : ℕ). p + i) from;
     interleaved = ended.interleaved;
@@ -107,48 +90,33 @@ module _ (lines place : ℕ) (store : Store) (life : Life) (told flagged : LifeR
     in_turn = has.in_turn;
   }
 
-  kept_of : (flagged.journal ≡ told.journal) → (kept : ℕ) → flagged.kept ≡ kept → All (λ line. (line.kept ≡ true) ↔ IsKeptStop told.from kept told.journal line) flagged.stops → IsKept lines place store life flagged
+  kept_of : (flagged.journal ≡ told.journal) → (kept : ℕ) → flagged.kept ≡ kept → All (λ line. (line.kept ≡ true) ↔ IsKeptStop told.from kept told.journal line) flagged.stops → IsKept m place store life flagged
   kept_of journal kept kept_is flags = record {
     prefix = goes.prefix;
     answered = goes.answered;
     stops =
-        subst (λ (j : List JournalLine). All (λ line. (line.kept ≡ true) ↔ IsKeptStop place flagged.kept j line) flagged.stops) (sym journal)
+        subst (λ (j : List (JournalLine Reply)). All (λ line. (line.kept ≡ true) ↔ IsKeptStop place flagged.kept j line) flagged.stops) (sym journal)
         (subst (λ (p : ℕ). All (λ line. (line.kept ≡ true) ↔ IsKeptStop p flagged.kept told.journal line) flagged.stops) told_from
         (subst (λ (k : ℕ). All (λ line. (line.kept ≡ true) ↔ IsKeptStop told.from k told.journal line) flagged.stops) (sym kept_is) flags));
-    documents = goes.documents;
+    items = goes.items;
   }
 
 -- the table that a life's service was is opened
-pub opened_of : (lines : ℕ) (base : Base) (life : Life) (service : Running DocStore) → 64 ≤ lines → lines ≤ 16384 → LawfulBase lines (IsImage lines) base → IsServiceOf lines base life service → IsOpened lines_in images service
-opened_of lines base life service enough few lawful is = record {
-  lines = is.has_lines ∙ sym is.store;
+pub opened_of : {O Op : Type 0} (lines_in : O → ℕ) (images : O → List ℕ → Type 0) (o : O) (base : Base) (life : Life Op) (service : Running O) → 64 ≤ lines_in o → lines_in o ≤ 16384 → LawfulBase (lines_in o) (images o) base →
+    IsServiceOf o (lines_in o) base life service → IsOpened lines_in images service
+opened_of lines_in images o base life service enough few lawful is = record {
+  lines = is.has_lines ∙ ap lines_in (sym is.same);
   enough = subst (λ (l : ℕ). 64 ≤ l) (sym is.has_lines) enough;
   small = subst (λ (l : ℕ). l ≤ 16384) (sym is.has_lines) few;
-  base = subst (λ (b : Base). LawfulBase service.object.lines (IsImage service.object.lines) b) (sym is.from) (subst (λ (l : ℕ). LawfulBase l (IsImage l) base) (sym is.store) lawful);
+  base = subst (λ (b : Base). LawfulBase (lines_in service.object) (images service.object) b) (sym is.from) (subst (λ x. LawfulBase (lines_in x) (images x) base) (sym is.same) lawful);
 }
 
--- what recovery answers of what a closed table left, as its law says
-abbrev pub Recovers : Type 0
-Recovers =
-    (table : Running DocStore) (seats : List Seated) (r : Remains) (choice : ℕ) (image : Image) (answer : Result Base ImageFault) → IsOpened lines_in images table →
-    Leaves table (instance_at table steps readings) seats r → IsLeftOf r choice image → MatchResult answer (IsRecovered 1 (images table.object) image) (IsFaultOf 1 (images table.object) image) →
-    MatchResult answer (IsKeptBy lines_in images steps table seats r choice) (λ fault. fault ≡ Memory)
-
--- and of what a life's service left, with the store's lines as recovery was told them
-pub recovered_of : Recovers → (lines : ℕ) (base : Base) (life : Life) (service : Running DocStore) (told : LifeRecord) (remains : Remains) (image : Image) → 64 ≤ lines → lines ≤ 16384
-    → LawfulBase lines (IsImage lines) base → IsServiceOf lines base life service → (ran : HasRun life service told remains) → IsLeftOf remains life.choice image
-    → (l : ℕ) → l ≡ lines → (answer : Result Base ImageFault) → MatchResult answer (IsRecovered 1 (IsImage l) image) (IsFaultOf 1 (IsImage l) image)
-    → MatchResult answer (IsKeptBy lines_in images steps service ran.seats remains life.choice) (λ fault. fault ≡ Memory)
-recovered_of law lines base life service told remains image enough few lawful is ran left l of answer a =
-    law service ran.seats remains life.choice image answer (opened_of lines base life service enough few lawful is) ran.leaves left
-    (subst (λ (k : ℕ). MatchResult answer (IsRecovered 1 (IsImage k) image) (IsFaultOf 1 (IsImage k) image)) (of ∙ sym is.store) a)
-
-module _ (lines : ℕ) (base : Base) (life : Life) (begun : Begun) (service : Running DocStore) (told flagged : LifeRecord) (remains : Remains) (image : Image) (next : Base)
-    (based : IsBaseOf base begun) (is : IsServiceOf lines base life service) (ran : HasRun life service told remains) (lost : HasLost lines life told remains image next flagged)
-    (by : IsKeptBy lines_in images steps service ran.seats remains life.choice next) (closed : Closed (store_instance lines service.callers base) remains next)
-    (retold : (place : ℕ) (history : List Entry) → IsTold life place history remains.trail.locals told → IsTold life place history remains.trail.locals flagged) where
+module _ {O Op Reply Store : Type 0} (lines_in : O → ℕ) (images : O → List ℕ → Type 0) (steps : O → List ℕ → List ℕ → List ℕ × List ℕ) (readings : O → List ℕ → Bool) (m : Meaning Op Reply Store) (version : ℕ) (o : O) (base : Base) (life : Life Op) (begun : Begun Store) (service : Running O) (told flagged : LifeRecord Reply) (remains : Remains) (image : Image) (next : Base)
+    (based : IsBaseOf m base begun) (is : IsServiceOf o (lines_in o) base life service) (ran : HasRun m steps readings life service told remains) (lost : HasLost m (lines_in o) version (images o) life told remains image next flagged)
+    (by : IsKeptBy lines_in images steps service ran.seats remains life.choice next) (closed : Closed (object_instance (steps o) (readings o) service.callers base) remains next)
+    (retold : (place : ℕ) (history : List Entry) → IsTold m.encoding life place history remains.trail.locals told → IsTold m.encoding life place history remains.trail.locals flagged) where
   abbrev inst : Instance
-  inst = store_instance lines service.callers base
+  inst = object_instance (steps o) (readings o) service.callers base
 
   told_from : told.from ≡ base.place
   told_from = ran.is_told.from ∙ ap (λ (b : Base). b.place) is.from
@@ -156,31 +124,31 @@ module _ (lines : ℕ) (base : Base) (life : Life) (begun : Begun) (service : Ru
   flagged_from : flagged.from ≡ base.place
   flagged_from = lost.flags.same.from ∙ told_from
 
-  pub recorded : IsRecorded inst closed.s closed.law.history begun.store life flagged
+  pub recorded : IsRecorded m inst closed.s closed.law.history begun.store life flagged
   recorded = record {
     locals = remains.trail.locals;
     seats = closed.shows;
     stops = told.stops;
     works = rw (lost.flags.same.journal, lost.flags.same.reads, lost.flags.same.fulls) ran.works;
     is_told =
-        subst (λ (p : ℕ). IsTold life p closed.law.history remains.trail.locals flagged) (ap (λ (b : Base). b.place) is.from)
-        (subst (λ (h : List Entry). IsTold life service.base.place h remains.trail.locals flagged) (sym closed.history) (retold service.base.place remains.trail.history ran.is_told));
+        subst (λ (p : ℕ). IsTold m.encoding life p closed.law.history remains.trail.locals flagged) (ap (λ (b : Base). b.place) is.from)
+        (subst (λ (h : List Entry). IsTold m.encoding life service.base.place h remains.trail.locals flagged) (sym closed.history) (retold service.base.place remains.trail.history ran.is_told));
     stands = based.stands;
     limits = lost.limits;
-    amounts = lost.amounts;
+    op_values = lost.op_values;
     values = lost.values;
   }
 
-  pub kept_in : IsKeptIn inst closed.s closed.law.history flagged next
+  pub kept_in : IsKeptIn m inst closed.s closed.law.history flagged next
   kept_in = record {
     image = closed.kept;
     kept = lost.flags.kept_is ∙ ap (λ (p : ℕ). next.place - p) told_from;
-    documents = lost.flags.documents_are;
+    items = λ store stands. lost.flags.items_are ∙ lost.items_are store stands;
   }
 
-  told_by : IsToldBy life remains.trail flagged
+  told_by : IsToldBy m.encoding life remains.trail flagged
   told_by = record {
-    is_told = subst (λ (b : Base). IsTold life b.place remains.trail.history remains.trail.locals flagged) (sym ran.leaves.base) (retold service.base.place remains.trail.history ran.is_told);
+    is_told = subst (λ (b : Base). IsTold m.encoding life b.place remains.trail.history remains.trail.locals flagged) (sym ran.leaves.base) (retold service.base.place remains.trail.history ran.is_told);
     kept =
         lost.flags.kept_is
         ∙ ap₂ (λ (p q : ℕ). p - q)
@@ -188,11 +156,11 @@ module _ (lines : ℕ) (base : Base) (life : Life) (begun : Begun) (service : Ru
         (sym lost.flags.same.from);
   }
 
-  pub lived : IsEnded life flagged → HasReplies lines base.place begun.store life flagged → GoesOn lines base.place begun.store life flagged next
-      → IsBaseOf next (begun_after lines begun life flagged.journal flagged.kept) → HasLived lines life begun base (record { told = flagged; trail = remains.trail; image = image; next = next })
+  pub lived : IsEnded life flagged → HasReplies m base.place begun.store life flagged → GoesOn m (lines_in o) (images o) base.place begun.store life flagged next
+      → IsBaseOf m next (begun_after m begun life flagged.journal flagged.kept) → HasLived m (lines_in o) version (images o) life begun base (record { told = flagged; trail = remains.trail; image = image; next = next })
   lived ended has goes begins =
-      let has' : HasReplies lines begun.place begun.store life flagged = subst (λ (p : ℕ). HasReplies lines p begun.store life flagged) based.at_place has in
-      let goes' : GoesOn lines begun.place begun.store life flagged next = subst (λ (p : ℕ). GoesOn lines p begun.store life flagged next) based.at_place goes in
+      let has' : HasReplies m begun.place begun.store life flagged = subst (λ (p : ℕ). HasReplies m p begun.store life flagged) based.at_place has in
+      let goes' : GoesOn m (lines_in o) (images o) begun.place begun.store life flagged next = subst (λ (p : ℕ). GoesOn m (lines_in o) (images o) p begun.store life flagged next) based.at_place goes in
       let from : flagged.from ≡ begun.place = flagged_from ∙ based.at_place in
       let begun_from : told.from ≡ begun.place = told_from ∙ based.at_place in
       record {
@@ -200,8 +168,8 @@ module _ (lines : ℕ) (base : Base) (life : Life) (begun : Begun) (service : Ru
           clients = lost.flags.same.clients ∙ ran.is_told.clients ∙ ran.is_told.callers;
           choice = lost.flags.choice ∙ ran.choice;
           from = from;
-          legal = legal_of lines begun.place begun.store life told flagged next from begun_from ended has' goes';
-          kept = kept_of lines begun.place begun.store life told flagged next from begun_from ended has' goes' lost.flags.same.journal (next.place - told.from) lost.flags.kept_is lost.flags.stops;
+          legal = legal_of m (lines_in o) (images o) begun.place begun.store life told flagged next from begun_from ended has' goes';
+          kept = kept_of m (lines_in o) (images o) begun.place begun.store life told flagged next from begun_from ended has' goes' lost.flags.same.journal (next.place - told.from) lost.flags.kept_is lost.flags.stops;
         };
         told = told_by;
         began = ran.leaves.base ∙ is.from;

@@ -10,13 +10,13 @@ use Rattle.cx_rule.specs.Running.{Running}
 use Rattle.cx_rule.specs.Seats.{Seated}
 use Rattle.cx_service.specs.Starts.{Starts}
 use Rattle.cx_table.specs.Remains.{opening_seat}
-use Rattle.doc_store.specs.declared.store.DocStore.{DocStore}
 use Rattle.life_records.specs.Limits.{IsLifeInLimits}
 use Rattle.life_records.specs.Scripts.{limit_in}
 use Rattle.life_records.specs.declared.script.Cut.{Cut}
 use Rattle.life_records.specs.declared.script.Life.{Life}
 use Rattle.cx_lives.specs.Ends.{IsNewIn}
 use Rattle.cx_lives.specs.Life.{CanRun}
+use Rattle.typed_object.specs.Meaning.{Meaning}
 
 -- one cut more that is looked at
 cut_next : (client i : ℕ) (cuts : List Cut) (cut : Cut) → i < length cuts → cut ≡ get_or cuts i cut → drop i cuts ≡ cut ∷ drop (i + 1) cuts
@@ -38,28 +38,29 @@ pub cuts_over : (client i limit : ℕ) (cuts : List Cut) → length cuts ≤ i �
 cuts_over client i limit cuts over so_far = ap (limit_in client) (sym (drop_all i cuts over)) ∙ so_far
 
 -- a service that was started with the limits of a life's clients can run it
-pub can_run : (life : Life) (limits : List ℕ) (base : Base) (object : DocStore) (lines : ℕ) (service : Running DocStore) (seats : List Seated) → limits ≡ map (λ client. limit_in client life.cuts) (range_with_len 0 life.clients)
-    → Starts object lines life.clients limits base service seats → IsLifeInLimits life → base.place + length life.commands ≤ 2 ^ 40 → CanRun life service seats
-can_run life limits base object lines service seats limits_are starts within tickets =
-    let seat : ℕ → Seated = opening_seat service limits in
-    let long : length seats ≡ life.clients = ap length starts.opened ∙ length-map-range_with_len seat 0 life.clients in
-    let new : All (IsNewIn life service) seats = λ k d less. (
-    let below : k < life.clients = omega (arith, less, long) in
-    let here : 0 + k ≡ k = omega arith in
-    let same : get_or seats k d ≡ seat k = ap (λ (xs : List Seated). get_or xs k d) starts.opened ∙ get_or-map-range_with_len seat 0 life.clients k k d below here in
-    let limit : slice_index limits k ≡ limit_in k life.cuts = ap (λ (xs : List ℕ). slice_index xs k) limits_are ∙ get_or-map-range_with_len (λ client. limit_in client life.cuts) 0 life.clients k k 0 below here in
-    record {
-      caller = starts.each k d less;
-      own = ap (λ (s : Seated). s.known.local.own) same;
-      answered = ap (λ (s : Seated). s.known.local.answered) same;
-      reads = ap (λ (s : Seated). s.known.local.seen_reads) same;
-      limit = ap (λ (s : Seated). s.known.local.limit) same ∙ limit ∙ ap (λ (s : Seated). limit_in s.known.local.number life.cuts) (sym same);
-    }) in
-    let place : service.base.place ≡ base.place = ap (λ (r : Running DocStore). r.base.place) starts.is in
-    record {
-      seats = starts.all;
-      new = new;
-      clients = long;
-      limits = within;
-      tickets = omega (arith, place, tickets);
-    }
+module _ {O Op Reply Store : Type 0} where
+  pub can_run : (m : Meaning Op Reply Store) (life : Life Op) (limits : List ℕ) (base : Base) (object : O) (lines : ℕ) (service : Running O) (seats : List Seated) → limits ≡ map (λ client. limit_in client life.cuts) (range_with_len 0 life.clients)
+      → Starts object lines life.clients limits base service seats → IsLifeInLimits m.is_op 8 life → base.place + length life.commands ≤ 2 ^ 40 → CanRun m life service seats
+  can_run m life limits base object lines service seats limits_are starts within tickets =
+      let seat : ℕ → Seated = opening_seat service limits in
+      let long : length seats ≡ life.clients = ap length starts.opened ∙ length-map-range_with_len seat 0 life.clients in
+      let new : All (IsNewIn life service) seats = λ k d less. (
+      let below : k < life.clients = omega (arith, less, long) in
+      let here : 0 + k ≡ k = omega arith in
+      let same : get_or seats k d ≡ seat k = ap (λ (xs : List Seated). get_or xs k d) starts.opened ∙ get_or-map-range_with_len seat 0 life.clients k k d below here in
+      let limit : slice_index limits k ≡ limit_in k life.cuts = ap (λ (xs : List ℕ). slice_index xs k) limits_are ∙ get_or-map-range_with_len (λ client. limit_in client life.cuts) 0 life.clients k k 0 below here in
+      record {
+        caller = starts.each k d less;
+        own = ap (λ (s : Seated). s.known.local.own) same;
+        answered = ap (λ (s : Seated). s.known.local.answered) same;
+        reads = ap (λ (s : Seated). s.known.local.seen_reads) same;
+        limit = ap (λ (s : Seated). s.known.local.limit) same ∙ limit ∙ ap (λ (s : Seated). limit_in s.known.local.number life.cuts) (sym same);
+      }) in
+      let place : service.base.place ≡ base.place = ap (λ (r : Running O). r.base.place) starts.is in
+      record {
+        seats = starts.all;
+        new = new;
+        clients = long;
+        limits = within;
+        tickets = omega (arith, place, tickets);
+      }

@@ -15,17 +15,13 @@ use Rattle.cx_core.specs.Lawful.{Lawful}
 use Rattle.cx_core.specs.Region.{object_part}
 use Rattle.cx_core.specs.Shown.{shown}
 use Rattle.cx_core.specs.State.{EachLocal, Instance}
-use Rattle.doc_model.proofs.OpKinds.{op_words_fit}
-use Rattle.doc_model.specs.declared.operations.Op.{Op}
-use Rattle.doc_model.specs.Meaning.{reply_to}
-use Rattle.doc_model.specs.Words.{AreOfNoReply, IsOpOf}
-use Rattle.doc_store.specs.ExactStep.{IsImage, store_step}
-use Rattle.doc_store.specs.StoreLaws.{image_index, image_reply_fits, step_keeps, step_means}
+use Rattle.life_laws.proofs.TypedSteps.{TypedSteps}
 use Rattle.life_records.specs.declared.script.Life.{Life}
 use Rattle.life_records.specs.Scripts.{own_ops}
 use Rattle.cx_lives.specs.Ends.{CannotBe, IsBadAnswer, IsBadRead, IsWorn}
 use Rattle.cx_lives.specs.Gathering.{HasNever, IsLocalIn}
 use Rattle.cx_lives.proofs.Totals.{entries_fewer}
+use Rattle.typed_object.specs.Meaning.{AreOfNoReply, IsOpOf}
 
 item_of : {X : Type 0} (xs : List X) (x : X) → Contains xs x → (k : ℕ) × (slice_get xs k ≡ Some x)
 item_of {X} xs x c =
@@ -36,19 +32,18 @@ item_of {X} xs x c =
       | inr past ↦ absurd (omega (arith, past.0, c.1))
     ]
 
--- a reply to an operation from a lawful image is one
-reply_is : (lines : ℕ) (image op : List ℕ) (o : Op) → IsImage lines image → IsOpOf op o → AreOfNoReply (store_step lines image op).1 → ⊥
-reply_is lines image op o i is bad =
-    let fit = op_words_fit o is.limits is.amount in
-    let words : Words 144 op = subst (Words 144) is.has (record { long = fit.0; fit = fit.1 }) in
-    let done = (step_means lines image op (image_index lines image i) i.words words).does o is 1 i.store i.stands in
-    let fits = image_reply_fits lines image o i in
-    bad (reply_to lines i.store o) fits.0 fits.1 (sym done.answer)
+module _ {Op Reply Store : Type 0} (t : TypedSteps Op Reply Store) where
+  -- a reply to an operation from a lawful image is one
+  reply_is : (image op : List ℕ) (o : Op) → t.lawful image → IsOpOf t.meaning op o → AreOfNoReply t.meaning (t.step image op).1 → ⊥
+  reply_is image op o i is bad =
+      let st = t.means.some image i in
+      bad (t.meaning.reply_to st.0 o) (t.means.replies image st.0 o i st.1 is.limits is.value)
+      (sym (t.means.answer image st.0 o i st.1 is.limits is.value) ∙ ap (λ ws. (t.step image ws).1) is.has)
 
--- the image after entries of words is lawful
-image_lawful : (lines : ℕ) (image : List ℕ) (entries : List Entry) → IsImage lines image → ((i : ℕ) (e : Entry) → slice_get entries i ≡ Some e → Words 144 e.op) → IsImage lines (image_after (store_step lines) image entries)
-image_lawful lines image [] i all = i
-image_lawful lines image (e ∷ es) i all = image_lawful lines (store_step lines image e.op).0 es (step_keeps lines image e.op i (all 0 e refl)) (λ k x at. all (suc k) x at)
+  -- the image after entries of words is lawful
+  image_lawful : (image : List ℕ) (entries : List Entry) → t.lawful image → ((i : ℕ) (e : Entry) → slice_get entries i ≡ Some e → Words 144 e.op) → t.lawful (image_after t.step image entries)
+  image_lawful image [] i all = i
+  image_lawful image (e ∷ es) i all = image_lawful (t.step image e.op).0 es (t.object.keeps image e.op i (all 0 e refl)) (λ k x at. all (suc k) x at)
 
 taken_at : {X : Type 0} (n : ℕ) (xs : List X) (i : ℕ) (x : X) → slice_get (take n xs) i ≡ Some x → slice_get xs i ≡ Some x
 taken_at zero xs i x at = cc
@@ -67,7 +62,7 @@ shown_at [] i l there = cc
 shown_at (x ∷ xs) zero l there = ap (λ (y : Local). Some (shown y)) (same_Some x l there)
 shown_at (x ∷ xs) (suc i) l there = shown_at xs i l there
 
-module _ (life : Life) (count lines : ℕ) (instance : Instance) (step_is : instance.step ≡ store_step lines) (base : LawfulBase count (IsImage lines) instance.base) (words : List ℕ) (whole : List Local)
+module _ {Op Reply Store : Type 0} (t : TypedSteps Op Reply Store) (life : Life Op) (instance : Instance) (step_is : instance.step ≡ t.step) (base : LawfulBase t.lines t.lawful instance.base) (words : List ℕ) (whole : List Local)
     (law : Lawful instance (record { words = words; locals = whole })) where
   abbrev opening : List ℕ
   opening = object_part instance.base.words
@@ -82,15 +77,15 @@ module _ (life : Life) (count lines : ℕ) (instance : Instance) (step_is : inst
       (law.tickets.each e.caller local.0 local.1).ops mine.0 x there
 
   -- each image of the history is lawful
-  image_at : (n : ℕ) → IsImage lines (image_after instance.step opening (take n law.history))
+  image_at : (n : ℕ) → t.lawful (image_after instance.step opening (take n law.history))
   image_at n =
-      subst (λ st. IsImage lines (image_after st opening (take n law.history))) (sym step_is)
-      (image_lawful lines opening (take n law.history) base.object (λ i e at. entry_words i e (taken_at n law.history i e at)))
+      subst (λ st. t.lawful (image_after st opening (take n law.history))) (sym step_is)
+      (image_lawful t opening (take n law.history) base.object (λ i e at. entry_words i e (taken_at n law.history i e at)))
 
-  reply_at_is : (n : ℕ) (op : List ℕ) (o : Op) → IsOpOf op o → AreOfNoReply (instance.step (image_after instance.step opening (take n law.history)) op).1 → ⊥
+  reply_at_is : (n : ℕ) (op : List ℕ) (o : Op) → IsOpOf t.meaning op o → AreOfNoReply t.meaning (instance.step (image_after instance.step opening (take n law.history)) op).1 → ⊥
   reply_at_is n op o is bad =
       let image = image_after instance.step opening (take n law.history) in
-      reply_is lines image op o (image_at n) is (subst (λ st. AreOfNoReply (st image op).1) step_is bad)
+      reply_is t image op o (image_at n) is (subst (λ st. AreOfNoReply t.meaning (st image op).1) step_is bad)
 
   module _ (client : ℕ) (w : Local) (at : slice_get whole client ≡ Some w) where
     not_worn : IsWorn life client w → EachLocal whole (λ i l. length l.own ≤ length (own_ops i life.commands)) → instance.base.place + length life.commands ≤ 2 ^ 40 → ⊥
@@ -100,7 +95,7 @@ module _ (life : Life) (count lines : ℕ) (instance : Instance) (step_is : inst
         let fewer = entries_fewer life.commands whole client w (λ i l there. (let same : i ≡ 0 + i = omega arith in subst (λ k. length l.own ≤ length (own_ops k life.commands)) same (few i l there))) at worn.fewer in
         omega (arith, worn.front, behind, entries, fewer, tickets)
 
-    no_bad_answer : IsBadAnswer w → ⊥
+    no_bad_answer : IsBadAnswer t.meaning w → ⊥
     no_bad_answer b =
         let told = item_of w.answered b.answer b.there in
         let is = (law.answers.each client w at).entries told.0 b.answer told.1 in
@@ -112,20 +107,20 @@ module _ (life : Life) (count lines : ℕ) (instance : Instance) (step_is : inst
         let image = image_after instance.step opening (take n law.history) in
         let reply : Some ((instance.step image b.entry.entry.op).1) ≡ Some b.answer.reply =
         ap (option_map (λ (e : Entry). (instance.step image e.op).1)) (sym at_ticket) ∙ is.reply in
-        reply_at_is n b.entry.entry.op b.op b.is (subst AreOfNoReply (sym (same_Some (instance.step image b.entry.entry.op).1 b.answer.reply reply)) b.bad)
+        reply_at_is n b.entry.entry.op b.op b.is (subst (AreOfNoReply t.meaning) (sym (same_Some (instance.step image b.entry.entry.op).1 b.answer.reply reply)) b.bad)
 
-    no_bad_read : IsBadRead w → ⊥
+    no_bad_read : IsBadRead t.meaning w → ⊥
     no_bad_read b =
         let seen = item_of w.seen_reads b.read b.there in
         let is = (law.answers.each client w at).reads seen.0 b.read seen.1 in
-        reply_at_is (b.read.place - instance.base.place) b.read.op b.op b.is (subst AreOfNoReply is.reply b.bad)
+        reply_at_is (b.read.place - instance.base.place) b.read.op b.op b.is (subst (AreOfNoReply t.meaning) is.reply b.bad)
 
   -- so none has what none can have
-  pub never : (locals : List Local) → map shown whole ≡ locals → EachLocal locals (IsLocalIn life) → instance.base.place + length life.commands ≤ 2 ^ 40 → HasNever life locals → ⊥
+  pub never : (locals : List Local) → map shown whole ≡ locals → EachLocal locals (IsLocalIn life) → instance.base.place + length life.commands ≤ 2 ^ 40 → HasNever t.meaning life locals → ⊥
   never locals shows each tickets h =
       let at = whole_at whole h.client h.local (ap (λ ls. slice_get ls h.client) shows ∙ h.of_client) in
       let w = at.0 in
-      let cannot : CannotBe life h.client (shown w) = subst (CannotBe life h.client) (sym at.2) h.is in
+      let cannot : CannotBe t.meaning life h.client (shown w) = subst (CannotBe t.meaning life h.client) (sym at.2) h.is in
       elim cannot [
         | inl worn ↦ not_worn h.client w at.1 (record { front = worn.front; fewer = worn.fewer }) (λ i l there. few_whole i l there) tickets
         | inr told ↦ elim told [

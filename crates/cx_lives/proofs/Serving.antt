@@ -16,9 +16,6 @@ use Rattle.cx_core.specs.declared.local.SeenRead.{SeenRead}
 use Rattle.cx_rule.specs.Seats.{IsAtLimit}
 use Rattle.cx_turns.specs.declared.lookup.Seen.{Seen}
 use Rattle.cx_turns.specs.Answering.{with_answer}
-use Rattle.doc_model.specs.declared.operations.Op.{Op}
-use Rattle.doc_model.specs.declared.operations.Reply.{Reply}
-use Rattle.doc_model.specs.Words.{op_words, reply_words}
 use Rattle.journals.specs.Works.{HasWords, IsDoneEntry, IsEnd, IsEntryBefore, IsFullOf, IsLineOf, IsLineReply, IsReadLine, IsReplyAt, IsSeenBefore, IsStopOf, IsStoppedRead, IsWork, StandsBetween, lines_of, stops_in}
 use Rattle.life_records.specs.Scripts.{limit_in, named_op, own_ops}
 use Rattle.life_records.specs.declared.script.Life.{Life}
@@ -29,55 +26,57 @@ use Rattle.life_records.specs.declared.record.StopLine.{StopLine}
 use Rattle.cx_lives.specs.Calls.{LinksEntry, one_read}
 use Rattle.cx_lives.specs.Serving.{HasServed, IsAnsweredEntry, IsAnsweredLine}
 use Rattle.cx_lives.proofs.Lines.{all_at, count_no, count_none, count_yes, zip_also, zip_with}
+use Rattle.typed_object.specs.Meaning.{Meaning}
 
 -- a reply stays where it is while more is answered
-reply_stays : (answered more : List Answer) (ticket : ℕ) (reply : Option Reply) → IsSome reply → IsReplyAt answered ticket reply → IsReplyAt (answered ++ more) ticket reply
-reply_stays answered more ticket None has there = cc
-reply_stays answered more ticket (Some reply) has there = Contains-append_left answered more (record { ticket = ticket; reply = reply_words reply }) there
+reply_stays : {Op Reply Store : Type 0} → (m : Meaning Op Reply Store) → (answered more : List Answer) (ticket : ℕ) (reply : Option Reply) → IsSome reply → IsReplyAt m.encoding answered ticket reply → IsReplyAt m.encoding (answered ++ more) ticket reply
+reply_stays m answered more ticket None has there = cc
+reply_stays m answered more ticket (Some reply) has there = Contains-append_left answered more (record { ticket = ticket; reply = m.encoding.reply_words reply }) there
 
 -- nothing was asked yet
-pub serves_none : (life : Life) (l : Local) (es : List JournalLine) (rs : List ReadLine) → l.own ≡ [] → l.answered ≡ [] → l.seen_reads ≡ [] → l.limit ≡ limit_in l.number life.cuts → es ≡ [] → rs ≡ [] → HasServed life l.number 0 l es rs
-serves_none life l es rs own answered reads limit no_es no_rs = record {
-  by = refl;
-  limit = limit;
-  entry_lines = rw (own, no_es) tt;
-  read_lines = rw (reads, no_rs) tt;
-  between = rw (reads, no_rs) tt;
-  before = rw reads (All-nil (λ (x : SeenRead). x.before ≤ length es));
-  entries_in_turn = rw no_es (λ i j d up within. absurd (omega arith));
-  reads_in_turn = rw no_rs (λ i j d up within. absurd (omega arith));
-  once = λ k one up. absurd (omega arith);
-  entries_done = rw no_es (All-nil (IsAnsweredEntry 0));
-  reads_done = rw no_rs (All-nil (λ (line : ReadLine). (1 ≤ line.command) × (line.command ≤ 0)));
-  few = rw no_es (omega arith);
-}
+module _ {Op Reply Store : Type 0} where
+  pub serves_none : (m : Meaning Op Reply Store) → (life : Life Op) (l : Local) (es : List (JournalLine Reply)) (rs : List (ReadLine Reply)) → l.own ≡ [] → l.answered ≡ [] → l.seen_reads ≡ [] → l.limit ≡ limit_in l.number life.cuts → es ≡ [] → rs ≡ [] → HasServed m life l.number 0 l es rs
+  serves_none m life l es rs own answered reads limit no_es no_rs = record {
+    by = refl;
+    limit = limit;
+    entry_lines = rw (own, no_es) tt;
+    read_lines = rw (reads, no_rs) tt;
+    between = rw (reads, no_rs) tt;
+    before = rw reads (All-nil (λ (x : SeenRead). x.before ≤ length es));
+    entries_in_turn = rw no_es (λ i j d up within. absurd (omega arith));
+    reads_in_turn = rw no_rs (λ i j d up within. absurd (omega arith));
+    once = λ k one up. absurd (omega arith);
+    entries_done = rw no_es (All-nil (IsAnsweredEntry 0));
+    reads_done = rw no_rs (All-nil (λ (line : ReadLine Reply). (1 ≤ line.command) × (line.command ≤ 0)));
+    few = rw no_es (omega arith);
+  }
 
-module _ (life : Life) (client n : ℕ) (l : Local) (es : List JournalLine) (rs : List ReadLine) (s : HasServed life client n l es rs) where
+module _ {Op Reply Store : Type 0} (m : Meaning Op Reply Store) (life : Life Op) (client n : ℕ) (l : Local) (es : List (JournalLine Reply)) (rs : List (ReadLine Reply)) (s : HasServed m life client n l es rs) where
   -- no line is of a later command
   none_later : (k : ℕ) → n < k → lines_of k es rs ≡ 0
   none_later k later =
-      let a = count_none (λ (e : JournalLine). e.command == k) es (All-weaker (IsAnsweredEntry n) (λ (e : JournalLine). (e.command == k) ≡ false) (λ e h. ne_eqb e.command k (λ same. omega (arith, h.1))) es s.entries_done) in
-      let b = count_none (λ (e : ReadLine). e.command == k) rs (All-weaker (λ (e : ReadLine). (1 ≤ e.command) × (e.command ≤ n)) (λ (e : ReadLine). (e.command == k) ≡ false) (λ e h. ne_eqb e.command k (λ same. omega (arith, h.1))) rs s.reads_done) in
+      let a = count_none (λ (e : JournalLine Reply). e.command == k) es (All-weaker (IsAnsweredEntry n) (λ (e : JournalLine Reply). (e.command == k) ≡ false) (λ e h. ne_eqb e.command k (λ same. omega (arith, h.1))) es s.entries_done) in
+      let b = count_none (λ (e : ReadLine Reply). e.command == k) rs (All-weaker (λ (e : ReadLine Reply). (1 ≤ e.command) × (e.command ≤ n)) (λ (e : ReadLine Reply). (e.command == k) ≡ false) (λ e h. ne_eqb e.command k (λ same. omega (arith, h.1))) rs s.reads_done) in
       omega (arith, a, b)
 
   -- as many entries as lines
   long : length es ≡ length l.own
-  long = AllZip-long (IsAnsweredLine life client l.answered) l.own es s.entry_lines
+  long = AllZip-long (IsAnsweredLine m life client l.answered) l.own es s.entry_lines
 
   module _ (number : ℕ) (next : number ≡ n + 1) where
     -- one entry's line more
-    module _ (line : JournalLine) (is : line.command ≡ number) where
+    module _ (line : JournalLine Reply) (is : line.command ≡ number) where
       once_entry : (k : ℕ) → 1 ≤ k → k ≤ number → lines_of k (es ++ line ∷ []) rs ≡ 1
       once_entry k one up =
           elim (cases_eq line.command k) [
-            | inl same ↦ omega (arith, count_yes (λ (e : JournalLine). e.command == k) es line (eq-eqb line.command k same), none_later k (omega arith))
-            | inr ne ↦ omega (arith, count_no (λ (e : JournalLine). e.command == k) es line (ne_eqb line.command k ne), s.once k one (omega arith))
+            | inl same ↦ omega (arith, count_yes (λ (e : JournalLine Reply). e.command == k) es line (eq-eqb line.command k same), none_later k (omega arith))
+            | inr ne ↦ omega (arith, count_no (λ (e : JournalLine Reply). e.command == k) es line (ne_eqb line.command k ne), s.once k one (omega arith))
           ]
 
       once_still : (k : ℕ) → 1 ≤ k → k ≤ n → lines_of k (es ++ line ∷ []) rs ≡ 1
-      once_still k one up = omega (arith, count_no (λ (e : JournalLine). e.command == k) es line (ne_eqb line.command k (λ same. omega arith)), s.once k one up)
+      once_still k one up = omega (arith, count_no (λ (e : JournalLine Reply). e.command == k) es line (ne_eqb line.command k (λ same. omega arith)), s.once k one up)
 
-      between_entry : (x : SeenRead) (r : ReadLine) → StandsBetween es x r → x.before ≤ length es → (1 ≤ r.command) × (r.command ≤ n) → StandsBetween (es ++ line ∷ []) x r
+      between_entry : (x : SeenRead) (r : ReadLine Reply) → StandsBetween es x r → x.before ≤ length es → (1 ≤ r.command) × (r.command ≤ n) → StandsBetween (es ++ line ∷ []) x r
       between_entry x r b most done = (
         λ i e at less. elim (slice_get-push es line i e at) [
           | inl there ↦ b.0 i e there less
@@ -85,44 +84,44 @@ module _ (life : Life) (client n : ℕ) (l : Local) (es : List JournalLine) (rs 
         ],
         λ i e at more. elim (slice_get-push es line i e at) [
           | inl there ↦ b.1 i e there more
-          | inr new ↦ (let c : line.command ≡ e.command = ap (λ (w : JournalLine). w.command) new.1 in omega (arith, done.1))
+          | inr new ↦ (let c : line.command ≡ e.command = ap (λ (w : JournalLine Reply). w.command) new.1 in omega (arith, done.1))
         ],
       )
 
       between_all : AllZip (StandsBetween (es ++ line ∷ [])) l.seen_reads rs
       between_all =
-          zip_also (StandsBetween es) (StandsBetween (es ++ line ∷ [])) (λ (x : SeenRead). x.before ≤ length es) (λ (r : ReadLine). (1 ≤ r.command) × (r.command ≤ n)) between_entry l.seen_reads rs s.between s.before s.reads_done
+          zip_also (StandsBetween es) (StandsBetween (es ++ line ∷ [])) (λ (x : SeenRead). x.before ≤ length es) (λ (r : ReadLine Reply). (1 ≤ r.command) × (r.command ≤ n)) between_entry l.seen_reads rs s.between s.before s.reads_done
 
       in_turn : AllPairs IsEntryBefore (es ++ line ∷ [])
       in_turn = all_pairs_push IsEntryBefore es line s.entries_in_turn (λ k d within. omega (arith, (s.entries_done k d within).1))
 
-    reads_later : All (λ (r : ReadLine). (1 ≤ r.command) × (r.command ≤ number)) rs
-    reads_later = All-weaker (λ (r : ReadLine). (1 ≤ r.command) × (r.command ≤ n)) (λ (r : ReadLine). (1 ≤ r.command) × (r.command ≤ number)) (λ r h. (h.0, omega (arith, h.1))) rs s.reads_done
+    reads_later : All (λ (r : ReadLine Reply). (1 ≤ r.command) × (r.command ≤ number)) rs
+    reads_later = All-weaker (λ (r : ReadLine Reply). (1 ≤ r.command) × (r.command ≤ n)) (λ (r : ReadLine Reply). (1 ≤ r.command) × (r.command ≤ number)) (λ r h. (h.0, omega (arith, h.1))) rs s.reads_done
 
     entries_later : All (IsAnsweredEntry number) es
     entries_later = All-weaker (IsAnsweredEntry n) (IsAnsweredEntry number) (λ e h. (h.0, omega (arith, h.1), h.2)) es s.entries_done
 
-    module _ (op : Op) (ws : List ℕ) (are : ws ≡ op_words op) (named : named_op life client number ≡ Some op) where
-      has_words : (words : List ℕ) → words ≡ ws → HasWords life client number words
+    module _ (op : Op) (ws : List ℕ) (are : ws ≡ m.encoding.op_words op) (named : named_op life client number ≡ Some op) where
+      has_words : (words : List ℕ) → words ≡ ws → HasWords m.encoding life client number words
       has_words words same = record { op = op; named = named; words_are = sym (same ∙ are) }
 
       -- an entry that was answered
-      pub serves_entry : (l' : Local) (es' : List JournalLine) (rs' : List ReadLine) (answer : Answer) (reply : Reply) → LinksEntry ws answer.ticket l l' → l'.answered ≡ with_answer answer.ticket answer.reply l.answered
-          → reply_words reply ≡ answer.reply → es' ≡ es ++ record { ticket = answer.ticket; client = client; command = number; reply = Some reply } ∷ [] → rs' ≡ rs → HasServed life client number l' es' rs'
+      pub serves_entry : (l' : Local) (es' : List (JournalLine Reply)) (rs' : List (ReadLine Reply)) (answer : Answer) (reply : Reply) → LinksEntry ws answer.ticket l l' → l'.answered ≡ with_answer answer.ticket answer.reply l.answered
+          → m.encoding.reply_words reply ≡ answer.reply → es' ≡ es ++ record { ticket = answer.ticket; client = client; command = number; reply = Some reply } ∷ [] → rs' ≡ rs → HasServed m life client number l' es' rs'
       serves_entry l' es' rs' answer reply links answered words entries reads =
-          let line : JournalLine = record { ticket = answer.ticket; client = client; command = number; reply = Some reply } in
+          let line : JournalLine Reply = record { ticket = answer.ticket; client = client; command = number; reply = Some reply } in
           let told : Answer = record { ticket = answer.ticket; reply = answer.reply } in
           let all : List Answer = l.answered ++ told ∷ [] in
-          let is_told : record { ticket = answer.ticket; reply = reply_words reply } ≡ told = ap (λ (r : List ℕ). (let a : Answer = record { ticket = answer.ticket; reply = r } in a)) words in
-          let has : IsReplyAt all answer.ticket (Some reply) = subst (Contains all) (sym is_told) (Contains-push l.answered told) in
-          let new : IsAnsweredLine life client all links.entry line = (
+          let is_told : record { ticket = answer.ticket; reply = m.encoding.reply_words reply } ≡ told = ap (λ (r : List ℕ). (let a : Answer = record { ticket = answer.ticket; reply = r } in a)) words in
+          let has : IsReplyAt m.encoding all answer.ticket (Some reply) = subst (Contains all) (sym is_told) (Contains-push l.answered told) in
+          let new : IsAnsweredLine m life client all links.entry line = (
             record { ticket = sym links.at; by = links.by ∙ s.by; client_is = refl; op = has_words links.entry.entry.op links.op_is; reply = has },
             refl,
           ) in
-          let still : (x : Linked) (e : JournalLine) → IsAnsweredLine life client l.answered x e → IsAnsweredEntry n e → IsAnsweredLine life client all x e =
-          λ x e h done. (record { ticket = h.0.ticket; by = h.0.by; client_is = h.0.client_is; op = h.0.op; reply = reply_stays l.answered (told ∷ []) e.ticket e.reply h.1 h.0.reply }, h.1) in
-          let zip : AllZip (IsAnsweredLine life client all) (l.own ++ links.entry ∷ []) (es ++ line ∷ []) =
-          all_zipped_more (IsAnsweredLine life client all) l.own es links.entry line (zip_with (IsAnsweredLine life client l.answered) (IsAnsweredLine life client all) (IsAnsweredEntry n) still l.own es s.entry_lines s.entries_done) new in
+          let still : (x : Linked) (e : JournalLine Reply) → IsAnsweredLine m life client l.answered x e → IsAnsweredEntry n e → IsAnsweredLine m life client all x e =
+          λ x e h done. (record { ticket = h.0.ticket; by = h.0.by; client_is = h.0.client_is; op = h.0.op; reply = reply_stays m l.answered (told ∷ []) e.ticket e.reply h.1 h.0.reply }, h.1) in
+          let zip : AllZip (IsAnsweredLine m life client all) (l.own ++ links.entry ∷ []) (es ++ line ∷ []) =
+          all_zipped_more (IsAnsweredLine m life client all) l.own es links.entry line (zip_with (IsAnsweredLine m life client l.answered) (IsAnsweredLine m life client all) (IsAnsweredEntry n) still l.own es s.entry_lines s.entries_done) new in
           record {
             by = links.number ∙ s.by;
             limit = links.limit ∙ s.limit;
@@ -139,8 +138,8 @@ module _ (life : Life) (client n : ℕ) (l : Local) (es : List JournalLine) (rs 
           }
 
       -- a read that was answered beside the queue, where each entry is answered
-      module _ (even : length l.own ≡ length l.answered) (seen : Seen) (reply : Reply) (words : reply_words reply ≡ seen.reply) where
-        abbrev pub read_line : ReadLine
+      module _ (even : length l.own ≡ length l.answered) (seen : Seen) (reply : Reply) (words : m.encoding.reply_words reply ≡ seen.reply) where
+        abbrev pub read_line : ReadLine Reply
         read_line = record { client = client; command = number; place = seen.place; reply = reply }
 
         abbrev pub seen_read : SeenRead
@@ -149,8 +148,8 @@ module _ (life : Life) (client n : ℕ) (l : Local) (es : List JournalLine) (rs 
         once_read : (k : ℕ) → 1 ≤ k → k ≤ number → lines_of k es (rs ++ read_line ∷ []) ≡ 1
         once_read k one up =
             elim (cases_eq number k) [
-              | inl same ↦ omega (arith, count_yes (λ (e : ReadLine). e.command == k) rs read_line (eq-eqb number k same), none_later k (omega arith))
-              | inr ne ↦ omega (arith, count_no (λ (e : ReadLine). e.command == k) rs read_line (ne_eqb number k ne), s.once k one (omega arith))
+              | inl same ↦ omega (arith, count_yes (λ (e : ReadLine Reply). e.command == k) rs read_line (eq-eqb number k same), none_later k (omega arith))
+              | inr ne ↦ omega (arith, count_no (λ (e : ReadLine Reply). e.command == k) rs read_line (ne_eqb number k ne), s.once k one (omega arith))
             ]
 
         between_read : StandsBetween es seen_read read_line
@@ -159,22 +158,22 @@ module _ (life : Life) (client n : ℕ) (l : Local) (es : List JournalLine) (rs 
           λ i e at more. (let within = slice_get_within es i e at in absurd (omega (arith, long, even))),
         )
 
-        pub serves_read : (l' : Local) (es' : List JournalLine) (rs' : List ReadLine) → l'.number ≡ l.number → l'.limit ≡ l.limit → l'.own ≡ l.own → l'.answered ≡ l.answered → l'.seen_reads ≡ one_read ws seen l → es' ≡ es → rs' ≡ rs ++ read_line ∷ []
-            → HasServed life client number l' es' rs'
+        pub serves_read : (l' : Local) (es' : List (JournalLine Reply)) (rs' : List (ReadLine Reply)) → l'.number ≡ l.number → l'.limit ≡ l.limit → l'.own ≡ l.own → l'.answered ≡ l.answered → l'.seen_reads ≡ one_read ws seen l → es' ≡ es → rs' ≡ rs ++ read_line ∷ []
+            → HasServed m life client number l' es' rs'
         serves_read l' es' rs' same_number limit own answered reads entries lines =
-            let new : IsReadLine life client seen_read read_line = record { place = refl; client_is = refl; op = has_words ws refl; reply = words } in
+            let new : IsReadLine m.encoding life client seen_read read_line = record { place = refl; client_is = refl; op = has_words ws refl; reply = words } in
             record {
               by = same_number ∙ s.by;
               limit = limit ∙ s.limit;
               entry_lines = rw (answered, own, entries) s.entry_lines;
-              read_lines = rw (reads, lines) (all_zipped_more (IsReadLine life client) l.seen_reads rs seen_read read_line s.read_lines new);
+              read_lines = rw (reads, lines) (all_zipped_more (IsReadLine m.encoding life client) l.seen_reads rs seen_read read_line s.read_lines new);
               between = rw (reads, entries, lines) (all_zipped_more (StandsBetween es) l.seen_reads rs seen_read read_line s.between between_read);
               before = rw (reads, entries) (All-push (λ (x : SeenRead). x.before ≤ length es) l.seen_reads seen_read s.before (omega (arith, long, even)));
               entries_in_turn = rw entries s.entries_in_turn;
               reads_in_turn = rw lines (all_pairs_push IsSeenBefore rs read_line s.reads_in_turn (λ k d within. omega (arith, (s.reads_done k d within).1)));
               once = rw (entries, lines) once_read;
               entries_done = rw entries entries_later;
-              reads_done = rw lines (All-push (λ (r : ReadLine). (1 ≤ r.command) × (r.command ≤ number)) rs read_line reads_later (omega arith, omega arith));
+              reads_done = rw lines (All-push (λ (r : ReadLine Reply). (1 ≤ r.command) × (r.command ≤ number)) rs read_line reads_later (omega arith, omega arith));
               few = rw entries (omega (arith, s.few));
             }
 
@@ -197,33 +196,33 @@ module _ (life : Life) (client n : ℕ) (l : Local) (es : List JournalLine) (rs 
         not_in : (command : ℕ) → command ≤ n → stops_in (Some stop) command ≡ false
         not_in command up = ne_eqb number command (λ same. omega arith)
 
-        line_stays : (more : List Answer) (x : Linked) (e : JournalLine) → IsAnsweredLine life client l.answered x e → IsAnsweredEntry n e → IsLineOf life client (l.answered ++ more) (Some stop) x e
+        line_stays : (more : List Answer) (x : Linked) (e : JournalLine Reply) → IsAnsweredLine m life client l.answered x e → IsAnsweredEntry n e → IsLineOf m.encoding life client (l.answered ++ more) (Some stop) x e
         line_stays more x e h done = record {
           ticket = h.0.ticket;
           by = h.0.by;
           client_is = h.0.client_is;
           op = h.0.op;
-          reply = subst (λ b. IsLineReply b (l.answered ++ more) e.ticket e.reply) (sym (not_in e.command done.1)) (reply_stays l.answered more e.ticket e.reply h.1 h.0.reply);
+          reply = subst (λ b. IsLineReply m.encoding b (l.answered ++ more) e.ticket e.reply) (sym (not_in e.command done.1)) (reply_stays m l.answered more e.ticket e.reply h.1 h.0.reply);
         }
 
-        lines_stay : (more : List Answer) → AllZip (IsLineOf life client (l.answered ++ more) (Some stop)) l.own es
-        lines_stay more = zip_with (IsAnsweredLine life client l.answered) (IsLineOf life client (l.answered ++ more) (Some stop)) (IsAnsweredEntry n) (line_stays more) l.own es s.entry_lines s.entries_done
+        lines_stay : (more : List Answer) → AllZip (IsLineOf m.encoding life client (l.answered ++ more) (Some stop)) l.own es
+        lines_stay more = zip_with (IsAnsweredLine m life client l.answered) (IsLineOf m.encoding life client (l.answered ++ more) (Some stop)) (IsAnsweredEntry n) (line_stays more) l.own es s.entry_lines s.entries_done
 
         done_entries : All (IsDoneEntry n (Some stop)) es
         done_entries = All-weaker (IsAnsweredEntry n) (IsDoneEntry n (Some stop)) (λ e h. inl h) es s.entries_done
 
         -- before its link
-        pub stops_beside : (es' : List JournalLine) (rs' : List ReadLine) → l'.number ≡ l.number → l'.own ≡ l.own → l'.answered ≡ l.answered
-            → (l'.seen_reads ≡ l.seen_reads) ⊎ ((seen : Seen) × (l'.seen_reads ≡ one_read ws seen l)) → es' ≡ es → rs' ≡ rs → IsWork life client l' es' rs' (Some stop) None
+        pub stops_beside : (es' : List (JournalLine Reply)) (rs' : List (ReadLine Reply)) → l'.number ≡ l.number → l'.own ≡ l.own → l'.answered ≡ l.answered
+            → (l'.seen_reads ≡ l.seen_reads) ⊎ ((seen : Seen) × (l'.seen_reads ≡ one_read ws seen l)) → es' ≡ es → rs' ≡ rs → IsWork m.encoding life client l' es' rs' (Some stop) None
         stops_beside es' rs' same_number own answered reads entries lines =
-            let left : (xs : List SeenRead) × (l'.seen_reads ≡ l.seen_reads ++ xs) × (length xs ≤ 1) × All (IsStoppedRead life client (Some stop)) xs =
+            let left : (xs : List SeenRead) × (l'.seen_reads ≡ l.seen_reads ++ xs) × (length xs ≤ 1) × All (IsStoppedRead m.encoding life client (Some stop)) xs =
             elim reads [
-              | inl none ↦ ([], none ∙ sym (append-nil l.seen_reads), omega arith, All-nil (IsStoppedRead life client (Some stop)))
+              | inl none ↦ ([], none ∙ sym (append-nil l.seen_reads), omega arith, All-nil (IsStoppedRead m.encoding life client (Some stop)))
               | inr one ↦ (
                 record { place = one.0.place; op = ws; reply = one.0.reply; before = length l.answered } ∷ [],
                 one.1,
                 omega arith,
-                All-cons (IsStoppedRead life client (Some stop)) (record { place = one.0.place; op = ws; reply = one.0.reply; before = length l.answered }) [] (record { line = stop; is = refl; op = has_words ws refl }) (All-nil (IsStoppedRead life client (Some stop))),
+                All-cons (IsStoppedRead m.encoding life client (Some stop)) (record { place = one.0.place; op = ws; reply = one.0.reply; before = length l.answered }) [] (record { line = stop; is = refl; op = has_words ws refl }) (All-nil (IsStoppedRead m.encoding life client (Some stop))),
               )
             ] in
             record {
@@ -242,21 +241,21 @@ module _ (life : Life) (client n : ℕ) (l : Local) (es : List JournalLine) (rs 
             }
 
         -- behind its link
-        pub stops_linked : (ticket : ℕ) (more : List Answer) (es' : List JournalLine) (rs' : List ReadLine) → LinksEntry ws ticket l l' → l'.answered ≡ l.answered ++ more
-            → es' ≡ es ++ record { ticket = ticket; client = client; command = number; reply = None } ∷ [] → rs' ≡ rs → IsWork life client l' es' rs' (Some stop) None
+        pub stops_linked : (ticket : ℕ) (more : List Answer) (es' : List (JournalLine Reply)) (rs' : List (ReadLine Reply)) → LinksEntry ws ticket l l' → l'.answered ≡ l.answered ++ more
+            → es' ≡ es ++ record { ticket = ticket; client = client; command = number; reply = None } ∷ [] → rs' ≡ rs → IsWork m.encoding life client l' es' rs' (Some stop) None
         stops_linked ticket more es' rs' links answered entries lines =
-            let line : JournalLine = record { ticket = ticket; client = client; command = number; reply = None } in
-            let new : IsLineOf life client (l.answered ++ more) (Some stop) links.entry line = record {
+            let line : JournalLine Reply = record { ticket = ticket; client = client; command = number; reply = None } in
+            let new : IsLineOf m.encoding life client (l.answered ++ more) (Some stop) links.entry line = record {
               ticket = sym links.at;
               by = links.by ∙ s.by;
               client_is = refl;
               op = has_words links.entry.entry.op links.op_is;
-              reply = subst (λ b. IsLineReply b (l.answered ++ more) ticket None) (sym (eq-eqb number number refl)) refl;
+              reply = subst (λ b. IsLineReply m.encoding b (l.answered ++ more) ticket None) (sym (eq-eqb number number refl)) refl;
             } in
             record {
               by = links.number ∙ s.by;
-              entry_lines = rw (answered, links.own, entries) (all_zipped_more (IsLineOf life client (l.answered ++ more) (Some stop)) l.own es links.entry line (lines_stay more) new);
-              read_lines = record { told = l.seen_reads; left = []; are = links.reads ∙ sym (append-nil l.seen_reads); lines_are = rw lines s.read_lines; few = omega arith; stopped = All-nil (IsStoppedRead life client (Some stop)) };
+              entry_lines = rw (answered, links.own, entries) (all_zipped_more (IsLineOf m.encoding life client (l.answered ++ more) (Some stop)) l.own es links.entry line (lines_stay more) new);
+              read_lines = record { told = l.seen_reads; left = []; are = links.reads ∙ sym (append-nil l.seen_reads); lines_are = rw lines s.read_lines; few = omega arith; stopped = All-nil (IsStoppedRead m.encoding life client (Some stop)) };
               between = rw (entries, lines) (between_all line refl);
               entries_in_turn = rw entries (in_turn line refl);
               reads_in_turn = rw lines s.reads_in_turn;
@@ -269,11 +268,11 @@ module _ (life : Life) (client n : ℕ) (l : Local) (es : List JournalLine) (rs 
             }
 
   -- a client all of whose entries are answered, as it ended
-  ended_answered : (full : Option FullLine) → n ≤ length (own_ops client life.commands) → IsEnd life client n l None full → IsWork life client l es rs None full
+  ended_answered : (full : Option FullLine) → n ≤ length (own_ops client life.commands) → IsEnd life client n l None full → IsWork m.encoding life client l es rs None full
   ended_answered full within end = record {
     by = s.by;
-    entry_lines = zip_with (IsAnsweredLine life client l.answered) (IsLineOf life client l.answered None) (IsAnsweredEntry n) (λ x e h done. h.0) l.own es s.entry_lines s.entries_done;
-    read_lines = record { told = l.seen_reads; left = []; are = sym (append-nil l.seen_reads); lines_are = s.read_lines; few = omega arith; stopped = All-nil (IsStoppedRead life client None) };
+    entry_lines = zip_with (IsAnsweredLine m life client l.answered) (IsLineOf m.encoding life client l.answered None) (IsAnsweredEntry n) (λ x e h done. h.0) l.own es s.entry_lines s.entries_done;
+    read_lines = record { told = l.seen_reads; left = []; are = sym (append-nil l.seen_reads); lines_are = s.read_lines; few = omega arith; stopped = All-nil (IsStoppedRead m.encoding life client None) };
     between = s.between;
     entries_in_turn = s.entries_in_turn;
     reads_in_turn = s.reads_in_turn;
@@ -286,15 +285,15 @@ module _ (life : Life) (client n : ℕ) (l : Local) (es : List JournalLine) (rs 
   }
 
   -- a client that was answered all its commands
-  pub is_whole : n ≡ length (own_ops client life.commands) → IsWork life client l es rs None None
+  pub is_whole : n ≡ length (own_ops client life.commands) → IsWork m.encoding life client l es rs None None
   is_whole all = ended_answered None (omega arith) all
 
   -- a client that gave up
-  pub is_given_up : (line : FullLine) → IsFullOf life client n l line → IsWork life client l es rs None (Some line)
+  pub is_given_up : (line : FullLine) → IsFullOf life client n l line → IsWork m.encoding life client l es rs None (Some line)
   is_given_up line full = ended_answered (Some line) (let less = full.within in omega arith) full
 
   -- the same lines stand for the lists of a caller with the same lists
-  pub serves_still : (l' : Local) → l'.number ≡ l.number → l'.limit ≡ l.limit → l'.own ≡ l.own → l'.answered ≡ l.answered → l'.seen_reads ≡ l.seen_reads → HasServed life client n l' es rs
+  pub serves_still : (l' : Local) → l'.number ≡ l.number → l'.limit ≡ l.limit → l'.own ≡ l.own → l'.answered ≡ l.answered → l'.seen_reads ≡ l.seen_reads → HasServed m life client n l' es rs
   serves_still l' number limit own answered reads = record {
     by = number ∙ s.by;
     limit = limit ∙ s.limit;
@@ -315,6 +314,6 @@ module _ (life : Life) (client n : ℕ) (l : Local) (es : List JournalLine) (rs 
   few_own = omega (arith, long, s.few)
 
 -- the client has the command that is named
-pub named_within : (life : Life) (client number : ℕ) (op : Op) → named_op life client number ≡ Some op → number ≤ length (own_ops client life.commands)
+pub named_within : {Op : Type 0} → (life : Life Op) (client number : ℕ) (op : Op) → named_op life client number ≡ Some op → number ≤ length (own_ops client life.commands)
 named_within life client zero op named = cc
 named_within life client (suc n) op named = (let within = slice_get_within (own_ops client life.commands) n op named in omega arith)

@@ -8,26 +8,27 @@ use Rattle.life_records.specs.declared.script.Command.{Command}
 use Rattle.life_records.specs.Scripts.{own_ops}
 
 -- the commands of so many clients from one on
-total : ℕ → ℕ → List Command → ℕ
+total : {Op : Type 0} → ℕ → ℕ → List (Command Op) → ℕ
 total from zero commands = 0
 total from (suc n) commands = length (own_ops from commands) + total (from + 1) n commands
 
-own_mine : (client : ℕ) (c : Command) (cs : List Command) → c.client ≡ client → length (own_ops client (c ∷ cs)) ≡ length (own_ops client cs) + 1
-own_mine client c cs same =
-    let is : own_ops client (c ∷ cs) ≡ c.op ∷ own_ops client cs = ap (λ b. map (λ (x : Command). x.op) (cond b (c ∷ filter (λ x. x.client == client) cs) (filter (λ x. x.client == client) cs))) (eq-eqb c.client client same) in
-    omega (arith, ap length is)
+module _ {Op : Type 0} where
+  own_mine : (client : ℕ) (c : Command Op) (cs : List (Command Op)) → c.client ≡ client → length (own_ops client (c ∷ cs)) ≡ length (own_ops client cs) + 1
+  own_mine client c cs same =
+      let is : own_ops client (c ∷ cs) ≡ c.op ∷ own_ops client cs = ap (λ b. map (λ (x : Command Op). x.op) (cond b (c ∷ filter (λ x. x.client == client) cs) (filter (λ x. x.client == client) cs))) (eq-eqb c.client client same) in
+      omega (arith, ap length is)
 
-own_other : (client : ℕ) (c : Command) (cs : List Command) → c.client ≢ client → length (own_ops client (c ∷ cs)) ≡ length (own_ops client cs)
-own_other client c cs other =
-    let is : own_ops client (c ∷ cs) ≡ own_ops client cs = ap (λ b. map (λ (x : Command). x.op) (cond b (c ∷ filter (λ x. x.client == client) cs) (filter (λ x. x.client == client) cs))) (ne_eqb c.client client other) in
-    ap length is
+  own_other : (client : ℕ) (c : Command Op) (cs : List (Command Op)) → c.client ≢ client → length (own_ops client (c ∷ cs)) ≡ length (own_ops client cs)
+  own_other client c cs other =
+      let is : own_ops client (c ∷ cs) ≡ own_ops client cs = ap (λ b. map (λ (x : Command Op). x.op) (cond b (c ∷ filter (λ x. x.client == client) cs) (filter (λ x. x.client == client) cs))) (ne_eqb c.client client other) in
+      ap length is
 
-total_past : (from n : ℕ) (c : Command) (cs : List Command) → c.client < from → total from n (c ∷ cs) ≡ total from n cs
+total_past : {Op : Type 0} → (from n : ℕ) (c : Command Op) (cs : List (Command Op)) → c.client < from → total from n (c ∷ cs) ≡ total from n cs
 unfolding total
 total_past from zero c cs below = refl
 total_past from (suc n) c cs below = omega (arith, own_other from c cs (λ same. omega (arith, same, below)), total_past (from + 1) n c cs (omega (arith, below)))
 
-total_one : (from n : ℕ) (c : Command) (cs : List Command) → total from n (c ∷ cs) ≤ total from n cs + 1
+total_one : {Op : Type 0} → (from n : ℕ) (c : Command Op) (cs : List (Command Op)) → total from n (c ∷ cs) ≤ total from n cs + 1
 unfolding total
 total_one from zero c cs = omega arith
 total_one from (suc n) c cs =
@@ -36,16 +37,16 @@ total_one from (suc n) c cs =
       | inr other ↦ omega (arith, own_other from c cs other, total_one (from + 1) n c cs)
     ]
 
-total_none : (from n : ℕ) → total from n [] ≡ 0
+total_none : (Op : Type 0) (from n : ℕ) → total {Op = Op} from n [] ≡ 0
 unfolding total
-total_none from zero = refl
-total_none from (suc n) = omega (arith, total_none (from + 1) n)
+total_none Op from zero = refl
+total_none Op from (suc n) = omega (arith, total_none Op (from + 1) n)
 
-total_most : (from n : ℕ) (commands : List Command) → total from n commands ≤ length commands
-total_most from n [] = omega (arith, total_none from n)
+total_most : {Op : Type 0} → (from n : ℕ) (commands : List (Command Op)) → total from n commands ≤ length commands
+total_most {Op = Op} from n [] = omega (arith, total_none Op from n)
 total_most from n (c ∷ cs) = omega (arith, total_one from n c cs, total_most from n cs)
 
-module _ (commands : List Command) where
+module _ {Op : Type 0} (commands : List (Command Op)) where
   abbrev pub AreFew : ℕ → List Local → Type 0
   AreFew from locals = (i : ℕ) (l : Local) → slice_get locals i ≡ Some l → length l.own ≤ length (own_ops (from + i) commands)
 

@@ -10,8 +10,6 @@ use Rattle.cx_rule.specs.Seats.{Seated}
 use Rattle.cx_service.specs.Callers.{IsCallerOf}
 use Rattle.cx_service.specs.Closes.{seat_of}
 use Rattle.cx_service.specs.Submits.{NamesHolder}
-use Rattle.doc_model.specs.declared.operations.Op.{Op}
-use Rattle.doc_model.specs.Words.{AreOfNoReply, IsOpOf}
 use Rattle.journals.specs.Works.{IsWork}
 use Rattle.life_records.specs.Scripts.{limit_in, own_ops}
 use Rattle.life_records.specs.declared.script.Life.{Life}
@@ -26,53 +24,54 @@ use Rattle.cx_lives.specs.declared.desk.Turn.{Turn}
 use Rattle.cx_lives.specs.declared.desk.Turn.TheVariants.{Next, Over, Full as FullTurn}
 use Rattle.cx_lives.specs.declared.desk.Work.{Work}
 use Rattle.cx_lives.specs.Serving.{IsServed}
+use Rattle.typed_object.specs.Meaning.{Meaning, AreOfNoReply, IsOpOf}
 
 -- every ticket is linked, while the caller has fewer entries than its client has commands
-pub record IsWorn (life : Life) (client : ℕ) (l : Local) : Type 0 where
+pub record IsWorn {Op : Type 0} (life : Life Op) (client : ℕ) (l : Local) : Type 0 where
   pub front : l.front ≡ 2 ^ 40
   pub fewer : length l.own < length (own_ops client life.commands)
 
 -- an entry of an operation was answered with words of no reply
-pub record IsBadAnswer (l : Local) : Type 0 where
+pub record IsBadAnswer {Op Reply Store : Type 0} (m : Meaning Op Reply Store) (l : Local) : Type 0 where
   pub answer : Answer
   pub there : Contains l.answered answer
   pub entry : Linked
   pub linked : Contains l.own entry
   pub at : entry.ticket ≡ answer.ticket
   pub op : Op
-  pub is : IsOpOf entry.entry.op op
-  pub bad : AreOfNoReply answer.reply
+  pub is : IsOpOf m entry.entry.op op
+  pub bad : AreOfNoReply m answer.reply
 
 -- a read of an operation was answered with words of no reply
-pub record IsBadRead (l : Local) : Type 0 where
+pub record IsBadRead {Op Reply Store : Type 0} (m : Meaning Op Reply Store) (l : Local) : Type 0 where
   pub read : SeenRead
   pub there : Contains l.seen_reads read
   pub op : Op
-  pub is : IsOpOf read.op op
-  pub bad : AreOfNoReply read.reply
+  pub is : IsOpOf m read.op op
+  pub bad : AreOfNoReply m read.reply
 
 -- what no closed service leaves of a caller
-abbrev pub CannotBe : Life → ℕ → Local → Type 0
-CannotBe life client l = IsWorn life client l ⊎ (IsBadAnswer l ⊎ IsBadRead l)
+abbrev pub CannotBe : {Op Reply Store : Type 0} → (m : Meaning Op Reply Store) → Life Op → ℕ → Local → Type 0
+CannotBe m life client l = IsWorn life client l ⊎ (IsBadAnswer m l ⊎ IsBadRead m l)
 
 -- how a worker ended: its client was answered all its commands, or was stopped, or gave up; or its caller has what none can have
-abbrev pub IsEndOf : Life → ℕ → Local → List JournalLine → List ReadLine → End → Type 0
-IsEndOf life client l entries reads Whole = IsWork life client l entries reads None None
-IsEndOf life client l entries reads (Stopped line) = IsWork life client l entries reads (Some line) None
-IsEndOf life client l entries reads (Full line) = IsWork life client l entries reads None (Some line)
-IsEndOf life client l entries reads Never = CannotBe life client l
+abbrev pub IsEndOf : {Op Reply Store : Type 0} → (m : Meaning Op Reply Store) → Life Op → ℕ → Local → List (JournalLine Reply) → List (ReadLine Reply) → End → Type 0
+IsEndOf m life client l entries reads Whole = IsWork m.encoding life client l entries reads None None
+IsEndOf m life client l entries reads (Stopped line) = IsWork m.encoding life client l entries reads (Some line) None
+IsEndOf m life client l entries reads (Full line) = IsWork m.encoding life client l entries reads None (Some line)
+IsEndOf m life client l entries reads Never = CannotBe m life client l
 
 -- what is known of a client's caller however it ended: at most one entry for each command, and the limit of the client's cut
-pub record IsCallerIn {O : Type 0} (life : Life) (r : Running O) (client : ℕ) (seat : Seated) : Type 0 where
+pub record IsCallerIn {O Op : Type 0} (life : Life Op) (r : Running O) (client : ℕ) (seat : Seated) : Type 0 where
   pub of : IsSeatOf r seat
   pub by : seat.known.local.number ≡ client
   pub limit : seat.known.local.limit ≡ limit_in client life.cuts
   pub few : length seat.known.local.own ≤ length (own_ops client life.commands)
 
 -- what a worker hands in
-pub record IsWorkOf {O : Type 0} (life : Life) (r : Running O) (client : ℕ) (work : Work) : Type 0 where
+pub record IsWorkOf {O Op Reply Store : Type 0} (m : Meaning Op Reply Store) (life : Life Op) (r : Running O) (client : ℕ) (work : Work Reply) : Type 0 where
   pub caller : IsCallerIn life r client (seat_of work.handed)
-  pub ends : IsEndOf life client (seat_of work.handed).known.local work.entries.items work.reads.items work.end
+  pub ends : IsEndOf m life client (seat_of work.handed).known.local work.entries.items work.reads.items work.end
 
 -- the stop line of an end, and its full line
 abbrev pub stop_in : End → List StopLine
@@ -88,18 +87,18 @@ full_in (Full line) = line ∷ []
 full_in Never = []
 
 -- a client that was answered its first so many commands, and another caller keeps its cells
-pub record IsKeptOut {O : Type 0} (life : Life) (r : Running O) (client number : ℕ) (desk : Desk) (note : FullNote) : Type 0 where
-  pub served : IsServed life r client number desk
+pub record IsKeptOut {O Op Reply Store : Type 0} (m : Meaning Op Reply Store) (life : Life Op) (r : Running O) (client number : ℕ) (desk : Desk Reply) (note : FullNote) : Type 0 where
+  pub served : IsServed m life r client number desk
   pub names : NamesHolder r.callers desk.caller.known.local note
 
 -- what a command of this number comes to; no client gives up in it
-abbrev pub Turned : {O : Type 0} → Life → Running O → ℕ → ℕ → Turn → Type 0
-Turned life r client number (Next desk) = IsServed life r client number desk
-Turned life r client number (Over work) = IsWorkOf life r client work × (full_in work.end ≡ [])
-Turned life r client number (FullTurn desk note) = IsKeptOut life r client (number - 1) desk note
+abbrev pub Turned : {O Op Reply Store : Type 0} → (m : Meaning Op Reply Store) → Life Op → Running O → ℕ → ℕ → Turn Reply → Type 0
+Turned m life r client number (Next desk) = IsServed m life r client number desk
+Turned m life r client number (Over work) = IsWorkOf m life r client work × (full_in work.end ≡ [])
+Turned m life r client number (FullTurn desk note) = IsKeptOut m life r client (number - 1) desk note
 
 -- a caller of this service that made no call yet, with its client's limit
-pub record IsNewIn {O : Type 0} (life : Life) (r : Running O) (seat : Seated) : Type 0 where
+pub record IsNewIn {O Op : Type 0} (life : Life Op) (r : Running O) (seat : Seated) : Type 0 where
   pub caller : IsCallerOf r seat
   pub own : seat.known.local.own ≡ []
   pub answered : seat.known.local.answered ≡ []

@@ -15,27 +15,28 @@ use Rattle.cx_lives.specs.declared.desk.End.TheVariants.{Whole, Stopped, Full, N
 use Rattle.cx_lives.specs.declared.desk.Work.{Work}
 use Rattle.cx_lives.specs.declared.gather.Gathered.{Gathered}
 use Rattle.cx_lives.specs.Ends.{CannotBe, full_in, stop_in}
+use Rattle.typed_object.specs.Meaning.{Meaning}
 
 -- some caller has what none can have
-pub record HasNever (life : Life) (locals : List Local) : Type 0 where
+pub record HasNever {Op Reply Store : Type 0} (m : Meaning Op Reply Store) (life : Life Op) (locals : List Local) : Type 0 where
   pub client : ℕ
   pub local : Local
   pub of_client : slice_get locals client ≡ Some local
-  pub is : CannotBe life client local
+  pub is : CannotBe m life client local
 
 -- at most one entry for each command of a client, and the limit of the client's cut
-pub record IsLocalIn (life : Life) (client : ℕ) (l : Local) : Type 0 where
+pub record IsLocalIn {Op : Type 0} (life : Life Op) (client : ℕ) (l : Local) : Type 0 where
   pub limit : l.limit ≡ limit_in client life.cuts
   pub few : length l.own ≤ length (own_ops client life.commands)
 
 -- What is put together: the seats are those of the first callers in order; the lines are those of their lists, where no caller has
 -- what none can have.
-pub record AreGathered {O : Type 0} (life : Life) (r : Running O) (g : Gathered) : Type 0 where
+pub record AreGathered {O Op Reply Store : Type 0} (m : Meaning Op Reply Store) (life : Life Op) (r : Running O) (g : Gathered Reply) : Type 0 where
   pub of : All (IsSeatOf r) (seats_of g.handed.items)
   pub numbers : map (λ (s : Seated). s.known.local.number) (seats_of g.handed.items) ≡ range_with_len 0 (length g.handed.items)
   pub each : EachLocal (locals_of (seats_of g.handed.items)) (IsLocalIn life)
-  pub works : MatchBool g.never (HasNever life (locals_of (seats_of g.handed.items)))
-      (AreWorks life (locals_of (seats_of g.handed.items)) g.entries.items g.reads.items g.stops.items g.fulls.items)
+  pub works : MatchBool g.never (HasNever m life (locals_of (seats_of g.handed.items)))
+      (AreWorks m.encoding life (locals_of (seats_of g.handed.items)) g.entries.items g.reads.items g.stops.items g.fulls.items)
 
 abbrev pub is_never : End → Bool
 is_never Whole = false
@@ -44,7 +45,7 @@ is_never (Full line) = false
 is_never Never = true
 
 -- one client's work more
-pub record AddsWork (before after : Gathered) (work : Work) : Type 0 where
+pub record AddsWork {Reply : Type 0} (before after : Gathered Reply) (work : Work Reply) : Type 0 where
   pub handed : after.handed.items ≡ before.handed.items ++ work.handed ∷ []
   pub entries : after.entries.items ≡ before.entries.items ++ work.entries.items
   pub reads : after.reads.items ≡ before.reads.items ++ work.reads.items

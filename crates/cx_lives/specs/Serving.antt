@@ -13,32 +13,33 @@ use Rattle.life_records.specs.declared.script.Life.{Life}
 use Rattle.life_records.specs.declared.record.JournalLine.{JournalLine}
 use Rattle.life_records.specs.declared.record.ReadLine.{ReadLine}
 use Rattle.cx_lives.specs.declared.desk.Desk.{Desk}
+use Rattle.typed_object.specs.Meaning.{Meaning}
 
 -- the line of an entry that was answered
-abbrev pub IsAnsweredLine : Life → ℕ → List Answer → Linked → JournalLine → Type 0
-IsAnsweredLine life client answered x line = IsLineOf life client answered None x line × IsSome line.reply
+abbrev pub IsAnsweredLine : {Op Reply Store : Type 0} → (m : Meaning Op Reply Store) → Life Op → ℕ → List Answer → Linked → JournalLine Reply → Type 0
+IsAnsweredLine m life client answered x line = IsLineOf m.encoding life client answered None x line × IsSome line.reply
 
 -- an entry of one of the first so many commands, with a reply
-abbrev pub IsAnsweredEntry : ℕ → JournalLine → Type 0
+abbrev pub IsAnsweredEntry : {Reply : Type 0} → ℕ → JournalLine Reply → Type 0
 IsAnsweredEntry number line = (1 ≤ line.command) × (line.command ≤ number) × IsSome line.reply
 
 -- The client was answered its first so many commands: the lines stand for the caller's entries and reads one by one, and each of
 -- those commands has one.
-pub record HasServed (life : Life) (client number : ℕ) (l : Local) (entries : List JournalLine) (reads : List ReadLine) : Type 0 where
+pub record HasServed {Op Reply Store : Type 0} (m : Meaning Op Reply Store) (life : Life Op) (client number : ℕ) (l : Local) (entries : List (JournalLine Reply)) (reads : List (ReadLine Reply)) : Type 0 where
   pub by : l.number ≡ client
   pub limit : l.limit ≡ limit_in client life.cuts
-  pub entry_lines : AllZip (IsAnsweredLine life client l.answered) l.own entries
-  pub read_lines : AllZip (IsReadLine life client) l.seen_reads reads
+  pub entry_lines : AllZip (IsAnsweredLine m life client l.answered) l.own entries
+  pub read_lines : AllZip (IsReadLine m.encoding life client) l.seen_reads reads
   pub between : AllZip (StandsBetween entries) l.seen_reads reads
   pub before : All (λ (x : SeenRead). x.before ≤ length entries) l.seen_reads
   pub entries_in_turn : AllPairs IsEntryBefore entries
   pub reads_in_turn : AllPairs IsSeenBefore reads
   pub once : (command : ℕ) → 1 ≤ command → command ≤ number → lines_of command entries reads ≡ 1
   pub entries_done : All (IsAnsweredEntry number) entries
-  pub reads_done : All (λ (line : ReadLine). (1 ≤ line.command) × (line.command ≤ number)) reads
+  pub reads_done : All (λ (line : ReadLine Reply). (1 ≤ line.command) × (line.command ≤ number)) reads
   pub few : length entries ≤ number
 
 -- the same of a worker whose caller is in no call
-pub record IsServed {O : Type 0} (life : Life) (r : Running O) (client number : ℕ) (desk : Desk) : Type 0 where
+pub record IsServed {O Op Reply Store : Type 0} (m : Meaning Op Reply Store) (life : Life Op) (r : Running O) (client number : ℕ) (desk : Desk Reply) : Type 0 where
   pub caller : IsCallerOf r desk.caller
-  pub lists : HasServed life client number desk.caller.known.local desk.entries.items desk.reads.items
+  pub lists : HasServed m life client number desk.caller.known.local desk.entries.items desk.reads.items

@@ -13,40 +13,42 @@ use Rattle.cx_lives.specs.Serving.{IsServed}
 use Rattle.cx_lives.specs.declared.work.Left.{Left}
 use Rattle.cx_lives.specs.declared.work.Served.{Served}
 use Rattle.cx_lives.specs.declared.work.Served.TheVariants.{Done, Full}
+use Rattle.typed_object.specs.Meaning.{Meaning}
 
 -- a client that is left: it was answered its commands among the first so many of the script
-pub record IsLeftOf {O : Type 0} (life : Life) (r : Running O) (client : ℕ) (left : Left) : Type 0 where
-  pub served : IsServed life r client left.number left.desk
+pub record IsLeftOf {O Op Reply Store : Type 0} (m : Meaning Op Reply Store) (life : Life Op) (r : Running O) (client : ℕ) (left : Left Reply) : Type 0 where
+  pub served : IsServed m life r client left.number left.desk
   pub count : left.number ≡ length (own_ops client (take left.at life.commands))
   pub few : left.number ≤ left.at
 
 -- one that would give up in its next command with this line
-pub record IsFullLeft {O : Type 0} (life : Life) (r : Running O) (client : ℕ) (left : Left) (line : FullLine) : Type 0 where
-  pub left_is : IsLeftOf life r client left
+pub record IsFullLeft {O Op Reply Store : Type 0} (m : Meaning Op Reply Store) (life : Life Op) (r : Running O) (client : ℕ) (left : Left Reply) (line : FullLine) : Type 0 where
+  pub left_is : IsLeftOf m life r client left
   pub full : IsFullOf life client left.number left.desk.caller.known.local line
 
 -- what a worker comes to, whose client gave up in no command yet
-abbrev pub ServedOf : {O : Type 0} → Life → Running O → ℕ → Served → Type 0
-ServedOf life r client (Done work) = IsWorkOf life r client work × (full_in work.end ≡ [])
-ServedOf life r client (Full left line) = IsFullLeft life r client left line
+abbrev pub ServedOf : {O Op Reply Store : Type 0} → (m : Meaning Op Reply Store) → Life Op → Running O → ℕ → Served Reply → Type 0
+ServedOf m life r client (Done work) = IsWorkOf m life r client work × (full_in work.end ≡ [])
+ServedOf m life r client (Full left line) = IsFullLeft m life r client left line
 
 -- item i is what the worker of caller i comes to, or it found no memory
-abbrev pub AreWorksOf : {O : Type 0} → Life → Running O → List Seated → List (Result Served AllocError) → Type 0
-AreWorksOf life r callers works =
-    (i : ℕ) (d : Result Served AllocError) (e : Seated) → i < length callers →
-    IfOk (slice_index_or works i d) (ServedOf life r (slice_index_or callers i e).known.local.number)
+module _ {O Op Reply Store : Type 0} where
+  abbrev pub AreWorksOf : (m : Meaning Op Reply Store) → Life Op → Running O → List Seated → List (Result (Served Reply) AllocError) → Type 0
+  AreWorksOf m life r callers works =
+      (i : ℕ) (d : Result (Served Reply) AllocError) (e : Seated) → i < length callers →
+      IfOk (slice_index_or works i d) (ServedOf m life r (slice_index_or callers i e).known.local.number)
 
 -- what the workers of the callers from one on come to, each where it found memory
-abbrev pub AreNumbered : {O : Type 0} → Life → Running O → ℕ → List (Result Served AllocError) → Type 0
-AreNumbered life r client [] = Unit {0}
-AreNumbered life r client (work ∷ works) = IfOk work (ServedOf life r client) × AreNumbered life r (client + 1) works
+abbrev pub AreNumbered : {O Op Reply Store : Type 0} → (m : Meaning Op Reply Store) → Life Op → Running O → ℕ → List (Result (Served Reply) AllocError) → Type 0
+AreNumbered m life r client [] = Unit {0}
+AreNumbered m life r client (work ∷ works) = IfOk work (ServedOf m life r client) × AreNumbered m life r (client + 1) works
 
 -- the stop line that a worker tells, and those of all
-abbrev pub stop_told : Result Served AllocError → List StopLine
+abbrev pub stop_told : {Reply : Type 0} → Result (Served Reply) AllocError → List StopLine
 stop_told (Ok (Done work)) = stop_in work.end
 stop_told (Ok (Full left line)) = []
 stop_told (Err e) = []
 
-abbrev pub stops_left : List (Result Served AllocError) → List StopLine
+abbrev pub stops_left : {Reply : Type 0} → List (Result (Served Reply) AllocError) → List StopLine
 stops_left [] = []
 stops_left (work ∷ works) = stop_told work ++ stops_left works

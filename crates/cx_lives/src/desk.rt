@@ -1,23 +1,20 @@
 //! A client between two of its commands, and what a command comes to.
 
-ghost use Rattle.std.specs.Prelude.{◌≡◌, ◌-◌, ◌≤◌, IfOk, FitsSigned, Some};
-ghost use Rattle.std.specs.Int.{w64};
-ghost use Rattle.doc_model.specs.Meaning.{IsOp};
-ghost use Rattle.doc_model.specs.Words as spec;
+ghost use Rattle.std.specs.Prelude.{◌≡◌, ◌-◌, ◌≤◌, IfOk, IsTrue, Some};
 ghost use Rattle.life_records.specs.Scripts.{named_op};
 ghost use Rattle.cx_service.specs.declared.close.Handed.TheVariants.{Idle};
 ghost use Rattle.cx_lives.specs.Ends.{Turned};
 ghost use Rattle.cx_lives.specs.Serving.{IsServed};
-ghost use Rattle.cx_lives.specs.Turns.{EntryTurn, IsReadAs, ReadTurn, StopsIn};
+ghost use Rattle.cx_lives.specs.Turns.{EntryTurn, ReadTurn, StopsIn};
+ghost use Rattle.typed_object.specs.Meaning.{IsReadAs};
 
 use crate::calls::{Asked, ask};
 use cx_core::FullNote;
 use cx_service::{Answer, Caller, Handed, Seen, Service, Stopped};
-use doc_model::{Op, OpFault, Reply, op_words, reply_of};
-use doc_store::{DocStore, readings_are_those_operations};
-use life_records::{Command, FullLine, JournalLine, Life, ReadLine, StopLine};
+use life_records::{BorrowedLife, Command, FullLine, JournalLine, ReadLine, StopLine};
 use std::alloc::{AllocError, Global};
 use std::sync::Wait;
+use typed_object::TypedObject;
 
 /// How a worker ended.
 #[derive(Drop)]
@@ -34,169 +31,206 @@ pub(crate) enum End {
 
 /// What a worker hands in: its caller, and the lines of its client.
 #[derive(Drop)]
-pub(crate) struct Work {
+pub(crate) struct Work<Reply> {
     pub(crate) handed: Handed,
-    pub(crate) entries: Vec<JournalLine>,
-    pub(crate) reads: Vec<ReadLine>,
+    pub(crate) entries: Vec<JournalLine<Reply>>,
+    pub(crate) reads: Vec<ReadLine<Reply>>,
     pub(crate) end: End,
 }
 
 /// A client between two commands: its caller, and the lines so far.
 #[derive(Drop)]
-pub(crate) struct Desk {
+pub(crate) struct Desk<Reply> {
     pub(crate) caller: Caller,
-    pub(crate) entries: Vec<JournalLine>,
-    pub(crate) reads: Vec<ReadLine>,
+    pub(crate) entries: Vec<JournalLine<Reply>>,
+    pub(crate) reads: Vec<ReadLine<Reply>>,
 }
 
 /// What a command comes to: the client goes on, or it is at its end, or the command is not begun, since another caller keeps the
 /// client's cells, as the note says.
 #[derive(Drop)]
-pub(crate) enum Turn {
-    Next(Desk),
-    Over(Work),
-    Full(Desk, FullNote),
+pub(crate) enum Turn<Reply> {
+    Next(Desk<Reply>),
+    Over(Work<Reply>),
+    Full(Desk<Reply>, FullNote),
 }
 
-impl Desk {
-    /// Makes the client's command of this number. Where no cell is idle it tries again, and hands the desk back after `most` Full answers
-    /// one after another; without such a number it tries without end. `Err` is want of memory.
-    pub(crate) fn make<R: Wait>(
-        self,
-        rt: &R,
-        alloc: Global,
-        service: &Service<DocStore>,
-        life: &Life,
-        number: u64,
-        command: &Command,
-        most: Option<u64>,
-    ) -> Result<Turn, AllocError>
-        requires served { IsServed life.now service.now command.now.client (number - 1) self }
-        requires number { 1 ≤ number }
-        requires named { named_op life.now command.now.client number ≡ Some command.now.op }
-        requires op { IsOp command.now.op }
-        ensures { IfOk result (Turned life.now service.now command.now.client number) }
-    {
-        let Desk {
-            caller,
-            entries,
-            reads,
-        } = self;
-        let _ = life;
-        amount_has_64_bits(&command.op);
-        readings_are_those_operations();
-        let client = command.client;
-        let op = op_words(&command.op);
-        match ask(rt, service, caller, &op, command.op.only_reads(), most) {
-            Asked::Done(caller, answer) => {
-                let desk = Desk {
-                    caller,
-                    entries,
-                    reads,
-                };
-                desk.with_entry(alloc, client, number, &answer)
-            }
-            Asked::Read(caller, seen) => {
-                let desk = Desk {
-                    caller,
-                    entries,
-                    reads,
-                };
-                desk.with_read(alloc, client, number, &seen)
-            }
-            Asked::Full(caller, note) => {
-                let desk = Desk {
-                    caller,
-                    entries,
-                    reads,
-                };
-                Ok(Turn::Full(desk, note))
-            }
-            Asked::Worn(caller) => {
-                let desk = Desk {
-                    caller,
-                    entries,
-                    reads,
-                };
-                Ok(Turn::Over(desk.over(End::Never)))
-            }
-            Asked::Halted(stopped) => {
-                let work = stopped_in(client, number, stopped, entries, reads)?;
-                Ok(Turn::Over(work))
-            }
+/// Makes the client's command of this number. Where no cell is idle it tries again, and hands the desk back after `most` Full answers
+/// one after another; without such a number it tries without end. `Err` is want of memory.
+pub(crate) fn make<O: TypedObject, R: Wait>(
+    rt: &R,
+    alloc: Global,
+    service: &Service<O>,
+    life: &BorrowedLife<'_, O::Op>,
+    desk: Desk<O::Reply>,
+    number: u64,
+    command: &Command<O::Op>,
+    most: Option<u64>,
+) -> Result<Turn<O::Reply>, AllocError>
+    requires served { IsServed (O.meaning service.now.object) life.now service.now command.now.client (number - 1) desk }
+    requires number { 1 ≤ number }
+    requires named { named_op life.now command.now.client number ≡ Some command.now.op }
+    requires op { (O.meaning service.now.object).is_op command.now.op }
+    ensures { IfOk result (Turned (O.meaning service.now.object) life.now service.now command.now.client number) }
+{
+    let Desk {
+        caller,
+        entries,
+        reads,
+    } = desk;
+    let _ = life;
+    op_is_a_value(service, &command.op);
+    let client = command.client;
+    let op = words_of(service, &command.op);
+    let reads_only = is_reading(service, &command.op, &op);
+    match ask(rt, service, caller, &op, reads_only, most) {
+        Asked::Done(caller, answer) => {
+            let desk = Desk {
+                caller,
+                entries,
+                reads,
+            };
+            with_entry(alloc, service, desk, client, number, &answer)
+        }
+        Asked::Read(caller, seen) => {
+            let desk = Desk {
+                caller,
+                entries,
+                reads,
+            };
+            with_read(alloc, service, desk, client, number, &seen)
+        }
+        Asked::Full(caller, note) => {
+            let desk = Desk {
+                caller,
+                entries,
+                reads,
+            };
+            Ok(Turn::Full(desk, note))
+        }
+        Asked::Worn(caller) => {
+            let desk = Desk {
+                caller,
+                entries,
+                reads,
+            };
+            Ok(Turn::Over(over(desk, End::Never)))
+        }
+        Asked::Halted(stopped) => {
+            let work = stopped_in(client, number, stopped, entries, reads)?;
+            Ok(Turn::Over(work))
         }
     }
+}
 
-    // With the line of an entry that is answered.
-    fn with_entry(
-        self,
-        alloc: Global,
-        client: u32,
-        number: u64,
-        answer: &Answer,
-    ) -> Result<Turn, AllocError>
-        ensures { IfOk result (EntryTurn client number answer.now self) }
-    {
-        let Some(reply) = read_as(alloc, &answer.reply)? else {
-            return Ok(Turn::Over(self.over(End::Never)));
-        };
-        let mut desk = self;
-        desk.entries.push(JournalLine {
-            ticket: answer.ticket,
-            client,
-            command: number,
-            reply: Some(reply),
-        })?;
-        Ok(Turn::Next(desk))
-    }
+// What the type says of an operation.
+fn op_is_a_value<O: TypedObject>(service: &Service<O>, op: &O::Op)
+    ensures { (O.meaning service.now.object).is_op_value op.now }
+{
+    service.object().op_is_a_value(op);
+}
 
-    // With the line of a read that is answered.
-    fn with_read(
-        self,
-        alloc: Global,
-        client: u32,
-        number: u64,
-        seen: &Seen,
-    ) -> Result<Turn, AllocError>
-        ensures { IfOk result (ReadTurn client number seen.now self) }
-    {
-        let Some(reply) = read_as(alloc, &seen.reply)? else {
-            return Ok(Turn::Over(self.over(End::Never)));
-        };
-        let mut desk = self;
-        desk.reads.push(read_line(client, number, seen, reply))?;
-        Ok(Turn::Next(desk))
-    }
+// The words of an operation.
+fn words_of<O: TypedObject>(service: &Service<O>, op: &O::Op) -> [u64; 144]
+    requires { (O.meaning service.now.object).is_op op.now }
+    ensures { result ≡ (O.meaning service.now.object).encoding.op_words op.now }
+{
+    service.object().words_of(op)
+}
 
-    /// The end of a client whose caller is in no call.
-    pub(crate) fn over(self, end: End) -> Work
-        ensures handed { result.handed ≡ Idle self.caller }
-        ensures entries { result.entries ≡ self.entries }
-        ensures reads { result.reads ≡ self.reads }
-        ensures end_is { result.end ≡ end }
-    {
-        let Desk {
-            caller,
-            entries,
-            reads,
-        } = self;
-        Work {
-            handed: Handed::Idle(caller),
-            entries,
-            reads,
-            end,
-        }
+// Whether an operation only reads.
+fn is_reading<O: TypedObject>(service: &Service<O>, op: &O::Op, words: &[u64; 144]) -> bool
+    requires words { words.now ≡ (O.meaning service.now.object).encoding.op_words op.now }
+    requires op { (O.meaning service.now.object).is_op op.now }
+    requires value { (O.meaning service.now.object).is_op_value op.now }
+    ensures { IsTrue result → IsTrue (O.only_reads service.now.object words.now) }
+{
+    let _ = words;
+    service.object().is_reading(op)
+}
+
+// The reply that has these words. `Err` is want of memory.
+fn read_as<O: TypedObject>(
+    alloc: Global,
+    service: &Service<O>,
+    words: &[u64; 144],
+) -> Result<Option<O::Reply>, AllocError>
+    ensures { IfOk result (IsReadAs (O.meaning service.now.object) words.now) }
+{
+    service.object().reply_of(alloc, words)
+}
+
+// With the line of an entry that is answered.
+fn with_entry<O: TypedObject>(
+    alloc: Global,
+    service: &Service<O>,
+    desk: Desk<O::Reply>,
+    client: u32,
+    number: u64,
+    answer: &Answer,
+) -> Result<Turn<O::Reply>, AllocError>
+    ensures { IfOk result (EntryTurn (O.meaning service.now.object) client number answer.now desk) }
+{
+    let Some(reply) = read_as(alloc, service, &answer.reply)? else {
+        return Ok(Turn::Over(over(desk, End::Never)));
+    };
+    let mut desk = desk;
+    desk.entries.push(JournalLine {
+        ticket: answer.ticket,
+        client,
+        command: number,
+        reply: Some(reply),
+    })?;
+    Ok(Turn::Next(desk))
+}
+
+// With the line of a read that is answered.
+fn with_read<O: TypedObject>(
+    alloc: Global,
+    service: &Service<O>,
+    desk: Desk<O::Reply>,
+    client: u32,
+    number: u64,
+    seen: &Seen,
+) -> Result<Turn<O::Reply>, AllocError>
+    ensures { IfOk result (ReadTurn (O.meaning service.now.object) client number seen.now desk) }
+{
+    let Some(reply) = read_as(alloc, service, &seen.reply)? else {
+        return Ok(Turn::Over(over(desk, End::Never)));
+    };
+    let mut desk = desk;
+    desk.reads.push(read_line(client, number, seen, reply))?;
+    Ok(Turn::Next(desk))
+}
+
+/// The end of a client whose caller is in no call.
+pub(crate) fn over<Reply: Drop>(desk: Desk<Reply>, end: End) -> Work<Reply>
+    ensures handed { result.handed ≡ Idle desk.caller }
+    ensures entries { result.entries ≡ desk.entries }
+    ensures reads { result.reads ≡ desk.reads }
+    ensures end_is { result.end ≡ end }
+{
+    let Desk {
+        caller,
+        entries,
+        reads,
+    } = desk;
+    Work {
+        handed: Handed::Idle(caller),
+        entries,
+        reads,
+        end,
     }
 }
 
 // The end of a client that is stopped in its command of this number.
-fn stopped_in(
+fn stopped_in<Reply: Drop>(
     client: u32,
     number: u64,
     stopped: Stopped,
-    entries: Vec<JournalLine>,
-    reads: Vec<ReadLine>,
-) -> Result<Work, AllocError>
+    entries: Vec<JournalLine<Reply>>,
+    reads: Vec<ReadLine<Reply>>,
+) -> Result<Work<Reply>, AllocError>
     ensures { IfOk result (StopsIn client number stopped entries.items reads.items) }
 {
     let mut entries = entries;
@@ -223,7 +257,7 @@ fn stopped_in(
 }
 
 // The line of a read that is answered, at the place that its caller has seen.
-fn read_line(client: u32, number: u64, seen: &Seen, reply: Reply) -> ReadLine
+fn read_line<Reply>(client: u32, number: u64, seen: &Seen, reply: Reply) -> ReadLine<Reply>
     ensures { result ≡ record { client = client; command = number; place = seen.now.place; reply = reply } }
 {
     ReadLine {
@@ -232,31 +266,4 @@ fn read_line(client: u32, number: u64, seen: &Seen, reply: Reply) -> ReadLine
         place: seen.place,
         reply,
     }
-}
-
-// The reply that has these words. `Err` is want of memory.
-fn read_as(alloc: Global, words: &[u64; 144]) -> Result<Option<Reply>, AllocError>
-    ensures { IfOk result (IsReadAs words.now) }
-{
-    match reply_of(alloc, words) {
-        Ok(reply) => Ok(Some(reply)),
-        Err(OpFault::Memory) => Err(AllocError),
-        Err(OpFault::BadOp) => Ok(None),
-    }
-}
-
-// The amount of an operation is a number of 64 bits, as the type of amounts says.
-fn amount_has_64_bits(op: &Op)
-    ensures { spec.HasIntegerAmount op.now }
-{
-    match op {
-        Op::Put { .. } | Op::Del { .. } | Op::Get { .. } | Op::Next { .. } | Op::Count => {}
-        Op::Add { amount, .. } => has_64_bits(*amount),
-    }
-}
-
-fn has_64_bits(amount: i64)
-    ensures { FitsSigned w64 amount }
-{
-    let _ = amount;
 }

@@ -11,18 +11,18 @@ use crate::desk::{End, Work};
 use crate::work::{Served, go_on};
 use cx_base::Gate;
 use cx_service::{Handed, Service};
-use doc_store::DocStore;
 use journals::laws::{works_begin, works_go_on};
-use life_records::{FullLine, JournalLine, Life, ReadLine, StopLine};
+use life_records::{BorrowedLife, FullLine, JournalLine, ReadLine, StopLine};
 use std::alloc::{AllocError, Global};
 use std::sync::Wait;
+use typed_object::TypedObject;
 
 /// The callers as they ended, the lines of all, and whether some caller has what none can have.
 #[derive(Drop)]
-pub(crate) struct Gathered {
+pub(crate) struct Gathered<Reply> {
     pub(crate) handed: Vec<Handed>,
-    pub(crate) entries: Vec<JournalLine>,
-    pub(crate) reads: Vec<ReadLine>,
+    pub(crate) entries: Vec<JournalLine<Reply>>,
+    pub(crate) reads: Vec<ReadLine<Reply>>,
     pub(crate) stops: Vec<StopLine>,
     pub(crate) fulls: Vec<FullLine>,
     pub(crate) never: bool,
@@ -36,9 +36,9 @@ struct Ends {
     never: bool,
 }
 
-impl Gathered {
+impl<Reply: Drop> Gathered<Reply> {
     // With one client's work more.
-    fn with(self, work: Work) -> Result<Gathered, AllocError>
+    fn with(self, work: Work<Reply>) -> Result<Gathered<Reply>, AllocError>
         ensures { IfOk result (λ after. AddsWork self after work) }
     {
         let Gathered {
@@ -111,22 +111,22 @@ fn with_end(
 
 /// Puts the works of all clients together, in the order of the clients. One that was left goes on when it is its turn, and gives up only
 /// where the client that keeps its cells was stopped. `Err` is want of memory, of a worker or of this.
-pub(crate) fn gather<R: Wait, G: Gate>(
+pub(crate) fn gather<O: TypedObject, R: Wait, G: Gate>(
     rt: &R,
     alloc: Global,
-    service: &Service<DocStore>,
-    life: &Life,
+    service: &Service<O>,
+    life: &BorrowedLife<'_, O::Op>,
     gate: &G,
-    works: Vec<Result<Served, AllocError>>,
-) -> Result<Gathered, AllocError>
-    requires works { AreNumbered life.now service.now 0 works.items }
-    requires life { IsLifeInLimits life.now }
-    ensures gathered { IfOk result (AreGathered life.now service.now) }
+    works: Vec<Result<Served<O::Reply>, AllocError>>,
+) -> Result<Gathered<O::Reply>, AllocError>
+    requires works { AreNumbered (O.meaning service.now.object) life.now service.now 0 works.items }
+    requires life { IsLifeInLimits (O.meaning service.now.object).is_op 8 life.now }
+    ensures gathered { IfOk result (AreGathered (O.meaning service.now.object) life.now service.now) }
     ensures stopped { IfOk result (λ g. All (λ line. is_stopped line.note.holder g.stops.items ≡ true) g.fulls.items) }
     ensures all { IfOk result (λ g. length g.handed.items ≡ vec_len works) }
 {
-    works_begin();
-    works_go_on();
+    works_begin::<O::Op, O::Reply>();
+    works_go_on::<O::Op, O::Reply>();
     let mut all = Gathered {
         handed: Vec::new(alloc),
         entries: Vec::new(alloc),
@@ -145,7 +145,9 @@ pub(crate) fn gather<R: Wait, G: Gate>(
 }
 
 // What the first of the workers came to, which is taken out.
-fn first_of(works: &mut Vec<Result<Served, AllocError>>) -> Result<Served, AllocError>
+fn first_of<Reply: Drop>(
+    works: &mut Vec<Result<Served<Reply>, AllocError>>,
+) -> Result<Served<Reply>, AllocError>
     requires { 0 < length works.old.items }
     ensures { works.old.items ≡ result ∷ works.new.items }
 {
@@ -154,19 +156,19 @@ fn first_of(works: &mut Vec<Result<Served, AllocError>>) -> Result<Served, Alloc
 
 // The work of a client, which goes on where it was left. The clients with a stop line are those of these lines, and of the rest of the
 // works.
-fn at_end<R: Wait, G: Gate>(
+fn at_end<O: TypedObject, R: Wait, G: Gate>(
     rt: &R,
     alloc: Global,
-    service: &Service<DocStore>,
-    life: &Life,
+    service: &Service<O>,
+    life: &BorrowedLife<'_, O::Op>,
     gate: &G,
-    served: Served,
+    served: Served<O::Reply>,
     stops: &[StopLine],
-    rest: &[Result<Served, AllocError>],
-) -> Result<Work, AllocError>
-    requires served { (client : ℕ) × ServedOf life.now service.now client served }
-    requires life { IsLifeInLimits life.now }
-    ensures work { (client : ℕ) → ServedOf life.now service.now client served → IfOk result (IsWorkOf life.now service.now client) }
+    rest: &[Result<Served<O::Reply>, AllocError>],
+) -> Result<Work<O::Reply>, AllocError>
+    requires served { (client : ℕ) × ServedOf (O.meaning service.now.object) life.now service.now client served }
+    requires life { IsLifeInLimits (O.meaning service.now.object).is_op 8 life.now }
+    ensures work { (client : ℕ) → ServedOf (O.meaning service.now.object) life.now service.now client served → IfOk result (IsWorkOf (O.meaning service.now.object) life.now service.now client) }
     ensures told { IfOk result (λ work. (client : ℕ) → is_stopped client (stop_told (Ok served)) ≡ true → is_stopped client (stop_in work.end) ≡ true) }
     ensures stopped { IfOk result (λ work. All (λ line. is_stopped line.note.holder (stops.now ++ stops_left rest.now) ≡ true) (full_in work.end)) }
 {

@@ -2,18 +2,21 @@
 
 ghost use Rattle.std.specs.Prelude.{IfOk};
 ghost use Rattle.cx_lives.specs.Life.{CanRun, HasRun};
+ghost use Rattle.life_laws.specs.Meanings.{AreLaws};
+ghost use Rattle.typed_object.specs.Meaning.{HasMeaning};
 
 use crate::gather::{Gathered, gather};
 use crate::workers::run_workers;
 use cx_base::{Gate, Items};
 use cx_service::{Caller, Service};
 use cx_table::Remains;
-use doc_store::DocStore;
 use journals::laws::journals_are_told;
-use life_records::{Life, LifeRecord};
+use life_laws::steps_are_meant;
+use life_records::{BorrowedLife, LifeRecord};
 use std::alloc::{AllocError, Global};
 use std::sync::Wait;
 use std::thread::Threads;
+use typed_object::TypedObject;
 
 /// Runs a life on a service: one worker for each client, on a thread of its own, makes the client's commands in order, until all are
 /// answered or the client is stopped at its limit of steps. A worker whose thread cannot be started is run by the calling thread. Then
@@ -32,16 +35,16 @@ use std::thread::Threads;
 /// `Err` is want of memory, in a worker or behind them, and gives nothing back. There is no other refusal.
 ///
 /// The call waits: it does not return where the gate holds a worker for good. A client may have any number of commands.
-pub fn run_life<R: Threads + Wait + Sync, G: Gate + Sync>(
+pub fn run_life<O: TypedObject + Sync, R: Threads + Wait + Sync, G: Gate + Sync>(
     rt: &R,
     alloc: Global,
-    service: Service<DocStore>,
+    service: Service<O>,
     callers: Vec<Caller>,
-    life: &Life,
+    life: &BorrowedLife<'_, O::Op>,
     gate: &G,
-) -> Result<(LifeRecord, Remains), AllocError>
-    requires { CanRun life.now service callers.items }
-    ensures { IfOk result (λ r. HasRun life.now service r.0 r.1) }
+) -> Result<(LifeRecord<O::Reply>, Remains), AllocError>
+    requires { CanRun (O.meaning service.object) life.now service callers.items }
+    ensures { IfOk result (λ r. HasRun (O.meaning service.object) O.step O.only_reads life.now service r.0 r.1) }
 {
     let works = run_workers(rt, alloc, &service, callers, life, gate)?;
     let Gathered {
@@ -53,24 +56,35 @@ pub fn run_life<R: Threads + Wait + Sync, G: Gate + Sync>(
         never,
     } = gather(rt, alloc, &service, life, gate, works)?;
     entries.sort_unstable_by_key(|line| line.ticket);
-    journals_are_told();
+    journals_are_told::<O::Op, O::Reply>();
     let _lines = service.lines();
+    object_is_meant(&service);
     let Ok(remains) = service.close(alloc, handed) else {
         return Err(AllocError);
     };
     if never {
         unreachable!()
     }
+    let clients = life.clients();
+    let choice = life.choice();
     let told = LifeRecord {
-        clients: life.clients,
+        clients,
         from: remains.first,
         journal: Items::of(entries),
         reads: Items::of(reads),
         stops: Items::of(stops),
         fulls: Items::of(fulls),
-        choice: life.choice,
+        choice,
         kept: 0,
         documents: 0,
     };
     Ok((told, remains))
+}
+
+// The laws of a service's object.
+fn object_is_meant<O: TypedObject>(service: &Service<O>)
+    ensures object { AreLaws (O.line_count service.now.object) (O.lawful service.now.object) (O.step service.now.object) }
+    ensures means { HasMeaning (O.lawful service.now.object) (O.opening service.now.object) (O.step service.now.object) (O.only_reads service.now.object) (O.meaning service.now.object) }
+{
+    steps_are_meant(service.object());
 }

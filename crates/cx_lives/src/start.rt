@@ -3,7 +3,6 @@
 ghost use Rattle.std.specs.Prelude.{◌≡◌, ◌+◌, ◌^◌, ◌≤◌, IfOk, length, map};
 ghost use Rattle.std.specs.List.{range_with_len};
 ghost use Rattle.cx_core.specs.Base.{LawfulBase};
-ghost use Rattle.doc_store.specs.ExactStep.{IsImage};
 ghost use Rattle.life_records.specs.Limits.{IsLifeInLimits};
 ghost use Rattle.life_records.specs.Scripts.{limit_in};
 ghost use Rattle.cx_lives.specs.Life.{CanRun};
@@ -11,28 +10,29 @@ ghost use Rattle.cx_lives.specs.Lives.{IsServiceOf};
 
 use cx_core::Base;
 use cx_service::{Caller, Service, StartFault};
-use doc_store::DocStore;
-use life_records::{Cut, Life};
+use life_records::{BorrowedLife, Cut};
 use std::alloc::{AllocError, Global};
+use typed_object::TypedObject;
 
-/// Starts a service of the document store in so many lines for a life, which opens from a base: one caller for each client, with the
+/// Starts a service of an object for a life, which opens from a base: one caller for each client, with the
 /// limit of the client's cut. `Err` is want of memory.
-pub(crate) fn start_life(
+pub(crate) fn start_life<O: TypedObject>(
     alloc: Global,
-    lines: u64,
-    life: &Life,
+    object: &O,
+    life: &BorrowedLife<'_, O::Op>,
     base: &Base,
-) -> Result<(Service<DocStore>, Vec<Caller>), AllocError>
-    requires enough { 64 ≤ lines }
-    requires few { lines ≤ 16384 }
-    requires life { IsLifeInLimits life.now }
-    requires base { LawfulBase lines (IsImage lines) base.now }
+) -> Result<(Service<O>, Vec<Caller>), AllocError>
+    requires enough { 64 ≤ O.line_count object.now }
+    requires few { O.line_count object.now ≤ 16384 }
+    requires life { IsLifeInLimits (O.meaning object.now).is_op 8 life.now }
+    requires base { LawfulBase (O.line_count object.now) (O.lawful object.now) base.now }
     requires tickets { base.now.place + length life.now.commands ≤ 2 ^ 40 }
-    ensures service { IfOk result (λ r. IsServiceOf lines base.now life.now r.0) }
-    ensures can_run { IfOk result (λ r. CanRun life.now r.0 r.1.items) }
+    ensures service { IfOk result (λ r. IsServiceOf object.now (O.line_count object.now) base.now life.now r.0) }
+    ensures can_run { IfOk result (λ r. CanRun (O.meaning object.now) life.now r.0 r.1.items) }
 {
+    let clients = life.clients();
     let limits = limits_of(alloc, life)?;
-    match Service::start(alloc, DocStore::of(lines), life.clients, &limits, base) {
+    match Service::start(alloc, object.duplicate(), clients, &limits, base) {
         Ok(started) => Ok(started),
         Err(StartFault::Memory) => Err(AllocError),
         Err(StartFault::Callers { .. } | StartFault::Lines { .. }) => unreachable!(),
@@ -40,12 +40,13 @@ pub(crate) fn start_life(
 }
 
 // The steps that each client of a life may make.
-fn limits_of(alloc: Global, life: &Life) -> Result<Vec<u64>, AllocError>
+fn limits_of<Op>(alloc: Global, life: &BorrowedLife<'_, Op>) -> Result<Vec<u64>, AllocError>
     ensures { IfOk result (λ limits. limits.items ≡ map (λ client. limit_in client life.now.cuts) (range_with_len 0 life.now.clients)) }
 {
     let mut limits = Vec::new(alloc);
-    for client in 0..life.clients {
-        limits.push(limit_of(life.cuts.as_slice(), client))?;
+    let clients = life.clients();
+    for client in 0..clients {
+        limits.push(limit_of(life.cuts(), client))?;
     }
     Ok(limits)
 }

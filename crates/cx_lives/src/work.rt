@@ -8,13 +8,13 @@ ghost use Rattle.cx_lives.specs.declared.desk.End.TheVariants.{Full};
 ghost use Rattle.cx_lives.specs.Ends.{IsNewIn, IsWorkOf, full_in};
 ghost use Rattle.cx_lives.specs.Works.{IsFullLeft, IsLeftOf, ServedOf, stop_told, stops_left};
 
-use crate::desk::{Desk, End, Turn, Work};
+use crate::desk::{Desk, End, Turn, Work, make, over};
 use cx_base::Gate;
 use cx_service::{Caller, Service};
-use doc_store::DocStore;
-use life_records::{Command, FullLine, Life, StopLine};
+use life_records::{BorrowedLife, Command, FullLine, StopLine};
 use std::alloc::{AllocError, Global};
 use std::sync::Wait;
+use typed_object::TypedObject;
 
 /// The Full answers to one command, one after another, after which a worker of a life with a cut line leaves its client.
 const FULLS: u64 = 1_000;
@@ -22,8 +22,8 @@ const FULLS: u64 = 1_000;
 /// A client that is not at its end: its desk, the place in the script from which its commands are made, how many it was answered, and
 /// whether it passed the gate before the next one already.
 #[derive(Drop)]
-pub(crate) struct Left {
-    pub(crate) desk: Desk,
+pub(crate) struct Left<Reply> {
+    pub(crate) desk: Desk<Reply>,
     pub(crate) at: usize,
     pub(crate) number: u64,
     pub(crate) begun: bool,
@@ -31,26 +31,26 @@ pub(crate) struct Left {
 
 /// What a worker comes to.
 #[derive(Drop)]
-pub(crate) enum Served {
+pub(crate) enum Served<Reply> {
     /// The client is at its end.
-    Done(Work),
+    Done(Work<Reply>),
     /// The client's next command was last answered Full. The line is the one that it has where it gives up.
-    Full(Left, FullLine),
+    Full(Left<Reply>, FullLine),
 }
 
 /// Makes a client's commands in order, from the first one on until it is stopped, and passes the gate before each and behind it. In a
 /// life with a cut line it leaves the client after 1,000 Full answers one after another. `Err` is want of memory.
-pub(crate) fn serve<R: Wait, G: Gate>(
+pub(crate) fn serve<O: TypedObject, R: Wait, G: Gate>(
     rt: &R,
     alloc: Global,
-    service: &Service<DocStore>,
-    life: &Life,
+    service: &Service<O>,
+    life: &BorrowedLife<'_, O::Op>,
     gate: &G,
     caller: Caller,
-) -> Result<Served, AllocError>
+) -> Result<Served<O::Reply>, AllocError>
     requires new { IsNewIn life.now service.now caller }
-    requires life { IsLifeInLimits life.now }
-    ensures { IfOk result (ServedOf life.now service.now caller.known.local.number) }
+    requires life { IsLifeInLimits (O.meaning service.now.object).is_op 8 life.now }
+    ensures { IfOk result (ServedOf (O.meaning service.now.object) life.now service.now caller.known.local.number) }
 {
     let desk = Desk {
         caller,
@@ -67,8 +67,8 @@ pub(crate) fn serve<R: Wait, G: Gate>(
 }
 
 // The Full answers after which a worker leaves its client, where the life has a cut line.
-fn most_fulls(life: &Life) -> Option<u64> {
-    if life.cuts.is_empty() {
+fn most_fulls<Op>(life: &BorrowedLife<'_, Op>) -> Option<u64> {
+    if life.cuts().is_empty() {
         None
     } else {
         Some(FULLS)
@@ -76,18 +76,18 @@ fn most_fulls(life: &Life) -> Option<u64> {
 }
 
 // Makes the commands that are left, until one is answered Full `most` times one after another.
-fn serve_on<R: Wait, G: Gate>(
+fn serve_on<O: TypedObject, R: Wait, G: Gate>(
     rt: &R,
     alloc: Global,
-    service: &Service<DocStore>,
-    life: &Life,
+    service: &Service<O>,
+    life: &BorrowedLife<'_, O::Op>,
     gate: &G,
-    left: Left,
+    left: Left<O::Reply>,
     most: Option<u64>,
-) -> Result<Served, AllocError>
-    requires left { IsLeftOf life.now service.now left.desk.caller.known.local.number left }
-    requires life { IsLifeInLimits life.now }
-    ensures { IfOk result (ServedOf life.now service.now left.desk.caller.known.local.number) }
+) -> Result<Served<O::Reply>, AllocError>
+    requires left { IsLeftOf (O.meaning service.now.object) life.now service.now left.desk.caller.known.local.number left }
+    requires life { IsLifeInLimits (O.meaning service.now.object).is_op 8 life.now }
+    ensures { IfOk result (ServedOf (O.meaning service.now.object) life.now service.now left.desk.caller.known.local.number) }
 {
     let client = left.desk.caller.number();
     let Left {
@@ -96,13 +96,13 @@ fn serve_on<R: Wait, G: Gate>(
         mut number,
         mut begun,
     } = left;
-    let commands = life.commands.as_slice();
+    let commands = life.commands();
     for at in first..commands.len() {
         let command = command_at(commands, at);
         if command.client == client {
             let next = number + 1;
             pass_before(gate, client, next, begun);
-            let turn = desk.make(rt, alloc, service, life, next, command, most)?;
+            let turn = make(rt, alloc, service, life, desk, next, command, most)?;
             pass_behind(gate, client, next, &turn);
             match turn {
                 Turn::Next(back) => {
@@ -128,7 +128,7 @@ fn serve_on<R: Wait, G: Gate>(
             }
         }
     }
-    Ok(Served::Done(desk.over(End::Whole)))
+    Ok(Served::Done(over(desk, End::Whole)))
 }
 
 // Passes the gate before a command, unless the client did so already.
@@ -139,7 +139,7 @@ fn pass_before<G: Gate>(gate: &G, client: u32, number: u64, begun: bool) {
 }
 
 // Passes the gate behind a command, unless it is still to be made.
-fn pass_behind<G: Gate>(gate: &G, client: u32, number: u64, turn: &Turn) {
+fn pass_behind<G: Gate, Reply>(gate: &G, client: u32, number: u64, turn: &Turn<Reply>) {
     match turn {
         Turn::Next(_) | Turn::Over(_) => gate.pass(client, number, true),
         Turn::Full(..) => {}
@@ -148,19 +148,19 @@ fn pass_behind<G: Gate>(gate: &G, client: u32, number: u64, turn: &Turn) {
 
 /// Goes on with a client that was left, until it is at its end. It gives up a command only where the client that keeps its cells was
 /// stopped: where that has one of these stop lines or one in the rest of the works. `Err` is want of memory.
-pub(crate) fn go_on<R: Wait, G: Gate>(
+pub(crate) fn go_on<O: TypedObject, R: Wait, G: Gate>(
     rt: &R,
     alloc: Global,
-    service: &Service<DocStore>,
-    life: &Life,
+    service: &Service<O>,
+    life: &BorrowedLife<'_, O::Op>,
     gate: &G,
-    left: Left,
+    left: Left<O::Reply>,
     stops: &[StopLine],
-    rest: &[Result<Served, AllocError>],
-) -> Result<Work, AllocError>
-    requires left { IsLeftOf life.now service.now left.desk.caller.known.local.number left }
-    requires life { IsLifeInLimits life.now }
-    ensures work { IfOk result (IsWorkOf life.now service.now left.desk.caller.known.local.number) }
+    rest: &[Result<Served<O::Reply>, AllocError>],
+) -> Result<Work<O::Reply>, AllocError>
+    requires left { IsLeftOf (O.meaning service.now.object) life.now service.now left.desk.caller.known.local.number left }
+    requires life { IsLifeInLimits (O.meaning service.now.object).is_op 8 life.now }
+    ensures work { IfOk result (IsWorkOf (O.meaning service.now.object) life.now service.now left.desk.caller.known.local.number) }
     ensures stopped { IfOk result (λ work. All (λ line. is_stopped line.note.holder (stops.now ++ stops_left rest.now) ≡ true) (full_in work.end)) }
 {
     let mut left = left;
@@ -179,18 +179,22 @@ pub(crate) fn go_on<R: Wait, G: Gate>(
 }
 
 // The end of a client that gives up, behind its command.
-fn give_up<G: Gate>(gate: &G, left: Left, line: FullLine) -> Work
+fn give_up<G: Gate, Reply: Drop>(gate: &G, left: Left<Reply>, line: FullLine) -> Work<Reply>
     ensures handed { result.handed ≡ Idle left.desk.caller }
     ensures entries { result.entries ≡ left.desk.entries }
     ensures reads { result.reads ≡ left.desk.reads }
     ensures end_is { result.end ≡ Full line }
 {
     gate.pass(line.client, line.command, true);
-    left.desk.over(End::Full(line))
+    over(left.desk, End::Full(line))
 }
 
 // Whether a client was stopped, as one of these lines says or the rest of the works.
-fn has_stopped(stops: &[StopLine], rest: &[Result<Served, AllocError>], client: u32) -> bool
+fn has_stopped<Reply>(
+    stops: &[StopLine],
+    rest: &[Result<Served<Reply>, AllocError>],
+    client: u32,
+) -> bool
     ensures { result ≡ is_stopped client (stops.now ++ stops_left rest.now) }
 {
     is_told(stops, client) || is_left(rest, client)
@@ -203,7 +207,7 @@ fn is_told(stops: &[StopLine], client: u32) -> bool
 }
 
 #[tactic(auto, using(crate::proofs::Leaving::stopped_here, crate::proofs::Leaving::stopped_later, crate::proofs::Leaving::stopped_never))]
-fn is_left(rest: &[Result<Served, AllocError>], client: u32) -> bool
+fn is_left<Reply>(rest: &[Result<Served<Reply>, AllocError>], client: u32) -> bool
     ensures { result ≡ is_stopped client (stops_left rest.now) }
 {
     for served in rest {
@@ -215,7 +219,7 @@ fn is_left(rest: &[Result<Served, AllocError>], client: u32) -> bool
 }
 
 // Whether a worker's client is this one and was stopped.
-fn tells_stop(served: &Result<Served, AllocError>, client: u32) -> bool
+fn tells_stop<Reply>(served: &Result<Served<Reply>, AllocError>, client: u32) -> bool
     ensures { result ≡ is_stopped client (stop_told served.now) }
 {
     match served {
@@ -228,7 +232,7 @@ fn tells_stop(served: &Result<Served, AllocError>, client: u32) -> bool
 }
 
 // The command at a place of the script. Commands are made in the order of these places.
-fn command_at(commands: &[Command], at: usize) -> &Command
+fn command_at<Op>(commands: &[Command<Op>], at: usize) -> &Command<Op>
     requires { at < length commands.now }
     ensures { slice_get commands.now at ≡ Some result.now }
 {

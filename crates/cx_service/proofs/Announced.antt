@@ -7,7 +7,7 @@ use Rattle.cx_rule.specs.Running.{Running}
 use Rattle.cx_rule.specs.Seats.{Seated}
 use Rattle.mutation_queue.specs.Cells.{HaltsIn, differing}
 use Rattle.cx_service.specs.Callers.{IsCallerOf, unlinked}
-use Rattle.cx_service.specs.Submits.{SubmitHalted}
+use Rattle.cx_service.specs.Submits.{HaltsEntering}
 use Rattle.cx_service.proofs.Entering.{beside_submit, halts, stale}
 
 -- two lists differ at no more places than there are
@@ -23,14 +23,17 @@ some_differ (x ∷ xs) (y ∷ ys) =
       | inr ne ↦ (let other = ap count (ne_eqb x y ne) in omega (arith, other, rest))
     ]
 
-pub halted_in : {O : Type 0} (r : Running O) (j most number : ℕ) (op : List ℕ) (s t : Seated) → IsCallerOf r (stale s) → 145 ≤ most → length op ≡ 144 → HaltsIn j (number ∷ op) s t → SubmitHalted r most (stale s) (unlinked t)
-halted_in r j most number op s t caller many long halted =
+pub halted_in : {O : Type 0} (r : Running O) (j most number : ℕ) (op : List ℕ) (s t : Seated) → IsCallerOf r (stale s) → 145 ≤ most → length op ≡ 144 → (tries : ℕ) → HaltsIn j (number ∷ op) s t → HaltsEntering r tries most (stale s) (unlinked t)
+halted_in r j most number op s t caller many long tries halted =
     let limit = ap (λ (x : Seated). x.known.local.limit) halted.rest in
     let few = some_differ (drop 1 (cell_of s.known.local j).words) op in
-    let front = ap (λ (x : Seated). x.known.local.front) halted.rest in
-    halts r (stale s) t (ap beside_submit halted.rest) most caller (ap (λ (x : Seated). x.known.local.own) halted.rest) (omega (arith, front))
-    (omega (arith, limit, few, halted.limit.0, halted.short, many, long))
-    halted.limit
+    let front = ap (λ (x : Seated). x.known.local.front) halted.rest in (
+      halts r (stale s) t (ap beside_submit halted.rest) most caller (ap (λ (x : Seated). x.known.local.own) halted.rest) (omega (arith, front))
+          (omega (arith, limit, few, halted.limit.0, halted.short, many, long))
+          (λ k within idle. record { free = ap (λ (x : Seated). x.known.local.seen_free) halted.rest; scans = ap (λ (x : Seated). x.known.local.scans) halted.rest })
+          halted.limit,
+      inl (ap (λ (x : Seated). x.known.local.seen_slot) halted.rest),
+    )
 
 -- what holds in any case holds of an error
 pub if_any_err : {A E P : Type 0} (r : Result A E) → P → OnErr r P

@@ -1,5 +1,5 @@
 -- A caller announces an operation in an idle cell, and tries to link it.
-use Rattle.std.proofs.Common.{◌≡◌, ◌≢◌, ◌+◌, ◌<◌, ◌≤◌, ℕ, false, List, [], ◌∷◌, ◌++◌, length, get_or, slice_index, slice_range, take_all, refl, sym, ap, subst, ◌∙◌, inl, inr, arith, Some, None, length-append}
+use Rattle.std.proofs.Common.{◌≡◌, ◌≢◌, ◌+◌, ◌<◌, ◌≤◌, ℕ, min, false, List, [], ◌∷◌, ◌++◌, length, get_or, slice_index, slice_range, take_all, refl, sym, ap, subst, ◌∙◌, inl, inr, arith, Some, None, length-append}
 use Rattle.std.specs.List.{slice_get}
 use Rattle.std.specs.Option.{option_map}
 use Rattle.std.proofs.Math.ListN.{get_or-eq_default}
@@ -9,16 +9,18 @@ use Rattle.std.proofs.lemmas.Option.{none-some, slice_get_past}
 use Rattle.cx_base.specs.Codes.{root_place_of}
 use Rattle.cx_core.specs.declared.local.Cell.{Cell}
 use Rattle.cx_core.specs.declared.local.Linked.{Linked}
-use Rattle.cx_core.specs.QueueEvents.{IsIdleAt, cell_of, entry_in, next_number}
+use Rattle.cx_core.specs.Layout.{max_word}
+use Rattle.cx_core.specs.QueueEvents.{IsIdle, IsIdleAt, cell_of, entry_in, next_number}
 use Rattle.cx_core.specs.Region.{slot_number}
 use Rattle.cx_core.proofs.Locals.{slice_get-last}
 use Rattle.cx_rule.specs.Running.{IsSeatOf, Running}
 use Rattle.cx_rule.specs.Seats.{IsAtLimit, Seated, unanswered_ticket}
 use Rattle.mutation_queue.specs.declared.linking.LinkTried.{LinkTried}
 use Rattle.mutation_queue.specs.declared.linking.LinkTried.TheVariants.{Again, Linked as LinkedAt, Worn}
-use Rattle.mutation_queue.specs.Links.{LinksAgain, LinksAt, LinksNone, IsWorn, Tried}
+use Rattle.mutation_queue.specs.Cells.{writes}
+use Rattle.mutation_queue.specs.Links.{LinksAgain, LinksAt, LinksNone, LosesTries, IsWorn, Tried}
 use Rattle.cx_service.specs.Callers.{HasOwnCells, IsBetweenCalls, IsCallerOf, IsLinkedOf, unlinked}
-use Rattle.cx_service.specs.Submits.{EntersIn, SubmitAgain, SubmitHalted, SubmitKeeps, SubmitLinked, SubmitWorn, entry_at}
+use Rattle.cx_service.specs.Submits.{EntersIn, LooksForNothing, SubmitAgain, SubmitHalted, SubmitKeeps, SubmitLinked, SubmitWorn, TriesOf, entry_at}
 use Rattle.cx_service.proofs.Cells.{default, own_kept, own_more}
 
 -- what no step of a submit changes: the seat but for its entries, cells, steps and scans, its front, the slot last looked at, what was
@@ -34,8 +36,8 @@ module _ {O : Type 0} (r : Running O) (s v : Seated) (kept : beside_submit v ≡
   number_kept : v.known.local.number ≡ s.known.local.number
   number_kept = ap (λ (x : Seated). x.known.local.number) kept
 
-  pub keeps : (most : ℕ) → s.known.local.front ≤ v.known.local.front → v.known.local.steps ≤ s.known.local.steps + most → SubmitKeeps most s v
-  keeps most front steps = record {
+  pub keeps : (most : ℕ) → s.known.local.front ≤ v.known.local.front → v.known.local.steps ≤ s.known.local.steps + most → ((j : ℕ) → j < 16 → IsIdle s.known.local j → LooksForNothing s v) → SubmitKeeps most s v
+  keeps most front steps idle = record {
     number = number_kept;
     limit = ap (λ (x : Seated). x.known.local.limit) kept;
     answered = ap (λ (x : Seated). x.known.local.answered) kept;
@@ -43,6 +45,7 @@ module _ {O : Type 0} (r : Running O) (s v : Seated) (kept : beside_submit v ≡
     met = ap (λ (x : Seated). x.known.local.met) kept;
     front = front;
     steps = steps;
+    idle = idle;
   }
 
   -- it is still the seat of its caller
@@ -79,11 +82,12 @@ module _ {O : Type 0} (r : Running O) (s v : Seated) (kept : beside_submit v ≡
   none_unanswered : (xs : List Linked) (n : ℕ) → length xs ≤ n → option_map (λ (x : Linked). x.ticket) (slice_get xs n) ≡ None
   none_unanswered xs n past = ap (option_map (λ (x : Linked). x.ticket)) (slice_get_past xs n past)
 
-  pub halts : (most : ℕ) → IsCallerOf r s → v.known.local.own ≡ s.known.local.own → s.known.local.front ≤ v.known.local.front → v.known.local.steps ≤ s.known.local.steps + most → IsAtLimit v.known.local → SubmitHalted r most s (unlinked v)
-  halts most caller own front steps limit = record {
+  pub halts : (most : ℕ) → IsCallerOf r s → v.known.local.own ≡ s.known.local.own → s.known.local.front ≤ v.known.local.front → v.known.local.steps ≤ s.known.local.steps + most → ((j : ℕ) → j < 16 → IsIdle s.known.local j → LooksForNothing s v) →
+      IsAtLimit v.known.local → SubmitHalted r most s (unlinked v)
+  halts most caller own front steps idle limit = record {
     caller = record { of = of_kept caller.of; limit = limit };
     linked = refl;
-    keeps = keeps most front steps;
+    keeps = keeps most front steps idle;
     own = own;
     none = none_unanswered v.known.local.own (length v.known.local.answered)
         (let long = ap (λ (x : Seated). length x.known.local.answered) kept in let same = ap (λ (xs : List Linked). length xs) own in omega (arith, long, same, caller.count));
@@ -134,6 +138,10 @@ module _ {O : Type 0} (r : Running O) (j : ℕ) (op : List ℕ) (s t : Seated) (
   same_scans : t.known.local.scans ≡ s.known.local.scans
   same_scans = ap (λ (x : Seated). x.known.local.scans) rest
 
+  -- and nothing is looked for then
+  not_looked : (v : Seated) → v.known.local.seen_free ≡ t.known.local.seen_free → v.known.local.scans ≡ t.known.local.scans → (k : ℕ) → k < 16 → IsIdle s.known.local k → LooksForNothing s v
+  not_looked v free scans k within idle = record { free = free ∙ ap (λ (x : Seated). x.known.local.seen_free) rest; scans = scans ∙ same_scans }
+
   -- nothing was linked
   module _ (v : Seated) (none : LinksNone t v) where
     none_kept : beside_submit v ≡ beside_submit s
@@ -153,25 +161,41 @@ module _ {O : Type 0} (r : Running O) (j : ℕ) (op : List ℕ) (s t : Seated) (
     none_scans : s.known.local.scans ≤ v.known.local.scans
     none_scans = (let e = ap (λ (x : Seated). x.known.local.scans) none.same in omega (arith, e, same_scans))
 
-    pub halts_linking : (most : ℕ) → v.known.local.steps ≤ s.known.local.steps + most → IsAtLimit v.known.local → SubmitHalted r most s (unlinked v)
-    halts_linking most steps limit = halts r s v none_kept most caller none_own (omega (arith, none.front, same_front)) steps limit
+    none_looked : (k : ℕ) → k < 16 → IsIdle s.known.local k → LooksForNothing s v
+    none_looked = not_looked v (ap (λ (x : Seated). x.known.local.seen_free) none.same) (ap (λ (x : Seated). x.known.local.scans) none.same)
 
-  pub again : (tries most : ℕ) (v : Seated) → LinksAgain r.callers tries t v → ¬ IsAtLimit s.known.local → v.known.local.steps ≤ s.known.local.steps + most → SubmitAgain r tries most s v
-  again tries most v links allowed steps = record {
+    pub halts_linking : (most : ℕ) → v.known.local.steps ≤ s.known.local.steps + most → IsAtLimit v.known.local → SubmitHalted r most s (unlinked v)
+    halts_linking most steps limit = halts r s v none_kept most caller none_own (omega (arith, none.front, same_front)) steps none_looked limit
+
+  -- tries were made then
+  pub tries_of : (come_to : Seated → Seated → Type 0) (v : Seated) → min (s.known.local.steps + writes s.known.local j (next_number r.base s.known.local ∷ op)) max_word ≤ t.known.local.steps → come_to t v → TriesOf r come_to s v
+  tries_of come_to v since made =
+      let words : (cell_of t.known.local j).words ≡ next_number r.base s.known.local ∷ op = ap (λ (x : Cell). x.words) cell in record {
+        cell = j;
+        from = t;
+        number = ap (λ ws. slice_index ws 0) words;
+        since = subst (λ ws. min (s.known.local.steps + writes s.known.local j ws) max_word ≤ t.known.local.steps) (sym words) since;
+        made = made;
+      }
+
+  pub again : (tries most : ℕ) (v : Seated) → LinksAgain r.callers tries t v → ¬ IsAtLimit s.known.local → v.known.local.steps ≤ s.known.local.steps + most →
+      min (s.known.local.steps + writes s.known.local j (next_number r.base s.known.local ∷ op)) max_word ≤ t.known.local.steps → SubmitAgain r tries most s v
+  again tries most v links allowed steps since = record {
     caller = none_caller v links.none;
-    keeps = keeps r s v (none_kept v links.none) most (omega (arith, links.none.front, same_front)) steps;
+    keeps = keeps r s v (none_kept v links.none) most (omega (arith, links.none.front, same_front)) steps (none_looked v links.none);
     allowed = allowed;
     scans = none_scans v links.none;
     own = none_own v links.none;
     front = omega (arith, links.front, same_front);
     cur = (let e = ap (λ (x : Seated). root_place_of r.callers x.known.local.seen_cur) links.none.same in omega (arith, e, links.cur));
+    lost = tries_of (LosesTries r.callers tries) v since links.lost;
     left = links.left;
   }
 
   pub worn : (most : ℕ) (v : Seated) → IsWorn t v → ¬ IsAtLimit s.known.local → v.known.local.steps ≤ s.known.local.steps + most → SubmitWorn r most s v
   worn most v links allowed steps = record {
     caller = none_caller v links.none;
-    keeps = keeps r s v (none_kept v links.none) most (omega (arith, links.none.front, same_front)) steps;
+    keeps = keeps r s v (none_kept v links.none) most (omega (arith, links.none.front, same_front)) steps (none_looked v links.none);
     allowed = allowed;
     scans = none_scans v links.none;
     own = none_own v links.none;
@@ -244,7 +268,7 @@ module _ {O : Type 0} (r : Running O) (j : ℕ) (op : List ℕ) (s t : Seated) (
   pub linked_at : (ticket most : ℕ) (v : Seated) → LinksAt j ticket t v → ¬ IsAtLimit s.known.local → v.known.local.steps ≤ s.known.local.steps + most → SubmitLinked r op most s v
   linked_at ticket most v at allowed steps = record {
     caller = at_caller ticket v at;
-    keeps = keeps r s v (at_kept ticket v at) most (omega (arith, at.from, at.front, same_front)) steps;
+    keeps = keeps r s v (at_kept ticket v at) most (omega (arith, at.from, at.front, same_front)) steps (not_looked v (ap (λ (x : Seated). x.known.local.seen_free) at.same) (ap (λ (x : Seated). x.known.local.scans) at.same));
     allowed = allowed;
     scans = (let e = ap (λ (x : Seated). x.known.local.scans) at.same in omega (arith, e, same_scans));
     ticket = ticket;
@@ -255,7 +279,8 @@ module _ {O : Type 0} (r : Running O) (j : ℕ) (op : List ℕ) (s t : Seated) (
   }
 
   -- what tries to link it come to
-  pub entered : (tries most : ℕ) (v : Seated) (tried : LinkTried) → Tried r.callers j tries t v tried → ¬ IsAtLimit s.known.local → v.known.local.steps ≤ s.known.local.steps + most → EntersIn most r op tries s v tried
-  entered tries most v (LinkedAt ticket) links allowed steps = linked_at ticket most v links allowed steps
-  entered tries most v Again links allowed steps = again tries most v links allowed steps
-  entered tries most v Worn links allowed steps = worn most v links allowed steps
+  pub entered : (tries most : ℕ) (v : Seated) (tried : LinkTried) → Tried r.callers j tries t v tried → ¬ IsAtLimit s.known.local → v.known.local.steps ≤ s.known.local.steps + most →
+      min (s.known.local.steps + writes s.known.local j (next_number r.base s.known.local ∷ op)) max_word ≤ t.known.local.steps → EntersIn most r op tries s v tried
+  entered tries most v (LinkedAt ticket) links allowed steps since = linked_at ticket most v links allowed steps
+  entered tries most v Again links allowed steps since = again tries most v links allowed steps since
+  entered tries most v Worn links allowed steps since = worn most v links allowed steps

@@ -1,5 +1,5 @@
 -- A cell is looked for before an operation is announced.
-use Rattle.std.proofs.Common.{◌≡◌, ◌+◌, ◌<◌, ◌≤◌, ◌^◌, ℕ, false, List, [], ◌∷◌, ◌++◌, length, refl, sym, ap, subst, ◌∙◌, arith, slice_index, slice_get, Some, None, Result, Ok, Err}
+use Rattle.std.proofs.Common.{◌≡◌, ◌+◌, ◌<◌, ◌≤◌, ◌⊎◌, ◌^◌, inl, inr, ℕ, min, false, List, [], ◌∷◌, ◌++◌, length, refl, sym, ap, subst, ◌∙◌, arith, slice_index, slice_get, Option, Some, None, Result, Ok, Err}
 use Rattle.std.proofs.lemmas.List.{append-nil}
 use Rattle.std.proofs.lemmas.Option.{same_Some}
 use Rattle.cx_base.specs.Codes.{root_place_of}
@@ -7,15 +7,17 @@ use Rattle.cx_core.specs.declared.kinds.Kind.TheVariants.{LoadCur, LoadFree}
 use Rattle.cx_core.specs.declared.local.Cell.{Cell}
 use Rattle.cx_core.specs.declared.local.Linked.{Linked}
 use Rattle.cx_core.specs.Layout.{max_word}
+use Rattle.cx_core.specs.Region.{slot_number}
 use Rattle.cx_core.specs.RingEvents.{need_word}
 use Rattle.cx_core.specs.State.{Instance, one_more}
 use Rattle.cx_rule.specs.declared.rule.Noted.{Noted}
-use Rattle.mutation_queue.specs.Cells.{IsInUse}
+use Rattle.mutation_queue.specs.Cells.{IsInUse, IsInUseAt, writes}
+use Rattle.mutation_queue.specs.Links.{EndsBy, HaltsTry, LosesTries}
 use Rattle.mutation_queue.specs.Collecting.{Collects, but_collected}
 use Rattle.mutation_queue.specs.declared.collecting.Collected.{Collected}
 use Rattle.mutation_queue.specs.declared.linking.LinkTried.{LinkTried}
 use Rattle.mutation_queue.specs.declared.linking.LinkTried.TheVariants.{Again as TriedAgain, Linked as TriedLinked, Worn as TriedWorn}
-use Rattle.cx_core.specs.QueueEvents.{cell_of}
+use Rattle.cx_core.specs.QueueEvents.{IsIdle, IsIdleAt, cell_of}
 use Rattle.cx_rule.specs.Rule.{IsLawfulLocal}
 use Rattle.cx_rule.specs.Running.{Running}
 use Rattle.cx_rule.specs.Seats.{IsAtLimit, Seated, stepped}
@@ -23,7 +25,7 @@ use Rattle.cx_core.specs.declared.local.FullNote.{FullNote}
 use Rattle.cx_service.specs.declared.submit.Submitted.{Submitted}
 use Rattle.cx_service.specs.declared.submit.Submitted.TheVariants.{Linked as LinkedIs, Again, Full, Worn, Halted}
 use Rattle.cx_service.specs.Callers.{IsCallerOf, unlinked}
-use Rattle.cx_service.specs.Submits.{AreTickets, EndsLooking, Enters, EntersIn, FindsCell, FindsNone, LooksForCell, NamesHolder, SubmitFull, SubmitHalted, SubmitKeeps, SubmitsIn, entry_at}
+use Rattle.cx_service.specs.Submits.{AreInUse, AreTickets, EndsLooking, Enters, EntersIn, FindsCell, FindsNone, HaltsEntering, HaltsLooking, IsTrying, LooksForCell, LooksForNothing, NamesHolder, SubmitFull, SubmitKeeps, SubmitsIn, TriesOf, entry_at}
 use Rattle.cx_service.proofs.Cells.{answered_below, many_own, own_kept, used_ticket}
 use Rattle.cx_service.proofs.Entering.{beside_submit, between, halts, keeps, stale}
 
@@ -35,7 +37,20 @@ pub record Precedes (more : ℕ) (s t : Seated) : Type 0 where
   pub front : s.known.local.front ≤ t.known.local.front
   pub scans : s.known.local.scans ≤ t.known.local.scans
   pub steps : t.known.local.steps ≤ s.known.local.steps + more
+  pub since : min s.known.local.steps max_word ≤ t.known.local.steps
+  pub slot : t.known.local.seen_slot ≡ s.known.local.seen_slot
+  pub idle : (j : ℕ) → j < 16 → IsIdle s.known.local j → LooksForNothing s t
   pub stood : IsAtLimit s.known.local → t ≡ s
+
+-- a cell is not idle and in use
+not_both : (free : ℕ) (o : Option ℕ) → IsIdleAt free o → IsInUseAt free o → ⊥
+not_both free None idle used = used
+not_both free (Some t) idle used = omega (arith, idle, used)
+
+-- where one is idle nothing was looked for
+looked_idle : (s t : Seated) → AreInUse s.known.local ⊎ (t ≡ s) → (j : ℕ) → j < 16 → IsIdle s.known.local j → LooksForNothing s t
+looked_idle s t (inl used) j within idle = absurd (not_both s.known.local.seen_free (cell_of s.known.local j).ticket idle (used j within))
+looked_idle s t (inr same) j within idle = record { free = ap (λ (x : Seated). x.known.local.seen_free) same; scans = ap (λ (x : Seated). x.known.local.scans) same }
 
 -- what looking for a cell leaves
 module _ (most : ℕ) (s t : Seated) (looked : LooksForCell most s t) where
@@ -51,8 +66,11 @@ module _ (most : ℕ) (s t : Seated) (looked : LooksForCell most s t) where
   pub looked_front : t.known.local.front ≡ s.known.local.front
   looked_front = ap (λ (x : Seated). x.known.local.front) looked.same
 
-  pub looked_first : EndsLooking s t → (IsAtLimit s.known.local → t ≡ s) → Precedes most s t
-  looked_first ends stood = record { kept = looked_kept; own = looked_own; cells = looked_cells; front = omega (arith, looked_front); scans = ends.scans; steps = looked.steps; stood = stood }
+  looked_slot : t.known.local.seen_slot ≡ s.known.local.seen_slot
+  looked_slot = ap (λ (x : Seated). x.known.local.seen_slot) looked.same
+
+  pub looked_first : EndsLooking s t → AreInUse s.known.local ⊎ (t ≡ s) → (IsAtLimit s.known.local → t ≡ s) → Precedes most s t
+  looked_first ends used stood = record { kept = looked_kept; own = looked_own; cells = looked_cells; front = omega (arith, looked_front); scans = ends.scans; steps = looked.steps; since = ends.since; slot = looked_slot; idle = looked_idle s t used; stood = stood }
 
 module _ {O : Type 0} (r : Running O) (more : ℕ) (s t : Seated) (first : Precedes more s t) where
   -- its caller is in no call
@@ -78,12 +96,35 @@ module _ {O : Type 0} (r : Running O) (more : ℕ) (s t : Seated) (first : Prece
     met = after.met ∙ ap (λ (x : Seated). x.known.local.met) first.kept;
     front = omega (arith, after.front, first.front);
     steps = omega (arith, after.steps, first.steps, most);
+    idle = λ j within idle. (
+        let none = first.idle j within idle in
+        let still : IsIdle t.known.local j = subst (λ (cells : List Cell). IsIdleAt t.known.local.seen_free (cell_of (record s.known.local { cells = cells }) j).ticket) (sym first.cells) (subst (λ n. IsIdleAt n (cell_of s.known.local j).ticket) (sym none.free) idle) in
+        let last = after.idle j within still in
+        record { free = last.free ∙ none.free; scans = last.scans ∙ none.scans });
   }
 
   same_entry : (op : List ℕ) (ticket : ℕ) → entry_at r t.known.local op ticket ≡ entry_at r s.known.local op ticket
   same_entry op ticket =
       ap (λ c. entry_at r (record t.known.local { number = c }) op ticket) (ap (λ (x : Seated). x.known.local.number) first.kept)
       ∙ ap (λ own. entry_at r (record s.known.local { own = own }) op ticket) first.own
+
+  -- tries from there are of the submit from the beginning
+  tries_then : (come_to : Seated → Seated → Type 0) (v : Seated) → TriesOf r come_to t v → TriesOf r come_to s v
+  tries_then come_to v tried =
+      let words = (cell_of tried.from.known.local tried.cell).words in
+      let same : writes s.known.local tried.cell words ≡ writes t.known.local tried.cell words = ap (λ (cells : List Cell). writes (record s.known.local { cells = cells }) tried.cell words) (sym first.cells) in record {
+        cell = tried.cell;
+        from = tried.from;
+        number = tried.number
+            ∙ ap (λ (n : ℕ). slot_number n r.base.words + length t.known.local.own + 1) (ap (λ (x : Seated). x.known.local.number) first.kept)
+            ∙ ap (λ (own : List Linked). slot_number s.known.local.number r.base.words + length own + 1) first.own;
+        since = omega (arith, tried.since, first.since, same);
+        made = tried.made;
+      }
+
+  trying_then : (tries : ℕ) (v : Seated) → IsTrying r tries t v → IsTrying r tries s v
+  trying_then tries v (inl none) = inl (none ∙ first.slot)
+  trying_then tries v (inr some) = inr (tries_then (EndsBy r.callers tries (HaltsTry r.callers)) v some)
 
   -- what an entry from there comes to is what a submit from the beginning does
   pub submits_then : (op : List ℕ) (tries m n : ℕ) (result : Submitted) → m + more ≤ n → Enters m r op tries t result → SubmitsIn n r op tries s result
@@ -106,6 +147,7 @@ module _ {O : Type 0} (r : Running O) (more : ℕ) (s t : Seated) (first : Prece
     own = after.own ∙ first.own;
     front = omega (arith, after.front, first.front);
     cur = after.cur;
+    lost = tries_then (LosesTries r.callers tries) v after.lost;
     left = after.left;
   }
   submits_then op tries m n (Full v note) most after = absurd after
@@ -118,13 +160,16 @@ module _ {O : Type 0} (r : Running O) (more : ℕ) (s t : Seated) (first : Prece
     front = after.front;
     idle = after.idle;
   }
-  submits_then op tries m n (Halted v) most after = record {
-    caller = after.caller;
-    linked = after.linked;
-    keeps = keeps_then m n v.seat most after.keeps;
-    own = after.own ∙ first.own;
-    none = after.none;
-  }
+  submits_then op tries m n (Halted v) most after = (let halted = after.0 in (
+    record {
+      caller = halted.caller;
+      linked = halted.linked;
+      keeps = keeps_then m n v.seat most halted.keeps;
+      own = halted.own ∙ first.own;
+      none = halted.none;
+    },
+    trying_then tries v.seat after.1,
+  ))
 
   pub enters_then : (op : List ℕ) (tries m n : ℕ) (v : Seated) (tried : LinkTried) → m + more ≤ n → EntersIn m r op tries t v tried → EntersIn n r op tries s v tried
   enters_then op tries m n v (TriedLinked ticket) most after = submits_then op tries m n (LinkedIs v) most after
@@ -143,6 +188,9 @@ cur_loaded instance s t found made allowed =
       front = omega (arith, front);
       scans = (let e = ap (λ (x : Seated). x.known.local.scans) made in omega (arith, e));
       steps = omega (arith, steps);
+      since = omega (arith, steps);
+      slot = ap (λ (x : Seated). x.known.local.seen_slot) made;
+      idle = λ j within idle. record { free = ap (λ (x : Seated). x.known.local.seen_free) made; scans = ap (λ (x : Seated). x.known.local.scans) made };
       stood = λ at. absurd (allowed at);
     }
 
@@ -165,6 +213,7 @@ free_ends r instance s t found made caller = record {
   scan = ap (λ (x : Seated). x.known.local.scan) made ∙ caller.rest.scan;
   fresh = ap (λ (x : Seated). x.known.local.fresh) made ∙ caller.rest.fresh;
   scans = (let e = ap (λ (x : Seated). x.known.local.scans) made in omega (arith, e));
+  since = (let e = ap (λ (x : Seated). x.known.local.steps) made in omega (arith, e));
 }
 
 -- nothing was done
@@ -172,18 +221,18 @@ pub none_looked : (most : ℕ) (s : Seated) → LooksForCell most s s
 none_looked most s = record { same = refl; steps = omega arith }
 
 pub none_ends : {O : Type 0} (r : Running O) (s : Seated) → IsCallerOf r s → EndsLooking s s
-none_ends r s caller = record { scan = caller.rest.scan; fresh = caller.rest.fresh; scans = omega arith }
+none_ends r s caller = record { scan = caller.rest.scan; fresh = caller.rest.fresh; scans = omega arith; since = omega arith }
 
 -- one look after another
 pub looked_then : (m n k : ℕ) (s t v : Seated) → m + n ≤ k → LooksForCell m s t → LooksForCell n t v → LooksForCell k s v
 looked_then m n k s t v most a b = record { same = b.same ∙ a.same; steps = omega (arith, most, a.steps, b.steps) }
 
 pub ends_then : (s t v : Seated) → EndsLooking s t → EndsLooking t v → EndsLooking s v
-ends_then s t v a b = record { scan = b.scan; fresh = b.fresh; scans = omega (arith, a.scans, b.scans) }
+ends_then s t v a b = record { scan = b.scan; fresh = b.fresh; scans = omega (arith, a.scans, b.scans); since = omega (arith, a.since, b.since) }
 
-pub finds_then : (callers : ℕ) (s t v : Seated) (found : Result ℕ FullNote) → ¬ IsAtLimit s.known.local → EndsLooking s t → t.known.local.scans ≡ s.known.local.scans → FindsCell callers t v found → FindsCell callers s v found
-finds_then callers s t v (Ok cell) free ends scans finds = record { ends = ends_then s t v ends finds.ends; within = finds.within; idle = finds.idle }
-finds_then callers s t v (Err note) free ends scans finds = record { ends = ends_then s t v ends finds.ends; scans = finds.scans ∙ ap one_more scans; allowed = free; names = finds.names }
+pub finds_then : (callers : ℕ) (s t v : Seated) (found : Result ℕ FullNote) → AreInUse s.known.local → ¬ IsAtLimit s.known.local → EndsLooking s t → t.known.local.scans ≡ s.known.local.scans → FindsCell callers t v found → FindsCell callers s v found
+finds_then callers s t v (Ok cell) used free ends scans finds = record { ends = ends_then s t v ends finds.ends; stood = inl used; within = finds.within; idle = finds.idle }
+finds_then callers s t v (Err note) used free ends scans finds = record { ends = ends_then s t v ends finds.ends; used = used; scans = finds.scans ∙ ap one_more scans; allowed = free; names = finds.names }
 
 -- a caller with all cells in use
 module _ {O : Type 0} (r : Running O) (s : Seated) (tickets : List ℕ) (caller : IsCallerOf r s) (are : AreTickets s.known.local tickets) where
@@ -245,21 +294,21 @@ module _ {O : Type 0} (r : Running O) (s : Seated) (tickets : List ℕ) (caller 
 
 -- a scan that ended
 pub collect_ends : (callers target : ℕ) (s v : Seated) (found : Collected) → s.known.local.scans ≤ max_word → Collects callers target s v found → EndsLooking s v
-collect_ends callers target s v found small collects = record { scan = collects.scan; fresh = collects.fresh; scans = (let e = collects.scans in omega (arith, small, e)) }
+collect_ends callers target s v found small collects = record { scan = collects.scan; fresh = collects.fresh; scans = (let e = collects.scans in omega (arith, small, e)); since = (let e = collects.count in omega (arith, e)) }
 
 -- the limit was come to
-pub halts_looking : {O : Type 0} (r : Running O) (most n : ℕ) (s t : Seated) → IsCallerOf r s → LooksForCell n s t → n ≤ most → IsAtLimit t.known.local → SubmitHalted r most s (unlinked t)
-halts_looking r most n s t caller looked few limit =
+pub halts_looking : {O : Type 0} (r : Running O) (most n : ℕ) (s t : Seated) → IsCallerOf r s → LooksForCell n s t → n ≤ most → (tries : ℕ) → HaltsLooking s t → HaltsEntering r tries most s (unlinked t)
+halts_looking r most n s t caller looked few tries halted =
     let front = looked_front n s t looked in
-    halts r s t (looked_kept n s t looked) most caller (looked_own n s t looked) (omega (arith, front)) (omega (arith, looked.steps, few)) limit
+    (halts r s t (looked_kept n s t looked) most caller (looked_own n s t looked) (omega (arith, front)) (omega (arith, looked.steps, few)) (looked_idle s t (inl halted.used)) halted.limit, inl (ap (λ (x : Seated). x.known.local.seen_slot) looked.same))
 
 -- no cell is idle
 pub full_there : {O : Type 0} (r : Running O) (most n : ℕ) (s t : Seated) (note : FullNote) → LooksForCell n s t → IsCallerOf r s → FindsNone r.callers s t note → n ≤ most → SubmitFull r most s t note
 full_there r most n s t note looked caller none few =
-    let first = looked_first n s t looked none.ends (λ at. absurd (none.allowed at)) in
+    let first = looked_first n s t looked none.ends (inl none.used) (λ at. absurd (none.allowed at)) in
     let now = caller_then r n s t first caller none.ends.fresh none.ends.scan in record {
       caller = now;
-      keeps = keeps r s t first.kept most first.front (omega (arith, first.steps, few));
+      keeps = keeps r s t first.kept most first.front (omega (arith, first.steps, few)) first.idle;
       allowed = none.allowed;
       own = first.own;
       scans = none.scans;

@@ -1,5 +1,5 @@
 -- What turns for an entry, and for a read, leave of their caller, and what turns come to one after another.
-use Rattle.std.proofs.Common.{◌≡◌, ◌+◌, ◌≤◌, ◌⊎◌, inl, inr, ℕ, List, [], length, refl, ap, sym, subst, ◌∙◌, arith, Some, None, length-append}
+use Rattle.std.proofs.Common.{◌≡◌, ◌+◌, ◌<◌, ◌≤◌, ◌⊎◌, inl, inr, ℕ, List, [], length, refl, ap, sym, subst, ◌∙◌, arith, Some, None, length-append}
 use Rattle.std.proofs.lemmas.Bool.{cases_lt}
 use Rattle.std.proofs.lemmas.Option.{slice_get_past}
 use Rattle.std.specs.List.{slice_get}
@@ -14,8 +14,8 @@ use Rattle.cx_core.specs.State.{one_more}
 use Rattle.cx_rule.specs.Running.{IsSeatOf, Running}
 use Rattle.cx_rule.specs.Seats.{IsAtLimit, Seated, unanswered_ticket}
 use Rattle.cx_service.specs.Callers.{IsBetweenCalls, IsCallerOf, IsLinkedOf, StoppedSeat}
-use Rattle.cx_service.specs.Drives.{DriveDone, DriveHalted, DriveKeeps, DrivePending, MeetsMore}
-use Rattle.cx_service.specs.Lookups.{ReadAnswered, ReadHalted, ReadKeeps, ReadPending}
+use Rattle.cx_service.specs.Drives.{DriveDone, DriveHalted, DriveKeeps, DrivePending, MeetsAtMost, MeetsMore}
+use Rattle.cx_service.specs.Lookups.{MeetsFewer, ReadAnswered, ReadHalted, ReadKeeps, ReadPending}
 use Rattle.cx_service.proofs.Cells.{own_kept}
 use Rattle.cx_turns.specs.Answering.{AnswersEntry, AnswersRead, HaltsFor, beside_lookup, beside_update, with_answer, with_read}
 use Rattle.cx_turns.specs.declared.lookup.Seen.{Seen}
@@ -32,10 +32,13 @@ meets_one s v is =
 rises_one : (s v : Seated) → s.known.local.met ≤ max_word → v.known.local.met ≡ one_more s.known.local.met → s.known.local.met ≤ v.known.local.met
 rises_one s v small is = omega (arith, small, is)
 
-pub meets_then : (n : ℕ) (s u v : Seated) → MeetsMore n s u → MeetsMore 1 u v → MeetsMore (n + 1) s v
-meets_then n s u v (inl a) (inl b) = inl (omega (arith, a, b))
-meets_then n s u v (inr a) (inl b) = inr (omega (arith, a, b))
-meets_then n s u v a (inr b) = inr b
+pub meets_then : (n m : ℕ) (s u v : Seated) → MeetsMore n s u → MeetsMore m u v → MeetsMore (n + m) s v
+meets_then n m s u v (inl a) (inl b) = inl (omega (arith, a, b))
+meets_then n m s u v (inr a) (inl b) = inr (omega (arith, a, b))
+meets_then n m s u v a (inr b) = inr b
+
+most_one : (s v : Seated) → v.known.local.met ≡ one_more s.known.local.met → MeetsAtMost 1 s v
+most_one s v is = omega (arith, is)
 
 -- a caller of which turns left the entries and the cells as they were, and of whose answers there are so many
 between_after : {O : Type 0} (r : Running O) (n m : ℕ) (s v : Seated) → IsBetweenCalls n r s → v.known.local.own ≡ s.known.local.own → v.known.local.cells ≡ s.known.local.cells →
@@ -61,7 +64,7 @@ module _ {O : Type 0} (r : Running O) (s v : Seated) (linked : IsLinkedOf r s) (
   stands m at answered =
       between_after r 1 m s v linked (ap (λ (x : Seated). x.known.local.own) rest) (ap (λ (x : Seated). x.known.local.cells) rest) front of at answered
 
-  pub turn_done : (ticket : ℕ) (reply : List ℕ) → unanswered_ticket s.known.local ≡ Some ticket → ¬ IsAtLimit s.known.local → AnswersEntry ticket reply s v → DriveDone r s v (record { ticket = ticket; reply = reply })
+  pub turn_done : (ticket : ℕ) (reply : List ℕ) → unanswered_ticket s.known.local ≡ Some ticket → ¬ IsAtLimit s.known.local → AnswersEntry 1 ticket reply s v → DriveDone r s v (record { ticket = ticket; reply = reply })
   turn_done ticket reply is allowed answers = record {
     caller = stands 0 answers.rest (ap (λ (xs : List Answer). length xs + 0) answers.answered ∙ ap (λ n. n + 0) (length-append s.known.local.answered _) ∙ zero_more (length s.known.local.answered + 1));
     keeps = drive_keeps;
@@ -82,6 +85,7 @@ module _ {O : Type 0} (r : Running O) (s v : Seated) (linked : IsLinkedOf r s) (
     rises = rises_one s v small refused.refusal.met;
     answered = refused.refusal.answered;
     met = meets_one s v refused.refusal.met;
+    most = most_one s v refused.refusal.met;
   }
 
   pub turn_halted : (ticket : ℕ) → unanswered_ticket s.known.local ≡ Some ticket → HaltsFor ticket s v → DriveHalted r s (record { seat = v; linked = Some ticket })
@@ -94,7 +98,7 @@ module _ {O : Type 0} (r : Running O) (s v : Seated) (linked : IsLinkedOf r s) (
     answered = halts.answered;
   }
 
--- one turn after others, in each of which a refusal was met
+-- turns after others, in each of which a refusal was met
 module _ {O : Type 0} (r : Running O) (n : ℕ) (s u : Seated) (before : DrivePending r n s u) where
   keeps_then : (v : Seated) → DriveKeeps u v → DriveKeeps s v
   keeps_then v k = record { number = k.number ∙ before.keeps.number; limit = k.limit ∙ before.keeps.limit; own = k.own ∙ before.keeps.own; reads = k.reads ∙ before.keeps.reads }
@@ -104,14 +108,15 @@ module _ {O : Type 0} (r : Running O) (n : ℕ) (s u : Seated) (before : DrivePe
       ap (λ (xs : List Linked). option_map (λ (x : Linked). x.ticket) (slice_get xs (length s.known.local.answered))) (sym before.keeps.own)
       ∙ ap (λ (as_ : List Answer). option_map (λ (x : Linked). x.ticket) (slice_get u.known.local.own (length as_))) (sym before.answered)
 
-  pending_then : (k m : ℕ) (v : Seated) → DrivePending r m u v → MeetsMore k s v → DrivePending r k s v
-  pending_then k m v p met = record {
+  pending_then : (m : ℕ) (v : Seated) → DrivePending r m u v → DrivePending r (n + m) s v
+  pending_then m v p = record {
     caller = p.caller;
     keeps = keeps_then v p.keeps;
     allowed = before.allowed;
     answered = p.answered ∙ before.answered;
     rises = omega (arith, before.rises, p.rises);
-    met = met;
+    met = meets_then n m s u v before.met p.met;
+    most = omega (arith, before.most, p.most);
   }
 
   done_then : (v : Seated) (answer : Answer) → DriveDone r u v answer → DriveDone r s v answer
@@ -133,7 +138,7 @@ module _ {O : Type 0} (r : Running O) (n : ℕ) (s u : Seated) (before : DrivePe
     linked = h.linked;
     answered = elim h.answered [
       | inl none ↦ inl (none ∙ before.answered)
-      | inr one ↦ inr (one.0, one.1 ∙ ap (with_answer h.ticket one.0) before.answered)
+      | inr one ↦ inr (one.0, one.1 ∙ ap (with_answer h.ticket one.0) before.answered, one.2)
     ];
   }
 
@@ -146,33 +151,50 @@ pub drives_none : {O : Type 0} (r : Running O) (s : Seated) → IsLinkedOf r s �
 drives_none r s linked = record { caller = linked; turns = inl (refl, refl) }
 
 module _ {O : Type 0} (r : Running O) (n : ℕ) (s u : Seated) (on : DrivesOn r n s u) where
-  pub drives_more : (v : Seated) → DrivePending r 1 u v → DrivesOn r (n + 1) s v
-  drives_more v p = record {
+  drives_then : (m : ℕ) (v : Seated) → DrivePending r m u v → DrivesOn r (n + m) s v
+  drives_then m v p = record {
     caller = p.caller;
     turns = elim on.turns [
-      | inl none ↦ (let one : 1 ≡ n + 1 = (let zero = none.0 in omega (arith, zero)) in inr (subst (λ k. DrivePending r k s v) one (subst (λ x. DrivePending r 1 x v) none.1 p)))
-      | inr some ↦ inr (pending_then r n s u some (n + 1) 1 v p (meets_then n s u v some.met p.met))
+      | inl none ↦ (let all : m ≡ n + m = (let zero = none.0 in omega (arith, zero)) in inr (subst (λ k. DrivePending r k s v) all (subst (λ x. DrivePending r m x v) none.1 p)))
+      | inr some ↦ inr (pending_then r n s u some m v p)
     ];
   }
+
+  pub drives_more : (v : Seated) → DrivePending r 1 u v → DrivesOn r (n + 1) s v
+  drives_more v p = drives_then 1 v p
+
+  -- at most as many refusals
+  drives_met : MeetsAtMost n s u
+  drives_met = elim on.turns [ inl none ↦ (let same = ap (λ (x : Seated). x.known.local.met) none.1 in omega (arith, same)) | inr some ↦ some.most ]
 
   pub drives_all : 1 ≤ n → DrivePending r n s u
   drives_all some = elim on.turns [ inl none ↦ (let zero = none.0 in absurd (omega (arith, zero, some))) | inr turned ↦ turned ]
 
-  pub drives_done : (v : Seated) (answer : Answer) → DriveDone r u v answer → DriveDone r s v answer
-  drives_done v answer d = elim on.turns [ inl none ↦ subst (λ x. DriveDone r x v answer) none.1 d | inr some ↦ done_then r n s u some v answer d ]
+  done_on : (v : Seated) (answer : Answer) → DriveDone r u v answer → DriveDone r s v answer
+  done_on v answer d = elim on.turns [ inl none ↦ subst (λ x. DriveDone r x v answer) none.1 d | inr some ↦ done_then r n s u some v answer d ]
+
+  pub drives_done : (tries : ℕ) (v : Seated) (answer : Answer) → n < tries → DriveDone r u v answer × MeetsAtMost 1 u v → DriveDone r s v answer × MeetsAtMost tries s v
+  drives_done tries v answer more d = (let few = d.1 in (done_on v answer d.0, omega (arith, drives_met, few, more)))
 
   pub drives_halted : (v : StoppedSeat) → DriveHalted r u v → DriveHalted r s v
   drives_halted v h = elim on.turns [ inl none ↦ subst (λ x. DriveHalted r x v) none.1 h | inr some ↦ halted_then r n s u some v h ]
 
 -- turns that are begun again
-pub drives_again : {O : Type 0} (r : Running O) (m : ℕ) (s u v : Seated) → DrivesOn r 0 s u → DrivePending r m u v → DrivesOn r 0 s v
-drives_again r m s u v on p = record {
-  caller = p.caller;
-  turns = elim on.turns [
-    | inl none ↦ inr (subst (λ x. DrivePending r 0 x v) none.1 (record { caller = p.caller; keeps = p.keeps; allowed = p.allowed; answered = p.answered; rises = p.rises; met = inl (omega (arith, p.rises)) }))
-    | inr some ↦ inr (pending_then r 0 s u some 0 m v p (inl (omega (arith, some.rises, p.rises))))
-  ];
-}
+pub record DrivesAgain {O : Type 0} (r : Running O) (s u : Seated) : Type 0 where
+  pub turns : ℕ
+  pub on : DrivesOn r turns s u
+
+pub again_none : {O : Type 0} (r : Running O) (s : Seated) → IsLinkedOf r s → DrivesAgain r s s
+again_none r s linked = record { turns = 0; on = drives_none r s linked }
+
+pub again_more : {O : Type 0} (r : Running O) (m : ℕ) (s u v : Seated) → DrivesAgain r s u → DrivePending r m u v → DrivesAgain r s v
+again_more r m s u v again p = record { turns = again.turns + m; on = drives_then r again.turns s u again.on m v p }
+
+pub again_done : {O : Type 0} (r : Running O) (s u v : Seated) (answer : Answer) → DrivesAgain r s u → DriveDone r u v answer → DriveDone r s v answer
+again_done r s u v answer again d = done_on r again.turns s u again.on v answer d
+
+pub again_halted : {O : Type 0} (r : Running O) (s u : Seated) (v : StoppedSeat) → DrivesAgain r s u → DriveHalted r u v → DriveHalted r s v
+again_halted r s u v again h = drives_halted r again.turns s u again.on v h
 
 -- the same of turns for a read
 module _ {O : Type 0} (r : Running O) (op : List ℕ) (s v : Seated) (caller : IsCallerOf r s) (rest : beside_lookup v ≡ beside_lookup s) (front : s.known.local.front ≤ v.known.local.front) (of : IsSeatOf r v) where
@@ -208,6 +230,7 @@ module _ {O : Type 0} (r : Running O) (op : List ℕ) (s v : Seated) (caller : I
     rises = rises_one s v small refused.refusal.met;
     reads = refused.refusal.reads;
     met = meets_one s v refused.refusal.met;
+    most = most_one s v refused.refusal.met;
   }
 
 -- a caller without an unanswered entry
@@ -231,7 +254,8 @@ module _ {O : Type 0} (r : Running O) (op : List ℕ) (n : ℕ) (s u : Seated) (
     allowed = before.allowed;
     rises = omega (arith, before.rises, p.rises);
     reads = p.reads ∙ before.reads;
-    met = meets_then n s u v before.met p.met;
+    met = meets_then n 1 s u v before.met p.met;
+    most = omega (arith, before.most, p.most);
   }
 
   read_done_then : (v : Seated) (seen : Seen) → ReadAnswered r op u v seen → ReadAnswered r op s v seen
@@ -252,7 +276,7 @@ module _ {O : Type 0} (r : Running O) (op : List ℕ) (n : ℕ) (s u : Seated) (
     keeps = read_keeps_then v.seat h.keeps;
     reads = elim h.reads [
       | inl none ↦ inl (none ∙ before.reads)
-      | inr one ↦ inr (one.0, one.1, one.2 ∙ more_reads one.0 one.1)
+      | inr one ↦ inr (one.0, one.1, one.2 ∙ more_reads one.0 one.1, one.3)
     ];
   }
 
@@ -277,8 +301,12 @@ module _ {O : Type 0} (r : Running O) (op : List ℕ) (n : ℕ) (s u : Seated) (
   pub looks_all : 1 ≤ n → ReadPending r n s u
   looks_all some = elim on.turns [ inl none ↦ (let zero = none.0 in absurd (omega (arith, zero, some))) | inr turned ↦ turned ]
 
-  pub looks_done : (v : Seated) (seen : Seen) → ReadAnswered r op u v seen → ReadAnswered r op s v seen
-  looks_done v seen d = elim on.turns [ inl none ↦ subst (λ x. ReadAnswered r op x v seen) none.1 d | inr some ↦ read_done_then r op n s u some v seen d ]
+  pub looks_done : (tries : ℕ) (v : Seated) (seen : Seen) → n < tries → ReadAnswered r op u v seen × MeetsFewer 1 u v → ReadAnswered r op s v seen × MeetsFewer tries s v
+  looks_done tries v seen more d =
+      elim on.turns [
+        | inl none ↦ (let same = ap (λ (x : Seated). x.known.local.met) none.1 in let few = d.1 in (subst (λ x. ReadAnswered r op x v seen) none.1 d.0, omega (arith, same, few, more)))
+        | inr some ↦ (let few = d.1 in (read_done_then r op n s u some v seen d.0, omega (arith, some.most, few, more)))
+      ]
 
   pub looks_halted : (v : StoppedSeat) → ReadHalted r op u v → ReadHalted r op s v
   looks_halted v h = elim on.turns [ inl none ↦ subst (λ x. ReadHalted r op x v) none.1 h | inr some ↦ read_halted_then r op n s u some v h ]

@@ -63,6 +63,7 @@ module _ {O : Type 0} (r : Running O) (op : List ℕ) (s u : Seated) (same : Kee
     allowed = allowed_first w.allowed;
     keeps = record { number = w.keeps.number ∙ same.number; limit = w.keeps.limit ∙ same.limit; own = w.own ∙ same.own; answered = w.keeps.answered ∙ same.answered; reads = w.keeps.reads ∙ same.reads };
     front = w.front;
+    idle = w.idle;
   }
 
   pub update_halted : (most : ℕ) (v : StoppedSeat) → SubmitHalted r most u v → UpdateHalted r op s v
@@ -108,7 +109,7 @@ module _ {O : Type 0} (r : Running O) (op : List ℕ) (s u : Seated) (same : Kee
         links = links v.seat h.ticket (same_Some h.ticket linked.ticket (sym h.is ∙ linked.lends)) h.keeps.number h.keeps.limit h.keeps.own h.keeps.reads;
         answered = elim h.answered [
           | inl none ↦ inl (none ∙ before_answered)
-          | inr one ↦ inr (one.0, one.1 ∙ ap (with_answer h.ticket one.0) before_answered)
+          | inr one ↦ inr (one.0, one.1 ∙ ap (with_answer h.ticket one.0) before_answered, one.2)
         ];
       });
     }

@@ -1,5 +1,5 @@
 -- What driving a linked entry comes to.
-use Rattle.std.specs.Prelude.{◌≡◌, ◌+◌, ◌≤◌, ◌⊎◌, ℕ, List, Some}
+use Rattle.std.specs.Prelude.{◌≡◌, ◌≢◌, ◌+◌, ◌≤◌, ◌⊎◌, ℕ, List, Some, None}
 use Rattle.cx_core.specs.declared.local.Answer.{Answer}
 use Rattle.cx_core.specs.Layout.{max_word}
 use Rattle.cx_rule.specs.Running.{Running}
@@ -12,6 +12,10 @@ use Rattle.cx_turns.specs.Answering.{with_answer}
 -- at least so many refusals were met, where the count is not at its end
 abbrev pub MeetsMore : ℕ → Seated → Seated → Type 0
 MeetsMore tries before after = (before.known.local.met + tries ≤ after.known.local.met) ⊎ (max_word ≤ after.known.local.met)
+
+-- and at most so many
+abbrev pub MeetsAtMost : ℕ → Seated → Seated → Type 0
+MeetsAtMost most before after = after.known.local.met ≤ before.known.local.met + most
 
 -- what each answer of a drive leaves as it was
 pub record DriveKeeps (before after : Seated) : Type 0 where
@@ -29,7 +33,7 @@ pub record DriveDone {O : Type 0} (r : Running O) (before after : Seated) (answe
   pub ticket : unanswered_ticket before.known.local ≡ Some answer.ticket
   pub answered : after.known.local.answered ≡ with_answer answer.ticket answer.reply before.known.local.answered
 
--- In each of so many turns a refusal was met. The entry stands, unanswered. The limit allowed a step.
+-- In each of so many turns one refusal was met. The entry stands, unanswered. The limit allowed a step.
 pub record DrivePending {O : Type 0} (r : Running O) (tries : ℕ) (before after : Seated) : Type 0 where
   pub caller : IsLinkedOf r after
   pub keeps : DriveKeeps before after
@@ -37,9 +41,10 @@ pub record DrivePending {O : Type 0} (r : Running O) (tries : ℕ) (before after
   pub answered : after.known.local.answered ≡ before.known.local.answered
   pub rises : before.known.local.met ≤ after.known.local.met
   pub met : MeetsMore tries before after
+  pub most : MeetsAtMost tries before after
 
 -- A further step was to be made and the steps equal the limit. No call answered the entry, whose ticket the caller keeps. Before the
--- raise that answers it the caller has no answer more, and behind that raise it has the entry's.
+-- raise that answers it the caller has no answer more, and behind that raise it has the entry's, and a win that is still to be retired.
 pub record DriveHalted {O : Type 0} (r : Running O) (before : Seated) (after : StoppedSeat) : Type 0 where
   pub caller : IsStoppedOf r after.seat
   pub keeps : DriveKeeps before after.seat
@@ -47,10 +52,11 @@ pub record DriveHalted {O : Type 0} (r : Running O) (before : Seated) (after : S
   pub is : unanswered_ticket before.known.local ≡ Some ticket
   pub linked : after.linked ≡ Some ticket
   pub answered : (after.seat.known.local.answered ≡ before.known.local.answered)
-      ⊎ ((reply : List ℕ) × (after.seat.known.local.answered ≡ with_answer ticket reply before.known.local.answered))
+      ⊎ ((reply : List ℕ) × (after.seat.known.local.answered ≡ with_answer ticket reply before.known.local.answered) × (after.seat.known.local.won ≢ None))
 
--- what a drive of a linked entry in so many turns comes to
+-- What a drive of a linked entry in so many turns comes to. A turn meets at most one refusal, also the last one where a publication
+-- was lost in it.
 abbrev pub Drives : {O : Type 0} → Running O → ℕ → Seated → Driven → Type 0
-Drives r tries before (Done after answer) = DriveDone r before after answer
+Drives r tries before (Done after answer) = DriveDone r before after answer × MeetsAtMost tries before after
 Drives r tries before (Pending after) = DrivePending r tries before after
 Drives r tries before (Halted after) = DriveHalted r before after

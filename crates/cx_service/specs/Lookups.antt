@@ -1,5 +1,5 @@
 -- What a read beside the queue comes to.
-use Rattle.std.specs.Prelude.{◌≡◌, ◌<◌, ◌≤◌, ◌⊎◌, ℕ, List, length, slice_get, Some, None}
+use Rattle.std.specs.Prelude.{◌≡◌, ◌≢◌, ◌+◌, ◌<◌, ◌≤◌, ◌⊎◌, ℕ, List, length, slice_get, Some, None}
 use Rattle.cx_core.specs.declared.local.Answer.{Answer}
 use Rattle.cx_core.specs.declared.local.SeenRead.{SeenRead}
 use Rattle.cx_rule.specs.Running.{Running}
@@ -9,7 +9,7 @@ use Rattle.cx_service.specs.declared.lookup.Looked.TheVariants.{Ended, Found, Re
 use Rattle.cx_service.specs.declared.lookup.ReadTried.{ReadTried}
 use Rattle.cx_service.specs.declared.lookup.ReadTried.TheVariants.{Read, Pending, Halted}
 use Rattle.cx_service.specs.Callers.{IsCallerOf, IsStoppedOf, StoppedSeat}
-use Rattle.cx_service.specs.Drives.{MeetsMore}
+use Rattle.cx_service.specs.Drives.{MeetsAtMost, MeetsMore}
 use Rattle.cx_turns.specs.declared.lookup.Seen.{Seen}
 use Rattle.cx_turns.specs.Answering.{with_read}
 
@@ -31,7 +31,11 @@ pub record ReadAnswered {O : Type 0} (r : Running O) (op : List ℕ) (before aft
   pub above : (i : ℕ) (x : Answer) → slice_get before.known.local.answered i ≡ Some x → x.ticket < seen.place
   pub from : (i : ℕ) (x : SeenRead) → slice_get before.known.local.seen_reads i ≡ Some x → x.place ≤ seen.place
 
--- In each of so many turns a refusal was met. The limit allowed a step.
+-- fewer refusals than this were met
+abbrev pub MeetsFewer : ℕ → Seated → Seated → Type 0
+MeetsFewer tries before after = after.known.local.met < before.known.local.met + tries
+
+-- In each of so many turns one refusal was met. The limit allowed a step.
 pub record ReadPending {O : Type 0} (r : Running O) (tries : ℕ) (before after : Seated) : Type 0 where
   pub caller : IsCallerOf r after
   pub keeps : ReadKeeps before after
@@ -39,24 +43,25 @@ pub record ReadPending {O : Type 0} (r : Running O) (tries : ℕ) (before after 
   pub rises : before.known.local.met ≤ after.known.local.met
   pub reads : after.known.local.seen_reads ≡ before.known.local.seen_reads
   pub met : MeetsMore tries before after
+  pub most : MeetsAtMost tries before after
 
--- A further step was to be made and the steps equal the limit. No read was answered, or this one was before. No entry is linked that
--- no call has answered.
+-- A further step was to be made and the steps equal the limit. No read was answered, or this one was, and its shared right is still to
+-- be given back. No entry is linked that no call has answered.
 pub record ReadHalted {O : Type 0} (r : Running O) (op : List ℕ) (before : Seated) (after : StoppedSeat) : Type 0 where
   pub caller : IsStoppedOf r after.seat
   pub linked : after.linked ≡ None
   pub keeps : ReadKeeps before after.seat
   pub reads : (after.seat.known.local.seen_reads ≡ before.known.local.seen_reads)
-      ⊎ ((place : ℕ) × (reply : List ℕ) × (after.seat.known.local.seen_reads ≡ with_read place op reply (length before.known.local.answered) before.known.local.seen_reads))
+      ⊎ ((place : ℕ) × (reply : List ℕ) × (after.seat.known.local.seen_reads ≡ with_read place op reply (length before.known.local.answered) before.known.local.seen_reads) × (after.seat.known.local.shared ≢ None))
 
--- what a read of this operation in so many turns comes to
+-- What a read of this operation in so many turns comes to. The turn that answers it meets no refusal.
 abbrev pub Looks : {O : Type 0} → Running O → List ℕ → ℕ → Seated → ReadTried → Type 0
-Looks r op tries before (Read after seen) = ReadAnswered r op before after seen
+Looks r op tries before (Read after seen) = ReadAnswered r op before after seen × MeetsFewer tries before after
 Looks r op tries before (Pending after) = ReadPending r tries before after
 Looks r op tries before (Halted after) = ReadHalted r op before after
 
 -- what one turn of it comes to, beside the reply
 abbrev pub LooksOnce : {O : Type 0} → Running O → List ℕ → List ℕ → Seated → Looked → Type 0
-LooksOnce r op reply before (Found after place) = ReadAnswered r op before after (record { place = place; reply = reply })
+LooksOnce r op reply before (Found after place) = ReadAnswered r op before after (record { place = place; reply = reply }) × MeetsFewer 1 before after
 LooksOnce r op reply before (Refused after) = ReadPending r 1 before after
 LooksOnce r op reply before (Ended after) = ReadHalted r op before after

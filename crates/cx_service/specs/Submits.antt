@@ -1,8 +1,9 @@
 -- What submitting an operation comes to.
-use Rattle.std.specs.Prelude.{◌≡◌, ◌≢◌, ◌+◌, ◌*◌, ◌^◌, ◌<◌, ◌≤◌, false, ℕ, List, [], ◌∷◌, ◌++◌, length, slice_index, Some, None, Result, Ok, Err}
+use Rattle.std.specs.Prelude.{◌≡◌, ◌≢◌, ◌+◌, ◌*◌, ◌^◌, ◌<◌, ◌≤◌, ◌⊎◌, false, ℕ, min, List, [], ◌∷◌, ◌++◌, length, slice_index, Some, None, Result, Ok, Err}
 use Rattle.cx_base.specs.Codes.{root_place_of}
 use Rattle.cx_core.specs.declared.local.Linked.{Linked as OwnEntry}
 use Rattle.cx_core.specs.declared.local.Local.{Local}
+use Rattle.cx_core.specs.Layout.{max_word}
 use Rattle.cx_core.specs.QueueEvents.{IsIdle, cell_of, next_number}
 use Rattle.cx_core.specs.State.{one_more}
 use Rattle.cx_rule.specs.Running.{Running}
@@ -11,11 +12,19 @@ use Rattle.cx_core.specs.declared.local.FullNote.{FullNote}
 use Rattle.cx_service.specs.declared.submit.Submitted.{Submitted}
 use Rattle.cx_service.specs.declared.submit.Submitted.TheVariants.{Linked, Again, Full, Worn, Halted}
 use Rattle.cx_service.specs.Callers.{IsCallerOf, IsLinkedOf, IsStoppedOf, StoppedSeat}
+use Rattle.mutation_queue.specs.Cells.{IsInUse, writes}
 use Rattle.mutation_queue.specs.Collecting.{but_collected}
 use Rattle.mutation_queue.specs.declared.linking.LinkTried.{LinkTried}
+use Rattle.mutation_queue.specs.Links.{EndsBy, HaltsTry, LosesTries}
 use Rattle.mutation_queue.specs.declared.linking.LinkTried.TheVariants.{Linked as TriedLinked, Again as TriedAgain, Worn as TriedWorn}
 
--- what each answer of a submit leaves as it was, a front that does not fall, and at most so many steps
+-- Nothing was looked for: no greater FREE was found, and no scan was made.
+pub record LooksForNothing (before after : Seated) : Type 0 where
+  pub free : after.known.local.seen_free ≡ before.known.local.seen_free
+  pub scans : after.known.local.scans ≡ before.known.local.scans
+
+-- what each answer of a submit leaves as it was, a front that does not fall, and at most so many steps; where a cell was idle, none was
+-- looked for
 pub record SubmitKeeps (most : ℕ) (before after : Seated) : Type 0 where
   pub number : after.known.local.number ≡ before.known.local.number
   pub limit : after.known.local.limit ≡ before.known.local.limit
@@ -24,6 +33,7 @@ pub record SubmitKeeps (most : ℕ) (before after : Seated) : Type 0 where
   pub met : after.known.local.met ≡ before.known.local.met
   pub front : before.known.local.front ≤ after.known.local.front
   pub steps : after.known.local.steps ≤ before.known.local.steps + most
+  pub idle : (j : ℕ) → j < 16 → IsIdle before.known.local j → LooksForNothing before after
 
 -- the caller's next entry, with this operation and this ticket
 abbrev pub entry_at : {O : Type 0} → Running O → Local → List ℕ → ℕ → OwnEntry
@@ -41,6 +51,15 @@ pub record SubmitLinked {O : Type 0} (r : Running O) (op : List ℕ) (most : ℕ
   pub from : before.known.local.front ≤ ticket
   pub front : after.known.local.front ≡ ticket + 1
 
+-- What tries to link an entry came to, one after another: it was written into a cell before, by a step for the first word and for each
+-- other that differed.
+pub record TriesOf {O : Type 0} (r : Running O) (come_to : Seated → Seated → Type 0) (before after : Seated) : Type 0 where
+  pub cell : ℕ
+  pub from : Seated
+  pub number : slice_index (cell_of from.known.local cell).words 0 ≡ next_number r.base before.known.local
+  pub since : min (before.known.local.steps + writes before.known.local cell (cell_of from.known.local cell).words) max_word ≤ from.known.local.steps
+  pub made : come_to from after
+
 -- Each of so many tries found another's link, and tickets are left.
 pub record SubmitAgain {O : Type 0} (r : Running O) (tries most : ℕ) (before after : Seated) : Type 0 where
   pub caller : IsCallerOf r after
@@ -50,6 +69,7 @@ pub record SubmitAgain {O : Type 0} (r : Running O) (tries most : ℕ) (before a
   pub own : after.known.local.own ≡ before.known.local.own
   pub front : before.known.local.front + tries ≤ after.known.local.front
   pub cur : root_place_of r.callers after.known.local.seen_cur + tries ≤ after.known.local.front
+  pub lost : TriesOf r (LosesTries r.callers tries) before after
   pub left : after.known.local.front < 2 ^ 40
 
 -- all 16 cells hold tickets, and this is the least
@@ -95,6 +115,15 @@ pub record SubmitHalted {O : Type 0} (r : Running O) (most : ℕ) (before : Seat
   pub own : after.seat.known.local.own ≡ before.known.local.own
   pub none : unanswered_ticket after.seat.known.local ≡ None
 
+-- A further step is due to a submit: no try was begun, since no slot was looked at, or fewer were lost than so many and a ticket is left.
+abbrev pub IsTrying : {O : Type 0} → Running O → ℕ → Seated → Seated → Type 0
+IsTrying r tries before after =
+    (after.known.local.seen_slot ≡ before.known.local.seen_slot) ⊎ TriesOf r (EndsBy r.callers tries (HaltsTry r.callers)) before after
+
+-- the limit was come to in one of so many tries, or before them
+abbrev pub HaltsEntering : {O : Type 0} → Running O → ℕ → ℕ → Seated → StoppedSeat → Type 0
+HaltsEntering r tries most before after = SubmitHalted r most before after × IsTrying r tries before after.seat
+
 -- an operation that was announced and tried to be linked, in at most so many steps
 abbrev pub EntersIn : {O : Type 0} → ℕ → Running O → List ℕ → ℕ → Seated → Seated → LinkTried → Type 0
 EntersIn most r op tries before after (TriedLinked ticket) = SubmitLinked r op most before after
@@ -107,7 +136,7 @@ Enters most r op tries before (Linked after) = SubmitLinked r op most before aft
 Enters most r op tries before (Again after) = SubmitAgain r tries most before after
 Enters most r op tries before (Full after note) = ⊥
 Enters most r op tries before (Worn after) = SubmitWorn r most before after
-Enters most r op tries before (Halted after) = SubmitHalted r most before after
+Enters most r op tries before (Halted after) = HaltsEntering r tries most before after
 
 -- a submit that makes at most so many steps
 abbrev pub SubmitsIn : {O : Type 0} → ℕ → Running O → List ℕ → ℕ → Seated → Submitted → Type 0
@@ -115,7 +144,7 @@ SubmitsIn most r op tries before (Linked after) = SubmitLinked r op most before 
 SubmitsIn most r op tries before (Again after) = SubmitAgain r tries most before after
 SubmitsIn most r op tries before (Full after note) = SubmitFull r most before after note
 SubmitsIn most r op tries before (Worn after) = SubmitWorn r most before after
-SubmitsIn most r op tries before (Halted after) = SubmitHalted r most before after
+SubmitsIn most r op tries before (Halted after) = HaltsEntering r tries most before after
 
 -- what a submit of this operation by a caller comes to
 abbrev pub Submits : {O : Type 0} → Running O → List ℕ → ℕ → Seated → Submitted → Type 0
@@ -127,22 +156,34 @@ pub record LooksForCell (most : ℕ) (before after : Seated) : Type 0 where
   pub same : but_collected after ≡ but_collected before
   pub steps : after.known.local.steps ≤ before.known.local.steps + most
 
--- no scan is under way, and what was seen of CUR is not fresh
+-- no scan is under way, what was seen of CUR is not fresh, and no step is taken back
 pub record EndsLooking (before after : Seated) : Type 0 where
   pub scan : after.known.local.scan ≡ None
   pub fresh : after.known.local.fresh ≡ false
   pub scans : before.known.local.scans ≤ after.known.local.scans
+  pub since : min before.known.local.steps max_word ≤ after.known.local.steps
+
+-- each cell holds a ticket at or above the greatest FREE found
+abbrev pub AreInUse : Local → Type 0
+AreInUse l = (j : ℕ) → j < 16 → IsInUse l j
+
+-- the limit was come to, in looking for a cell where none was idle
+pub record HaltsLooking (before after : Seated) : Type 0 where
+  pub limit : IsAtLimit after.known.local
+  pub used : AreInUse before.known.local
 
 -- no cell is idle, though what no caller needs was given again
 pub record FindsNone (callers : ℕ) (before after : Seated) (note : FullNote) : Type 0 where
   pub ends : EndsLooking before after
+  pub used : AreInUse before.known.local
   pub scans : after.known.local.scans ≡ one_more before.known.local.scans
   pub allowed : ¬ IsAtLimit before.known.local
   pub names : NamesHolder callers after.known.local note
 
--- an idle cell
+-- an idle cell, for which no step was made where one was idle at first
 pub record FindsIdle (before after : Seated) (cell : ℕ) : Type 0 where
   pub ends : EndsLooking before after
+  pub stood : AreInUse before.known.local ⊎ (after ≡ before)
   pub within : cell < 16
   pub idle : IsIdle after.known.local cell
 

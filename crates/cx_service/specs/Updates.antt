@@ -1,7 +1,8 @@
 -- What an update comes to, and a read that may enter the queue.
-use Rattle.std.specs.Prelude.{◌≡◌, ◌^◌, ◌<◌, ◌≤◌, ◌⊎◌, ℕ, List, [], ◌∷◌, ◌++◌, length, Some, None}
+use Rattle.std.specs.Prelude.{◌≡◌, ◌≢◌, ◌^◌, ◌<◌, ◌≤◌, ◌⊎◌, ℕ, List, [], ◌∷◌, ◌++◌, length, Some, None}
 use Rattle.cx_core.specs.declared.local.Answer.{Answer}
 use Rattle.cx_core.specs.Layout.{max_word}
+use Rattle.cx_core.specs.QueueEvents.{IsIdle}
 use Rattle.cx_rule.specs.Running.{Running}
 use Rattle.cx_rule.specs.Seats.{IsAtLimit, Seated}
 use Rattle.cx_core.specs.declared.local.FullNote.{FullNote}
@@ -11,7 +12,7 @@ use Rattle.cx_service.specs.declared.update.Updated.{Updated}
 use Rattle.cx_service.specs.declared.update.Updated.TheVariants.{Done, Full, Worn, Halted}
 use Rattle.cx_service.specs.Callers.{IsCallerOf, IsStoppedOf, StoppedSeat}
 use Rattle.cx_service.specs.Drives.{DriveDone, DriveHalted}
-use Rattle.cx_service.specs.Lookups.{ReadAnswered, ReadHalted, ReadPending}
+use Rattle.cx_service.specs.Lookups.{MeetsFewer, ReadAnswered, ReadHalted, ReadPending}
 use Rattle.cx_service.specs.Submits.{NamesHolder, entry_at}
 use Rattle.cx_turns.specs.Answering.{with_answer}
 
@@ -47,25 +48,27 @@ pub record UpdateFull {O : Type 0} (r : Running O) (before after : Seated) (note
   pub scans : (before.known.local.scans < after.known.local.scans) ⊎ (after.known.local.scans ≡ max_word)
   pub names : NamesHolder r.callers after.known.local note
 
--- There is no further ticket.
+-- A cell is idle, and there is no further ticket.
 pub record UpdateWorn {O : Type 0} (r : Running O) (before after : Seated) : Type 0 where
   pub caller : IsCallerOf r after
   pub allowed : ¬ IsAtLimit before.known.local
   pub keeps : KeepsLists before after
   pub front : after.known.local.front ≡ 2 ^ 40
+  pub idle : (j : ℕ) × (j < 16) × IsIdle after.known.local j
 
 -- nothing was linked before the limit was come to
 pub record HaltsUnlinked (before : Seated) (after : StoppedSeat) : Type 0 where
   pub none : after.linked ≡ None
   pub keeps : KeepsLists before after.seat
 
--- The entry was linked before the limit was come to, and no call answered it. The caller has no answer more, or the entry's.
+-- The entry was linked before the limit was come to, and no call answered it. The caller has no answer more, or the entry's, and then a
+-- win that is still to be retired.
 pub record HaltsLinked {O : Type 0} (r : Running O) (op : List ℕ) (before : Seated) (after : StoppedSeat) : Type 0 where
   pub ticket : ℕ
   pub linked : after.linked ≡ Some ticket
   pub links : LinksEntry r op ticket before after.seat
   pub answered : (after.seat.known.local.answered ≡ before.known.local.answered)
-      ⊎ ((reply : List ℕ) × (after.seat.known.local.answered ≡ with_answer ticket reply before.known.local.answered))
+      ⊎ ((reply : List ℕ) × (after.seat.known.local.answered ≡ with_answer ticket reply before.known.local.answered) × (after.seat.known.local.won ≢ None))
 
 -- A further step was to be made and the steps equal the limit.
 pub record UpdateHalted {O : Type 0} (r : Running O) (op : List ℕ) (before : Seated) (after : StoppedSeat) : Type 0 where
@@ -87,7 +90,7 @@ Finishes r before (Full after note) = ⊥
 Finishes r before (Worn after) = ⊥
 Finishes r before (Halted after) = DriveHalted r before after
 
--- A read was refused in each of 8 turns beside the queue, so that as many refusals more are met, and then it entered the queue.
+-- A read was refused in each of 8 turns beside the queue, so that just as many refusals more are met, and then it entered the queue.
 pub record ReadQueues {O : Type 0} (r : Running O) (op : List ℕ) (before : Seated) (updated : Updated) : Type 0 where
   pub refused : Seated
   pub pending : ReadPending r 8 before refused
@@ -101,7 +104,7 @@ pub record ReadStops {O : Type 0} (r : Running O) (op : List ℕ) (before : Seat
 
 -- what a read of this operation comes to
 abbrev pub ReadsInAll : {O : Type 0} → Running O → List ℕ → Seated → ReadDone → Type 0
-ReadsInAll r op before (Read after seen) = ReadAnswered r op before after seen
+ReadsInAll r op before (Read after seen) = ReadAnswered r op before after seen × MeetsFewer 8 before after
 ReadsInAll r op before (Queued after answer) = ReadQueues r op before (Done after answer)
 ReadsInAll r op before (FullRead after note) = ReadQueues r op before (Full after note)
 ReadsInAll r op before (WornRead after) = ReadQueues r op before (Worn after)

@@ -24,8 +24,8 @@ pub enum Driven {
 impl<O: Object> Service<O> {
     /// Drives a caller's linked entry to its answer, in at most so many turns. `Done` is answered by a raise of the durable root
     /// alone: the reply is the object's after the entries before the ticket, and a loss of power keeps the entry. `Pending` comes
-    /// only where the count of refusals rose in each turn. `Halted` comes exactly where a further step is to be made and the
-    /// steps equal the limit; the caller keeps the entry's ticket.
+    /// only where the count of refusals rose in each turn; no turn adds more than one. `Halted` comes exactly where a further step is to
+    /// be made and the steps equal the limit; the caller keeps the entry's ticket.
     pub fn drive(&self, linked: Linked, tries: u64) -> Driven
         requires linked { IsLinkedOf self.now linked }
         requires tries { 1 ≤ tries }

@@ -1,13 +1,12 @@
 //! An operation is entered into the queue.
 
-ghost use Rattle.std.specs.Prelude.{◌≡◌, ◌+◌, ◌*◌, ◌<◌, ◌≤◌, ℕ, IfOk, OnErr};
+ghost use Rattle.std.specs.Prelude.{◌≡◌, ◌+◌, ◌*◌, ◌<◌, ◌≤◌, IfOk, OnErr};
 ghost use Rattle.cx_core.specs.QueueEvents.{IsIdle};
 ghost use Rattle.cx_rule.specs.Rule.{IsLawfulLocal};
 ghost use Rattle.cx_rule.specs.Running.{instance_at};
 ghost use Rattle.cx_rule.specs.Seats.{IsAtLimit};
 ghost use Rattle.cx_service.specs.Callers.{IsCallerOf, unlinked};
-ghost use Rattle.cx_service.specs.Submits.{AreTickets, Enters, EntersIn, FindsCell, LooksForCell, SubmitHalted, Submits};
-ghost use Rattle.mutation_queue.specs.Cells.{IsInUse};
+ghost use Rattle.cx_service.specs.Submits.{AreInUse, AreTickets, Enters, EntersIn, FindsCell, HaltsEntering, HaltsLooking, LooksForCell, Submits};
 
 use crate::callers::{Caller, Linked, Stopped};
 use crate::service::Service;
@@ -81,7 +80,7 @@ fn announce_and_link<O: Object>(
     requires cell { (cell < 16) × IsIdle seat.old.known.local cell }
     requires tries { 1 ≤ tries }
     ensures entered { IfOk result (EntersIn (146 + 2 * tries) shared.now op.now tries seat.old seat.new) }
-    ensures halted { OnErr result (SubmitHalted shared.now (146 + 2 * tries) seat.old (unlinked seat.new)) }
+    ensures halted { OnErr result (HaltsEntering shared.now tries (146 + 2 * tries) seat.old (unlinked seat.new)) }
 {
     let _cur = shared.load_cur(seat)?;
     announce(shared, seat, cell, op)?;
@@ -98,7 +97,7 @@ fn find_cell<O: Object>(
     ensures looked { LooksForCell (shared.now.callers + 4) seat.old seat.new }
     ensures stood { IsAtLimit seat.old.known.local → seat.new ≡ seat.old }
     ensures found { IfOk result (FindsCell shared.now.callers seat.old seat.new) }
-    ensures halted { OnErr result (IsAtLimit seat.new.known.local) }
+    ensures halted { OnErr result (HaltsLooking seat.old seat.new) }
 {
     // scans are counted in a word
     let _scans = seat.scans();
@@ -120,10 +119,10 @@ fn give_again<O: Object>(
 ) -> Result<Result<u32, FullNote>, Halt>
     requires caller { IsCallerOf shared.now seat.old }
     requires lawful { IsLawfulLocal (instance_at shared.now O.step O.only_reads) seat.old.known.local }
-    requires used { (j : ℕ) → j < 16 → IsInUse seat.old.known.local j }
+    requires used { AreInUse seat.old.known.local }
     ensures looked { LooksForCell (shared.now.callers + 3) seat.old seat.new }
     ensures found { IfOk result (FindsCell shared.now.callers seat.old seat.new) }
-    ensures halted { OnErr result (IsAtLimit seat.new.known.local) }
+    ensures halted { OnErr result (HaltsLooking seat.old seat.new) }
 {
     // scans are counted in a word
     let _scans = seat.scans();
@@ -142,7 +141,7 @@ fn give_again<O: Object>(
 
 /// The tickets of the caller's cells, all of which are in use, in rising order.
 fn cell_tickets(seat: &CallerSeat) -> [u64; 16]
-    requires { (j : ℕ) → j < 16 → IsInUse seat.now.known.local j }
+    requires { AreInUse seat.now.known.local }
     ensures { AreTickets seat.now.known.local result }
 {
     let mut tickets = [0; 16];

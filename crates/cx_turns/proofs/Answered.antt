@@ -1,22 +1,25 @@
 -- What publishing, raising and retiring leave of a turn's seat.
-use Rattle.std.proofs.Common.{◌≡◌, ◌*◌, ◌<◌, ◌≤◌, ℕ, Bool, false, List, [], ◌∷◌, append-nil, refl, ap, sym, subst, ◌∙◌, arith, Option, Some, None}
+use Rattle.std.proofs.Common.{◌≡◌, ◌+◌, ◌*◌, ◌<◌, ◌≤◌, inr, ℕ, Bool, false, List, [], ◌∷◌, append-nil, length, refl, ap, sym, subst, ◌∙◌, arith, Option, Some, None}
 use Rattle.std.proofs.Math.Nat.{le-max_right}
 use Rattle.std.proofs.lemmas.Option.{none-some, same_Some}
 use Rattle.std.specs.Option.{option_map}
 use Rattle.cx_base.specs.Codes.{root_place_of}
 use Rattle.cx_core.specs.declared.kinds.Kind.TheVariants.{Retire}
 use Rattle.cx_core.specs.declared.local.HeldDowngraded.{HeldDowngraded}
+use Rattle.cx_core.specs.declared.local.HeldShared.{HeldShared}
 use Rattle.cx_core.specs.declared.local.Linked.{Linked}
 use Rattle.cx_core.specs.declared.local.Protection.TheVariants.{Unprotected}
+use Rattle.cx_core.specs.declared.local.WonCode.{WonCode}
+use Rattle.cx_core.specs.Rights.{shared_on}
 use Rattle.cx_core.specs.RootEvents.{code_in, unanswered}
 use Rattle.cx_core.specs.State.{one_more}
 use Rattle.cx_core.proofs.RootCodes.{code_place}
 use Rattle.cx_rule.specs.Raises.{TellsAnswers, TellsReply}
 use Rattle.cx_rule.specs.Running.{Running}
-use Rattle.cx_rule.specs.Seats.{Seated, unanswered_ticket}
-use Rattle.cx_rule.specs.Steps.{Steps}
+use Rattle.cx_rule.specs.Seats.{IsAtLimit, Seated, unanswered_ticket}
+use Rattle.cx_rule.specs.Steps.{Halts, Steps}
 use Rattle.cx_rule.proofs.Raising.{reply_still, tells_one}
-use Rattle.cx_turns.specs.Answering.{AnswersBy, IsPublishedFor, IsReadyFor, beside_update, with_answer}
+use Rattle.cx_turns.specs.Answering.{AnswersBy, AnswersEntry, AnswersReadBy, HaltsFor, HaltsLookup, IsPublishedFor, IsReadyFor, beside_update, with_answer, with_read}
 use Rattle.cx_turns.specs.Turns.{IsAtRest, beside_turn}
 use Rattle.publish.proofs.Options.{none_of, some_of}
 use Rattle.publish.specs.Publishing.{PassedBy, beside_publish, place_in}
@@ -139,6 +142,13 @@ module _ {O : Type 0} (r : Running O) (step : O → List ℕ → List ℕ → Li
   pub raised_most : code ≤ after.known.local.raised
   raised_most = subst (λ (s : Seated). code ≤ s.known.local.raised) (sym by.made) (le-max_right before.known.local.raised code)
 
+  -- the limit was come to before the win was retired
+  pub retired_halted : (won : WonCode) (last : Seated) → before.known.local.won ≡ Some won → Halts r after last → HaltsFor ticket before last
+  retired_halted won last holds h = record {
+    limit = subst (λ (s : Seated). IsAtLimit s.known.local) (sym h.same) h.limit;
+    answered = inr (reply, ap (λ (s : Seated). s.known.local.answered) h.same ∙ raised_answered, λ none. none-some won (sym none ∙ ap (λ (s : Seated). s.known.local.won) (h.same ∙ by.made) ∙ holds));
+  }
+
   -- the win is retired then
   module _ (found : ℕ) (last : Seated) (s : Steps r step reads Retire found after last) where
     pub retired_answered : last.known.local.answered ≡ with_answer ticket reply before.known.local.answered
@@ -162,3 +172,30 @@ module _ {O : Type 0} (r : Running O) (step : O → List ℕ → List ℕ → Li
       refused = rest.refused;
       fresh = refl;
     }))
+
+-- an entry that is answered after its replica was published, by which at most one refusal was met
+pub answered_later : (ticket : ℕ) (reply : List ℕ) (before mid after : Seated) → beside_publish mid ≡ beside_publish before → before.known.local.met ≤ mid.known.local.met → mid.known.local.met ≤ before.known.local.met + 1 →
+    AnswersEntry 0 ticket reply mid after → AnswersEntry 1 ticket reply before after
+answered_later ticket reply before mid after rest low high a = record {
+  rest = a.rest;
+  met = omega (arith, low, a.met);
+  most = omega (arith, high, a.most);
+  answered = a.answered ∙ ap (λ (s : Seated). with_answer ticket reply s.known.local.answered) rest;
+}
+
+-- the limit was come to before the shared right was given back under which a read was answered
+pub read_halted : {O : Type 0} (r : Running O) (step : O → List ℕ → List ℕ → List ℕ × List ℕ) (reads : O → List ℕ → Bool) (code q : ℕ) (op reply : List ℕ) (before after last : Seated) → shared_on before.known.local ≡ Some q →
+    AnswersReadBy r step reads code op reply before after → Halts r after last → HaltsLookup op before last
+read_halted r step reads code q op reply before after last holds by h =
+    let same = h.same ∙ by.made in record {
+      limit = subst (λ (s : Seated). IsAtLimit s.known.local) (sym h.same) h.limit;
+      reads = inr (
+        root_place_of r.callers code,
+        reply,
+        ap (λ (s : Seated). s.known.local.seen_reads) same ∙ ap (λ n. with_read (root_place_of r.callers code) op reply n before.known.local.seen_reads) (none_more (length before.known.local.answered)),
+        λ none. none-some q (sym (ap (option_map (λ (x : HeldShared). x.replica)) none) ∙ ap (λ (s : Seated). shared_on s.known.local) same ∙ holds),
+      );
+    }
+  where
+    none_more : (n : ℕ) → n + 0 ≡ n
+    none_more n = omega arith

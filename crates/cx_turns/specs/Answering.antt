@@ -1,5 +1,5 @@
 -- What a turn comes to that answers its caller's entry, and one that answers a read.
-use Rattle.std.specs.Prelude.{◌≡◌, ◌<◌, ◌≤◌, ◌⊎◌, true, false, ℕ, Bool, List, [], ◌∷◌, ◌++◌, length, slice_get, Option, Some, None}
+use Rattle.std.specs.Prelude.{◌≡◌, ◌≢◌, ◌+◌, ◌<◌, ◌≤◌, ◌⊎◌, true, false, ℕ, Bool, List, [], ◌∷◌, ◌++◌, length, slice_get, Option, Some, None}
 use Rattle.std.specs.Option.{option_map}
 use Rattle.cx_base.specs.Codes.{root_place_of}
 use Rattle.cx_core.specs.declared.local.Answer.{Answer}
@@ -54,21 +54,23 @@ pub record AnswersBy {O : Type 0} (r : Running O) (step : O → List ℕ → Lis
   pub made : after ≡ record before { known = known_answered (instance_at r step reads) code (record { ticket = ticket; reply = reply } ∷ []) None before.known }
   pub seat : IsSeatOf r after
 
--- The caller's unanswered entry is answered with this reply, no refusal is taken back, and the caller is at rest.
-pub record AnswersEntry (ticket : ℕ) (reply : List ℕ) (before after : Seated) : Type 0 where
+-- The caller's unanswered entry is answered with this reply, at most so many refusals are met, and the caller is at rest.
+pub record AnswersEntry (refusals ticket : ℕ) (reply : List ℕ) (before after : Seated) : Type 0 where
   pub rest : IsAtRest after.known.local
   pub met : before.known.local.met ≤ after.known.local.met
+  pub most : after.known.local.met ≤ before.known.local.met + refusals
   pub answered : after.known.local.answered ≡ with_answer ticket reply before.known.local.answered
 
--- what a turn for an entry with a ticket comes to
+-- what a turn for an entry with a ticket comes to; one that answers it meets a refusal where its publication was lost once
 abbrev pub TurnsFor : ℕ → Seated → Seated → Option (List ℕ) → Type 0
-TurnsFor ticket before after (Some reply) = AnswersEntry ticket reply before after
+TurnsFor ticket before after (Some reply) = AnswersEntry 1 ticket reply before after
 TurnsFor ticket before after None = TurnRefused before after
 
--- The limit was come to: before the raise nothing is answered, and behind it the entry is.
+-- The limit was come to: before the raise nothing is answered, and behind it the entry is, and the win is still to be retired.
 pub record HaltsFor (ticket : ℕ) (before after : Seated) : Type 0 where
   pub limit : IsAtLimit after.known.local
-  pub answered : (after.known.local.answered ≡ before.known.local.answered) ⊎ ((reply : List ℕ) × (after.known.local.answered ≡ with_answer ticket reply before.known.local.answered))
+  pub answered : (after.known.local.answered ≡ before.known.local.answered)
+      ⊎ ((reply : List ℕ) × (after.known.local.answered ≡ with_answer ticket reply before.known.local.answered) × (after.known.local.won ≢ None))
 
 -- reads with one more, of an operation at a place, where so many entries of its caller are answered
 abbrev pub with_read : ℕ → List ℕ → List ℕ → ℕ → List SeenRead → List SeenRead
@@ -93,11 +95,11 @@ abbrev pub LooksUp : List ℕ → Seated → Seated → Option Seen → Type 0
 LooksUp op before after (Some found) = AnswersRead op found.place found.reply before after
 LooksUp op before after None = TurnRefused before after
 
--- The limit was come to: before the raise no read is answered, and behind it this one is.
+-- The limit was come to: before the raise no read is answered, and behind it this one is, and the shared right is still to be given back.
 pub record HaltsLookup (op : List ℕ) (before after : Seated) : Type 0 where
   pub limit : IsAtLimit after.known.local
   pub reads : (after.known.local.seen_reads ≡ before.known.local.seen_reads)
-      ⊎ ((place : ℕ) × (reply : List ℕ) × (after.known.local.seen_reads ≡ with_read place op reply (length before.known.local.answered) before.known.local.seen_reads))
+      ⊎ ((place : ℕ) × (reply : List ℕ) × (after.known.local.seen_reads ≡ with_read place op reply (length before.known.local.answered) before.known.local.seen_reads) × (after.known.local.shared ≢ None))
 
 -- DUR was raised by the code last loaded from CUR, which answers the read and nothing else.
 pub record AnswersReadBy {O : Type 0} (r : Running O) (step : O → List ℕ → List ℕ → List ℕ × List ℕ) (reads : O → List ℕ → Bool) (code : ℕ) (op reply : List ℕ) (before after : Seated) : Type 0 where

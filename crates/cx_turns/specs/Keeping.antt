@@ -59,8 +59,9 @@ abbrev pub TriesKeep : {O : Type 0} → ℕ → Running O → (List ℕ → Type
 TriesKeep lines r lawful step ticket before after (Some held) = IsKept lines r lawful step ticket before after held
 TriesKeep lines r lawful step ticket before after None = TurnRefused before after
 
--- The place is behind the ring. Where that shows the code last loaded from CUR to be outdated, a refusal is met.
+-- The place is behind the ring: a LOW above it was found. Where that shows the code last loaded from CUR to be outdated, a refusal is met.
 pub record IsBehind (callers : ℕ) (before after : Seated) : Type 0 where
+  pub above : noted_place before < after.known.local.seen_low
   pub protection : after.known.local.protection ≡ Unprotected
   pub outdated : ShowsOutdated callers (noted_place before) before.known.local → (after.known.local.met ≡ one_more before.known.local.met) × (after.known.local.fresh ≡ false)
   pub current : (ShowsOutdated callers (noted_place before) before.known.local → ⊥) → MeetsNone before after

@@ -12,6 +12,7 @@ ghost use Rattle.cx_turns.specs.Keeping.{Guards, IsAtImage, SeesCurrent, TriesKe
 ghost use Rattle.cx_turns.specs.Turns.{IsAtRest, beside_turn};
 ghost use Rattle.mutation_queue.specs.Protections.{but_protected};
 ghost use Rattle.replica.specs.Copies.{HoldsBoth};
+ghost use Rattle.replica.specs.Replays.{noted_place};
 
 use crate::reading::take_current;
 use cx_base::{Halt, Object};
@@ -69,7 +70,7 @@ fn guard<O: Object>(shared: &Shared<O>, seat: &mut CallerSeat, ticket: u64) -> R
     }
 }
 
-/// Copies the current replica over one held exclusively that is behind the ring, and keeps that one for the entries up to a ticket.
+/// Copies the current replica over one held exclusively that was found behind the ring, and keeps that one for the entries up to a ticket.
 fn copy_current<O: Object>(
     shared: &Shared<O>,
     seat: &mut CallerSeat,
@@ -78,6 +79,7 @@ fn copy_current<O: Object>(
 ) -> Result<Option<Exclusive>, Halt>
     requires held { IsAtImage (O.line_count shared.now.object) shared.now (O.lawful shared.now.object) (O.step shared.now.object) seat.old held }
     requires none { seat.old.known.local.protection ≡ Unprotected }
+    requires behind { noted_place seat.old < seat.old.known.local.seen_low }
     requires linked { ticket < seat.old.known.local.front }
     ensures kept { IfOk result (TriesKeep (O.line_count shared.now.object) shared.now (O.lawful shared.now.object) (O.step shared.now.object) ticket seat.old seat.new) }
     ensures halted { OnErr result (IsAtLimit seat.new.known.local) }

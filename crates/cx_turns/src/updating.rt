@@ -54,7 +54,7 @@ fn hand_over<O: Object>(
     requires seat { IsSeatOf shared.now seat.old }
     requires held { IsDowngradedOf shared.now.callers seat.old held }
     requires ready { IsReadyFor shared.now (O.lawful shared.now.object) (O.step shared.now.object) ticket reply.now seat.old }
-    ensures answered { OnOk result (AnswersEntry ticket reply.now seat.old seat.new) }
+    ensures answered { OnOk result (AnswersEntry 1 ticket reply.now seat.old seat.new) }
     ensures halted { OnErr result (HaltsFor ticket seat.old seat.new) }
     ensures rest { beside_update seat.new ≡ beside_update seat.old }
     ensures front { seat.old.known.local.front ≤ seat.new.known.local.front }
@@ -77,7 +77,7 @@ fn settle_won<O: Object>(
     requires seat { IsSeatOf shared.now seat.old }
     requires won { IsWonOf shared.now.callers seat.old won }
     requires published { IsPublishedFor shared.now (O.lawful shared.now.object) (O.step shared.now.object) won.code ticket reply.now seat.old }
-    ensures answered { OnOk result (AnswersEntry ticket reply.now seat.old seat.new) }
+    ensures answered { OnOk result (AnswersEntry 0 ticket reply.now seat.old seat.new) }
     ensures halted { OnErr result (HaltsFor ticket seat.old seat.new) }
     ensures rest { beside_update seat.new ≡ beside_update seat.old }
     ensures front { seat.old.known.local.front ≤ seat.new.known.local.front }
@@ -98,7 +98,7 @@ fn settle_passed<O: Object>(
     requires seat { IsSeatOf shared.now seat.old }
     requires none { seat.old.known.local.won ≡ None }
     requires published { IsPublishedFor shared.now (O.lawful shared.now.object) (O.step shared.now.object) found ticket reply.now seat.old }
-    ensures answered { OnOk result (AnswersEntry ticket reply.now seat.old seat.new) }
+    ensures answered { OnOk result (AnswersEntry 0 ticket reply.now seat.old seat.new) }
     ensures halted { OnErr result (HaltsFor ticket seat.old seat.new) }
     ensures rest { beside_update seat.new ≡ beside_update seat.old }
     ensures front { seat.old.known.local.front ≤ seat.new.known.local.front }

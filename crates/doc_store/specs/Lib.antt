@@ -1,5 +1,8 @@
+pub mod DocumentMeaning
 pub mod ExactStep
+pub mod MeaningLaws
 pub mod OpsRead
+pub mod ReplyWords
 pub mod StepOnWords
 pub mod StoreLaws
 pub use Rattle.cx_base.specs.Store

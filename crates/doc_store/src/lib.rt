@@ -7,6 +7,7 @@ mod readings;
 mod replies;
 mod step_laws;
 mod store;
+mod typed_store;
 mod word_parts;
 
 pub use step_laws::{

@@ -1,5 +1,5 @@
 -- Opening what no caller was found to need.
-use Rattle.std.proofs.Common.{◌≡◌, ◌^◌, ◌<◌, ◌≤◌, ℕ, min, max, Option, refl, sym, ap, ◌∙◌, arith, Some, None}
+use Rattle.std.proofs.Common.{◌≡◌, ◌+◌, ◌^◌, ◌<◌, ◌≤◌, ℕ, min, max, Option, refl, sym, ap, ◌∙◌, arith, Some, None}
 use Rattle.std.proofs.lemmas.List.{append-nil}
 use Rattle.std.proofs.lemmas.Option.{same_Some}
 use Rattle.cx_core.specs.declared.kinds.Kind.TheVariants.{LoadFree, OpenFree}
@@ -9,7 +9,7 @@ use Rattle.cx_core.specs.RingEvents.{bound_in, least_in, need_word}
 use Rattle.cx_core.specs.State.{Instance, one_more}
 use Rattle.cx_table.specs.Seats.{Seated, stepped}
 use Rattle.mutation_queue.specs.declared.collecting.Collected.{Collected}
-use Rattle.mutation_queue.specs.Collecting.{Collects, FindsLeast, Scans, ScansTo, but_collected}
+use Rattle.mutation_queue.specs.Collecting.{Collects, FindsLeast, Opens, Scans, ScansTo, but_collected}
 
 -- the least need that a scan found, of some callers
 record Least (target d number own bound : ℕ) (o : Option SeenNeed) : Type 0 where
@@ -52,6 +52,15 @@ module _ (instance : Instance) (target callers found free : ℕ) (s t u v : Seat
       ∙ ap (λ n. but_collected (record u { known = record u.known { noted = n } })) (append-nil u.known.noted)
       ∙ opened_rest
 
+  -- before FREE is loaded
+  pub opens_only : Opens callers s u
+  opens_only = record {
+    same = opened_rest;
+    scan = ap (λ (x : Seated). x.known.local.scan) opens;
+    scans = ap (λ (x : Seated). x.known.local.scans) opens ∙ ap (λ (x : Seated). one_more x.known.local.scans) so.same;
+    count = (let c = so.count in omega (arith, ap (λ (x : Seated). x.known.local.steps) opens, c));
+  }
+
   pub collects : (collected : Collected) → collected.free ≡ free → v.known.local.seen_need ≡ Some (record { need = collected.need; caller = collected.holder }) → Collects callers target s v collected
   collects collected is seen_as =
       let kept : t.known.local.seen_free ≡ s.known.local.seen_free = ap (λ (x : Seated). x.known.local.seen_free) so.same in
@@ -74,4 +83,5 @@ module _ (instance : Instance) (target callers found free : ℕ) (s t u v : Seat
         opened = omega arith;
         holder = omega arith;
         own = λ e. sym need ∙ all.needs (caller ∙ e);
+        count = (let c = so.count in omega (arith, ap (λ (x : Seated). x.known.local.steps) loads, ap (λ (x : Seated). x.known.local.steps) opens, c));
       }

@@ -9,15 +9,15 @@ use Rattle.cx_core.specs.declared.entry.Base.{Base}
 use Rattle.cx_core.specs.declared.kinds.Kind.TheVariants.{Link, Look}
 use Rattle.cx_core.specs.declared.local.Local.{Local}
 use Rattle.cx_core.specs.Events.{Guard}
-use Rattle.cx_core.specs.QueueEvents.{IsIdle, cell_of, entry_in, linked, lost, next_number, raised_front, seen_word}
+use Rattle.cx_core.specs.QueueEvents.{IsIdle, ShowsOpen, cell_of, entry_in, linked, lost, next_number, raised_front, seen_word}
 use Rattle.cx_core.specs.Layout.{cell_count}
 use Rattle.cx_core.specs.State.{Instance}
 use Rattle.cx_rule.specs.declared.rule.Noted.{Noted}
 use Rattle.cx_core.specs.Region.{slot_number}
 use Rattle.cx_table.specs.Running.{IsSeatOf, Running}
-use Rattle.cx_table.specs.Seats.{Seated, shown_next, stepped, unseen}
+use Rattle.cx_table.specs.Seats.{IsAtLimit, Seated, shown_next, stepped, unseen}
 use Rattle.cx_table.specs.Told.{LinkTold, LookTold}
-use Rattle.mutation_queue.specs.Links.{LinksAt, LinksNone, LinksPast, but_linked}
+use Rattle.mutation_queue.specs.Links.{FindsLink, FindsOpen, LinksAt, LinksNone, LinksPast, WinsTry, but_linked, with_front, with_loss, with_win}
 
 -- a raised front, by the word found
 raised_zero : (callers front found : ℕ) → found ≡ 0 → raised_front callers front found ≡ front
@@ -78,14 +78,18 @@ module _ (instance : Instance) (l : Local) (found : ℕ) (some : 1 ≤ instance.
           | inr ne ↦ (let used : 0 < found = omega arith in let below = open_ used in raised_some instance.callers l.front found used ∙ omega arith)
         ]
 
-    -- the entry may be tried then
+    -- the front is shown open then
+    pub shows_open : ShowsOpen instance.callers (Some (record { slot = l.front % cell_count instance.callers; word = found })) (raised_front instance.callers l.front found)
+    shows_open =
+        let shows = λ (f : ℕ). ((l.front % cell_count instance.callers ≡ f % cell_count instance.callers) × ((found ≡ 0) ⊎ ((0 < found) × (link_ticket_of instance.callers found + cell_count instance.callers ≡ f)))) in
+        let now : shows l.front = (refl, elim opens [ inl a ↦ inl a.0 | inr b ↦ inr b ]) in
+        subst shows (sym front_stays) now
+
+    -- the entry may be tried
     pub may_link : (cell : ℕ) → cell < 16 → IsIdle l cell → slice_index (cell_of l cell).words 0 ≡ next_number instance.base l → l.front < 2 ^ 40 → length l.answered ≡ length l.own →
         Guard instance unseen (Link cell) (shown_next instance (Look (l.front % cell_count instance.callers)) l found)
     may_link cell small idle announced below answered =
-        let here = front_stays in
-        let shows = λ (f : ℕ). ((l.front % cell_count instance.callers ≡ f % cell_count instance.callers) × ((found ≡ 0) ⊎ ((0 < found) × (link_ticket_of instance.callers found + cell_count instance.callers ≡ f)))) in
-        let now : shows l.front = (refl, elim opens [ inl a ↦ inl a.0 | inr b ↦ inr b ]) in
-        (small, idle, announced, omega arith, subst shows (sym here) now, answered)
+        let here = front_stays in (small, idle, announced, omega arith, shows_open, answered)
 
     -- a link that was lost found a ticket from the front on
     pub past_front : (found2 : ℕ) → LinkTold instance (shown_next instance (Look (l.front % cell_count instance.callers)) l found) found2 → found2 ≢ found → (0 < found2) × (l.front ≤ link_ticket_of instance.callers found2)
@@ -128,6 +132,52 @@ link_won instance l j found e = ap (λ b. cond b (linked l j) (lost instance.cal
 -- a seat with another local state and other notes
 abbrev seat_with : Seated → Local → List Noted → Seated
 seat_with s l notes = record s { known = record s.known { local = l; noted = notes } }
+
+-- what a look at the front's slot, a link that was lost, and one that was won make of the seat
+look_is : (instance : Instance) (s : Seated) (found : ℕ) → stepped instance (Look (s.known.local.front % cell_count instance.callers)) s found ≡ with_front instance.callers found s
+look_is instance s found = ap (seat_with s (with_front instance.callers found s).known.local) (append-nil s.known.noted)
+
+loss_is : (instance : Instance) (s : Seated) (j found : ℕ) → found ≢ seen_word s.known.local.seen_slot → stepped instance (Link j) s found ≡ with_loss instance.callers found s
+loss_is instance s j found ne =
+    ap (λ (x : Local). seat_with s x (s.known.noted ++ [])) (link_lost instance s.known.local j found ne)
+    ∙ ap (seat_with s (lost instance.callers s.known.local found)) (append-nil s.known.noted)
+
+win_is : (instance : Instance) (s : Seated) (j found : ℕ) → found ≡ seen_word s.known.local.seen_slot → stepped instance (Link j) s found ≡ with_win j s
+win_is instance s j found e =
+    ap (λ (x : Local). seat_with s x (s.known.noted ++ [])) (link_won instance s.known.local j found e)
+    ∙ ap (seat_with s (linked s.known.local j)) (append-nil s.known.noted)
+
+-- the slot of the front was found taken, or open
+pub finds_link : (instance : Instance) (s t : Seated) (found : ℕ) → ¬ IsAtLimit s.known.local → t ≡ stepped instance (Look (s.known.local.front % cell_count instance.callers)) s found → 0 < found → s.known.local.front ≤ link_ticket_of instance.callers found →
+    FindsLink instance.callers (with_front instance.callers) s t
+finds_link instance s t found allowed is some past = record { allowed = allowed; found = found; seat = is ∙ look_is instance s found; some = some; past = past }
+
+pub finds_open : (instance : Instance) (s t : Seated) (found : ℕ) → ¬ IsAtLimit s.known.local → t ≡ stepped instance (Look (s.known.local.front % cell_count instance.callers)) s found →
+    ShowsOpen instance.callers (Some (record { slot = s.known.local.front % cell_count instance.callers; word = found })) (raised_front instance.callers s.known.local.front found) → FindsOpen instance.callers s t
+finds_open instance s t found allowed is shows = record {
+  allowed = allowed;
+  found = found;
+  seat = is ∙ look_is instance s found;
+  shows = subst (λ (x : Seated). ShowsOpen instance.callers x.known.local.seen_slot x.known.local.front) (sym is) shows;
+}
+
+-- a look alone links nothing
+pub none_open : (callers : ℕ) (s t : Seated) → FindsOpen callers s t → LinksNone s t
+none_open callers s t finds = subst (LinksNone s) (sym finds.seat) (record { same = refl; front = raised_least callers s.known.local.front finds.found })
+
+-- the compare-exchange from the word that was seen was lost, or won
+pub finds_loss : (instance : Instance) (s t : Seated) (j seen found : ℕ) → seen_word s.known.local.seen_slot ≡ seen → ¬ IsAtLimit s.known.local → t ≡ stepped instance (Link j) s found → found ≢ seen → 0 < found → s.known.local.front ≤ link_ticket_of instance.callers found →
+    FindsLink instance.callers (with_loss instance.callers) s t
+finds_loss instance s t j seen found word allowed is ne some past =
+    record { allowed = allowed; found = found; seat = is ∙ loss_is instance s j found (λ e. ne (e ∙ word)); some = some; past = past }
+
+pub wins : (instance : Instance) (s t u : Seated) (cell j seen found : ℕ) → FindsOpen instance.callers s t → seen_word t.known.local.seen_slot ≡ seen → ¬ IsAtLimit t.known.local → u ≡ stepped instance (Link j) t found → found ≡ seen → j ≡ cell → WinsTry instance.callers cell s u
+wins instance s t u cell j seen found finds word allowed is e same = record {
+  mid = t;
+  finds = finds;
+  allowed = allowed;
+  seat = is ∙ win_is instance t j found (e ∙ sym word) ∙ ap (λ n. with_win n t) same;
+}
 
 -- the link was lost
 pub lost_to : (instance : Instance) (s : Seated) (found found2 cell : ℕ) → let l = s.known.local in let slot = l.front % cell_count instance.callers in let s1 = stepped instance (Look slot) s found in

@@ -1,10 +1,11 @@
 -- What collecting cells comes to.
-use Rattle.std.specs.Prelude.{◌≡◌, ◌<◌, ◌≤◌, false, ℕ, min, Option, Some, None}
+use Rattle.std.specs.Prelude.{◌≡◌, ◌+◌, ◌<◌, ◌≤◌, ◌⊎◌, false, ℕ, min, Option, Some, None, Result, Ok, Err}
 use Rattle.cx_core.specs.declared.local.Scan.{Scan}
 use Rattle.cx_core.specs.declared.local.SeenNeed.{SeenNeed}
+use Rattle.cx_core.specs.Layout.{max_word}
 use Rattle.cx_core.specs.RingEvents.{need_word}
 use Rattle.cx_core.specs.State.{one_more}
-use Rattle.cx_table.specs.Seats.{Seated}
+use Rattle.cx_table.specs.Seats.{IsAtLimit, Seated}
 use Rattle.mutation_queue.specs.declared.collecting.Collected.{Collected}
 
 -- a seat but for the scan under way, the greatest FREE found, what scans found, whether what was seen of CUR is fresh, and the counts of
@@ -25,6 +26,7 @@ pub record Collects (callers target : ℕ) (before after : Seated) (found : Coll
   pub opened : min target found.need ≤ found.free
   pub holder : found.holder < callers
   pub own : found.holder ≡ before.known.local.number → found.need ≡ need_word before.known.local.protection
+  pub count : after.known.local.steps ≡ min (before.known.local.steps + callers + 3) max_word
 
 -- a seat but for the scan under way and its steps
 abbrev pub but_scanned : Seated → Seated
@@ -45,3 +47,28 @@ ScansTo target d number own (Some s) = (s.next ≡ d) × FindsLeast target d num
 pub record Scans (target d : ℕ) (before after : Seated) : Type 0 where
   pub same : but_scanned after ≡ but_scanned before
   pub scan : ScansTo target d before.known.local.number (need_word before.known.local.protection) after.known.local.scan
+  pub count : after.known.local.steps ≡ min (before.known.local.steps + d + 1) max_word
+
+-- nothing was done, or LOW was raised and the needs of some of the callers were scanned, with which FREE is still to be raised
+abbrev pub ScansSome : ℕ → ℕ → Seated → Seated → Type 0
+ScansSome callers target before after = (after ≡ before) ⊎ ((d : ℕ) × (d ≤ callers) × Scans target d before after)
+
+abbrev pub EndsScanning : {E A : Type 0} → ℕ → ℕ → Seated → Seated → Result A E → Type 0
+EndsScanning callers target before after (Ok x) = Scans target callers before after
+EndsScanning callers target before after (Err e) = ScansSome callers target before after
+
+-- FREE was raised to what a scan found, and is still to be loaded
+pub record Opens (callers : ℕ) (before after : Seated) : Type 0 where
+  pub same : but_collected after ≡ but_collected before
+  pub scan : after.known.local.scan ≡ None
+  pub scans : after.known.local.scans ≡ one_more before.known.local.scans
+  pub count : after.known.local.steps ≡ min (before.known.local.steps + callers + 2) max_word
+
+-- The limit came before the last of the steps.
+pub record HaltsCollecting (callers target : ℕ) (before after : Seated) : Type 0 where
+  pub limit : IsAtLimit after.known.local
+  pub left : ScansSome callers target before after ⊎ Opens callers before after
+
+abbrev pub EndsCollecting : {E : Type 0} → ℕ → ℕ → Seated → Seated → Result Collected E → Type 0
+EndsCollecting callers target before after (Ok found) = Collects callers target before after found
+EndsCollecting callers target before after (Err e) = HaltsCollecting callers target before after

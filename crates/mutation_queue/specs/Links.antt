@@ -1,8 +1,11 @@
 -- What tries to link an entry come to.
-use Rattle.std.specs.Prelude.{◌≡◌, ◌+◌, ◌^◌, ◌<◌, ◌≤◌, ℕ, [], ◌∷◌, ◌++◌, slice_set, Option, Some, None}
-use Rattle.cx_base.specs.Codes.{root_place_of}
-use Rattle.cx_core.specs.QueueEvents.{cell_of, entry_in}
-use Rattle.cx_table.specs.Seats.{Seated}
+use Rattle.std.specs.Prelude.{◌≡◌, ◌+◌, ◌%◌, ◌^◌, ◌<◌, ◌≤◌, ◌⊎◌, ℕ, zero, suc, [], ◌∷◌, ◌++◌, slice_set, Option, Some, None}
+use Rattle.cx_base.specs.Codes.{link_ticket_of, root_place_of}
+use Rattle.cx_core.specs.declared.local.Local.{Local}
+use Rattle.cx_core.specs.Layout.{cell_count}
+use Rattle.cx_core.specs.QueueEvents.{ShowsOpen, cell_of, entry_in, linked, lost, raised_front}
+use Rattle.cx_core.specs.State.{one_more}
+use Rattle.cx_table.specs.Seats.{IsAtLimit, Seated}
 use Rattle.mutation_queue.specs.declared.linking.LinkTried.{LinkTried}
 use Rattle.mutation_queue.specs.declared.linking.LinkTried.TheVariants.{Again, Linked, Worn}
 
@@ -27,8 +30,84 @@ pub record LinksAt (cell ticket : ℕ) (before after : Seated) : Type 0 where
   pub front : after.known.local.front ≡ ticket + 1
   pub from : before.known.local.front ≤ ticket
 
+-- the seat after a look at the front's slot that found this word
+abbrev pub with_front : ℕ → ℕ → Seated → Seated
+with_front callers found s = record s {
+  known = record s.known {
+    local = record s.known.local {
+      front = raised_front callers s.known.local.front found;
+      seen_slot = Some (record { slot = s.known.local.front % cell_count callers; word = found });
+      steps = one_more s.known.local.steps;
+    };
+  };
+}
+
+-- the seat after a compare-exchange at the front that was lost to this word, and after one that won
+abbrev pub with_loss : ℕ → ℕ → Seated → Seated
+with_loss callers found s = record s { known = record s.known { local = lost callers s.known.local found } }
+
+abbrev pub with_win : ℕ → Seated → Seated
+with_win cell s = record s { known = record s.known { local = linked s.known.local cell } }
+
+-- One step, which the limit allowed, found another's link: a word that names a ticket from the front on.
+pub record FindsLink (callers : ℕ) (step : ℕ → Seated → Seated) (before after : Seated) : Type 0 where
+  pub allowed : ¬ IsAtLimit before.known.local
+  pub found : ℕ
+  pub seat : after ≡ step found before
+  pub some : 0 < found
+  pub past : before.known.local.front ≤ link_ticket_of callers found
+
+-- One look at the front's slot, which the limit allowed, found it open for the front.
+pub record FindsOpen (callers : ℕ) (before after : Seated) : Type 0 where
+  pub allowed : ¬ IsAtLimit before.known.local
+  pub found : ℕ
+  pub seat : after ≡ with_front callers found before
+  pub shows : ShowsOpen callers after.known.local.seen_slot after.known.local.front
+
+-- One try was lost: the look found another's link, or the slot open and the compare-exchange found another's link.
+abbrev pub LosesTry : ℕ → Seated → Seated → Type 0
+LosesTry callers before after =
+    FindsLink callers (with_front callers) before after
+    ⊎ ((mid : Seated) × FindsOpen callers before mid × FindsLink callers (with_loss callers) mid after)
+
+-- so many tries were lost, one after another
+abbrev pub LosesTries : ℕ → ℕ → Seated → Seated → Type 0
+LosesTries callers zero before after = after ≡ before
+LosesTries callers (suc n) before after = (mid : Seated) × LosesTries callers n before mid × LosesTry callers mid after
+
+-- One try was won: the look found the slot open, and the compare-exchange, which the limit allowed, linked the entry in the cell.
+pub record WinsTry (callers cell : ℕ) (before after : Seated) : Type 0 where
+  pub mid : Seated
+  pub finds : FindsOpen callers before mid
+  pub allowed : ¬ IsAtLimit mid.known.local
+  pub seat : after ≡ with_win cell mid
+
+-- A try that the limit ended: before its look, or before the compare-exchange.
+abbrev pub HaltsTry : ℕ → Seated → Seated → Type 0
+HaltsTry callers before after = (after ≡ before) ⊎ FindsOpen callers before after
+
+-- Fewer tries than so many were lost, where tickets were left, and then came a last one that was neither.
+pub record EndsBy (callers tries : ℕ) (try : Seated → Seated → Type 0) (before after : Seated) : Type 0 where
+  pub count : ℕ
+  pub fewer : count < tries
+  pub mid : Seated
+  pub lost : LosesTries callers count before mid
+  pub left : mid.known.local.front < 2 ^ 40
+  pub last : try mid after
+
+-- what tries come to, try by try
+abbrev pub MakesTries : ℕ → ℕ → ℕ → Seated → Seated → LinkTried → Type 0
+MakesTries callers cell tries before after (Linked ticket) = EndsBy callers tries (WinsTry callers cell) before after
+MakesTries callers cell tries before after Again = LosesTries callers tries before after
+MakesTries callers cell tries before after Worn = (count : ℕ) × (count ≤ tries) × LosesTries callers count before after
+
+-- The limit ended a further try: nothing was linked, fewer tries than so many were lost, and tickets are left.
+abbrev pub HaltsTries : ℕ → ℕ → Seated → Seated → Type 0
+HaltsTries callers tries before after = LinksNone before after × IsAtLimit after.known.local × EndsBy callers tries (HaltsTry callers) before after
+
 -- each of so many tries found another's link, and tickets are left
 pub record LinksAgain (callers tries : ℕ) (before after : Seated) : Type 0 where
+  pub lost : LosesTries callers tries before after
   pub none : LinksNone before after
   pub front : before.known.local.front + tries ≤ after.known.local.front
   pub cur : root_place_of callers before.known.local.seen_cur + tries ≤ after.known.local.front
@@ -51,5 +130,5 @@ pub record LinksPast (callers : ℕ) (before after : Seated) : Type 0 where
   pub cur : root_place_of callers before.known.local.seen_cur ≤ before.known.local.front
 
 abbrev pub TriedOnce : ℕ → ℕ → Seated → Seated → Option ℕ → Type 0
-TriedOnce callers cell before after (Some ticket) = LinksAt cell ticket before after
-TriedOnce callers cell before after None = LinksPast callers before after
+TriedOnce callers cell before after (Some ticket) = LinksAt cell ticket before after × WinsTry callers cell before after
+TriedOnce callers cell before after None = LinksPast callers before after × LosesTry callers before after

@@ -1,10 +1,12 @@
 -- What protecting tickets comes to.
-use Rattle.std.specs.Prelude.{◌≡◌, ◌<◌, ◌≤◌, true, false, ℕ}
+use Rattle.std.specs.Prelude.{◌≡◌, ◌+◌, ◌<◌, ◌≤◌, ◌⊎◌, true, false, ℕ, min, Result, Ok, Err}
 use Rattle.cx_base.specs.Codes.{root_place_of}
 use Rattle.cx_core.specs.declared.local.Local.{Local}
 use Rattle.cx_core.specs.declared.local.Protection.TheVariants.{Confirmed, Unprotected}
+use Rattle.cx_core.specs.Layout.{max_word}
+use Rattle.cx_core.specs.RingEvents.{confirmed, stated}
 use Rattle.cx_core.specs.State.{one_more}
-use Rattle.cx_table.specs.Seats.{Seated}
+use Rattle.cx_table.specs.Seats.{IsAtLimit, Seated}
 use Rattle.mutation_queue.specs.declared.protecting.Protected.{Protected}
 use Rattle.mutation_queue.specs.declared.protecting.Protected.TheVariants.{Behind, Kept}
 
@@ -21,11 +23,13 @@ pub record MeetsNone (before after : Seated) : Type 0 where
   pub fresh : after.known.local.fresh ≡ before.known.local.fresh
   pub met : after.known.local.met ≡ before.known.local.met
 
--- the tickets from a place on are protected
+-- The tickets from a place on are protected: the LOW loaded is at most that place.
 pub record KeepsFrom (place : ℕ) (before after : Seated) : Type 0 where
   pub same : but_protected after ≡ but_protected before
   pub protection : after.known.local.protection ≡ Confirmed place
   pub none : MeetsNone before after
+  pub least : after.known.local.seen_low ≤ place
+  pub count : after.known.local.steps ≡ min (before.known.local.steps + 2) max_word
 
 -- LOW is above the place, and no protection stands. Where that shows the code last loaded from CUR to be outdated, a refusal is met.
 pub record FallsBehind (callers place low : ℕ) (before after : Seated) : Type 0 where
@@ -35,11 +39,32 @@ pub record FallsBehind (callers place low : ℕ) (before after : Seated) : Type 
   pub seen : after.known.local.seen_low ≡ low
   pub outdated : ShowsOutdated callers place before.known.local → (after.known.local.met ≡ one_more before.known.local.met) × (after.known.local.fresh ≡ false)
   pub current : (ShowsOutdated callers place before.known.local → ⊥) → MeetsNone before after
+  pub count : after.known.local.steps ≡ min (before.known.local.steps + 3) max_word
 
 -- what protecting the tickets from a place on comes to
 abbrev pub TriesProtect : ℕ → ℕ → Seated → Seated → Protected → Type 0
 TriesProtect callers place before after Kept = KeepsFrom place before after
 TriesProtect callers place before after (Behind low) = FallsBehind callers place low before after
+
+-- the seat after a place was stated, and after this LOW was loaded
+abbrev pub with_stated : ℕ → Seated → Seated
+with_stated place s = record s { known = record s.known { local = stated place s.known.local } }
+
+abbrev pub with_low : ℕ → ℕ → Seated → Seated
+with_low callers low s = record s { known = record s.known { local = confirmed callers s.known.local low } }
+
+-- The limit came before the place was stated, before LOW was loaded, or, where LOW is above the place, before that was taken back:
+-- no protection is confirmed.
+pub record HaltsProtecting (callers place : ℕ) (before after : Seated) : Type 0 where
+  pub limit : IsAtLimit after.known.local
+  pub seat :
+      (after ≡ before)
+      ⊎ ((after ≡ with_stated place before)
+      ⊎ ((low : ℕ) × (place < low) × (after ≡ with_low callers low (with_stated place before))))
+
+abbrev pub EndsProtecting : {E : Type 0} → ℕ → ℕ → Seated → Seated → Result Protected E → Type 0
+EndsProtecting callers place before after (Ok x) = TriesProtect callers place before after x
+EndsProtecting callers place before after (Err e) = HaltsProtecting callers place before after
 
 -- the protection is given up by one step
 abbrev pub unprotected : Seated → Seated

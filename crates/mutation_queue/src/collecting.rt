@@ -1,11 +1,11 @@
 //! Cells that nobody needs are opened, so that they can be written again.
 
-ghost use Rattle.std.specs.Prelude.{◌≡◌, ◌+◌, ◌^◌, ◌<◌, ◌≤◌, None, Some, IfOk, OnErr, OnOk};
+ghost use Rattle.std.specs.Prelude.{◌≡◌, ◌+◌, ◌^◌, ◌<◌, ◌≤◌, None, Some, OnErr, OnOk};
 ghost use Rattle.cx_base.specs.Codes.{root_place_of};
 ghost use Rattle.cx_core.specs.declared.local.SeenNeed.{SeenNeed};
 ghost use Rattle.cx_table.specs.Running.{IsSeatOf};
 ghost use Rattle.cx_table.specs.Seats.{IsAtLimit};
-ghost use Rattle.mutation_queue.specs.Collecting.{Collects, Scans, but_collected};
+ghost use Rattle.mutation_queue.specs.Collecting.{EndsCollecting, EndsScanning, but_collected};
 
 use cx_base::{Halt, Object};
 use cx_table::{CallerSeat, Shared};
@@ -23,7 +23,7 @@ pub struct Collected {
 /// Collects cells: LOW is raised to a target, by which the tickets below it are closed, the need of each caller is scanned, and
 /// FREE is raised to the least of these and the target; cells with a ticket below FREE may then be written again. It makes as
 /// many steps as there are callers and three more. `Halt` comes exactly where a further step is to be made and the seat's steps
-/// equal its limit.
+/// equal its limit: a need is then not scanned, FREE not raised, or not loaded.
 pub fn collect<O: Object>(
     shared: &Shared<O>,
     seat: &mut CallerSeat,
@@ -33,7 +33,7 @@ pub fn collect<O: Object>(
     requires target { target ≤ root_place_of shared.now.callers seat.old.known.local.seen_cur }
     requires none { seat.old.known.local.scan ≡ None }
     ensures allowed { OnOk result (¬ IsAtLimit seat.old.known.local) }
-    ensures collected { IfOk result (Collects shared.now.callers target seat.old seat.new) }
+    ensures collected { EndsCollecting shared.now.callers target seat.old seat.new result }
     ensures halted { OnErr result (IsAtLimit seat.new.known.local) }
     ensures rest { but_collected seat.new ≡ but_collected seat.old }
     ensures steps { seat.new.known.local.steps ≤ seat.old.known.local.steps + shared.now.callers + 3 }
@@ -51,7 +51,7 @@ fn scan_needs<O: Object>(shared: &Shared<O>, seat: &mut CallerSeat, target: u64)
     requires target { target ≤ root_place_of shared.now.callers seat.old.known.local.seen_cur }
     requires none { seat.old.known.local.scan ≡ None }
     ensures allowed { OnOk result (¬ IsAtLimit seat.old.known.local) }
-    ensures scans { OnOk result (Scans target shared.now.callers seat.old seat.new) }
+    ensures scans { EndsScanning shared.now.callers target seat.old seat.new result }
     ensures some { OnOk result ((1 ≤ shared.now.callers) × (shared.now.callers ≤ 8)) }
     ensures halted { OnErr result (IsAtLimit seat.new.known.local) }
     ensures rest { but_collected seat.new ≡ but_collected seat.old }

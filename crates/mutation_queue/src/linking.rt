@@ -5,7 +5,7 @@ ghost use Rattle.cx_base.specs.Codes.{link_ticket_of};
 ghost use Rattle.cx_core.specs.QueueEvents.{IsIdle, cell_of, next_number};
 ghost use Rattle.cx_table.specs.Running.{IsSeatOf};
 ghost use Rattle.cx_table.specs.Seats.{IsAtLimit};
-ghost use Rattle.mutation_queue.specs.Links.{LinksNone, Tried, TriedOnce};
+ghost use Rattle.mutation_queue.specs.Links.{HaltsTries, HaltsTry, LinksNone, MakesTries, Tried, TriedOnce};
 
 use cx_base::{Halt, Object, link_ticket};
 use cx_core::layout::cell_count;
@@ -28,7 +28,8 @@ pub enum LinkTried {
 /// Tries at most `tries` times to link the entry that was announced in a cell of the caller. A try is one look at the
 /// front's slot and, where the slot is open, one compare-exchange. `Worn` comes exactly where the entry was not linked and
 /// the front is then 2^40; else `Again` exactly where each of the tries found another's link. `Halt` comes exactly where a
-/// further step is to be made and the seat's steps equal its limit; then nothing is linked. No try takes more than two steps.
+/// further step is to be made and the seat's steps equal its limit: fewer tries were lost, a ticket is left, and the next look or
+/// compare-exchange was not allowed. Then nothing is linked. A try that is lost at its look takes one step, any other two.
 pub fn link<O: Object>(
     shared: &Shared<O>,
     seat: &mut CallerSeat,
@@ -41,7 +42,8 @@ pub fn link<O: Object>(
     requires answered { length seat.old.known.local.answered ≡ length seat.old.known.local.own }
     requires tries { 1 ≤ tries }
     ensures tried { IfOk result (λ tried. Tried shared.now.callers cell tries seat.old seat.new tried) }
-    ensures halted { OnErr result (LinksNone seat.old seat.new × IsAtLimit seat.new.known.local) }
+    ensures made { IfOk result (MakesTries shared.now.callers cell tries seat.old seat.new) }
+    ensures halted { OnErr result (HaltsTries shared.now.callers tries seat.old seat.new) }
     ensures halts { IsAtLimit seat.old.known.local → IsErr result ⊎ (seat.old.known.local.front ≡ 2 ^ 40) }
     ensures steps { seat.new.known.local.steps ≤ seat.old.known.local.steps + 2 * tries }
     ensures seat { IsSeatOf shared.now seat.new }
@@ -73,7 +75,7 @@ fn try_link<O: Object>(
     requires answered { length seat.old.known.local.answered ≡ length seat.old.known.local.own }
     requires front { seat.old.known.local.front < 2 ^ 40 }
     ensures tried { IfOk result (λ tried. TriedOnce shared.now.callers cell seat.old seat.new tried) }
-    ensures halted { OnErr result (LinksNone seat.old seat.new × IsAtLimit seat.new.known.local) }
+    ensures halted { OnErr result (LinksNone seat.old seat.new × IsAtLimit seat.new.known.local × HaltsTry shared.now.callers seat.old seat.new) }
     ensures halts { IsAtLimit seat.old.known.local → IsErr result }
     ensures steps { seat.new.known.local.steps ≤ seat.old.known.local.steps + 2 }
 {

@@ -1,10 +1,10 @@
 //! Tickets are protected while their entries are read.
 
-ghost use Rattle.std.specs.Prelude.{◌≡◌, ◌+◌, ◌^◌, ◌≤◌, IfOk, OnErr, OnOk};
+ghost use Rattle.std.specs.Prelude.{◌≡◌, ◌+◌, ◌^◌, ◌≤◌, OnErr, OnOk};
 ghost use Rattle.cx_core.specs.RingEvents.{IsProtected, IsUnprotected};
 ghost use Rattle.cx_table.specs.Running.{IsSeatOf};
 ghost use Rattle.cx_table.specs.Seats.{IsAtLimit};
-ghost use Rattle.mutation_queue.specs.Protections.{TriesProtect, but_protected, unprotected};
+ghost use Rattle.mutation_queue.specs.Protections.{EndsProtecting, but_protected, unprotected};
 
 use cx_base::{Halt, Object};
 use cx_table::{CallerSeat, Shared};
@@ -19,8 +19,8 @@ pub enum Protected {
 }
 
 /// Protects the tickets from a place on: the place is stated, and LOW, below which tickets are closed, is loaded. Where LOW is at
-/// most the place, the protection is kept; where LOW is above it, the protection is given up again. It makes at most three steps.
-/// `Halt` comes exactly where a further step is to be made and the seat's steps equal its limit.
+/// most the place, the protection is kept, in two steps; where LOW is above it, the protection is given up again, in a third. `Halt`
+/// comes exactly where a further step is to be made and the seat's steps equal its limit: the protection is then not confirmed.
 pub fn protect<O: Object>(
     shared: &Shared<O>,
     seat: &mut CallerSeat,
@@ -30,7 +30,7 @@ pub fn protect<O: Object>(
     requires place { place ≤ 2 ^ 40 }
     requires none { IsUnprotected seat.old.known.local.protection }
     ensures allowed { OnOk result (¬ IsAtLimit seat.old.known.local) }
-    ensures protected { IfOk result (TriesProtect shared.now.callers place seat.old seat.new) }
+    ensures protected { EndsProtecting shared.now.callers place seat.old seat.new result }
     ensures halted { OnErr result (IsAtLimit seat.new.known.local) }
     ensures rest { but_protected seat.new ≡ but_protected seat.old }
     ensures steps { seat.new.known.local.steps ≤ seat.old.known.local.steps + 3 }

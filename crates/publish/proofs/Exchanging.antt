@@ -1,11 +1,11 @@
 -- What an exchange of CUR, and the release of a downgraded right, leave of the seat.
-use Rattle.std.proofs.Common.{◌≡◌, ◌≢◌, ◌==◌, ◌<◌, ◌≤◌, ◌*◌, ◌^◌, inl, inr, ℕ, Bool, true, false, cond, ap, sym, subst, ◌∙◌, refl, arith, eq-eqb, List, ◌++◌, [], append-nil, Option, Some, None, Result, Ok, Err}
+use Rattle.std.proofs.Common.{◌≡◌, ◌≢◌, ◌==◌, ◌+◌, ◌<◌, ◌≤◌, ◌*◌, ◌^◌, inl, inr, ℕ, Bool, true, false, cond, ap, sym, subst, ◌∙◌, refl, arith, eq-eqb, List, ◌++◌, [], append-nil, Option, Some, None, Result, Ok, Err}
 use Rattle.std.proofs.lemmas.Bool.{cases_Bool, eqb-true}
 use Rattle.std.proofs.Math.Nat.{div-lt_iff_lt-mul, le-max_left}
 use Rattle.cx_base.specs.Codes.{root_place_of}
 use Rattle.cx_core.specs.declared.kinds.Kind.TheVariants.{Publish}
 use Rattle.cx_core.specs.declared.local.HeldDowngraded.{HeldDowngraded}
-use Rattle.cx_core.specs.RootEvents.{IsAbove, outrun, published}
+use Rattle.cx_core.specs.RootEvents.{IsAbove, code_in, outrun, published}
 use Rattle.cx_core.specs.State.{one_more}
 use Rattle.cx_rule.specs.Running.{Running}
 use Rattle.cx_rule.specs.Seats.{Seated}
@@ -15,7 +15,7 @@ use Rattle.cx_table.specs.Tokens.{TriedPublish}
 use Rattle.strong_trylock.specs.Ends.{but_downgraded}
 use Rattle.strong_trylock.specs.Held.{AllRights, all_rights}
 use Rattle.publish.proofs.Options.{none_of}
-use Rattle.publish.specs.Publishing.{Exchanges, KeepsMet, PassedBy, beside_publish, place_in}
+use Rattle.publish.specs.Publishing.{Exchanges, KeepsMet, MeetsOne, PassedBy, beside_publish, place_in}
 
 -- what is downgraded at a place above a code may be published
 pub may_publish : (callers code : ℕ) (o : Option HeldDowngraded) → root_place_of callers code < place_in o → IsAbove callers code o
@@ -25,6 +25,16 @@ may_publish callers code (Some h) below = below
 -- a code that is below a place is below the first code of that place
 pub below_place : (callers code place : ℕ) → 1 ≤ callers → root_place_of callers code < place → code < place * (2 * callers)
 below_place callers code place some below = (div-lt_iff_lt-mul {k = 2 * callers} {x = code} {y = place} (omega (arith, some))).0 below
+
+-- the code of what is downgraded is above a code whose place is below
+code_above : (callers code : ℕ) (o : Option HeldDowngraded) → 1 ≤ callers → root_place_of callers code < place_in o → code < code_in callers o
+code_above callers code None some below = absurd (omega (arith, below))
+code_above callers code (Some h) some below = (let least = below_place callers code h.place some below in omega (arith, least))
+
+-- a count that may rise does so by one at most
+not_above : (n : ℕ) → (rises : Bool) → cond rises (one_more n) n ≤ n + 1
+not_above n true = omega arith
+not_above n false = omega arith
 
 -- a count that may rise does not fall
 not_less : (n : ℕ) → n < 2 ^ 64 → (rises : Bool) → n ≤ cond rises (one_more n) n
@@ -70,6 +80,30 @@ module _ {O : Type 0} (r : Running O) (step : O → List ℕ → List ℕ → Li
   pub exchange_counted : before.known.local.met < 2 ^ 64 → before.known.local.met ≤ after.known.local.met
   exchange_counted small = subst (λ (t : Seated). before.known.local.met ≤ t.known.local.met) (sym s.made) (counted_by small (found == before.known.local.seen_cur))
 
+  most_by : (won : Bool) → (by won).known.local.met ≤ before.known.local.met + 1
+  most_by true = omega arith
+  most_by false = not_above before.known.local.met before.known.local.fresh
+
+  -- and at most one is met
+  pub exchange_most : after.known.local.met ≤ before.known.local.met + 1
+  exchange_most = subst (λ (t : Seated). t.known.local.met ≤ before.known.local.met + 1) (sym s.made) (most_by (found == before.known.local.seen_cur))
+
+  step_by : (won : Bool) → (by won).known.local.steps ≤ before.known.local.steps + 1
+  step_by true = omega arith
+  step_by false = omega arith
+
+  one_step : after.known.local.steps ≤ before.known.local.steps + 1
+  one_step = subst (λ (t : Seated). t.known.local.steps ≤ before.known.local.steps + 1) (sym s.made) (step_by (found == before.known.local.seen_cur))
+
+  -- the step found a later code, or put one there
+  pub exchange_steps : (x : Result WonRight Right) → 1 ≤ r.callers → root_place_of r.callers before.known.local.seen_cur < place_in before.known.local.downgraded → Exchanges r.callers before after x →
+      after.known.local.steps + before.known.local.seen_cur ≤ before.known.local.steps + after.known.local.seen_cur
+  exchange_steps (Ok won) some below exchanged =
+      let above = code_above r.callers before.known.local.seen_cur before.known.local.downgraded some below in
+      let seen = exchanged.seen ∙ exchanged.code in
+      omega (arith, seen, above, one_step)
+  exchange_steps (Err given) some below exchanged = (let later = exchanged.later in omega (arith, later, one_step))
+
   pub exchanged : (held : Right) (x : Result WonRight Right) → before.known.local.won ≡ None → TriedPublish r.callers before held after found x → Exchanges r.callers before after x
   exchanged held (Ok won) none tried =
       let is = is_by true (eq-eqb found before.known.local.seen_cur tried.0) in
@@ -110,6 +144,19 @@ passed callers found before after rest rights none seen above = record {
 
 pub passed_rest : (before after : Seated) → but_downgraded after ≡ but_downgraded before → beside_publish after ≡ beside_publish before
 passed_rest before after rest = ap beside_publish rest
+
+-- what one exchange more meets
+pub meets_more : (first seat after : Seated) → MeetsOne first seat → KeepsMet seat after → after.known.local.met ≤ seat.known.local.met + 1 → after.known.local.fresh ≡ false → MeetsOne first after
+meets_more first seat after (inl same) keeps most stale = inr (omega (arith, same, most), stale)
+meets_more first seat after (inr one) keeps most stale = (let met = keeps one.1 in let few = one.0 in inr (omega (arith, met, few), stale))
+
+pub meets_most : (first seat after : Seated) → MeetsOne first seat → KeepsMet seat after → after.known.local.met ≤ seat.known.local.met + 1 → after.known.local.met ≤ first.known.local.met + 1
+meets_most first seat after (inl same) keeps most = omega (arith, same, most)
+meets_most first seat after (inr one) keeps most = (let met = keeps one.1 in let few = one.0 in omega (arith, met, few))
+
+pub met_most : (first seat : Seated) → MeetsOne first seat → seat.known.local.met ≤ first.known.local.met + 1
+met_most first seat (inl same) = omega (arith, same)
+met_most first seat (inr one) = one.0
 
 pub passed_met : (before after : Seated) → but_downgraded after ≡ but_downgraded before → KeepsMet before after
 passed_met before after rest was = ap (λ (s : Seated). s.known.local.met) rest

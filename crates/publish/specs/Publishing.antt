@@ -1,10 +1,10 @@
 -- What a publication comes to.
-use Rattle.std.specs.Prelude.{◌≡◌, ◌<◌, ◌≤◌, ℕ, false, Option, Some, None, Result, Ok, Err}
+use Rattle.std.specs.Prelude.{◌≡◌, ◌+◌, ◌<◌, ◌≤◌, ◌⊎◌, ℕ, false, Option, Some, None, Result, Ok, Err}
 use Rattle.cx_base.specs.Codes.{root_place_of}
 use Rattle.cx_core.specs.declared.local.HeldDowngraded.{HeldDowngraded}
 use Rattle.cx_core.specs.RootEvents.{code_in}
 use Rattle.cx_rule.specs.Running.{IsSeatOf, Running}
-use Rattle.cx_rule.specs.Seats.{Seated}
+use Rattle.cx_rule.specs.Seats.{IsAtLimit, Seated}
 use Rattle.cx_table.specs.Right.{Right, WonRight}
 use Rattle.cx_table.specs.Tokens.{IsDowngradedOf, IsWonOf}
 use Rattle.publish.specs.declared.publishing.Published.{Published}
@@ -44,6 +44,20 @@ abbrev pub Exchanges : ℕ → Seated → Seated → Result WonRight Right → T
 Exchanges callers before after (Ok won) = WinsCur callers before after won
 Exchanges callers before after (Err given) = LosesCur callers before after given
 
+-- The limit came before an exchange or the release was made: the right stands, and nothing was won.
+pub record HaltsPublishing (before after : Seated) : Type 0 where
+  pub held : after.known.local.downgraded ≡ before.known.local.downgraded
+  pub none : after.known.local.won ≡ None
+  pub limit : IsAtLimit after.known.local
+
+abbrev pub EndsExchange : {E : Type 0} → ℕ → Seated → Seated → Result (Result WonRight Right) E → Type 0
+EndsExchange callers before after (Ok x) = Exchanges callers before after x
+EndsExchange callers before after (Err e) = HaltsPublishing before after
+
+-- at most one refusal was met, after which what was seen of CUR is not fresh
+abbrev pub MeetsOne : Seated → Seated → Type 0
+MeetsOne before after = (after.known.local.met ≡ before.known.local.met) ⊎ ((after.known.local.met ≤ before.known.local.met + 1) × (after.known.local.fresh ≡ false))
+
 -- no refusal is met where what was seen of CUR was not fresh
 abbrev pub KeepsMet : Seated → Seated → Type 0
 KeepsMet before after = before.known.local.fresh ≡ false → after.known.local.met ≡ before.known.local.met
@@ -59,6 +73,9 @@ pub record Turns {O : Type 0} (r : Running O) (first seat : Seated) (right : Rig
   pub met : KeepsMet first seat
   pub counted : first.known.local.met ≤ seat.known.local.met
   pub stale : first.known.local.fresh ≡ false → seat.known.local.fresh ≡ false
+  pub most : MeetsOne first seat
+  pub stands : IsAtLimit first.known.local → IsAtLimit seat.known.local
+  pub steps : seat.known.local.steps + first.known.local.seen_cur ≤ first.known.local.steps + seat.known.local.seen_cur
 
 -- a code was found in CUR whose place is not below the caller's own: the caller gave its right up
 pub record PassedBy (callers found : ℕ) (before after : Seated) : Type 0 where
@@ -71,3 +88,7 @@ pub record PassedBy (callers found : ℕ) (before after : Seated) : Type 0 where
 abbrev pub Publishes : ℕ → Seated → Seated → Published → Type 0
 Publishes callers before after (Won won) = WinsCur callers before after won
 Publishes callers before after (Passed found) = PassedBy callers found before after
+
+abbrev pub EndsPublishing : {E : Type 0} → ℕ → Seated → Seated → Result Published E → Type 0
+EndsPublishing callers before after (Ok x) = Publishes callers before after x
+EndsPublishing callers before after (Err e) = HaltsPublishing before after

@@ -1,11 +1,11 @@
 //! A downgraded replica is put into CUR, where its place is above that of the code found there.
 
-ghost use Rattle.std.specs.Prelude.{◌≡◌, ◌<◌, ◌≤◌, None, IfOk, OnErr};
+ghost use Rattle.std.specs.Prelude.{◌≡◌, ◌+◌, ◌<◌, ◌≤◌, None, OnErr, OnOk};
 ghost use Rattle.cx_base.specs.Codes.{root_place_of};
 ghost use Rattle.cx_rule.specs.Running.{IsSeatOf};
 ghost use Rattle.cx_rule.specs.Seats.{IsAtLimit};
 ghost use Rattle.cx_table.specs.Tokens.{IsDowngradedOf};
-ghost use Rattle.publish.specs.Publishing.{Exchanges, KeepsMet, Publishes, beside_publish, place_in};
+ghost use Rattle.publish.specs.Publishing.{EndsExchange, EndsPublishing, KeepsMet, beside_publish, place_in};
 
 use cx_base::{Halt, Object, root_place};
 use cx_table::{CallerSeat, Downgraded, Shared, Won};
@@ -22,7 +22,8 @@ pub enum Published {
 
 /// Publishes a replica that the caller has downgraded: a compare-exchange of CUR, which turns again where it was lost to a smaller
 /// place. `Passed` comes exactly where a code found in CUR has a place not below the replica's; then the right was given up.
-/// `Halt` comes only where the seat's steps equal its limit.
+/// Each exchange that is lost found a later code, so that there are no more steps than CUR rose, and one; and at most one refusal is
+/// met. `Halt` comes exactly where a further step is to be made and the seat's steps equal its limit: the right then stands.
 pub fn publish<O: Object>(
     shared: &Shared<O>,
     seat: &mut CallerSeat,
@@ -31,11 +32,14 @@ pub fn publish<O: Object>(
     requires seat { IsSeatOf shared.now seat.old }
     requires held { IsDowngradedOf shared.now.callers seat.old held }
     requires retired { seat.old.known.local.won ≡ None }
-    ensures published { IfOk result (Publishes shared.now.callers seat.old seat.new) }
+    ensures published { EndsPublishing shared.now.callers seat.old seat.new result }
+    ensures allowed { OnOk result (¬ IsAtLimit seat.old.known.local) }
     ensures seat { IsSeatOf shared.now seat.new }
     ensures front { seat.old.known.local.front ≤ seat.new.known.local.front }
     ensures met { KeepsMet seat.old seat.new }
     ensures counted { seat.old.known.local.met ≤ seat.new.known.local.met }
+    ensures most { seat.new.known.local.met ≤ seat.old.known.local.met + 1 }
+    ensures steps { seat.new.known.local.steps + seat.old.known.local.seen_cur ≤ seat.old.known.local.steps + seat.new.known.local.seen_cur + 1 }
     ensures rest { beside_publish seat.new ≡ beside_publish seat.old }
     ensures halts { OnErr result (IsAtLimit seat.new.known.local) }
 {
@@ -61,11 +65,13 @@ fn pass<O: Object>(
     requires held { IsDowngradedOf shared.now.callers seat.old held }
     requires retired { seat.old.known.local.won ≡ None }
     requires above { place_in seat.old.known.local.downgraded ≤ root_place_of shared.now.callers seat.old.known.local.seen_cur }
-    ensures published { IfOk result (Publishes shared.now.callers seat.old seat.new) }
+    ensures published { EndsPublishing shared.now.callers seat.old seat.new result }
+    ensures allowed { OnOk result (¬ IsAtLimit seat.old.known.local) }
     ensures seat { IsSeatOf shared.now seat.new }
     ensures front { seat.old.known.local.front ≤ seat.new.known.local.front }
     ensures met { KeepsMet seat.old seat.new }
-    ensures counted { seat.old.known.local.met ≤ seat.new.known.local.met }
+    ensures counted { seat.new.known.local.met ≡ seat.old.known.local.met }
+    ensures steps { seat.new.known.local.steps + seat.old.known.local.seen_cur ≤ seat.old.known.local.steps + seat.new.known.local.seen_cur + 1 }
     ensures rest { beside_publish seat.new ≡ beside_publish seat.old }
     ensures halts { OnErr result (IsAtLimit seat.new.known.local) }
 {
@@ -84,11 +90,14 @@ fn exchange<O: Object>(
     requires held { IsDowngradedOf shared.now.callers seat.old held }
     requires retired { seat.old.known.local.won ≡ None }
     requires below { root_place_of shared.now.callers seat.old.known.local.seen_cur < place_in seat.old.known.local.downgraded }
-    ensures exchanged { IfOk result (Exchanges shared.now.callers seat.old seat.new) }
+    ensures exchanged { EndsExchange shared.now.callers seat.old seat.new result }
+    ensures allowed { OnOk result (¬ IsAtLimit seat.old.known.local) }
     ensures seat { IsSeatOf shared.now seat.new }
     ensures front { seat.old.known.local.front ≤ seat.new.known.local.front }
     ensures met { KeepsMet seat.old seat.new }
     ensures counted { seat.old.known.local.met ≤ seat.new.known.local.met }
+    ensures most { seat.new.known.local.met ≤ seat.old.known.local.met + 1 }
+    ensures steps { seat.new.known.local.steps + seat.old.known.local.seen_cur ≤ seat.old.known.local.steps + seat.new.known.local.seen_cur }
     ensures rest { beside_publish seat.new ≡ beside_publish seat.old }
     ensures halts { OnErr result (IsAtLimit seat.new.known.local) }
 {

@@ -1,13 +1,18 @@
 //! Tables of entries that are kept, and of the flags of stop lines.
 
 use crate::holds::holds;
+use doc_model::Reply;
 use journals::{flag_stops, is_kept};
 use life_records::{JournalLine, StopLine};
 use std::alloc::{AllocError, Global};
 use std::test::Fail;
 
 // A journal from a place on, of these clients and their commands.
-fn journal(alloc: Global, place: u64, of: &[(u32, u64)]) -> Result<Vec<JournalLine>, AllocError> {
+fn journal(
+    alloc: Global,
+    place: u64,
+    of: &[(u32, u64)],
+) -> Result<Vec<JournalLine<Reply>>, AllocError> {
     let mut lines = Vec::new(alloc);
     let mut ticket = place;
     for (client, command) in of {
@@ -89,7 +94,7 @@ fn stops(flags: &[bool; 3]) -> [StopLine; 3] {
 }
 
 // Whether the stops of a life that kept so many entries get these flags, whatever flag they had.
-fn are_flagged(journal: &[JournalLine], kept: u64, flags: &[bool; 3], before: bool) -> bool {
+fn are_flagged(journal: &[JournalLine<Reply>], kept: u64, flags: &[bool; 3], before: bool) -> bool {
     let mut lines = stops(&[before; 3]);
     flag_stops(journal, 20, kept, &mut lines);
     lines == stops(flags)
@@ -105,7 +110,7 @@ const FLAGS: [(u64, [bool; 3]); 5] = [
 ];
 
 // The first row whose stops get other flags.
-fn first_wrong_flags(journal: &[JournalLine], rows: &[(u64, [bool; 3])]) -> Option<usize> {
+fn first_wrong_flags(journal: &[JournalLine<Reply>], rows: &[(u64, [bool; 3])]) -> Option<usize> {
     for (i, (kept, flags)) in rows.iter().enumerate() {
         if !are_flagged(journal, *kept, flags, false) || !are_flagged(journal, *kept, flags, true) {
             return Some(i);

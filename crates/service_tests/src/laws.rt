@@ -2,6 +2,7 @@
 
 ghost use Rattle.std.specs.Prelude.{◌≡◌, ◌≤◌};
 ghost use Rattle.cx_core.specs.Base.{LawfulBase, fresh_region};
+ghost use Rattle.doc_store.specs.DocumentMeaning.{document_meaning};
 ghost use Rattle.doc_store.specs.ExactStep.{IsImage, opening_image};
 ghost use Rattle.life_laws.specs.Begins.{IsBaseOf, nothing_begun};
 
@@ -20,7 +21,7 @@ fn first_life(object: &DocStore, base: &Base)
     requires place { base.now.place ≡ 0 }
     requires words { base.now.words ≡ fresh_region (opening_image object.now.lines) }
     requires lawful { LawfulBase object.now.lines (IsImage object.now.lines) base.now }
-    ensures { IsBaseOf base.now nothing_begun }
+    ensures { IsBaseOf (document_meaning object.now.lines) base.now (nothing_begun (document_meaning object.now.lines)) }
 {
     histories_mean_stores(object, base);
     replies_are_the_stores(object, base);

@@ -1,4 +1,4 @@
-use Rattle.std.proofs.Common.{◌≡◌, ◌∙◌, ◌+◌, ◌∷◌, ◌++◌, ℕ, List, Result, Ok, IfOk, ap, arith, length, length-append, subst, sym, []}
+use Rattle.std.proofs.Common.{◌≡◌, ◌∙◌, ◌+◌, ◌∷◌, ◌++◌, List, Result, Ok, IfOk, ap, arith, length, length-append, subst, sym, []}
 use Rattle.std.specs.Prelude.{vec_len}
 use Rattle.std.specs.declared.alloc.AllocError.{AllocError}
 use Rattle.std.proofs.lemmas.Bool.{eqb-true}
@@ -12,33 +12,48 @@ use Rattle.cx_lives.proofs.Gathering.{gathered_more}
 use Rattle.cx_lives.proofs.Leaving.{HoldersStopped, holders_more}
 use Rattle.cx_lives.proofs.gather.gather.Goals as goal
 
+pub at_end-requires-clause-served : goal.at_end-requires-clause-served
+at_end-requires-clause-served g c = λ κs lives.
+    let m = g.O.TypedObject.meaning c.args.service.now.object in
+    let life = c.args.life.now in
+    let r = c.args.service.now in
+    let works : List (Result (Served g.row.O-Reply.Denot) AllocError) = c.loop-alloc.works.items in
+    let left : List (Result (Served g.row.O-Reply.Denot) AllocError) = c.first_of.new.works.items in
+    let n = length c.loop-alloc.all.handed.items in
+    let served = c.in_ok-served.served in
+    let was : c.first_of.result ≡ Ok served = c.in_ok-served.was in
+    let first : works ≡ c.first_of.result ∷ left = c.first_of.ensures in
+    let whole : works ≡ Ok served ∷ left = first ∙ ap (λ (w : Result (Served g.row.O-Reply.Denot) AllocError). w ∷ left) was in
+    let rest = subst (λ (ws : List (Result (Served g.row.O-Reply.Denot) AllocError)). AreNumbered m life r n ws) whole c.loop-alloc.invariant.rest in
+    (n, rest.0)
+
 pub loop-alloc-preserved : goal.loop-alloc-preserved
 loop-alloc-preserved g c =
     let life = c.args.life.now in
     let r = c.args.service.now in
     let all = c.loop-alloc.all in
-    let works : List (Result Served AllocError) = c.loop-alloc.works.items in
-    let left : List (Result Served AllocError) = c.first_of.new.works.items in
+    let works : List (Result (Served g.row.O-Reply.Denot) AllocError) = c.loop-alloc.works.items in
+    let left : List (Result (Served g.row.O-Reply.Denot) AllocError) = c.first_of.new.works.items in
     let n = length all.handed.items in
     let served = c.in_ok-served.served in
     let work = c.in_ok-work.work in
     let was : c.first_of.result ≡ Ok served = c.in_ok-served.was in
     let first : works ≡ c.first_of.result ∷ left = c.first_of.ensures in
-    let whole : works ≡ Ok served ∷ left = first ∙ ap (λ (w : Result Served AllocError). w ∷ left) was in
-    let rest = subst (λ (ws : List (Result Served AllocError)). AreNumbered life r n ws) whole c.loop-alloc.invariant.rest in
-    let work_is : IsWorkOf life r n work = subst (λ (w : Result Work AllocError). IfOk w (IsWorkOf life r n)) c.in_ok-work.was (c.at_end.ensures.work n rest.0) in
+    let whole : works ≡ Ok served ∷ left = first ∙ ap (λ (w : Result (Served g.row.O-Reply.Denot) AllocError). w ∷ left) was in
+    let rest = subst (λ (ws : List (Result (Served g.row.O-Reply.Denot) AllocError)). AreNumbered (g.O.TypedObject.meaning c.args.service.now.object) life r n ws) whole c.loop-alloc.invariant.rest in
+    let work_is : IsWorkOf (g.O.TypedObject.meaning c.args.service.now.object) life r n work = subst (λ (w : Result (Work g.row.O-Reply.Denot) AllocError). IfOk w (IsWorkOf (g.O.TypedObject.meaning c.args.service.now.object) life r n)) c.in_ok-work.was (c.at_end.ensures.work n rest.0) in
     let more = c.in_ok-all.ensures in
     let longer : length c.in_ok-all.all.handed.items ≡ n + 1 = ap length more.handed ∙ length-append all.handed.items (work.handed ∷ []) in
     let stops_now : c.deref.result.now ≡ all.stops.items = c.deref.ensures.value in
     let works_now : c.deref-in-loop-alloc.result.now ≡ left = c.deref-in-loop-alloc.ensures.value in
     let told = c.in_ok-work.ensures.told in
     let before : HoldersStopped (all.stops.items ++ (stop_told (Ok served) ++ stops_left left)) all.fulls.items =
-    subst (λ (ws : List (Result Served AllocError)). HoldersStopped (all.stops.items ++ stops_left ws) all.fulls.items) whole c.loop-alloc.invariant.stopped in
+    subst (λ (ws : List (Result (Served g.row.O-Reply.Denot) AllocError)). HoldersStopped (all.stops.items ++ stops_left ws) all.fulls.items) whole c.loop-alloc.invariant.stopped in
     let own : HoldersStopped (all.stops.items ++ stops_left left) (full_in work.end) =
     subst (λ (xs : List StopLine). HoldersStopped (xs ++ stops_left left) (full_in work.end)) stops_now
-    (subst (λ (ws : List (Result Served AllocError)). HoldersStopped (c.deref.result.now ++ stops_left ws) (full_in work.end)) works_now c.in_ok-work.ensures.stopped) in
+    (subst (λ (ws : List (Result (Served g.row.O-Reply.Denot) AllocError)). HoldersStopped (c.deref.result.now ++ stops_left ws) (full_in work.end)) works_now c.in_ok-work.ensures.stopped) in
     record {
-      gathered = gathered_more life r all c.in_ok-all.all work (c.works_go_on.ensures life) c.loop-alloc.invariant.gathered more work_is;
+      gathered = gathered_more (g.O.TypedObject.meaning c.args.service.now.object) life r all c.in_ok-all.all work (c.works_go_on.ensures (g.O.TypedObject.meaning c.args.service.now.object).encoding life) c.loop-alloc.invariant.gathered more work_is;
       rest = rw longer rest.1;
       count = omega (arith, longer, ap length whole, c.loop-alloc.invariant.count);
       stopped = rw (more.stops, more.fulls) (holders_more all.stops.items (stop_in work.end) (stop_told (Ok served)) (stops_left left) all.fulls.items (full_in work.end) told before own);
@@ -51,4 +66,4 @@ returns-clause-stopped g c =
     let none : vec_len works ≡ 0 = eqb-true (vec_len works) 0 (sym c.is_empty.ensures ∙ c.loop-alloc-test.false) in
     let over : works.items ≡ [] = nil_from_length works.items (omega (arith, none, works.ok.0)) in
     subst (λ (xs : List StopLine). HoldersStopped xs all.fulls.items) (append-nil all.stops.items)
-    (subst (λ (ws : List (Result Served AllocError)). HoldersStopped (all.stops.items ++ stops_left ws) all.fulls.items) over c.loop-alloc.invariant.stopped)
+    (subst (λ (ws : List (Result (Served g.row.O-Reply.Denot) AllocError)). HoldersStopped (all.stops.items ++ stops_left ws) all.fulls.items) over c.loop-alloc.invariant.stopped)

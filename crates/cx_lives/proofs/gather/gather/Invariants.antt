@@ -8,8 +8,8 @@ use Rattle.cx_lives.proofs.gather.gather.Given as goal
 -- the first clients are put together, and the others are left
 abbrev pub invariant-loop-alloc : goal.invariant-loop-alloc
 invariant-loop-alloc g l = record {
-  gathered : AreGathered l.life l.service l.all;
-  rest : AreNumbered l.life l.service (length l.all.handed.items) l.works.items;
+  gathered : AreGathered (g.O.TypedObject.meaning l.service.object) l.life l.service l.all;
+  rest : AreNumbered (g.O.TypedObject.meaning l.service.object) l.life l.service (length l.all.handed.items) l.works.items;
   count : length l.all.handed.items + length l.works.items ≡ vec_len l.fn.works;
   stopped : HoldersStopped (l.all.stops.items ++ stops_left l.works.items) l.all.fulls.items;
 }

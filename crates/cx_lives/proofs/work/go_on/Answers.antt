@@ -1,10 +1,10 @@
-use Rattle.std.proofs.Common.{◌≡◌, ap, subst, sym}
+use Rattle.std.proofs.Common.{ap, subst, sym}
 use Rattle.cx_lives.specs.Works.{IsFullLeft, IsLeftOf, ServedOf}
 use Rattle.cx_lives.proofs.Turning.{given_up_work}
 use Rattle.cx_lives.proofs.work.go_on.Goals as goal
 
 pub serve_on-requires-clause-left : goal.serve_on-requires-clause-left
-serve_on-requires-clause-left g c = subst (λ k. IsLeftOf c.args.life.now c.args.service.now k c.loop.left) (sym c.loop.invariant.served.lists.by) c.loop.invariant
+serve_on-requires-clause-left g c = λ κs lives. subst (λ k. IsLeftOf (g.O.TypedObject.meaning c.args.service.now.object) c.args.life.now c.args.service.now k c.loop.left) (sym c.loop.invariant.served.lists.by) c.loop.invariant
 
 pub returns-then-has_stopped-clause-work : goal.returns-then-has_stopped-clause-work
 returns-then-has_stopped-clause-work g c =
@@ -13,7 +13,7 @@ returns-then-has_stopped-clause-work g c =
     let me = c.args.left.desk.caller.known.local.number in
     let back = c.in-Full.back in
     let line = c.in-Full.line in
-    let last : IsFullLeft life r c.loop.left.desk.caller.known.local.number back line = subst (ServedOf life r c.loop.left.desk.caller.known.local.number) c.in-Full.is c.in_ok-work.ensures in
-    let mine : IsFullLeft life r me back line = subst (λ k. IsFullLeft life r k back line) c.loop.invariant.served.lists.by last in
+    let last : IsFullLeft (g.O.TypedObject.meaning c.args.service.now.object) life r c.loop.left.desk.caller.known.local.number back line = subst (ServedOf (g.O.TypedObject.meaning c.args.service.now.object) life r c.loop.left.desk.caller.known.local.number) c.in-Full.is c.in_ok-work.ensures in
+    let mine : IsFullLeft (g.O.TypedObject.meaning c.args.service.now.object) life r me back line = subst (λ k. IsFullLeft (g.O.TypedObject.meaning c.args.service.now.object) life r k back line) c.loop.invariant.served.lists.by last in
     let e = c.give_up.ensures in
-    given_up_work life r me back.number back.desk c.give_up.result line mine.left_is.served mine.full e.handed (ap (λ v. v.items) e.entries) (ap (λ v. v.items) e.reads) e.end_is
+    given_up_work (g.O.TypedObject.meaning c.args.service.now.object) life r me back.number back.desk c.give_up.result line mine.left_is.served mine.full e.handed (ap (λ v. v.items) e.entries) (ap (λ v. v.items) e.reads) e.end_is

@@ -12,35 +12,35 @@ use Rattle.cx_lives.proofs.work.serve_on.Goals as goal
 use Rattle.cx_lives.proofs.work.serve_on.Goals.{then-command-client+in_ok-turn+in-Next, else-command-client}
 
 pub make-requires-clause-served : goal.make-requires-clause-served
-make-requires-clause-served g c =
+make-requires-clause-served g c = λ κs lives.
     let same : c.loop-at.number ≡ c.loop-at.number + 1 - 1 = omega arith in
-    subst (λ k. IsServed c.args.life.now c.args.service.now k (c.loop-at.number + 1 - 1) c.loop-at.desk) (sym c.if-command-client.true)
-    (subst (λ k. IsServed c.args.life.now c.args.service.now c.number-client.result k c.loop-at.desk) same c.loop-at.invariant.served)
+    subst (λ k. IsServed (g.O.TypedObject.meaning c.args.service.now.object) c.args.life.now c.args.service.now k (c.loop-at.number + 1 - 1) c.loop-at.desk) (sym c.if-command-client.true)
+    (subst (λ k. IsServed (g.O.TypedObject.meaning c.args.service.now.object) c.args.life.now c.args.service.now c.number-client.result k c.loop-at.desk) same c.loop-at.invariant.served)
 
 pub make-requires-clause-named : goal.make-requires-clause-named
-make-requires-clause-named g c =
-    let items = c.as_slice-commands.result.now in
+make-requires-clause-named g c = λ κs lives.
+    let items = c.commands-commands.result.now in
     let command = c.command_at-command.result.now in
     let there = sym (get_or_from_slice_get items c.loop-at.at command command c.command_at-command.ensures) in
-    named_here c.args.life.now items c.as_slice-commands.ensures c.loop-at.at command (omega arith) there c.number-client.result c.loop-at.number c.loop-at.invariant.count c.if-command-client.true
+    named_here c.args.life.now items c.commands-commands.ensures c.loop-at.at command (omega arith) there c.number-client.result c.loop-at.number c.loop-at.invariant.count c.if-command-client.true
 
 pub loop-at-preserved : goal.loop-at-preserved
 loop-at-preserved g c =
     let me = c.number-client.result in
-    let items = c.as_slice-commands.result.now in
+    let items = c.commands-commands.result.now in
     let command = c.command_at-command.result.now in
     let there = sym (get_or_from_slice_get items c.loop-at.at command command c.command_at-command.ensures) in
     elim c.if-command-client.branch [
       | then-command-client+in_ok-turn+in-Next w ↦ (record {
-        served = rw (w.desk-is, w.number-is) (subst (λ k. IsServed c.args.life.now c.args.service.now k (c.loop-at.number + 1) w.in-Next.back) w.if-command-client.true
-            (subst (Turned c.args.life.now c.args.service.now command.client (c.loop-at.number + 1)) w.in-Next.is w.in_ok-turn.ensures));
-        count = count_more c.args.life.now items c.as_slice-commands.ensures c.loop-at.at command (omega arith) there
+        served = rw (w.desk-is, w.number-is) (subst (λ k. IsServed (g.O.TypedObject.meaning c.args.service.now.object) c.args.life.now c.args.service.now k (c.loop-at.number + 1) w.in-Next.back) w.if-command-client.true
+            (subst (Turned (g.O.TypedObject.meaning c.args.service.now.object) c.args.life.now c.args.service.now command.client (c.loop-at.number + 1)) w.in-Next.is w.in_ok-turn.ensures));
+        count = count_more c.args.life.now items c.commands-commands.ensures c.loop-at.at command (omega arith) there
             me c.loop-at.number c.loop-at.invariant.count _ w.number-is w.if-command-client.true;
         few = omega (arith, w.number-is, c.loop-at.invariant.few);
       })
       | else-command-client w ↦ (record {
         served = rw (w.desk-is, w.number-is) c.loop-at.invariant.served;
-        count = count_none c.args.life.now items c.as_slice-commands.ensures c.loop-at.at command (omega arith) there
+        count = count_none c.args.life.now items c.commands-commands.ensures c.loop-at.at command (omega arith) there
             me c.loop-at.number c.loop-at.invariant.count _ w.number-is w.if-command-client.false;
         few = omega (arith, w.number-is, c.loop-at.invariant.few);
       })
@@ -49,11 +49,11 @@ loop-at-preserved g c =
 pub returns : goal.returns
 returns g c =
     let me = c.number-client.result in
-    let over : length c.as_slice-commands.result.now ≤ c.loop-at.at = omega arith in
+    let over : length c.commands-commands.result.now ≤ c.loop-at.at = omega arith in
     let e = c.over.ensures in (
-      subst (λ k. IsWorkOf c.args.life.now c.args.service.now k c.over.result) c.number-client.ensures
-          (whole_work c.args.life.now c.args.service.now me c.loop-at.number c.loop-at.desk c.over.result c.loop-at.invariant.served
-          (count_all c.args.life.now c.as_slice-commands.result.now c.loop-at.at me c.loop-at.number c.as_slice-commands.ensures over c.loop-at.invariant.count)
+      subst (λ k. IsWorkOf (g.O.TypedObject.meaning c.args.service.now.object) c.args.life.now c.args.service.now k c.over.result) c.number-client.ensures
+          (whole_work (g.O.TypedObject.meaning c.args.service.now.object) c.args.life.now c.args.service.now me c.loop-at.number c.loop-at.desk c.over.result c.loop-at.invariant.served
+          (count_all c.args.life.now c.commands-commands.result.now c.loop-at.at me c.loop-at.number c.commands-commands.ensures over c.loop-at.invariant.count)
           e.handed (ap (λ v. v.items) e.entries) (ap (λ v. v.items) e.reads) e.end_is),
       ap full_in e.end_is,
     )
@@ -64,23 +64,23 @@ returns-in-Full g c =
     let r = c.args.service.now in
     let me = c.number-client.result in
     let n = c.loop-at.number in
-    let items = c.as_slice-commands.result.now in
+    let items = c.commands-commands.result.now in
     let command = c.command_at-command.result.now in
     let there = sym (get_or_from_slice_get items c.loop-at.at command command c.command_at-command.ensures) in
-    let named = named_here life items c.as_slice-commands.ensures c.loop-at.at command (omega arith) there me n c.loop-at.invariant.count c.if-command-client.true in
+    let named = named_here life items c.commands-commands.ensures c.loop-at.at command (omega arith) there me n c.loop-at.invariant.count c.if-command-client.true in
     let mine : named_op life me (n + 1) ≡ Some command.op = subst (λ k. named_op life k (n + 1) ≡ Some command.op) c.if-command-client.true named in
     let same : n + 1 - 1 ≡ n = omega arith in
     let back = c.in-Full.back in
     let note = c.in-Full.note in
-    let told : IsKeptOut life r command.client (n + 1 - 1) back note = subst (Turned life r command.client (n + 1)) c.in-Full.is c.in_ok-turn.ensures in
-    let kept : IsKeptOut life r me n back note = subst (λ k. IsKeptOut life r me k back note) same (subst (λ k. IsKeptOut life r k (n + 1 - 1) back note) c.if-command-client.true told) in
-    let left : Left = record { desk = back; at = c.loop-at.at; number = n; begun = true } in
+    let told : IsKeptOut (g.O.TypedObject.meaning c.args.service.now.object) life r command.client (n + 1 - 1) back note = subst (Turned (g.O.TypedObject.meaning c.args.service.now.object) life r command.client (n + 1)) c.in-Full.is c.in_ok-turn.ensures in
+    let kept : IsKeptOut (g.O.TypedObject.meaning c.args.service.now.object) life r me n back note = subst (λ k. IsKeptOut (g.O.TypedObject.meaning c.args.service.now.object) life r me k back note) same (subst (λ k. IsKeptOut (g.O.TypedObject.meaning c.args.service.now.object) life r k (n + 1 - 1) back note) c.if-command-client.true told) in
+    let left : Left g.row.O-Reply.Denot = record { desk = back; at = c.loop-at.at; number = n; begun = true } in
     let line : FullLine = record { client = me; command = n + 1; note = note } in
-    subst (λ k. IsFullLeft life r k left line) c.number-client.ensures (record {
+    subst (λ k. IsFullLeft (g.O.TypedObject.meaning c.args.service.now.object) life r k left line) c.number-client.ensures (record {
       left_is = record {
         served = kept.served;
         count = c.loop-at.invariant.count;
         few = c.loop-at.invariant.few;
       };
-      full = full_line life r me n (n + 1) back note command.op kept refl mine;
+      full = full_line (g.O.TypedObject.meaning c.args.service.now.object) life r me n (n + 1) back note command.op kept refl mine;
     })

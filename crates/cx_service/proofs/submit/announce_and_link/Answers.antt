@@ -1,14 +1,14 @@
-use Rattle.std.proofs.Common.{◌+◌, ◌*◌, ap, sym, subst, arith}
+use Rattle.std.proofs.Common.{◌+◌, ◌*◌, ap, inl, inr, sym, subst, arith}
 use Rattle.std.proofs.lemmas.Result.{IfOk-weaker, on_err_weaker}
 use Rattle.cx_core.specs.QueueEvents.{IsIdle, next_number}
 use Rattle.cx_rule.specs.Running.{instance_at}
 use Rattle.cx_rule.specs.Seats.{IsAtLimit, Seated}
-use Rattle.mutation_queue.specs.Links.{Tried}
+use Rattle.mutation_queue.specs.Links.{EndsBy, HaltsTry, Tried}
 use Rattle.cx_service.specs.declared.submit.Submitted.TheVariants.{Halted}
 use Rattle.cx_service.specs.Callers.{unlinked}
 use Rattle.cx_service.specs.Submits.{EntersIn}
 use Rattle.cx_service.proofs.Announced.{halted_in, if_any_err}
-use Rattle.cx_service.proofs.Entering.{answered_still, beside_submit, entered, halts, halts_linking, stale}
+use Rattle.cx_service.proofs.Entering.{answered_still, beside_submit, entered, halts, halts_linking, stale, tries_of}
 use Rattle.cx_service.proofs.Looking.{cur_caller, cur_loaded, enters_then, submits_then}
 use Rattle.cx_service.proofs.submit.announce_and_link.Goals as goal
 
@@ -19,9 +19,12 @@ returns-in_err-_cur-clause-halted g c =
     let halted = c.in_err-_cur.ensures.halted in
     let front = ap (λ (x : Seated). x.known.local.front) halted.same in
     let steps = ap (λ (x : Seated). x.known.local.steps) halted.same in
-    if_any_err c.from_residual.result
-    (halts c.args.shared.now s t (ap beside_submit halted.same) (146 + 2 * c.args.tries) c.requires.caller (ap (λ (x : Seated). x.known.local.own) halted.same) (omega (arith, front)) (omega (arith, steps))
-    (subst (λ (x : Seated). IsAtLimit x.known.local) (sym halted.same) halted.limit))
+    if_any_err c.from_residual.result (
+      (halts c.args.shared.now s t (ap beside_submit halted.same) (146 + 2 * c.args.tries) c.requires.caller (ap (λ (x : Seated). x.known.local.own) halted.same) (omega (arith, front)) (omega (arith, steps))
+          (λ k within idle. record { free = ap (λ (x : Seated). x.known.local.seen_free) halted.same; scans = ap (λ (x : Seated). x.known.local.scans) halted.same })
+          (subst (λ (x : Seated). IsAtLimit x.known.local) (sym halted.same) halted.limit)),
+      inl (ap (λ (x : Seated). x.known.local.seen_slot) halted.same),
+    )
 
 pub announce-requires-clause-cell : goal.announce-requires-clause-cell
 announce-requires-clause-cell g c =
@@ -38,7 +41,7 @@ returns-in_err-announce-clause-halted g c =
     let caller = cur_caller r (instance_at r g.O.Object.step g.O.Object.only_reads) s at c.in_ok-_cur._cur made.made made.allowed c.requires.caller in
     if_any_err c.from_residual-in_err-announce.result
     (submits_then r 1 s (stale at) first c.args.op.now c.args.tries (145 + 2 * c.args.tries) (146 + 2 * c.args.tries) (Halted (unlinked t)) (omega arith)
-    (halted_in r c.args.cell (145 + 2 * c.args.tries) (next_number r.base at.known.local) c.args.op.now at t caller (omega arith) c.told-op c.in_err-announce.ensures.halted))
+    (halted_in r c.args.cell (145 + 2 * c.args.tries) (next_number r.base at.known.local) c.args.op.now at t caller (omega arith) c.told-op c.args.tries c.in_err-announce.ensures.halted))
 
 pub link-requires-clause-answered : goal.link-requires-clause-answered
 link-requires-clause-answered g c =
@@ -64,7 +67,7 @@ returns-clause-entered g c =
     let done = c.in_ok-announce.ensures.announced in
     IfOk-weaker c.link.result (Tried r.callers c.args.cell tries t v) (EntersIn (146 + 2 * tries) r op tries s v)
     (λ tried links. enters_then r 1 s (stale at) first op tries (145 + 2 * tries) (146 + 2 * tries) v tried (omega arith)
-    (entered r c.args.cell op (stale at) t caller c.requires.cell.0 c.told-op done.cell done.others done.rest tries (145 + 2 * tries) v tried links done.allowed (omega (arith, done.most, c.link.ensures.steps))))
+    (entered r c.args.cell op (stale at) t caller c.requires.cell.0 c.told-op done.cell done.others done.rest tries (145 + 2 * tries) v tried links done.allowed (omega (arith, done.most, c.link.ensures.steps)) (let count = done.count in omega (arith, count))))
     c.link.ensures.tried
 
 pub returns-clause-halted : goal.returns-clause-halted
@@ -81,6 +84,8 @@ returns-clause-halted g c =
     let caller = cur_caller r (instance_at r g.O.Object.step g.O.Object.only_reads) s at c.in_ok-_cur._cur made.made made.allowed c.requires.caller in
     let done = c.in_ok-announce.ensures.announced in
     on_err_weaker c.link.result
-    (λ halted. submits_then r 1 s (stale at) first op tries (145 + 2 * tries) (146 + 2 * tries) (Halted (unlinked v)) (omega arith)
-    (halts_linking r c.args.cell op (stale at) t caller c.requires.cell.0 c.told-op done.cell done.others done.rest v halted.0 (145 + 2 * tries) (omega (arith, done.most, c.link.ensures.steps)) halted.1))
+    (λ halted. submits_then r 1 s (stale at) first op tries (145 + 2 * tries) (146 + 2 * tries) (Halted (unlinked v)) (omega arith) (
+      halts_linking r c.args.cell op (stale at) t caller c.requires.cell.0 c.told-op done.cell done.others done.rest v halted.0 (145 + 2 * tries) (omega (arith, done.most, c.link.ensures.steps)) halted.1,
+      inr (tries_of r c.args.cell op (stale at) t caller c.requires.cell.0 c.told-op done.cell done.others done.rest (EndsBy r.callers tries (HaltsTry r.callers)) v (let count = done.count in omega (arith, count)) halted.2),
+    ))
     c.link.ensures.halted

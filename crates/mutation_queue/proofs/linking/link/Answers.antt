@@ -1,8 +1,8 @@
-use Rattle.std.proofs.Common.{◌≡◌, ◌+◌, ◌^◌, ◌<◌, ◌≤◌, ◌⊎◌, inl, inr, ℕ, zero, suc, true, false, sym, refl, ap, subst, ◌∙◌, arith}
+use Rattle.std.proofs.Common.{◌≡◌, ◌+◌, ◌^◌, ◌<◌, ◌≤◌, ◌⊎◌, inl, inr, ℕ, zero, suc, true, false, sym, refl, ap, subst, ◌∙◌, add-one, arith}
 use Rattle.std.proofs.lemmas.Bool.{false≢true}
 use Rattle.cx_base.specs.Codes.{root_place_of}
 use Rattle.cx_table.specs.Seats.{IsAtLimit, Seated}
-use Rattle.mutation_queue.specs.Links.{LinksPast, TriedOnce}
+use Rattle.mutation_queue.specs.Links.{LinksAt, LinksPast, LosesTries, LosesTry, TriedOnce, WinsTry}
 use Rattle.mutation_queue.proofs.Results.{on_err}
 use Rattle.mutation_queue.proofs.Tries.{linked_number, linked_of, none_at, none_here, none_number, none_then, still_announced, still_answered, still_idle, still_of}
 use Rattle.mutation_queue.proofs.linking.link.Goals as goal
@@ -10,6 +10,7 @@ use Rattle.mutation_queue.proofs.linking.link.Goals as goal
 pub loop-tried-init : goal.loop-tried-init
 loop-tried-init g c = record {
   none = none_here c.args.seat.now;
+  lost = refl;
   front = omega arith;
   at_first = λ _. refl;
   cur = λ some. absurd (omega arith);
@@ -59,12 +60,23 @@ try_link-requires-clause-answered g c = still_answered c.args.seat.now c.loop-tr
 pub returns-in_err-ticket-clause-halted : goal.returns-in_err-ticket-clause-halted
 returns-in_err-ticket-clause-halted g c =
     let halted = c.in_err-ticket.ensures.halted in
-    on_err c.from_residual.result _ (none_then c.args.seat.now c.loop-tried.seat c.try_link.new.seat c.loop-tried.invariant.none halted.0, halted.1)
+    on_err c.from_residual.result _ (
+      none_then c.args.seat.now c.loop-tried.seat c.try_link.new.seat c.loop-tried.invariant.none halted.0,
+      halted.1,
+      record {
+        count = c.loop-tried._tried;
+        fewer = omega (arith, c.loop-tried-test.true);
+        mid = c.loop-tried.seat;
+        lost = c.loop-tried.invariant.lost;
+        left = omega (arith, c.front.ensures.value, c.if-front-ge-END.false);
+        last = halted.2;
+      },
+    )
 
 pub returns-in-Some-clause-tried : goal.returns-in-Some-clause-tried
 returns-in-Some-clause-tried g c =
     none_at c.args.cell c.in-Some.ticket c.args.seat.now c.loop-tried.seat c.try_link.new.seat c.loop-tried.invariant.none
-    (subst (TriedOnce c.args.shared.now.callers c.args.cell c.loop-tried.seat c.try_link.new.seat) c.in-Some.is c.in_ok-ticket.ensures.tried)
+    (let won : LinksAt c.args.cell c.in-Some.ticket c.loop-tried.seat c.try_link.new.seat × WinsTry c.args.shared.now.callers c.args.cell c.loop-tried.seat c.try_link.new.seat = subst (TriedOnce c.args.shared.now.callers c.args.cell c.loop-tried.seat c.try_link.new.seat) c.in-Some.is c.in_ok-ticket.ensures.tried in won.0)
 
 pub returns-in-Some-clause-halts : goal.returns-in-Some-clause-halts
 returns-in-Some-clause-halts g c = λ at. absurd (not_at c.loop-tried._tried c.args.seat.now c.loop-tried.seat c.loop-tried.invariant.moved c.in_ok-ticket.ensures.halts at)
@@ -75,12 +87,13 @@ loop-tried-preserved g c =
     let t = c.loop-tried.seat in
     let inv = c.loop-tried.invariant in
     let callers = c.args.shared.now.callers in
-    let past : LinksPast callers t c.try_link.new.seat = subst (TriedOnce callers c.args.cell t c.try_link.new.seat) c.in_default.is c.in_ok-ticket.ensures.tried in
+    let past : LinksPast callers t c.try_link.new.seat × LosesTry callers t c.try_link.new.seat = subst (TriedOnce callers c.args.cell t c.try_link.new.seat) c.in_default.is c.in_ok-ticket.ensures.tried in
     record {
-      none = none_then s t c.try_link.new.seat inv.none past.none;
-      front = omega (arith, inv.front, past.front);
+      none = none_then s t c.try_link.new.seat inv.none past.0.none;
+      lost = subst (λ n. LosesTries callers n s c.try_link.new.seat) (sym (add-one c.loop-tried._tried)) (t, inv.lost, past.1);
+      front = omega (arith, inv.front, past.0.front);
       at_first = λ zero. absurd (omega arith);
-      cur = cur_kept callers c.loop-tried._tried s t inv.at_first inv.cur past.cur;
+      cur = cur_kept callers c.loop-tried._tried s t inv.at_first inv.cur past.0.cur;
       steps = omega (arith, inv.steps, c.in_ok-ticket.ensures.steps);
       moved = inr (not_at c.loop-tried._tried s t inv.moved c.in_ok-ticket.ensures.halts);
     }
@@ -98,6 +111,7 @@ returns-clause-tried g c =
     let all : c.loop-tried._tried ≡ c.args.tries = omega (arith, c.loop-tried-test.false, c.loop-tried.auto) in
     let cur = inv.cur (omega (arith, all, c.requires.tries)) in
     record {
+      lost = subst (λ n. LosesTries c.args.shared.now.callers n c.args.seat.now c.loop-tried.seat) all inv.lost;
       none = inv.none;
       front = omega (arith, inv.front, all);
       cur = omega (arith, inv.front, all, cur);
@@ -139,3 +153,25 @@ returns-clause-seat g c = still_of c.args.shared.now c.args.seat.now c.loop-trie
 
 pub returns-clause-number : goal.returns-clause-number
 returns-clause-number g c = none_number c.args.seat.now c.loop-tried.seat c.loop-tried.invariant.none
+
+-- ---- the tries that were made
+
+pub returns-then-front-ge-END-clause-made : goal.returns-then-front-ge-END-clause-made
+returns-then-front-ge-END-clause-made g c = (c.loop-tried._tried, omega (arith, c.loop-tried-test.true), c.loop-tried.invariant.lost)
+
+pub returns-in-Some-clause-made : goal.returns-in-Some-clause-made
+returns-in-Some-clause-made g c =
+    record {
+      count = c.loop-tried._tried;
+      fewer = omega (arith, c.loop-tried-test.true);
+      mid = c.loop-tried.seat;
+      lost = c.loop-tried.invariant.lost;
+      left = omega (arith, c.front.ensures.value, c.if-front-ge-END.false);
+      last = (let won : LinksAt c.args.cell c.in-Some.ticket c.loop-tried.seat c.try_link.new.seat × WinsTry c.args.shared.now.callers c.args.cell c.loop-tried.seat c.try_link.new.seat = subst (TriedOnce c.args.shared.now.callers c.args.cell c.loop-tried.seat c.try_link.new.seat) c.in-Some.is c.in_ok-ticket.ensures.tried in won.1);
+    }
+
+pub returns-then-front-ge-END-2-clause-made : goal.returns-then-front-ge-END-2-clause-made
+returns-then-front-ge-END-2-clause-made g c = (c.loop-tried._tried, omega (arith, c.loop-tried.auto), c.loop-tried.invariant.lost)
+
+pub returns-clause-made : goal.returns-clause-made
+returns-clause-made g c = (returns-clause-tried g c).lost

@@ -3,7 +3,7 @@ use Rattle.cx_core.specs.declared.local.Answer.{Answer}
 use Rattle.cx_rule.specs.Running.{IsSeatOf, Running}
 use Rattle.cx_rule.specs.Seats.{Seated, unanswered_ticket}
 use Rattle.cx_service.specs.Callers.{IsLinkedOf}
-use Rattle.cx_service.specs.Drives.{DriveDone, DrivePending}
+use Rattle.cx_service.specs.Drives.{DriveDone, DrivePending, MeetsAtMost}
 use Rattle.cx_service.proofs.Turning.{turn_done, turn_refused}
 use Rattle.cx_turns.specs.Answering.{TurnsFor}
 use Rattle.cx_service.proofs.service.Service.drive_once.Goals as goal
@@ -15,10 +15,13 @@ returns-in-Ok-Some g c =
     let v = c.update_turn.new.seat in
     let ticket = c.ticket-ticket.result in
     let answer : Answer = record { ticket = ticket; reply = c.in-Ok-Some.reply } in
-    subst (λ (x : Seated). DriveDone c.args.self.now x v answer) is
-    (turn_done c.args.self.now s v (subst (IsLinkedOf c.args.self.now) (sym is) c.requires) c.update_turn.ensures.rest c.update_turn.ensures.front (subst (λ (t : Running _). IsSeatOf t v) c.self.view_is c.update_turn.ensures.seat)
-    ticket c.in-Ok-Some.reply (subst (λ (x : Seated). unanswered_ticket x.known.local ≡ Some ticket) (sym is) c.ticket-ticket.ensures)
-    c.in-Ok-Some.ensures.allowed (subst (TurnsFor ticket s v) c.in-Ok-Some.field-0-is c.in-Ok-Some.ensures.turned))
+    let answers = subst (TurnsFor ticket s v) c.in-Ok-Some.field-0-is c.in-Ok-Some.ensures.turned in
+    subst (λ (x : Seated). DriveDone c.args.self.now x v answer × MeetsAtMost 1 x v) is (
+      turn_done c.args.self.now s v (subst (IsLinkedOf c.args.self.now) (sym is) c.requires) c.update_turn.ensures.rest c.update_turn.ensures.front (subst (λ (t : Running _). IsSeatOf t v) c.self.view_is c.update_turn.ensures.seat)
+          ticket c.in-Ok-Some.reply (subst (λ (x : Seated). unanswered_ticket x.known.local ≡ Some ticket) (sym is) c.ticket-ticket.ensures)
+          c.in-Ok-Some.ensures.allowed answers,
+      answers.most,
+    )
 
 pub returns-in-Ok-None : goal.returns-in-Ok-None
 returns-in-Ok-None g c =

@@ -2,7 +2,7 @@ use Rattle.std.proofs.Common.{arith, subst, sym, ◌∙◌}
 use Rattle.cx_rule.specs.Running.{IsSeatOf, Running}
 use Rattle.cx_rule.specs.Seats.{Seated}
 use Rattle.cx_service.specs.Callers.{IsCallerOf}
-use Rattle.cx_service.specs.Lookups.{ReadAnswered, ReadPending}
+use Rattle.cx_service.specs.Lookups.{MeetsFewer, ReadAnswered, ReadPending}
 use Rattle.cx_service.proofs.Turning.{all_answered, read_done, read_refused}
 use Rattle.cx_turns.specs.declared.lookup.Seen.{Seen}
 use Rattle.cx_turns.specs.Answering.{LooksUp, seen_at}
@@ -15,9 +15,12 @@ returns-in-Ok-Some g c =
     let v = c.read_turn.new.seat in
     let reply = c.read_turn.new.reply in
     let seen : Seen = record { place = c.in-Ok-Some.place; reply = reply } in
-    subst (λ (x : Seated). ReadAnswered c.args.self.now c.args.op.now x v seen) is
-    (read_done c.args.self.now c.args.op.now s v (subst (IsCallerOf c.args.self.now) (sym is) c.requires.caller) c.read_turn.ensures.rest c.read_turn.ensures.front (subst (λ (t : Running _). IsSeatOf t v) c.self.view_is c.read_turn.ensures.seat)
-    seen c.in-Ok-Some.ensures.allowed (subst (λ o. LooksUp c.args.op.now s v (seen_at reply o)) c.in-Ok-Some.field-0-is c.in-Ok-Some.ensures.turned))
+    let answers = subst (λ o. LooksUp c.args.op.now s v (seen_at reply o)) c.in-Ok-Some.field-0-is c.in-Ok-Some.ensures.turned in
+    subst (λ (x : Seated). ReadAnswered c.args.self.now c.args.op.now x v seen × MeetsFewer 1 x v) is (
+      read_done c.args.self.now c.args.op.now s v (subst (IsCallerOf c.args.self.now) (sym is) c.requires.caller) c.read_turn.ensures.rest c.read_turn.ensures.front (subst (λ (t : Running _). IsSeatOf t v) c.self.view_is c.read_turn.ensures.seat)
+          seen c.in-Ok-Some.ensures.allowed answers,
+      (let same = answers.met in omega (arith, same)),
+    )
 
 pub returns-in-Ok-None : goal.returns-in-Ok-None
 returns-in-Ok-None g c =

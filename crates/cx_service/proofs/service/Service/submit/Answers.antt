@@ -1,7 +1,7 @@
 use Rattle.std.proofs.Common.{◌+◌, ◌*◌, sym, subst, ◌∙◌, arith}
 use Rattle.cx_rule.specs.Running.{Running}
 use Rattle.cx_service.specs.Callers.{IsCallerOf, unlinked}
-use Rattle.cx_service.specs.Submits.{FindsCell, LooksForCell, SubmitFull, SubmitHalted}
+use Rattle.cx_service.specs.Submits.{FindsCell, HaltsEntering, LooksForCell, SubmitFull}
 use Rattle.cx_service.proofs.Looking.{caller_then, full_there, halts_looking, looked_first}
 use Rattle.cx_service.proofs.service.Service.submit.Goals as goal
 
@@ -14,7 +14,7 @@ enter-requires-clause-caller g c =
     let looked = subst (λ (x : Running g.row.O.Denot). LooksForCell (x.callers + 4) s t) c.self.view_is c.find_cell.ensures.looked in
     let caller = subst (IsCallerOf r) (sym is) c.requires.caller in
     let finds = subst (FindsCell c.self.inside.shared.callers s t) c.in-Ok-Ok.field-0-is c.in-Ok-Ok.ensures.found in
-    caller_then r (r.callers + 4) s t (looked_first (r.callers + 4) s t looked finds.ends c.find_cell.ensures.stood) caller finds.ends.fresh finds.ends.scan
+    caller_then r (r.callers + 4) s t (looked_first (r.callers + 4) s t looked finds.ends finds.stood c.find_cell.ensures.stood) caller finds.ends.fresh finds.ends.scan
 
 pub returns-in-Ok-Err : goal.returns-in-Ok-Err
 returns-in-Ok-Err g c =
@@ -38,5 +38,5 @@ returns-in-Err g c =
     let most = 200 + r.callers + 3 * c.args.tries in
     let looked = subst (λ (x : Running g.row.O.Denot). LooksForCell (x.callers + 4) s t) c.self.view_is c.find_cell.ensures.looked in
     let caller = subst (IsCallerOf r) (sym is) c.requires.caller in
-    subst (λ x. SubmitHalted r most x (unlinked t)) is
-    (halts_looking r most (r.callers + 4) s t caller looked (omega arith) c.in-Err.ensures.halted)
+    subst (λ x. HaltsEntering r c.args.tries most x (unlinked t)) is
+    (halts_looking r most (r.callers + 4) s t caller looked (omega arith) c.args.tries c.in-Err.ensures.halted)

@@ -1,4 +1,4 @@
-use Rattle.std.proofs.Common.{subst}
+use Rattle.std.proofs.Common.{arith, subst}
 use Rattle.cx_turns.specs.declared.lookup.Seen.{Seen}
 use Rattle.cx_service.specs.Lookups.{LooksOnce}
 use Rattle.cx_service.proofs.Turning.{looks_done}
@@ -8,5 +8,5 @@ pub returns-in-Found : goal.returns-in-Found
 returns-in-Found g c =
     let reply = c.read_once.new.reply in
     let seen : Seen = record { place = c.in-Found.place; reply = reply } in
-    looks_done c.args.self.now c.args.op.now c.loop-turn._turn c.args.caller c.loop-turn.caller c.loop-turn.invariant c.in-Found.back seen
+    looks_done c.args.self.now c.args.op.now c.loop-turn._turn c.args.caller c.loop-turn.caller c.loop-turn.invariant c.args.tries c.in-Found.back seen (omega (arith, c.loop-turn-test.true))
     (subst (LooksOnce c.args.self.now c.args.op.now reply c.loop-turn.caller) c.in-Found.is c.read_once.ensures)

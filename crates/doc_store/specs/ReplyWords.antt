@@ -1,0 +1,70 @@
+-- The words of a reply tell it among all replies within the limits.
+use Rattle.std.proofs.Common.{◌≡◌, ◌≤◌, length, get_or, refl, sym, ap, ◌∙◌, arith}
+use Rattle.doc_model.specs.Words.{HasWordNumber, IsReply, reply_words}
+use Rattle.doc_model.specs.WordParts.{IsShortText, reply_with}
+use Rattle.doc_model.specs.declared.operations.Reply.{Reply}
+use Rattle.doc_model.specs.declared.operations.Reply.TheVariants.{New, Replaced, Deleted, Absent, Doc, Sum, NotNumber, Overflow, NoRoom, Key, Number}
+use Rattle.doc_model.proofs.PartPlaces.{carried, key_length_in, document_length_in, parts_same}
+use Rattle.doc_model.proofs.ReplyKinds.{reply_again, reply_document, reply_document_text, reply_key, reply_key_text, reply_kind, reply_number, reply_words_are}
+use Rattle.doc_model.proofs.WordTexts.{no_text}
+use Rattle.doc_store.specs.DocumentMeaning.{IsReplyValue}
+
+-- the lengths of the texts stand in the words
+key_length : (reply : Reply) → get_or (reply_words reply) 1 0 ≡ length (reply_key reply)
+key_length reply = ap (λ w. get_or w 1 0) (reply_words_are reply) ∙ key_length_in 8 128 (reply_kind reply) (reply_key reply) (reply_document reply) (reply_number reply)
+
+document_length : (reply : Reply) → get_or (reply_words reply) 2 0 ≡ length (reply_document reply)
+document_length reply = ap (λ w. get_or w 2 0) (reply_words_are reply) ∙ document_length_in 8 128 (reply_kind reply) (reply_key reply) (reply_document reply) (reply_number reply)
+
+value_number : (reply : Reply) → IsReplyValue reply → HasWordNumber reply
+value_number New is = tt
+value_number Replaced is = tt
+value_number Deleted is = tt
+value_number Absent is = tt
+value_number (Doc document) is = tt
+value_number (Sum sum) is = is
+value_number NotNumber is = tt
+value_number Overflow is = tt
+value_number NoRoom is = tt
+value_number (Key key) is = tt
+value_number (Number number) is = is
+
+key_bytes : (reply : Reply) → IsReplyValue reply → length (reply_key reply) ≤ 64 → IsShortText 64 (reply_key reply)
+key_bytes (Key key) is short = record { short = short; bytes = is }
+key_bytes New is short = no_text 64
+key_bytes Replaced is short = no_text 64
+key_bytes Deleted is short = no_text 64
+key_bytes Absent is short = no_text 64
+key_bytes (Doc document) is short = no_text 64
+key_bytes (Sum sum) is short = no_text 64
+key_bytes NotNumber is short = no_text 64
+key_bytes Overflow is short = no_text 64
+key_bytes NoRoom is short = no_text 64
+key_bytes (Number number) is short = no_text 64
+
+document_bytes : (reply : Reply) → IsReplyValue reply → length (reply_document reply) ≤ 1024 → IsShortText 1024 (reply_document reply)
+document_bytes (Doc document) is short = record { short = short; bytes = is }
+document_bytes New is short = no_text 1024
+document_bytes Replaced is short = no_text 1024
+document_bytes Deleted is short = no_text 1024
+document_bytes Absent is short = no_text 1024
+document_bytes (Key key) is short = no_text 1024
+document_bytes (Sum sum) is short = no_text 1024
+document_bytes NotNumber is short = no_text 1024
+document_bytes Overflow is short = no_text 1024
+document_bytes NoRoom is short = no_text 1024
+document_bytes (Number number) is short = no_text 1024
+
+pub told_by_words : (one other : Reply) → IsReplyValue one → IsReply other → HasWordNumber other → reply_words one ≡ reply_words other → one ≡ other
+told_by_words one other value is fits same =
+    let key_text = reply_key_text other is in
+    let document_text = reply_document_text other is in
+    let keys : length (reply_key one) ≡ length (reply_key other) = sym (key_length one) ∙ ap (λ w. get_or w 1 0) same ∙ key_length other in
+    let documents : length (reply_document one) ≡ length (reply_document other) = sym (document_length one) ∙ ap (λ w. get_or w 2 0) same ∙ document_length other in
+    let parts =
+    parts_same (reply_kind one) (reply_key one) (reply_document one) (reply_number one) (reply_kind other) (reply_key other) (reply_document other) (reply_number other)
+    (key_bytes one value (omega (arith, keys, key_text.short))) (document_bytes one value (omega (arith, documents, document_text.short))) key_text document_text
+    (sym (reply_words_are one) ∙ same ∙ reply_words_are other) in
+    sym (reply_again one (value_number one value))
+    ∙ carried (λ k t d n. reply_with (reply_kind one) (reply_key one) (reply_document one) (reply_number one) ≡ reply_with k t d n) (reply_kind one) (reply_key one) (reply_document one) (reply_number one) (reply_kind other) (reply_key other) (reply_document other) (reply_number other) parts refl
+    ∙ reply_again other fits
