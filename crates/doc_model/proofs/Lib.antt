@@ -1,4 +1,3 @@
-pub mod Numerals
 pub mod Order
 pub mod KeyPlaces
 pub mod OpKinds

@@ -12,11 +12,11 @@ use Rattle.std.proofs.lemmas.Str.Parse.{digit_at}
 use Rattle.std.proofs.lemmas.List.Elements.{All-append, All-cons, All-filter, All-from_get_or, filter_passes}
 use Rattle.cx_base.specs.Store.{Store, KeysRise, key_cmp, IsKey, IsDocument, IsStore}
 use Rattle.doc_model.specs.Meaning.{IsOp, pairs_below, pairs_above, with_pair, without_key, has_room, number_at, store_after_put, store_after_sum, store_after_add, store_after, only_reads}
-use Rattle.doc_model.specs.Number.{is_i64}
+use Rattle.plain_text.specs.Number.{is_i64}
 use Rattle.doc_model.specs.declared.operations.Op.{Op}
 use Rattle.doc_model.specs.declared.operations.Op.TheVariants.{Put, Del, Add, Get, Next, Count}
 use Rattle.doc_model.specs.declared.operations.Reply.{Reply}
-use Rattle.doc_model.proofs.Numerals.{numerals}
+use Rattle.plain_text.proofs.Numerals.{numerals}
 use Rattle.doc_model.proofs.Order.{IsBelow, IsAbove, KeysRise-filter, KeysRise-append, KeysRise-between}
 
 -- what the pairs below and above a key have

@@ -1,6 +1,6 @@
 pub mod Meaning
-pub mod Number
 pub mod Place
 pub mod WordParts
 pub mod Words
 pub use Rattle.cx_base.specs.Store
+pub use Rattle.plain_text.specs.Number

@@ -5,7 +5,7 @@ use Rattle.std.specs.Ordering.{is_lt, is_eq}
 use Rattle.std.specs.List.{find}
 use Rattle.std.specs.Fmt.{signed_decimal}
 use Rattle.cx_base.specs.Store.{Store, key_cmp, lines_of, IsKey, IsDocument}
-use Rattle.doc_model.specs.Number.{integer_of, is_i64}
+use Rattle.plain_text.specs.Number.{integer_of, is_i64}
 use Rattle.doc_model.specs.declared.operations.Op.{Op}
 use Rattle.doc_model.specs.declared.operations.Op.TheVariants.{Put, Del, Add, Get, Next, Count}
 use Rattle.doc_model.specs.declared.operations.Reply.{Reply}

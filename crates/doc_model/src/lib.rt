@@ -1,9 +1,8 @@
 //! The operations of the document store, their replies, and what each operation means: the reply and the next
-//! store, as a table over a list of pairs. Numbers as decimal text stand here too.
+//! store, as a table over a list of pairs.
 #![tactic(auto)]
 
 mod laws;
-mod numbers;
 mod operations;
 mod packed_texts;
 mod places;
@@ -14,9 +13,9 @@ mod word_parts;
 mod words;
 
 pub use laws::{operations_keep_stores, readings_leave_stores};
-pub use numbers::{integer_of, integer_text_is_one_to_one, number_of, number_text_is_one_to_one};
 pub use operations::{Op, Pair, Reply};
 pub use plain::Pairs;
+pub use plain_text::{integer_of, number_of};
 pub use word_laws::{
     kinds_tell_readings, op_words_are_one_to_one, parts_stand_in_words, reply_words_are_one_to_one,
     words_are_words,

@@ -6,10 +6,10 @@ ghost use Rattle.cx_base.specs.Store.{KeysRise};
 ghost use Rattle.doc_model.specs.Meaning as meaning;
 ghost use Rattle.doc_model.specs.Place.{IsAtPlace, IsGapFor};
 
-use crate::numbers::integer_of;
 use crate::operations::{Op, Pair, Reply};
 use crate::places::{document_of, has_room, place_of};
 use cx_base::Bytes;
+use plain_text::integer_of;
 use std::alloc::{AllocError, Global};
 
 /// Puts a document in the place of the one that its key has.

@@ -8,6 +8,8 @@ use Rattle.std.proofs.lemmas.Str.Parse.{digit_at}
 use Rattle.std.proofs.lemmas.List.Elements.{All-append, All-cons, All-from_get_or, All-map, All-nil}
 use Rattle.std.proofs.lemmas.List.FromFn.{length-map-range_with_len}
 use Rattle.cx_base.specs.Store.{IsKey}
+use Rattle.doc_model.specs.Meaning.{IsOp}
+use Rattle.doc_model.specs.declared.operations.Op.{Op}
 use Rattle.life_records.specs.Limits.{IsCommandOf, IsCutOf, IsLifeInLimits, KeepsLimits}
 use Rattle.life_records.specs.declared.script.Command.{Command}
 use Rattle.life_records.specs.declared.script.Life.{Life}
@@ -28,7 +30,7 @@ last_commands from ops a zero j e =
     let same : a ≡ j = omega arith in append-nil (generated_commands from ops a) ∙ ap (generated_commands from ops) same
 last_commands from ops a (suc n) j e =
     let on : a + 1 + n ≡ j = omega arith in
-    ap (λ (cs : List Command). generated_commands from ops a ++ cs) (last_commands from ops (a + 1) n j on)
+    ap (λ (cs : List (Command Op)). generated_commands from ops a ++ cs) (last_commands from ops (a + 1) n j on)
     ∙ sym (append_assoc (generated_commands from ops a) (flat_map (generated_commands from ops) (range_with_len (a + 1) n)) (generated_commands from ops j))
 
 -- the commands of one client more
@@ -51,24 +53,24 @@ is_key m h =
       visible = All-cons (λ b. (33 ≤ b) × (b ≤ 126)) 107 (decimal m) (omega arith, omega arith) (digits_visible m small);
     }
 
-each_command : (life : Life) (from client n : ℕ) → client < life.clients → IsCommandOf life (generated_command from client n)
+each_command : (life : Life Op) (from client n : ℕ) → client < life.clients → IsCommandOf IsOp life (generated_command from client n)
 each_command life from client n part = record { client = part; op = is_key ((from % 100 + n) % 100) (omega arith) }
 
 -- the commands of a client of the life
-own_commands : (life : Life) (from ops client : ℕ) → client < life.clients → All (IsCommandOf life) (generated_commands from ops client)
+own_commands : (life : Life Op) (from ops client : ℕ) → client < life.clients → All (IsCommandOf IsOp life) (generated_commands from ops client)
 own_commands life from ops client part =
-    All-map (IsCommandOf life) (λ (i : ℕ). generated_command from client (client * ops + i)) (range_with_len 0 ops) (λ k d lt. each_command life from client _ part)
+    All-map (IsCommandOf IsOp life) (λ (i : ℕ). generated_command from client (client * ops + i)) (range_with_len 0 ops) (λ k d lt. each_command life from client _ part)
 
 -- the commands of all clients
-all_commands : (life : Life) (from ops a n : ℕ) → a + n ≤ life.clients → All (IsCommandOf life) (flat_map (generated_commands from ops) (range_with_len a n))
-all_commands life from ops a zero within = All-nil (IsCommandOf life)
+all_commands : (life : Life Op) (from ops a n : ℕ) → a + n ≤ life.clients → All (IsCommandOf IsOp life) (flat_map (generated_commands from ops) (range_with_len a n))
+all_commands life from ops a zero within = All-nil (IsCommandOf IsOp life)
 all_commands life from ops a (suc n) within =
-    All-append (IsCommandOf life) (generated_commands from ops a) (flat_map (generated_commands from ops) (range_with_len (a + 1) n)) (own_commands life from ops a (omega arith)) (all_commands life from ops (a + 1) n (omega arith))
+    All-append (IsCommandOf IsOp life) (generated_commands from ops a) (flat_map (generated_commands from ops) (range_with_len (a + 1) n)) (own_commands life from ops a (omega arith)) (all_commands life from ops (a + 1) n (omega arith))
 
-pub generated_scripts_keep_limits : (from clients ops : ℕ) → IsLoad from clients ops → KeepsLimits (generated_script from clients ops)
+pub generated_scripts_keep_limits : (from clients ops : ℕ) → IsLoad from clients ops → KeepsLimits IsOp 8 (generated_script from clients ops)
 generated_scripts_keep_limits from clients ops load =
-    let life : Life = generated_life from clients ops in
-    let in_limits : IsLifeInLimits life = record {
+    let life : Life Op = generated_life from clients ops in
+    let in_limits : IsLifeInLimits IsOp 8 life = record {
       some = load.some;
       few = load.few;
       choice = omega arith;
@@ -80,5 +82,5 @@ generated_scripts_keep_limits from clients ops load =
       lines = λ some. (omega arith, omega arith);
       lives = omega arith;
       commands = omega (arith, count_commands from ops 0 clients, mul-le-mul_right ops load.few, mul-le-mul_left 8 load.short);
-      each = All-cons IsLifeInLimits life [] in_limits (All-nil IsLifeInLimits);
+      each = All-cons (IsLifeInLimits IsOp 8) life [] in_limits (All-nil (IsLifeInLimits IsOp 8));
     }

@@ -8,8 +8,8 @@ use Rattle.std.specs.Ordering.{nat_cmp, match_ordering}
 use Rattle.std.specs.BTreeMap.{insert_entry}
 use Rattle.std.proofs.lemmas.Bool.{ltb-true, true≢false}
 use Rattle.std.proofs.lemmas.List.{length-append, append-nil}
-use Rattle.doc_model.specs.Number.{is_i64, number_of as decimal_number_of, integer_of as decimal_integer_of}
-use Rattle.doc_model.proofs.Numerals.{decimal-number_of, signed_decimal-integer_of}
+use Rattle.plain_text.specs.Number.{is_i64, number_of as decimal_number_of, integer_of as decimal_integer_of}
+use Rattle.plain_text.proofs.Numerals.{decimal-number_of, signed_decimal-integer_of}
 use Rattle.json.specs.Token.{Token}
 use Rattle.json.specs.Lex.{tokens}
 use Rattle.json.specs.Json as json

@@ -3,6 +3,7 @@ use Rattle.std.specs.Prelude.{◌+◌, ◌*◌, ◌%◌, ◌^◌, ◌<◌, ◌�
 use Rattle.std.specs.List.{range_with_len}
 use Rattle.std.specs.Fmt.{decimal}
 use Rattle.doc_model.specs.declared.operations.Op.TheVariants.{Add}
+use Rattle.doc_model.specs.declared.operations.Op.{Op}
 use Rattle.life_records.specs.declared.script.Command.{Command}
 use Rattle.life_records.specs.declared.script.Life.{Life}
 use Rattle.life_records.specs.declared.script.Script.{Script}
@@ -15,17 +16,17 @@ pub record IsLoad (from clients ops : ℕ) : Type 0 where
   pub short : ops ≤ 10000
 
 -- the n-th command of all, where it is one of this client
-abbrev pub generated_command : ℕ → ℕ → ℕ → Command
+abbrev pub generated_command : ℕ → ℕ → ℕ → Command Op
 generated_command from client n = record {
   client = client;
   op = Add (codes "k" ++ decimal ((from % 100 + n) % 100)) (pos ((from % 1000 + 7 * n) % 1000));
 }
 
 -- the commands of a client
-abbrev pub generated_commands : ℕ → ℕ → ℕ → List Command
+abbrev pub generated_commands : ℕ → ℕ → ℕ → List (Command Op)
 generated_commands from ops client = map (λ i. generated_command from client (client * ops + i)) (range_with_len 0 ops)
 
-abbrev pub generated_life : ℕ → ℕ → ℕ → Life
+abbrev pub generated_life : ℕ → ℕ → ℕ → Life Op
 generated_life from clients ops = record {
   clients = clients;
   choice = 0;
@@ -33,5 +34,5 @@ generated_life from clients ops = record {
   commands = flat_map (generated_commands from ops) (range_with_len 0 clients);
 }
 
-abbrev pub generated_script : ℕ → ℕ → ℕ → Script
+abbrev pub generated_script : ℕ → ℕ → ℕ → Script Op
 generated_script from clients ops = record { lines = 1024; lives = generated_life from clients ops ∷ [] }

@@ -1,15 +1,14 @@
+pub mod CommandLaws
+pub mod CommandReasons
 pub mod Document
 pub mod Generated
 pub mod Grammar
-pub mod Index
-pub mod Limits
 pub mod Measure
 pub mod Reading
 pub mod Reasons
 pub mod Refusal
 pub mod Report
 pub mod Summary
-pub mod Words
 pub use Rattle.doc_model.specs.Meaning
 pub use Rattle.doc_model.specs.Number
 pub use Rattle.doc_model.specs.Store

@@ -1,7 +1,18 @@
--- The reasons of refusal as words.
+-- The reasons of refusal: those of all scripts, and each as a word.
 use Rattle.std.specs.Prelude.{ℕ, List, codes}
+use Rattle.script_text.specs.declared.lines.ScriptReason.{ScriptReason}
+use Rattle.script_text.specs.declared.lines.ScriptReason.TheVariants as all
 use Rattle.doc_text.specs.declared.script_parts.Reason.{Reason}
 use Rattle.doc_text.specs.declared.script_parts.Reason.TheVariants as reasons
+
+abbrev pub script_reason : ScriptReason → Reason
+script_reason all.Utf8 = reasons.Utf8
+script_reason all.Header = reasons.Header
+script_reason all.Life = reasons.Life
+script_reason all.Lives = reasons.Lives
+script_reason all.Cut = reasons.Cut
+script_reason all.Client = reasons.Client
+script_reason all.Commands = reasons.Commands
 
 abbrev pub reason_text : Reason → List ℕ
 reason_text reasons.Utf8 = codes "utf8"

@@ -2,7 +2,8 @@
 use Rattle.std.specs.Prelude.{ℕ, ℤ, pos, ◌+ℤ◌, List, [], ◌∷◌, ◌++◌, length, codes, unwrap_or}
 use Rattle.std.specs.Fmt.{decimal, signed_decimal}
 use Rattle.cx_base.specs.Store.{Store}
-use Rattle.doc_model.specs.Number.{integer_of}
+use Rattle.plain_text.specs.Number.{integer_of}
+use Rattle.doc_model.specs.declared.operations.Reply.{Reply}
 use Rattle.life_records.specs.declared.record.LifeRecord.{LifeRecord}
 
 -- the 64-bit integer that the document of a pair is, and 0 where it is none
@@ -15,7 +16,7 @@ integer_sum [] = pos 0
 integer_sum (pair ∷ store) = number_in pair +ℤ integer_sum store
 
 -- the four lines on a life that left this store
-abbrev pub summary_text : LifeRecord → Store → List ℕ
+abbrev pub summary_text : LifeRecord Reply → Store → List ℕ
 summary_text told store =
     codes "clients " ++ decimal told.clients ++ codes "\nupdates " ++ decimal (length told.journal)
     ++ codes "\ndocuments " ++ decimal (length store) ++ codes "\nsum " ++ signed_decimal (integer_sum store) ++ codes "\n"

@@ -1,10 +1,9 @@
-//! The texts: the script that clients are told by, and the report of what happened. Beside them the script of a load, and what it came to.
+//! The texts of documents: the script that clients are told by, and the report of what happened. Beside them the script of a load,
+//! and what it came to.
 #![tactic(auto)]
 
+mod commands;
 mod document;
-mod indexed_life;
-mod laws;
-mod line;
 mod load_script;
 mod load_summary;
 mod measure;
@@ -12,14 +11,12 @@ mod measured_members;
 mod printing;
 mod reading;
 mod script_parts;
-mod words;
 
-pub use laws::different_lives_have_different_reports;
-pub use life_records::{
-    Command, Cut, FullLine, JournalLine, Life, LifeRecord, ReadLine, Script, StopLine,
-};
+pub use life_records::{Cut, FullLine, StopLine};
 pub use load_script::generated;
 pub use load_summary::summary;
 pub use printing::report;
 pub use reading::read_script;
-pub use script_parts::{Reason, ScriptLine, TextFault};
+pub use script_parts::{
+    Command, JournalLine, Life, LifeRecord, ReadLine, Reason, Script, ScriptLine, TextFault,
+};

@@ -1,13 +1,14 @@
 //! The script of a load: clients that add to numbers.
 
 ghost use Rattle.std.specs.Prelude.{◌≡◌, ◌++◌, ◌<◌, ◌≤◌, ◌^◌, IfOk, OnOk};
+ghost use Rattle.doc_model.specs.Meaning.{IsOp};
 ghost use Rattle.life_records.specs.Limits.{KeepsLimits};
 ghost use Rattle.doc_text.specs.Generated.{IsLoad, generated_command, generated_commands, generated_script};
 
-use crate::printing::write_labelled;
+use crate::script_parts::{Command, Life, Script};
 use cx_base::{Bytes, Items};
 use doc_model::Op;
-use life_records::{Command, Life, Script};
+use plain_text::write_labelled;
 use std::alloc::{AllocError, Global};
 
 /// The lines of the store of a load.
@@ -20,7 +21,7 @@ const LINES: u64 = 1_024;
 pub fn generated(alloc: Global, from: u64, clients: u32, ops: u64) -> Result<Script, AllocError>
     requires { IsLoad from clients ops }
     ensures script { IfOk result (λ script. script ≡ generated_script from clients ops) }
-    ensures limits { IfOk result KeepsLimits }
+    ensures limits { IfOk result (KeepsLimits IsOp 8) }
 {
     let mut commands = Items::new(alloc);
     for client in 0..clients {

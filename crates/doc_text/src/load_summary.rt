@@ -4,10 +4,10 @@ ghost use Rattle.std.specs.Prelude.{◌≡◌, ◌++◌, ◌<◌, ◌≤◌, ◌
 ghost use Rattle.std.specs.Fmt.{signed_decimal};
 ghost use Rattle.doc_text.specs.Summary.{integer_sum, number_in, summary_text};
 
-use crate::printing::write_labelled;
-use doc_model::{Pair, integer_of};
+use crate::script_parts::LifeRecord;
+use doc_model::Pair;
 use itoa::Buffer;
-use life_records::LifeRecord;
+use plain_text::{integer_of, write_labelled};
 use std::alloc::{AllocError, Global};
 
 /// A life in four lines: its clients, the entries of its history, and, where it left these pairs, their number and the sum of the

@@ -7,8 +7,8 @@ ghost use Rattle.doc_text.specs.Measure.{IsInteger, ReadsNumber, IsNoNumber, Rea
 
 use crate::measured_members::MeasuredMembers;
 use crate::script_parts::Reason;
-use doc_model::{integer_of, number_of};
 use json::{Invalid, Reader, Scratch, Token};
+use plain_text::{integer_of, number_of};
 use serde_json::Value;
 use std::alloc::{AllocError, AllocFailed, Global};
 

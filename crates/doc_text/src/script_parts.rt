@@ -1,24 +1,33 @@
-//! A script and its parts.
+//! A script of documents and its parts, and why a line of it is refused.
 
 ghost use Rattle.std.specs.Prelude.{◌≡◌};
-ghost use Rattle.doc_text.specs.declared.script_parts.TextFault.TheVariants.{Memory};
 
-use life_records::{Command, Cut};
-use std::alloc::{AllocError, AllocFailed};
+use doc_model::{Op, Reply};
 use std::fmt;
 
+/// An operation that a client asks for.
+pub type Command = life_records::Command<Op>;
+
+/// The time from one start to the next loss of power, as it is asked for.
+pub type Life = life_records::Life<Op>;
+
+/// The lives that are asked for.
+pub type Script = life_records::Script<Op>;
+
+/// An entry of the history.
+pub type JournalLine = life_records::JournalLine<Reply>;
+
+/// A read that did not go through the history.
+pub type ReadLine = life_records::ReadLine<Reply>;
+
+/// A life as it went.
+pub type LifeRecord = life_records::LifeRecord<Reply>;
+
 /// What one line of a script says.
-#[derive(Drop)]
-pub enum ScriptLine {
-    /// The number of lines of the store: `lines L`.
-    Lines(u64),
-    /// A life begins, with so many clients and this choice: `life N power C`.
-    Life { clients: u32, choice: u64 },
-    /// A client may make so many steps in the life: `cut K S`.
-    Cut(Cut),
-    /// A client asks for an operation: `K COMMAND`.
-    Command(Command),
-}
+pub type ScriptLine = script_text::ScriptLine<Op>;
+
+/// Why a text was not read.
+pub type TextFault = plain_text::TextFault<Reason>;
 
 /// Why a line is refused, in the order in which the reasons are looked for.
 #[derive(Clone, Copy, Debug, PartialEq, Eq)]
@@ -84,30 +93,5 @@ impl fmt::Display for Reason {
 
     fn fmt<W: fmt::Write>(&self, f: &mut fmt::Formatter<W>) -> fmt::Result {
         f.write_str(self.word())
-    }
-}
-
-/// Why a text was not read.
-#[derive(Debug, Drop)]
-pub enum TextFault {
-    /// The line, counted from 1, is the first with which the lines so far are no script.
-    Refused { line: u64, reason: Reason },
-    /// Memory is wanting.
-    Memory,
-}
-
-impl From<AllocError> for TextFault {
-    ghost from_gives = { λ _ e. e ≡ Memory };
-
-    fn from(_e: AllocError) -> TextFault {
-        TextFault::Memory
-    }
-}
-
-impl<T: Drop> From<AllocFailed<T>> for TextFault {
-    ghost from_gives = { λ _ e. e ≡ Memory };
-
-    fn from(_e: AllocFailed<T>) -> TextFault {
-        TextFault::Memory
     }
 }

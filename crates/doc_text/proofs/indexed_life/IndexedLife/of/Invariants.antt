@@ -1,6 +1,0 @@
-use Rattle.std.proofs.Common.{◌≡◌, length, take}
-use Rattle.doc_text.specs.Index.{AreOwnOps}
-use Rattle.doc_text.proofs.indexed_life.IndexedLife.of.Given as goal
-
-abbrev pub invariant-loop-command : goal.invariant-loop-command
-invariant-loop-command l = record { clients : length l.by_client.items ≡ l.life.clients; ops : AreOwnOps (take l.command-index l.command-items) l.by_client.items }

@@ -1,0 +1,208 @@
+//! The commands of documents, read from the text behind a client.
+
+ghost use Rattle.std.specs.Prelude.{◌≡◌, IfOk, IfSome, IsUtf8};
+ghost use Rattle.std.specs.Option.{option_copied};
+ghost use Rattle.plain_text.specs.Words.{first_word, rest_of};
+ghost use Rattle.cx_base.specs.Store.{IsKey};
+ghost use Rattle.doc_model.specs.Meaning.{IsOp};
+ghost use Rattle.doc_text.specs.CommandLaws.{reads_commands};
+ghost use Rattle.doc_text.specs.Grammar.{document_commands};
+ghost use Rattle.doc_text.specs.Reading.{verb_of, only_key, put_with, add_with, op_by_verb, asked_op};
+ghost use Rattle.doc_text.specs.Reasons.{script_reason};
+ghost use Rattle.script_text.specs.Reading.{then_ok};
+
+use crate::document::read_document;
+use crate::script_parts::Reason;
+use cx_base::Bytes;
+use doc_model::{Op, is_key};
+use plain_text::{integer_of, is_one_word, is_word, split_word};
+use script_text::{CommandReader, ScriptLimits, ScriptReason};
+use std::alloc::{AllocError, Global};
+
+/// What a command does.
+#[derive(Clone, Copy, Debug, PartialEq, Eq)]
+pub(crate) enum Verb {
+    Put,
+    Del,
+    Add,
+    Get,
+    Next,
+    Count,
+}
+
+/// The commands of documents. A script has up to 1,000 lives of 8 clients, which may have cut lines.
+#[derive(Drop)]
+pub(crate) struct Documents;
+
+impl CommandReader for Documents {
+    type Op = Op;
+
+    type Reason = Reason;
+
+    ghost commands = { document_commands };
+
+    ghost asked = { asked_op };
+
+    ghost is_op = { IsOp };
+
+    fn limits() -> ScriptLimits {
+        ScriptLimits {
+            clients: 8,
+            lives: 1_000,
+            cuts: true,
+        }
+    }
+
+    fn reason(of: ScriptReason) -> Reason {
+        match of {
+            ScriptReason::Utf8 => Reason::Utf8,
+            ScriptReason::Header => Reason::Header,
+            ScriptReason::Life => Reason::Life,
+            ScriptReason::Lives => Reason::Lives,
+            ScriptReason::Cut => Reason::Cut,
+            ScriptReason::Client => Reason::Client,
+            ScriptReason::Commands => Reason::Commands,
+        }
+    }
+
+    fn read_op(alloc: Global, text: Option<&[u8]>) -> Result<Result<Op, Reason>, AllocError> {
+        let Some(text) = text else {
+            return Ok(Err(Reason::Command));
+        };
+        let (verb, words) = split_word(text);
+        read_words(alloc, read_verb(verb), words)
+    }
+
+    ghost reads = { reads_commands };
+}
+
+/// The operation that a verb and what stands behind it ask for, or why they ask for none. `Err` is want of memory.
+fn read_words(
+    alloc: Global,
+    verb: Option<Verb>,
+    words: Option<&[u8]>,
+) -> Result<Result<Op, Reason>, AllocError>
+    requires { IfSome words (λ t. IsUtf8 t.now) }
+    ensures value { IfOk result (λ read. read ≡ op_by_verb verb (option_copied words.entry)) }
+    ensures limits { IfOk result (λ read. IfOk read IsOp) }
+{
+    match (verb, words) {
+        (Some(Verb::Put), Some(words)) => read_put(alloc, words),
+        (Some(Verb::Del), Some(words)) => read_del(alloc, words),
+        (Some(Verb::Add), Some(words)) => read_add(alloc, words),
+        (Some(Verb::Get), Some(words)) => read_get(alloc, words),
+        (Some(Verb::Next), Some(words)) => read_next(alloc, words),
+        (Some(Verb::Next), None) => Ok(Ok(Op::Next {
+            above: Bytes::of(alloc, b"")?,
+        })),
+        (Some(Verb::Count), None) => Ok(Ok(Op::Count)),
+        _ => Ok(Err(Reason::Command)),
+    }
+}
+
+fn read_put(alloc: Global, words: &[u8]) -> Result<Result<Op, Reason>, AllocError>
+    requires { IsUtf8 words.now }
+    ensures value { IfOk result (λ read. read ≡ put_with (first_word words.now) (rest_of words.now)) }
+    ensures limits { IfOk result (λ read. IfOk read IsOp) }
+{
+    let (key, json) = split_word(words);
+    let Some(json) = json else {
+        return Ok(Err(Reason::Command));
+    };
+    if !is_key(key) {
+        return Ok(Err(Reason::Key));
+    }
+    let doc = match read_document(alloc, json)? {
+        Ok(doc) => doc,
+        Err(reason) => return Ok(Err(reason)),
+    };
+    let key = Bytes::of(alloc, key)?;
+    Ok(Ok(Op::Put { key, doc }))
+}
+
+fn read_del(alloc: Global, words: &[u8]) -> Result<Result<Op, Reason>, AllocError>
+    ensures value { IfOk result (λ read. read ≡ then_ok Op.Del (only_key words.now)) }
+    ensures limits { IfOk result (λ read. IfOk read IsOp) }
+{
+    Ok(match read_key(alloc, words)? {
+        Ok(key) => Ok(Op::Del { key }),
+        Err(reason) => Err(reason),
+    })
+}
+
+fn read_add(alloc: Global, words: &[u8]) -> Result<Result<Op, Reason>, AllocError>
+    ensures value { IfOk result (λ read. read ≡ add_with (first_word words.now) (rest_of words.now)) }
+    ensures limits { IfOk result (λ read. IfOk read IsOp) }
+{
+    let (key, amount) = split_word(words);
+    let Some(amount) = amount else {
+        return Ok(Err(Reason::Command));
+    };
+    if !is_one_word(amount) {
+        return Ok(Err(Reason::Command));
+    }
+    if !is_key(key) {
+        return Ok(Err(Reason::Key));
+    }
+    let Some(amount) = integer_of(amount) else {
+        return Ok(Err(Reason::Number));
+    };
+    let key = Bytes::of(alloc, key)?;
+    Ok(Ok(Op::Add { key, amount }))
+}
+
+fn read_get(alloc: Global, words: &[u8]) -> Result<Result<Op, Reason>, AllocError>
+    ensures value { IfOk result (λ read. read ≡ then_ok Op.Get (only_key words.now)) }
+    ensures limits { IfOk result (λ read. IfOk read IsOp) }
+{
+    Ok(match read_key(alloc, words)? {
+        Ok(key) => Ok(Op::Get { key }),
+        Err(reason) => Err(reason),
+    })
+}
+
+fn read_next(alloc: Global, words: &[u8]) -> Result<Result<Op, Reason>, AllocError>
+    ensures value { IfOk result (λ read. read ≡ then_ok Op.Next (only_key words.now)) }
+    ensures limits { IfOk result (λ read. IfOk read IsOp) }
+{
+    Ok(match read_key(alloc, words)? {
+        Ok(above) => Ok(Op::Next { above }),
+        Err(reason) => Err(reason),
+    })
+}
+
+/// The key that is the only word left, or why it is none. `Err` is want of memory.
+fn read_key(alloc: Global, words: &[u8]) -> Result<Result<Bytes, Reason>, AllocError>
+    ensures value { IfOk result (λ read. read ≡ only_key words.now) }
+    ensures limits { IfOk result (λ read. IfOk read IsKey) }
+{
+    if !is_one_word(words) {
+        return Ok(Err(Reason::Command));
+    }
+    if !is_key(words) {
+        return Ok(Err(Reason::Key));
+    }
+    Ok(Ok(Bytes::of(alloc, words)?))
+}
+
+/// The command that a word names.
+#[tactic(auto, unfolding(crate::specs::Reading::verb_of))]
+fn read_verb(word: &[u8]) -> Option<Verb>
+    ensures { result ≡ verb_of word.now }
+{
+    if is_word(b"put", word) {
+        Some(Verb::Put)
+    } else if is_word(b"del", word) {
+        Some(Verb::Del)
+    } else if is_word(b"add", word) {
+        Some(Verb::Add)
+    } else if is_word(b"get", word) {
+        Some(Verb::Get)
+    } else if is_word(b"next", word) {
+        Some(Verb::Next)
+    } else if is_word(b"count", word) {
+        Some(Verb::Count)
+    } else {
+        None
+    }
+}

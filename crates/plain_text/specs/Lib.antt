@@ -1,0 +1,4 @@
+pub mod LineGrammar
+pub mod Lines
+pub mod Number
+pub mod Words

@@ -1,0 +1,4 @@
+pub mod JournalTexts
+pub mod LifeTexts
+pub mod PlainReplies
+pub mod ReadTexts

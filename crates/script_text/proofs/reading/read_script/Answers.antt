@@ -1,0 +1,9 @@
+use Rattle.std.proofs.Common.{sym, subst, ◌∙◌}
+use Rattle.std.proofs.lemmas.Result.{err_from_is_err_and}
+use Rattle.script_text.proofs.WithinLimits.{limits-script}
+use Rattle.script_text.proofs.reading.read_script.Goals as goal
+
+pub returns-clause-limits : goal.returns-clause-limits
+returns-clause-limits g c =
+    rw c.finish.ensures (limits-script g.C.CommandReader.commands g.met.C.CommandReader.reads.lives g.C.CommandReader.is_op c.args.bytes.now _
+    c.in_ok-read_lines.ensures.read c.in_ok-read_lines.ensures.keeps)

@@ -1,0 +1,10 @@
+pub mod Choices
+pub mod Grammar
+pub mod HeadLines
+pub mod Heads
+pub mod Index
+pub mod Judging
+pub mod LineReading
+pub mod Reading
+pub mod Report
+pub mod ScriptGrammar

@@ -1,0 +1,43 @@
+//! What a line of a script says, and why one is refused.
+
+use life_records::{Command, Cut};
+
+/// What scripts with some commands may have: the most clients of a life, the most lives, and whether lives have cut lines.
+#[derive(Clone, Copy, Drop)]
+pub struct ScriptLimits {
+    pub clients: u32,
+    pub lives: usize,
+    pub cuts: bool,
+}
+
+/// What one line of a script says.
+#[derive(Drop)]
+pub enum ScriptLine<Op> {
+    /// The number of lines of the store: `lines L`.
+    Lines(u64),
+    /// A life begins, with so many clients and this choice: `life N power C`.
+    Life { clients: u32, choice: u64 },
+    /// A client may make so many steps in the life: `cut K S`.
+    Cut(Cut),
+    /// A client asks for an operation: `K COMMAND`.
+    Command(Command<Op>),
+}
+
+/// Why a line of any script is refused, in the order in which the reasons are looked for. The reasons of its command come after them.
+#[derive(Clone, Copy, Drop)]
+pub enum ScriptReason {
+    /// The line is not UTF-8.
+    Utf8,
+    /// The header is missing.
+    Header,
+    /// The line begins a life wrongly, or stands before the first.
+    Life,
+    /// There are as many lives before it as there may be.
+    Lives,
+    /// The line is no cut line, or its client has one in this life.
+    Cut,
+    /// The first word is no client of the life.
+    Client,
+    /// There are 100,000 commands before it.
+    Commands,
+}
