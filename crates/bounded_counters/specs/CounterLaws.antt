@@ -65,7 +65,7 @@ shape lines bound small image i = (
 )
 
 -- the words of a reply are 144 words
-words_with_fit : (kind first second : ℕ) → kind < 2 ^ 64 → first < 2 ^ 64 → second < 2 ^ 64 → Words 144 (words_with kind first second)
+pub words_with_fit : (kind first second : ℕ) → kind < 2 ^ 64 → first < 2 ^ 64 → second < 2 ^ 64 → Words 144 (words_with kind first second)
 unfolding words_with
 words_with_fit kind first second k f s =
     let zeros : List ℕ = replicate 141 0 in

@@ -1,3 +1,4 @@
 pub mod Counters
 pub mod CounterLaws
+pub mod CounterMeaning
 pub mod Operations

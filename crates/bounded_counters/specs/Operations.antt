@@ -1,5 +1,5 @@
 -- Operations and replies as 144 words each: a kind, and what the kind uses, with zeros behind it.
-use Rattle.std.specs.Prelude.{◌==◌, ℕ, List, ◌∷◌, replicate, slice_index, if◌then◌else◌}
+use Rattle.std.specs.Prelude.{◌≡◌, ◌≢◌, ◌==◌, ℕ, List, ◌∷◌, replicate, slice_index, if◌then◌else◌, Option, Some, None}
 use Rattle.bounded_counters.specs.declared.operations.Op.{Op}
 use Rattle.bounded_counters.specs.declared.operations.Op.TheVariants.{Add, Read, Other}
 use Rattle.bounded_counters.specs.declared.operations.Reply.{Reply}
@@ -16,6 +16,11 @@ add_words counter amount = words_with 1 counter amount
 abbrev pub read_words : ℕ → List ℕ
 read_words counter = words_with 2 counter 0
 
+abbrev pub op_words : Op → List ℕ
+op_words (Add counter amount) = add_words counter amount
+op_words (Read counter) = read_words counter
+op_words Other = words_with 0 0 0
+
 -- the operation that words stand for
 abbrev pub op_in : List ℕ → Op
 op_in words =
@@ -29,3 +34,15 @@ reply_words (Value count) = words_with 1 count 0
 reply_words Full = words_with 2 0 0
 reply_words Missing = words_with 3 0 0
 reply_words NoOperation = words_with 0 0 0
+
+-- what the words of a reply tell of it
+abbrev pub reply_in : List ℕ → Reply
+reply_in words =
+    if slice_index words 0 == 1
+    then Value (slice_index words 1)
+    else (if slice_index words 0 == 2 then Full else (if slice_index words 0 == 3 then Missing else NoOperation))
+
+-- the reply has these words; where there is none, none has
+abbrev pub IsReplyOf : List ℕ → Option Reply → Type 0
+IsReplyOf words (Some reply) = reply_words reply ≡ words
+IsReplyOf words None = (reply : Reply) → Unit {0} → reply_words reply ≢ words

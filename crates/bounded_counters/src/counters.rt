@@ -36,6 +36,13 @@ impl Counters {
         Counters { lines, bound }
     }
 
+    /// What each counter stays below.
+    pub fn bound(&self) -> u64
+        ensures { result ≡ self.now.bound }
+    {
+        self.bound
+    }
+
     /// Whether there is this counter.
     fn has(&self, counter: u64) -> bool
         ensures { result ≡ nat_lt counter (8 * self.now.lines - 1) }

@@ -3,6 +3,7 @@
 
 mod counters;
 mod operations;
+mod typed_counters;
 
 pub use counters::Counters;
 pub use operations::{Op, Reply, add_words, operations_are_read, read_words};

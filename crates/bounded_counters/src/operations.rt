@@ -1,6 +1,7 @@
 //! Operations on the counters and the replies to them, and both as words.
 
 ghost use Rattle.std.specs.Prelude.{◌≡◌, ℕ};
+ghost use Rattle.bounded_counters.specs.Counters.{is_reading};
 ghost use Rattle.bounded_counters.specs.Operations as spec;
 
 /// What 144 words ask for. Counters are numbered from 0.
@@ -42,6 +43,27 @@ pub fn read_words(counter: u64) -> [u64; 144]
 }
 
 impl Op {
+    /// The operation as words; they stand for it.
+    pub fn words(self) -> [u64; 144]
+        ensures { result ≡ spec.op_words self }
+    {
+        match self {
+            Op::Add { counter, amount } => add_words(counter, amount),
+            Op::Read { counter } => read_words(counter),
+            Op::Other => words_with(0, 0, 0),
+        }
+    }
+
+    /// Whether it only tells.
+    pub fn only_reads(self) -> bool
+        ensures { result ≡ is_reading self }
+    {
+        match self {
+            Op::Read { .. } => true,
+            Op::Add { .. } | Op::Other => false,
+        }
+    }
+
     /// The operation that words stand for.
     pub fn of(words: &[u64; 144]) -> Op
         ensures { result ≡ spec.op_in words.now }
@@ -67,6 +89,30 @@ impl Reply {
             Reply::Full => words_with(2, 0, 0),
             Reply::Missing => words_with(3, 0, 0),
             Reply::NoOperation => words_with(0, 0, 0),
+        }
+    }
+
+    /// The reply that has these words, if one has.
+    pub fn of(words: &[u64; 144]) -> Option<Reply>
+        ensures { spec.IsReplyOf words.now result }
+    {
+        let reply = Reply::read(words);
+        if reply.words() == *words {
+            Some(reply)
+        } else {
+            None
+        }
+    }
+
+    // What a reply's words tell of it.
+    fn read(words: &[u64; 144]) -> Reply
+        ensures { result ≡ spec.reply_in words.now }
+    {
+        match words[0] {
+            1 => Reply::Value(words[1]),
+            2 => Reply::Full,
+            3 => Reply::Missing,
+            _ => Reply::NoOperation,
         }
     }
 }

@@ -1,4 +1,5 @@
 pub mod Answering
+pub mod CommandLaws
 pub mod Forms
 pub mod Loading
 pub mod Transfer

@@ -1,10 +1,10 @@
 -- What was read or written so far, piece by piece.
-use Rattle.std.proofs.Common.{◌≡◌, ◌∙◌, refl, sym, ap, subst, ℕ, ◌+◌, ◌<◌, ◌≤◌, List, [], ◌++◌, length, take, drop, arith, Option, Some, None, IfSome, append_assoc, append-nil}
+use Rattle.std.proofs.Common.{◌≡◌, ◌∙◌, refl, sym, ap, subst, ℕ, true, ◌+◌, ◌<◌, ◌≤◌, List, [], ◌++◌, length, take, drop, arith, Option, Some, None, IfSome, append_assoc, append-nil}
 use Rattle.std.proofs.lemmas.List.{length-append, length-take-le, length-drop, take-append-drop}
 use Rattle.std.proofs.Math.Seq.{take-add}
 use Rattle.std.proofs.lemmas.List.{drop-drop}
 use Rattle.cx_base.specs.Outside.{Gave, Took}
-use Rattle.cx_program.specs.Input.{Moves, Moved, Takes, TookAtMost}
+use Rattle.cx_program.specs.Input.{IsInput, Moves, Moved, Takes, TookAtMost}
 
 -- these bytes are the front of all, and the rest is left
 pub record IsFront (all : List ℕ) (left : Option (List ℕ)) (bytes : List ℕ) : Type 0 where
@@ -64,10 +64,10 @@ read-all (Some all) left after bytes longer read moves =
     ∙ (ap (λ (xs : List ℕ). xs ++ []) read.front
     ∙ (ap (λ (xs : List ℕ). take (length bytes) all ++ xs) (sym (m.end refl)) ∙ take-append-drop (length bytes) all))
 
--- more is left than an input may have
-pub read-past : (told left : Option (List ℕ)) (most : ℕ) (bytes : List ℕ) → HasRead told left bytes → most < length bytes → IfSome told (λ all. most < length all)
-read-past None left most bytes read past = tt
-read-past (Some all) left most bytes read past = omega (arith, read.within)
+-- an input has more bytes than it may, once so many were read
+pub read-past : (told left : Option (List ℕ)) (most : ℕ) (bytes : List ℕ) → HasRead told left bytes → most < length bytes → (input : List ℕ) × (most < length input) × IsInput true told input
+read-past None left most bytes read past = (bytes, past, tt)
+read-past (Some all) left most bytes read past = (all, omega (arith, read.within), refl)
 
 -- what was read so far was taken
 pub read-taken : (told left : Option (List ℕ)) (most : ℕ) (bytes : List ℕ) → HasRead told left bytes → length bytes ≤ most → TookAtMost most told left

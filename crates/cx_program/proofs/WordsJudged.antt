@@ -122,25 +122,25 @@ load_three (a ∷ b ∷ c ∷ d ∷ more) plain e =
     sym (load_strays a b c d more (nth_plain ws plain 0 (omega arith)) (nth_plain ws plain 1 (omega arith)) (nth_plain ws plain 2 (omega arith)) (nth_plain ws plain 3 (omega arith))) ∙ e in cc
 
 -- behind the word of a command its own arguments decide
+after : (name : Text) (level : Shape) (rest : List Text)
+    → walked top.rules labels (walk_from nothing_held) name ≡ record (walk_from nothing_held) { stopped = Some (name, []) }
+    → ((past : List Text) → entered_fault (built program) (Some (name, past)) ≡ level_fault level [] nothing_held past false [])
+    → fault_of program (name ∷ rest) ≡ [] → level_fault level [] nothing_held rest false [] ≡ []
+after name level rest stops enters e =
+    let walks : walk_fault top labels (walk_from nothing_held) (name ∷ rest) ≡ [] = none_first _ _ e in
+    let below : entered_fault (built program) (walk top.rules labels nothing_held (name ∷ rest)).stopped ≡ [] =
+    none_first _ _ (none_then (walk_fault top labels (walk_from nothing_held) (name ∷ rest)) _ walks e) in
+    let stopped : walk top.rules labels nothing_held (name ∷ rest) ≡ record (walk_from nothing_held) { stopped = Some (name, [] ++ rest) } =
+    ap (λ (w : Walk). fold (walked top.rules labels) w rest) stops ∙ fold_stopped top.rules labels (walk_from nothing_held) name [] rest in
+    sym (enters rest) ∙ subst (λ (w : Walk). entered_fault (built program) w.stopped ≡ []) stopped below
+
 after_run : (rest : List (List ℕ)) → fault_of program (codes "run" ∷ rest) ≡ [] → level_fault run_level [] nothing_held rest false [] ≡ []
 unfolding walked
-after_run rest e =
-    let walks : walk_fault top labels (walk_from nothing_held) (codes "run" ∷ rest) ≡ [] = none_first _ _ e in
-    let below : entered_fault (built program) (walk top.rules labels nothing_held (codes "run" ∷ rest)).stopped ≡ [] =
-    none_first _ _ (none_then (walk_fault top labels (walk_from nothing_held) (codes "run" ∷ rest)) _ walks e) in
-    let stops : (walk top.rules labels nothing_held (codes "run" ∷ rest)).stopped ≡ Some (codes "run", rest) =
-    ap (λ (w : Walk). w.stopped) (fold_stopped top.rules labels (walk_from nothing_held) (codes "run") [] rest) in
-    subst (λ (stop : Option (Text × List Text)). entered_fault (built program) stop ≡ []) stops below
+after_run rest e = after (codes "run") run_level rest refl (λ past. refl) e
 
 after_load : (rest : List (List ℕ)) → fault_of program (codes "load" ∷ rest) ≡ [] → level_fault load_level [] nothing_held rest false [] ≡ []
 unfolding walked
-after_load rest e =
-    let walks : walk_fault top labels (walk_from nothing_held) (codes "load" ∷ rest) ≡ [] = none_first _ _ e in
-    let below : entered_fault (built program) (walk top.rules labels nothing_held (codes "load" ∷ rest)).stopped ≡ [] =
-    none_first _ _ (none_then (walk_fault top labels (walk_from nothing_held) (codes "load" ∷ rest)) _ walks e) in
-    let stops : (walk top.rules labels nothing_held (codes "load" ∷ rest)).stopped ≡ Some (codes "load", rest) =
-    ap (λ (w : Walk). w.stopped) (fold_stopped top.rules labels (walk_from nothing_held) (codes "load") [] rest) in
-    subst (λ (stop : Option (Text × List Text)). entered_fault (built program) stop ≡ []) stops below
+after_load rest e = after (codes "load") load_level rest refl (λ past. refl) e
 
 -- a first word that names no command is refused
 strays : (w : List ℕ) (rest : List (List ℕ)) → IsPlainWord w → bytes_eq (codes "run") w ≡ false → bytes_eq (codes "load") w ≡ false → fault_of program (w ∷ rest) ≡ UnknownArgument ∷ InvalidSubcommand ∷ []

@@ -6,9 +6,6 @@ use Rattle.clap.specs.declared.error.kind.ErrorKind.TheVariants.{OutOfMemory}
 use Rattle.clap.specs.Simple.{App, new_app, new_rule, new_shape, with_rule}
 use Rattle.clap.specs.Walk.{Rule}
 use Rattle.clap.specs.declared.builder.action.ArgAction.TheVariants.{Set}
-use Rattle.cx_program.specs.Answer.{IsLoadOf, IsRun, NamesLoad}
-use Rattle.cx_program.specs.declared.command_line.Asked.{Asked}
-use Rattle.cx_program.specs.declared.command_line.Asked.TheVariants.{Run, Load, Nothing}
 
 -- a word begins with a hyphen
 abbrev pub begins_with_hyphen : List ℕ → Bool
@@ -43,9 +40,3 @@ pub record HasForm (words : List (List ℕ)) : Type 0 where
 -- the words pass, where no kind of fault does; a fault has one of the kinds, or memory ran out
 abbrev pub IsJudged : Kinds → Result Unit ErrorKind → Type 0
 IsJudged kinds result = MatchResult result (λ _. kinds ≡ []) (λ kind. (kind ≡ OutOfMemory) ⊎ IsAmong kind kinds)
-
--- what the words ask for
-abbrev pub Asks : List (List ℕ) → Asked → Type 0
-Asks words Run = IsRun words
-Asks words (Load load) = IsLoadOf words load.from load.clients load.ops
-Asks words Nothing = (IsRun words → ⊥) × (NamesLoad words → ⊥)

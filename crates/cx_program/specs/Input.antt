@@ -1,14 +1,19 @@
 -- What reading an input to its end shows of it.
-use Rattle.std.specs.Prelude.{◌≡◌, ◌<◌, ◌≤◌, ℕ, List, [], ◌++◌, length, take, drop, Option, Some, IfSome}
+use Rattle.std.specs.Prelude.{◌≡◌, ◌<◌, ◌≤◌, ℕ, Bool, true, false, List, [], ◌++◌, length, take, drop, Option, Some, IfSome, IsTrue}
 use Rattle.cx_base.specs.Outside.{Rose}
 use Rattle.cx_program.specs.declared.input.Input.{Input}
 use Rattle.cx_program.specs.declared.input.Input.TheVariants.{Whole, TooLong, Failed}
 
--- the bytes that the source had left, where it told them, and its count of faults before and after
-abbrev pub Shows : Option (List ℕ) → ℕ → ℕ → Input → Type 0
-Shows told before after (Whole bytes) = (length bytes.items ≤ 16777216) × IfSome told (λ all. bytes.items ≡ all)
-Shows told before after TooLong = IfSome told (λ all. 16777216 < length all)
-Shows told before after Failed = Rose before after
+-- the bytes are an input: what the source had left, where it told that; nothing where no input is read
+abbrev pub IsInput : Bool → Option (List ℕ) → List ℕ → Type 0
+IsInput true told input = IfSome told (λ all. input ≡ all)
+IsInput false told input = input ≡ []
+
+-- what reading shows of an input, if one is read, with the source's count of faults before and after
+abbrev pub Shows : Bool → Option (List ℕ) → ℕ → ℕ → Input → Type 0
+Shows reads told before after (Whole bytes) = (length bytes.items ≤ 16777216) × IsInput reads told bytes.items
+Shows reads told before after TooLong = (input : List ℕ) × (16777216 < length input) × IsInput reads told input
+Shows reads told before after Failed = IsTrue reads × Rose before after
 
 -- a piece of n bytes moved from the front of what was left behind the bytes read so far; no byte is the end
 pub record Moves (n : ℕ) (rest bytes longer : List ℕ) (after : Option (List ℕ)) : Type 0 where

@@ -5,46 +5,36 @@ ghost use Rattle.clap.specs.Faults.{fault_of};
 ghost use Rattle.clap.specs.Kinds.{FailsBy};
 ghost use Rattle.clap.specs.Words.{app_of, rule_of};
 ghost use Rattle.clap.specs.declared.builder.command.Command.TheViews.{out-Command as fields_of};
-ghost use Rattle.cx_program.specs.CommandLine.{Asks, HasForm, IsJudged, begins_with_hyphen, load_app, number_rule, program};
+ghost use Rattle.cx_program.specs.CommandLine.{HasForm, IsJudged, begins_with_hyphen, load_app, number_rule, program};
+ghost use Rattle.cx_program.specs.Commands.{command_of};
 
-use crate::load::Load;
+use crate::asked::{Asked, Load};
 use clap::error::ErrorKind;
 use clap::{Arg, ArgAction, ArgMatches, Command, Error};
 use std::alloc::{AllocError, Global};
 
-/// What the words ask for.
-#[derive(Drop)]
-pub(crate) enum Asked {
-    /// That a script is run.
-    Run,
-    /// That a script is made and run.
-    Load(Load),
-    /// Nothing: they are no command.
-    Nothing,
-}
-
-/// Reads the words of a command. `Err` is want of memory.
-pub(crate) fn read_words(alloc: Global, words: &[String]) -> Result<Asked, AllocError>
-    ensures { IfOk result (Asks (map string_bytes words.now)) }
+/// What words ask for, if anything. `Err` is want of memory.
+pub(crate) fn read_words(alloc: Global, words: &[String]) -> Result<Option<Asked>, AllocError>
+    ensures { IfOk result (λ asked. (command_of asked).asked (map string_bytes words.now)) }
 {
     if have_form(alloc, words)? {
         Ok(asked_by(words))
     } else {
-        Ok(Asked::Nothing)
+        Ok(None)
     }
 }
 
 // What words ask for that have the form of a command: `run` alone, or `load` and three more.
-fn asked_by(words: &[String]) -> Asked
+fn asked_by(words: &[String]) -> Option<Asked>
     requires { HasForm (map string_bytes words.now) }
-    ensures { Asks (map string_bytes words.now) result }
+    ensures { (command_of result).asked (map string_bytes words.now) }
 {
     match words {
         [_load, from, clients, ops] => match Load::read(from, clients, ops) {
-            Some(load) => Asked::Load(load),
-            None => Asked::Nothing,
+            Some(load) => Some(Asked::Load(load)),
+            None => None,
         },
-        _ => Asked::Run,
+        _ => Some(Asked::Run),
     }
 }
 

@@ -1,6 +1,6 @@
 //! The input, read to its end.
 
-ghost use Rattle.std.specs.Prelude.{◌≡◌, ◌+◌, ◌<◌, ◌≤◌, IfOk, OnErr, length, vec_len};
+ghost use Rattle.std.specs.Prelude.{◌≡◌, ◌+◌, ◌<◌, ◌≤◌, IfOk, OnErr, length, true, vec_len};
 ghost use Rattle.cx_base.specs.Outside.{Rose};
 ghost use Rattle.cx_program.specs.Input.{Shows, Moved, TookAtMost};
 
@@ -66,7 +66,7 @@ pub(crate) fn read_input<S: Source, L: Ledger>(
 ) -> Result<Input, AllocError>
     ensures same_reference { source.new.source.ghost_name ≡ source.old.source.ghost_name }
     ensures reads { source.new.reads ≤ source.old.reads + 16777217 }
-    ensures input { IfOk result (Shows (S.left source.old.source.now) (S.faults source.old.source.now) (S.faults source.new.source.now)) }
+    ensures input { IfOk result (Shows true (S.left source.old.source.now) (S.faults source.old.source.now) (S.faults source.new.source.now)) }
     ensures taken { TookAtMost 16777217 (S.left source.old.source.now) (S.left source.new.source.now) }
     ensures count { S.faults source.old.source.now ≤ S.faults source.new.source.now }
 {
@@ -92,7 +92,7 @@ pub(crate) fn read_uncounted<S: Source, L: Ledger>(
     requires name { blank.name ≡ L.name }
     requires parts { blank.parts ≡ L.parts }
     requires some { 0 < L.parts }
-    ensures input { IfOk result (Shows (S.left source.old) (S.faults source.old) (S.faults source.new)) }
+    ensures input { IfOk result (Shows true (S.left source.old) (S.faults source.old) (S.faults source.new)) }
     ensures taken { TookAtMost 16777217 (S.left source.old) (S.left source.new) }
     ensures count { S.faults source.old ≤ S.faults source.new }
 {

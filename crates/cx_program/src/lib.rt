@@ -2,11 +2,13 @@
 #![tactic(auto)]
 
 mod arguments;
+mod asked;
 mod command_line;
 mod counted_source;
 mod input;
 mod load;
 mod output;
+mod run;
 mod standard;
 mod status;
 mod top_call;

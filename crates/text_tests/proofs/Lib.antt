@@ -1,1 +1,2 @@
+mod LivesAlone
 mod OwnOps

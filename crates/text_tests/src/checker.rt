@@ -2,7 +2,7 @@
 //! operation means.
 
 use doc_model::{Op, Pairs, Reply};
-use life_records::{FullLine, JournalLine, Life, LifeRecord, ReadLine, Script, StopLine};
+use doc_text::{FullLine, JournalLine, Life, LifeRecord, ReadLine, Script, StopLine};
 use std::alloc::{AllocError, Global};
 
 /// Whether the records are of legal lives of the script: the first from place 0 and the empty store on, and each next one from the place

@@ -4,8 +4,7 @@ use crate::checker::are_legal;
 use crate::holds::holds;
 use cx_base::Items;
 use doc_model::Reply;
-use doc_text::read_script;
-use life_records::{JournalLine, LifeRecord, ReadLine};
+use doc_text::{JournalLine, LifeRecord, ReadLine, read_script};
 use std::alloc::{AllocError, Global};
 use std::test::Fail;
 

@@ -1,12 +1,12 @@
 //! The lives of a script that is a text, as the tests run them.
 
+ghost use Rattle.doc_model.specs.Meaning.{IsOp};
 ghost use Rattle.life_records.specs.Limits.{KeepsLimits};
 
 use crate::checker::are_legal;
 use cx_base::Gate;
-use cx_lives::run_lives;
-use doc_text::{read_script, report};
-use life_records::Script;
+use doc_lives::run_lives;
+use doc_text::{Script, read_script, report};
 use std::alloc::{AllocError, Global};
 use std::sync::Wait;
 use std::thread::Threads;
@@ -55,7 +55,7 @@ fn script_lived<R: Threads + Wait + Sync, G: Gate + Sync>(
     script: &Script,
     gate: &G,
 ) -> Result<Outcome, AllocError>
-    requires { KeepsLimits script.now }
+    requires { KeepsLimits IsOp 8 script.now }
 {
     let lived = run_lives(rt, alloc, script, gate)?;
     let records = lived.records.as_slice();

@@ -1,25 +1,28 @@
-use Rattle.std.proofs.Common.{subst, List, [], ◌∷◌}
+use Rattle.std.proofs.Common.{subst, sym, List, [], ◌∷◌}
 use Rattle.cx_lives.specs.Lives.{AreTold, HaveLived}
+use Rattle.doc_model.specs.declared.operations.Op.{Op}
+use Rattle.doc_model.specs.declared.operations.Reply.{Reply}
+use Rattle.doc_store.specs.DocumentMeaning.{document_meaning}
+use Rattle.doc_store.specs.ExactStep.{IsImage}
 use Rattle.doc_text.specs.Generated.{generated_life}
 use Rattle.life_records.specs.Lives.{AreLivesFrom}
 use Rattle.life_records.specs.declared.record.LifeRecord.{LifeRecord}
 use Rattle.life_records.specs.declared.script.Life.{Life}
 use Rattle.life_records.specs.declared.script.Script.{Script}
+use Rattle.cx_program.specs.Texts.{IsSummary}
+use Rattle.cx_program.specs.declared.status.Ended.{Ended}
 use Rattle.cx_program.proofs.Loading.{one_record}
 use Rattle.cx_program.proofs.load.load_text.Goals as goal
 
-pub returns : goal.returns
-returns g c words asked =
-    let life : Life = generated_life c.args.load.now.from c.args.load.now.clients c.args.load.now.ops in
-    let lived : HaveLived 1024 (life ∷ []) c.in_ok-lived.lived = subst (λ (s : Script). HaveLived s.lines s.lives c.in_ok-lived.lived) c.in_ok-script.ensures.script c.in_ok-lived.ensures in
+pub returns-clause-writes : goal.returns-clause-writes
+returns-clause-writes g c =
+    let life : Life Op = generated_life c.args.load.now.from c.args.load.now.clients c.args.load.now.ops in
+    let lived : HaveLived (document_meaning 1024) 1024 1 (IsImage 1024) (life ∷ []) c.in_ok-lived.lived = subst (λ (s : Script Op). HaveLived (document_meaning s.lines) s.lines 1 (IsImage s.lines) s.lives c.in_ok-lived.lived) c.in_ok-script.ensures.script c.in_ok-lived.ensures in
     let one = one_record 1024 [] life c.in_ok-lived.lived.records lived.legal in
-    record {
-      from = c.args.load.now.from;
-      clients = c.args.load.now.clients;
-      ops = c.args.load.now.ops;
-      asked = asked;
+    subst (λ (e : Ended). IsSummary c.args.load.now.from c.args.load.now.clients c.args.load.now.ops e.trails c.in_ok-text.text.items) (sym c.new.ensures)
+    (record {
       record_of = one.0;
-      lives = subst (λ (records : List LifeRecord). AreLivesFrom 1024 0 [] (life ∷ []) records) one.1 lived.legal;
-      told = subst (λ (records : List LifeRecord). AreTold 1024 (life ∷ []) records c.in_ok-lived.lived.trails) one.1 lived.told;
+      lives = subst (λ (records : List (LifeRecord Reply)). AreLivesFrom (document_meaning 1024) 0 [] (life ∷ []) records) one.1 lived.legal;
+      told = subst (λ (records : List (LifeRecord Reply)). AreTold (document_meaning 1024) (life ∷ []) records c.in_ok-lived.lived.trails) one.1 lived.told;
       summary = c.in_ok-text.ensures one.0 one.1;
-    }
+    })

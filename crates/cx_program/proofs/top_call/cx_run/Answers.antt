@@ -1,14 +1,25 @@
-use Rattle.std.proofs.Common.{refl, map, sym, subst, rules}
-use Rattle.std.specs.Prelude.{string_bytes}
-use Rattle.cx_program.specs.Answer.{IsRun, NamesLoad, Owed, usage_text}
+use Rattle.std.proofs.Common.{refl, map, sym, subst, string_bytes, [], None, List, ℕ, arith}
+use Rattle.cx_program.specs.Answer.{Owed}
+use Rattle.cx_program.specs.Texts.{usage_text}
 use Rattle.cx_program.specs.declared.status.Ended.{Ended}
-use Rattle.cx_program.proofs.Answering.{answers-written}
+use Rattle.cx_program.specs.declared.status.Status.TheVariants.{Usage}
+use Rattle.cx_program.proofs.Answering.{answers_written}
+use Rattle.cx_program.proofs.CommandLaws.{none_read, owed_short}
 use Rattle.cx_program.proofs.top_call.cx_run.Goals as goal
 
-pub returns-in-Ok-Nothing-clause-answer : goal.returns-in-Ok-Nothing-clause-answer
-returns-in-Ok-Nothing-clause-answer g c =
-    let none : IsRun (map string_bytes c.args.words.now) → ⊥ = search rules in
-    let no_load : NamesLoad (map string_bytes c.args.words.now) → ⊥ = search rules in
-    answers-written (map string_bytes c.args.words.now) (g.S.Source.left c.args.source.now) usage_text c.without_lives-ended.result c.write_answer.result (g.K.Sink.written c.args.sink.now) (g.K.Sink.written c.write_answer.new.sink)
+pub returns-in-Ok-Some-clause-answer : goal.returns-in-Ok-Some-clause-answer
+returns-in-Ok-Some-clause-answer g c =
+    c.run_asked.ensures.answer (map string_bytes c.args.words.now) (rw c.in-Ok-Some.field-0-is at c.in-Ok-Some.ensures)
+
+pub returns-in-Ok-Some-clause-unread : goal.returns-in-Ok-Some-clause-unread
+returns-in-Ok-Some-clause-unread g c none =
+    c.run_asked.ensures.unread (none_read (map string_bytes c.args.words.now) c.in-Ok-Some.asked (rw c.in-Ok-Some.field-0-is at c.in-Ok-Some.ensures) none)
+
+pub returns-in-Ok-None-clause-answer : goal.returns-in-Ok-None-clause-answer
+returns-in-Ok-None-clause-answer g c =
+    let words : List (List ℕ) = map string_bytes c.args.words.now in
+    let told = g.S.Source.left c.args.source.now in
+    answers_written words told usage_text c.without_lives-ended.result c.write_answer.result (g.K.Sink.written c.args.sink.now) (g.K.Sink.written c.write_answer.new.sink)
     (g.K.Sink.faults c.args.sink.now) (g.K.Sink.faults c.write_answer.new.sink)
-    (subst (λ (e : Ended). Owed (map string_bytes c.args.words.now) (g.S.Source.left c.args.source.now) e.status e.trails usage_text) (sym c.without_lives-ended.ensures) (none, no_load, refl)) c.write_answer.ensures.wrote
+    (subst (λ (e : Ended). Owed words told e.status e.trails usage_text) (sym c.without_lives-ended.ensures)
+    (owed_short None words told [] Usage [] usage_text (rw c.in-Ok-None.field-0-is at c.in-Ok-None.ensures) refl (omega arith) refl refl)) c.write_answer.ensures.wrote

@@ -1,14 +1,16 @@
 use Rattle.std.proofs.Common.{◌≡◌, ℕ, suc, ◌+◌, ◌<◌, List, [], ◌∷◌, length, get_or, ⊎_elim, subst, arith, rules}
 use Rattle.std.proofs.lemmas.Bool.{cases_lt}
 use Rattle.std.proofs.lemmas.List.{get_or_read}
+use Rattle.doc_model.specs.declared.operations.Op.{Op}
+use Rattle.doc_model.specs.declared.operations.Reply.{Reply}
 use Rattle.life_records.specs.declared.script.Life.{Life}
 use Rattle.life_records.specs.Lives.{NameCommands, NamesCommands}
 use Rattle.life_records.specs.declared.record.LifeRecord.{LifeRecord}
 use Rattle.text_tests.proofs.naming.name_commands.Goals as goal
 
 -- what is so at each place is so of the lists
-NameCommands-from_places : (lives : List Life) (records : List LifeRecord) → length lives ≡ length records
-    → ((n : ℕ) (d : Life) (e : LifeRecord) → n < length records → NamesCommands (get_or lives n d) (get_or records n e))
+NameCommands-from_places : (lives : List (Life Op)) (records : List (LifeRecord Reply)) → length lives ≡ length records
+    → ((n : ℕ) (d : Life Op) (e : LifeRecord Reply) → n < length records → NamesCommands (get_or lives n d) (get_or records n e))
     → NameCommands lives records
 NameCommands-from_places [] [] same named = tt
 NameCommands-from_places [] (told ∷ records) same named = absurd (omega arith)
@@ -19,11 +21,11 @@ NameCommands-from_places (life ∷ lives) (told ∷ records) same named = (
 )
 
 -- one place more
-at_places_more : (lives : List Life) (records : List LifeRecord) (n : ℕ) (life : Life) (told : LifeRecord)
+at_places_more : (lives : List (Life Op)) (records : List (LifeRecord Reply)) (n : ℕ) (life : Life Op) (told : LifeRecord Reply)
     → n < length lives → n < length records → life ≡ get_or lives n life → told ≡ get_or records n told
-    → ((m : ℕ) (d : Life) (e : LifeRecord) → m < n → NamesCommands (get_or lives m d) (get_or records m e))
+    → ((m : ℕ) (d : Life Op) (e : LifeRecord Reply) → m < n → NamesCommands (get_or lives m d) (get_or records m e))
     → NamesCommands life told
-    → (m : ℕ) (d : Life) (e : LifeRecord) → m < n + 1 → NamesCommands (get_or lives m d) (get_or records m e)
+    → (m : ℕ) (d : Life Op) (e : LifeRecord Reply) → m < n + 1 → NamesCommands (get_or lives m d) (get_or records m e)
 at_places_more lives records n life told lives_have records_have life_is told_is before here m d e below =
     let P : ℕ → Type 0 = λ k. NamesCommands (get_or lives k d) (get_or records k e) in
     ⊎_elim
@@ -31,8 +33,8 @@ at_places_more lives records n life told lives_have records_have life_is told_is
     (λ least.
     let same : n ≡ m = omega (arith, least) in
     subst P same
-    (subst (λ (l : Life). NamesCommands l (get_or records n e)) (get_or_read lives n life lives_have life_is d)
-    (subst (λ (t : LifeRecord). NamesCommands life t) (get_or_read records n told records_have told_is e) here)))
+    (subst (λ (l : Life Op). NamesCommands l (get_or records n e)) (get_or_read lives n life lives_have life_is d)
+    (subst (λ (t : LifeRecord Reply). NamesCommands life t) (get_or_read records n told records_have told_is e) here)))
     (cases_lt m n)
 
 pub returns : goal.returns

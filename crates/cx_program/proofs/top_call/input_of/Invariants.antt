@@ -1,4 +1,4 @@
-use Rattle.cx_program.proofs.top_call.run.Given as goal
+use Rattle.cx_program.proofs.top_call.input_of.Given as goal
 
 -- the counter of reads is on a new ledger
 abbrev pub ghosts-read_uncounted : goal.ghosts-read_uncounted

@@ -1,0 +1,13 @@
+-- The words of commands.
+use Rattle.std.specs.Prelude.{◌≡◌, ℕ, List, [], ◌∷◌, codes}
+use Rattle.std.specs.Fmt.{decimal}
+use Rattle.doc_text.specs.Generated.{IsLoad}
+
+-- the words are the command `run`
+abbrev pub IsRun : List (List ℕ) → Type 0
+IsRun words = words ≡ codes "run" ∷ []
+
+-- the words are the command `load` with these numbers, which are within its limits
+pub record IsLoadOf (from clients ops : ℕ) (words : List (List ℕ)) : Type 0 where
+  pub within : IsLoad from clients ops
+  pub are : words ≡ codes "load" ∷ decimal from ∷ decimal clients ∷ decimal ops ∷ []

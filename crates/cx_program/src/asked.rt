@@ -1,0 +1,52 @@
+//! What words can ask for.
+
+ghost use Rattle.std.specs.Prelude.{ℕ, [], ◌∷◌, codes, IfSome, IfNone};
+ghost use Rattle.doc_text.specs.Generated.{IsLoad};
+ghost use Rattle.cx_program.specs.Words.{IsLoadOf};
+
+use doc_model::number_of;
+
+/// The most clients of a load.
+const MAX_CLIENTS: u64 = 8;
+
+/// The most commands of each client.
+const MAX_OPS: u64 = 10_000;
+
+/// A load: the number from which its count of commands begins, its clients, and the commands of each.
+#[derive(Drop)]
+pub(crate) struct Load {
+    pub(crate) from: u64,
+    pub(crate) clients: u32,
+    pub(crate) ops: u64,
+    ghost within: { IsLoad from clients ops },
+}
+
+impl Load {
+    /// The load whose numbers three words write, in decimal without sign and without leading zeros. None exactly where they write
+    /// no numbers within its limits.
+    pub(crate) fn read(from: &str, clients: &str, ops: &str) -> Option<Load>
+        ensures some { IfSome result (λ load. IsLoadOf load.from load.clients load.ops (codes "load" ∷ from.now ∷ clients.now ∷ ops.now ∷ [])) }
+        ensures none { IfNone result ((a b c : ℕ) → IsLoadOf a b c (codes "load" ∷ from.now ∷ clients.now ∷ ops.now ∷ []) → ⊥) }
+    {
+        let from = number_of(from.as_bytes())?;
+        let clients = number_of(clients.as_bytes())?;
+        let ops = number_of(ops.as_bytes())?;
+        if clients == 0 || clients > MAX_CLIENTS || ops > MAX_OPS {
+            return None;
+        }
+        Some(Load {
+            from,
+            clients: clients as u32,
+            ops,
+        })
+    }
+}
+
+/// A command that words ask for.
+#[derive(Drop)]
+pub(crate) enum Asked {
+    /// That a script is run.
+    Run,
+    /// That a script is made and run.
+    Load(Load),
+}
