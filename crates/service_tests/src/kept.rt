@@ -70,7 +70,7 @@ fn first_wrong(
 #[test]
 fn entries_are_kept_below_the_end(rt: HostRuntime) -> Result<(), Fail> {
     holds(&rt, first_wrong(rt.alloc(), &KEPT)?.is_none());
-    holds(&rt, !is_kept(&[], 0, 9, 0, 1));
+    holds(&rt, !is_kept::<Reply>(&[], 0, 9, 0, 1));
     Ok(())
 }
 
