@@ -120,6 +120,7 @@ module _ {Op Reply : Type 0} (life : Life Op) (told flagged : LifeRecord Reply) 
     callers = is.callers;
     limits = is.limits;
     from = same.from ∙ is.from;
+    of_callers = is.of_callers;
     long = rw same.journal is.long;
     tickets = rw same.journal is.tickets;
     entries = rw same.journal (λ i line entry l at there of.

@@ -157,6 +157,7 @@ module _ {Op Reply : Type 0} (encoding : Encoding Op Reply) (life : Life Op) (pl
     callers = callers;
     limits = limits;
     from = is.from;
+    of_callers = merged.of_callers;
     long = ap length is.journal_is ∙ long_journal;
     tickets = rw is.journal_is tickets_are;
     entries = rw (is.journal_is, is.stops_are) line_at;
