@@ -9,14 +9,15 @@ use Rattle.life_records.specs.declared.record.LifeRecord.{LifeRecord}
 use Rattle.life_records.specs.declared.record.StopLine.{StopLine}
 use Rattle.life_records.specs.Lives.{is_stopped}
 use Rattle.life_records.specs.Scripts.{limit_in}
-use Rattle.journals.specs.Works.{AreReadLines, HoldsFrom, IsLineOf, by_read, stop_of}
+use Rattle.journals.specs.Works.{AreReadLines, HoldsFrom, IsLineOf, IsUnderWay, by_read, stop_of}
 use Rattle.typed_object.specs.Meaning.{Encoding}
 
--- a client's stop line: its caller's steps equal its limit
+-- a client's stop line: its caller's steps equal its limit, and a further step of its command is to be made
 pub record IsToldStop (locals : List Local) (line : StopLine) : Type 0 where
   pub local : Local
   pub of_client : slice_get locals line.client ≡ Some local
   pub steps : local.steps ≡ local.limit
+  pub under_way : IsUnderWay local line.command
 
 -- a client's full line: its caller last scanned this need of this holder, which was stopped, and the least ticket of its 16 cells is
 -- this one
