@@ -66,6 +66,7 @@ module _ {Op Reply Store : Type 0} where
         legal = legal_then m life ran.told (nothing_begun m) lives lived.records have.legal has.legal;
         told = told_then m life ran.told ran.trail (nothing_begun m) lives lived.records lived.trails have.told has.told (subst (λ (b : Base). IsBaseOf m b begun) (sym has.began) last.0.is);
         ends = (long, has.recovered, subst (λ (b : Begun Store). BeginsLife m lines is_lawful b ran.next) (sym next) has.next, omega (arith, has.few, last.1, count_then lives life));
+        left = record { before = lives; life = life; lives_are = refl; trails_before = lived.trails; trail = ran.trail; trails_are = refl; leaves = has.left };
       }
 
 -- what goes on where lives were lived

@@ -1,5 +1,5 @@
 -- A life that was run, lost its power and was recovered is a legal life, told by its trail.
-use Rattle.std.proofs.Common.{◌≡◌, ◌↔◌, ◌+◌, ◌-◌, ◌%◌, ◌<◌, ◌≤◌, ℕ, Bool, true, List, length, map, slice_index, sym, ap, ap₂, subst, ◌∙◌, arith}
+use Rattle.std.proofs.Common.{◌≡◌, ◌↔◌, ◌+◌, ◌-◌, ◌%◌, ◌<◌, ◌≤◌, ℕ, Bool, true, List, length, map, slice_index, sym, ap, ap₂, subst, ◌∙◌, refl, arith}
 use Rattle.std.specs.Prelude.{All}
 use Rattle.cx_base.specs.Codes.{root_place_of}
 use Rattle.cx_core.specs.Base.{LawfulBase}
@@ -25,10 +25,11 @@ use Rattle.life_records.specs.Lives.{IsKept, IsKeptStop, IsLegal}
 use Rattle.life_records.specs.declared.record.JournalLine.{JournalLine}
 use Rattle.life_records.specs.declared.record.LifeRecord.{LifeRecord}
 use Rattle.life_records.specs.declared.script.Life.{Life}
-use Rattle.recovery.specs.Crashes.{IsLeftOf}
+use Rattle.recovery.specs.Crashes.{IsLeftOf, IsWhole}
+use Rattle.recovery.specs.Images.{IsReadable}
 use Rattle.recovery.specs.Kept.{IsKeptBy, IsOpened, crash_of}
 use Rattle.cx_lives.specs.Life.{HasRun}
-use Rattle.cx_lives.specs.Lives.{HasLived, HasLost, IsServiceOf, IsToldBy}
+use Rattle.cx_lives.specs.Lives.{HasLived, HasLost, IsServiceOf, IsToldBy, LeavesImage}
 use Rattle.cx_lives.proofs.Entries.{few_entries}
 use Rattle.typed_object.specs.Meaning.{Meaning}
 
@@ -156,9 +157,21 @@ module _ {O Op Reply Store : Type 0} (lines_in : O → ℕ) (images : O → List
         (sym lost.flags.same.from);
   }
 
-  pub lived : IsEnded life flagged → HasReplies m base.place begun.store life flagged → GoesOn m (lines_in o) (images o) base.place begun.store life flagged next
+  leaves_image : IsWhole remains → IsReadable (lines_in o) image → LeavesImage (lines_in o) life remains.trail image
+  leaves_image whole readable = record {
+    readable = readable;
+    remains = remains;
+    whole = whole;
+    callers = ran.leaves.callers ∙ is.callers;
+    has_lines = ran.leaves.lines ∙ is.has_lines;
+    trail_is = refl;
+    published = ran.leaves.published;
+    left = lost.left;
+  }
+
+  pub lived : IsWhole remains → IsReadable (lines_in o) image → IsEnded life flagged → HasReplies m base.place begun.store life flagged → GoesOn m (lines_in o) (images o) base.place begun.store life flagged next
       → IsBaseOf m next (begun_after m begun life flagged.journal flagged.kept) → HasLived m (lines_in o) version (images o) life begun base (record { told = flagged; trail = remains.trail; image = image; next = next })
-  lived ended has goes begins =
+  lived whole readable ended has goes begins =
       let has' : HasReplies m begun.place begun.store life flagged = subst (λ (p : ℕ). HasReplies m p begun.store life flagged) based.at_place has in
       let goes' : GoesOn m (lines_in o) (images o) begun.place begun.store life flagged next = subst (λ (p : ℕ). GoesOn m (lines_in o) (images o) p begun.store life flagged next) based.at_place goes in
       let from : flagged.from ≡ begun.place = flagged_from ∙ based.at_place in
@@ -173,6 +186,7 @@ module _ {O Op Reply Store : Type 0} (lines_in : O → ℕ) (images : O → List
         };
         told = told_by;
         began = ran.leaves.base ∙ is.from;
+        left = leaves_image whole readable;
         recovered = lost.recovered;
         next = record { lawful = goes.lawful; is = begins };
         few = omega (arith, goes.at_place, goes.prefix, few_entries life flagged.journal ended.interleaved);

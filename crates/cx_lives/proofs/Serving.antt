@@ -1,5 +1,5 @@
 -- One command more of a client, and a client's end.
-use Rattle.std.proofs.Common.{◌≡◌, ℕ, zero, suc, ◌+◌, ◌<◌, ◌≤◌, ◌==◌, false, List, [], ◌∷◌, ◌++◌, length, Option, None, Some, sym, ap, subst, ◌∙◌, refl, inl, inr, ◌⊎◌, arith, length-append}
+use Rattle.std.proofs.Common.{◌≡◌, ◌≢◌, ℕ, zero, suc, ◌+◌, ◌<◌, ◌≤◌, ◌==◌, false, List, [], ◌∷◌, ◌++◌, length, Option, None, Some, sym, ap, subst, ◌∙◌, refl, inl, inr, ◌⊎◌, arith, length-append}
 use Rattle.std.specs.Prelude.{All, AllPairs, Contains, IsSome}
 use Rattle.std.specs.List.{AllZip}
 use Rattle.std.proofs.lemmas.Bool.{cases_eq, eq-eqb, ne_eqb}
@@ -16,7 +16,7 @@ use Rattle.cx_core.specs.declared.local.SeenRead.{SeenRead}
 use Rattle.cx_rule.specs.Seats.{IsAtLimit}
 use Rattle.cx_turns.specs.declared.lookup.Seen.{Seen}
 use Rattle.cx_turns.specs.Answering.{with_answer}
-use Rattle.journals.specs.Works.{HasWords, IsDoneEntry, IsEnd, IsEntryBefore, IsFullOf, IsLineOf, IsLineReply, IsReadLine, IsReplyAt, IsSeenBefore, IsStopOf, IsStoppedRead, IsWork, StandsBetween, lines_of, stops_in}
+use Rattle.journals.specs.Works.{HasWords, IsDoneEntry, IsEnd, IsEntryBefore, IsFullOf, IsLineOf, IsLineReply, IsReadLine, IsReplyAt, IsSeenBefore, IsStopOf, IsStoppedRead, IsUnderWay, IsWork, StandsBetween, lines_of, stops_in}
 use Rattle.life_records.specs.Scripts.{limit_in, named_op, own_ops}
 use Rattle.life_records.specs.declared.script.Life.{Life}
 use Rattle.life_records.specs.declared.record.FullLine.{FullLine}
@@ -48,7 +48,7 @@ module _ {Op Reply Store : Type 0} where
     once = λ k one up. absurd (omega arith);
     entries_done = rw no_es (All-nil (IsAnsweredEntry 0));
     reads_done = rw no_rs (All-nil (λ (line : ReadLine Reply). (1 ≤ line.command) × (line.command ≤ 0)));
-    few = rw no_es (omega arith);
+    count = rw (no_es, no_rs) (omega arith);
   }
 
 module _ {Op Reply Store : Type 0} (m : Meaning Op Reply Store) (life : Life Op) (client n : ℕ) (l : Local) (es : List (JournalLine Reply)) (rs : List (ReadLine Reply)) (s : HasServed m life client n l es rs) where
@@ -62,6 +62,10 @@ module _ {Op Reply Store : Type 0} (m : Meaning Op Reply Store) (life : Life Op)
   -- as many entries as lines
   long : length es ≡ length l.own
   long = AllZip-long (IsAnsweredLine m life client l.answered) l.own es s.entry_lines
+
+  -- where each entry is answered, the caller was answered just those commands
+  answers_count : length l.own ≡ length l.answered → length l.answered + length l.seen_reads ≡ n
+  answers_count even = omega (arith, even, long, AllZip-long (IsReadLine m.encoding life client) l.seen_reads rs s.read_lines, s.count)
 
   module _ (number : ℕ) (next : number ≡ n + 1) where
     -- one entry's line more
@@ -134,7 +138,7 @@ module _ {Op Reply Store : Type 0} (m : Meaning Op Reply Store) (life : Life Op)
             once = rw (entries, reads) (once_entry line refl);
             entries_done = rw entries (All-push (IsAnsweredEntry number) es line entries_later (omega arith, omega arith, refl));
             reads_done = rw reads reads_later;
-            few = rw entries (omega (arith, s.few, length-append es (line ∷ [])));
+            count = rw (entries, reads) (omega (arith, s.count, length-append es (line ∷ [])));
           }
 
       -- a read that was answered beside the queue, where each entry is answered
@@ -174,24 +178,29 @@ module _ {Op Reply Store : Type 0} (m : Meaning Op Reply Store) (life : Life Op)
               once = rw (entries, lines) once_read;
               entries_done = rw entries entries_later;
               reads_done = rw lines (All-push (λ (r : ReadLine Reply). (1 ≤ r.command) × (r.command ≤ number)) rs read_line reads_later (omega arith, omega arith));
-              few = rw entries (omega (arith, s.few));
+              count = rw (entries, lines) (omega (arith, s.count, length-append rs (read_line ∷ [])));
             }
 
       -- a client that is stopped in its next command
-      module _ (within : number ≤ length (own_ops client life.commands)) (l' : Local) (limit : l'.limit ≡ l.limit) (at_limit : IsAtLimit l') where
+      module _ (within : number ≤ length (own_ops client life.commands)) (even : length l.own ≡ length l.answered) (l' : Local) (limit : l'.limit ≡ l.limit) (at_limit : IsAtLimit l') where
         abbrev pub stop : StopLine
         stop = record { client = client; command = number; steps = l'.limit; kept = false }
 
-        is_stop : IsStopOf life client n l' stop
-        is_stop = record {
+        is_stop : IsUnderWay l' number → IsStopOf life client n l' stop
+        is_stop under_way = record {
           client_is = refl;
           command = next;
           within = omega arith;
           steps = refl;
           reached = at_limit.0;
           limit = at_limit.1;
+          under_way = under_way;
           kept = refl;
         }
+
+        -- nothing more was answered
+        not_answered : l'.answered ≡ l.answered → l'.seen_reads ≡ l.seen_reads → IsUnderWay l' number
+        not_answered answered reads = inl (omega (arith, answers_count even, ap length answered, ap length reads))
 
         not_in : (command : ℕ) → command ≤ n → stops_in (Some stop) command ≡ false
         not_in command up = ne_eqb number command (λ same. omega arith)
@@ -213,7 +222,7 @@ module _ {Op Reply Store : Type 0} (m : Meaning Op Reply Store) (life : Life Op)
 
         -- before its link
         pub stops_beside : (es' : List (JournalLine Reply)) (rs' : List (ReadLine Reply)) → l'.number ≡ l.number → l'.own ≡ l.own → l'.answered ≡ l.answered
-            → (l'.seen_reads ≡ l.seen_reads) ⊎ ((seen : Seen) × (l'.seen_reads ≡ one_read ws seen l)) → es' ≡ es → rs' ≡ rs → IsWork m.encoding life client l' es' rs' (Some stop) None
+            → (l'.seen_reads ≡ l.seen_reads) ⊎ ((seen : Seen) × (l'.seen_reads ≡ one_read ws seen l) × (l'.shared ≢ None)) → es' ≡ es → rs' ≡ rs → IsWork m.encoding life client l' es' rs' (Some stop) None
         stops_beside es' rs' same_number own answered reads entries lines =
             let left : (xs : List SeenRead) × (l'.seen_reads ≡ l.seen_reads ++ xs) × (length xs ≤ 1) × All (IsStoppedRead m.encoding life client (Some stop)) xs =
             elim reads [
@@ -237,13 +246,16 @@ module _ {Op Reply Store : Type 0} (m : Meaning Op Reply Store) (life : Life Op)
               once = rw (entries, lines) s.once;
               entries_done = rw entries done_entries;
               reads_done = rw lines s.reads_done;
-              ends = is_stop;
+              ends = is_stop (elim reads [
+                | inl none ↦ not_answered answered none
+                | inr one ↦ inr (inr one.2)
+              ]);
             }
 
         -- behind its link
-        pub stops_linked : (ticket : ℕ) (more : List Answer) (es' : List (JournalLine Reply)) (rs' : List (ReadLine Reply)) → LinksEntry ws ticket l l' → l'.answered ≡ l.answered ++ more
+        pub stops_linked : (ticket : ℕ) (more : List Answer) (es' : List (JournalLine Reply)) (rs' : List (ReadLine Reply)) → LinksEntry ws ticket l l' → l'.answered ≡ l.answered ++ more → (more ≡ []) ⊎ (l'.won ≢ None)
             → es' ≡ es ++ record { ticket = ticket; client = client; command = number; reply = None } ∷ [] → rs' ≡ rs → IsWork m.encoding life client l' es' rs' (Some stop) None
-        stops_linked ticket more es' rs' links answered entries lines =
+        stops_linked ticket more es' rs' links answered won entries lines =
             let line : JournalLine Reply = record { ticket = ticket; client = client; command = number; reply = None } in
             let new : IsLineOf m.encoding life client (l.answered ++ more) (Some stop) links.entry line = record {
               ticket = sym links.at;
@@ -264,7 +276,10 @@ module _ {Op Reply Store : Type 0} (m : Meaning Op Reply Store) (life : Life Op)
               once = rw (entries, lines) (once_still line refl);
               entries_done = rw entries (All-push (IsDoneEntry n (Some stop)) es line done_entries (inr (next, refl, refl)));
               reads_done = rw lines s.reads_done;
-              ends = is_stop;
+              ends = is_stop (elim won [
+                | inl none ↦ not_answered (answered ∙ ap (λ (xs : List Answer). l.answered ++ xs) none ∙ append-nil l.answered) links.reads
+                | inr won ↦ inr (inl won)
+              ]);
             }
 
   -- a client all of whose entries are answered, as it ended
@@ -306,12 +321,12 @@ module _ {Op Reply Store : Type 0} (m : Meaning Op Reply Store) (life : Life Op)
     once = s.once;
     entries_done = s.entries_done;
     reads_done = s.reads_done;
-    few = s.few;
+    count = s.count;
   }
 
   -- it has at most one entry for each command
   pub few_own : length l.own ≤ n
-  few_own = omega (arith, long, s.few)
+  few_own = omega (arith, long, s.count)
 
 -- the client has the command that is named
 pub named_within : {Op : Type 0} → (life : Life Op) (client number : ℕ) (op : Op) → named_op life client number ≡ Some op → number ≤ length (own_ops client life.commands)

@@ -125,19 +125,19 @@ module _ {O Op Reply Store : Type 0} (m : Meaning Op Reply Store) (life : Life O
       }
 
   -- the client is stopped
-  pub stop_turned : (stopped : StoppedSeat) (work : Work Reply) → Asks r ws before (Halted stopped) → StopsIn client number stopped es rs work → Turned m life r client number (Over work)
-  stop_turned stopped work a w = (by stopped.linked a w.entries_are, ap full_in w.end_is)
+  pub stop_turned : length l.own ≡ length l.answered → (stopped : StoppedSeat) (work : Work Reply) → Asks r ws before (Halted stopped) → StopsIn client number stopped es rs work → Turned m life r client number (Over work)
+  stop_turned even stopped work a w = (by stopped.linked a w.entries_are, ap full_in w.end_is)
     where
       by : (linked : Option ℕ) → Halts r ws before stopped.seat linked → work.entries.items ≡ with_linked client number linked es → IsWorkOf m life r client work
       by None a lines =
           work_is m life r client work (StoppedCaller stopped) (Stopped (stop_line client number stopped)) w.handed w.end_is
           (record { of = a.caller.of; by = a.number ∙ s.by; limit = a.limit ∙ s.limit; few = omega (arith, ap length a.own, few_before, within) })
-          (stops_beside m life client n l es rs s number next op ws are named within stopped.seat.known.local a.limit a.caller.limit work.entries.items work.reads.items a.number a.own a.answered a.reads lines w.reads_are)
+          (stops_beside m life client n l es rs s number next op ws are named within even stopped.seat.known.local a.limit a.caller.limit work.entries.items work.reads.items a.number a.own a.answered a.reads lines w.reads_are)
       by (Some ticket) a lines =
           let longer : length stopped.seat.known.local.own ≡ length l.own + 1 = ap length a.links.own ∙ length-append l.own (a.links.entry ∷ []) in
           work_is m life r client work (StoppedCaller stopped) (Stopped (stop_line client number stopped)) w.handed w.end_is
           (record { of = a.caller.of; by = a.links.number ∙ s.by; limit = a.links.limit ∙ s.limit; few = omega (arith, longer, few_before, within) })
-          (stops_linked m life client n l es rs s number next op ws are named within stopped.seat.known.local a.links.limit a.caller.limit ticket a.more work.entries.items work.reads.items a.links a.answered lines w.reads_are)
+          (stops_linked m life client n l es rs s number next op ws are named within even stopped.seat.known.local a.links.limit a.caller.limit ticket a.more work.entries.items work.reads.items a.links a.answered a.won lines w.reads_are)
 
 -- a client that was answered all its commands
 pub whole_work : {O Op Reply Store : Type 0} (m : Meaning Op Reply Store) (life : Life Op) (r : Running O) (client n : ℕ) (desk : Desk Reply) (work : Work Reply) → IsServed m life r client n desk → n ≡ length (own_ops client life.commands)

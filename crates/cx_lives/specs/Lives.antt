@@ -1,5 +1,5 @@
 -- What one life comes to.
-use Rattle.std.specs.Prelude.{◌≡◌, ◌↔◌, ◌+◌, ◌-◌, ◌%◌, ◌<◌, ◌≤◌, ℕ, List, [], ◌∷◌, length, slice_index, true, All, Option, None, Some}
+use Rattle.std.specs.Prelude.{◌≡◌, ◌↔◌, ◌+◌, ◌-◌, ◌%◌, ◌<◌, ◌≤◌, ℕ, List, [], ◌∷◌, ◌++◌, length, slice_index, true, All, Option, None, Some}
 use Rattle.cx_base.specs.Codes.{root_place_of}
 use Rattle.cx_core.specs.Base.{LawfulBase}
 use Rattle.cx_core.specs.declared.entry.Base.{Base}
@@ -17,7 +17,8 @@ use Rattle.life_records.specs.Lives.{AreLivesFrom, IsKeptStop, IsLegalLife}
 use Rattle.life_records.specs.Scripts.{command_count}
 use Rattle.life_records.specs.declared.script.Life.{Life}
 use Rattle.life_records.specs.declared.record.LifeRecord.{LifeRecord}
-use Rattle.recovery.specs.Crashes.{IsLeftOf}
+use Rattle.recovery.specs.Crashes.{IsLeftOf, IsWhole}
+use Rattle.recovery.specs.Images.{IsReadable}
 use Rattle.recovery.specs.Recovery.{IsRecovered}
 use Rattle.cx_lives.specs.declared.lives.Lived.{Lived}
 use Rattle.cx_lives.specs.declared.ran.Ran.{Ran}
@@ -64,6 +65,18 @@ pub record HasLost {Op Reply Store : Type 0} (m : Meaning Op Reply Store) (lines
   pub items_are : (store : Store) → m.stands (object_part next.words) store → items ≡ m.items store
   pub values : HasReplyValues m flagged
 
+-- An image that may be read for an object of so many lines. By the life's choice the loss of power left it of a closed table, whose callers
+-- were the life's clients and whose trail is this one.
+pub record LeavesImage {Op : Type 0} (lines : ℕ) (life : Life Op) (trail : Ending) (image : Image) : Type 0 where
+  pub readable : IsReadable lines image
+  pub remains : Remains
+  pub whole : IsWhole remains
+  pub callers : remains.callers ≡ life.clients
+  pub has_lines : remains.lines ≡ lines
+  pub trail_is : remains.trail ≡ trail
+  pub published : remains.published.items ≡ trail.chain
+  pub left : IsLeftOf remains life.choice image
+
 -- What one life comes to that begins so: a record of a legal life, told by the trail of its service, which began with this base; and
 -- an image from which the next life's base is recovered.
 pub record HasLived {Op Reply Store : Type 0} (m : Meaning Op Reply Store) (lines version : ℕ) (is_lawful : List ℕ → Type 0) (life : Life Op) (begun : Begun Store) (base : Base)
@@ -71,6 +84,7 @@ pub record HasLived {Op Reply Store : Type 0} (m : Meaning Op Reply Store) (line
   pub legal : IsLegalLife m begun.place begun.store life ran.told
   pub told : IsToldBy m.encoding life ran.trail ran.told
   pub began : ran.trail.base ≡ base
+  pub left : LeavesImage lines life ran.trail ran.image
   pub recovered : IsRecovered version is_lawful ran.image ran.next
   pub next : BeginsLife m lines is_lawful (begun_after m begun life ran.told.journal ran.told.kept) ran.next
   pub few : ran.next.place ≤ base.place + length life.commands
@@ -109,8 +123,24 @@ HaveEnded m lines version is_lawful begun lives (Some image) (Some base) =
 HaveEnded m lines version is_lawful begun lives None (Some base) = ⊥
 HaveEnded m lines version is_lawful begun lives (Some image) None = ⊥
 
+-- the loss of power that ended the last of these lives left the image, by the last of these trails
+pub record LastLeaves {Op : Type 0} (lines : ℕ) (lives : List (Life Op)) (trails : List Ending) (image : Image) : Type 0 where
+  pub before : List (Life Op)
+  pub life : Life Op
+  pub lives_are : lives ≡ before ++ life ∷ []
+  pub trails_before : List Ending
+  pub trail : Ending
+  pub trails_are : trails ≡ trails_before ++ trail ∷ []
+  pub leaves : LeavesImage lines life trail image
+
+-- where lives were run, the image is what the last one left
+abbrev pub HaveLeft : {Op : Type 0} → ℕ → List (Life Op) → List Ending → Option Image → Type 0
+HaveLeft lines lives trails None = lives ≡ []
+HaveLeft lines lives trails (Some image) = LastLeaves lines lives trails image
+
 -- What lives come to: their records are of legal lives, and told by the trails of the services that ran them.
 pub record HaveLived {Op Reply Store : Type 0} (m : Meaning Op Reply Store) (lines version : ℕ) (is_lawful : List ℕ → Type 0) (lives : List (Life Op)) (lived : Lived Reply) : Type 0 where
   pub legal : AreLivesFrom m 0 m.opening lives lived.records
   pub told : AreTold m lives lived.records lived.trails
   pub ends : HaveEnded m lines version is_lawful (begun_by m (nothing_begun m) lives lived.records) lives lived.image lived.base
+  pub left : HaveLeft lines lives lived.trails lived.image

@@ -1,5 +1,5 @@
 -- What a worker keeps while it makes its client's commands one after another.
-use Rattle.std.specs.Prelude.{◌≡◌, ◌≤◌, ℕ, List, length, All, AllPairs, IsSome, None}
+use Rattle.std.specs.Prelude.{◌≡◌, ◌+◌, ◌≤◌, ℕ, List, length, All, AllPairs, IsSome, None}
 use Rattle.std.specs.List.{AllZip}
 use Rattle.cx_core.specs.declared.local.Answer.{Answer}
 use Rattle.cx_core.specs.declared.local.Linked.{Linked}
@@ -37,7 +37,7 @@ pub record HasServed {Op Reply Store : Type 0} (m : Meaning Op Reply Store) (lif
   pub once : (command : ℕ) → 1 ≤ command → command ≤ number → lines_of command entries reads ≡ 1
   pub entries_done : All (IsAnsweredEntry number) entries
   pub reads_done : All (λ (line : ReadLine Reply). (1 ≤ line.command) × (line.command ≤ number)) reads
-  pub few : length entries ≤ number
+  pub count : length entries + length reads ≡ number
 
 -- the same of a worker whose caller is in no call
 pub record IsServed {O Op Reply Store : Type 0} (m : Meaning Op Reply Store) (life : Life Op) (r : Running O) (client number : ℕ) (desk : Desk Reply) : Type 0 where

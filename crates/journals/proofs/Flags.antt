@@ -20,7 +20,7 @@ use Rattle.life_records.specs.Lives.{HasEnded, IsEndedEntry, IsLegalFull, IsLega
 use Rattle.life_records.specs.Scripts.{own_ops}
 use Rattle.journals.specs.Ended.{IsEnded, IsSameButKept, IsSameStop}
 use Rattle.journals.specs.Told.{IsTold, IsToldFull, IsToldStop}
-use Rattle.journals.specs.Works.{AreReadLines, HasWords, IsLineOf, IsLineReply, IsStoppedRead, by_read, stop_of, stops_in}
+use Rattle.journals.specs.Works.{AreReadLines, HasWords, IsLineOf, IsLineReply, IsStoppedRead, IsUnderWay, by_read, stop_of, stops_in}
 use Rattle.journals.proofs.Lists.{all_each, each_all, pairs_rise, rises_pairs, zip_each, zip_rises}
 use Rattle.typed_object.specs.Meaning.{Encoding}
 
@@ -120,6 +120,7 @@ module _ {Op Reply : Type 0} (life : Life Op) (told flagged : LifeRecord Reply) 
     callers = is.callers;
     limits = is.limits;
     from = same.from ∙ is.from;
+    of_callers = is.of_callers;
     long = rw same.journal is.long;
     tickets = rw same.journal is.tickets;
     entries = rw same.journal (λ i line entry l at there of.
@@ -129,7 +130,7 @@ module _ {Op Reply : Type 0} (life : Life Op) (told flagged : LifeRecord Reply) 
         reads_flagged encoding life client (stop_of client told.stops) (stop_of client flagged.stops) l.seen_reads (filter (by_read client) told.reads)
         (same_stop_of client told.stops flagged.stops same.stops) (is.reads client l at));
     stops = stops_flagged (IsToldStop locals)
-        (λ a b s t. record { local = t.local; of_client = ap (slice_get locals) s.client ∙ t.of_client; steps = t.steps })
+        (λ a b s t. record { local = t.local; of_client = ap (slice_get locals) s.client ∙ t.of_client; steps = t.steps; under_way = subst (IsUnderWay t.local) (sym s.command) t.under_way })
         told.stops flagged.stops same.stops is.stops;
     fulls = subst (All (IsToldFull locals flagged.stops)) (sym same.fulls) (All-weaker (IsToldFull locals told.stops) (IsToldFull locals flagged.stops)
         (λ line t. record {

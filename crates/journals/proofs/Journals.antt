@@ -123,7 +123,7 @@ module _ {Op Reply : Type 0} (encoding : Encoding Op Reply) (life : Life Op) (pl
       subst (λ (w : Linked). IsLineOf encoding life entry.caller l.answered (stop_of entry.caller stops) w line) whole
       (subst (λ (k : ℕ). IsLineOf encoding life k l.answered (stop_of k stops) x.0 line) (sym by) (subst (λ (w : Local). IsLineOf encoding life c w.answered (stop_of c stops) x.0 line) local x.2))
 
-  -- a stopped client made all the steps that it may
+  -- a stopped client made all the steps that it may, and its command asks for one more
   stopped_at : (line : StopLine) (k : ℕ) → slice_get stops k ≡ Some line → IsToldStop locals line
   stopped_at line k at =
       let has = has_get stops k line at in
@@ -131,7 +131,7 @@ module _ {Op Reply : Type 0} (encoding : Encoding Op Reply) (life : Life Op) (pl
       let w = m.each line.client l.0 l.1 in
       let stop : IsStopOf life line.client w.done l.0 line =
       stop_end life line.client w.done l.0 line (full_of line.client fulls) (subst (λ (o : Option StopLine). IsEnd life line.client w.done l.0 o (full_of line.client fulls)) (first_is (λ (x : StopLine). x.client) stops line m.stops_in_order has) w.ends) in
-      record { local = l.0; of_client = l.1; steps = stop.reached }
+      record { local = l.0; of_client = l.1; steps = stop.reached; under_way = stop.under_way }
 
   -- of a client that gave up the last scan and the cells are as its line says
   gave_up_at : All (λ (line : FullLine). is_stopped line.note.holder stops ≡ true) fulls → (line : FullLine) (k : ℕ) → slice_get fulls k ≡ Some line → IsToldFull locals stops line
@@ -157,6 +157,7 @@ module _ {Op Reply : Type 0} (encoding : Encoding Op Reply) (life : Life Op) (pl
     callers = callers;
     limits = limits;
     from = is.from;
+    of_callers = merged.of_callers;
     long = ap length is.journal_is ∙ long_journal;
     tickets = rw is.journal_is tickets_are;
     entries = rw (is.journal_is, is.stops_are) line_at;

@@ -1,5 +1,5 @@
 -- A record is told by what a closed table leaves: by the history of its entries and the local states that its callers ended with.
-use Rattle.std.specs.Prelude.{◌≡◌, ◌+◌, ℕ, true, List, length, filter, slice_get, All, Some}
+use Rattle.std.specs.Prelude.{◌≡◌, ◌+◌, ◌<◌, ℕ, true, List, length, filter, slice_get, All, Some}
 use Rattle.cx_core.specs.declared.entry.Entry.{Entry}
 use Rattle.cx_core.specs.declared.local.Local.{Local}
 use Rattle.life_records.specs.declared.script.Life.{Life}
@@ -9,14 +9,15 @@ use Rattle.life_records.specs.declared.record.LifeRecord.{LifeRecord}
 use Rattle.life_records.specs.declared.record.StopLine.{StopLine}
 use Rattle.life_records.specs.Lives.{is_stopped}
 use Rattle.life_records.specs.Scripts.{limit_in}
-use Rattle.journals.specs.Works.{AreReadLines, HoldsFrom, IsLineOf, by_read, stop_of}
+use Rattle.journals.specs.Works.{AreReadLines, HoldsFrom, IsLineOf, IsUnderWay, by_read, stop_of}
 use Rattle.typed_object.specs.Meaning.{Encoding}
 
--- a client's stop line: its caller's steps equal its limit
+-- a client's stop line: its caller's steps equal its limit, and a further step of its command is to be made
 pub record IsToldStop (locals : List Local) (line : StopLine) : Type 0 where
   pub local : Local
   pub of_client : slice_get locals line.client ≡ Some local
   pub steps : local.steps ≡ local.limit
+  pub under_way : IsUnderWay local line.command
 
 -- a client's full line: its caller last scanned this need of this holder, which was stopped, and the least ticket of its 16 cells is
 -- this one
@@ -34,6 +35,8 @@ pub record IsTold {Op Reply : Type 0} (encoding : Encoding Op Reply) (life : Lif
   pub callers : length locals ≡ life.clients
   pub limits : (client : ℕ) (l : Local) → slice_get locals client ≡ Some l → l.limit ≡ limit_in client life.cuts
   pub from : told.from ≡ place
+  -- each entry of the history is of one of these callers
+  pub of_callers : (i : ℕ) (entry : Entry) → slice_get history i ≡ Some entry → entry.caller < length locals
   -- one line for each entry of the history, at its ticket: of its caller, with the words of the line's command, and with the reply
   -- that was answered there, or none where the command was stopped
   pub long : length told.journal ≡ length history

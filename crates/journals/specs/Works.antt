@@ -96,7 +96,12 @@ IsDoneEntry done stop line =
     ((1 ≤ line.command) × (line.command ≤ done) × IsSome line.reply)
     ⊎ ((line.command ≡ done + 1) × (line.reply ≡ None) × IsSome stop)
 
--- a client that was stopped in the command behind those that it was answered, at its limit
+-- The command of this number is under way: it is not answered, so that its caller was answered just those before it; or it is, and a win or
+-- a shared right stands that a further step is to end.
+abbrev pub IsUnderWay : Local → ℕ → Type 0
+IsUnderWay l command = (length l.answered + length l.seen_reads + 1 ≡ command) ⊎ ((l.won ≢ None) ⊎ (l.shared ≢ None))
+
+-- a client that was stopped in the command behind those that it was answered, at its limit, with a further step to be made
 pub record IsStopOf {Op : Type 0} (life : Life Op) (client done : ℕ) (l : Local) (line : StopLine) : Type 0 where
   pub client_is : line.client ≡ client
   pub command : line.command ≡ done + 1
@@ -104,6 +109,7 @@ pub record IsStopOf {Op : Type 0} (life : Life Op) (client done : ℕ) (l : Loca
   pub steps : line.steps ≡ l.limit
   pub reached : l.steps ≡ l.limit
   pub limit : l.limit < 2 ^ 64 - 1
+  pub under_way : IsUnderWay l line.command
   pub kept : line.kept ≡ false
 
 -- all 16 cells of a caller hold tickets, and this is the least

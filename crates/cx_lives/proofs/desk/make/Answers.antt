@@ -59,4 +59,4 @@ returns-in_ok-work-in-Halted g c =
     let n = c.args.number in
     let d = c.args.desk in
     stop_turned m c.args.life.now r c.args.command.now.client (n - 1) n d.caller d.entries.items d.reads.items c.requires.served.lists (omega (arith, c.requires.number)) c.args.command.now.op c.words_of-op.result
-    c.words_of-op.ensures c.requires.named c.requires.op c.op_is_a_value.ensures c.in-Halted.stopped c.in_ok-work-in-Halted.work c.in-Halted.ensures c.in_ok-work-in-Halted.ensures
+    c.words_of-op.ensures c.requires.named c.requires.op c.op_is_a_value.ensures (omega (arith, c.requires.served.caller.count)) c.in-Halted.stopped c.in_ok-work-in-Halted.work c.in-Halted.ensures c.in_ok-work-in-Halted.ensures

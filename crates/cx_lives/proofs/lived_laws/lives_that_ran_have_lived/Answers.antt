@@ -2,6 +2,7 @@ use Rattle.std.proofs.Common.{sym, subst, Ok}
 use Rattle.cx_core.specs.declared.entry.Base.{Base}
 use Rattle.cx_rule.specs.Running.{instance_at}
 use Rattle.journals.specs.Ended.{IsEnded}
+use Rattle.recovery.specs.Images.{IsReadable}
 use Rattle.recovery.specs.Kept.{IsKeptBy, IsOpened, crash_of}
 use Rattle.recovery.specs.Recovery.{IsRecovered}
 use Rattle.life_laws.specs.Meanings.{object_instance}
@@ -32,7 +33,9 @@ returns g c = λ life begun service told flagged remains image next based is ran
     (c.told_lives_have_ended.ensures m.encoding life service.base.place remains.trail.history remains.trail.locals told ran.works ran.is_told) in
     let rec_in = recorded lines_in images steps readings m version o base life begun service told flagged remains image next based is ran lost by closed (λ place history. retold place history remains.trail.locals) in
     let kept = kept_in lines_in images steps readings m version o base life begun service told flagged remains image next based is ran lost by closed (λ place history. retold place history remains.trail.locals) in
-    lived lines_in images steps readings m version o base life begun service told flagged remains image next based is ran lost by closed (λ place history. retold place history remains.trail.locals) ended
+    lived lines_in images steps readings m version o base life begun service told flagged remains image next based is ran lost by closed (λ place history. retold place history remains.trail.locals)
+    (c.closed_tables_are_whole.ensures.whole service ran.seats remains opened ran.leaves)
+    (subst (λ x. IsReadable (lines_in x) image) is.same (c.closed_tables_are_whole.ensures.readable service ran.seats remains life.choice image opened ran.leaves lost.left)) ended
     (c.replies_are_the_stores.ensures service.callers closed.s begun.store life flagged closed.law rec_in)
     (c.kept_lives_go_on.ensures service.callers closed.s begun.store life flagged next closed.law rec_in kept)
     (c.kept_bases_begin_the_next_life.ensures service.callers closed.s begun life flagged next closed.law based rec_in kept))
