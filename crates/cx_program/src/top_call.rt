@@ -100,11 +100,7 @@ fn reads(asked: &Asked) -> bool
 }
 
 // The input of a command: all of the source, or nothing. `Err` is want of memory.
-fn input_of<S: Source>(
-    alloc: Global,
-    asked: &Asked,
-    source: &mut S,
-) -> Result<Input, AllocError>
+fn input_of<S: Source>(alloc: Global, asked: &Asked, source: &mut S) -> Result<Input, AllocError>
     ensures input { IfOk result (Shows (command asked.now).reads (S.left source.old) (S.faults source.old) (S.faults source.new)) }
     ensures taken { TookAtMost 16777217 (S.left source.old) (S.left source.new) }
     ensures unread { (command asked.now).reads ≡ false → S.left source.new ≡ S.left source.old }

@@ -41,6 +41,7 @@ const ANSWERS: [Reply; 4] = [
 
 /// What a client asks for that is stopped before its first step, and what the last life reads.
 const STOPPED: [Row; 1] = [(1, Some(1))];
+
 const LAST: [Row; 1] = [(1, None)];
 
 /// Runs the lives of a script of counters.
