@@ -1,2 +1,1 @@
-mod LivesAlone
 mod OwnOps

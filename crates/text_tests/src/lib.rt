@@ -6,8 +6,6 @@ mod checker;
 #[cfg(test)]
 mod checker_rows;
 #[cfg(test)]
-mod counter_lives;
-#[cfg(test)]
 mod cut_beside;
 #[cfg(test)]
 mod cut_holders;

@@ -1,6 +1,6 @@
 use Rattle.std.proofs.Common.{◌≡◌, All, vec_len}
 use Rattle.bounded_counters.specs.CounterMeaning.{IsOp}
-use Rattle.text_tests.proofs.counter_lives.commands.Given as goal
+use Rattle.counter_tests.proofs.counter_lives.commands.Given as goal
 
 abbrev pub invariant-loop-row : goal.invariant-loop-row
 invariant-loop-row l = record {
