@@ -1,9 +1,9 @@
 -- How the pairs that stand go on from one access to the next.
-use Rattle.std.proofs.Common.{◌≡◌, ◌^◌, ◌<◌, ◌≤◌, ℕ, suc, Bool, List, length, slice_index, slice_set, Option, None, Some, is_some, refl, subst, sym, ap, ◌∙◌}
+use Rattle.std.proofs.Common.{◌≡◌, ◌^◌, ◌<◌, ◌≤◌, ℕ, suc, Bool, List, length, slice_index, slice_set, Option, None, Some, is_some, Result, refl, subst, sym, ap, ◌∙◌}
 use Rattle.std.specs.List.{All}
 use Rattle.std.proofs.Math.Logic.{∥∥₁_elim}
 use Rattle.std.proofs.Math.Bridge.{le_prop}
-use Rattle.cx_base.specs.Memory.{Words, Loaded, Stored, Becomes, Framed, Always, Known, one_less}
+use Rattle.cx_base.specs.Memory.{Words, Accessed, Loaded, Stored, Becomes, Framed, Always, Known, one_less}
 
 module _ {Key : Type 0} where
   -- nothing done
@@ -76,8 +76,8 @@ module _ {Memory Fixed : Type 0} {size : Memory → ℕ} {fixed : Memory → Fix
   Framed-same m = record { size_kept = refl; fixed_kept = refl; writable_kept = refl; limited = refl }
 
   -- one load or one store
-  pub Framed-access : {old new : Memory} → size new ≡ size old → fixed new ≡ fixed old → writable new ≡ writable old → left new ≡ one_less (left old) → Framed size fixed writable left old new
-  Framed-access s f w l = record { size_kept = s; fixed_kept = f; writable_kept = w; limited = ap is_some l ∙ is_some-one_less _ }
+  pub Framed-access : {Key T E : Type 0} {stands : Memory → Key → List ℕ → Type 0} {old new : Memory} {r : Result T E} → Accessed size fixed writable left stands old new r → Framed size fixed writable left old new
+  Framed-access a = record { size_kept = a.size_kept; fixed_kept = a.fixed_kept; writable_kept = a.writable_kept; limited = ap is_some a.counted ∙ is_some-one_less _ }
 
   -- one call after another
   pub Framed-then : {old mid new : Memory} → Framed size fixed writable left old mid → Framed size fixed writable left mid new → Framed size fixed writable left old new

@@ -1,5 +1,5 @@
 -- What a memory tells: which words it may have held first, and which it then holds now.
-use Rattle.std.specs.Prelude.{◌≡◌, ◌+◌, ◌-◌, ◌^◌, ◌<◌, ℕ, Bool, List, [], ◌∷◌, length, All, Option, Some, None, is_some, slice_index, slice_set}
+use Rattle.std.specs.Prelude.{◌≡◌, ◌+◌, ◌-◌, ◌^◌, ◌<◌, ◌↔◌, ℕ, Bool, List, [], ◌∷◌, length, All, Option, Some, None, is_some, Result, IsErr, OnErr, slice_index, slice_set}
 use Rattle.std.proofs.Common.{ap}
 use Rattle.std.proofs.lemmas.List.Elements.{All-same}
 
@@ -42,6 +42,15 @@ pub record Framed {Memory Fixed : Type 0} (size : Memory → ℕ) (fixed : Memor
   pub fixed_kept : fixed new ≡ fixed old
   pub writable_kept : writable new ≡ writable old
   pub limited : is_some (left new) ≡ is_some (left old)
+
+-- One access: it halts exactly where none is left, and then nothing changes. It is counted, and leaves the same memory.
+pub record Accessed {Memory Fixed Key T E : Type 0} (size : Memory → ℕ) (fixed : Memory → Fixed) (writable : Memory → Bool) (left : Memory → Option ℕ) (stands : Memory → Key → List ℕ → Type 0) (old new : Memory) (result : Result T E) : Type 0 where
+  pub halts : IsErr result ↔ (left old ≡ Some 0)
+  pub kept : OnErr result (Same (stands old) (stands new))
+  pub counted : left new ≡ one_less (left old)
+  pub size_kept : size new ≡ size old
+  pub fixed_kept : fixed new ≡ fixed old
+  pub writable_kept : writable new ≡ writable old
 
 -- these words stand from a place on
 abbrev pub AreAt : ℕ → List ℕ → List ℕ → Type 0

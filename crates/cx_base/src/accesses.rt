@@ -1,7 +1,8 @@
 //! Accesses for whoever writes an object: several words at once, only words that differ, and a word below a bound.
 
-ghost use Rattle.std.specs.Prelude.{◌≡◌, ◌+◌, ◌^◌, ◌<◌, ◌≤◌, Some, length, slice_index, slice_set, IsTrue, IfOk, OnOk, OnErr};
-ghost use Rattle.cx_base.specs.Memory.{AreAt, Loaded, Becomes, Framed, Always, overwritten};
+ghost use Rattle.std.specs.Prelude.{◌≡◌, ◌+◌, ◌^◌, ◌<◌, ◌≤◌, Some, length, slice_index, slice_set, IsTrue, IfOk, OnErr};
+ghost use Rattle.cx_base.specs.Calls.{Changes};
+ghost use Rattle.cx_base.specs.Memory.{AreAt, Loaded, Framed, Always, overwritten};
 
 use crate::memory::{Halt, Memory};
 
@@ -14,9 +15,7 @@ pub fn store_words<M: Memory>(mem: &mut M, at: u64, words: &[u64]) -> Result<(),
     requires within { at + length words.now ≤ M.size mem.old }
     requires small { at + length words.now < 2 ^ 64 }
     requires writable { IsTrue (M.writable mem.old) }
-    ensures done { OnOk result (Becomes (M.stands mem.old) (M.stands mem.new) (λ before now. now ≡ overwritten at words.now before)) }
-    ensures halts { OnErr result (M.left mem.new ≡ Some 0) }
-    ensures framed { Framed M.size M.fixed M.writable M.left mem.old mem.new }
+    ensures { Changes M.Memory mem.old mem.new result (λ _ before now. now ≡ overwritten at words.now before) }
 {
     for turn in 0..words.len().div_ceil(FEW) {
         let from = FEW * turn;
@@ -32,9 +31,7 @@ fn store_few<M: Memory>(mem: &mut M, at: u64, words: &[u64]) -> Result<(), Halt>
     requires within { at + length words.now ≤ M.size mem.old }
     requires small { at + length words.now < 2 ^ 64 }
     requires writable { IsTrue (M.writable mem.old) }
-    ensures done { OnOk result (Becomes (M.stands mem.old) (M.stands mem.new) (λ before now. now ≡ overwritten at words.now before)) }
-    ensures halts { OnErr result (M.left mem.new ≡ Some 0) }
-    ensures framed { Framed M.size M.fixed M.writable M.left mem.old mem.new }
+    ensures { Changes M.Memory mem.old mem.new result (λ _ before now. now ≡ overwritten at words.now before) }
 {
     let mut there = [0; FEW];
     let there = &mut there[..words.len()];
@@ -54,9 +51,7 @@ fn store_differing<M: Memory>(
     requires writable { IsTrue (M.writable mem.old) }
     requires long { length there.now ≡ length words.now }
     requires known { Always (M.stands mem.old) (AreAt at there.now) }
-    ensures done { OnOk result (Becomes (M.stands mem.old) (M.stands mem.new) (λ before now. now ≡ overwritten at words.now before)) }
-    ensures halts { OnErr result (M.left mem.new ≡ Some 0) }
-    ensures framed { Framed M.size M.fixed M.writable M.left mem.old mem.new }
+    ensures { Changes M.Memory mem.old mem.new result (λ _ before now. now ≡ overwritten at words.now before) }
 {
     for i in 0..words.len() {
         store_over(mem, at + i as u64, there[i], words[i])?;
@@ -69,9 +64,7 @@ fn store_differing<M: Memory>(
 pub fn store_word<M: Memory>(mem: &mut M, at: u64, v: u64) -> Result<(), Halt>
     requires within { at < M.size mem.old }
     requires writable { IsTrue (M.writable mem.old) }
-    ensures done { OnOk result (Becomes (M.stands mem.old) (M.stands mem.new) (λ before now. now ≡ slice_set before at v)) }
-    ensures halts { OnErr result (M.left mem.new ≡ Some 0) }
-    ensures framed { Framed M.size M.fixed M.writable M.left mem.old mem.new }
+    ensures { Changes M.Memory mem.old mem.new result (λ _ before now. now ≡ slice_set before at v) }
 {
     let there = mem.load(at)?;
     store_over(mem, at, there, v)
@@ -82,9 +75,7 @@ fn store_over<M: Memory>(mem: &mut M, at: u64, there: u64, v: u64) -> Result<(),
     requires within { at < M.size mem.old }
     requires writable { IsTrue (M.writable mem.old) }
     requires known { Always (M.stands mem.old) (λ now. slice_index now at ≡ there) }
-    ensures done { OnOk result (Becomes (M.stands mem.old) (M.stands mem.new) (λ before now. now ≡ slice_set before at v)) }
-    ensures halts { OnErr result (M.left mem.new ≡ Some 0) }
-    ensures framed { Framed M.size M.fixed M.writable M.left mem.old mem.new }
+    ensures { Changes M.Memory mem.old mem.new result (λ _ before now. now ≡ slice_set before at v) }
 {
     if there != v {
         mem.store(at, v)?;

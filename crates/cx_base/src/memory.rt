@@ -1,7 +1,7 @@
 //! Memories of words, of which a caller may know only a part.
 
 ghost use Rattle.std.specs.Prelude.{◌≡◌, ◌+◌, ◌^◌, ◌<◌, ◌≤◌, ◌↔◌, ℕ, Bool, true, List, Option, Some, All, length, slice_index, slice_set, IsTrue, IsErr, OnErr, OnOk, IfOk};
-ghost use Rattle.cx_base.specs.Memory.{Words, Same, Loaded, Stored, AreAt, Becomes, Reads, Framed, Known, one_less, words_from_known};
+ghost use Rattle.cx_base.specs.Memory.{Words, Accessed, Loaded, Stored, AreAt, Becomes, Reads, Framed, Known, one_less, words_from_known};
 
 /// A step that the step limit refused.
 #[derive(Clone, Copy, Debug, PartialEq, Eq)]
@@ -33,18 +33,12 @@ pub trait Memory {
     /// Gives the word at a place. `Halt` comes exactly where no access is left, and then nothing changes.
     fn load(&mut self, at: u64) -> Result<u64, Halt>
         requires { at < size self.old }
-        ensures halts { IsErr result ↔ (left self.old ≡ Some 0) }
-        ensures kept { OnErr result (Same (stands self.old) (stands self.new)) }
-        ensures left { left self.new ≡ one_less (left self.old) }
-        ensures fixed { fixed self.new ≡ fixed self.old }
-        ensures size { size self.new ≡ size self.old }
-        ensures writable { writable self.new ≡ writable self.old }
+        ensures access { Accessed size fixed writable left stands self.old self.new result }
         ensures stands { IfOk result (λ v. Loaded at v (stands self.old) (stands self.new)) };
 
     /// Gives the words from a place on, each by one access. `Halt` comes only where no access is left.
     fn load_words(&mut self, at: u64, into: &mut [u64]) -> Result<(), Halt>
-        requires within { at + length into.old ≤ size self.old }
-        requires small { at + length into.old < 2 ^ 64 }
+        requires within { (at + length into.old ≤ size self.old) × (at + length into.old < 2 ^ 64) }
         ensures read { OnOk result (Reads (stands self.old) (stands self.new) (AreAt at into.new)) }
         ensures unchanged { Becomes (stands self.old) (stands self.new) ◌≡◌ }
         ensures halts { OnErr result (left self.new ≡ Some 0) }
@@ -61,12 +55,7 @@ pub trait Memory {
     fn store(&mut self, at: u64, v: u64) -> Result<(), Halt>
         requires at { at < size self.old }
         requires writable { IsTrue (writable self.old) }
-        ensures halts { IsErr result ↔ (left self.old ≡ Some 0) }
-        ensures kept { OnErr result (Same (stands self.old) (stands self.new)) }
-        ensures left { left self.new ≡ one_less (left self.old) }
-        ensures fixed { fixed self.new ≡ fixed self.old }
-        ensures size { size self.new ≡ size self.old }
-        ensures writable { writable self.new ≡ writable self.old }
+        ensures access { Accessed size fixed writable left stands self.old self.new result }
         ensures stands { IfOk result (λ _. Stored at v (stands self.old) (stands self.new)) };
 
     /// Some pair always stands.

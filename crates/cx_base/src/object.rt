@@ -1,7 +1,8 @@
 //! Sequential objects: a deterministic step on an image of words.
 
-ghost use Rattle.std.specs.Prelude.{◌≡◌, ◌*◌, ◌↔◌, ℕ, Bool, List, length, slice_index, IsTrue, OnErr, OnOk, IfOk, Some};
-ghost use Rattle.cx_base.specs.Memory.{Words, Becomes, Framed, Always};
+ghost use Rattle.std.specs.Prelude.{◌≡◌, ◌*◌, ◌↔◌, ℕ, Bool, List, length, slice_index, IsTrue, IfOk};
+ghost use Rattle.cx_base.specs.Calls.{Changes, Finds};
+ghost use Rattle.cx_base.specs.Memory.{Words, Always};
 
 use crate::memory::{Halt, Memory};
 use std::alloc::{AllocError, Global};
@@ -39,9 +40,7 @@ pub trait Object: Drop {
     fn format<M: Memory>(&self, mem: &mut M) -> Result<(), Halt>
         requires size { M.size mem.old ≡ 8 * line_count self.now }
         requires writable { IsTrue (M.writable mem.old) }
-        ensures done { OnOk result (Becomes (M.stands mem.old) (M.stands mem.new) (λ _ now. now ≡ opening self.now)) }
-        ensures halts { OnErr result (M.left mem.new ≡ Some 0) }
-        ensures framed { Framed M.size M.fixed M.writable M.left mem.old mem.new };
+        ensures { Changes M.Memory mem.old mem.new result (λ _ _ now. now ≡ opening self.now) };
 
     /// Whether an operation only reads.
     fn reads(&self, op: &[u64; 144]) -> bool
@@ -52,9 +51,7 @@ pub trait Object: Drop {
         requires size { M.size mem.old ≡ 8 * line_count self.now }
         requires writable { IsTrue (M.writable mem.old) }
         requires lawful { Always (M.stands mem.old) (lawful self.now) }
-        ensures done { IfOk result (λ reply. Becomes (M.stands mem.old) (M.stands mem.new) (λ before now. step self.now before op.now ≡ (now, reply))) }
-        ensures halts { OnErr result (M.left mem.new ≡ Some 0) }
-        ensures framed { Framed M.size M.fixed M.writable M.left mem.old mem.new };
+        ensures { Changes M.Memory mem.old mem.new result (λ reply before now. step self.now before op.now ≡ (now, reply)) };
 
     /// Gives the reply to an operation that only reads, and stores nothing. `Halt` comes only where no access is
     /// left.
@@ -62,10 +59,7 @@ pub trait Object: Drop {
         requires size { M.size mem.old ≡ 8 * line_count self.now }
         requires lawful { Always (M.stands mem.old) (lawful self.now) }
         requires reads { IsTrue (only_reads self.now op.now) }
-        ensures done { IfOk result (λ reply. Always (M.stands mem.new) (λ now. step self.now now op.now ≡ (now, reply))) }
-        ensures unchanged { Becomes (M.stands mem.old) (M.stands mem.new) ◌≡◌ }
-        ensures halts { OnErr result (M.left mem.new ≡ Some 0) }
-        ensures framed { Framed M.size M.fixed M.writable M.left mem.old mem.new };
+        ensures { Finds M.Memory mem.old mem.new result (λ reply now. step self.now now op.now ≡ (now, reply)) };
 
     /// Whether words are a lawful image. `Err` is want of memory.
     fn check(&self, alloc: Global, words: &[u64]) -> Result<bool, AllocError>

@@ -27,12 +27,12 @@ loop-at-preserved g c =
     let e = c.in_ok-store.ensures in
     record {
       done = Becomes-store i.done e.stands (λ first x y s front. one_more c.loop-at.at c.opening_word.result y c.loop-at-test.true ((g.met.M.Memory.words c.loop-at.mem first y s).long ∙ i.size) c.opening_word.ensures front);
-      size = e.size ∙ i.size;
+      size = e.access.size_kept ∙ i.size;
       writable = search rules;
-      framed = Framed-then i.framed (Framed-access e.size e.fixed e.writable e.left);
+      framed = Framed-then i.framed (Framed-access e.access);
     }
 
-pub returns-clause-done : goal.returns-clause-done
-returns-clause-done g c =
+pub returns : goal.returns
+returns g c =
     let i = c.loop-at.invariant in
-    Becomes-weaker i.done (λ first x y s front. all_there c.loop-at.at y c.loop-at-test.false ((g.met.M.Memory.words c.loop-at.mem first y s).long ∙ i.size) front)
+    record { done = Becomes-weaker i.done (λ first x y s front. all_there c.loop-at.at y c.loop-at-test.false ((g.met.M.Memory.words c.loop-at.mem first y s).long ∙ i.size) front); halts = search rules; framed = search rules }
