@@ -4,7 +4,7 @@ use Rattle.std.specs.List.{slice_get}
 use Rattle.cx_core.specs.declared.entry.Entry.{Entry}
 use Rattle.cx_core.specs.declared.kinds.Event.{Event}
 use Rattle.cx_core.specs.declared.kinds.Kind.{Kind}
-use Rattle.cx_core.specs.declared.kinds.Kind.TheVariants.{WriteCell, Link, Look, ReadCell, LoadFree, TryExclusive, TryShared, BackOff, Downgrade, ReleaseExclusive, LoadWord, StoreWord, Persist, LoadCur, Publish, Raise, Retire, Protect, Confirm, Unprotect, CloseLow, Scan, OpenFree, WriteSet, Offer, LoadOffer, ReadSet}
+use Rattle.cx_core.specs.declared.kinds.Kind.TheVariants.{Link, TryExclusive, TryShared, BackOff, Publish, Raise}
 use Rattle.cx_core.specs.declared.local.Local.{Local}
 use Rattle.cx_core.specs.Events.{Guard, Makes, found_by, local_after, new_word, step_word, words_after}
 use Rattle.cx_core.specs.Lawful.{Fronts, Shape, Tickets}
@@ -58,13 +58,9 @@ module _ (instance : Instance) (history : List Entry) (scene : Scene) (locals : 
 kind_kept : (instance : Instance) (history : List Entry) (scene : Scene) (locals : List Local) (caller : ℕ) (l : Local) (kind : Kind) → Grounds instance history scene.words locals → Answers instance history scene.words locals →
     scene.history ≡ history → slice_get locals caller ≡ Some l → Guard instance scene kind l →
     Answers instance history (words_after instance kind l scene.words) (set locals caller (local_after instance scene kind l))
-kind_kept instance history scene locals caller l (WriteCell j i v) grounds old same at guard = framed instance history scene locals caller l old at (WriteCell j i v) (omega arith) (record { own = refl; answered = refl; seen_reads = refl; floor = refl })
 kind_kept instance history scene locals caller l (Link j) grounds old same at guard =
     let counted : length l.answered ≡ length l.own = guard.5 in
     link_kept instance history scene locals caller l old at j (omega arith) (grounds.fronts.each caller l at).floor
-kind_kept instance history scene locals caller l (Look s) grounds old same at guard = framed instance history scene locals caller l old at (Look s) (omega arith) (record { own = refl; answered = refl; seen_reads = refl; floor = refl })
-kind_kept instance history scene locals caller l (ReadCell t k i) grounds old same at guard = framed instance history scene locals caller l old at (ReadCell t k i) (omega arith) (record { own = refl; answered = refl; seen_reads = refl; floor = refl })
-kind_kept instance history scene locals caller l LoadFree grounds old same at guard = framed instance history scene locals caller l old at LoadFree (omega arith) (record { own = refl; answered = refl; seen_reads = refl; floor = refl })
 kind_kept instance history scene locals caller l (TryExclusive r) grounds old same at guard =
     let found = found_by instance (TryExclusive r) l scene.words in
     framed instance history scene locals caller l old at (TryExclusive r) (omega arith)
@@ -79,28 +75,12 @@ kind_kept instance history scene locals caller l (BackOff r) grounds old same at
     let c = record l { downgraded = None; steps = one_more l.steps } in
     framed instance history scene locals caller l old at (BackOff r) (omega arith)
     (either (SameAnswers l) (is_at r (shared_on l)) a (cond (is_at r l.passer) b c) (record { own = refl; answered = refl; seen_reads = refl; floor = refl }) (either (SameAnswers l) (is_at r l.passer) b c (record { own = refl; answered = refl; seen_reads = refl; floor = refl }) (record { own = refl; answered = refl; seen_reads = refl; floor = refl })))
-kind_kept instance history scene locals caller l (Downgrade r) grounds old same at guard = framed instance history scene locals caller l old at (Downgrade r) (omega arith) (record { own = refl; answered = refl; seen_reads = refl; floor = refl })
-kind_kept instance history scene locals caller l (ReleaseExclusive r) grounds old same at guard = framed instance history scene locals caller l old at (ReleaseExclusive r) (omega arith) (record { own = refl; answered = refl; seen_reads = refl; floor = refl })
-kind_kept instance history scene locals caller l (LoadWord r i refused) grounds old same at guard = framed instance history scene locals caller l old at (LoadWord r i refused) (omega arith) (record { own = refl; answered = refl; seen_reads = refl; floor = refl })
-kind_kept instance history scene locals caller l (StoreWord r i v) grounds old same at guard = framed instance history scene locals caller l old at (StoreWord r i v) (omega arith) (record { own = refl; answered = refl; seen_reads = refl; floor = refl })
-kind_kept instance history scene locals caller l (Persist r i) grounds old same at guard = framed instance history scene locals caller l old at (Persist r i) (omega arith) (record { own = refl; answered = refl; seen_reads = refl; floor = refl })
-kind_kept instance history scene locals caller l LoadCur grounds old same at guard = framed instance history scene locals caller l old at LoadCur (omega arith) (record { own = refl; answered = refl; seen_reads = refl; floor = refl })
 kind_kept instance history scene locals caller l Publish grounds old same at guard =
     let found = found_by instance Publish l scene.words in
     framed instance history scene locals caller l old at Publish (omega arith)
     (either (SameAnswers l) (found == l.seen_cur) (published instance.callers l) (outrun instance.callers l found) (record { own = refl; answered = refl; seen_reads = refl; floor = refl }) (record { own = refl; answered = refl; seen_reads = refl; floor = refl }))
 kind_kept instance history scene locals caller l (Raise code read) grounds old same at guard = raise_kept instance history scene locals caller l code read grounds old same at guard
-kind_kept instance history scene locals caller l Retire grounds old same at guard = framed instance history scene locals caller l old at Retire (omega arith) (record { own = refl; answered = refl; seen_reads = refl; floor = refl })
-kind_kept instance history scene locals caller l (Protect p) grounds old same at guard = framed instance history scene locals caller l old at (Protect p) (omega arith) (record { own = refl; answered = refl; seen_reads = refl; floor = refl })
-kind_kept instance history scene locals caller l Confirm grounds old same at guard = framed instance history scene locals caller l old at Confirm (omega arith) (record { own = refl; answered = refl; seen_reads = refl; floor = refl })
-kind_kept instance history scene locals caller l Unprotect grounds old same at guard = framed instance history scene locals caller l old at Unprotect (omega arith) (record { own = refl; answered = refl; seen_reads = refl; floor = refl })
-kind_kept instance history scene locals caller l (CloseLow target) grounds old same at guard = framed instance history scene locals caller l old at (CloseLow target) (omega arith) (record { own = refl; answered = refl; seen_reads = refl; floor = refl })
-kind_kept instance history scene locals caller l (Scan d) grounds old same at guard = framed instance history scene locals caller l old at (Scan d) (omega arith) (record { own = refl; answered = refl; seen_reads = refl; floor = refl })
-kind_kept instance history scene locals caller l OpenFree grounds old same at guard = framed instance history scene locals caller l old at OpenFree (omega arith) (record { own = refl; answered = refl; seen_reads = refl; floor = refl })
-kind_kept instance history scene locals caller l (WriteSet j i v) grounds old same at guard = framed instance history scene locals caller l old at (WriteSet j i v) (omega arith) (record { own = refl; answered = refl; seen_reads = refl; floor = refl })
-kind_kept instance history scene locals caller l (Offer j) grounds old same at guard = framed instance history scene locals caller l old at (Offer j) (omega arith) (record { own = refl; answered = refl; seen_reads = refl; floor = refl })
-kind_kept instance history scene locals caller l (LoadOffer k t) grounds old same at guard = framed instance history scene locals caller l old at (LoadOffer k t) (omega arith) (record { own = refl; answered = refl; seen_reads = refl; floor = refl })
-kind_kept instance history scene locals caller l (ReadSet k t i) grounds old same at guard = framed instance history scene locals caller l old at (ReadSet k t i) (omega arith) (record { own = refl; answered = refl; seen_reads = refl; floor = refl })
+kind_kept instance history scene locals caller l kind grounds old same at guard = framed instance history scene locals caller l old at kind (omega arith) (record { own = refl; answered = refl; seen_reads = refl; floor = refl })
 
 -- so it is of an allowed step in a state
 pub answers_kept : (instance : Instance) (history : List Entry) (s : State) (caller : ℕ) (l : Local) (kind : Kind) → Shape instance s.words s.locals → Tickets instance history s.locals → Fronts instance history s.words s.locals →

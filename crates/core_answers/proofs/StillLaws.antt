@@ -6,7 +6,7 @@ use Rattle.std.specs.List.{slice_get}
 use Rattle.cx_base.specs.Codes.{root_place_of}
 use Rattle.cx_core.specs.declared.kinds.Event.{Event}
 use Rattle.cx_core.specs.declared.kinds.Kind.{Kind}
-use Rattle.cx_core.specs.declared.kinds.Kind.TheVariants.{WriteCell, Link, Look, ReadCell, LoadFree, TryExclusive, TryShared, BackOff, Downgrade, ReleaseExclusive, LoadWord, StoreWord, Persist, LoadCur, Publish, Raise, Retire, Protect, Confirm, Unprotect, CloseLow, Scan, OpenFree, WriteSet, Offer, LoadOffer, ReadSet}
+use Rattle.cx_core.specs.declared.kinds.Kind.TheVariants.{Link, TryExclusive, TryShared, BackOff, Publish, Raise}
 use Rattle.cx_core.specs.declared.local.Local.{Local}
 use Rattle.cx_core.specs.Events.{Makes, Run, local_after, next}
 use Rattle.cx_core.specs.LockEvents.{exclusive_mark, passing, refused_by, shared_by, taken}
@@ -21,12 +21,8 @@ use Rattle.core_answers.specs.Replies.{HasAnswersOf, StillAnswered}
 use Rattle.core_answers.proofs.RaiseLaws.{floor_up}
 
 has_next : (instance : Instance) (scene : Scene) (kind : Kind) (l : Local) (found : ℕ) → HasAnswersOf l (next instance scene kind l found)
-has_next instance scene (WriteCell j i v) l found = record { answered = λ _ _ there. there; reads = λ _ _ there. there; floor = omega arith }
 has_next instance scene (Link j) l found =
     either (HasAnswersOf l) (found == seen_word l.seen_slot) (linked l j) (lost instance.callers l found) (record { answered = λ _ _ there. there; reads = λ _ _ there. there; floor = omega arith }) (record { answered = λ _ _ there. there; reads = λ _ _ there. there; floor = omega arith })
-has_next instance scene (Look s) l found = record { answered = λ _ _ there. there; reads = λ _ _ there. there; floor = omega arith }
-has_next instance scene (ReadCell t k i) l found = record { answered = λ _ _ there. there; reads = λ _ _ there. there; floor = omega arith }
-has_next instance scene LoadFree l found = record { answered = λ _ _ there. there; reads = λ _ _ there. there; floor = omega arith }
 has_next instance scene (TryExclusive r) l found =
     either (HasAnswersOf l) (found == 0) (taken instance scene r l) (refused_by instance.callers r l found) (record { answered = λ _ _ there. there; reads = λ _ _ there. there; floor = omega arith }) (record { answered = λ _ _ there. there; reads = λ _ _ there. there; floor = omega arith })
 has_next instance scene (TryShared r) l found =
@@ -37,12 +33,6 @@ has_next instance scene (BackOff r) l found =
     let c = record l { downgraded = None; steps = one_more l.steps } in
     either (HasAnswersOf l) (is_at r (shared_on l)) a (cond (is_at r l.passer) b c) (record { answered = λ _ _ there. there; reads = λ _ _ there. there; floor = omega arith })
     (either (HasAnswersOf l) (is_at r l.passer) b c (record { answered = λ _ _ there. there; reads = λ _ _ there. there; floor = omega arith }) (record { answered = λ _ _ there. there; reads = λ _ _ there. there; floor = omega arith }))
-has_next instance scene (Downgrade r) l found = record { answered = λ _ _ there. there; reads = λ _ _ there. there; floor = omega arith }
-has_next instance scene (ReleaseExclusive r) l found = record { answered = λ _ _ there. there; reads = λ _ _ there. there; floor = omega arith }
-has_next instance scene (LoadWord r i refused) l found = record { answered = λ _ _ there. there; reads = λ _ _ there. there; floor = omega arith }
-has_next instance scene (StoreWord r i v) l found = record { answered = λ _ _ there. there; reads = λ _ _ there. there; floor = omega arith }
-has_next instance scene (Persist r i) l found = record { answered = λ _ _ there. there; reads = λ _ _ there. there; floor = omega arith }
-has_next instance scene LoadCur l found = record { answered = λ _ _ there. there; reads = λ _ _ there. there; floor = omega arith }
 has_next instance scene Publish l found =
     either (HasAnswersOf l) (found == l.seen_cur) (published instance.callers l) (outrun instance.callers l found) (record { answered = λ _ _ there. there; reads = λ _ _ there. there; floor = omega arith }) (record { answered = λ _ _ there. there; reads = λ _ _ there. there; floor = omega arith })
 has_next instance scene (Raise code read) l found =
@@ -54,17 +44,7 @@ has_next instance scene (Raise code read) l found =
       reads = λ i x there. slice_get-append_left l.seen_reads reads i x there;
       floor = floor_up l.floor place answers reads;
     }
-has_next instance scene Retire l found = record { answered = λ _ _ there. there; reads = λ _ _ there. there; floor = omega arith }
-has_next instance scene (Protect p) l found = record { answered = λ _ _ there. there; reads = λ _ _ there. there; floor = omega arith }
-has_next instance scene Confirm l found = record { answered = λ _ _ there. there; reads = λ _ _ there. there; floor = omega arith }
-has_next instance scene Unprotect l found = record { answered = λ _ _ there. there; reads = λ _ _ there. there; floor = omega arith }
-has_next instance scene (CloseLow target) l found = record { answered = λ _ _ there. there; reads = λ _ _ there. there; floor = omega arith }
-has_next instance scene (Scan d) l found = record { answered = λ _ _ there. there; reads = λ _ _ there. there; floor = omega arith }
-has_next instance scene OpenFree l found = record { answered = λ _ _ there. there; reads = λ _ _ there. there; floor = omega arith }
-has_next instance scene (WriteSet j i v) l found = record { answered = λ _ _ there. there; reads = λ _ _ there. there; floor = omega arith }
-has_next instance scene (Offer j) l found = record { answered = λ _ _ there. there; reads = λ _ _ there. there; floor = omega arith }
-has_next instance scene (LoadOffer k t) l found = record { answered = λ _ _ there. there; reads = λ _ _ there. there; floor = omega arith }
-has_next instance scene (ReadSet k t i) l found = record { answered = λ _ _ there. there; reads = λ _ _ there. there; floor = omega arith }
+has_next instance scene kind l found = record { answered = λ _ _ there. there; reads = λ _ _ there. there; floor = omega arith }
 
 has_event : (instance : Instance) (event : Event) (before after : State) (caller : ℕ) (l : Local) → Makes instance event before after → slice_get before.locals caller ≡ Some l → StillAnswered after caller l
 has_event instance event before after caller l m there =

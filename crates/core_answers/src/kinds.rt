@@ -1,24 +1,13 @@
 //! In the opening state nothing is answered, and each kind of step keeps the part of the lawful state on answers.
 
-ghost use Rattle.std.specs.Prelude.{ℕ, []};
+ghost use Rattle.std.specs.Prelude.{[]};
 ghost use Rattle.core_answers.specs.Keeping.{KeepsAnswers};
 ghost use Rattle.cx_core.specs.LawfulAnswers.{Answers};
 ghost use Rattle.cx_core.specs.State.{Instance, opening_locals, opening_words};
-ghost use Rattle.cx_core.specs.declared.kinds.Kind.TheVariants.{Link, Raise};
 
 /// The opening state.
 pub fn opening_has_the_answers()
     ensures { (instance : Instance) → Answers instance [] (opening_words instance.callers instance.base) (opening_locals instance.callers instance.base.place) }
-{}
-
-/// A link, won or lost.
-pub fn link_keeps_answers()
-    ensures { (j : ℕ) → KeepsAnswers (Link j) }
-{}
-
-/// A raise of DUR, whatever it answers.
-pub fn raise_keeps_answers()
-    ensures { (code : ℕ) (read : _) → KeepsAnswers (Raise code read) }
 {}
 
 /// Any kind: the others neither touch DUR nor answer anything.

@@ -9,7 +9,7 @@ use Rattle.cx_base.specs.Codes.{link_code_of}
 use Rattle.cx_core.specs.declared.entry.Entry.{Entry}
 use Rattle.cx_core.specs.declared.kinds.Event.{Event}
 use Rattle.cx_core.specs.declared.kinds.Kind.{Kind}
-use Rattle.cx_core.specs.declared.kinds.Kind.TheVariants.{WriteCell, Link, Look, ReadCell, LoadFree, TryExclusive, TryShared, BackOff, Downgrade, ReleaseExclusive, LoadWord, StoreWord, Persist, LoadCur, Publish, Raise, Retire, Protect, Confirm, Unprotect, CloseLow, Scan, OpenFree, WriteSet, Offer, LoadOffer, ReadSet}
+use Rattle.cx_core.specs.declared.kinds.Kind.TheVariants.{WriteCell, Link, Look, ReadCell, LoadFree, TryExclusive, TryShared, BackOff, Downgrade, ReleaseExclusive, LoadCur, Publish, Raise, Retire, Protect, Confirm, Unprotect, CloseLow, Scan, OpenFree, WriteSet, Offer, LoadOffer, ReadSet}
 use Rattle.cx_core.specs.declared.local.Local.{Local}
 use Rattle.cx_core.specs.declared.local.SeenSlot.{SeenSlot}
 use Rattle.cx_core.specs.Events.{Guard, Makes, local_after, step_word, words_after}
@@ -213,12 +213,6 @@ queue_kept instance history scene locals caller l (Downgrade r) law bounds told 
     apart_kept instance history scene locals caller l law at (Downgrade r) (off_lock instance r guard.0.0) (same_but l _ _ _ _ _ _ _ _ _)
 queue_kept instance history scene locals caller l (ReleaseExclusive r) law bounds told at guard =
     apart_kept instance history scene locals caller l law at (ReleaseExclusive r) (off_lock instance r guard.0.0) (same_but l _ _ _ _ _ _ _ _ _)
-queue_kept instance history scene locals caller l (LoadWord r i refused) law bounds told at guard =
-    apart_kept instance history scene locals caller l law at (LoadWord r i refused) (off_region instance _ (omega arith)) (same_but l _ _ _ _ _ _ _ _ _)
-queue_kept instance history scene locals caller l (StoreWord r i v) law bounds told at guard =
-    apart_kept instance history scene locals caller l law at (StoreWord r i v) (off_region instance _ (omega arith)) (same_but l _ _ _ _ _ _ _ _ _)
-queue_kept instance history scene locals caller l (Persist r i) law bounds told at guard =
-    apart_kept instance history scene locals caller l law at (Persist r i) (off_region instance _ (omega arith)) (same_but l _ _ _ _ _ _ _ _ _)
 queue_kept instance history scene locals caller l LoadCur law bounds told at guard = same_history (load_cur_kept instance history scene locals caller l law bounds at)
 queue_kept instance history scene locals caller l Publish law bounds told at guard = same_history (publish_kept instance history scene locals caller l law bounds at guard)
 queue_kept instance history scene locals caller l (Raise code read) law bounds told at guard = same_history (raise_kept instance history scene locals caller l law bounds at code read guard)
@@ -233,6 +227,8 @@ queue_kept instance history scene locals caller l (WriteSet j i v) law bounds to
 queue_kept instance history scene locals caller l (Offer j) law bounds told at guard = same_history (offer_kept instance history scene locals caller l law at j told guard)
 queue_kept instance history scene locals caller l (LoadOffer k t) law bounds told at guard = same_history (load_offer_kept instance history scene locals caller l law at k t guard)
 queue_kept instance history scene locals caller l (ReadSet k t i) law bounds told at guard = same_history (read_set_kept instance history scene locals caller l law at k t i)
+queue_kept instance history scene locals caller l kind law bounds told at guard =
+    apart_kept instance history scene locals caller l law at kind (off_region instance _ (omega arith)) (same_but l _ _ _ _ _ _ _ _ _)
 
 -- an event
 pub queue_event_kept : (instance : Instance) (history : List Entry) (event : Event) (before after : State) → QueueLawful instance history before.words before.locals →

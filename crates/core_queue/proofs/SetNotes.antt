@@ -9,7 +9,7 @@ use Rattle.cx_base.specs.Codes.{link_cell_of}
 use Rattle.cx_core.specs.declared.entry.Entry.{Entry}
 use Rattle.cx_core.specs.declared.kinds.Event.{Event}
 use Rattle.cx_core.specs.declared.kinds.Kind.{Kind}
-use Rattle.cx_core.specs.declared.kinds.Kind.TheVariants.{WriteCell, Link, Look, ReadCell, LoadFree, TryExclusive, TryShared, BackOff, Downgrade, ReleaseExclusive, LoadWord, StoreWord, Persist, LoadCur, Publish, Raise, Retire, Protect, Confirm, Unprotect, CloseLow, Scan, OpenFree, WriteSet, Offer, LoadOffer, ReadSet}
+use Rattle.cx_core.specs.declared.kinds.Kind.TheVariants.{LoadFree, OpenFree, ReadSet}
 use Rattle.cx_core.specs.declared.local.Cell.{Cell}
 use Rattle.cx_core.specs.declared.local.Local.{Local}
 use Rattle.cx_core.specs.declared.local.SeenOffer.{SeenOffer}
@@ -72,35 +72,11 @@ free_up instance s history law caller l at kind guard = by kind guard
     loaded place = (let e : slice_index (set s.words place (slice_index s.words place)) 3 ≡ slice_index s.words 3 = ap (λ ws. slice_index ws 3) (set-get_or s.words place 0) in omega (arith, e))
 
     by : (kind : Kind) → Guard instance (scene_of instance s) kind l → slice_index s.words free_at ≤ slice_index (words_after instance kind l s.words) free_at
-    by (WriteCell j i v) guard = off _ v (omega arith)
-    by (Link j) guard = off _ _ (omega arith)
-    by (Look slot) guard = loaded _
-    by (ReadCell t k i) guard = loaded _
     by LoadFree guard = loaded _
-    by (TryExclusive r) guard = off _ _ (omega arith)
-    by (TryShared r) guard = off _ _ (omega arith)
-    by (BackOff r) guard = off _ _ (omega arith)
-    by (Downgrade r) guard = off _ _ (omega arith)
-    by (ReleaseExclusive r) guard = off _ _ (omega arith)
-    by (LoadWord r i refused) guard = off _ _ (omega arith)
-    by (StoreWord r i v) guard = off _ _ (omega arith)
-    by (Persist r i) guard = off _ _ (omega arith)
-    by LoadCur guard = loaded _
-    by Publish guard = off _ _ (omega arith)
-    by (Raise code read) guard = off _ _ (omega arith)
-    by Retire guard = off _ _ (omega arith)
-    by (Protect p) guard = off _ _ (omega arith)
-    by Confirm guard = loaded _
-    by Unprotect guard = off _ _ (omega arith)
-    by (CloseLow target) guard = off _ _ (omega arith)
-    by (Scan d) guard = loaded _
     by OpenFree guard = (
         let e : slice_index (set s.words 3 (max (slice_index s.words 3) (bound_in l.scan))) 3 ≡ max (slice_index s.words 3) (bound_in l.scan) = get_or-set_same s.words 3 _ 0 (omega (arith, law.shape.long)) in
         omega (arith, e))
-    by (WriteSet j i v) guard = off _ v (omega arith)
-    by (Offer j) guard = off _ _ (omega arith)
-    by (LoadOffer k t) guard = loaded _
-    by (ReadSet k t i) guard = loaded _
+    by kind guard = off _ _ (omega arith)
 
 -- what a caller noted of sets is so after a step of any caller
 pub notes_event : (instance : Instance) (history more : List Entry) (before after : State) (event : Event) (notes : List SetNoted) → QueueLawful instance history before.words before.locals →

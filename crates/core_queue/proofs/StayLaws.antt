@@ -10,7 +10,7 @@ use Rattle.cx_base.specs.Codes.{link_code_of}
 use Rattle.cx_core.specs.declared.entry.Entry.{Entry}
 use Rattle.cx_core.specs.declared.kinds.Event.{Event}
 use Rattle.cx_core.specs.declared.kinds.Kind.{Kind}
-use Rattle.cx_core.specs.declared.kinds.Kind.TheVariants.{WriteCell, Link, Look, ReadCell, LoadFree, TryExclusive, TryShared, BackOff, Downgrade, ReleaseExclusive, LoadWord, StoreWord, Persist, LoadCur, Publish, Raise, Retire, Protect, Confirm, Unprotect, CloseLow, Scan, OpenFree, WriteSet, Offer, LoadOffer, ReadSet}
+use Rattle.cx_core.specs.declared.kinds.Kind.TheVariants.{WriteCell, Link, TryExclusive, TryShared, BackOff, Downgrade, ReleaseExclusive, LoadWord, StoreWord, Persist, Publish, Raise, Retire, Protect, Unprotect, CloseLow, OpenFree, WriteSet, Offer}
 use Rattle.cx_core.specs.declared.local.Cell.{Cell}
 use Rattle.cx_core.specs.declared.local.Local.{Local}
 use Rattle.cx_core.specs.Events.{Guard, Makes, words_after}
@@ -180,9 +180,6 @@ module _ (instance : Instance) (s : State) (history : List Entry) (law : QueueLa
     pub stay_kind : (kind : Kind) → Guard instance (scene_of instance s) kind l → Stay (words_after instance kind l s.words)
     stay_kind (WriteCell j i v) guard = stay_written j i v guard
     stay_kind (Link j) guard = stay_linked j guard
-    stay_kind (Look slot) guard = stay_loaded _
-    stay_kind (ReadCell t k i) guard = stay_loaded _
-    stay_kind LoadFree guard = stay_loaded _
     stay_kind (TryExclusive r) guard = stay_off _ _ (off_lock instance r guard.0).1
     stay_kind (TryShared r) guard = stay_off _ _ (off_lock instance r guard.0).1
     stay_kind (BackOff r) guard = stay_off _ _ (off_lock instance r guard.0).1
@@ -191,22 +188,18 @@ module _ (instance : Instance) (s : State) (history : List Entry) (law : QueueLa
     stay_kind (LoadWord r i refused) guard = stay_off _ _ (inr (omega arith))
     stay_kind (StoreWord r i v) guard = stay_off _ _ (inr (omega arith))
     stay_kind (Persist r i) guard = stay_off _ _ (inr (omega arith))
-    stay_kind LoadCur guard = stay_loaded _
     stay_kind Publish guard = stay_off _ _ (inl (omega arith))
     stay_kind (Raise code read) guard = stay_off _ _ (inl (omega arith))
     stay_kind Retire guard =
         let small = mod_below (before_in l.won) (2 * instance.callers) (omega (arith, law.shape.some)) in
         stay_off _ _ (off_lock instance _ small).1
     stay_kind (Protect p) guard = stay_off _ _ need_off
-    stay_kind Confirm guard = stay_loaded _
     stay_kind Unprotect guard = stay_off _ _ need_off
     stay_kind (CloseLow target) guard = stay_off _ _ (inl (omega arith))
-    stay_kind (Scan d) guard = stay_loaded _
     stay_kind OpenFree guard = stay_off _ _ (inl (omega arith))
     stay_kind (WriteSet j i v) guard = stay_set j i v guard.0 guard.1
     stay_kind (Offer j) guard = stay_offer j _ guard.0
-    stay_kind (LoadOffer k t) guard = stay_loaded _
-    stay_kind (ReadSet k t i) guard = stay_loaded _
+    stay_kind kind guard = stay_loaded _
 
 -- an event
 pub kept_stays : (instance : Instance) (history : List Entry) (before after : State) (event : Event) (caller ticket : ℕ) (entry : Entry) → QueueLawful instance history before.words before.locals →

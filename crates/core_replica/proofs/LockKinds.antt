@@ -1,14 +1,13 @@
 -- Each kind of step keeps the part on locks.
 use Rattle.std.proofs.Common.{◌≡◌, ◌≢◌, ◌+◌, ◌-◌, ◌*◌, ◌==◌, ◌<◌, ◌≤◌, inl, inr, ℕ, nat_lt, Bool, cond, List, Option, Some, None, length, set, slice_index, refl, ap, sym, subst, ◌∙◌, arith}
-use Rattle.std.proofs.lemmas.Bool.{cases_Bool, cases_eq, eqb-true, ltb-true}
+use Rattle.std.proofs.lemmas.Bool.{cases_Bool, cases_eq, cases_lt, eqb-true, ltb-true}
 use Rattle.std.proofs.lemmas.List.{set-get_or}
 use Rattle.std.proofs.lemmas.Nat.{mod_below, mod-mul-add}
-use Rattle.std.proofs.lemmas.Option.{slice_get_within}
 use Rattle.std.specs.List.{slice_get}
 use Rattle.std.specs.Option.{option_map}
 use Rattle.cx_base.specs.Codes.{root_replica_of}
 use Rattle.cx_core.specs.declared.kinds.Kind.{Kind}
-use Rattle.cx_core.specs.declared.kinds.Kind.TheVariants.{WriteCell, Link, Look, ReadCell, LoadFree, TryExclusive, TryShared, BackOff, Downgrade, ReleaseExclusive, LoadWord, StoreWord, Persist, LoadCur, Publish, Raise, Retire, Protect, Confirm, Unprotect, CloseLow, Scan, OpenFree, WriteSet, Offer, LoadOffer, ReadSet}
+use Rattle.cx_core.specs.declared.kinds.Kind.TheVariants.{Link, TryExclusive, TryShared, BackOff, Downgrade, ReleaseExclusive, LoadWord, StoreWord, Persist, LoadCur, Publish, Retire, Scan}
 use Rattle.cx_core.specs.declared.local.HeldDowngraded.{HeldDowngraded}
 use Rattle.cx_core.specs.declared.local.HeldExclusive.{HeldExclusive}
 use Rattle.cx_core.specs.declared.local.HeldShared.{HeldShared}
@@ -17,7 +16,7 @@ use Rattle.cx_core.specs.declared.local.WonCode.{WonCode}
 use Rattle.cx_core.specs.Events.{Guard, found_by, local_after, step_word, words_after}
 use Rattle.cx_core.specs.Lawful.{Shape}
 use Rattle.cx_core.specs.LawfulLocks.{FewRights, LockWord, Locks, pin}
-use Rattle.cx_core.specs.Layout.{cur_at, lock_at, need_at}
+use Rattle.cx_core.specs.Layout.{cur_at, link_at, lock_at}
 use Rattle.cx_core.specs.LockEvents.{downgraded_to, exclusive_mark, minus, passing, plus, refused_by, shared_by, taken}
 use Rattle.cx_core.specs.QueueEvents.{seen_word}
 use Rattle.cx_core.specs.RegionEvents.{loaded_into, persisted, stored_into}
@@ -28,6 +27,7 @@ use Rattle.cx_core.proofs.Putting.{either}
 use Rattle.core_replica.specs.Frames.{OffLocks, SameRights}
 use Rattle.cx_core.proofs.HeldLists.{at_false, at_true, is_none}
 use Rattle.core_replica.proofs.LockLaws.{SameOn, few_moved, lock_claimed, lock_downgraded, lock_left, lock_passed, lock_released, lock_taken, locks_framed, locks_local, locks_put, locks_repinned}
+use Rattle.cx_core.proofs.StepWords.{own_small}
 use Rattle.cx_core.proofs.Sums.{on_other, on_same}
 
 -- which replica a right is on stays where its words change
@@ -62,17 +62,14 @@ module _ (instance : Instance) (scene : Scene) (locals : List Local) (caller : �
   apart_kept : (kind : Kind) → OffLocks instance (step_word instance kind l) → SameRights l (local_after instance scene kind l) → After kind
   apart_kept kind off same = locks_framed instance scene.words locals (step_word instance kind l) _ caller l (local_after instance scene kind l) locks at off same
 
+  -- a word at or above the lock words is behind them
+  off_locks : (place : ℕ) → place ≢ cur_at → (lock_at callers 0 ≤ place → link_at callers 0 ≤ place) → OffLocks instance place
+  off_locks place ne past = (ne, elim (cases_lt place (lock_at callers 0)) [ inl below ↦ inl below | inr from ↦ inr (past from) ])
+
   -- a step that changes no word, and no right
   word_kept : (place : ℕ) (l' : Local) → SameRights l l' → Locks callers (set scene.words place (slice_index scene.words place)) (set locals caller l')
   word_kept place l' same =
       subst (λ ws. Locks callers ws (set locals caller l')) (sym (set-get_or scene.words place 0)) (locks_local instance scene.words locals caller l l' locks at same)
-
-  -- a step on the need of its own caller
-  need_kept : (kind : Kind) → step_word instance kind l ≡ need_at l.number → SameRights l (local_after instance scene kind l) → After kind
-  need_kept kind on same =
-      let number = (shape.each caller l at).number in
-      let within = slice_get_within locals caller l at in
-      apart_kept kind (omega (arith, on), inl (omega (arith, on, number, within, shape.count))) same
 
   -- a right that begins or ends on a replica
   moved : (r v : ℕ) (l' : Local) → r < 2 * callers → ((q : ℕ) → q ≢ r → SameOn callers q l l') → rights callers l' ≤ 2 →
@@ -264,17 +261,9 @@ module _ (instance : Instance) (scene : Scene) (locals : List Local) (caller : �
 pub locks_kept : (instance : Instance) (scene : Scene) (locals : List Local) (caller : ℕ) (l : Local) (kind : Kind) → Shape instance scene.words locals → Locks instance.callers scene.words locals →
     slice_get locals caller ≡ Some l → Guard instance scene kind l →
     Locks instance.callers (words_after instance kind l scene.words) (set locals caller (local_after instance scene kind l))
-locks_kept instance scene locals caller l (WriteCell j i v) shape locks at guard =
-    apart_kept instance scene locals caller l shape locks at (WriteCell j i v) (omega arith, inr (omega arith)) (record { exclusive = refl; shared = refl; passer = refl; downgraded = refl; won = refl })
 locks_kept instance scene locals caller l (Link j) shape locks at guard =
     apart_kept instance scene locals caller l shape locks at (Link j) (omega arith, inr (omega arith))
     (either (SameRights l) (found_by instance (Link j) l scene.words == seen_word l.seen_slot) _ _ (record { exclusive = refl; shared = refl; passer = refl; downgraded = refl; won = refl }) (record { exclusive = refl; shared = refl; passer = refl; downgraded = refl; won = refl }))
-locks_kept instance scene locals caller l (Look slot) shape locks at guard =
-    apart_kept instance scene locals caller l shape locks at (Look slot) (omega arith, inr (omega arith)) (record { exclusive = refl; shared = refl; passer = refl; downgraded = refl; won = refl })
-locks_kept instance scene locals caller l (ReadCell t k i) shape locks at guard =
-    apart_kept instance scene locals caller l shape locks at (ReadCell t k i) (omega arith, inr (omega arith)) (record { exclusive = refl; shared = refl; passer = refl; downgraded = refl; won = refl })
-locks_kept instance scene locals caller l LoadFree shape locks at guard =
-    apart_kept instance scene locals caller l shape locks at LoadFree (omega arith, inl (omega arith)) (record { exclusive = refl; shared = refl; passer = refl; downgraded = refl; won = refl })
 locks_kept instance scene locals caller l (TryExclusive r) shape locks at guard = try_exclusive_kept instance scene locals caller l shape locks at r guard
 locks_kept instance scene locals caller l (TryShared r) shape locks at guard = try_shared_kept instance scene locals caller l shape locks at r guard
 locks_kept instance scene locals caller l (BackOff r) shape locks at guard = back_off_kept instance scene locals caller l shape locks at r guard
@@ -292,22 +281,9 @@ locks_kept instance scene locals caller l (Persist r i) shape locks at guard =
 locks_kept instance scene locals caller l LoadCur shape locks at guard =
     word_kept instance scene locals caller l shape locks at cur_at _ (record { exclusive = refl; shared = refl; passer = refl; downgraded = refl; won = refl })
 locks_kept instance scene locals caller l Publish shape locks at guard = publish_kept instance scene locals caller l shape locks at guard
-locks_kept instance scene locals caller l (Raise code read) shape locks at guard =
-    apart_kept instance scene locals caller l shape locks at (Raise code read) (omega arith, inl (omega arith)) (record { exclusive = refl; shared = refl; passer = refl; downgraded = refl; won = refl })
 locks_kept instance scene locals caller l Retire shape locks at guard = retire_kept instance scene locals caller l shape locks at guard
-locks_kept instance scene locals caller l (Protect p) shape locks at guard = need_kept instance scene locals caller l shape locks at (Protect p) refl (record { exclusive = refl; shared = refl; passer = refl; downgraded = refl; won = refl })
-locks_kept instance scene locals caller l Confirm shape locks at guard = word_kept instance scene locals caller l shape locks at _ _ (record { exclusive = refl; shared = refl; passer = refl; downgraded = refl; won = refl })
-locks_kept instance scene locals caller l Unprotect shape locks at guard = need_kept instance scene locals caller l shape locks at Unprotect refl (record { exclusive = refl; shared = refl; passer = refl; downgraded = refl; won = refl })
-locks_kept instance scene locals caller l (CloseLow target) shape locks at guard =
-    apart_kept instance scene locals caller l shape locks at (CloseLow target) (omega arith, inl (omega arith)) (record { exclusive = refl; shared = refl; passer = refl; downgraded = refl; won = refl })
 locks_kept instance scene locals caller l (Scan d) shape locks at guard = word_kept instance scene locals caller l shape locks at _ _ (record { exclusive = refl; shared = refl; passer = refl; downgraded = refl; won = refl })
-locks_kept instance scene locals caller l OpenFree shape locks at guard =
-    apart_kept instance scene locals caller l shape locks at OpenFree (omega arith, inl (omega arith)) (record { exclusive = refl; shared = refl; passer = refl; downgraded = refl; won = refl })
-locks_kept instance scene locals caller l (WriteSet j i v) shape locks at guard =
-    apart_kept instance scene locals caller l shape locks at (WriteSet j i v) (omega arith, inr (omega arith)) (record { exclusive = refl; shared = refl; passer = refl; downgraded = refl; won = refl })
-locks_kept instance scene locals caller l (Offer j) shape locks at guard =
-    apart_kept instance scene locals caller l shape locks at (Offer j) (omega arith, inr (omega arith)) (record { exclusive = refl; shared = refl; passer = refl; downgraded = refl; won = refl })
-locks_kept instance scene locals caller l (LoadOffer k t) shape locks at guard =
-    apart_kept instance scene locals caller l shape locks at (LoadOffer k t) (omega arith, inr (omega arith)) (record { exclusive = refl; shared = refl; passer = refl; downgraded = refl; won = refl })
-locks_kept instance scene locals caller l (ReadSet k t i) shape locks at guard =
-    apart_kept instance scene locals caller l shape locks at (ReadSet k t i) (omega arith, inr (omega arith)) (record { exclusive = refl; shared = refl; passer = refl; downgraded = refl; won = refl })
+locks_kept instance scene locals caller l kind shape locks at guard =
+    let own = own_small instance scene scene.words locals caller l shape at in
+    apart_kept instance scene locals caller l shape locks at kind (off_locks instance scene locals caller l shape locks at _ (omega arith) (λ from. omega (arith, from, own)))
+    (record { exclusive = refl; shared = refl; passer = refl; downgraded = refl; won = refl })

@@ -1,15 +1,14 @@
 -- Each kind of step keeps the part on regions, with the history as it is.
-use Rattle.std.proofs.Common.{◌≡◌, ◌≢◌, ◌*◌, ◌%◌, ◌==◌, ◌<◌, inl, inr, ℕ, nat_lt, Bool, true, false, cond, List, [], ◌∷◌, ◌++◌, Some, None, length, set, slice_index, refl, ap, sym, subst, ◌∙◌, arith}
+use Rattle.std.proofs.Common.{◌≡◌, ◌≢◌, ◌*◌, ◌==◌, ◌<◌, inl, inr, ℕ, nat_lt, Bool, true, false, cond, List, [], ◌∷◌, ◌++◌, Some, None, length, set, slice_index, refl, ap, sym, subst, ◌∙◌, arith}
 use Rattle.std.proofs.lemmas.Bool.{cases_Bool, cases_eq, eqb-true}
 use Rattle.std.proofs.lemmas.List.{get_or-set_other, get_or-set_same, length-set, set-get_or}
 use Rattle.std.proofs.lemmas.List.Elements.{All-filter, All-nil, All-push}
-use Rattle.std.proofs.lemmas.Nat.{mod_below}
 use Rattle.std.proofs.lemmas.Option.{same_Some, none-some, slice_get_within}
 use Rattle.std.specs.List.{All, Contains, slice_get}
 use Rattle.std.specs.Option.{option_map}
 use Rattle.cx_core.specs.declared.entry.Entry.{Entry}
 use Rattle.cx_core.specs.declared.kinds.Kind.{Kind}
-use Rattle.cx_core.specs.declared.kinds.Kind.TheVariants.{WriteCell, Link, Look, ReadCell, LoadFree, TryExclusive, TryShared, BackOff, Downgrade, ReleaseExclusive, LoadWord, StoreWord, Persist, LoadCur, Publish, Raise, Retire, Protect, Confirm, Unprotect, CloseLow, Scan, OpenFree, WriteSet, Offer, LoadOffer, ReadSet}
+use Rattle.cx_core.specs.declared.kinds.Kind.TheVariants.{Link, TryExclusive, TryShared, BackOff, Downgrade, ReleaseExclusive, LoadWord, StoreWord, Persist, Publish}
 use Rattle.cx_core.specs.declared.local.HeldExclusive.{HeldExclusive}
 use Rattle.cx_core.specs.declared.local.HeldShared.{HeldShared}
 use Rattle.cx_core.specs.declared.local.Local.{Local}
@@ -18,12 +17,12 @@ use Rattle.cx_core.specs.Lawful.{Shape}
 use Rattle.cx_core.specs.History.{IsFull}
 use Rattle.cx_core.specs.LawfulLocks.{Locks, total}
 use Rattle.cx_core.specs.LawfulRegions.{HasLoaded, HasWords, IsImage, Regions, vol_word}
-use Rattle.cx_core.specs.Layout.{cell_count, cur_at, lock_at, need_at, per_at, replica_words, vol_at}
+use Rattle.cx_core.specs.Layout.{lock_at, per_at, replica_words, vol_at}
 use Rattle.cx_core.specs.LockEvents.{CanGiveUp, exclusive_mark, passing, refused_by, shared_by, taken, with_number}
 use Rattle.cx_core.specs.QueueEvents.{linked, lost, seen_word}
+use Rattle.cx_core.specs.RootEvents.{outrun, published}
 use Rattle.cx_core.specs.RegionEvents.{loaded_into, persisted, stored_into}
 use Rattle.cx_core.specs.Rights.{exclusive_on, held_dirty, held_words, holds, is_at, shared_on}
-use Rattle.cx_core.specs.RootEvents.{before_in, outrun, published}
 use Rattle.cx_core.specs.State.{Instance, Scene, one_more}
 use Rattle.cx_core.proofs.LayoutLemmas.{per_within, vol_within}
 use Rattle.cx_core.proofs.ListLemmas.{slice_get-set_same}
@@ -33,6 +32,7 @@ use Rattle.core_replica.specs.Frames.{OffRegions, SameHeld}
 use Rattle.cx_core.proofs.Claims.{held_alone, held_below, holds_one, shared_alone, shared_below, unheld_none}
 use Rattle.cx_core.proofs.HeldLists.{All-with, Contains-filter, Contains-still, Contains-with, is_none, mapped, other_passes}
 use Rattle.core_replica.proofs.RegionLaws.{SameReplica, image_given, image_same, loaded_same, regions_framed, regions_local, regions_shared, regions_words, same_off, unheld_before, words_same}
+use Rattle.cx_core.proofs.StepWords.{step_low}
 use Rattle.cx_core.proofs.ReplicaWords.{length-replica, per_apart, replica_at, vol_apart, vol_per_apart}
 use Rattle.cx_core.proofs.Sums.{total_member, total_parts}
 
@@ -243,59 +243,6 @@ module _ (instance : Instance) (history : List Entry) (scene : Scene) (locals : 
         | inr e ↦ subst (λ b. All Was (cond b (m.0.loaded ++ (i, found) ∷ []) m.0.loaded)) (sym e) old
       ]))))
 
-  -- a load of any word
-  word_kept : (place : ℕ) (l' : Local) → SameHeld l l' → Regions instance history (set scene.words place (slice_index scene.words place)) (set locals caller l')
-  word_kept place l' same =
-      subst (λ ws. Regions instance history ws (set locals caller l')) (sym (set-get_or scene.words place 0))
-      (regions_shared instance history scene.words locals caller l l' regions at same.exclusive (λ h has. regions.loaded caller l at h (sym same.shared ∙ has)))
-
-  write_cell_kept : (j i v : ℕ) → Guard instance scene (WriteCell j i v) l → After (WriteCell j i v)
-  write_cell_kept j i v guard =
-      let number = (shape.each caller l at).number in
-      let within = slice_get_within locals caller l at in
-      let j_below = guard.0 in
-      let i_below = guard.1 in
-      framed _ _ _ (omega (arith, number, within, shape.count)) (record { exclusive = refl; shared = refl })
-
-  set_kept : (j i v : ℕ) → Guard instance scene (WriteSet j i v) l → After (WriteSet j i v)
-  set_kept j i v guard =
-      let number = (shape.each caller l at).number in
-      let within = slice_get_within locals caller l at in
-      let j_below = guard.0.0 in
-      let i_below = guard.1 in
-      framed _ _ _ (omega (arith, number, within, shape.count)) (record { exclusive = refl; shared = refl })
-
-  offer_kept : (j : ℕ) → Guard instance scene (Offer j) l → After (Offer j)
-  offer_kept j guard =
-      let number = (shape.each caller l at).number in
-      let within = slice_get_within locals caller l at in
-      let j_below = guard.0.0 in
-      framed _ _ _ (omega (arith, number, within, shape.count)) (record { exclusive = refl; shared = refl })
-
-  link_kept : (j : ℕ) → After (Link j)
-  link_kept j =
-      let q = cell_count callers in
-      let slot : l.front % q < q = mod_below l.front q (omega (arith, shape.some)) in
-      let found = found_by instance (Link j) l scene.words in
-      framed _ _ _ (omega (arith, slot)) (either (SameHeld l) (found == seen_word l.seen_slot) (linked l j) (lost callers l found) (record { exclusive = refl; shared = refl }) (record { exclusive = refl; shared = refl }))
-
-  publish_kept : After Publish
-  publish_kept =
-      let found = slice_index scene.words cur_at in
-      framed _ _ _ (omega arith) (either (SameHeld l) (found == l.seen_cur) (published callers l) (outrun callers l found) (record { exclusive = refl; shared = refl }) (record { exclusive = refl; shared = refl }))
-
-  retire_kept : After Retire
-  retire_kept =
-      let small : before_in l.won % (2 * callers) < 2 * callers = mod_below (before_in l.won) (2 * callers) (omega (arith, shape.some)) in
-      framed _ _ _ (omega (arith, small)) (record { exclusive = refl; shared = refl })
-
-  -- a step on the need of its own caller
-  need_kept : (v : ℕ) (l' : Local) → SameHeld l l' → Regions instance history (set scene.words (need_at l.number) v) (set locals caller l')
-  need_kept v l' same =
-      let number = (shape.each caller l at).number in
-      let within = slice_get_within locals caller l at in
-      framed _ v l' (omega (arith, number, within, shape.count)) same
-
   given_kept : (r v : ℕ) (l' : Local) → scene.history ≡ history → CanGiveUp instance scene r l → l'.exclusive ≡ None → l'.shared ≡ l.shared → Regions instance history (set scene.words (lock_at callers r) v) (set locals caller l')
   given_kept r v l' same guard none shared =
       given_up r v l' guard.0.0 guard.0.1 guard.0.3 (subst (λ h. IsFull instance h (held_words l.exclusive)) same guard.1) none shared
@@ -320,11 +267,6 @@ module _ (instance : Instance) (history : List Entry) (scene : Scene) (locals : 
 pub regions_kept : (instance : Instance) (history : List Entry) (scene : Scene) (locals : List Local) (caller : ℕ) (l : Local) (kind : Kind) → Shape instance scene.words locals → Locks instance.callers scene.words locals →
     Regions instance history scene.words locals → scene.history ≡ history → slice_get locals caller ≡ Some l → Guard instance scene kind l →
     Regions instance history (words_after instance kind l scene.words) (set locals caller (local_after instance scene kind l))
-regions_kept instance history scene locals caller l (WriteCell j i v) shape locks regions same at guard = write_cell_kept instance history scene locals caller l shape locks regions at j i v guard
-regions_kept instance history scene locals caller l (Link j) shape locks regions same at guard = link_kept instance history scene locals caller l shape locks regions at j
-regions_kept instance history scene locals caller l (Look slot) shape locks regions same at guard = word_kept instance history scene locals caller l shape locks regions at _ _ (record { exclusive = refl; shared = refl })
-regions_kept instance history scene locals caller l (ReadCell t k i) shape locks regions same at guard = word_kept instance history scene locals caller l shape locks regions at _ _ (record { exclusive = refl; shared = refl })
-regions_kept instance history scene locals caller l LoadFree shape locks regions same at guard = word_kept instance history scene locals caller l shape locks regions at _ _ (record { exclusive = refl; shared = refl })
 regions_kept instance history scene locals caller l (TryExclusive r) shape locks regions same at guard = try_exclusive_kept instance history scene locals caller l shape locks regions at r guard
 regions_kept instance history scene locals caller l (TryShared r) shape locks regions same at guard = try_shared_kept instance history scene locals caller l shape locks regions at r guard
 regions_kept instance history scene locals caller l (BackOff r) shape locks regions same at guard = back_off_kept instance history scene locals caller l shape locks regions at r guard
@@ -333,17 +275,9 @@ regions_kept instance history scene locals caller l (ReleaseExclusive r) shape l
 regions_kept instance history scene locals caller l (LoadWord r i refused) shape locks regions same at guard = load_kept instance history scene locals caller l shape locks regions at r i _ guard.0.1 refl refl
 regions_kept instance history scene locals caller l (StoreWord r i v) shape locks regions same at guard = store_word_kept instance history scene locals caller l shape locks regions at r i v guard
 regions_kept instance history scene locals caller l (Persist r i) shape locks regions same at guard = persist_word_kept instance history scene locals caller l shape locks regions at r i guard
-regions_kept instance history scene locals caller l LoadCur shape locks regions same at guard = framed instance history scene locals caller l shape locks regions at _ _ _ (omega arith) (record { exclusive = refl; shared = refl })
-regions_kept instance history scene locals caller l Publish shape locks regions same at guard = publish_kept instance history scene locals caller l shape locks regions at
-regions_kept instance history scene locals caller l (Raise code read) shape locks regions same at guard = framed instance history scene locals caller l shape locks regions at _ _ _ (omega arith) (record { exclusive = refl; shared = refl })
-regions_kept instance history scene locals caller l Retire shape locks regions same at guard = retire_kept instance history scene locals caller l shape locks regions at
-regions_kept instance history scene locals caller l (Protect p) shape locks regions same at guard = need_kept instance history scene locals caller l shape locks regions at _ _ (record { exclusive = refl; shared = refl })
-regions_kept instance history scene locals caller l Confirm shape locks regions same at guard = word_kept instance history scene locals caller l shape locks regions at _ _ (record { exclusive = refl; shared = refl })
-regions_kept instance history scene locals caller l Unprotect shape locks regions same at guard = need_kept instance history scene locals caller l shape locks regions at _ _ (record { exclusive = refl; shared = refl })
-regions_kept instance history scene locals caller l (CloseLow target) shape locks regions same at guard = framed instance history scene locals caller l shape locks regions at _ _ _ (omega arith) (record { exclusive = refl; shared = refl })
-regions_kept instance history scene locals caller l (Scan d) shape locks regions same at guard = word_kept instance history scene locals caller l shape locks regions at _ _ (record { exclusive = refl; shared = refl })
-regions_kept instance history scene locals caller l OpenFree shape locks regions same at guard = framed instance history scene locals caller l shape locks regions at _ _ _ (omega arith) (record { exclusive = refl; shared = refl })
-regions_kept instance history scene locals caller l (WriteSet j i v) shape locks regions same at guard = set_kept instance history scene locals caller l shape locks regions at j i v guard
-regions_kept instance history scene locals caller l (Offer j) shape locks regions same at guard = offer_kept instance history scene locals caller l shape locks regions at j guard
-regions_kept instance history scene locals caller l (LoadOffer k t) shape locks regions same at guard = word_kept instance history scene locals caller l shape locks regions at _ _ (record { exclusive = refl; shared = refl })
-regions_kept instance history scene locals caller l (ReadSet k t i) shape locks regions same at guard = word_kept instance history scene locals caller l shape locks regions at _ _ (record { exclusive = refl; shared = refl })
+regions_kept instance history scene locals caller l (Link j) shape locks regions same at guard =
+    framed instance history scene locals caller l shape locks regions at _ _ _ (step_low instance scene scene.words locals caller l shape at (Link j) guard) (either (SameHeld l) (found_by instance (Link j) l scene.words == seen_word l.seen_slot) (linked l j) (lost instance.callers l (found_by instance (Link j) l scene.words)) (record { exclusive = refl; shared = refl }) (record { exclusive = refl; shared = refl }))
+regions_kept instance history scene locals caller l Publish shape locks regions same at guard =
+    framed instance history scene locals caller l shape locks regions at _ _ _ (step_low instance scene scene.words locals caller l shape at Publish guard) (either (SameHeld l) (found_by instance Publish l scene.words == l.seen_cur) (published instance.callers l) (outrun instance.callers l (found_by instance Publish l scene.words)) (record { exclusive = refl; shared = refl }) (record { exclusive = refl; shared = refl }))
+regions_kept instance history scene locals caller l kind shape locks regions same at guard =
+    framed instance history scene locals caller l shape locks regions at _ _ _ (step_low instance scene scene.words locals caller l shape at kind guard) (record { exclusive = refl; shared = refl })

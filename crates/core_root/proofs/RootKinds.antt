@@ -9,18 +9,18 @@ use Rattle.std.specs.List.{Contains, slice_get}
 use Rattle.cx_base.specs.Codes.{root_code_of, root_place_of, root_replica_of}
 use Rattle.cx_core.specs.declared.entry.Entry.{Entry}
 use Rattle.cx_core.specs.declared.kinds.Kind.{Kind}
-use Rattle.cx_core.specs.declared.kinds.Kind.TheVariants.{WriteCell, Link, Look, ReadCell, LoadFree, TryExclusive, TryShared, BackOff, Downgrade, ReleaseExclusive, LoadWord, StoreWord, Persist, LoadCur, Publish, Raise, Retire, Protect, Confirm, Unprotect, CloseLow, Scan, OpenFree, WriteSet, Offer, LoadOffer, ReadSet}
+use Rattle.cx_core.specs.declared.kinds.Kind.TheVariants.{Link, TryExclusive, TryShared, BackOff, Downgrade, LoadWord, StoreWord, Persist, LoadCur, Publish, Raise, Retire}
 use Rattle.cx_core.specs.declared.local.HeldDowngraded.{HeldDowngraded}
 use Rattle.cx_core.specs.declared.local.HeldExclusive.{HeldExclusive}
 use Rattle.cx_core.specs.declared.local.Local.{Local}
 use Rattle.cx_core.specs.declared.local.WonCode.{WonCode}
 use Rattle.cx_core.specs.Chain.{HasWon, Leads}
-use Rattle.cx_core.specs.Events.{Guard, local_after, new_word, step_word, words_after}
+use Rattle.cx_core.specs.Events.{Guard, found_by, local_after, new_word, step_word, words_after}
 use Rattle.cx_core.specs.Lawful.{Fronts, Shape}
 use Rattle.cx_core.specs.LawfulLocks.{Locks}
 use Rattle.cx_core.specs.LawfulRegions.{Regions, vol_word}
 use Rattle.cx_core.specs.LawfulRoot.{IsPlaced, OnChain, Root, WinStands}
-use Rattle.cx_core.specs.Layout.{cell_count, cur_at, dur_at, lock_at, need_at, replicas_at, vol_at}
+use Rattle.cx_core.specs.Layout.{cur_at, dur_at, lock_at, replicas_at, vol_at}
 use Rattle.cx_core.specs.LockEvents.{downgraded_to, exclusive_mark}
 use Rattle.cx_core.specs.QueueEvents.{seen_word}
 use Rattle.cx_core.specs.Region.{place_of}
@@ -32,6 +32,7 @@ use Rattle.cx_core.proofs.ListLemmas.{slice_get-set_same}
 use Rattle.cx_core.proofs.Putting.{either}
 use Rattle.cx_core.proofs.ReplicaWords.{held_place, vol_apart, vol_per_apart}
 use Rattle.cx_core.proofs.RootCodes.{code_place, code_replica, code_up}
+use Rattle.cx_core.proofs.StepWords.{step_low}
 use Rattle.cx_core.proofs.Sums.{on_same, total_member}
 use Rattle.core_root.specs.Frames.{OffRoot, SameRoot}
 use Rattle.core_root.proofs.ChainLemmas.{leads_from, leads_push, leads_put, wins_put, wins_stay}
@@ -81,8 +82,9 @@ module _ (instance : Instance) (scene : Scene) (locals : List Local) (caller : �
   framed : (place v : ℕ) (l' : Local) → OffRoot instance place → SameRoot l l' → Root instance (set words place v) (set locals caller l')
   framed place v l' off same = root_framed instance words locals caller l some locks root at place v l' off same
 
-  lock_framed : (r v : ℕ) (l' : Local) → r < 2 * callers → SameRoot l l' → Root instance (set words (lock_at callers r) v) (set locals caller l')
-  lock_framed r v l' small same = framed (lock_at callers r) v l' (low_off instance (lock_at callers r) (omega arith) (omega (arith, small))) same
+  -- a step on a word between DUR and the replicas
+  low_kept : (kind : Kind) → 2 ≤ step_word instance kind l → step_word instance kind l < replicas_at callers → SameRoot l (local_after instance scene kind l) → After kind
+  low_kept kind from below same = framed _ _ _ (low_off instance _ from below) same
 
   -- a step that puts the word it found
   load_framed : (place : ℕ) (l' : Local) → SameRoot l l' → Root instance (set words place (slice_index words place)) (set locals caller l')
@@ -90,57 +92,6 @@ module _ (instance : Instance) (scene : Scene) (locals : List Local) (caller : �
       let old = root.each caller l at in
       word_kept instance words locals caller l some locks root at place l' same.won
       (in_chain_local instance words root.above l l' old (subst (OnChain words root.above) (sym same.seen_cur) old.seen) same.won same.downgraded)
-
-  -- a step on the need of its own caller
-  need_framed : (v : ℕ) (l' : Local) → SameRoot l l' → Root instance (set words (need_at l.number) v) (set locals caller l')
-  need_framed v l' same =
-      let number = (shape.each caller l at).number in
-      let within = slice_get_within locals caller l at in
-      framed _ v l' (low_off instance _ (omega arith) (omega (arith, number, within, shape.count))) same
-
-  write_cell_kept : (j i v : ℕ) → Guard instance scene (WriteCell j i v) l → After (WriteCell j i v)
-  write_cell_kept j i v guard =
-      let number = (shape.each caller l at).number in
-      let within = slice_get_within locals caller l at in
-      let j_below = guard.0 in
-      let i_below = guard.1 in
-      framed _ _ _ (low_off instance _ (omega arith) (omega (arith, number, within, shape.count))) (same_root l _ refl refl refl)
-
-  set_kept : (j i v : ℕ) → Guard instance scene (WriteSet j i v) l → After (WriteSet j i v)
-  set_kept j i v guard =
-      let number = (shape.each caller l at).number in
-      let within = slice_get_within locals caller l at in
-      let j_below = guard.0.0 in
-      let i_below = guard.1 in
-      framed _ _ _ (low_off instance _ (omega arith) (omega (arith, number, within, shape.count))) (same_root l _ refl refl refl)
-
-  offer_kept : (j : ℕ) → Guard instance scene (Offer j) l → After (Offer j)
-  offer_kept j guard =
-      let number = (shape.each caller l at).number in
-      let within = slice_get_within locals caller l at in
-      let j_below = guard.0.0 in
-      framed _ _ _ (low_off instance _ (omega arith) (omega (arith, number, within, shape.count))) (same_root l _ refl refl refl)
-
-  link_kept : (j : ℕ) → After (Link j)
-  link_kept j =
-      let q = cell_count callers in
-      let slot = mod_below l.front q (omega (arith, some)) in
-      framed _ _ _ (low_off instance _ (omega arith) (omega (arith, slot)))
-      (either (SameRoot l) (slice_index words (step_word instance (Link j) l) == seen_word l.seen_slot) _ _ (same_root l _ refl refl refl) (same_root l _ refl refl refl))
-
-  try_exclusive_kept : (r : ℕ) → Guard instance scene (TryExclusive r) l → After (TryExclusive r)
-  try_exclusive_kept r guard =
-      lock_framed r _ _ guard.0 (either (SameRoot l) (slice_index words (lock_at callers r) == 0) _ _ (same_root l _ refl refl refl) (same_root l _ refl refl refl))
-
-  try_shared_kept : (r : ℕ) → Guard instance scene (TryShared r) l → After (TryShared r)
-  try_shared_kept r guard =
-      lock_framed r _ _ guard.0 (either (SameRoot l) (nat_lt (slice_index words (lock_at callers r)) exclusive_mark) _ _ (same_root l _ refl refl refl) (same_root l _ refl refl refl))
-
-  back_off_kept : (r : ℕ) → Guard instance scene (BackOff r) l → After (BackOff r)
-  back_off_kept r guard =
-      lock_framed r _ _ guard.0
-      (either (SameRoot l) (is_at r (shared_on l)) _ _ (same_root l _ refl refl refl)
-      (either (SameRoot l) (is_at r l.passer) _ _ (same_root l _ refl refl refl) (record { seen_cur = refl; won = refl; downgraded = λ h has. absurd (none-some h has) })))
 
   -- the right that a downgrade leaves has the place of the words held, which are the replica's
   downgrade_kept : (history : List Entry) (r : ℕ) → Regions instance history words locals → Guard instance scene (Downgrade r) l → After (Downgrade r)
@@ -326,16 +277,7 @@ module _ (instance : Instance) (scene : Scene) (locals : List Local) (caller : �
 pub root_kind_kept : (instance : Instance) (history : List Entry) (scene : Scene) (locals : List Local) (caller : ℕ) (l : Local) (kind : Kind) → Shape instance scene.words locals → Locks instance.callers scene.words locals →
     Regions instance history scene.words locals → Fronts instance history scene.words locals → Root instance scene.words locals → slice_get locals caller ≡ Some l → Guard instance scene kind l →
     Root instance (words_after instance kind l scene.words) (set locals caller (local_after instance scene kind l))
-root_kind_kept instance history scene locals caller l (WriteCell j i v) shape locks regions fronts root at guard = write_cell_kept instance scene locals caller l shape locks root at j i v guard
-root_kind_kept instance history scene locals caller l (Link j) shape locks regions fronts root at guard = link_kept instance scene locals caller l shape locks root at j
-root_kind_kept instance history scene locals caller l (Look slot) shape locks regions fronts root at guard = load_framed instance scene locals caller l shape locks root at _ _ (same_root l _ refl refl refl)
-root_kind_kept instance history scene locals caller l (ReadCell t k i) shape locks regions fronts root at guard = load_framed instance scene locals caller l shape locks root at _ _ (same_root l _ refl refl refl)
-root_kind_kept instance history scene locals caller l LoadFree shape locks regions fronts root at guard = load_framed instance scene locals caller l shape locks root at _ _ (same_root l _ refl refl refl)
-root_kind_kept instance history scene locals caller l (TryExclusive r) shape locks regions fronts root at guard = try_exclusive_kept instance scene locals caller l shape locks root at r guard
-root_kind_kept instance history scene locals caller l (TryShared r) shape locks regions fronts root at guard = try_shared_kept instance scene locals caller l shape locks root at r guard
-root_kind_kept instance history scene locals caller l (BackOff r) shape locks regions fronts root at guard = back_off_kept instance scene locals caller l shape locks root at r guard
 root_kind_kept instance history scene locals caller l (Downgrade r) shape locks regions fronts root at guard = downgrade_kept instance scene locals caller l shape locks root at history r regions guard
-root_kind_kept instance history scene locals caller l (ReleaseExclusive r) shape locks regions fronts root at guard = lock_framed instance scene locals caller l shape locks root at r _ _ guard.0.0 (same_root l _ refl refl refl)
 root_kind_kept instance history scene locals caller l (LoadWord r i refused) shape locks regions fronts root at guard = load_framed instance scene locals caller l shape locks root at _ _ (same_root l _ refl refl refl)
 root_kind_kept instance history scene locals caller l (StoreWord r i v) shape locks regions fronts root at guard = store_kept instance scene locals caller l shape locks root at r i v guard
 root_kind_kept instance history scene locals caller l (Persist r i) shape locks regions fronts root at guard = persist_kept instance scene locals caller l shape locks root at r i guard
@@ -343,13 +285,17 @@ root_kind_kept instance history scene locals caller l LoadCur shape locks region
 root_kind_kept instance history scene locals caller l Publish shape locks regions fronts root at guard = publish_kept instance scene locals caller l shape locks root at guard
 root_kind_kept instance history scene locals caller l (Raise code read) shape locks regions fronts root at guard = raise_kept instance scene locals caller l shape locks root at code read guard
 root_kind_kept instance history scene locals caller l Retire shape locks regions fronts root at guard = retire_kept instance scene locals caller l shape locks root at (fronts.each caller l at).raised guard
-root_kind_kept instance history scene locals caller l (Protect p) shape locks regions fronts root at guard = need_framed instance scene locals caller l shape locks root at _ _ (same_root l _ refl refl refl)
-root_kind_kept instance history scene locals caller l Confirm shape locks regions fronts root at guard = load_framed instance scene locals caller l shape locks root at _ _ (same_root l _ refl refl refl)
-root_kind_kept instance history scene locals caller l Unprotect shape locks regions fronts root at guard = need_framed instance scene locals caller l shape locks root at _ _ (same_root l _ refl refl refl)
-root_kind_kept instance history scene locals caller l (CloseLow target) shape locks regions fronts root at guard = framed instance scene locals caller l shape locks root at _ _ _ (low_off instance _ (omega arith) (omega arith)) (same_root l _ refl refl refl)
-root_kind_kept instance history scene locals caller l (Scan d) shape locks regions fronts root at guard = load_framed instance scene locals caller l shape locks root at _ _ (same_root l _ refl refl refl)
-root_kind_kept instance history scene locals caller l OpenFree shape locks regions fronts root at guard = framed instance scene locals caller l shape locks root at _ _ _ (low_off instance _ (omega arith) (omega arith)) (same_root l _ refl refl refl)
-root_kind_kept instance history scene locals caller l (WriteSet j i v) shape locks regions fronts root at guard = set_kept instance scene locals caller l shape locks root at j i v guard
-root_kind_kept instance history scene locals caller l (Offer j) shape locks regions fronts root at guard = offer_kept instance scene locals caller l shape locks root at j guard
-root_kind_kept instance history scene locals caller l (LoadOffer k t) shape locks regions fronts root at guard = load_framed instance scene locals caller l shape locks root at _ _ (same_root l _ refl refl refl)
-root_kind_kept instance history scene locals caller l (ReadSet k t i) shape locks regions fronts root at guard = load_framed instance scene locals caller l shape locks root at _ _ (same_root l _ refl refl refl)
+root_kind_kept instance history scene locals caller l (Link j) shape locks regions fronts root at guard =
+    low_kept instance scene locals caller l shape locks root at (Link j) (omega arith) (step_low instance scene scene.words locals caller l shape at (Link j) guard)
+    (either (SameRoot l) (found_by instance (Link j) l scene.words == seen_word l.seen_slot) _ _ (same_root l _ refl refl refl) (same_root l _ refl refl refl))
+root_kind_kept instance history scene locals caller l (TryExclusive r) shape locks regions fronts root at guard =
+    low_kept instance scene locals caller l shape locks root at (TryExclusive r) (omega arith) (step_low instance scene scene.words locals caller l shape at (TryExclusive r) guard)
+    (either (SameRoot l) (found_by instance (TryExclusive r) l scene.words == 0) _ _ (same_root l _ refl refl refl) (same_root l _ refl refl refl))
+root_kind_kept instance history scene locals caller l (TryShared r) shape locks regions fronts root at guard =
+    low_kept instance scene locals caller l shape locks root at (TryShared r) (omega arith) (step_low instance scene scene.words locals caller l shape at (TryShared r) guard)
+    (either (SameRoot l) (nat_lt (found_by instance (TryShared r) l scene.words) exclusive_mark) _ _ (same_root l _ refl refl refl) (same_root l _ refl refl refl))
+root_kind_kept instance history scene locals caller l (BackOff r) shape locks regions fronts root at guard =
+    low_kept instance scene locals caller l shape locks root at (BackOff r) (omega arith) (step_low instance scene scene.words locals caller l shape at (BackOff r) guard)
+    (either (SameRoot l) (is_at r (shared_on l)) _ _ (same_root l _ refl refl refl) (either (SameRoot l) (is_at r l.passer) _ _ (same_root l _ refl refl refl) (record { seen_cur = refl; won = refl; downgraded = λ h has. absurd (none-some h has) })))
+root_kind_kept instance history scene locals caller l kind shape locks regions fronts root at guard =
+    low_kept instance scene locals caller l shape locks root at kind (omega arith) (step_low instance scene scene.words locals caller l shape at kind guard) (same_root l _ refl refl refl)

@@ -3,9 +3,8 @@
 ghost use Rattle.std.specs.Prelude.{◌≡◌, ◌∷◌, [], ℕ, slice_index};
 ghost use Rattle.std.specs.List.{Contains};
 ghost use Rattle.cx_base.specs.Codes.{root_replica_of};
-ghost use Rattle.core_root.specs.Chain.{IsPinned, Leaves, SameWords};
+ghost use Rattle.core_root.specs.Chain.{IsPinned};
 ghost use Rattle.cx_core.specs.Chain.{IsCodeChain, RiseInPlace};
-ghost use Rattle.cx_core.specs.Events.{Makes};
 ghost use Rattle.cx_core.specs.Lawful.{Shape};
 ghost use Rattle.cx_core.specs.LawfulLocks.{Locks};
 ghost use Rattle.cx_core.specs.LawfulRegions.{IsImage, Regions};
@@ -46,19 +45,4 @@ pub fn chain_names_images()
     ensures { (instance : Instance) (history : _) (s : State) (codes : _) (code : ℕ) → Shape instance s.words s.locals → Locks instance.callers s.words s.locals →
         Regions instance history s.words s.locals → Root instance s.words s.locals →
         IsCodeChain s.words s.locals codes → Contains codes code → IsImage instance history s.words (root_replica_of instance.callers code) }
-{}
-
-/// No allowed event stores to a replica that a code of the chain names, nor persists a word of it.
-pub fn no_event_stores_to_the_chain()
-    ensures { (instance : Instance) (before after : State) (event : _) (codes : _) (code : ℕ) →
-        Shape instance before.words before.locals → Locks instance.callers before.words before.locals → Root instance before.words before.locals →
-        IsCodeChain before.words before.locals codes → Contains codes code → Makes instance event before after → Leaves event.kind (root_replica_of instance.callers code) }
-{}
-
-/// So each leaves the words of those replicas, in both memories.
-pub fn events_leave_the_chain()
-    ensures { (instance : Instance) (before after : State) (event : _) (codes : _) (code : ℕ) →
-        Shape instance before.words before.locals → Locks instance.callers before.words before.locals → Root instance before.words before.locals →
-        IsCodeChain before.words before.locals codes → Contains codes code → Makes instance event before after →
-        SameWords instance before.words after.words (root_replica_of instance.callers code) }
 {}

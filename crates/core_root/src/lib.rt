@@ -6,5 +6,4 @@
 pub mod bounds;
 pub mod chain;
 pub mod frames;
-pub mod free;
 pub mod kinds;

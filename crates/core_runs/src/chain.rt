@@ -1,6 +1,6 @@
 //! What the chain of codes from DUR to CUR keeps from being written, and the replica that is free beside it.
 
-ghost use Rattle.std.specs.Prelude.{◌≡◌, ◌∷◌, ℕ, Some, slice_get, slice_index};
+ghost use Rattle.std.specs.Prelude.{◌≡◌, ℕ, Some, slice_get};
 ghost use Rattle.std.specs.List.{Contains};
 ghost use Rattle.cx_base.specs.Codes.{root_replica_of};
 ghost use Rattle.core_root.specs.Chain.{Leaves, SameWords};
@@ -9,13 +9,7 @@ ghost use Rattle.cx_core.specs.Events.{Makes};
 ghost use Rattle.cx_core.specs.Free.{HoldsNone, SomeFree};
 ghost use Rattle.cx_core.specs.Lawful.{Lawful};
 ghost use Rattle.cx_core.specs.LawfulRegions.{IsImage};
-ghost use Rattle.cx_core.specs.Layout.{dur_at};
 ghost use Rattle.cx_core.specs.State.{Instance, State};
-
-/// There is a chain, from DUR on.
-pub fn each_state_has_a_chain()
-    ensures { (instance : Instance) (s : State) (law : Lawful instance s) → IsCodeChain s.words s.locals (slice_index s.words dur_at ∷ law.root.above) }
-{}
 
 /// Each of its codes names a replica that is the full image after its place, in both memories.
 pub fn chains_name_images()

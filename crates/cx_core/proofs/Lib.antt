@@ -12,4 +12,5 @@ pub mod ReplicaWords
 pub mod RootCodes
 pub mod StateLemmas
 pub mod StepLemmas
+pub mod StepWords
 pub mod Sums

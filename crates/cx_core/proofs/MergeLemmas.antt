@@ -1,12 +1,12 @@
 -- The merge of the own lists by ticket is the history, and what is linked stays linked.
-use Rattle.std.proofs.Common.{◌≡◌, ◌≢◌, ◌+◌, ◌-◌, ◌<◌, ◌≤◌, ◌==◌, ℕ, zero, suc, Bool, true, false, cond, List, [], ◌∷◌, ◌++◌, length, set, refl, sym, ap, subst, ◌∙◌, inl, inr, arith, Some, length-append, add-zero, nat_lt}
+use Rattle.std.proofs.Common.{◌≡◌, ◌≢◌, ◌+◌, ◌-◌, ◌<◌, ◌≤◌, ◌==◌, ℕ, zero, suc, Bool, cond, List, [], ◌∷◌, ◌++◌, length, set, refl, sym, ap, subst, ◌∙◌, inl, inr, arith, Some, length-append, add-zero, nat_lt}
 use Rattle.std.proofs.lemmas.Bool.{cases_eq, eq-eqb, ne_eqb}
 use Rattle.std.proofs.lemmas.Option.{same_Some, none-some, slice_get_within, slice_get_cases}
 use Rattle.std.specs.List.{slice_get}
 use Rattle.std.specs.Option.{option_to_list}
 use Rattle.cx_core.specs.declared.entry.Entry.{Entry}
 use Rattle.cx_core.specs.declared.kinds.Kind.{Kind}
-use Rattle.cx_core.specs.declared.kinds.Kind.TheVariants.{WriteCell, Link, Look, ReadCell, LoadFree, TryExclusive, TryShared, BackOff, Downgrade, ReleaseExclusive, LoadWord, StoreWord, Persist, LoadCur, Publish, Raise, Retire, Protect, Confirm, Unprotect, CloseLow, Scan, OpenFree, WriteSet, Offer, LoadOffer, ReadSet}
+use Rattle.cx_core.specs.declared.kinds.Kind.TheVariants.{Link, TryExclusive, TryShared, BackOff, Publish}
 use Rattle.cx_core.specs.declared.local.Linked.{Linked}
 use Rattle.cx_core.specs.declared.local.Local.{Local}
 use Rattle.cx_core.specs.Events.{next}
@@ -16,6 +16,7 @@ use Rattle.cx_core.specs.RootEvents.{outrun, published}
 use Rattle.cx_core.specs.QueueEvents.{entry_in, linked, lost, seen_word}
 use Rattle.cx_core.specs.Rights.{is_at, shared_on}
 use Rattle.cx_core.specs.State.{Instance, Scene}
+use Rattle.cx_core.proofs.Putting.{either}
 use Rattle.cx_core.proofs.ListLemmas.{item_below, slice_get-append, slice_get-append_left, slice_get-append_right, slice_get-set_same, slice_get-set_other}
 
 -- the numbers of entries of so many callers, from one on
@@ -187,41 +188,16 @@ history_is place history locals merged =
 abbrev pub GoesOn : Local → Local → Type 0
 GoesOn l l' = (i : ℕ) (x : Linked) → slice_get l.own i ≡ Some x → slice_get l'.own i ≡ Some x
 
-goes_either : (l : Local) (b : Bool) (x y : Local) → GoesOn l x → GoesOn l y → GoesOn l (cond b x y)
-goes_either l true x y p q = p
-goes_either l false x y p q = q
-
 -- the own list goes on at each step
 pub goes_on : (instance : Instance) (scene : Scene) (kind : Kind) (l : Local) (found : ℕ) → GoesOn l (next instance scene kind l found)
-goes_on instance scene (WriteCell j i v) l found = λ _ _ at. at
-goes_on instance scene (Link j) l found = goes_either l (found == seen_word l.seen_slot) (linked l j) (lost instance.callers l found)
+goes_on instance scene (Link j) l found = either (GoesOn l) (found == seen_word l.seen_slot) (linked l j) (lost instance.callers l found)
     (λ n x at. slice_get-append_left l.own (record { ticket = l.front; entry = entry_in l j } ∷ []) n x at)
     (λ _ _ at. at)
-goes_on instance scene (Look s) l found = λ _ _ at. at
-goes_on instance scene (ReadCell t k i) l found = λ _ _ at. at
-goes_on instance scene LoadFree l found = λ _ _ at. at
-goes_on instance scene (TryExclusive r) l found = goes_either l (found == 0) (taken instance scene r l) (refused_by instance.callers r l found) (λ _ _ at. at) (λ _ _ at. at)
-goes_on instance scene (TryShared r) l found = goes_either l (nat_lt found exclusive_mark) (shared_by r l found) (passing instance.callers r l found) (λ _ _ at. at) (λ _ _ at. at)
-goes_on instance scene (BackOff r) l found = goes_either l (is_at r (shared_on l)) _ _ (λ _ _ at. at) (goes_either l (is_at r l.passer) _ _ (λ _ _ at. at) (λ _ _ at. at))
-goes_on instance scene (Downgrade r) l found = λ _ _ at. at
-goes_on instance scene (ReleaseExclusive r) l found = λ _ _ at. at
-goes_on instance scene (LoadWord r i refused) l found = λ _ _ at. at
-goes_on instance scene (StoreWord r i v) l found = λ _ _ at. at
-goes_on instance scene (Persist r i) l found = λ _ _ at. at
-goes_on instance scene LoadCur l found = λ _ _ at. at
-goes_on instance scene Publish l found = goes_either l (found == l.seen_cur) (published instance.callers l) (outrun instance.callers l found) (λ _ _ at. at) (λ _ _ at. at)
-goes_on instance scene (Raise code read) l found = λ _ _ at. at
-goes_on instance scene Retire l found = λ _ _ at. at
-goes_on instance scene (Protect p) l found = λ _ _ at. at
-goes_on instance scene Confirm l found = λ _ _ at. at
-goes_on instance scene Unprotect l found = λ _ _ at. at
-goes_on instance scene (CloseLow target) l found = λ _ _ at. at
-goes_on instance scene (Scan d) l found = λ _ _ at. at
-goes_on instance scene OpenFree l found = λ _ _ at. at
-goes_on instance scene (WriteSet j i v) l found = λ _ _ at. at
-goes_on instance scene (Offer j) l found = λ _ _ at. at
-goes_on instance scene (LoadOffer k t) l found = λ _ _ at. at
-goes_on instance scene (ReadSet k t i) l found = λ _ _ at. at
+goes_on instance scene (TryExclusive r) l found = either (GoesOn l) (found == 0) (taken instance scene r l) (refused_by instance.callers r l found) (λ _ _ at. at) (λ _ _ at. at)
+goes_on instance scene (TryShared r) l found = either (GoesOn l) (nat_lt found exclusive_mark) (shared_by r l found) (passing instance.callers r l found) (λ _ _ at. at) (λ _ _ at. at)
+goes_on instance scene (BackOff r) l found = either (GoesOn l) (is_at r (shared_on l)) _ _ (λ _ _ at. at) (either (GoesOn l) (is_at r l.passer) _ _ (λ _ _ at. at) (λ _ _ at. at))
+goes_on instance scene Publish l found = either (GoesOn l) (found == l.seen_cur) (published instance.callers l) (outrun instance.callers l found) (λ _ _ at. at) (λ _ _ at. at)
+goes_on instance scene kind l found = λ _ _ at. at
 
 -- what is linked stays linked where one caller's own list goes on
 pub still_linked : (instance : Instance) (place : ℕ) (history history' : List Entry) (locals : List Local) (caller : ℕ) (l l' : Local) →

@@ -10,7 +10,7 @@ use Rattle.atomic_table.proofs.Lists.{at_set, set_here}
 use Rattle.cx_core.specs.declared.entry.Base.{Base}
 use Rattle.cx_core.specs.declared.kinds.Event.{Event}
 use Rattle.cx_core.specs.declared.kinds.Kind.{Kind}
-use Rattle.cx_core.specs.declared.kinds.Kind.TheVariants.{WriteCell, Link, Look, ReadCell, LoadFree, TryExclusive, TryShared, BackOff, Downgrade, ReleaseExclusive, LoadWord, StoreWord, Persist, LoadCur, Publish, Raise, Retire, Protect, Confirm, Unprotect, CloseLow, Scan, OpenFree, WriteSet, Offer, LoadOffer, ReadSet}
+use Rattle.cx_core.specs.declared.kinds.Kind.TheVariants.{ReadSet}
 use Rattle.cx_core.specs.declared.local.Local.{Local}
 use Rattle.cx_core.specs.Events.{Guard, Makes, found_by, local_after, new_word, next, step_word, words_after}
 use Rattle.cx_core.specs.Lawful.{Lawful, LocalShape, OwnTickets}
@@ -120,33 +120,8 @@ event_held instance kind s id known after word new held at learns =
 -- what a caller noted of sets, with what its own step notes
 sets_next : (instance : Instance) (s : State) (law : Lawful instance s) (caller : ℕ) (l : Local) → slice_get s.locals caller ≡ Some l → (known : Known) (kind : Kind) → Guard instance (scene_of instance s) kind l → SetNotesHold instance s law.history known.sets →
     SetNotesHold instance s law.history (sets_after kind known (found_by instance kind l s.words))
-sets_next instance s law caller l at known (WriteCell j i v) guard hold = hold
-sets_next instance s law caller l at known (Link j) guard hold = hold
-sets_next instance s law caller l at known (Look slot) guard hold = hold
-sets_next instance s law caller l at known (ReadCell t k i) guard hold = hold
-sets_next instance s law caller l at known LoadFree guard hold = hold
-sets_next instance s law caller l at known (TryExclusive r) guard hold = hold
-sets_next instance s law caller l at known (TryShared r) guard hold = hold
-sets_next instance s law caller l at known (BackOff r) guard hold = hold
-sets_next instance s law caller l at known (Downgrade r) guard hold = hold
-sets_next instance s law caller l at known (ReleaseExclusive r) guard hold = hold
-sets_next instance s law caller l at known (LoadWord r i refused) guard hold = hold
-sets_next instance s law caller l at known (StoreWord r i v) guard hold = hold
-sets_next instance s law caller l at known (Persist r i) guard hold = hold
-sets_next instance s law caller l at known LoadCur guard hold = hold
-sets_next instance s law caller l at known Publish guard hold = hold
-sets_next instance s law caller l at known (Raise code read) guard hold = hold
-sets_next instance s law caller l at known Retire guard hold = hold
-sets_next instance s law caller l at known (Protect p) guard hold = hold
-sets_next instance s law caller l at known Confirm guard hold = hold
-sets_next instance s law caller l at known Unprotect guard hold = hold
-sets_next instance s law caller l at known (CloseLow target) guard hold = hold
-sets_next instance s law caller l at known (Scan d) guard hold = hold
-sets_next instance s law caller l at known OpenFree guard hold = hold
-sets_next instance s law caller l at known (WriteSet j i v) guard hold = hold
-sets_next instance s law caller l at known (Offer j) guard hold = hold
-sets_next instance s law caller l at known (LoadOffer k t) guard hold = hold
 sets_next instance s law caller l at known (ReadSet k t i) guard hold = notes_read instance s law.history (queue_of law) caller l at k t i known.sets guard hold
+sets_next instance s law caller l at known kind guard hold = hold
 
 -- an event whose guard and whose word put are known in a state teaches its seat so there
 pub learns_there : (instance : Instance) (kind : Kind) (known : Known) (words : List ℕ) (word new : ℕ) → WordFits kind → word ≡ step_word instance kind known.local →

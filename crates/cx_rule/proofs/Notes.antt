@@ -4,7 +4,7 @@ use Rattle.std.proofs.lemmas.Option.{same_Some, none-some}
 use Rattle.std.specs.List.{slice_get}
 use Rattle.cx_core.specs.declared.entry.Entry.{Entry}
 use Rattle.cx_core.specs.declared.kinds.Kind.{Kind}
-use Rattle.cx_core.specs.declared.kinds.Kind.TheVariants.{WriteCell, Link, Look, ReadCell, LoadFree, TryExclusive, TryShared, BackOff, Downgrade, ReleaseExclusive, LoadWord, StoreWord, Persist, LoadCur, Publish, Raise, Retire, Protect, Confirm, Unprotect, CloseLow, Scan, OpenFree, WriteSet, Offer, LoadOffer, ReadSet}
+use Rattle.cx_core.specs.declared.kinds.Kind.TheVariants.{ReadCell}
 use Rattle.cx_core.specs.declared.local.Local.{Local}
 use Rattle.cx_core.specs.Events.{Guard, found_by}
 use Rattle.cx_core.specs.Lawful.{Lawful}
@@ -68,29 +68,4 @@ read_noted instance s law caller l t k i at guard n noted there from =
 pub noted_hold : (instance : Instance) (kind : Kind) (s : State) (law : Lawful instance s) (caller : ℕ) (l : Local) → slice_get s.locals caller ≡ Some l → Guard instance (scene_of instance s) kind l →
     NotesHold instance law.history (noted_by kind (found_by instance kind l s.words))
 noted_hold instance (ReadCell t k i) s law caller l at guard = read_noted instance s law caller l t k i at guard
-noted_hold instance (WriteCell j i v) s law caller l at guard = no_notes instance law.history
-noted_hold instance (Link j) s law caller l at guard = no_notes instance law.history
-noted_hold instance (Look t) s law caller l at guard = no_notes instance law.history
-noted_hold instance LoadFree s law caller l at guard = no_notes instance law.history
-noted_hold instance (TryExclusive r) s law caller l at guard = no_notes instance law.history
-noted_hold instance (TryShared r) s law caller l at guard = no_notes instance law.history
-noted_hold instance (BackOff r) s law caller l at guard = no_notes instance law.history
-noted_hold instance (Downgrade r) s law caller l at guard = no_notes instance law.history
-noted_hold instance (ReleaseExclusive r) s law caller l at guard = no_notes instance law.history
-noted_hold instance (LoadWord r i refused) s law caller l at guard = no_notes instance law.history
-noted_hold instance (StoreWord r i v) s law caller l at guard = no_notes instance law.history
-noted_hold instance (Persist r i) s law caller l at guard = no_notes instance law.history
-noted_hold instance LoadCur s law caller l at guard = no_notes instance law.history
-noted_hold instance Publish s law caller l at guard = no_notes instance law.history
-noted_hold instance (Raise code read) s law caller l at guard = no_notes instance law.history
-noted_hold instance Retire s law caller l at guard = no_notes instance law.history
-noted_hold instance (Protect p) s law caller l at guard = no_notes instance law.history
-noted_hold instance Confirm s law caller l at guard = no_notes instance law.history
-noted_hold instance Unprotect s law caller l at guard = no_notes instance law.history
-noted_hold instance (CloseLow target) s law caller l at guard = no_notes instance law.history
-noted_hold instance (Scan d) s law caller l at guard = no_notes instance law.history
-noted_hold instance OpenFree s law caller l at guard = no_notes instance law.history
-noted_hold instance (WriteSet j i v) s law caller l at guard = no_notes instance law.history
-noted_hold instance (Offer j) s law caller l at guard = no_notes instance law.history
-noted_hold instance (LoadOffer k t) s law caller l at guard = no_notes instance law.history
-noted_hold instance (ReadSet k t i) s law caller l at guard = no_notes instance law.history
+noted_hold instance kind s law caller l at guard = no_notes instance law.history

@@ -5,7 +5,7 @@ use Rattle.std.proofs.lemmas.Bool.{false≢true}
 use Rattle.std.specs.Prelude.{nat_lt}
 use Rattle.std.specs.Option.{option_map}
 use Rattle.cx_core.specs.declared.kinds.Kind.{Kind}
-use Rattle.cx_core.specs.declared.kinds.Kind.TheVariants.{WriteCell, Link, Look, ReadCell, LoadFree, TryExclusive, TryShared, BackOff, Downgrade, ReleaseExclusive, LoadWord, StoreWord, Persist, LoadCur, Publish, Raise, Retire, Protect, Confirm, Unprotect, CloseLow, Scan, OpenFree, WriteSet, Offer, LoadOffer, ReadSet}
+use Rattle.cx_core.specs.declared.kinds.Kind.TheVariants.{Link, Look, TryExclusive, TryShared, BackOff, Downgrade, ReleaseExclusive, LoadWord, StoreWord, Persist, LoadCur, Publish, Raise, Offer}
 use Rattle.cx_core.specs.declared.local.HeldExclusive.{HeldExclusive}
 use Rattle.cx_core.specs.declared.local.Local.{Local}
 use Rattle.cx_core.specs.Events.{Guard, new_word, next, step_word}
@@ -46,13 +46,9 @@ backed_shown r l o false false = refl
 
 next_holding : (instance : Instance) (scene : Scene) (kind : Kind) (l : Local) (o : Option HeldExclusive) (found : ℕ) → IsByShown kind →
     shown (next instance scene kind (holding l o) found) ≡ shown_next instance kind (holding l (option_map blank o)) found
-next_holding instance scene (WriteCell j i v) l o found by = refl
 next_holding instance scene (Link j) l o found by =
     elim (found == seen_word l.seen_slot) as (λ b. shown (cond b (linked (holding l o) j) (lost instance.callers (holding l o) found)) ≡ cond b (linked (holding l (option_map blank o)) j) (lost instance.callers (holding l (option_map blank o)) found))
     [ true ↦ refl | false ↦ refl ]
-next_holding instance scene (Look s) l o found by = refl
-next_holding instance scene (ReadCell t k i) l o found by = refl
-next_holding instance scene LoadFree l o found by = refl
 next_holding instance scene (TryExclusive r) l o found by =
     let region = length instance.base.words in
     elim (found == 0) as (λ b. shown (cond b (taken instance scene r (holding l o)) (refused_by instance.callers r (holding l o) found))
@@ -64,28 +60,17 @@ next_holding instance scene (TryShared r) l o found by =
     elim (nat_lt found exclusive_mark) as (λ b. shown (cond b (shared_by r (holding l o) found) (passing instance.callers r (holding l o) found))
     ≡ cond b (shared_by r (holding l (option_map blank o)) found) (passing instance.callers r (holding l (option_map blank o)) found)) [ true ↦ refl | false ↦ refl ]
 next_holding instance scene (BackOff r) l o found by = backed_shown r l o (is_at r (shared_on l)) (is_at r l.passer)
-next_holding instance scene (LoadWord r i refused) l o found by = refl
 next_holding instance scene (StoreWord r i v) l None found by = refl
 next_holding instance scene (StoreWord r i v) l (Some h) found by = refl
 next_holding instance scene (Downgrade r) l o found by = absurd by
 next_holding instance scene (ReleaseExclusive r) l o found by = absurd by
 next_holding instance scene (Persist r i) l o found by = absurd by
-next_holding instance scene LoadCur l o found by = refl
 next_holding instance scene Publish l o found by =
     elim (found == l.seen_cur) as (λ b. shown (cond b (published instance.callers (holding l o)) (outrun instance.callers (holding l o) found))
     ≡ cond b (published instance.callers (holding l (option_map blank o))) (outrun instance.callers (holding l (option_map blank o)) found)) [ true ↦ refl | false ↦ refl ]
 next_holding instance scene (Raise code read) l o found by = absurd by
-next_holding instance scene Retire l o found by = refl
-next_holding instance scene (Protect p) l o found by = refl
-next_holding instance scene Confirm l o found by = refl
-next_holding instance scene Unprotect l o found by = refl
-next_holding instance scene (CloseLow target) l o found by = refl
-next_holding instance scene (Scan d) l o found by = refl
-next_holding instance scene OpenFree l o found by = refl
-next_holding instance scene (WriteSet j i v) l o found by = refl
 next_holding instance scene (Offer j) l o found by = absurd by
-next_holding instance scene (LoadOffer k t) l o found by = refl
-next_holding instance scene (ReadSet k t i) l o found by = refl
+next_holding instance scene kind l o found by = refl
 
 -- what is shown of the local state after a step is what the step makes of the one that is shown
 pub next_shown : (instance : Instance) (scene : Scene) (kind : Kind) (l : Local) (found : ℕ) → IsByShown kind → shown (next instance scene kind l found) ≡ shown_next instance kind (shown l) found
@@ -93,97 +78,35 @@ next_shown instance scene kind l found by = next_holding instance scene kind l l
 
 -- where what is known is by what is shown
 known_by_shown : (instance : Instance) (kind : Kind) (k : Known) (found : ℕ) → IsByShown kind → known_local instance kind k found ≡ shown_next instance kind k.local found
-known_by_shown instance (WriteCell j i v) k found by = refl
-known_by_shown instance (Link j) k found by = refl
-known_by_shown instance (Look s) k found by = refl
-known_by_shown instance (ReadCell t c i) k found by = refl
-known_by_shown instance LoadFree k found by = refl
-known_by_shown instance (TryExclusive r) k found by = refl
-known_by_shown instance (TryShared r) k found by = refl
-known_by_shown instance (BackOff r) k found by = refl
-known_by_shown instance (LoadWord r i refused) k found by = refl
-known_by_shown instance (StoreWord r i v) k found by = refl
 known_by_shown instance (Downgrade r) k found by = absurd by
 known_by_shown instance (ReleaseExclusive r) k found by = absurd by
 known_by_shown instance (Persist r i) k found by = absurd by
-known_by_shown instance LoadCur k found by = refl
-known_by_shown instance Publish k found by = refl
 known_by_shown instance (Raise code read) k found by = absurd by
-known_by_shown instance Retire k found by = refl
-known_by_shown instance (Protect p) k found by = refl
-known_by_shown instance Confirm k found by = refl
-known_by_shown instance Unprotect k found by = refl
-known_by_shown instance (CloseLow target) k found by = refl
-known_by_shown instance (Scan d) k found by = refl
-known_by_shown instance OpenFree k found by = refl
-known_by_shown instance (WriteSet j i v) known found by = refl
 known_by_shown instance (Offer j) known found by = absurd by
-known_by_shown instance (LoadOffer k t) known found by = refl
-known_by_shown instance (ReadSet k t i) known found by = refl
+known_by_shown instance kind k found by = refl
 
 pub known_shown : (instance : Instance) (scene : Scene) (kind : Kind) (k : Known) (l : Local) (found : ℕ) → IsByShown kind → k.local ≡ shown l → known_local instance kind k found ≡ shown (next instance scene kind l found)
 known_shown instance scene kind k l found by shows = known_by_shown instance kind k found by ∙ ap (λ (x : Local). shown_next instance kind x found) shows ∙ sym (next_shown instance scene kind l found by)
 
 guard_holding : (instance : Instance) (scene : Scene) (kind : Kind) (l : Local) (o : Option HeldExclusive) → IsByShown kind → Guard instance scene kind (holding l (option_map blank o)) → Guard instance scene kind (holding l o)
 guard_holding instance scene kind l None by g = g
-guard_holding instance scene (WriteCell j i v) l (Some h) by g = g
-guard_holding instance scene (Link j) l (Some h) by g = g
-guard_holding instance scene (Look s) l (Some h) by g = g
-guard_holding instance scene (ReadCell t k i) l (Some h) by g = g
-guard_holding instance scene LoadFree l (Some h) by g = g
-guard_holding instance scene (TryExclusive r) l (Some h) by g = g
-guard_holding instance scene (TryShared r) l (Some h) by g = g
-guard_holding instance scene (BackOff r) l (Some h) by g = g
-guard_holding instance scene (LoadWord r i refused) l (Some h) by g = g
-guard_holding instance scene (StoreWord r i v) l (Some h) by g = g
 guard_holding instance scene (Downgrade r) l (Some h) by g = absurd by
 guard_holding instance scene (ReleaseExclusive r) l (Some h) by g = absurd by
 guard_holding instance scene (Persist r i) l (Some h) by g = absurd by
-guard_holding instance scene LoadCur l (Some h) by g = g
-guard_holding instance scene Publish l (Some h) by g = g
 guard_holding instance scene (Raise code read) l (Some h) by g = absurd by
-guard_holding instance scene Retire l (Some h) by g = g
-guard_holding instance scene (Protect p) l (Some h) by g = g
-guard_holding instance scene Confirm l (Some h) by g = g
-guard_holding instance scene Unprotect l (Some h) by g = g
-guard_holding instance scene (CloseLow target) l (Some h) by g = g
-guard_holding instance scene (Scan d) l (Some h) by g = g
-guard_holding instance scene OpenFree l (Some h) by g = g
-guard_holding instance scene (WriteSet j i v) l (Some h) by g = g
 guard_holding instance scene (Offer j) l (Some h) by g = absurd by
-guard_holding instance scene (LoadOffer k t) l (Some h) by g = g
-guard_holding instance scene (ReadSet k t i) l (Some h) by g = g
+guard_holding instance scene kind l (Some h) by g = g
 
 -- a guard that does not look at the scene
 guard_seen : (instance : Instance) (scene : Scene) (kind : Kind) (l : Local) → IsByShown kind → Guard instance unseen kind l → Guard instance scene kind l
-guard_seen instance scene (WriteCell j i v) l by g = g
-guard_seen instance scene (Link j) l by g = g
-guard_seen instance scene (Look s) l by g = g
-guard_seen instance scene (ReadCell t k i) l by g = g
-guard_seen instance scene LoadFree l by g = g
-guard_seen instance scene (TryExclusive r) l by g = g
-guard_seen instance scene (TryShared r) l by g = g
-guard_seen instance scene (BackOff r) l by g = g
 guard_seen instance scene (LoadWord r i true) l by g = absurd by
 guard_seen instance scene (LoadWord r i false) l by g = (g.0, λ t. absurd (false≢true t))
-guard_seen instance scene (StoreWord r i v) l by g = g
 guard_seen instance scene (Downgrade r) l by g = absurd by
 guard_seen instance scene (ReleaseExclusive r) l by g = absurd by
 guard_seen instance scene (Persist r i) l by g = absurd by
-guard_seen instance scene LoadCur l by g = g
-guard_seen instance scene Publish l by g = g
 guard_seen instance scene (Raise code read) l by g = absurd by
-guard_seen instance scene Retire l by g = g
-guard_seen instance scene (Protect p) l by g = g
-guard_seen instance scene Confirm l by g = g
-guard_seen instance scene Unprotect l by g = g
-guard_seen instance scene (CloseLow target) l by g = g
-guard_seen instance scene (Scan d) l by g = g
-guard_seen instance scene OpenFree l by g = g
-guard_seen instance scene (WriteSet j i v) l by g = g
 guard_seen instance scene (Offer j) l by g = absurd by
-guard_seen instance scene (LoadOffer k t) l by g = g
-guard_seen instance scene (ReadSet k t i) l by g = g
+guard_seen instance scene kind l by g = g
 
 -- a guard over what is shown is the guard
 pub guard_shown : (instance : Instance) (scene : Scene) (kind : Kind) (l : Local) → IsByShown kind → Guard instance unseen kind (shown l) → Guard instance scene kind l
@@ -191,62 +114,14 @@ guard_shown instance scene kind l by guard = guard_seen instance scene kind l by
 
 -- the word that a step is on, and what it becomes
 pub word_shown : (instance : Instance) (kind : Kind) (l : Local) → step_word instance kind (shown l) ≡ step_word instance kind l
-word_shown instance (WriteCell j i v) l = refl
 word_shown instance (Link j) l = refl
-word_shown instance (Look s) l = refl
-word_shown instance (ReadCell t k i) l = refl
-word_shown instance LoadFree l = refl
-word_shown instance (TryExclusive r) l = refl
-word_shown instance (TryShared r) l = refl
-word_shown instance (BackOff r) l = refl
-word_shown instance (Downgrade r) l = refl
-word_shown instance (ReleaseExclusive r) l = refl
-word_shown instance (LoadWord r i refused) l = refl
-word_shown instance (StoreWord r i v) l = refl
-word_shown instance (Persist r i) l = refl
-word_shown instance LoadCur l = refl
-word_shown instance Publish l = refl
-word_shown instance (Raise code read) l = refl
-word_shown instance Retire l = refl
-word_shown instance (Protect p) l = refl
-word_shown instance Confirm l = refl
-word_shown instance Unprotect l = refl
-word_shown instance (CloseLow target) l = refl
-word_shown instance (Scan d) l = refl
-word_shown instance OpenFree l = refl
-word_shown instance (WriteSet j i v) l = refl
-word_shown instance (Offer j) l = refl
-word_shown instance (LoadOffer k t) l = refl
-word_shown instance (ReadSet k t i) l = refl
+word_shown instance kind l = refl
 
 pub put_shown : (instance : Instance) (kind : Kind) (l : Local) (found : ℕ) → IsByShown kind → new_word instance kind (shown l) found ≡ new_word instance kind l found
-put_shown instance (WriteCell j i v) l found by = refl
-put_shown instance (Link j) l found by = refl
-put_shown instance (Look s) l found by = refl
-put_shown instance (ReadCell t k i) l found by = refl
-put_shown instance LoadFree l found by = refl
-put_shown instance (TryExclusive r) l found by = refl
-put_shown instance (TryShared r) l found by = refl
-put_shown instance (BackOff r) l found by = refl
-put_shown instance (Downgrade r) l found by = refl
-put_shown instance (ReleaseExclusive r) l found by = refl
-put_shown instance (LoadWord r i refused) l found by = refl
-put_shown instance (StoreWord r i v) l found by = refl
 put_shown instance (Persist r i) l found by = absurd by
-put_shown instance LoadCur l found by = refl
-put_shown instance Publish l found by = refl
 put_shown instance (Raise code read) l found by = absurd by
-put_shown instance Retire l found by = refl
-put_shown instance (Protect p) l found by = refl
-put_shown instance Confirm l found by = refl
-put_shown instance Unprotect l found by = refl
-put_shown instance (CloseLow target) l found by = refl
-put_shown instance (Scan d) l found by = refl
-put_shown instance OpenFree l found by = refl
-put_shown instance (WriteSet j i v) l found by = refl
 put_shown instance (Offer j) l found by = absurd by
-put_shown instance (LoadOffer k t) l found by = refl
-put_shown instance (ReadSet k t i) l found by = refl
+put_shown instance kind l found by = refl
 
 -- the rights of a local state are those of what is shown of it
 shown_rights : (l : Local) → SameRights l (shown l)
@@ -260,31 +135,8 @@ shown_rights l = record { exclusive = on l.exclusive; shared = refl; passer = re
 pub told_shown : (instance : Instance) (kind : Kind) (l : Local) (found : ℕ) → Told instance kind l found → Told instance kind (shown l) found
 told_shown instance (Link j) l found told = record { names = told.names; later = told.later }
 told_shown instance (Look s) l found told = record { names = told.names; greatest = told.greatest; live = told.live }
-told_shown instance (WriteCell j i v) l found told = tt
-told_shown instance (ReadCell t k i) l found told = tt
-told_shown instance LoadFree l found told = told
-told_shown instance (TryExclusive r) l found told = tt
-told_shown instance (TryShared r) l found told = tt
-told_shown instance (BackOff r) l found told = tt
-told_shown instance (Downgrade r) l found told = tt
-told_shown instance (ReleaseExclusive r) l found told = tt
-told_shown instance (LoadWord r i refused) l found told = tt
-told_shown instance (StoreWord r i v) l found told = tt
-told_shown instance (Persist r i) l found told = tt
 told_shown instance LoadCur l found told = record { most = told.most; apart = λ held. told.apart (sym (shown_rights l).exclusive ∙ held) }
-told_shown instance Publish l found told = told
-told_shown instance (Raise code read) l found told = tt
-told_shown instance Retire l found told = tt
-told_shown instance (Protect p) l found told = tt
-told_shown instance Confirm l found told = told
-told_shown instance Unprotect l found told = tt
-told_shown instance (CloseLow target) l found told = tt
-told_shown instance (Scan d) l found told = told
-told_shown instance OpenFree l found told = told
-told_shown instance (WriteSet j i v) l found told = tt
-told_shown instance (Offer j) l found told = tt
-told_shown instance (LoadOffer k t) l found told = tt
-told_shown instance (ReadSet k t i) l found told = told
+told_shown instance kind l found told = told
 
 -- what the lawful state says of a local state by itself, it says of what is shown of it
 pub lawful_shown : (instance : Instance) (l : Local) → IsLawfulLocal instance l → IsLawfulLocal instance (shown l)

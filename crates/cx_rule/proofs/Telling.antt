@@ -5,7 +5,7 @@ use Rattle.std.specs.List.{slice_get}
 use Rattle.cx_base.specs.Codes.{link_cell_of, link_code_of, link_ticket_of, root_replica_of}
 use Rattle.cx_core.specs.declared.entry.Entry.{Entry}
 use Rattle.cx_core.specs.declared.kinds.Kind.{Kind}
-use Rattle.cx_core.specs.declared.kinds.Kind.TheVariants.{WriteCell, Link, Look, ReadCell, LoadFree, TryExclusive, TryShared, BackOff, Downgrade, ReleaseExclusive, LoadWord, StoreWord, Persist, LoadCur, Publish, Raise, Retire, Protect, Confirm, Unprotect, CloseLow, Scan, OpenFree, WriteSet, Offer, LoadOffer, ReadSet}
+use Rattle.cx_core.specs.declared.kinds.Kind.TheVariants.{Link, Look, ReadCell, LoadFree, LoadCur, Publish, Confirm, Scan, OpenFree, ReadSet}
 use Rattle.cx_core.specs.declared.local.Local.{Local}
 use Rattle.cx_core.specs.declared.local.SeenSlot.{SeenSlot}
 use Rattle.cx_core.specs.declared.local.Protection.{Protection}
@@ -166,30 +166,13 @@ count_told instance s law caller l k t i at first guard =
 -- what a step tells of the word found
 pub told_holds : (instance : Instance) (kind : Kind) (s : State) (law : Lawful instance s) (caller : ℕ) (l : Local) → slice_get s.locals caller ≡ Some l → Guard instance (scene_of instance s) kind l →
     Told instance kind l (found_by instance kind l s.words)
-told_holds instance (WriteCell j i v) s law caller l at guard = tt
 told_holds instance (Link j) s law caller l at guard = link_told instance s law caller l at guard.4
 told_holds instance (Look slot) s law caller l at guard = look_told instance s law caller l slot at guard
-told_holds instance (ReadCell t k i) s law caller l at guard = tt
 told_holds instance LoadFree s law caller l at guard = (law.fronts.each caller l at).free
-told_holds instance (TryExclusive r) s law caller l at guard = tt
-told_holds instance (TryShared r) s law caller l at guard = tt
-told_holds instance (BackOff r) s law caller l at guard = tt
-told_holds instance (Downgrade r) s law caller l at guard = tt
-told_holds instance (ReleaseExclusive r) s law caller l at guard = tt
-told_holds instance (LoadWord r i refused) s law caller l at guard = tt
-told_holds instance (StoreWord r i v) s law caller l at guard = tt
-told_holds instance (Persist r i) s law caller l at guard = tt
 told_holds instance LoadCur s law caller l at guard = cur_told instance s law caller l at
 told_holds instance Publish s law caller l at guard = (law.root.each caller l at).seen.most
-told_holds instance (Raise code read) s law caller l at guard = tt
-told_holds instance Retire s law caller l at guard = tt
-told_holds instance (Protect p) s law caller l at guard = tt
 told_holds instance Confirm s law caller l at guard = (law.fronts.each caller l at).low
-told_holds instance Unprotect s law caller l at guard = tt
-told_holds instance (CloseLow target) s law caller l at guard = tt
 told_holds instance (Scan d) s law caller l at guard = own_need instance s law caller l d at
 told_holds instance OpenFree s law caller l at guard = (law.fronts.each caller l at).free
-told_holds instance (WriteSet j i v) s law caller l at guard = tt
-told_holds instance (Offer j) s law caller l at guard = tt
-told_holds instance (LoadOffer k t) s law caller l at guard = tt
 told_holds instance (ReadSet k t i) s law caller l at guard = λ first. count_told instance s law caller l k t i at first guard
+told_holds instance kind s law caller l at guard = tt

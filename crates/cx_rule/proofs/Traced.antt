@@ -7,7 +7,7 @@ use Rattle.std.specs.Option.{option_map}
 use Rattle.cx_base.specs.Noted.{Note, load_leads, store_leads}
 use Rattle.cx_core.specs.declared.entry.Entry.{Entry}
 use Rattle.cx_core.specs.declared.kinds.Kind.{Kind}
-use Rattle.cx_core.specs.declared.kinds.Kind.TheVariants.{WriteCell, Link, Look, ReadCell, LoadFree, TryExclusive, TryShared, BackOff, Downgrade, ReleaseExclusive, LoadWord, StoreWord, Persist, LoadCur, Publish, Raise, Retire, Protect, Confirm, Unprotect, CloseLow, Scan, OpenFree, WriteSet, Offer, LoadOffer, ReadSet}
+use Rattle.cx_core.specs.declared.kinds.Kind.TheVariants.{Link, TryExclusive, TryShared, BackOff, Downgrade, ReleaseExclusive, LoadWord, StoreWord, Persist, Publish}
 use Rattle.cx_core.specs.declared.local.HeldExclusive.{HeldExclusive}
 use Rattle.cx_core.specs.declared.local.Local.{Local}
 use Rattle.cx_core.specs.Events.{Guard, found_by, local_after}
@@ -156,13 +156,9 @@ module _ (instance : Instance) (s : State) (law : Lawful instance s) (caller : �
   }
 
   pub traced_next : (kind : Kind) → Guard instance (scene_of instance s) kind l → WordFits kind → Traced (accesses_after kind k (found_by instance kind l s.words)) (local_after instance (scene_of instance s) kind l)
-  traced_next (WriteCell j i v) guard small = same_held _ refl
   traced_next (Link j) guard small =
       let found = found_by instance (Link j) l s.words in
       elim (found == seen_word l.seen_slot) as (λ b. Traced k.accesses (cond b (linked l j) (lost instance.callers l found))) [ true ↦ same_held _ refl | false ↦ same_held _ refl ]
-  traced_next (Look t) guard small = same_held _ refl
-  traced_next (ReadCell t c i) guard small = same_held _ refl
-  traced_next LoadFree guard small = same_held _ refl
   traced_next (TryExclusive r) guard small =
       let found = found_by instance (TryExclusive r) l s.words in
       let P : Bool → Type 0 = λ b. Traced [] (cond b (taken instance (scene_of instance s) r l) (refused_by instance.callers r l found)) in
@@ -190,19 +186,7 @@ module _ (instance : Instance) (s : State) (law : Lawful instance s) (caller : �
     leads = traced.leads;
     held = λ x has. (let from = mapped (persisted i) l.exclusive x has in traced.held from.0 from.1 ∙ ap (λ (y : HeldExclusive). y.words) from.2);
   }
-  traced_next LoadCur guard small = same_held _ refl
   traced_next Publish guard small =
       let found = found_by instance Publish l s.words in
       elim (found == l.seen_cur) as (λ b. Traced k.accesses (cond b (published instance.callers l) (outrun instance.callers l found))) [ true ↦ same_held _ refl | false ↦ same_held _ refl ]
-  traced_next (Raise code read) guard small = same_held _ refl
-  traced_next Retire guard small = same_held _ refl
-  traced_next (Protect p) guard small = same_held _ refl
-  traced_next Confirm guard small = same_held _ refl
-  traced_next Unprotect guard small = same_held _ refl
-  traced_next (CloseLow target) guard small = same_held _ refl
-  traced_next (Scan d) guard small = same_held _ refl
-  traced_next OpenFree guard small = same_held _ refl
-  traced_next (WriteSet j i v) guard small = same_held _ refl
-  traced_next (Offer j) guard small = same_held _ refl
-  traced_next (LoadOffer k t) guard small = same_held _ refl
-  traced_next (ReadSet k t i) guard small = same_held _ refl
+  traced_next kind guard small = same_held _ refl

@@ -1,5 +1,0 @@
-use Rattle.core_queue.proofs.Keeps.{queue_event_kept}
-use Rattle.core_queue.proofs.kinds.read_set_keeps.Goals as goal
-
-pub returns : goal.returns
-returns c = λ k t i instance history before after caller law bounds made. queue_event_kept instance history _ before after law bounds made

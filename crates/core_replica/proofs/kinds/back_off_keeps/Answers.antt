@@ -1,5 +1,0 @@
-use Rattle.core_replica.proofs.Replicas.{replicas_event_kept}
-use Rattle.core_replica.proofs.kinds.back_off_keeps.Goals as goal
-
-pub returns : goal.returns
-returns c = λ r instance history before after caller shape merged law made. replicas_event_kept instance history _ before after shape merged law made

@@ -1,5 +1,0 @@
-use Rattle.core_root.proofs.FreeLaws.{some_free}
-use Rattle.core_root.proofs.free.some_replica_is_free.Goals as goal
-
-pub returns : goal.returns
-returns c = λ instance s caller l shape locks at none. some_free instance s.words s.locals caller l shape locks at none

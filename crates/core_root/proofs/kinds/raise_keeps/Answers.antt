@@ -1,5 +1,0 @@
-use Rattle.core_root.proofs.Keeps.{root_event_kept}
-use Rattle.core_root.proofs.kinds.raise_keeps.Goals as goal
-
-pub returns : goal.returns
-returns c = λ code read. root_event_kept _
