@@ -6,7 +6,7 @@ use Rattle.std.proofs.lemmas.List.Elements.{All-set, All-head, All-tail, All-con
 use Rattle.std.proofs.lemmas.Bool.{cases_order}
 use Rattle.cx_base.specs.Memory.{Words, overwritten}
 use Rattle.cx_core.specs.Region.{region_words, place_of, slot_start, slot_number, slot_reply, object_part, LawfulResults}
-use Rattle.cx_core.specs.Base.{LawfulBase}
+use Rattle.cx_core.specs.Base.{Keeps, LawfulBase}
 use Rattle.cx_core.specs.Step.{full_step_of}
 use Rattle.cx_core.specs.declared.entry.Base.{Base}
 use Rattle.cx_core.specs.declared.entry.Entry.{Entry}
@@ -187,14 +187,7 @@ module _ (lines : ℕ) (lawful : List ℕ → Type 0) (base : Base) (image reply
     numbers = next_numbers most;
   }
 
--- what a full step keeps of a lawful base
-pub record Keeps (lines : ℕ) (lawful : List ℕ → Type 0) (step : List ℕ → List ℕ → List ℕ × List ℕ) (base : Base) (entry : Entry) (next : Base) : Type 0 where
-  pub lawful_next : LawfulBase lines lawful next
-  pub object : object_part next.words ≡ (step (object_part base.words) entry.op).0
-  pub number : slot_number entry.caller next.words ≡ entry.number
-  pub reply : slot_reply entry.caller next.words ≡ (step (object_part base.words) entry.op).1
-  pub others : (c : ℕ) → c < 8 → (c < entry.caller) ⊎ (entry.caller < c) → (slot_number c next.words ≡ slot_number c base.words) × (slot_reply c next.words ≡ slot_reply c base.words)
-
+-- a full step keeps these of a lawful base
 pub keeps : (lines : ℕ) (lawful : List ℕ → Type 0) (step : List ℕ → List ℕ → List ℕ × List ℕ) (base : Base) (entry : Entry) (next : Base) →
     LawfulBase lines lawful base → base.place < 2 ^ 40 → entry.caller < 8 → 0 < entry.number → entry.number ≤ base.place + 1 →
     lawful (step (object_part base.words) entry.op).0 → Words (8 * lines) (step (object_part base.words) entry.op).0 → Words 144 (step (object_part base.words) entry.op).1 →

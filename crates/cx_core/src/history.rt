@@ -1,10 +1,9 @@
 //! The laws of the full step and of the full image after a place.
 
-ghost use Rattle.std.specs.Prelude.{◌≡◌, ◌+◌, ◌-◌, ◌^◌, ◌<◌, ◌≤◌, ◌⊎◌, ◌++◌, ℕ, List, IfSome, drop, length, slice_get, take};
-ghost use Rattle.cx_base.specs.Memory.{Words};
-ghost use Rattle.cx_core.specs.Base.{LawfulBase};
-ghost use Rattle.cx_core.specs.History.{AreLawful, full_image, image_from};
-ghost use Rattle.cx_core.specs.Region.{object_part, place_of, slot_number, slot_reply};
+ghost use Rattle.std.specs.Prelude.{◌≡◌, ◌+◌, ◌-◌, ◌^◌, ◌<◌, ◌≤◌, ◌++◌, ℕ, List, IfSome, drop, length, slice_get, take};
+ghost use Rattle.cx_core.specs.Base.{Keeps, LawfulBase};
+ghost use Rattle.cx_core.specs.History.{AreLawful, IsLawfulEntry, full_image, image_from};
+ghost use Rattle.cx_core.specs.Region.{place_of};
 ghost use Rattle.cx_core.specs.State.{Instance};
 ghost use Rattle.cx_core.specs.Step.{full_step_of};
 
@@ -28,17 +27,10 @@ pub fn full_image_goes_on<O: Object>(object: &O, base: &Base, history: &[Entry],
 pub fn full_step_keeps<O: Object>(object: &O, base: &Base, entry: &Entry, next: &Base)
     requires lawful { LawfulBase (O.line_count object.now) (O.lawful object.now) base.now }
     requires place { base.now.place < 2 ^ 40 }
-    requires caller { entry.now.caller < 8 }
-    requires numbered { 0 < entry.now.number }
-    requires number { entry.now.number ≤ base.now.place + 1 }
-    requires op { Words 144 entry.now.op }
+    requires entry { IsLawfulEntry base.now.place entry.now }
     requires next_place { next.now.place ≡ base.now.place + 1 }
     requires next_words { next.now.words ≡ full_step_of (O.step object.now) entry.now base.now.words }
-    ensures lawful { LawfulBase (O.line_count object.now) (O.lawful object.now) next.now }
-    ensures object { object_part next.now.words ≡ (O.step object.now (object_part base.now.words) entry.now.op).0 }
-    ensures number { slot_number entry.now.caller next.now.words ≡ entry.now.number }
-    ensures reply { slot_reply entry.now.caller next.now.words ≡ (O.step object.now (object_part base.now.words) entry.now.op).1 }
-    ensures others { (caller : ℕ) → caller < 8 → (caller < entry.now.caller) ⊎ (entry.now.caller < caller) → (slot_number caller next.now.words ≡ slot_number caller base.now.words) × (slot_reply caller next.now.words ≡ slot_reply caller base.now.words) }
+    ensures { Keeps (O.line_count object.now) (O.lawful object.now) (O.step object.now) base.now entry.now next.now }
 {}
 
 /// The law that a longer history has the same full images up to the old end.

@@ -1,9 +1,10 @@
 //! The full step of an entry, over any object and any writable memory of a region.
 
-ghost use Rattle.std.specs.Prelude.{◌≡◌, ◌+◌, ◌*◌, ◌^◌, ◌<◌, ◌≤◌, ℕ, List, length, slice_set, IsTrue, OnOk, OnErr, IfOk, Some};
-ghost use Rattle.cx_base.specs.Memory.{Becomes, Framed, Always, overwritten};
-ghost use Rattle.cx_core.specs.Region.{region_words, place_of, object_part};
-ghost use Rattle.cx_core.specs.Step.{full_step_of, OnPart};
+ghost use Rattle.std.specs.Prelude.{◌≡◌, ◌^◌, ◌<◌};
+ghost use Rattle.cx_base.specs.Calls.{Changes};
+ghost use Rattle.cx_base.specs.Memory.{Always};
+ghost use Rattle.cx_core.specs.Region.{place_of, object_part};
+ghost use Rattle.cx_core.specs.Step.{HasRegion, OnPart, full_step_of};
 
 use crate::entry::Entry;
 use crate::part::Part;
@@ -14,15 +15,11 @@ use cx_base::{Halt, Memory, Object, load_below, store_word, store_words};
 /// the slot of the entry's caller, and 1 added to the place. Of the slot it stores only the words that differ.
 /// `Halt` comes only where no access is left.
 pub fn full_step<O: Object, M: Memory>(object: &O, mem: &mut M, entry: &Entry) -> Result<(), Halt>
-    requires size { M.size mem.old ≡ region_words (O.line_count object.now) }
-    requires small { region_words (O.line_count object.now) < 2 ^ 64 }
-    requires writable { IsTrue (M.writable mem.old) }
+    requires region { HasRegion M.Memory (O.line_count object.now) mem.old }
     requires place { Always (M.stands mem.old) (λ region. place_of region < 2 ^ 40) }
     requires lawful { Always (M.stands mem.old) (λ region. O.lawful object.now (object_part region)) }
     requires caller { entry.now.caller < 8 }
-    ensures done { OnOk result (Becomes (M.stands mem.old) (M.stands mem.new) (λ before now. now ≡ full_step_of (O.step object.now) entry.now before)) }
-    ensures halts { OnErr result (M.left mem.new ≡ Some 0) }
-    ensures framed { Framed M.size M.fixed M.writable M.left mem.old mem.new }
+    ensures { Changes M.Memory mem.old mem.new result (λ _ before now. now ≡ full_step_of (O.step object.now) entry.now before) }
 {
     let place = load_below(mem, PLACE_AT, PLACE_END)?;
     let reply = run_part(object, mem, &entry.op)?;
@@ -39,13 +36,9 @@ fn run_part<O: Object, M: Memory>(
     mem: &mut M,
     op: &[u64; 144],
 ) -> Result<[u64; 144], Halt>
-    requires size { M.size mem.old ≡ region_words (O.line_count object.now) }
-    requires small { region_words (O.line_count object.now) < 2 ^ 64 }
-    requires writable { IsTrue (M.writable mem.old) }
+    requires region { HasRegion M.Memory (O.line_count object.now) mem.old }
     requires lawful { Always (M.stands mem.old) (λ region. O.lawful object.now (object_part region)) }
-    ensures done { IfOk result (λ reply. Becomes (M.stands mem.old) (M.stands mem.new) (OnPart OBJECT_START (λ before now. O.step object.now before op.now ≡ (now, reply)))) }
-    ensures halts { OnErr result (M.left mem.new ≡ Some 0) }
-    ensures framed { Framed M.size M.fixed M.writable M.left mem.old mem.new }
+    ensures { Changes M.Memory mem.old mem.new result (λ reply. OnPart OBJECT_START (λ before now. O.step object.now before op.now ≡ (now, reply))) }
 {
     let len = LINE_WORDS * object.lines();
     let mut part = Part {
@@ -58,12 +51,8 @@ fn run_part<O: Object, M: Memory>(
 
 /// Makes the opening image in the object part of a region.
 pub fn format_part<O: Object, M: Memory>(object: &O, mem: &mut M) -> Result<(), Halt>
-    requires size { M.size mem.old ≡ region_words (O.line_count object.now) }
-    requires small { region_words (O.line_count object.now) < 2 ^ 64 }
-    requires writable { IsTrue (M.writable mem.old) }
-    ensures done { OnOk result (Becomes (M.stands mem.old) (M.stands mem.new) (OnPart OBJECT_START (λ _ now. now ≡ O.opening object.now))) }
-    ensures halts { OnErr result (M.left mem.new ≡ Some 0) }
-    ensures framed { Framed M.size M.fixed M.writable M.left mem.old mem.new }
+    requires region { HasRegion M.Memory (O.line_count object.now) mem.old }
+    ensures { Changes M.Memory mem.old mem.new result (λ _. OnPart OBJECT_START (λ _ now. now ≡ O.opening object.now)) }
 {
     let len = LINE_WORDS * object.lines();
     let mut part = Part {

@@ -9,7 +9,7 @@ use Rattle.cx_core.specs.declared.entry.Base.{Base}
 use Rattle.cx_core.specs.declared.entry.Entry.{Entry}
 use Rattle.cx_core.specs.declared.local.Linked.{Linked}
 use Rattle.cx_core.specs.declared.local.Local.{Local}
-use Rattle.cx_core.specs.Base.{LawfulBase}
+use Rattle.cx_core.specs.Base.{Keeps, LawfulBase}
 use Rattle.cx_core.specs.History.{AreLawful, full_image, image_after}
 use Rattle.cx_core.specs.Lawful.{Tickets}
 use Rattle.cx_core.specs.Merge.{IsLinked, own_of}
@@ -86,7 +86,7 @@ module _ (lines : ℕ) (lawful : List ℕ → Type 0) (instance : Instance) (law
   at_place place = record { place = place; words = full place }
 
   -- what the full step of a linked entry keeps
-  kept_at : (ticket : ℕ) (entry : Entry) → IsLinked instance.base.place history ticket entry → keep.Keeps lines lawful instance.step (at_place ticket) entry (at_place (ticket + 1))
+  kept_at : (ticket : ℕ) (entry : Entry) → IsLinked instance.base.place history ticket entry → Keeps lines lawful instance.step (at_place ticket) entry (at_place (ticket + 1))
   kept_at ticket entry linked =
       let from = linked.from in
       let within = linked_within instance.base.place history ticket entry linked in

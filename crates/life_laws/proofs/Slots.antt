@@ -2,7 +2,7 @@
 use Rattle.std.proofs.Common.{◌≡◌, ◌≢◌, ◌+◌, ◌^◌, ◌<◌, ◌≤◌, inl, inr, ℕ, zero, suc, cond, List, [], ◌∷◌, length, take, Option, None, Some, refl, sym, ap, subst, ◌∙◌, arith}
 use Rattle.std.specs.List.{cons_option, slice_get}
 use Rattle.std.proofs.lemmas.Bool.{cases_eq, cases_order, eq-eqb, ne_eqb}
-use Rattle.cx_core.specs.Base.{LawfulBase}
+use Rattle.cx_core.specs.Base.{Keeps, LawfulBase}
 use Rattle.cx_core.specs.History.{AreLawful, IsLawfulEntry, image_from}
 use Rattle.cx_core.specs.Merge.{own_of}
 use Rattle.cx_core.specs.Region.{object_part, slot_number, slot_reply}
@@ -10,7 +10,7 @@ use Rattle.cx_core.specs.Step.{full_step_of}
 use Rattle.cx_core.specs.declared.entry.Base.{Base}
 use Rattle.cx_core.specs.declared.entry.Entry.{Entry}
 use Rattle.cx_core.specs.declared.local.Linked.{Linked}
-use Rattle.cx_core.proofs.KeepLemmas.{Keeps, keeps}
+use Rattle.cx_core.proofs.KeepLemmas.{keeps}
 use Rattle.cx_core.proofs.MergeLemmas.{own_mine, own_other}
 use Rattle.journals.specs.Works.{HasWords}
 use Rattle.life_laws.specs.Begins.{Begun, IsBaseOf, begun_after, with_result, words_to}

@@ -8,8 +8,7 @@ returns g c =
     let law = c.requires.lawful in
     let image = object_part c.args.base.now.words in
     let op = c.args.entry.now.op in
-    let image_lawful = g.met.O.Object.keeps o image op law.object c.requires.op in
+    let image_lawful = g.met.O.Object.keeps o image op law.object c.requires.entry.op in
     let shape = g.met.O.Object.shape o (g.O.Object.step o image op).0 image_lawful in
-    let reply_words = g.met.O.Object.replies o image op law.object c.requires.op in
-    let k = keeps (g.O.Object.line_count o) (g.O.Object.lawful o) (g.O.Object.step o) c.args.base.now c.args.entry.now c.args.next.now law c.requires.place c.requires.caller c.requires.numbered c.requires.number image_lawful shape.0 reply_words c.requires.next_place c.requires.next_words in
-    record { lawful = k.lawful_next; object = k.object; number = k.number; reply = k.reply; others = k.others }
+    let reply_words = g.met.O.Object.replies o image op law.object c.requires.entry.op in
+    keeps (g.O.Object.line_count o) (g.O.Object.lawful o) (g.O.Object.step o) c.args.base.now c.args.entry.now c.args.next.now law c.requires.place c.requires.entry.caller c.requires.entry.some c.requires.entry.most image_lawful shape.0 reply_words c.requires.next_place c.requires.next_words

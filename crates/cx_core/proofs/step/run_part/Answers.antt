@@ -11,15 +11,20 @@ unfolding object_part
 run-requires-clause-lawful g c =
     let len = 8 * c.lines-len.result in
     part_always (g.O.Object.lawful c.args.object.now) 1168 len
-    (λ first now s. omega (arith, (g.met.M.Memory.words c.args.mem.now first now s).long, c.requires.size, c.lines-len.ensures))
+    (λ first now s. omega (arith, (g.met.M.Memory.words c.args.mem.now first now s).long, c.requires.region.size, c.lines-len.ensures))
     c.requires.lawful
 
-pub returns-clause-done : goal.returns-clause-done
-returns-clause-done g c =
-    let start : (n : ℕ) → n ≡ 8 * c.lines-len.result → g.M.Memory.size c.args.mem.now ≡ 1168 + n = λ n e. omega (arith, e, c.requires.size, c.lines-len.ensures) in
+pub returns : goal.returns
+returns g c =
+    let start : (n : ℕ) → n ≡ 8 * c.lines-len.result → g.M.Memory.size c.args.mem.now ≡ 1168 + n = λ n e. omega (arith, e, c.requires.region.size, c.lines-len.ensures) in
     let size : g.M.Memory.size c.run.new.mem.inner.now ≡ g.M.Memory.size c.args.mem.now = ap (λ f. f.whole) c.run.ensures.framed.fixed_kept in
     let same : c.mem-1.given.0 ≡ c.run.new.mem.inner.now = search rules in
-    subst (λ m. IfOk c.run.result (λ reply. Becomes (g.M.Memory.stands c.args.mem.now) (g.M.Memory.stands m) (OnPart 1168 (λ before now. g.O.Object.step c.args.object.now before c.args.op.now ≡ (now, reply))))) (sym same)
-    (part_done (g.M.Memory.stands c.args.mem.now) (g.M.Memory.stands c.run.new.mem.inner.now) (λ reply before now. g.O.Object.step c.args.object.now before c.args.op.now ≡ (now, reply)) c.run.result 1168 (8 * c.lines-len.result) c.run.new.mem.from c.run.new.mem.len (ap (λ f. f.from) c.run.ensures.framed.fixed_kept) (ap (λ f. f.len) c.run.ensures.framed.fixed_kept)
-    (λ first now s. (g.met.M.Memory.words c.run.new.mem.inner.now first now s).long ∙ size ∙ start (8 * c.lines-len.result) refl)
-    c.run.ensures.done)
+    record {
+      done =
+          subst (λ m. IfOk c.run.result (λ reply. Becomes (g.M.Memory.stands c.args.mem.now) (g.M.Memory.stands m) (OnPart 1168 (λ before now. g.O.Object.step c.args.object.now before c.args.op.now ≡ (now, reply))))) (sym same)
+          (part_done (g.M.Memory.stands c.args.mem.now) (g.M.Memory.stands c.run.new.mem.inner.now) (λ reply before now. g.O.Object.step c.args.object.now before c.args.op.now ≡ (now, reply)) c.run.result 1168 (8 * c.lines-len.result) c.run.new.mem.from c.run.new.mem.len (ap (λ f. f.from) c.run.ensures.framed.fixed_kept) (ap (λ f. f.len) c.run.ensures.framed.fixed_kept)
+          (λ first now s. (g.met.M.Memory.words c.run.new.mem.inner.now first now s).long ∙ size ∙ start (8 * c.lines-len.result) refl)
+          c.run.ensures.done);
+      halts = search rules;
+      framed = search rules;
+    }
