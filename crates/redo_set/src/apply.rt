@@ -1,7 +1,8 @@
 //! A write set stored over the words of a memory.
 
-ghost use Rattle.std.specs.Prelude.{◌≡◌, ◌+◌, ℕ, IsTrue, OnErr, OnOk, Some};
-ghost use Rattle.cx_base.specs.Memory.{Always, Becomes, Framed};
+ghost use Rattle.std.specs.Prelude.{◌≡◌, ◌+◌, ℕ, IsTrue, OnErr, OnOk};
+ghost use Rattle.cx_base.specs.Calls.{Changes};
+ghost use Rattle.cx_base.specs.Memory.{Always, Becomes};
 ghost use Rattle.cx_core.specs.History.{full_image};
 ghost use Rattle.cx_core.specs.State.{Instance};
 ghost use Rattle.cx_core.specs.WriteSet.{IsWriteSetOf};
@@ -15,13 +16,11 @@ use cx_base::{Halt, Memory};
 pub fn apply_set<M: Memory>(mem: &mut M, set: &WriteSet) -> Result<(), Halt>
     requires within { AreWithin (M.size mem.old) set.now }
     requires writable { IsTrue (M.writable mem.old) }
-    ensures done { OnOk result (Becomes (M.stands mem.old) (M.stands mem.new) (λ before now. now ≡ put_over set.now before)) }
+    ensures changes { Changes M.Memory mem.old mem.new result (λ _ before now. now ≡ put_over set.now before) }
     ensures next { OnOk result ((instance : Instance) (history : _) (ticket : ℕ) → IsWriteSetOf instance history ticket set.now →
         Always (M.stands mem.old) (λ words. words ≡ full_image instance.step instance.base history ticket) →
         Always (M.stands mem.new) (λ words. words ≡ full_image instance.step instance.base history (ticket + 1))) }
     ensures cut { OnErr result (Becomes (M.stands mem.old) (M.stands mem.new) (IsFrontOver set.now)) }
-    ensures halts { OnErr result (M.left mem.new ≡ Some 0) }
-    ensures framed { Framed M.size M.fixed M.writable M.left mem.old mem.new }
 {
     for m in 0..set.len() {
         let (at, v) = set.pair(m);
