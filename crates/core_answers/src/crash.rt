@@ -1,4 +1,4 @@
-//! What a crash leaves of a state: the full image after a place that holds all that was answered.
+//! What is kept of a state after a crash is a lawful base.
 
 ghost use Rattle.std.specs.Prelude.{◌≡◌, ◌+◌, ◌^◌, ◌≤◌, ℕ, length};
 ghost use Rattle.cx_core.specs.Base.{LawfulBase};

@@ -1,5 +1,5 @@
-//! The laws of answers: each is the history's and durable, each kind of step keeps that, and so does a crash. Each law is the
-//! contract of a function that does nothing.
+//! The laws of answers: each is the history's and durable, each kind of step keeps that, and what a crash keeps is a lawful base. Each
+//! law is the contract of a function that does nothing.
 #![tactic(auto)]
 
 pub mod crash;

@@ -11,7 +11,7 @@ use Rattle.cx_core.specs.declared.local.Local.{Local}
 use Rattle.cx_core.specs.declared.local.SeenSlot.{SeenSlot}
 use Rattle.cx_core.specs.Layout.{cell_count, free_at, link_at, cell_at, offer_at, set_at}
 use Rattle.cx_core.specs.Lawful.{Cells, IsLive, IsShown, OfferStands, OffersLinked, SeenStands, Shape, ShowsCells, SlotStands}
-use Rattle.cx_core.specs.State.{EachLocal, Instance}
+use Rattle.cx_core.specs.State.{Instance}
 use Rattle.cx_core.specs.WriteSet.{IsWriteSetOf}
 use Rattle.cx_core.specs.Frames.{IsOff}
 use Rattle.core_queue.specs.Frames.{SameCells}
@@ -56,11 +56,11 @@ held_still instance history history' words words' locals locals' free ticket ent
   offered = λ offer. sets held.cell.set (held.offered offer);
 }
 
--- where a caller's cells and what it saw of offers are as before, and what it saw of slots stands
-pub cells_local : (instance : Instance) (history : List Entry) (words : List ℕ) (locals : List Local) (caller : ℕ) (l l' : Local) → Cells instance history words locals →
-    slice_get locals caller ≡ Some l → l'.cells ≡ l.cells → l'.seen_offer ≡ l.seen_offer → SlotStands instance words l' →
+-- where a caller's cells are as before, and what it saw of slots and of offers stands
+pub cells_seen : (instance : Instance) (history : List Entry) (words : List ℕ) (locals : List Local) (caller : ℕ) (l l' : Local) → Cells instance history words locals →
+    slice_get locals caller ≡ Some l → l'.cells ≡ l.cells → SlotStands instance words l' → OfferStands words locals l' →
     Cells instance history words (set locals caller l')
-cells_local instance history words locals caller l l' cells at same offer stands =
+cells_seen instance history words locals caller l l' cells at same stands offer =
     let free = slice_index words free_at in
     let keeps = names_same free locals caller l l' at same in
     record {
@@ -69,13 +69,19 @@ cells_local instance history words locals caller l l' cells at same offer stands
           (λ j cell there. cells.shown caller l at j cell (subst (λ cs. slice_get cs j ≡ Some cell) same there));
       seen = EachLocal-set locals caller l l' (λ _ x. SlotStands instance words x) at cells.seen stands;
       seen_offers = (
-          let kept : EachLocal locals (λ _ x. OfferStands words (set locals caller l') x) = λ c x there seen is live word.
-          offered_still free locals (set locals caller l') seen.cell seen.ticket keeps live (cells.seen_offers c x there seen is live word) in
-          EachLocal-set locals caller l l' (λ _ x. OfferStands words (set locals caller l') x) at kept
-          (λ seen is live word. kept caller l at seen (sym offer ∙ is) live word));
+          let kept : (x : Local) → OfferStands words locals x → OfferStands words (set locals caller l') x = λ x old seen is live word.
+          offered_still free locals (set locals caller l') seen.cell seen.ticket keeps live (old seen is live word) in
+          EachLocal-set locals caller l l' (λ _ x. OfferStands words (set locals caller l') x) at (λ c x there. kept x (cells.seen_offers c x there)) (kept l' offer));
       offers = EachLocal-set locals caller l l' (λ _ x. OffersLinked instance history x) at cells.offers
           (λ j cell there some. cells.offers caller l at j cell (subst (λ cs. slice_get cs j ≡ Some cell) same there) some);
     }
+
+-- where a caller's cells and what it saw of offers are as before, and what it saw of slots stands
+pub cells_local : (instance : Instance) (history : List Entry) (words : List ℕ) (locals : List Local) (caller : ℕ) (l l' : Local) → Cells instance history words locals →
+    slice_get locals caller ≡ Some l → l'.cells ≡ l.cells → l'.seen_offer ≡ l.seen_offer → SlotStands instance words l' →
+    Cells instance history words (set locals caller l')
+cells_local instance history words locals caller l l' cells at same offer stands =
+    cells_seen instance history words locals caller l l' cells at same stands (λ seen is live word. cells.seen_offers caller l at seen (sym offer ∙ is) live word)
 
 -- what was seen of a slot stands still where the slot's word is as before and FREE did not fall
 pub slot_still : (instance : Instance) (words words' : List ℕ) (seen : SeenSlot) →

@@ -37,26 +37,26 @@ keeps_put instance words words' locals caller l l' k old new p =
     names_put l.seen_free (slice_index words free_at) locals caller l l' k old new p.at p.there p.idle p.behind p.put
 
 -- the cells shown, where the put cell is shown and each other is still
-shown_put : (instance : Instance) (words words' : List ℕ) (locals : List Local) (caller : ℕ) (l l' : Local) (k : ℕ) (old new : Cell) →
-    Puts instance words words' locals caller l l' k old new → Shape instance words locals → EachLocal locals (ShowsCells instance words) →
+pub shown_put : (instance : Instance) (words words' : List ℕ) (locals : List Local) (caller : ℕ) (l l' : Local) (k : ℕ) (old new : Cell) →
+    slice_get locals caller ≡ Some l → slice_get l.cells k ≡ Some old → l'.cells ≡ set l.cells k new → Shape instance words locals → EachLocal locals (ShowsCells instance words) →
     ((m : ℕ) (cell : Cell) → m ≢ 16 * caller + k → m < 16 * instance.callers → IsShown instance.callers words m cell → IsShown instance.callers words' m cell) →
     IsShown instance.callers words' (16 * caller + k) new → EachLocal (set locals caller l') (ShowsCells instance words')
-shown_put instance words words' locals caller l l' k old new p shape shown still here d x there_d j cell there_j =
-    let k_within = slice_get_within l.cells k old p.there in
-    let k_small : k < 16 = omega (arith, k_within, (shape.each caller l p.at).cells) in
+shown_put instance words words' locals caller l l' k old new mine there put shape shown still here d x there_d j cell there_j =
+    let k_within = slice_get_within l.cells k old there in
+    let k_small : k < 16 = omega (arith, k_within, (shape.each caller l mine).cells) in
     let other : (e : ℕ) (y : Local) → slice_get locals e ≡ Some y → slice_get y.cells j ≡ Some cell → (e ≢ caller) ⊎ (j ≢ k) → IsShown instance.callers words' (16 * e + j) cell =
     λ e y at_e at_j apart. (
     let j_within = slice_get_within y.cells j cell at_j in
     let j_small : j < 16 = omega (arith, j_within, (shape.each e y at_e).cells) in
     let ne : 16 * e + j ≢ 16 * caller + k = λ same. elim apart [ inl a ↦ a (omega arith) | inr b ↦ b (omega arith) ] in
     still (16 * e + j) cell ne (cell_within instance words locals e y j cell shape at_e at_j) (shown e y at_e j cell at_j)) in
-    elim (item_after locals caller d l' x (slice_get_within locals caller l p.at) there_d) [
+    elim (item_after locals caller d l' x (slice_get_within locals caller l mine) there_d) [
       | inl e ↦ (
-          let put : slice_get (set l.cells k new) j ≡ Some cell = subst (λ cs. slice_get cs j ≡ Some cell) (ap (λ (y : Local). y.cells) (sym e.1) ∙ p.put) there_j in
+          let here_j : slice_get (set l.cells k new) j ≡ Some cell = subst (λ cs. slice_get cs j ≡ Some cell) (ap (λ (y : Local). y.cells) (sym e.1) ∙ put) there_j in
           subst (λ n. IsShown instance.callers words' (16 * n + j) cell) (sym e.0) (
-          elim (item_after l.cells k j new cell k_within put) [
+          elim (item_after l.cells k j new cell k_within here_j) [
             | inl f ↦ subst (λ m. IsShown instance.callers words' (16 * caller + m) cell) (sym f.0) (subst (IsShown instance.callers words' (16 * caller + k)) f.1 here)
-            | inr f ↦ other caller l p.at f.1 (inr f.0)
+            | inr f ↦ other caller l mine f.1 (inr f.0)
           ]))
       | inr ne ↦ other d x ne.1 there_j (inl ne.0)
     ]
@@ -93,7 +93,7 @@ cells_put instance history history' words words' locals caller l l' k old new p 
     let keeps = keeps_put instance words words' locals caller l l' k old new p in
     record {
       live = λ ticket entry linked live. held ticket entry linked (subst (λ f. f ≤ ticket) p.free live);
-      shown = shown_put instance words words' locals caller l l' k old new p shape cells.shown still here;
+      shown = shown_put instance words words' locals caller l l' k old new p.at p.there p.put shape cells.shown still here;
       seen = (
           let kept : EachLocal locals (λ _ x. SlotStands instance words' x) = λ c x there seen is. stands seen (cells.seen c x there seen is) in
           EachLocal-set locals caller l l' (λ _ x. SlotStands instance words' x) p.at kept (λ seen is. kept caller l p.at seen (sym p.seen_slot ∙ is)));
@@ -106,46 +106,31 @@ cells_put instance history history' words words' locals caller l l' k old new p 
       offers = offers_put instance history history' words words' locals caller l l' k old new p cells.offers more;
     }
 
--- a word of another cell
-shown_apart : (callers : ℕ) (words : List ℕ) (k i v m : ℕ) (cell : Cell) → k < 16 * callers → i < 145 → m ≢ k → m < 16 * callers →
-    IsShown callers words m cell → IsShown callers (set words (cell_at callers k i) v) m cell
-shown_apart callers words k i v m cell k_within i_within ne m_within shown =
-    let at = cell_at callers k i in
-    record {
-      entry = λ n below. (
-          let apart : cell_at callers m n ≢ at = λ same. ne (omega arith) in
-          get_or-set_other words at (cell_at callers m n) v 0 apart ∙ shown.entry n below);
-      pairs = λ n below. (
-          let apart : set_at callers m n ≢ at = omega arith in
-          get_or-set_other words at (set_at callers m n) v 0 apart ∙ shown.pairs n below);
-      offer = (
-          let apart : offer_at callers m ≢ at = omega arith in
-          get_or-set_other words at (offer_at callers m) v 0 apart ∙ shown.offer);
-    }
+-- a word on no word of the cell
+pub shown_beside : (callers : ℕ) (words : List ℕ) (at v m : ℕ) (cell : Cell) → ((i : ℕ) → i < 145 → cell_at callers m i ≢ at) → ((i : ℕ) → i < 513 → set_at callers m i ≢ at) → offer_at callers m ≢ at →
+    IsShown callers words m cell → IsShown callers (set words at v) m cell
+shown_beside callers words at v m cell off_cell off_set off_offer shown = record {
+  entry = λ i below. get_or-set_other words at (cell_at callers m i) v 0 (off_cell i below) ∙ shown.entry i below;
+  pairs = λ i below. get_or-set_other words at (set_at callers m i) v 0 (off_set i below) ∙ shown.pairs i below;
+  offer = get_or-set_other words at (offer_at callers m) v 0 off_offer ∙ shown.offer;
+}
+
+-- a row of words, where one word of it was put
+pub row_put : (words row : List ℕ) (from i v n : ℕ) → from + i < length words → i < length row → slice_index words (from + n) ≡ slice_index row n →
+    slice_index (set words (from + i) v) (from + n) ≡ slice_index (set row i v) n
+row_put words row from i v n inside here same = elim (cases_eq n i) [
+  | inl e ↦ subst (λ m. slice_index (set words (from + i) v) (from + m) ≡ slice_index (set row i v) m) (sym e) (get_or-set_same words (from + i) v 0 inside ∙ sym (get_or-set_same row i v 0 here))
+  | inr ne ↦ get_or-set_other words (from + i) (from + n) v 0 (λ e. ne (omega (arith, e))) ∙ same ∙ sym (get_or-set_other row i n v 0 ne)
+]
 
 -- a word of the cell itself
 shown_written : (callers : ℕ) (words : List ℕ) (k i v : ℕ) (old : Cell) → k < 16 * callers → i < 145 → 4 + 10563 * callers ≤ length words → length old.words ≡ 145 →
     IsShown callers words k old → IsShown callers (set words (cell_at callers k i) v) k (record old { words = set old.words i v; ticket = None })
-shown_written callers words k i v old k_within i_within long words_long shown =
-    let at = cell_at callers k i in
-    let inside : at < length words = omega arith in
-    record {
-      entry = λ n below. elim (cases_eq n i) [
-        | inl e ↦ (
-            let i_inside : i < length old.words = omega arith in
-            subst (λ m. slice_index (set words at v) (cell_at callers k m) ≡ slice_index (set old.words i v) m) (sym e)
-            (get_or-set_same words at v 0 inside ∙ sym (get_or-set_same old.words i v 0 i_inside)))
-        | inr ne ↦ (
-            let apart : cell_at callers k n ≢ at = λ same. ne (omega arith) in
-            get_or-set_other words at (cell_at callers k n) v 0 apart ∙ shown.entry n below ∙ sym (get_or-set_other old.words i n v 0 ne))
-      ];
-      pairs = λ n below. (
-          let apart : set_at callers k n ≢ at = omega arith in
-          get_or-set_other words at (set_at callers k n) v 0 apart ∙ shown.pairs n below);
-      offer = (
-          let apart : offer_at callers k ≢ at = omega arith in
-          get_or-set_other words at (offer_at callers k) v 0 apart ∙ shown.offer);
-    }
+shown_written callers words k i v old k_within i_within long words_long shown = record {
+  entry = λ n below. row_put words old.words (4 + 19 * callers + 145 * k) i v n (omega arith) (omega arith) (shown.entry n below);
+  pairs = λ n below. get_or-set_other words (cell_at callers k i) (set_at callers k n) v 0 (omega arith) ∙ shown.pairs n below;
+  offer = get_or-set_other words (cell_at callers k i) (offer_at callers k) v 0 (omega arith) ∙ shown.offer;
+}
 
 -- a word written into an idle cell
 pub cells_written : (instance : Instance) (history : List Entry) (words : List ℕ) (locals : List Local) (caller : ℕ) (l l' : Local) (j i v : ℕ) →
@@ -181,6 +166,6 @@ cells_written instance history words locals caller l l' j i v shape cells at j_s
     (λ ticket entry linked live. (
     let slot : ticket % cell_count instance.callers < cell_count instance.callers = mod_below ticket (cell_count instance.callers) (omega arith) in
     held_still instance history history words words' locals (set locals caller l') (slice_index words free_at) ticket entry keeps live (link _ slot) (λ _ s. s) (cells.live ticket entry linked live)))
-    (λ m cell ne within shown. shown_apart instance.callers words k i v m cell k_within i_small ne within shown)
+    (λ m cell ne within shown. shown_beside instance.callers words place v m cell (λ n below same. ne (omega arith)) (λ n below. omega arith) (omega arith) shown)
     (shown_written instance.callers words k i v old k_within i_small long ((shape.each caller l at).each j old there).words (cells.shown caller l at j old there))
     (λ seen old_seen. (let free = p.free in slot_still instance words words' seen (link seen.slot old_seen.slot) (omega arith) old_seen))

@@ -3,7 +3,7 @@ use Rattle.std.proofs.Common.{◌≡◌, ◌+◌, ◌*◌, ◌%◌, ◌==◌, �
 use Rattle.std.proofs.lemmas.Bool.{cases_Bool, eqb-true}
 use Rattle.std.proofs.lemmas.List.{append-nil}
 use Rattle.std.proofs.lemmas.Nat.{mod_below}
-use Rattle.std.proofs.lemmas.Option.{same_Some}
+use Rattle.std.proofs.lemmas.Option.{same_Some, slice_get_within}
 use Rattle.std.specs.List.{slice_get}
 use Rattle.cx_base.specs.Codes.{link_code_of}
 use Rattle.cx_core.specs.declared.entry.Entry.{Entry}
@@ -23,19 +23,20 @@ use Rattle.cx_core.specs.State.{Instance, Scene, State}
 use Rattle.core_queue.specs.Frames.{OffQueue, SameFront, SameQueue}
 use Rattle.core_queue.specs.Queue.{QueueContinues, QueueLawful}
 use Rattle.core_queue.proofs.CellLinks.{Wins, cells_linked}
+use Rattle.core_queue.proofs.CellLaws.{cells_local}
 use Rattle.core_queue.proofs.CellPuts.{cells_written}
-use Rattle.core_queue.proofs.FrontLaws.{behind_free, behind_kept, behind_raised, fronts_framed, fronts_put, same_words}
+use Rattle.core_queue.proofs.FrontLaws.{behind_free, behind_raised, fronts_put, same_words}
 use Rattle.core_queue.proofs.LiveCells.{linked_callers}
-use Rattle.core_queue.proofs.LinkLaws.{links_framed, links_linked, raised_within, won_at_end}
-use Rattle.core_queue.proofs.QueueFrames.{off_lock, off_region, queue_loaded, queue_put, same_but}
+use Rattle.core_queue.proofs.LinkLaws.{links_linked, raised_within, won_at_end}
+use Rattle.core_queue.proofs.QueueFrames.{off_lock, off_region, queue_found, queue_loaded, queue_put, same_but}
 use Rattle.core_queue.proofs.RingKinds.{close_low_kept, confirm_kept, open_free_kept, protect_kept, scan_kept, unprotect_kept}
 use Rattle.core_queue.proofs.RingLaws.{ring_framed, ring_local}
 use Rattle.core_queue.proofs.RootKinds.{load_cur_kept, publish_kept, raise_kept, retire_kept}
 use Rattle.cx_core.proofs.Putting.{either}
-use Rattle.core_queue.proofs.SetKinds.{load_offer_kept, offer_kept, read_set_kept, write_set_kept}
+use Rattle.core_queue.proofs.SetKinds.{load_offer_kept, offer_kept, put_kept, write_set_kept}
 use Rattle.cx_core.proofs.MergeLemmas.{history_is}
 use Rattle.core_queue.proofs.Shapes.{cell_there, shape_kept, shape_linked, shape_written}
-use Rattle.core_queue.proofs.TicketLaws.{tickets_framed, tickets_linked}
+use Rattle.core_queue.proofs.TicketLaws.{tickets_linked}
 
 -- with the history as it was
 pub same_history : {instance : Instance} {history : List Entry} {words : List ℕ} {locals : List Local} → QueueLawful instance history words locals → QueueContinues instance history words locals
@@ -121,7 +122,7 @@ module _ (instance : Instance) (history : List Entry) (words : List ℕ) (locals
         let slot_small : l.front % q < q = mod_below l.front q (omega arith) in
         let place = link_at instance.callers (l.front % q) in
         let l' = lost instance.callers l (slice_index words place) in
-        queue_loaded instance history words locals place caller l l' law at refl (record { own = refl; answered = refl }) refl refl (law.cells.seen caller l at)
+        queue_loaded instance history words locals place caller l l' law at refl (record { own = refl; answered = refl }) refl (cells_local instance history words locals caller l l' law.cells at refl refl (law.cells.seen caller l at))
         (behind_found l' (l.front % q) slot_small refl
         (record { front = refl; floor = refl; seen_cur = refl; seen_free = refl; seen_low = refl; raised = refl; won = refl }))
         (ring_local instance words locals caller l l' law.shape law.ring at (record { protection = refl; scan = refl }))
@@ -138,16 +139,11 @@ module _ (instance : Instance) (history : List Entry) (scene : Scene) (locals : 
       let shape = law.shape.each caller l at in
       let place = cell_at instance.callers (16 * caller + j) i in
       let j_small = guard.0 in
-      let far : link_at instance.callers (cell_count instance.callers) ≤ place = omega arith in
-      subst (λ n. QueueContinues instance history (set words (cell_at instance.callers (16 * n + j) i) v) (set locals caller l')) (sym shape.number) (same_history (record {
-        shape = shape_kept instance words locals place v caller l l' law.shape at (shape_written caller l l' j i v shape j_small guard.3 refl refl);
-        tickets = tickets_framed instance history locals caller l l' law.tickets at refl refl;
-        links = links_framed instance history words place v law.links (inr far);
-        cells = cells_written instance history words locals caller l l' j i v law.shape law.cells at j_small guard.1 guard.2 (law.fronts.each caller l at).free refl refl refl;
-        fronts = fronts_framed instance history words locals place v caller l l' law.fronts at (inl (omega arith))
-            (record { front = refl; floor = refl; seen_cur = refl; seen_free = refl; seen_low = refl; raised = refl; won = refl });
-        ring = ring_framed instance words locals place v caller l l' law.shape law.ring at (inr (omega arith)) (record { protection = refl; scan = refl });
-      }))
+      let within = slice_get_within locals caller l at in
+      subst (λ n. QueueContinues instance history (set words (cell_at instance.callers (16 * n + j) i) v) (set locals caller l')) (sym shape.number)
+      (same_history (put_kept instance history scene locals caller l law at place v l' (omega arith) (omega (arith, within, law.shape.count, j_small, guard.1))
+      (shape_written caller l l' j i v shape j_small guard.3 refl refl) refl refl refl refl refl refl refl refl refl refl refl refl
+      (cells_written instance history words locals caller l l' j i v law.shape law.cells at j_small guard.1 guard.2 (law.fronts.each caller l at).free refl refl refl)))
 
   link_kept : (j : ℕ) → Guard instance scene (Link j) l → After (Link j)
   link_kept j guard =
@@ -166,24 +162,17 @@ module _ (instance : Instance) (history : List Entry) (scene : Scene) (locals : 
       let l' = local_after instance scene (Look slot) l in
       let place = link_at instance.callers slot in
       let now : SeenSlot = record { slot = slot; word = slice_index scene.words place } in
-      same_history (queue_loaded instance history scene.words locals place caller l l' law at refl (record { own = refl; answered = refl }) refl refl
-      (λ seen is. subst (SeenStands instance scene.words) (same_Some now seen is) (record { slot = guard; later = λ _. inl refl; stands = λ _ _. refl }))
+      same_history (queue_loaded instance history scene.words locals place caller l l' law at refl (record { own = refl; answered = refl }) refl
+      (cells_local instance history scene.words locals caller l l' law.cells at refl refl
+      (λ seen is. subst (SeenStands instance scene.words) (same_Some now seen is) (record { slot = guard; later = λ _. inl refl; stands = λ _ _. refl })))
       (behind_found instance history scene.words locals law caller l at l' slot guard refl
-      (record { front = refl; floor = refl; seen_cur = refl; seen_free = refl; seen_low = refl; raised = refl; won = refl }))
-      (ring_local instance scene.words locals caller l l' law.shape law.ring at (record { protection = refl; scan = refl })))
-
-  read_cell_kept : (t k i : ℕ) → After (ReadCell t k i)
-  read_cell_kept t k i =
-      let l' = local_after instance scene (ReadCell t k i) l in
-      same_history (queue_loaded instance history scene.words locals (cell_at instance.callers k i) caller l l' law at refl (record { own = refl; answered = refl }) refl refl (law.cells.seen caller l at)
-      (behind_kept instance history history scene.words scene.words l l' (law.fronts.each caller l at) (omega arith) (record { dur = refl; low = refl; free = refl })
       (record { front = refl; floor = refl; seen_cur = refl; seen_free = refl; seen_low = refl; raised = refl; won = refl }))
       (ring_local instance scene.words locals caller l l' law.shape law.ring at (record { protection = refl; scan = refl })))
 
   load_free_kept : After LoadFree
   load_free_kept =
       let l' = local_after instance scene LoadFree l in
-      same_history (queue_loaded instance history scene.words locals free_at caller l l' law at refl (record { own = refl; answered = refl }) refl refl (law.cells.seen caller l at)
+      same_history (queue_loaded instance history scene.words locals free_at caller l l' law at refl (record { own = refl; answered = refl }) refl (cells_local instance history scene.words locals caller l l' law.cells at refl refl (law.cells.seen caller l at))
       (behind_free instance history scene.words l l' (law.fronts.each caller l at) refl
       (record { front = refl; floor = refl; seen_cur = refl; seen_free = refl; seen_low = refl; raised = refl; won = refl }))
       (ring_local instance scene.words locals caller l l' law.shape law.ring at (record { protection = refl; scan = refl })))
@@ -200,7 +189,7 @@ pub queue_kept : (instance : Instance) (history : List Entry) (scene : Scene) (l
 queue_kept instance history scene locals caller l (WriteCell j i v) law bounds told at guard = write_cell_kept instance history scene locals caller l law at j i v guard
 queue_kept instance history scene locals caller l (Link j) law bounds told at guard = link_kept instance history scene locals caller l law at j guard
 queue_kept instance history scene locals caller l (Look slot) law bounds told at guard = look_kept instance history scene locals caller l law at slot guard
-queue_kept instance history scene locals caller l (ReadCell t k i) law bounds told at guard = read_cell_kept instance history scene locals caller l law at t k i
+queue_kept instance history scene locals caller l (ReadCell t k i) law bounds told at guard = same_history (queue_found instance history scene.words locals _ caller l _ law at (same_but l _ _ _ _ _ _ _ _ _))
 queue_kept instance history scene locals caller l LoadFree law bounds told at guard = load_free_kept instance history scene locals caller l law at
 queue_kept instance history scene locals caller l (TryExclusive r) law bounds told at guard =
     apart_kept instance history scene locals caller l law at (TryExclusive r) (off_lock instance r guard.0) (either (SameQueue l) _ _ _ (same_but l _ _ _ _ _ _ _ _ _) (same_but l _ _ _ _ _ _ _ _ _))
@@ -226,7 +215,7 @@ queue_kept instance history scene locals caller l OpenFree law bounds told at gu
 queue_kept instance history scene locals caller l (WriteSet j i v) law bounds told at guard = same_history (write_set_kept instance history scene locals caller l law at j i v guard)
 queue_kept instance history scene locals caller l (Offer j) law bounds told at guard = same_history (offer_kept instance history scene locals caller l law at j told guard)
 queue_kept instance history scene locals caller l (LoadOffer k t) law bounds told at guard = same_history (load_offer_kept instance history scene locals caller l law at k t guard)
-queue_kept instance history scene locals caller l (ReadSet k t i) law bounds told at guard = same_history (read_set_kept instance history scene locals caller l law at k t i)
+queue_kept instance history scene locals caller l (ReadSet k t i) law bounds told at guard = same_history (queue_found instance history scene.words locals _ caller l _ law at (same_but l _ _ _ _ _ _ _ _ _))
 queue_kept instance history scene locals caller l kind law bounds told at guard =
     apart_kept instance history scene locals caller l law at kind (off_region instance _ (omega arith)) (same_but l _ _ _ _ _ _ _ _ _)
 

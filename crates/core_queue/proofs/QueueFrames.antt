@@ -9,14 +9,14 @@ use Rattle.cx_core.specs.declared.local.HeldShared.{HeldShared}
 use Rattle.cx_core.specs.declared.local.Local.{Local}
 use Rattle.cx_core.specs.declared.local.SeenLock.{SeenLock}
 use Rattle.cx_core.specs.Layout.{lock_at, replicas_at}
-use Rattle.cx_core.specs.Lawful.{Fronts, IsBehind, Lawful, LocalShape, SlotStands, Tickets}
+use Rattle.cx_core.specs.Lawful.{Cells, Fronts, IsBehind, Lawful, LocalShape, Tickets}
 use Rattle.cx_core.specs.LawfulRing.{Ring}
 use Rattle.cx_core.specs.State.{Instance, State}
 use Rattle.core_queue.specs.Frames.{OffCells, OffFronts, OffLinks, OffQueue, SameCells, SameQueue, SameTickets}
 use Rattle.core_queue.specs.Queue.{QueueLawful}
 use Rattle.cx_core.proofs.Locals.{EachLocal-set}
 use Rattle.cx_core.proofs.Putting.{no_word}
-use Rattle.core_queue.proofs.CellLaws.{cells_framed, cells_local}
+use Rattle.core_queue.proofs.CellLaws.{cells_framed}
 use Rattle.core_queue.proofs.FrontLaws.{fronts_framed, fronts_put}
 use Rattle.core_queue.proofs.LinkLaws.{links_framed}
 use Rattle.core_queue.proofs.RingLaws.{ring_framed}
@@ -86,20 +86,20 @@ queue_put instance history words locals at v caller l l' law there off same =
 
 -- a load, which links nothing, with what its caller knows after it
 pub queue_loaded : (instance : Instance) (history : List Entry) (words : List ℕ) (locals : List Local) (place caller : ℕ) (l l' : Local) → QueueLawful instance history words locals →
-    slice_get locals caller ≡ Some l → l'.number ≡ l.number → SameTickets l l' → l'.cells ≡ l.cells → l'.seen_offer ≡ l.seen_offer → SlotStands instance words l' →
+    slice_get locals caller ≡ Some l → l'.number ≡ l.number → SameTickets l l' → l'.cells ≡ l.cells → Cells instance history words (set locals caller l') →
     IsBehind instance history words l' → Ring instance words (set locals caller l') → QueueLawful instance history (set words place (slice_index words place)) (set locals caller l')
-queue_loaded instance history words locals place caller l l' law there number tickets cells offer stands behind ring =
+queue_loaded instance history words locals place caller l l' law there number tickets same cells behind ring =
     subst (λ ws. QueueLawful instance history ws (set locals caller l')) (sym (set-get_or words place 0)) (record {
       shape = record {
         some = law.shape.some;
         few = law.shape.few;
         long = law.shape.long;
         count = length-set locals caller l' ∙ law.shape.count;
-        each = EachLocal-set locals caller l l' LocalShape there law.shape.each (shape_same caller l l' (law.shape.each caller l there) number cells);
+        each = EachLocal-set locals caller l l' LocalShape there law.shape.each (shape_same caller l l' (law.shape.each caller l there) number same);
       };
       tickets = tickets_framed instance history locals caller l l' law.tickets there tickets.own tickets.answered;
       links = law.links;
-      cells = cells_local instance history words locals caller l l' law.cells there cells offer stands;
+      cells = cells;
       fronts = fronts_put instance history history words words locals caller l l' law.fronts there (omega arith) (record { dur = refl; low = refl; free = refl }) behind;
       ring = ring;
     })
@@ -115,3 +115,9 @@ queue_local instance history words locals caller l l' law there same =
     let far = replicas_at instance.callers in
     no_word (λ ws. QueueLawful instance history ws (set locals caller l')) words far
     (queue_put instance history words locals far (slice_index words far) caller l l' law there (off_region instance far (omega arith)) same)
+
+-- where the word was put that was found, and what is named of the local state stays
+pub queue_found : (instance : Instance) (history : List Entry) (words : List ℕ) (locals : List Local) (place caller : ℕ) (l l' : Local) → QueueLawful instance history words locals →
+    slice_get locals caller ≡ Some l → SameQueue l l' → QueueLawful instance history (set words place (slice_index words place)) (set locals caller l')
+queue_found instance history words locals place caller l l' law there same =
+    subst (λ ws. QueueLawful instance history ws (set locals caller l')) (sym (set-get_or words place 0)) (queue_local instance history words locals caller l l' law there same)

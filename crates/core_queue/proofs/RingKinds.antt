@@ -21,7 +21,7 @@ use Rattle.cx_core.specs.State.{Instance, Scene}
 use Rattle.cx_core.proofs.RootCodes.{place_up}
 use Rattle.core_queue.specs.Frames.{SameQueue}
 use Rattle.core_queue.specs.Queue.{QueueLawful}
-use Rattle.core_queue.proofs.CellLaws.{cells_up}
+use Rattle.core_queue.proofs.CellLaws.{cells_local, cells_up}
 use Rattle.core_queue.proofs.FrontLaws.{behind_kept, behind_low, behind_up, fronts_framed, fronts_up}
 use Rattle.core_queue.proofs.LinkLaws.{links_framed}
 use Rattle.core_queue.proofs.QueueFrames.{queue_loaded, queue_with, same_but}
@@ -124,7 +124,7 @@ module _ (instance : Instance) (history : List Entry) (scene : Scene) (locals : 
       let found = slice_index words low_at in
       let mine = law.ring.each caller l at in
       let open_ = confirmed_open found l.protection in
-      queue_loaded instance history words locals low_at caller l l' law at refl (record { own = refl; answered = refl }) refl refl (law.cells.seen caller l at)
+      queue_loaded instance history words locals low_at caller l l' law at refl (record { own = refl; answered = refl }) refl (cells_local instance history words locals caller l l' law.cells at refl refl (law.cells.seen caller l at))
       (behind_low instance history words l l' (law.fronts.each caller l at) refl
       (record { front = refl; floor = refl; seen_cur = refl; seen_free = refl; seen_low = refl; raised = refl; won = refl }))
       (ring_put instance words words locals caller l l' law.shape law.ring at
@@ -188,7 +188,7 @@ module _ (instance : Instance) (history : List Entry) (scene : Scene) (locals : 
       let same = same_confirmed words l l' refl in
       let parts = scan_parts d l.scan guard.1 in
       let on = scanned_stands instance words locals d parts.0 law.ring parts.2 guard.0 (mine.scan parts.0 parts.1) in
-      queue_loaded instance history words locals (need_at d) caller l l' law at refl (record { own = refl; answered = refl }) refl refl (law.cells.seen caller l at)
+      queue_loaded instance history words locals (need_at d) caller l l' law at refl (record { own = refl; answered = refl }) refl (cells_local instance history words locals caller l l' law.cells at refl refl (law.cells.seen caller l at))
       (behind_kept instance history history words words l l' (law.fronts.each caller l at) (omega arith) (record { dur = refl; low = refl; free = refl })
       (record { front = refl; floor = refl; seen_cur = refl; seen_free = refl; seen_low = refl; raised = refl; won = refl }))
       (ring_put instance words words locals caller l l' law.shape law.ring at

@@ -1,5 +1,5 @@
 -- The steps on the root keep the parts on tickets, links, cells, fronts and the ring.
-use Rattle.std.proofs.Common.{◌≡◌, ◌+◌, ◌*◌, ◌==◌, ◌<◌, ◌≤◌, inl, inr, ℕ, max, Bool, cond, List, Option, length, set, slice_index, refl, ap, sym, subst, ◌∙◌, arith, Some, None}
+use Rattle.std.proofs.Common.{◌≡◌, ◌+◌, ◌*◌, ◌==◌, ◌≤◌, inl, inr, ℕ, max, Bool, cond, List, Option, length, set, slice_index, refl, ap, sym, subst, ◌∙◌, arith, Some}
 use Rattle.std.proofs.lemmas.Bool.{cases_Bool, eqb-true}
 use Rattle.std.proofs.lemmas.Nat.{div-mul-add, mod_below}
 use Rattle.std.proofs.lemmas.Option.{same_Some}
@@ -8,14 +8,14 @@ use Rattle.cx_base.specs.Codes.{root_code_of, root_place_of}
 use Rattle.cx_core.specs.declared.entry.Entry.{Entry}
 use Rattle.cx_core.specs.declared.kinds.Kind.{Kind}
 use Rattle.cx_core.specs.declared.kinds.Kind.TheVariants.{LoadCur, Publish, Raise, Retire}
-use Rattle.cx_core.specs.declared.local.HeldDowngraded.{HeldDowngraded}
 use Rattle.cx_core.specs.declared.local.Local.{Local}
 use Rattle.cx_core.specs.declared.local.WonCode.{WonCode}
 use Rattle.cx_core.specs.Events.{Guard, local_after, step_word, words_after}
 use Rattle.cx_core.specs.Layout.{cur_at, dur_at}
 use Rattle.cx_core.specs.LawfulRoot.{RootBounds}
-use Rattle.cx_core.specs.RootEvents.{IsAbove, IsWonCode, before_in, code_in, outrun, published}
+use Rattle.cx_core.specs.RootEvents.{before_in, code_in, outrun, published}
 use Rattle.cx_core.specs.State.{Instance, Scene}
+use Rattle.cx_core.proofs.RootCodes.{above_parts, won_parts}
 use Rattle.core_queue.specs.Frames.{SameQueue}
 use Rattle.core_queue.specs.Queue.{QueueLawful}
 use Rattle.core_queue.proofs.FrontLaws.{fronts_off}
@@ -23,14 +23,6 @@ use Rattle.core_queue.proofs.QueueFrames.{off_cells, off_fronts, off_lock, queue
 use Rattle.core_queue.proofs.RingLaws.{ring_current, ring_framed}
 use Rattle.core_queue.proofs.RootFronts.{behind_retired, behind_seen, code_above, floor_within, fronts_raised}
 use Rattle.core_queue.proofs.TicketLaws.{tickets_framed, tickets_raised}
-
-publish_parts : (callers code : ℕ) (o : Option HeldDowngraded) → IsAbove callers code o → (h : HeldDowngraded) × (o ≡ Some h) × (root_place_of callers code < h.place)
-publish_parts callers code None above = absurd above
-publish_parts callers code (Some h) above = (h, refl, above)
-
-won_parts : (code : ℕ) (o : Option WonCode) → IsWonCode code o → (won : WonCode) × (o ≡ Some won) × (code ≡ won.code)
-won_parts code None is = absurd is
-won_parts code (Some won) is = (won, refl, is)
 
 module _ (instance : Instance) (history : List Entry) (scene : Scene) (locals : List Local) (caller : ℕ) (l : Local)
     (law : QueueLawful instance history scene.words locals) (bounds : RootBounds instance history scene.words locals) (at : slice_get locals caller ≡ Some l) where
@@ -62,7 +54,7 @@ module _ (instance : Instance) (history : List Entry) (scene : Scene) (locals : 
       let P : Bool → Type 0 = λ b. QueueLawful instance history (set scene.words cur_at (cond b code found)) (set locals caller (cond b (published instance.callers l) (outrun instance.callers l found))) in
       elim (cases_Bool (found == l.seen_cur)) [
         | inl e ↦ subst P (sym e) (
-            let p = publish_parts instance.callers l.seen_cur l.downgraded guard.0 in
+            let p = above_parts instance.callers l.seen_cur l.downgraded guard.0 in
             let h = p.0 in
             let is : code ≡ root_code_of instance.callers h.place h.replica = ap (code_in instance.callers) p.1 in
             let place : root_place_of instance.callers code ≡ h.place = ap (root_place_of instance.callers) is ∙ div-mul-add h.place (2 * instance.callers) h.replica (mine.replica h p.1) in

@@ -21,8 +21,9 @@ use Rattle.cx_core.specs.LockEvents.{downgraded_to, exclusive_mark, minus, passi
 use Rattle.cx_core.specs.QueueEvents.{seen_word}
 use Rattle.cx_core.specs.RegionEvents.{loaded_into, persisted, stored_into}
 use Rattle.cx_core.specs.Rights.{downgraded_on, exclusive_on, has, holds, is_at, is_on, rights, shared_on, won_on}
-use Rattle.cx_core.specs.RootEvents.{CanRetire, IsAbove, before_in, code_in, outrun, published}
+use Rattle.cx_core.specs.RootEvents.{before_in, code_in, outrun, published}
 use Rattle.cx_core.specs.State.{Instance, Scene, one_more}
+use Rattle.cx_core.proofs.RootCodes.{above_parts, retire_parts}
 use Rattle.cx_core.proofs.Putting.{either}
 use Rattle.core_replica.specs.Frames.{OffLocks, SameRights}
 use Rattle.cx_core.proofs.HeldLists.{at_false, at_true, is_none}
@@ -40,15 +41,6 @@ shared_map : (f : HeldShared → HeldShared) → ((h : HeldShared) → (f h).rep
     option_map (λ (h : HeldShared). h.replica) (option_map f o) ≡ option_map (λ (h : HeldShared). h.replica) o
 shared_map f same None = refl
 shared_map f same (Some h) = ap Some (same h)
-
--- what may be published is downgraded, and what may be retired was won
-above_some : (callers code : ℕ) (o : Option HeldDowngraded) → IsAbove callers code o → (h : HeldDowngraded) × (o ≡ Some h)
-above_some callers code None above = absurd above
-above_some callers code (Some h) above = (h, refl)
-
-won_some : (raised : ℕ) (o : Option WonCode) → CanRetire raised o → (w : WonCode) × (o ≡ Some w)
-won_some raised None can = absurd can
-won_some raised (Some w) can = (w, refl)
 
 module _ (instance : Instance) (scene : Scene) (locals : List Local) (caller : ℕ) (l : Local) (shape : Shape instance scene.words locals) (locks : Locks instance.callers scene.words locals)
     (at : slice_get locals caller ≡ Some l) where
@@ -211,7 +203,7 @@ module _ (instance : Instance) (scene : Scene) (locals : List Local) (caller : �
   publish_won guard cur =
       let l' = published callers l in
       let code = code_in callers l.downgraded in
-      let m = above_some callers l.seen_cur l.downgraded guard.0 in
+      let m = above_parts callers l.seen_cur l.downgraded guard.0 in
       let r = m.0.replica in
       let was : (q : ℕ) → is_on q (downgraded_on l) ≡ is_on q (Some r) = λ q. ap (λ o. is_on q (option_map (λ (h : HeldDowngraded). h.replica) o)) m.1 in
       let small : r < 2 * callers = few.below r (omega (arith, was r, on_same r r refl)) in
@@ -247,7 +239,7 @@ module _ (instance : Instance) (scene : Scene) (locals : List Local) (caller : �
   retire_kept guard =
       let l' = record l { won = None; steps = one_more l.steps } in
       let r = root_replica_of callers (before_in l.won) in
-      let m = won_some l.raised l.won guard in
+      let m = retire_parts l.raised l.won guard in
       let on = on_same r r refl in
       let replica = λ (o : Option WonCode). option_map (λ (w : WonCode). root_replica_of callers w.before) o in
       let was : (q : ℕ) → is_on q (won_on callers l) ≡ is_on q (Some r) = λ q. ap (λ o. is_on q (replica o)) m.1 ∙ sym (ap (λ o. is_on q (Some (root_replica_of callers (before_in o)))) m.1) in

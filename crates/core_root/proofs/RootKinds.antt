@@ -1,5 +1,5 @@
 -- Each kind of step keeps the part on the root.
-use Rattle.std.proofs.Common.{◌≡◌, ◌≢◌, ◌*◌, ◌==◌, ◌<◌, ◌≤◌, inl, inr, ℕ, max, nat_lt, Bool, cond, List, [], ◌∷◌, ◌++◌, Option, Some, None, length, set, slice_index, refl, ap, sym, subst, ◌∙◌, arith}
+use Rattle.std.proofs.Common.{◌≡◌, ◌≢◌, ◌*◌, ◌==◌, ◌<◌, ◌≤◌, inl, inr, ℕ, max, nat_lt, Bool, cond, List, [], ◌∷◌, ◌++◌, Option, Some, length, set, slice_index, refl, ap, sym, subst, ◌∙◌, arith}
 use Rattle.std.proofs.lemmas.Bool.{cases_Bool, cases_lt, eqb-true}
 use Rattle.std.proofs.lemmas.List.{get_or-set_other, get_or-set_same}
 use Rattle.std.proofs.lemmas.List.Elements.{Contains-append_left, Contains-push}
@@ -25,32 +25,19 @@ use Rattle.cx_core.specs.LockEvents.{downgraded_to, exclusive_mark}
 use Rattle.cx_core.specs.QueueEvents.{seen_word}
 use Rattle.cx_core.specs.Region.{place_of}
 use Rattle.cx_core.specs.Rights.{held_words, holds, is_at, is_on, shared_on}
-use Rattle.cx_core.specs.RootEvents.{CanRetire, IsAbove, IsWonCode, before_in, code_in, outrun, published}
+use Rattle.cx_core.specs.RootEvents.{before_in, code_in, outrun, published}
 use Rattle.cx_core.specs.State.{Instance, Scene}
 use Rattle.cx_core.proofs.HeldLists.{is_none, mapped}
 use Rattle.cx_core.proofs.ListLemmas.{slice_get-set_same}
 use Rattle.cx_core.proofs.Putting.{either}
 use Rattle.cx_core.proofs.ReplicaWords.{held_place, vol_apart, vol_per_apart}
-use Rattle.cx_core.proofs.RootCodes.{code_place, code_replica, code_up}
+use Rattle.cx_core.proofs.RootCodes.{above_parts, code_place, code_replica, code_up, retire_parts, won_parts}
 use Rattle.cx_core.proofs.StepWords.{step_low}
 use Rattle.cx_core.proofs.Sums.{on_same, total_member}
 use Rattle.core_root.specs.Frames.{OffRoot, SameRoot}
 use Rattle.core_root.proofs.ChainLemmas.{leads_from, leads_push, leads_put, wins_put, wins_stay}
 use Rattle.core_root.proofs.RootLaws.{Moves, cur_stands, current_moved, in_chain_local, in_chain_moved, in_chain_still, low_off, root_framed, root_left, root_moved, root_same, root_stays, still_off, word_kept}
 use Rattle.core_root.proofs.Unheld.{NobodyHolds, downgraded_unheld}
-
--- what a publication and a retirement ask, of the rights that there are
-above_parts : (callers code : ℕ) (o : Option HeldDowngraded) → IsAbove callers code o → (h : HeldDowngraded) × (o ≡ Some h) × (root_place_of callers code < h.place)
-above_parts callers code None above = absurd above
-above_parts callers code (Some h) above = (h, refl, above)
-
-won_parts : (code : ℕ) (o : Option WonCode) → IsWonCode code o → (w : WonCode) × (o ≡ Some w) × (code ≡ w.code)
-won_parts code None is = absurd is
-won_parts code (Some w) is = (w, refl, is)
-
-retire_parts : (raised : ℕ) (o : Option WonCode) → CanRetire raised o → (w : WonCode) × (o ≡ Some w) × (w.code ≤ raised)
-retire_parts raised None can = absurd can
-retire_parts raised (Some w) can = (w, refl, can)
 
 same_root : (l l' : Local) → l'.seen_cur ≡ l.seen_cur → l'.won ≡ l.won → l'.downgraded ≡ l.downgraded → SameRoot l l'
 same_root l l' seen won downgraded = record { seen_cur = seen; won = won; downgraded = λ h has. sym downgraded ∙ has }

@@ -1,4 +1,4 @@
-//! The chain of codes from DUR to CUR, and what it keeps from being written.
+//! The chain of codes from DUR to CUR, and the replicas that they name.
 
 ghost use Rattle.std.specs.Prelude.{◌≡◌, ◌∷◌, [], ℕ, slice_index};
 ghost use Rattle.std.specs.List.{Contains};

@@ -1,6 +1,5 @@
 //! The laws of the root: the opening state has the chain from DUR to CUR, each kind of step keeps it, and so does each step that
-//! touches nothing that it names. What the chain names stays as it is, and a caller that holds none has a free replica. Each law
-//! is the contract of a function that does nothing.
+//! touches nothing that it names. Each law is the contract of a function that does nothing.
 #![tactic(auto)]
 
 pub mod bounds;

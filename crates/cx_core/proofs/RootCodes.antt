@@ -1,8 +1,11 @@
 -- Root codes: what they name, and that a code at a higher place is higher.
-use Rattle.std.proofs.Common.{◌≡◌, ◌*◌, ◌<◌, ◌≤◌, inl, inr, ℕ, arith}
+use Rattle.std.proofs.Common.{◌≡◌, ◌*◌, ◌<◌, ◌≤◌, inl, inr, ℕ, Option, None, Some, refl, arith}
 use Rattle.std.proofs.lemmas.Bool.{cases_lt}
 use Rattle.std.proofs.lemmas.Nat.{div-add-mod', div-mul-add, le-div, mod-mul-add}
 use Rattle.cx_base.specs.Codes.{root_code_of, root_place_of, root_replica_of}
+use Rattle.cx_core.specs.declared.local.HeldDowngraded.{HeldDowngraded}
+use Rattle.cx_core.specs.declared.local.WonCode.{WonCode}
+use Rattle.cx_core.specs.RootEvents.{CanRetire, IsAbove, IsWonCode}
 
 -- the code of a replica that there is names it, at its place
 pub code_replica : (callers place replica : ℕ) → replica < 2 * callers → root_replica_of callers (root_code_of callers place replica) ≡ replica
@@ -22,3 +25,16 @@ code_up callers a b some up =
       | inl below ↦ below
       | inr above ↦ (let falls = place_up callers b a some above in absurd (omega arith))
     ]
+
+-- what a publication, a raise and a retirement ask, of the rights that there are
+pub above_parts : (callers code : ℕ) (o : Option HeldDowngraded) → IsAbove callers code o → (h : HeldDowngraded) × (o ≡ Some h) × (root_place_of callers code < h.place)
+above_parts callers code None above = absurd above
+above_parts callers code (Some h) above = (h, refl, above)
+
+pub won_parts : (code : ℕ) (o : Option WonCode) → IsWonCode code o → (w : WonCode) × (o ≡ Some w) × (code ≡ w.code)
+won_parts code None is = absurd is
+won_parts code (Some w) is = (w, refl, is)
+
+pub retire_parts : (raised : ℕ) (o : Option WonCode) → CanRetire raised o → (w : WonCode) × (o ≡ Some w) × (w.code ≤ raised)
+retire_parts raised None can = absurd can
+retire_parts raised (Some w) can = (w, refl, can)

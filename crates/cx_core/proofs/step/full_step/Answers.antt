@@ -11,7 +11,7 @@ run_part-requires-clause-lawful g c =
 pub returns : goal.returns
 returns g c = record {
   done = full_step_done (g.O.Object.step c.args.object.now) c.args.entry.now c.in_ok-place.place c.slot_start-slot.result c.in_ok-reply.reply c.slot_start-slot.ensures
-    c.in_ok-place.ensures.done c.in_ok-reply.ensures.done c.in_ok-store_word.ensures.done c.in_ok-store_words.ensures.done c.in_ok-store.ensures.stands;
+      c.in_ok-place.ensures.done c.in_ok-reply.ensures.done c.in_ok-store_word.ensures.done c.in_ok-store_words.ensures.done c.in_ok-store.ensures.stands;
   halts = search rules;
   framed = search rules;
 }
