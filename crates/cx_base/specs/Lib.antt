@@ -1,3 +1,4 @@
+pub mod Callers
 pub mod Codes
 pub mod Memory
 pub mod Noted
