@@ -11,7 +11,7 @@ use Rattle.core_events.specs.declared.events.Told.{Told}
 use Rattle.cx_core.specs.declared.entry.Base.{Base}
 use Rattle.cx_core.specs.declared.kinds.Event.{Event}
 use Rattle.cx_core.specs.declared.kinds.Kind.{Kind}
-use Rattle.cx_core.specs.declared.kinds.Kind.TheVariants.{WriteCell, Link, Look, ReadCell, LoadFree, TryExclusive, TryShared, BackOff, Downgrade, ReleaseExclusive, LoadWord, StoreWord, Persist, LoadCur, Publish, Raise, Retire, Protect, Confirm, Unprotect, CloseLow, Scan, OpenFree, WriteSet, Offer, LoadOffer, ReadSet}
+use Rattle.cx_core.specs.declared.kinds.Kind.TheVariants.{Link, TryExclusive, TryShared, BackOff, Downgrade, Publish}
 use Rattle.cx_core.specs.declared.local.HeldDowngraded.{HeldDowngraded}
 use Rattle.cx_core.specs.declared.local.Linked.{Linked}
 use Rattle.cx_core.specs.declared.local.Local.{Local}
@@ -32,34 +32,13 @@ either-number true x y n p q = p
 either-number false x y n p q = q
 
 pub next-number : (instance : Instance) (scene : Scene) (kind : Kind) (l : Local) (found : ℕ) → (next instance scene kind l found).number ≡ l.number
-next-number instance scene (WriteCell j i v) l found = refl
 next-number instance scene (Link j) l found = either-number (found == seen_word l.seen_slot) (linked l j) (lost instance.callers l found) l.number refl refl
-next-number instance scene (Look s) l found = refl
-next-number instance scene (ReadCell t k i) l found = refl
-next-number instance scene LoadFree l found = refl
 next-number instance scene (TryExclusive r) l found = either-number (found == 0) (taken instance scene r l) (refused_by instance.callers r l found) l.number refl refl
 next-number instance scene (TryShared r) l found = either-number (nat_lt found exclusive_mark) (shared_by r l found) (passing instance.callers r l found) l.number refl refl
 next-number instance scene (BackOff r) l found =
     either-number (is_at r (shared_on l)) _ _ l.number refl (either-number (is_at r l.passer) _ _ l.number refl refl)
-next-number instance scene (Downgrade r) l found = refl
-next-number instance scene (ReleaseExclusive r) l found = refl
-next-number instance scene (LoadWord r i refused) l found = refl
-next-number instance scene (StoreWord r i v) l found = refl
-next-number instance scene (Persist r i) l found = refl
-next-number instance scene LoadCur l found = refl
 next-number instance scene Publish l found = either-number (found == l.seen_cur) (published instance.callers l) (outrun instance.callers l found) l.number refl refl
-next-number instance scene (Raise code read) l found = refl
-next-number instance scene Retire l found = refl
-next-number instance scene (Protect p) l found = refl
-next-number instance scene Confirm l found = refl
-next-number instance scene Unprotect l found = refl
-next-number instance scene (CloseLow target) l found = refl
-next-number instance scene (Scan d) l found = refl
-next-number instance scene OpenFree l found = refl
-next-number instance scene (WriteSet j i v) l found = refl
-next-number instance scene (Offer j) l found = refl
-next-number instance scene (LoadOffer k t) l found = refl
-next-number instance scene (ReadSet k t i) l found = refl
+next-number instance scene kind l found = refl
 
 -- each own entry after a step is from before, or was linked by it
 abbrev OwnFrom : Local → Local → Type 0
@@ -85,34 +64,13 @@ own_linked l j below i x at =
     only new x (suc k) there = absurd (none-some x there)
 
 own_next : (instance : Instance) (scene : Scene) (kind : Kind) (l : Local) (found : ℕ) → Guard instance scene kind l → OwnFrom l (next instance scene kind l found)
-own_next instance scene (WriteCell j i v) l found guard = λ _ _ at. inl at
 own_next instance scene (Link j) l found guard =
     own_either l (found == seen_word l.seen_slot) (linked l j) (lost instance.callers l found) (own_linked l j guard.3) (λ _ _ at. inl at)
-own_next instance scene (Look s) l found guard = λ _ _ at. inl at
-own_next instance scene (ReadCell t k i) l found guard = λ _ _ at. inl at
-own_next instance scene LoadFree l found guard = λ _ _ at. inl at
 own_next instance scene (TryExclusive r) l found guard = own_either l (found == 0) (taken instance scene r l) (refused_by instance.callers r l found) (λ _ _ at. inl at) (λ _ _ at. inl at)
 own_next instance scene (TryShared r) l found guard = own_either l (nat_lt found exclusive_mark) (shared_by r l found) (passing instance.callers r l found) (λ _ _ at. inl at) (λ _ _ at. inl at)
 own_next instance scene (BackOff r) l found guard = own_either l (is_at r (shared_on l)) _ _ (λ _ _ at. inl at) (own_either l (is_at r l.passer) _ _ (λ _ _ at. inl at) (λ _ _ at. inl at))
-own_next instance scene (Downgrade r) l found guard = λ _ _ at. inl at
-own_next instance scene (ReleaseExclusive r) l found guard = λ _ _ at. inl at
-own_next instance scene (LoadWord r i refused) l found guard = λ _ _ at. inl at
-own_next instance scene (StoreWord r i v) l found guard = λ _ _ at. inl at
-own_next instance scene (Persist r i) l found guard = λ _ _ at. inl at
-own_next instance scene LoadCur l found guard = λ _ _ at. inl at
 own_next instance scene Publish l found guard = own_either l (found == l.seen_cur) (published instance.callers l) (outrun instance.callers l found) (λ _ _ at. inl at) (λ _ _ at. inl at)
-own_next instance scene (Raise code read) l found guard = λ _ _ at. inl at
-own_next instance scene Retire l found guard = λ _ _ at. inl at
-own_next instance scene (Protect p) l found guard = λ _ _ at. inl at
-own_next instance scene Confirm l found guard = λ _ _ at. inl at
-own_next instance scene Unprotect l found guard = λ _ _ at. inl at
-own_next instance scene (CloseLow target) l found guard = λ _ _ at. inl at
-own_next instance scene (Scan d) l found guard = λ _ _ at. inl at
-own_next instance scene OpenFree l found guard = λ _ _ at. inl at
-own_next instance scene (WriteSet j i v) l found guard = λ _ _ at. inl at
-own_next instance scene (Offer j) l found guard = λ _ _ at. inl at
-own_next instance scene (LoadOffer k t) l found guard = λ _ _ at. inl at
-own_next instance scene (ReadSet k t i) l found guard = λ _ _ at. inl at
+own_next instance scene kind l found guard = λ _ _ at. inl at
 
 -- what is downgraded after a step was so before, or is the full image after its place
 code_none : (callers : ℕ) → HasCode callers None
@@ -132,34 +90,14 @@ code_given_up instance scene r l small guard h is =
 
 code_next : (instance : Instance) (scene : Scene) (kind : Kind) (l : Local) (found : ℕ) → instance.base.place + length scene.history ≤ 2 ^ 40 → Guard instance scene kind l →
     HasCode instance.callers l.downgraded → HasCode instance.callers (next instance scene kind l found).downgraded
-code_next instance scene (WriteCell j i v) l found small guard has = has
 code_next instance scene (Link j) l found small guard has = code_either instance.callers (found == seen_word l.seen_slot) (linked l j) (lost instance.callers l found) has has
-code_next instance scene (Look s) l found small guard has = has
-code_next instance scene (ReadCell t k i) l found small guard has = has
-code_next instance scene LoadFree l found small guard has = has
 code_next instance scene (TryExclusive r) l found small guard has = code_either instance.callers (found == 0) (taken instance scene r l) (refused_by instance.callers r l found) has has
 code_next instance scene (TryShared r) l found small guard has = code_either instance.callers (nat_lt found exclusive_mark) (shared_by r l found) (passing instance.callers r l found) has has
 code_next instance scene (BackOff r) l found small guard has =
     code_either instance.callers (is_at r (shared_on l)) _ _ has (code_either instance.callers (is_at r l.passer) _ _ has (code_none instance.callers))
 code_next instance scene (Downgrade r) l found small guard has = code_given_up instance scene r l small guard
-code_next instance scene (ReleaseExclusive r) l found small guard has = has
-code_next instance scene (LoadWord r i refused) l found small guard has = has
-code_next instance scene (StoreWord r i v) l found small guard has = has
-code_next instance scene (Persist r i) l found small guard has = has
-code_next instance scene LoadCur l found small guard has = has
 code_next instance scene Publish l found small guard has = code_either instance.callers (found == l.seen_cur) (published instance.callers l) (outrun instance.callers l found) (code_none instance.callers) has
-code_next instance scene (Raise code read) l found small guard has = has
-code_next instance scene Retire l found small guard has = has
-code_next instance scene (Protect p) l found small guard has = has
-code_next instance scene Confirm l found small guard has = has
-code_next instance scene Unprotect l found small guard has = has
-code_next instance scene (CloseLow target) l found small guard has = has
-code_next instance scene (Scan d) l found small guard has = has
-code_next instance scene OpenFree l found small guard has = has
-code_next instance scene (WriteSet j i v) l found small guard has = has
-code_next instance scene (Offer j) l found small guard has = has
-code_next instance scene (LoadOffer k t) l found small guard has = has
-code_next instance scene (ReadSet k t i) l found small guard has = has
+code_next instance scene kind l found small guard has = has
 
 -- what a step keeps of its caller's number and own list, and of what is downgraded
 pub record Follows (callers : ℕ) (l l' : Local) : Type 0 where

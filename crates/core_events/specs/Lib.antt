@@ -1,3 +1,4 @@
 pub mod Codes
 pub mod Images
+pub mod Tables
 pub mod Told

@@ -2,6 +2,7 @@
 //! local state.
 
 ghost use Rattle.std.specs.Prelude.{◌≡◌, ◌^◌, ◌<◌, ◌≤◌, ◌↔◌, length, slice_get, IsTrue, IfOk, OnErr, None, Some};
+ghost use Rattle.core_events.specs.Tables.{HasRegions};
 ghost use Rattle.core_events.specs.Codes.{HasCode};
 ghost use Rattle.core_events.specs.Told.{Tells, TellsAnswers, TellsOfferWord};
 ghost use Rattle.cx_core.specs.Base.{LawfulBase};
@@ -73,11 +74,8 @@ fn step(
     kind: &Kind,
     told: &Told,
 ) -> Result<bool, AllocError>
-    requires some { 1 ≤ callers }
-    requires few { callers ≤ 8 }
-    requires long { length words.old ≡ word_count callers (length base.now.words) }
+    requires regions { HasRegions callers base.now words.old }
     requires caller { local.old.number < callers }
-    requires slots { OBJECT_START ≤ length base.now.words }
     requires code { HasCode callers local.old.downgraded }
     ensures ok { IfOk result (λ made. EachScene callers base.now words.old (λ instance scene. Tells told.now instance scene kind.now local.old → Did made instance scene kind.now local.old local.new words.new)) }
     ensures err { OnErr result ((local.new ≡ local.old) × (words.new ≡ words.old)) }

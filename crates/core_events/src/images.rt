@@ -139,14 +139,12 @@ pub(crate) fn full_image<O: Object>(
 
 /// Does the full step of an entry on a region in a memory without a limit.
 fn step_on<O: Object>(object: &O, memory: &mut VecMemory, entry: &Entry)
-    requires region { IsRegion (O.line_count object.now) (O.lawful object.now) (words_of memory.old) }
+    requires region { IsRegion (O.line_count object.now) (O.lawful object.now) (words_of memory.old) × (memory.old.left ≡ None) }
     requires place { place_of (words_of memory.old) < 2 ^ 40 }
-    requires free { memory.old.left ≡ None }
     requires caller { entry.now.caller < 8 }
-    ensures words { words_of memory.new ≡ full_step_of (O.step object.now) entry.now (words_of memory.old) }
+    ensures words { (words_of memory.new ≡ full_step_of (O.step object.now) entry.now (words_of memory.old)) × (memory.new.left ≡ None) }
     ensures region { IsRegion (O.line_count object.now) (O.lawful object.now) (words_of memory.new) }
     ensures place { place_of (words_of memory.new) ≡ place_of (words_of memory.old) + 1 }
-    ensures free { memory.new.left ≡ None }
 {
     op_fits(&entry.op);
     match full_step(object, memory, entry) {

@@ -1,6 +1,8 @@
 //! The steps on lock words: a replica is tried, exclusively or shared, given up, downgraded or backed off from.
 
 ghost use Rattle.std.specs.Prelude.{◌≡◌, ◌+◌, ◌-◌, ◌*◌, ◌<◌, ◌≤◌, ◌↔◌, length, take, IsTrue, IfOk, OnErr, OnOk};
+ghost use Rattle.core_events.specs.Tables.{HasRegions, HasWords};
+ghost use Rattle.cx_base.specs.Callers.{AreCallers};
 ghost use Rattle.cx_core.specs.declared.kinds.Kind.TheVariants.{TryExclusive, TryShared, BackOff, Downgrade, ReleaseExclusive};
 ghost use Rattle.cx_core.specs.Events.{Did};
 ghost use Rattle.cx_core.specs.History.{IsFull};
@@ -39,10 +41,7 @@ pub(crate) fn try_exclusive(
     local: &mut Local,
     r: u64,
 ) -> Result<bool, AllocError>
-    requires some { 1 ≤ callers }
-    requires few { callers ≤ 8 }
-    requires long { length words.old ≡ word_count callers (length base.now.words) }
-    requires slots { OBJECT_START ≤ length base.now.words }
+    requires regions { HasRegions callers base.now words.old }
     ensures ok { IfOk result (λ made. EachScene callers base.now words.old (λ instance scene. Did made instance scene (TryExclusive r) local.old local.new words.new)) }
     ensures err { OnErr result ((local.new ≡ local.old) × (words.new ≡ words.old)) }
 {
@@ -70,10 +69,7 @@ fn take(
     local: &mut Local,
     r: u64,
 ) -> Result<(), AllocError>
-    requires some { 1 ≤ callers }
-    requires few { callers ≤ 8 }
-    requires long { length words.now ≡ word_count callers (length base.now.words) }
-    requires slots { OBJECT_START ≤ length base.now.words }
+    requires regions { HasRegions callers base.now words.now }
     requires r { r < 2 * callers }
     ensures ok { OnOk result (EachScene callers base.now words.now (λ instance scene. local.new ≡ taken instance scene r local.old)) }
     ensures err { OnErr result (local.new ≡ local.old) }
@@ -125,9 +121,7 @@ pub(crate) fn try_shared(
     local: &mut Local,
     r: u64,
 ) -> bool
-    requires some { 1 ≤ callers }
-    requires few { callers ≤ 8 }
-    requires long { replicas_at callers ≤ length words.old }
+    requires table { HasWords callers words.old }
     ensures { (base : _) → EachScene callers base words.old (λ instance scene. Did result instance scene (TryShared r) local.old local.new words.new) }
 {
     if !can_try_shared(callers, local, r) {
@@ -161,8 +155,7 @@ fn share(alloc: Global, local: &mut Local, r: u64, found: u64)
 
 /// What a caller learns by a shared try that found an exclusive mark.
 fn pass(callers: u32, local: &mut Local, r: u64, found: u64)
-    requires some { 1 ≤ callers }
-    requires few { callers ≤ 8 }
+    requires callers { AreCallers callers }
     ensures { local.new ≡ passing callers r local.old found }
 {
     if is_fresh_on(callers, r, local) {
@@ -179,9 +172,7 @@ fn pass(callers: u32, local: &mut Local, r: u64, found: u64)
 
 /// Takes back what the caller added to a lock word by a shared try or a downgrade.
 pub(crate) fn back_off(callers: u32, words: &mut [u64], local: &mut Local, r: u64) -> bool
-    requires some { 1 ≤ callers }
-    requires few { callers ≤ 8 }
-    requires long { replicas_at callers ≤ length words.old }
+    requires table { HasWords callers words.old }
     ensures { (base : _) → EachScene callers base words.old (λ instance scene. Did result instance scene (BackOff r) local.old local.new words.new) }
 {
     if !can_back_off(callers, local, r) {
@@ -215,9 +206,7 @@ pub(crate) fn downgrade(
     r: u64,
     full: bool,
 ) -> bool
-    requires some { 1 ≤ callers }
-    requires few { callers ≤ 8 }
-    requires long { replicas_at callers ≤ length words.old }
+    requires table { HasWords callers words.old }
     ensures { (base : _) → EachScene callers base words.old (λ instance scene. (IsTrue full ↔ IsFull instance scene.history (held_words local.old.exclusive)) → Did result instance scene (Downgrade r) local.old local.new words.new) }
 {
     if !full || !is_clean(callers, local, r) {
@@ -249,9 +238,7 @@ pub(crate) fn release_exclusive(
     r: u64,
     full: bool,
 ) -> bool
-    requires some { 1 ≤ callers }
-    requires few { callers ≤ 8 }
-    requires long { replicas_at callers ≤ length words.old }
+    requires table { HasWords callers words.old }
     ensures { (base : _) → EachScene callers base words.old (λ instance scene. (IsTrue full ↔ IsFull instance scene.history (held_words local.old.exclusive)) → Did result instance scene (ReleaseExclusive r) local.old local.new words.new) }
 {
     if !is_clean(callers, local, r) || !full {

@@ -1,6 +1,8 @@
 //! The steps of the queue: words of a caller's cells, link slots, and FREE.
 
 ghost use Rattle.std.specs.Prelude.{◌≡◌, ◌+◌, ◌*◌, ◌%◌, ◌^◌, ◌<◌, ◌≤◌, ℕ, max, length, IfOk, OnErr, OnOk, slice_index, slice_set, if◌then◌else◌, ◌==◌};
+ghost use Rattle.core_events.specs.Tables.{HasCaller, HasWords};
+ghost use Rattle.cx_base.specs.Callers.{AreCallers};
 ghost use Rattle.cx_core.specs.declared.kinds.Kind.TheVariants.{WriteCell, Link, Look, ReadCell, LoadFree};
 ghost use Rattle.cx_core.specs.Events.{Did};
 ghost use Rattle.cx_core.specs.Layout.{cell_count, link_at, replicas_at};
@@ -24,10 +26,7 @@ pub(crate) fn write_cell(
     i: u64,
     v: u64,
 ) -> bool
-    requires some { 1 ≤ callers }
-    requires few { callers ≤ 8 }
-    requires long { replicas_at callers ≤ length words.old }
-    requires caller { local.old.number < callers }
+    requires table { HasCaller callers words.old local.old }
     ensures { (base : _) → EachScene callers base words.old (λ instance scene. Did result instance scene (WriteCell j i v) local.old local.new words.new) }
 {
     if j >= CELLS || i >= CELL_WORDS || !is_idle(local, j) {
@@ -51,10 +50,7 @@ pub(crate) fn link(
     local: &mut Local,
     j: u64,
 ) -> Result<bool, AllocError>
-    requires some { 1 ≤ callers }
-    requires few { callers ≤ 8 }
-    requires long { replicas_at callers ≤ length words.old }
-    requires caller { local.old.number < callers }
+    requires table { HasCaller callers words.old local.old }
     requires slots { OBJECT_START ≤ length base.now.words }
     ensures ok { IfOk result (λ b. EachScene callers base.now words.old (λ instance scene. Did b instance scene (Link j) local.old local.new words.new)) }
     ensures err { OnErr result ((local.new ≡ local.old) × (words.new ≡ words.old)) }
@@ -68,14 +64,10 @@ pub(crate) fn link(
 
 /// The compare-exchange of a link, and what its caller learns. `Err` is want of memory, and nothing changed.
 fn exchange(callers: u32, words: &mut [u64], local: &mut Local, j: u64) -> Result<(), AllocError>
-    requires some { 1 ≤ callers }
-    requires few { callers ≤ 8 }
-    requires long { replicas_at callers ≤ length words.old }
-    requires caller { local.old.number < callers }
+    requires table { HasCaller callers words.old local.old }
     requires j { j < 16 }
     requires front { local.old.front < 2 ^ 40 }
-    ensures word { let at = link_at callers (local.old.front % cell_count callers) in OnOk result (words.new ≡ slice_set words.old at (exchanged callers local.old j (slice_index words.old at))) }
-    ensures local { let found = slice_index words.old (link_at callers (local.old.front % cell_count callers)) in OnOk result (local.new ≡ (if found == seen_word local.old.seen_slot then linked local.old j else lost callers local.old found)) }
+    ensures did { let at = link_at callers (local.old.front % cell_count callers) in let found = slice_index words.old at in OnOk result ((words.new ≡ slice_set words.old at (exchanged callers local.old j found)) × (local.new ≡ (if found == seen_word local.old.seen_slot then linked local.old j else lost callers local.old found))) }
     ensures err { OnErr result ((local.new ≡ local.old) × (words.new ≡ words.old)) }
 {
     let at = link_at(callers, local.front % cell_count(callers));
@@ -110,8 +102,7 @@ fn win(local: &mut Local, j: u64) -> Result<(), AllocError>
 
 /// What a caller learns by a link that was lost to the ticket found.
 fn lose(callers: u32, local: &mut Local, found: u64)
-    requires some { 1 ≤ callers }
-    requires few { callers ≤ 8 }
+    requires callers { AreCallers callers }
     ensures { local.new ≡ lost callers local.old found }
 {
     local.front = front_after(callers, local.front, found);
@@ -120,9 +111,7 @@ fn lose(callers: u32, local: &mut Local, found: u64)
 
 /// Loads the word of a link slot.
 pub(crate) fn look(callers: u32, words: &[u64], local: &mut Local, s: u64) -> bool
-    requires some { 1 ≤ callers }
-    requires few { callers ≤ 8 }
-    requires long { replicas_at callers ≤ length words.now }
+    requires table { HasWords callers words.now }
     ensures { (base : _) → EachScene callers base words.now (λ instance scene. Did result instance scene (Look s) local.old local.new words.now) }
 {
     if s >= cell_count(callers) {
@@ -148,8 +137,7 @@ pub(crate) fn read_cell(
     k: u64,
     i: u64,
 ) -> bool
-    requires some { 1 ≤ callers }
-    requires few { callers ≤ 8 }
+    requires callers { AreCallers callers }
     ensures { (base : _) → EachScene callers base words.now (λ instance scene. Did result instance scene (ReadCell t k i) local.old local.new words.now) }
 {
     if t >= local.front

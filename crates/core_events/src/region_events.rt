@@ -1,6 +1,7 @@
 //! The steps on the words of replicas: words are loaded, stored and persisted.
 
 ghost use Rattle.std.specs.Prelude.{◌≡◌, ◌*◌, ◌<◌, ◌≤◌, length, IfOk, OnErr, OnOk, ◌==◌, true, false};
+ghost use Rattle.cx_base.specs.Callers.{AreCallers};
 ghost use Rattle.cx_core.specs.declared.kinds.Kind.TheVariants.{LoadWord, StoreWord, Persist};
 ghost use Rattle.cx_core.specs.Events.{Did};
 ghost use Rattle.cx_core.specs.Layout.{word_count};
@@ -26,8 +27,7 @@ pub(crate) fn load_word(
     i: u64,
     refused: bool,
 ) -> Result<bool, AllocError>
-    requires some { 1 ≤ callers }
-    requires few { callers ≤ 8 }
+    requires callers { AreCallers callers }
     requires long { length words.now ≡ word_count callers (length base.now.words) }
     ensures ok { IfOk result (λ made. EachScene callers base.now words.now (λ instance scene. Did made instance scene (LoadWord r i refused) local.old local.new words.now)) }
     ensures err { OnErr result (local.new ≡ local.old) }

@@ -2,6 +2,7 @@
 
 ghost use Rattle.std.specs.Prelude.{◌≡◌, ◌+◌, ◌<◌, ◌≤◌, ◌↔◌, ℕ, Bool, List, None, length, IsTrue, IfOk};
 ghost use Rattle.std.specs.Option.{option_to_list};
+ghost use Rattle.cx_base.specs.Callers.{AreCallers};
 ghost use Rattle.core_events.specs.Told.{TellsAnswers};
 ghost use Rattle.cx_base.specs.VecMemory.{words_of};
 ghost use Rattle.cx_core.specs.Base.{LawfulBase};
@@ -31,8 +32,7 @@ fn can_raise<O: Object>(
     code: u64,
     read: &Option<[u64; 144]>,
 ) -> bool
-    requires some { 1 ≤ callers }
-    requires few { callers ≤ 8 }
+    requires callers { AreCallers callers }
     ensures { (base : _) (step : List ℕ → List ℕ → List ℕ × List ℕ) → IsTrue result ↔ CanRaise (record { callers = callers; base = base; step = step; reads = O.only_reads object.now }) code read.now local.now }
 {
     (code == local.seen_cur || is_won_code(code, local.won))
@@ -54,8 +54,7 @@ pub(crate) fn replies_of<O: Object>(
     code: u64,
     read: &Option<[u64; 144]>,
 ) -> Result<Option<Acknowledged>, AllocError>
-    requires some { 1 ≤ callers }
-    requires few { callers ≤ 8 }
+    requires callers { AreCallers callers }
     requires base { LawfulBase (O.line_count object.now) (O.lawful object.now) base.now }
     ensures { (words : List ℕ) → IfOk result (λ told. TellsAnswers told (record { callers = callers; base = base.now; step = O.step object.now; reads = O.only_reads object.now }) (record { history = history_of base.now.place locals.now; words = words }) code read.now local.now) }
 {
@@ -166,8 +165,7 @@ fn part_after<O: Object>(
 ) -> Result<VecMemory, AllocError>
     requires base { LawfulBase (O.line_count object.now) (O.lawful object.now) base.now }
     ensures words { IfOk result (λ memory. words_of memory ≡ image_after (O.step object.now) (object_part base.now.words) entries.now) }
-    ensures lawful { IfOk result (λ memory. O.lawful object.now (words_of memory)) }
-    ensures free { IfOk result (λ memory. memory.left ≡ None) }
+    ensures lawful { IfOk result (λ memory. O.lawful object.now (words_of memory) × (memory.left ≡ None)) }
 {
     let words = Vec::from_slice(alloc, &base.words.as_slice()[OBJECT_START as usize..])?;
     let mut memory = VecMemory::of(words, None);
@@ -179,11 +177,9 @@ fn part_after<O: Object>(
 
 /// Does the object's step on its image in a memory without a limit, and gives the reply.
 fn run_on<O: Object>(object: &O, memory: &mut VecMemory, op: &[u64; 144]) -> [u64; 144]
-    requires lawful { O.lawful object.now (words_of memory.old) }
-    requires free { memory.old.left ≡ None }
+    requires { O.lawful object.now (words_of memory.old) × (memory.old.left ≡ None) }
     ensures step { O.step object.now (words_of memory.old) op.now ≡ (words_of memory.new, result) }
-    ensures lawful { O.lawful object.now (words_of memory.new) }
-    ensures free { memory.new.left ≡ None }
+    ensures lawful { O.lawful object.now (words_of memory.new) × (memory.new.left ≡ None) }
 {
     op_fits(op);
     match object.run(memory, op) {

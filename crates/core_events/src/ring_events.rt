@@ -1,6 +1,8 @@
 //! The steps on the ring: what a caller needs is stated, confirmed and given up, and tickets are closed, scanned and opened.
 
 ghost use Rattle.std.specs.Prelude.{◌≡◌, ◌<◌, ◌≤◌, length};
+ghost use Rattle.core_events.specs.Tables.{HasCaller, HasWords};
+ghost use Rattle.cx_base.specs.Callers.{AreCallers};
 ghost use Rattle.cx_core.specs.declared.kinds.Kind.TheVariants.{Protect, Confirm, Unprotect, CloseLow, Scan, OpenFree};
 ghost use Rattle.cx_core.specs.Events.{Did};
 ghost use Rattle.cx_core.specs.Layout.{replicas_at};
@@ -16,8 +18,7 @@ use cx_core::{Local, Protection};
 
 /// States in the caller's need that it needs the tickets from a place on.
 pub(crate) fn protect(callers: u32, words: &mut [u64], local: &mut Local, p: u64) -> bool
-    requires long { replicas_at callers ≤ length words.old }
-    requires caller { local.old.number < callers }
+    requires table { HasCaller callers words.old local.old }
     ensures { (base : _) → EachScene callers base words.old (λ instance scene. Did result instance scene (Protect p) local.old local.new words.new) }
 {
     if p > 1 << 40 || !is_unprotected(local.protection) {
@@ -31,8 +32,7 @@ pub(crate) fn protect(callers: u32, words: &mut [u64], local: &mut Local, p: u64
 
 /// What a caller learns by LOW that it found.
 fn learn(callers: u32, local: &mut Local, found: u64)
-    requires some { 1 ≤ callers }
-    requires few { callers ≤ 8 }
+    requires callers { AreCallers callers }
     ensures { local.new ≡ confirmed callers local.old found }
 {
     if shows_outdated(callers, local, found) {
@@ -46,9 +46,7 @@ fn learn(callers: u32, local: &mut Local, found: u64)
 
 /// Loads LOW, which confirms the protection stated where it is at most its place.
 pub(crate) fn confirm(callers: u32, words: &[u64], local: &mut Local) -> bool
-    requires some { 1 ≤ callers }
-    requires few { callers ≤ 8 }
-    requires long { 4 ≤ length words.now }
+    requires table { HasWords callers words.now }
     ensures { (base : _) → EachScene callers base words.now (λ instance scene. Did result instance scene Confirm local.old local.new words.now) }
 {
     if !is_stated(local.protection) {
@@ -60,8 +58,7 @@ pub(crate) fn confirm(callers: u32, words: &[u64], local: &mut Local) -> bool
 
 /// Gives the caller's protection up.
 pub(crate) fn unprotect(callers: u32, words: &mut [u64], local: &mut Local) -> bool
-    requires long { replicas_at callers ≤ length words.old }
-    requires caller { local.old.number < callers }
+    requires table { HasCaller callers words.old local.old }
     ensures { (base : _) → EachScene callers base words.old (λ instance scene. Did result instance scene Unprotect local.old local.new words.new) }
 {
     if !is_protected(local.protection) {
@@ -75,9 +72,7 @@ pub(crate) fn unprotect(callers: u32, words: &mut [u64], local: &mut Local) -> b
 
 /// Raises LOW to a target, and begins a scan of what the callers need.
 pub(crate) fn close_low(callers: u32, words: &mut [u64], local: &mut Local, target: u64) -> bool
-    requires some { 1 ≤ callers }
-    requires few { callers ≤ 8 }
-    requires long { 4 ≤ length words.old }
+    requires table { HasWords callers words.old }
     ensures { (base : _) → EachScene callers base words.old (λ instance scene. Did result instance scene (CloseLow target) local.old local.new words.new) }
 {
     if !can_close(callers, local, target) {
@@ -96,8 +91,7 @@ pub(crate) fn close_low(callers: u32, words: &mut [u64], local: &mut Local, targ
 
 /// Loads the need of the next caller of the scan.
 pub(crate) fn scan(callers: u32, words: &[u64], local: &mut Local, d: u64) -> bool
-    requires few { callers ≤ 8 }
-    requires long { replicas_at callers ≤ length words.now }
+    requires table { HasWords callers words.now }
     ensures { (base : _) → EachScene callers base words.now (λ instance scene. Did result instance scene (Scan d) local.old local.new words.now) }
 {
     if d >= u64::from(callers) || !is_next(d, local.scan) {

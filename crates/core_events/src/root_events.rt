@@ -2,6 +2,8 @@
 
 ghost use Rattle.std.specs.Prelude.{◌≡◌, ◌+◌, ◌*◌, ◌<◌, ◌≤◌, ◌∷◌, ◌++◌, [], ℕ, List, Option, Some, max, length, IfOk, OnErr, OnOk};
 ghost use Rattle.std.specs.Option.{option_to_list};
+ghost use Rattle.core_events.specs.Tables.{HasWords};
+ghost use Rattle.cx_base.specs.Callers.{AreCallers};
 ghost use Rattle.core_events.specs.Codes.{HasCode};
 ghost use Rattle.core_events.specs.Told.{TellsAnswers};
 ghost use Rattle.cx_base.specs.Codes.{root_place_of};
@@ -21,9 +23,7 @@ use std::mem;
 
 /// Loads CUR, which is always allowed.
 pub(crate) fn load_cur(callers: u32, words: &[u64], local: &mut Local) -> bool
-    requires some { 1 ≤ callers }
-    requires few { callers ≤ 8 }
-    requires long { 4 ≤ length words.now }
+    requires table { HasWords callers words.now }
     ensures { (base : _) → EachScene callers base words.now (λ instance scene. Did result instance scene LoadCur local.old local.new words.now) }
 {
     see(callers, local, words[CUR_AT]);
@@ -33,8 +33,7 @@ pub(crate) fn load_cur(callers: u32, words: &[u64], local: &mut Local) -> bool
 
 /// A code is now the last one found in CUR, or put there. Every ticket below its place is linked. It is one step.
 fn see(callers: u32, local: &mut Local, code: u64)
-    requires some { 1 ≤ callers }
-    requires few { callers ≤ 8 }
+    requires callers { AreCallers callers }
     ensures { local.new ≡ record local.old { seen_cur = code; front = max local.old.front (root_place_of callers code); steps = one_more local.old.steps } }
 {
     local.seen_cur = code;
@@ -44,8 +43,7 @@ fn see(callers: u32, local: &mut Local, code: u64)
 
 /// The root code of the replica that is downgraded, 0 where there is none.
 fn code_in(callers: u32, held: Option<HeldDowngraded>) -> u64
-    requires some { 1 ≤ callers }
-    requires few { callers ≤ 8 }
+    requires callers { AreCallers callers }
     requires code { HasCode callers held }
     ensures { result ≡ code_in callers held }
 {
@@ -57,9 +55,7 @@ fn code_in(callers: u32, held: Option<HeldDowngraded>) -> u64
 
 /// Tries to publish the replica that is downgraded: a compare-exchange of CUR from the code last found there.
 pub(crate) fn publish(callers: u32, words: &mut [u64], local: &mut Local) -> bool
-    requires some { 1 ≤ callers }
-    requires few { callers ≤ 8 }
-    requires long { 4 ≤ length words.old }
+    requires table { HasWords callers words.old }
     requires code { HasCode callers local.old.downgraded }
     ensures { (base : _) → EachScene callers base words.old (λ instance scene. Did result instance scene Publish local.old local.new words.new) }
 {
@@ -78,8 +74,7 @@ pub(crate) fn publish(callers: u32, words: &mut [u64], local: &mut Local) -> boo
 /// What a caller learns by a publication that won, and its code: what was downgraded is the pin of CUR, and the pin before
 /// is the win's.
 fn win(callers: u32, local: &mut Local) -> u64
-    requires some { 1 ≤ callers }
-    requires few { callers ≤ 8 }
+    requires callers { AreCallers callers }
     requires code { HasCode callers local.old.downgraded }
     ensures local { local.new ≡ published callers local.old }
     ensures code { result ≡ code_in callers local.old.downgraded }
@@ -97,8 +92,7 @@ fn win(callers: u32, local: &mut Local) -> u64
 
 /// What a caller learns by a publication that was lost to the code found.
 fn lose(callers: u32, local: &mut Local, found: u64)
-    requires some { 1 ≤ callers }
-    requires few { callers ≤ 8 }
+    requires callers { AreCallers callers }
     ensures { local.new ≡ outrun callers local.old found }
 {
     if local.fresh {
@@ -118,9 +112,7 @@ pub(crate) fn raise(
     code: u64,
     told: Option<Acknowledged>,
 ) -> Result<bool, AllocError>
-    requires some { 1 ≤ callers }
-    requires few { callers ≤ 8 }
-    requires long { 4 ≤ length words.old }
+    requires table { HasWords callers words.old }
     ensures ok { IfOk result (λ made. (base : _) → EachScene callers base words.old (λ instance scene. (read : Option (List ℕ)) → TellsAnswers told instance scene code read local.old → Did made instance scene (Raise code read) local.old local.new words.new)) }
     ensures err { OnErr result ((local.new ≡ local.old) × (words.new ≡ words.old)) }
 {
@@ -194,9 +186,7 @@ fn take_last(alloc: Global, answered: &mut Items<Answer>)
 
 /// Takes the pin back from the replica of the code before the caller's win.
 pub(crate) fn retire(callers: u32, words: &mut [u64], local: &mut Local) -> bool
-    requires some { 1 ≤ callers }
-    requires few { callers ≤ 8 }
-    requires long { replicas_at callers ≤ length words.old }
+    requires table { HasWords callers words.old }
     ensures { (base : _) → EachScene callers base words.old (λ instance scene. Did result instance scene Retire local.old local.new words.new) }
 {
     if !can_retire(local.raised, local.won) {

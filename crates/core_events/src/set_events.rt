@@ -1,6 +1,8 @@
 //! The steps on write sets: a set is written and offered, and its offer word and its words are loaded.
 
 ghost use Rattle.std.specs.Prelude.{◌≡◌, ◌<◌, ◌≤◌, length};
+ghost use Rattle.core_events.specs.Tables.{HasCaller, HasWords};
+ghost use Rattle.cx_base.specs.Callers.{AreCallers};
 ghost use Rattle.core_events.specs.Told.{TellsOfferWord};
 ghost use Rattle.cx_core.specs.declared.kinds.Kind.TheVariants.{WriteSet, Offer, LoadOffer, ReadSet};
 ghost use Rattle.cx_core.specs.Events.{Did};
@@ -20,10 +22,7 @@ pub(crate) fn write_set(
     i: u64,
     v: u64,
 ) -> bool
-    requires some { 1 ≤ callers }
-    requires few { callers ≤ 8 }
-    requires long { replicas_at callers ≤ length words.old }
-    requires caller { local.old.number < callers }
+    requires table { HasCaller callers words.old local.old }
     ensures { (base : _) → EachScene callers base words.old (λ instance scene. Did result instance scene (WriteSet j i v) local.old local.new words.new) }
 {
     if i >= SET_WORDS || !can_write_set(local, j) {
@@ -44,10 +43,7 @@ pub(crate) fn offer(
     j: u64,
     told: Option<u64>,
 ) -> bool
-    requires some { 1 ≤ callers }
-    requires few { callers ≤ 8 }
-    requires long { replicas_at callers ≤ length words.old }
-    requires caller { local.old.number < callers }
+    requires table { HasCaller callers words.old local.old }
     ensures { (base : _) → EachScene callers base words.old (λ instance scene. TellsOfferWord told instance scene j local.old → Did result instance scene (Offer j) local.old local.new words.new) }
 {
     let Some(word) = told else {
@@ -65,9 +61,7 @@ pub(crate) fn offer(
 
 /// Loads the offer word of the cell that the slot last looked at shows with a ticket, which a confirmed protection has to keep.
 pub(crate) fn load_offer(callers: u32, words: &[u64], local: &mut Local, k: u64, t: u64) -> bool
-    requires some { 1 ≤ callers }
-    requires few { callers ≤ 8 }
-    requires long { replicas_at callers ≤ length words.now }
+    requires table { HasWords callers words.now }
     ensures { (base : _) → EachScene callers base words.now (λ instance scene. Did result instance scene (LoadOffer k t) local.old local.new words.now) }
 {
     if !can_load_offer(callers, local, k, t) {
@@ -92,8 +86,7 @@ pub(crate) fn read_set(
     t: u64,
     i: u64,
 ) -> bool
-    requires some { 1 ≤ callers }
-    requires few { callers ≤ 8 }
+    requires callers { AreCallers callers }
     ensures { (base : _) → EachScene callers base words.now (λ instance scene. Did result instance scene (ReadSet k t i) local.old local.new words.now) }
 {
     if !can_read_set(callers, local, k, t, i) {

@@ -1,6 +1,7 @@
 //! The state of a core: the shared words, and the local state of each caller.
 
 ghost use Rattle.std.specs.Prelude.{◌≡◌, ◌+◌, ◌*◌, ◌^◌, ◌<◌, ◌≤◌, ◌++◌, ◌∷◌, [], ℕ, length, replicate, IfOk, OnOk, slice_get, slice_index, slice_range};
+ghost use Rattle.cx_base.specs.Callers.{AreCallers};
 ghost use Rattle.cx_core.specs.Base.{LawfulBase};
 ghost use Rattle.cx_core.specs.Layout.{cell_count, cur_at, dur_at, low_at, free_at, link_at, lock_at, need_at, cell_at, offer_at, set_at, vol_at, per_at, word_count, max_word};
 ghost use Rattle.cx_core.specs.State.{copies, opening_local, opening_locals, opening_words, opening_state};
@@ -45,8 +46,7 @@ impl CoreState {
         callers: u32,
         base: &Base,
     ) -> Result<CoreState, AllocError>
-        requires some { 1 ≤ callers }
-        requires few { callers ≤ 8 }
+        requires callers { AreCallers callers }
         requires enough { 64 ≤ O.line_count object.now }
         requires small { O.line_count object.now ≤ 16384 }
         requires base { LawfulBase (O.line_count object.now) (O.lawful object.now) base.now }
@@ -202,8 +202,7 @@ impl CoreState {
 
 /// The words with which a table opens.
 fn opening_table(alloc: Global, callers: u32, base: &Base) -> Result<Vec<u64>, AllocError>
-    requires some { 1 ≤ callers }
-    requires few { callers ≤ 8 }
+    requires callers { AreCallers callers }
     requires place { base.now.place ≤ 2 ^ 40 }
     ensures { IfOk result (λ words. words.items ≡ opening_words callers base.now) }
 {
@@ -244,8 +243,7 @@ fn push_copies(words: &mut Vec<u64>, n: u64, from: &[u64]) -> Result<(), AllocEr
 
 /// The local states with which the callers open.
 fn opening_callers(alloc: Global, callers: u32, place: u64) -> Result<Vec<Local>, AllocError>
-    requires some { 1 ≤ callers }
-    requires few { callers ≤ 8 }
+    requires callers { AreCallers callers }
     requires place { place ≤ 2 ^ 40 }
     ensures { IfOk result (λ locals. locals.items ≡ opening_locals callers place) }
 {

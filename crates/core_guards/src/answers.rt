@@ -1,6 +1,7 @@
 //! What a raise asks of a caller's local state, and which tickets it answers.
 
 ghost use Rattle.std.specs.Prelude.{◌≡◌, ◌<◌, ◌≤◌, ◌↔◌, None, IsTrue};
+ghost use Rattle.cx_base.specs.Callers.{AreCallers};
 ghost use Rattle.cx_core.specs.RootEvents.{IsWonCode, ShowsPlace};
 
 use cx_base::{root_place, root_replica};
@@ -18,8 +19,7 @@ pub fn is_won_code(code: u64, won: Option<WonCode>) -> bool
 
 /// Whether the replica that a code names is held shared, and its place word was loaded, which is the code's place.
 pub fn shows_place(callers: u32, code: u64, shared: &Option<HeldShared>) -> bool
-    requires some { 1 ≤ callers }
-    requires few { callers ≤ 8 }
+    requires callers { AreCallers callers }
     ensures { IsTrue result ↔ ShowsPlace callers code shared.now }
 {
     match shared {
@@ -36,8 +36,7 @@ pub fn shows_place(callers: u32, code: u64, shared: &Option<HeldShared>) -> bool
 
 /// Whether a raise by a code may answer a read whose operation only reads.
 pub fn shows_current(callers: u32, local: &Local, code: u64) -> bool
-    requires some { 1 ≤ callers }
-    requires few { callers ≤ 8 }
+    requires callers { AreCallers callers }
     ensures { IsTrue result ↔ ((code ≡ local.now.seen_cur) × IsTrue local.now.fresh × ShowsPlace callers code local.now.shared) }
 {
     code == local.seen_cur && local.fresh && shows_place(callers, code, &local.shared)

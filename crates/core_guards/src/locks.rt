@@ -1,6 +1,7 @@
 //! What guards on locks ask of a caller's local state, and of a lock's word.
 
 ghost use Rattle.std.specs.Prelude.{◌≡◌, ◌+◌, ◌-◌, ◌<◌, ◌≤◌, ◌↔◌, [], take, IsTrue, ◌==◌};
+ghost use Rattle.cx_base.specs.Callers.{AreCallers};
 ghost use Rattle.cx_core.specs.LockEvents.{CanBackOff, CanTryExclusive, CanTryShared, IsClean, has_all, is_fresh_on};
 ghost use Rattle.cx_core.specs.Region.{place_of};
 ghost use Rattle.cx_core.specs.Rights.{downgraded_on, exclusive_on, held_dirty, held_words, is_at, rights, rights_on, shared_on, won_on};
@@ -41,8 +42,7 @@ pub fn downgraded_on(local: &Local) -> Option<u64>
 
 /// The replica that an unretired win pins: that of the code before it.
 pub fn won_on(callers: u32, local: &Local) -> Option<u64>
-    requires some { 1 ≤ callers }
-    requires few { callers ≤ 8 }
+    requires callers { AreCallers callers }
     ensures { result ≡ won_on callers local.now }
 {
     match &local.won {
@@ -63,8 +63,7 @@ pub fn is_at(r: u64, right: Option<u64>) -> bool
 
 /// The number of a caller's rights.
 pub fn rights(callers: u32, local: &Local) -> u64
-    requires some { 1 ≤ callers }
-    requires few { callers ≤ 8 }
+    requires callers { AreCallers callers }
     ensures { result ≡ rights callers local.now }
 {
     u64::from(local.exclusive.is_some())
@@ -76,8 +75,7 @@ pub fn rights(callers: u32, local: &Local) -> u64
 
 /// Whether a caller has no right on a replica.
 pub fn has_none_on(callers: u32, r: u64, local: &Local) -> bool
-    requires some { 1 ≤ callers }
-    requires few { callers ≤ 8 }
+    requires callers { AreCallers callers }
     ensures { IsTrue result ↔ (rights_on callers r local.now ≡ 0) }
 {
     !(is_at(r, exclusive_on(local))
@@ -89,8 +87,7 @@ pub fn has_none_on(callers: u32, r: u64, local: &Local) -> bool
 
 /// Whether a caller may try to take a replica exclusively.
 pub fn can_try_exclusive(callers: u32, local: &Local, r: u64) -> bool
-    requires some { 1 ≤ callers }
-    requires few { callers ≤ 8 }
+    requires callers { AreCallers callers }
     ensures { IsTrue result ↔ CanTryExclusive callers r local.now }
 {
     r < replica_count(callers)
@@ -101,8 +98,7 @@ pub fn can_try_exclusive(callers: u32, local: &Local, r: u64) -> bool
 
 /// Whether a caller may try to take a replica shared.
 pub fn can_try_shared(callers: u32, local: &Local, r: u64) -> bool
-    requires some { 1 ≤ callers }
-    requires few { callers ≤ 8 }
+    requires callers { AreCallers callers }
     ensures { IsTrue result ↔ CanTryShared callers r local.now }
 {
     r < replica_count(callers)
@@ -136,8 +132,7 @@ pub fn is_free(word: u64) -> bool
 
 /// Whether the code last loaded from CUR names this replica, and nothing ended its use.
 pub fn is_fresh_on(callers: u32, r: u64, local: &Local) -> bool
-    requires some { 1 ≤ callers }
-    requires few { callers ≤ 8 }
+    requires callers { AreCallers callers }
     ensures { result ≡ is_fresh_on callers r local.now }
 {
     u64::from(root_replica(callers, local.seen_cur)) == r && local.fresh

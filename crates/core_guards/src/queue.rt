@@ -1,6 +1,7 @@
 //! What guards on cells and links ask of a caller's local state.
 
 ghost use Rattle.std.specs.Prelude.{◌≡◌, ◌+◌, ◌%◌, ◌<◌, ◌≤◌, ◌↔◌, max, length, IsTrue, slice_index, ◌==◌};
+ghost use Rattle.cx_base.specs.Callers.{AreCallers};
 ghost use Rattle.cx_core.specs.Layout.{cell_count};
 ghost use Rattle.cx_core.specs.QueueEvents.{CanLink, IsIdle, next_number, ShowsOpen, ShowsTicket, cell_of, entry_in, linked, raised_front, seen_word};
 ghost use Rattle.cx_core.specs.RingEvents.{Protects};
@@ -22,8 +23,7 @@ pub fn is_idle(local: &Local, j: u64) -> bool
 
 /// Whether the slot last looked at shows that a ticket can be linked.
 pub fn shows_open(callers: u32, seen: Option<SeenSlot>, ticket: u64) -> bool
-    requires some { 1 ≤ callers }
-    requires few { callers ≤ 8 }
+    requires callers { AreCallers callers }
     ensures { IsTrue result ↔ ShowsOpen callers seen ticket }
 {
     let cells = cell_count(callers);
@@ -39,8 +39,7 @@ pub fn shows_open(callers: u32, seen: Option<SeenSlot>, ticket: u64) -> bool
 
 /// Whether the slot last looked at shows a ticket in a cell.
 pub fn shows_ticket(callers: u32, seen: Option<SeenSlot>, ticket: u64, cell: u64) -> bool
-    requires some { 1 ≤ callers }
-    requires few { callers ≤ 8 }
+    requires callers { AreCallers callers }
     ensures { IsTrue result ↔ ShowsTicket callers seen ticket cell }
 {
     match seen {
@@ -68,8 +67,7 @@ pub fn has_next_number(base: &Base, local: &Local, j: u64) -> bool
 
 /// The front after a link word was found: the ticket in it is linked, and so is each one before it.
 pub fn front_after(callers: u32, front: u64, found: u64) -> u64
-    requires some { 1 ≤ callers }
-    requires few { callers ≤ 8 }
+    requires callers { AreCallers callers }
     ensures { result ≡ raised_front callers front found }
 {
     if found == 0 {
@@ -106,8 +104,7 @@ pub fn entry_of(local: &Local, j: u64) -> Entry
 
 /// Whether a caller may try to link the entry in its cell.
 pub fn can_link(callers: u32, base: &Base, local: &Local, j: u64) -> bool
-    requires some { 1 ≤ callers }
-    requires few { callers ≤ 8 }
+    requires callers { AreCallers callers }
     requires caller { local.now.number < callers }
     requires slots { OBJECT_START ≤ length base.now.words }
     ensures { IsTrue result ↔ CanLink callers base.now local.now j }

@@ -2,6 +2,7 @@
 
 ghost use Rattle.std.specs.Prelude.{◌≡◌, ◌*◌, ◌<◌, ◌≤◌, ◌↔◌, length, IsTrue, slice_index, ◌==◌, false};
 ghost use Rattle.std.specs.List.{Contains};
+ghost use Rattle.cx_base.specs.Callers.{AreCallers};
 ghost use Rattle.cx_core.specs.Layout.{word_count};
 ghost use Rattle.cx_core.specs.RegionEvents.{CanLoad, CanLoadAs, CanPersist, CanStore, ShowsOutdated};
 ghost use Rattle.cx_core.specs.Rights.{exclusive_on, held_dirty, held_words, shared_on};
@@ -36,8 +37,7 @@ pub fn shows_outdated(
     r: u64,
     i: u64,
 ) -> bool
-    requires some { 1 ≤ callers }
-    requires few { callers ≤ 8 }
+    requires callers { AreCallers callers }
     requires long { length words.now ≡ word_count callers (length base.now.words) }
     requires r { r < 2 * callers }
     requires i { i < length base.now.words }
@@ -59,8 +59,7 @@ pub fn can_load_as(
     i: u64,
     refused: bool,
 ) -> bool
-    requires some { 1 ≤ callers }
-    requires few { callers ≤ 8 }
+    requires callers { AreCallers callers }
     requires long { length words.now ≡ word_count callers (length base.now.words) }
     ensures { IsTrue result ↔ CanLoadAs refused callers (length base.now.words) words.now r i local.now }
 {

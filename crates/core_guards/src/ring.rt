@@ -1,6 +1,7 @@
 //! What guards on the ring ask of a caller's local state: its protection and its scan.
 
 ghost use Rattle.std.specs.Prelude.{◌≡◌, ◌+◌, ◌<◌, ◌≤◌, ◌↔◌, IsTrue};
+ghost use Rattle.cx_base.specs.Callers.{AreCallers};
 ghost use Rattle.cx_core.specs.declared.kinds.Kind.TheVariants.{Scan};
 ghost use Rattle.cx_core.specs.RingEvents.{CanClose, IsNext, IsProtected, IsStated, IsUnprotected, bound_in, confirmed, confirmed_by, least_in, lesser, scan_after, shows_outdated};
 
@@ -53,8 +54,7 @@ pub fn confirmed_by(found: u64, protection: Protection) -> Protection
 /// Whether LOW was found above the place of a protection, though the code last loaded from CUR, which nothing ended the use
 /// of, is at no place above that.
 pub fn shows_outdated(callers: u32, local: &Local, found: u64) -> bool
-    requires some { 1 ≤ callers }
-    requires few { callers ≤ 8 }
+    requires callers { AreCallers callers }
     ensures { result ≡ shows_outdated callers local.now found local.now.protection }
 {
     match local.protection {
@@ -67,8 +67,7 @@ pub fn shows_outdated(callers: u32, local: &Local, found: u64) -> bool
 
 /// Whether a caller may close the tickets below a target.
 pub fn can_close(callers: u32, local: &Local, target: u64) -> bool
-    requires some { 1 ≤ callers }
-    requires few { callers ≤ 8 }
+    requires callers { AreCallers callers }
     ensures { IsTrue result ↔ CanClose callers target local.now }
 {
     target <= root_place(callers, local.seen_cur) && local.scan.is_none()

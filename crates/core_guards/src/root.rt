@@ -1,6 +1,7 @@
 //! What guards on the root ask of a caller's local state: what it downgraded, and what it won.
 
 ghost use Rattle.std.specs.Prelude.{◌≡◌, ◌<◌, ◌≤◌, ◌↔◌, Option, Some, IsTrue};
+ghost use Rattle.cx_base.specs.Callers.{AreCallers};
 ghost use Rattle.cx_core.specs.RootEvents.{CanPublish, CanRetire, IsAbove, before_in};
 
 use cx_base::root_place;
@@ -8,8 +9,7 @@ use cx_core::{HeldDowngraded, Local, WonCode};
 
 /// Whether a replica is downgraded at a place above that of a code.
 pub fn is_above(callers: u32, code: u64, held: Option<HeldDowngraded>) -> bool
-    requires some { 1 ≤ callers }
-    requires few { callers ≤ 8 }
+    requires callers { AreCallers callers }
     ensures { IsTrue result ↔ IsAbove callers code held }
 {
     match held {
@@ -20,8 +20,7 @@ pub fn is_above(callers: u32, code: u64, held: Option<HeldDowngraded>) -> bool
 
 /// Whether a caller may publish the replica that it has downgraded.
 pub fn can_publish(callers: u32, local: &Local) -> bool
-    requires some { 1 ≤ callers }
-    requires few { callers ≤ 8 }
+    requires callers { AreCallers callers }
     ensures { IsTrue result ↔ CanPublish callers local.now }
 {
     is_above(callers, local.seen_cur, local.downgraded) && local.won.is_none()

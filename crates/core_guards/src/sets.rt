@@ -1,6 +1,7 @@
 //! What guards on write sets ask: of a caller's local state, and of a set's words between two regions.
 
 ghost use Rattle.std.specs.Prelude.{◌≡◌, ◌<◌, ◌≤◌, ◌↔◌, IsTrue};
+ghost use Rattle.cx_base.specs.Callers.{AreCallers};
 ghost use Rattle.cx_core.specs.Layout.{cell_count};
 ghost use Rattle.cx_core.specs.QueueEvents.{ShowsTicket};
 ghost use Rattle.cx_core.specs.RingEvents.{Protects};
@@ -77,8 +78,7 @@ pub fn shows_offer(seen: Option<SeenOffer>, k: u64, t: u64) -> bool
 
 /// Whether a caller may look whether the entry with a ticket, in a cell, is offered: it may read the entry.
 pub fn can_load_offer(callers: u32, local: &Local, k: u64, t: u64) -> bool
-    requires some { 1 ≤ callers }
-    requires few { callers ≤ 8 }
+    requires callers { AreCallers callers }
     ensures value { IsTrue result ↔ ((t < local.now.front) × ShowsTicket callers local.now.seen_slot t k × Protects t local.now.protection) }
     ensures within { IsTrue result → k < cell_count callers }
 {
@@ -87,8 +87,7 @@ pub fn can_load_offer(callers: u32, local: &Local, k: u64, t: u64) -> bool
 
 /// Whether a caller may read a word of the set of the entry with a ticket, in a cell.
 pub fn can_read_set(callers: u32, local: &Local, k: u64, t: u64, i: u64) -> bool
-    requires some { 1 ≤ callers }
-    requires few { callers ≤ 8 }
+    requires callers { AreCallers callers }
     ensures { IsTrue result ↔ ((t < local.now.front) × (i < 513) × ShowsTicket callers local.now.seen_slot t k × Protects t local.now.protection × ShowsOffer local.now.seen_offer k t) }
 {
     t < local.front

@@ -1,4 +1,5 @@
 pub mod Calls
+pub mod Callers
 pub mod Codes
 pub mod Memory
 pub mod Noted

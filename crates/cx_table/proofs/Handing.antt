@@ -16,8 +16,8 @@ use Rattle.cx_rule.specs.Running.{IsRunning, Running, instance_at}
 use Rattle.cx_rule.specs.Seats.{Seated, known_after, known_of, unseen}
 use Rattle.cx_rule.specs.Steps.{Steps, StepsCopied, Teaches}
 use Rattle.cx_rule.proofs.Fitting.{fitting}
-use Rattle.seat_memory.specs.declared.mirror.Mirror.{Mirror}
-use Rattle.seat_memory.specs.Mirrors.{Follows}
+use Rattle.seat_memory.specs.declared.summary.Summary.{Summary}
+use Rattle.seat_memory.specs.Summaries.{Follows}
 use Rattle.cx_table.specs.Right.{Right}
 use Rattle.cx_table.specs.declared.tokens.SharedRight.{SharedRight}
 use Rattle.cx_table.specs.declared.tokens.SharedRight.TheVariants.{Hold, Passer, Downgraded as Held}
@@ -116,5 +116,5 @@ pub steps_same : {O : Type 0} {r : Running O} {step : O → List ℕ → List �
     Steps r step reads kind' found before after
 steps_same {r = r} {step = step} {reads = reads} {found = found} {before = before} {after = after} kind kind' same steps = subst (λ (k : Kind). Steps r step reads k found before after) same steps
 
-pub follows_same : (callers found : ℕ) (m m' : Mirror) (kind kind' : Kind) → kind ≡ kind' → Follows callers kind found m m' → Follows callers kind' found m m'
+pub follows_same : (callers found : ℕ) (m m' : Summary) (kind kind' : Kind) → kind ≡ kind' → Follows callers kind found m m' → Follows callers kind' found m m'
 follows_same callers found m m' kind kind' same follows = subst (λ (k : Kind). Follows callers k found m m') same follows

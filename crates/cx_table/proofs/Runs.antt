@@ -22,10 +22,10 @@ use Rattle.cx_rule.specs.declared.rule.Known.{Known}
 use Rattle.cx_rule.specs.Running.{IsRunning, IsSeatOf, Running, instance_at}
 use Rattle.cx_rule.specs.Seats.{IsAtLimit, SeenGuard, Seated, known_after, known_local, known_of}
 use Rattle.cx_rule.specs.Steps.{Teaches}
-use Rattle.seat_memory.specs.declared.mirror.Mirror.{Mirror}
+use Rattle.seat_memory.specs.declared.summary.Summary.{Summary}
 use Rattle.seat_memory.specs.Copies.{Copied, copied_after}
-use Rattle.seat_memory.specs.Mirrors.{mirror_of}
-use Rattle.seat_memory.proofs.MirrorLaws.{IsSeat, seated, step_made_at}
+use Rattle.seat_memory.specs.Summaries.{summary_of}
+use Rattle.seat_memory.proofs.SummaryLaws.{IsSeat, seated, step_made_at}
 use Rattle.cx_table.specs.Runs.{Runs, TeachesRun, no_step, one_more_step, taught_more, taught_none}
 use Rattle.cx_table.proofs.Handing.{step_fits}
 
@@ -67,8 +67,8 @@ pub may_still : (instance : Instance) (callers region r i q j v : ℕ) (k : Know
 may_still instance callers region r i q j v k can =
     (can.0, can.1, subst (λ o. (exclusive_on k.local ≡ Some r) ⊎ (o ≡ Some r)) (sym (shared_loaded q j v k.local.shared)) can.2)
 
-pub numbers_loaded : (instance : Instance) (q j v : ℕ) (k : Known) → mirror_of (known_local instance (LoadWord q j false) k v) ≡ record (mirror_of k.local) { steps = one_more k.local.steps }
-numbers_loaded instance q j v k i = record (mirror_of k.local) { shared = shared_loaded q j v k.local.shared i; steps = one_more k.local.steps }
+pub numbers_loaded : (instance : Instance) (q j v : ℕ) (k : Known) → summary_of (known_local instance (LoadWord q j false) k v) ≡ record (summary_of k.local) { steps = one_more k.local.steps }
+numbers_loaded instance q j v k i = record (summary_of k.local) { shared = shared_loaded q j v k.local.shared i; steps = one_more k.local.steps }
 
 -- a load of a word behind the place changes nothing that is kept of words
 pub kept_loading : (r i v : ℕ) (k : Known) (c : Copied) → 0 < i → copied_after (LoadWord r i false) k v c ≡ c
@@ -85,11 +85,11 @@ kept_loading r i v k c behind =
 module _ {O : Type 0} (line_count : O → ℕ) (lawful : O → List ℕ → Type 0) (step : O → List ℕ → List ℕ → List ℕ × List ℕ) (reads : O → List ℕ → Bool) (r : Running O) (running : IsRunning line_count lawful r)
     (laws : ObjectLaws r.lines (lawful r.object) (step r.object)) (kinds : ℕ → Kind) (n : ℕ) (May : Known → Type 0) (guard : (k : Known) (i : ℕ) → i < n → May k → SeenGuard (instance_at r step reads) (kinds i) k.local)
     (stays : (k : Known) (i v : ℕ) → May k → May (known_after (instance_at r step reads) (kinds i) k v))
-    (numbers : (k : Known) (i v : ℕ) → mirror_of (known_local (instance_at r step reads) (kinds i) k v) ≡ record (mirror_of k.local) { steps = one_more k.local.steps })
-    (kept : (k : Known) (i v : ℕ) (c : Copied) → copied_after (kinds i) k v c ≡ c) (me : Me ℕ (List Known)) (mirror : Mirror) (copy : Copied) (table : TableId) (before : ℕ) where
+    (numbers : (k : Known) (i v : ℕ) → summary_of (known_local (instance_at r step reads) (kinds i) k v) ≡ record (summary_of k.local) { steps = one_more k.local.steps })
+    (kept : (k : Known) (i v : ℕ) (c : Copied) → copied_after (kinds i) k v c ≡ c) (me : Me ℕ (List Known)) (summary : Summary) (copy : Copied) (table : TableId) (before : ℕ) where
   -- the numbers after so many steps
-  abbrev pub counted : ℕ → Mirror
-  counted i = record mirror { steps = mirror.steps + i }
+  abbrev pub counted : ℕ → Summary
+  counted i = record summary { steps = summary.steps + i }
 
   pub record Led (words : List ℕ) (me' : Me ℕ (List Known)) : Type 0 where
     pub seat : IsSeat me' (counted (length words)) before copy
@@ -97,24 +97,24 @@ module _ {O : Type 0} (line_count : O → ℕ) (lawful : O → List ℕ → Type
     pub runs : Runs r step reads (lawful r.object) kinds words (seated table me before copy) (seated table me' before copy)
     pub of : IsSeatOf r (seated table me' before copy)
 
-  pub led : (words : List ℕ) (me' : Me ℕ (List Known)) → length words ≤ n → mirror.steps + length words ≤ mirror.limit → mirror.steps + length words < 2 ^ 64 → IsSeat me mirror before copy → May (known_of me.0) → IsSeatOf r (seated table me before copy) →
+  pub led : (words : List ℕ) (me' : Me ℕ (List Known)) → length words ≤ n → summary.steps + length words ≤ summary.limit → summary.steps + length words < 2 ^ 64 → IsSeat me summary before copy → May (known_of me.0) → IsSeatOf r (seated table me before copy) →
       TeachesRun (instance_at r step reads) kinds words me me' → Led words me'
   led words me' few within small old may of (taught_none _ _ _ nothing same) =
-      let steps : mirror.steps ≡ mirror.steps + length words = omega (arith, ap length nothing) in
-      let seat : IsSeat me (counted (length words)) before copy = subst (λ k. IsSeat me (record mirror { steps = k }) before copy) steps old in
+      let steps : summary.steps ≡ summary.steps + length words = omega (arith, ap length nothing) in
+      let seat : IsSeat me (counted (length words)) before copy = subst (λ k. IsSeat me (record summary { steps = k }) before copy) steps old in
       subst (Led words) (sym same) (record { seat = seat; may = may; runs = no_step words _ _ nothing refl; of = of })
   led words me' few within small old may of (taught_more _ _ _ first found mid longer run taught) =
       let instance = instance_at r step reads in
       let long : length words ≡ length first + 1 = ap length longer ∙ length-append first (found ∷ []) in
       let was = led first mid (omega (arith, long, few)) (omega (arith, long, within)) (omega (arith, long, small)) old may of run in
       let i = length first in
-      let one : one_more (mirror.steps + i) ≡ mirror.steps + length words = omega (arith, long, small) in
-      let at : counted i ≡ mirror_of (known_of mid.0).local = was.seat.0.is in
-      let now : counted (length words) ≡ mirror_of (known_local instance (kinds i) (known_of mid.0) found) = (λ j. record mirror { steps = sym one j }) ∙ ap (λ (m : Mirror). record m { steps = one_more m.steps }) at ∙ sym (numbers (known_of mid.0) i found) in
+      let one : one_more (summary.steps + i) ≡ summary.steps + length words = omega (arith, long, small) in
+      let at : counted i ≡ summary_of (known_of mid.0).local = was.seat.0.is in
+      let now : counted (length words) ≡ summary_of (known_local instance (kinds i) (known_of mid.0) found) = (λ j. record summary { steps = sym one j }) ∙ ap (λ (m : Summary). record m { steps = one_more m.steps }) at ∙ sym (numbers (known_of mid.0) i found) in
       let may_it = guard (known_of mid.0) i (omega (arith, long, few)) was.may in
-      let allowed : (l : Local) → counted i ≡ mirror_of l → ¬ IsAtLimit l = λ l is end. (
-      let a : mirror.steps + i ≡ l.steps = ap (λ (m : Mirror). m.steps) is in
-      let b : mirror.limit ≡ l.limit = ap (λ (m : Mirror). m.limit) is in
+      let allowed : (l : Local) → counted i ≡ summary_of l → ¬ IsAtLimit l = λ l is end. (
+      let a : summary.steps + i ≡ l.steps = ap (λ (m : Summary). m.steps) is in
+      let b : summary.limit ≡ l.limit = ap (λ (m : Summary). m.limit) is in
       let c = end.0 in omega (arith, a, b, c, within, long)) in
       let made = step_made_at r step reads (kinds i) found mid me' (counted i) (counted (length words)) copy copy table table before (seated table mid before copy) was.seat refl allowed was.of may_it refl taught now (sym (kept (known_of mid.0) i found copy)) in
       record {
@@ -125,10 +125,10 @@ module _ {O : Type 0} (line_count : O → ℕ) (lawful : O → List ℕ → Type
       }
 
   -- the same from what contracts see of the seat, where its numbers were counted at once
-  pub led_to : (old : Seated) (words : List ℕ) (me' : Me ℕ (List Known)) (table' : TableId) (mirror' : Mirror) → seated table me before copy ≡ old → mirror' ≡ counted (length words) → table' ≡ table → length words ≤ n → mirror.steps + length words ≤ mirror.limit →
-      mirror.steps + length words < 2 ^ 64 → IsSeat me mirror before copy → May old.known → IsSeatOf r old → TeachesRun (instance_at r step reads) kinds words me me' →
-      IsSeat me' mirror' before copy × Runs r step reads (lawful r.object) kinds words old (seated table' me' before copy) × IsSeatOf r (seated table' me' before copy)
-  led_to old words me' table' mirror' view numbered same few within small is may of run =
+  pub led_to : (old : Seated) (words : List ℕ) (me' : Me ℕ (List Known)) (table' : TableId) (summary' : Summary) → seated table me before copy ≡ old → summary' ≡ counted (length words) → table' ≡ table → length words ≤ n → summary.steps + length words ≤ summary.limit →
+      summary.steps + length words < 2 ^ 64 → IsSeat me summary before copy → May old.known → IsSeatOf r old → TeachesRun (instance_at r step reads) kinds words me me' →
+      IsSeat me' summary' before copy × Runs r step reads (lawful r.object) kinds words old (seated table' me' before copy) × IsSeatOf r (seated table' me' before copy)
+  led_to old words me' table' summary' view numbered same few within small is may of run =
       let l = led words me' few within small is (subst (λ (s : Seated). May s.known) (sym view) may) (subst (IsSeatOf r) (sym view) of) run in (
         subst (λ m. IsSeat me' m before copy) (sym numbered) l.seat,
         subst (λ t. Runs r step reads (lawful r.object) kinds words old (seated t me' before copy)) (sym same) (subst (λ s. Runs r step reads (lawful r.object) kinds words s (seated table me' before copy)) view l.runs),

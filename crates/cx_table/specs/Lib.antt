@@ -10,3 +10,4 @@ pub mod Right
 pub mod Tokens
 pub mod Remains
 pub mod Runs
+pub mod Words

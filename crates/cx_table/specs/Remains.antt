@@ -1,6 +1,7 @@
 -- What is handed to the closing of a table, and what it leaves.
 use Rattle.std.specs.Prelude.{◌≡◌, ◌+◌, ◌*◌, ◌<◌, ◌↔◌, ℕ, Bool, true, List, All, Contains, length, map, slice_get, slice_range, Some}
 use Rattle.std.specs.List.{range_with_len}
+use Rattle.cx_core.specs.declared.entry.Base.{Base}
 use Rattle.cx_core.specs.declared.local.HeldExclusive.{HeldExclusive}
 use Rattle.cx_core.specs.declared.local.Local.{Local}
 use Rattle.cx_core.specs.Lawful.{Lawful}
@@ -43,6 +44,12 @@ pub record IsRoomOf {O : Type 0} (r : Running O) (room : RoomFor) : Type 0 where
 -- a caller's seat as it is made
 abbrev pub opening_seat : {O : Type 0} → Running O → List ℕ → ℕ → Seated
 opening_seat r limits caller = record { table = r.table; before = slot_number caller r.base.words; region = length r.base.words; known = opening_known r.callers r.base.place limits caller }
+
+-- a table of so many callers that opens from a base, and the callers' seats
+pub record IsMade {O : Type 0} (callers : ℕ) (limits : List ℕ) (base : Base) (lines : ℕ) (object : O) (r : Running O) (made : List Seated) : Type 0 where
+  pub table : r ≡ record { table = r.table; callers = callers; lines = lines; base = base; object = object }
+  pub seats : made ≡ map (opening_seat r limits) (range_with_len 0 callers)
+  pub all : AreSeats r made
 
 -- a word of a replica is dirty: some caller holds the replica exclusively, and stored there and did not persist
 pub record IsDirty (locals : List Local) (replica at : ℕ) : Type 0 where

@@ -4,6 +4,7 @@ use Rattle.cx_base.specs.Codes.{root_replica_of}
 use Rattle.cx_core.specs.LockEvents.{exclusive_mark}
 use Rattle.cx_core.specs.RootEvents.{code_in}
 use Rattle.cx_core.specs.Rights.{downgraded_on, exclusive_on, shared_on}
+use Rattle.cx_rule.specs.Fitting.{AgreeTo}
 use Rattle.cx_rule.specs.Seats.{Seated}
 use Rattle.cx_table.specs.Right.{Right, WonRight}
 use Rattle.cx_table.specs.declared.tokens.SharedRight.{SharedRight}
@@ -18,6 +19,12 @@ pub record IsSharedOf (callers : ℕ) (seat : Seated) (held : Right) : Type 0 wh
   pub few : held.replica < 2 * callers
   pub caller : held.caller ≡ seat.known.local.number
   pub holds : shared_on seat.known.local ≡ Some held.replica
+
+-- each word loaded of the replica held shared is the one noted last of the replica held exclusively
+pub record IsCopiedFrom (callers : ℕ) (seat : Seated) (mine other : Right) : Type 0 where
+  pub held : IsExclusiveOf callers seat mine
+  pub source : IsSharedOf callers seat other
+  pub agree : AgreeTo seat.known seat.region
 
 pub record IsPasserOf (callers : ℕ) (seat : Seated) (mark : Right) : Type 0 where
   pub few : mark.replica < 2 * callers

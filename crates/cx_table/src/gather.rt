@@ -4,7 +4,6 @@ ghost use Rattle.std.specs.Prelude.{◌≡◌, ◌+◌, ◌*◌, ◌≤◌, ◌�
 ghost use Rattle.cx_table.specs.Remains.{AreSeats, IsRoomOf, Leaves, MarksDirty, known_by, locals_of};
 ghost use Rattle.seat_memory.specs.Wins.{wins_of};
 ghost use Rattle.cx_core.specs.Region.{region_words};
-ghost use Rattle.cx_core.specs.Rights.{exclusive_on, held_dirty};
 ghost use Rattle.cx_rule.specs.Running.{instance_at};
 ghost use Rattle.cx_rule.specs.Seats.{Seated};
 
@@ -157,8 +156,7 @@ impl<O: Object> Shared<O> {
     /// A seat that knows all callers, whose seats are spent.
     fn joined(&self, mut seats: Vec<CallerSeat>) -> Seat<u8, View>
         requires { AreSeats self.now seats.items }
-        ensures table { result.table_id ≡ self.now.table }
-        ensures me { result.me ≡ (known_by seats.items, []) }
+        ensures { (result.table_id ≡ self.now.table) × (result.me ≡ (known_by seats.items, [])) }
     {
         let (_, mut closing) = self.table.shared.load_new_seat::<Enters>(0);
         while let Some(seat) = seats.pop() {
@@ -171,12 +169,11 @@ impl<O: Object> Shared<O> {
     fn take_in(&self, closing: &mut Seat<u8, View>, seat: CallerSeat)
         requires closing { (closing.old.table_id ≡ self.now.table) × (closing.old.me.1 ≡ []) }
         requires seat { seat.table ≡ self.now.table }
-        ensures table { closing.new.table_id ≡ closing.old.table_id }
-        ensures me { closing.new.me ≡ (seat.known ∷ closing.old.me.0, []) }
+        ensures { (closing.new.table_id ≡ closing.old.table_id) × (closing.new.me ≡ (seat.known ∷ closing.old.me.0, [])) }
     {
         let CallerSeat {
             seat,
-            mirror: _,
+            summary: _,
             before: _,
             copy: _,
         } = seat;
@@ -240,7 +237,7 @@ fn mark_dirty(seats: &[CallerSeat], region: usize, replicas: usize, dirty: &mut 
 {
     for k in 0..seats.len() {
         let seat = &seats[k];
-        if let Some(replica) = seat.mirror.exclusive {
+        if let Some(replica) = seat.summary.exclusive {
             if replica < replicas as u64 {
                 mark_replica(seat.copy.marks(), region * replica as usize, dirty);
             }
@@ -257,7 +254,7 @@ fn note_wins(seats: &[CallerSeat], wins: &mut Vec<WonCode>)
 {
     for k in 0..seats.len() {
         let seat = &seats[k];
-        if let Some(won) = seat.mirror.won {
+        if let Some(won) = seat.summary.won {
             wins.push_reserved(won);
         }
     }

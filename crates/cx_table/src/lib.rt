@@ -25,4 +25,7 @@ pub use remains::{Remains, Trail};
 pub use seat::CallerSeat;
 pub use shared::Shared;
 pub use threads::cross_threads;
-pub use tokens::{Downgraded, Exclusive, Passer, SharedHold, SharedRight, Won};
+pub use tokens::{
+    Alone, Downgraded, Exclusive, Lowered, Passer, Passing, SharedHold, SharedRight, Together,
+    Token, Won,
+};

@@ -3,19 +3,20 @@
 
 ghost use Rattle.std.specs.Prelude.{◌≡◌, OnErr, OnOk, IfOk};
 ghost use Rattle.cx_core.specs.declared.kinds.Kind.TheVariants.{BackOff, Downgrade, ReleaseExclusive, TryExclusive, TryShared};
-ghost use Rattle.cx_rule.specs.Fitting.{AgreeTo, Fitting, IsReplayed, IsReplayedToPlace};
+ghost use Rattle.cx_rule.specs.Fitting.{Fitting, IsReplayed, IsReplayedToPlace};
 ghost use Rattle.cx_rule.specs.Running.{IsSeatOf, instance_at};
 ghost use Rattle.cx_rule.specs.Seats.{SeenGuard};
 ghost use Rattle.cx_rule.specs.Steps.{Halts, Steps, StepsCopied};
-ghost use Rattle.cx_table.specs.Tokens.{HandsExclusive, HandsShared, IsDowngradedOf, IsExclusiveOf, IsRightOf, IsSharedOf, TriedExclusive, TriedShared, replica_of};
+ghost use Rattle.cx_table.specs.Tokens.{HandsExclusive, HandsShared, IsCopiedFrom, IsDowngradedOf, IsExclusiveOf, IsRightOf, TriedExclusive, TriedShared, replica_of};
 
+use crate::events::Instruction;
 use crate::seat::CallerSeat;
 use crate::shared::Shared;
-use crate::tokens::{Downgraded, Exclusive, Passer, SharedHold, SharedRight};
+use crate::tokens::{Downgraded, Exclusive, Passer, SharedHold, SharedRight, Token};
 use cx_base::{Halt, Object};
 use cx_core::Kind;
-use cx_core::layout::lock_at;
-use seat_memory::EXCLUSIVE_MARK;
+use cx_core::layout::{EXCLUSIVE_MARK, lock_at};
+use std::marker::PhantomData;
 
 impl<O: Object> Shared<O> {
     /// Tries to take a replica exclusively: a compare-exchange of its lock word from 0. It gives the word found, and where
@@ -32,13 +33,18 @@ impl<O: Object> Shared<O> {
         ensures fits { OnOk result (Fitting self.now.lines (O.lawful self.now.object) self.now.base seat.new.known) }
         ensures halted { OnErr result (Halts self.now seat.old seat.new) }
     {
-        seat.mirror.check()?;
+        seat.summary.check()?;
         let kind = Kind::TryExclusive { r };
         let word = lock_at(self.callers, r);
-        let found = self.exchange_event(&mut seat.seat, &kind, word, 0, EXCLUSIVE_MARK);
-        seat.mirror.try_exclusive(self.callers, r, found);
+        let found = self.event(
+            &mut seat.seat,
+            &kind,
+            word,
+            Instruction::Exchange(0, EXCLUSIVE_MARK),
+        );
+        seat.summary.try_exclusive(self.callers, r, found);
         seat.copy.begin();
-        Ok((found, exclusive_token(found, r as u32, seat.mirror.number)))
+        Ok((found, exclusive_token(found, r as u32, seat.summary.number)))
     }
 
     /// Tries to take a replica shared: adds 1 to its lock word. It gives the word found, and where that is below 2^32 a hold,
@@ -55,12 +61,12 @@ impl<O: Object> Shared<O> {
         ensures fits { OnOk result (Fitting self.now.lines (O.lawful self.now.object) self.now.base seat.new.known) }
         ensures halted { OnErr result (Halts self.now seat.old seat.new) }
     {
-        seat.mirror.check()?;
+        seat.summary.check()?;
         let kind = Kind::TryShared { r };
         let word = lock_at(self.callers, r);
-        let found = self.add_event(&mut seat.seat, &kind, word, 1);
-        seat.mirror.try_shared(self.callers, r, found);
-        Ok((found, shared_token(found, r as u32, seat.mirror.number)))
+        let found = self.event(&mut seat.seat, &kind, word, Instruction::Add(1));
+        seat.summary.try_shared(self.callers, r, found);
+        Ok((found, shared_token(found, r as u32, seat.summary.number)))
     }
 
     /// Takes a shared right, a passer's mark or a downgraded right back: subtracts 1 from the lock word. It gives the word
@@ -72,11 +78,11 @@ impl<O: Object> Shared<O> {
         ensures halted { OnErr result (Halts self.now seat.old seat.new) }
     {
         let r = replica_in(right) as u64;
-        seat.mirror.check()?;
+        seat.summary.check()?;
         let kind = Kind::BackOff { r };
         let word = lock_at(self.callers, r);
-        let found = self.subtract_learned(&mut seat.seat, &kind, word, 1);
-        seat.mirror.back_off(r);
+        let found = self.learned(&mut seat.seat, &kind, word, Instruction::Subtract(1));
+        seat.summary.back_off(r);
         Ok(found)
     }
 
@@ -90,22 +96,24 @@ impl<O: Object> Shared<O> {
         source: SharedHold,
     ) -> Result<u64, Halt>
         requires seat { IsSeatOf self.now seat.old }
-        requires held { IsExclusiveOf self.now.callers seat.old held.now }
-        requires source { IsSharedOf self.now.callers seat.old source }
-        requires copied { AgreeTo seat.old.known seat.old.region }
+        requires copied { IsCopiedFrom self.now.callers seat.old held.now source }
         ensures made { IfOk result (λ found. StepsCopied self.now O.step O.only_reads source.replica found seat.old seat.new) }
         ensures held { OnOk result (IsExclusiveOf self.now.callers seat.new held.now) }
         ensures fits { OnOk result (Fitting self.now.lines (O.lawful self.now.object) self.now.base seat.new.known) }
         ensures halted { OnErr result (Halts self.now seat.old seat.new) }
     {
         let _ = held;
-        let SharedHold { replica, caller: _ } = source;
-        seat.mirror.check()?;
+        let Token {
+            replica,
+            caller: _,
+            kind: _,
+        } = source;
+        seat.summary.check()?;
         let r = replica as u64;
         let kind = Kind::BackOff { r };
         let word = lock_at(self.callers, r);
         let found = self.subtract_copied(&mut seat.seat, &kind, word, 1);
-        seat.mirror.back_off(r);
+        seat.summary.back_off(r);
         Ok(found)
     }
 
@@ -117,21 +125,34 @@ impl<O: Object> Shared<O> {
         held: Exclusive,
     ) -> Result<(u64, Downgraded), Halt>
         requires seat { IsSeatOf self.now seat.old }
-        requires held { IsExclusiveOf self.now.callers seat.old held }
-        requires guard { SeenGuard (instance_at self.now O.step O.only_reads) (Downgrade held.replica) seat.old.known.local }
+        requires held { IsExclusiveOf self.now.callers seat.old held × SeenGuard (instance_at self.now O.step O.only_reads) (Downgrade held.replica) seat.old.known.local }
         requires replayed { IsReplayedToPlace self.now.lines (O.lawful self.now.object) self.now.base (O.step self.now.object) seat.old.known }
         ensures made { IfOk result (λ x. Steps self.now O.step O.only_reads (Downgrade held.replica) x.0 seat.old seat.new) }
         ensures token { IfOk result (λ x. (x.1.replica ≡ held.replica) × IsDowngradedOf self.now.callers seat.new x.1) }
         ensures halted { OnErr result (Halts self.now seat.old seat.new) }
     {
-        let Exclusive { replica, caller } = held;
-        seat.mirror.check()?;
+        let Token {
+            replica,
+            caller,
+            kind: _,
+        } = held;
+        seat.summary.check()?;
         let r = replica as u64;
         let kind = Kind::Downgrade { r };
         let word = lock_at(self.callers, r);
-        let found = self.subtract_learned(&mut seat.seat, &kind, word, EXCLUSIVE_MARK - 1);
-        seat.mirror.downgrade(r, seat.copy.place());
-        Ok((found, Downgraded { replica, caller }))
+        let found = self.learned(
+            &mut seat.seat,
+            &kind,
+            word,
+            Instruction::Subtract(EXCLUSIVE_MARK - 1),
+        );
+        seat.summary.downgrade(r, seat.copy.place());
+        let lowered = Token {
+            replica,
+            caller,
+            kind: PhantomData,
+        };
+        Ok((found, lowered))
     }
 
     /// Gives an exclusive right up, where no word is dirty and whatever fits what is noted is the image after its place, by
@@ -144,13 +165,22 @@ impl<O: Object> Shared<O> {
         ensures made { IfOk result (λ found. Steps self.now O.step O.only_reads (ReleaseExclusive held.replica) found seat.old seat.new) }
         ensures halted { OnErr result (Halts self.now seat.old seat.new) }
     {
-        let Exclusive { replica, caller: _ } = held;
-        seat.mirror.check()?;
+        let Token {
+            replica,
+            caller: _,
+            kind: _,
+        } = held;
+        seat.summary.check()?;
         let r = replica as u64;
         let kind = Kind::ReleaseExclusive { r };
         let word = lock_at(self.callers, r);
-        let found = self.subtract_learned(&mut seat.seat, &kind, word, EXCLUSIVE_MARK);
-        seat.mirror.release_exclusive();
+        let found = self.learned(
+            &mut seat.seat,
+            &kind,
+            word,
+            Instruction::Subtract(EXCLUSIVE_MARK),
+        );
+        seat.summary.release_exclusive();
         Ok(found)
     }
 }
@@ -160,7 +190,7 @@ fn exclusive_token(found: u64, replica: u32, caller: u32) -> Option<Exclusive>
     ensures { HandsExclusive replica caller found result }
 {
     if found == 0 {
-        Some(Exclusive { replica, caller })
+        Some(Token::of(replica, caller))
     } else {
         None
     }
@@ -171,9 +201,9 @@ fn shared_token(found: u64, replica: u32, caller: u32) -> Result<SharedHold, Pas
     ensures { HandsShared replica caller found result }
 {
     if found < EXCLUSIVE_MARK {
-        Ok(SharedHold { replica, caller })
+        Ok(Token::of(replica, caller))
     } else {
-        Err(Passer { replica, caller })
+        Err(Token::of(replica, caller))
     }
 }
 

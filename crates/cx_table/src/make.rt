@@ -1,10 +1,11 @@
 //! Making a table, and a seat for each caller.
 
-ghost use Rattle.std.specs.Prelude.{◌≡◌, ◌+◌, ◌<◌, ◌≤◌, [], IfOk, drop, length, map, slice_index, vec_capacity};
+ghost use Rattle.std.specs.Prelude.{◌≡◌, ◌+◌, ◌<◌, ◌≤◌, [], IfOk, drop, length, map, vec_capacity};
 ghost use Rattle.std.specs.List.{range_with_len};
+ghost use Rattle.cx_base.specs.Callers.{AreCallers};
 ghost use Rattle.cx_core.specs.Base.{LawfulBase};
 ghost use Rattle.seat_memory.specs.Copies.{blank_copy};
-ghost use Rattle.cx_table.specs.Remains.{AreSeats, opening_seat};
+ghost use Rattle.cx_table.specs.Remains.{IsMade, opening_seat};
 ghost use Rattle.cx_rule.specs.Seats.{opening_view};
 
 use crate::seat::CallerSeat;
@@ -14,7 +15,7 @@ use core_events::CoreState;
 use cx_base::{Items, Object};
 use cx_core::{Base, slot_start};
 use cx_rule::{Key, View};
-use seat_memory::{Copies, opening_mirror};
+use seat_memory::{Copies, opening_summary};
 use std::alloc::{AllocError, Global};
 use std::snapshot::Snapshot;
 
@@ -39,15 +40,11 @@ impl<O: Object> Shared<O> {
         limits: &[u64],
         base: &Base,
     ) -> Result<(Shared<O>, Vec<CallerSeat>), AllocError>
-        requires some { 1 ≤ callers }
-        requires few { callers ≤ 8 }
-        requires enough { 64 ≤ O.line_count object }
-        requires small { O.line_count object ≤ 16384 }
+        requires callers { AreCallers callers }
+        requires lines { (64 ≤ O.line_count object) × (O.line_count object ≤ 16384) }
         requires base { LawfulBase (O.line_count object) (O.lawful object) base.now }
         requires limits { length limits.now ≡ callers }
-        ensures table { IfOk result (λ r. r.0 ≡ record { table = r.0.table; callers = callers; lines = O.line_count object; base = base.now; object = object }) }
-        ensures seats { IfOk result (λ r. r.1.items ≡ map (opening_seat r.0 limits.now) (range_with_len 0 callers)) }
-        ensures all { IfOk result (λ r. AreSeats r.0 r.1.items) }
+        ensures { IfOk result (λ r. IsMade callers limits.now base.now (O.line_count object) object r.0 r.1.items) }
     {
         let seats = Vec::with_capacity(alloc, callers as usize)?;
         let own = Base {
@@ -81,8 +78,7 @@ impl<O: Object> Shared<O> {
         limits: &[u64],
         mut seats: Vec<CallerSeat>,
     ) -> Result<Vec<CallerSeat>, AllocError>
-        requires table { first.table_id ≡ self.now.table }
-        requires me { first.me ≡ (opening_view self.now.callers self.now.base.place limits.now, []) }
+        requires first { (first.table_id ≡ self.now.table) × (first.me ≡ (opening_view self.now.callers self.now.base.place limits.now, [])) }
         requires limits { length limits.now ≡ self.now.callers }
         requires none { seats.items ≡ [] }
         requires room { self.now.callers ≤ vec_capacity seats }
@@ -104,16 +100,14 @@ impl<O: Object> Shared<O> {
         limits: &[u64],
         copy: Copies,
     ) -> CallerSeat
-        requires table { first.old.table_id ≡ self.now.table }
-        requires me { first.old.me ≡ (drop number (opening_view self.now.callers self.now.base.place limits.now), []) }
+        requires first { (first.old.table_id ≡ self.now.table) × (first.old.me ≡ (drop number (opening_view self.now.callers self.now.base.place limits.now), [])) }
         requires limits { length limits.now ≡ self.now.callers }
         requires caller { number < self.now.callers }
         requires copy { copy ≡ blank_copy (length self.now.base.words) }
-        ensures table { first.new.table_id ≡ first.old.table_id }
-        ensures me { first.new.me ≡ (drop (number + 1) (opening_view self.now.callers self.now.base.place limits.now), []) }
+        ensures first { (first.new.table_id ≡ first.old.table_id) × (first.new.me ≡ (drop (number + 1) (opening_view self.now.callers self.now.base.place limits.now), [])) }
         ensures seat { result ≡ opening_seat self.now limits.now number }
     {
-        let mirror = opening_mirror(
+        let summary = opening_summary(
             self.callers,
             self.base.place,
             number,
@@ -123,7 +117,7 @@ impl<O: Object> Shared<O> {
         let seat = self.table.shared.split_seat::<CutFirst>(first);
         CallerSeat {
             seat,
-            mirror,
+            summary,
             before,
             copy,
         }

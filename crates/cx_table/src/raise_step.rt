@@ -45,17 +45,16 @@ impl<O: Object> Shared<O> {
     ) -> Result<u64, Halt>
         requires seat { IsSeatOf self.now seat.old }
         requires guard { CanRaise (instance_at self.now O.step O.only_reads) code (op_in read) seat.old.known.local }
-        requires told { (answers : List Answer) × TellsAnswers self.now.lines (O.lawful self.now.object) self.now.base (O.step self.now.object) seat.old.known (root_place_of self.now.callers code) answers }
-        requires reads { TellsReads self.now.lines (O.lawful self.now.object) self.now.base (O.step self.now.object) seat.old.known read }
+        requires told { ((answers : List Answer) × TellsAnswers self.now.lines (O.lawful self.now.object) self.now.base (O.step self.now.object) seat.old.known (root_place_of self.now.callers code) answers) × TellsReads self.now.lines (O.lawful self.now.object) self.now.base (O.step self.now.object) seat.old.known read }
         ensures made { IfOk result (λ _. (answers : List Answer) → TellsAnswers self.now.lines (O.lawful self.now.object) self.now.base (O.step self.now.object) seat.old.known (root_place_of self.now.callers code) answers → Raises self.now O.step O.only_reads code answers read.entry seat.old seat.new) }
         ensures fits { OnOk result (Fitting self.now.lines (O.lawful self.now.object) self.now.base seat.new.known) }
         ensures halted { OnErr result (Halts self.now seat.old seat.new) }
     {
         let callers = self.callers;
         let reads = read.is_some();
-        seat.mirror.check()?;
+        seat.summary.check()?;
         let found = self.raise_learned(&mut seat.seat, DUR_AT, code, read);
-        seat.mirror.raise(callers, code, reads);
+        seat.summary.raise(callers, code, reads);
         Ok(found)
     }
 }

@@ -5,15 +5,17 @@ ghost use Rattle.cx_core.specs.declared.kinds.Kind.TheVariants.{LoadWord, Persis
 ghost use Rattle.cx_rule.specs.Fitting.{Fitting};
 ghost use Rattle.cx_rule.specs.Running.{IsSeatOf, instance_at};
 ghost use Rattle.cx_rule.specs.Seats.{SeenGuard, is_outdated, marked_load};
-ghost use Rattle.seat_memory.specs.Mirrors.{mirror_of};
+ghost use Rattle.seat_memory.specs.Summaries.{summary_of};
 ghost use Rattle.cx_rule.specs.Steps.{Halts, Steps};
 
+use crate::events::Instruction;
 use crate::seat::CallerSeat;
 use crate::shared::Shared;
+use core_guards::locks::is_at;
 use cx_base::{Halt, Object, root_place};
 use cx_core::Kind;
 use cx_core::layout::{per_at, vol_at};
-use seat_memory::{Mirror, is_at};
+use seat_memory::Summary;
 
 impl<O: Object> Shared<O> {
     /// Loads a word of a replica that the caller holds exclusively or shared, and notes it. With `mark`, a place word that
@@ -25,18 +27,18 @@ impl<O: Object> Shared<O> {
         ensures fits { OnOk result (Fitting self.now.lines (O.lawful self.now.object) self.now.base seat.new.known) }
         ensures halted { OnErr result (Halts self.now seat.old seat.new) }
     {
-        seat.mirror.check()?;
+        seat.summary.check()?;
         let kind = Kind::LoadWord {
             r,
             i,
             refused: mark,
         };
         let word = vol_at(self.callers, seat.copy.region(), r, i);
-        let found = self.load_learned(&mut seat.seat, &kind, word);
-        let held = is_at(r, seat.mirror.exclusive);
+        let found = self.learned(&mut seat.seat, &kind, word, Instruction::Load);
+        let held = is_at(r, seat.summary.exclusive);
         seat.copy.load(held, i, found);
-        let refused = self.is_refusal(&seat.mirror, r, i, mark, found);
-        seat.mirror.load_word(refused);
+        let refused = self.is_refusal(&seat.summary, r, i, mark, found);
+        seat.summary.load_word(refused);
         Ok(found)
     }
 
@@ -48,12 +50,12 @@ impl<O: Object> Shared<O> {
         ensures fits { OnOk result (Fitting self.now.lines (O.lawful self.now.object) self.now.base seat.new.known) }
         ensures halted { OnErr result (Halts self.now seat.old seat.new) }
     {
-        seat.mirror.check()?;
+        seat.summary.check()?;
         let kind = Kind::StoreWord { r, i, v };
         let word = vol_at(self.callers, seat.copy.region(), r, i);
         self.store_event(&mut seat.seat, &kind, word, v);
         seat.copy.store(i, v);
-        seat.mirror.write_word();
+        seat.summary.write_word();
         Ok(())
     }
 
@@ -64,24 +66,24 @@ impl<O: Object> Shared<O> {
         ensures made { IfOk result (λ _. Steps self.now O.step O.only_reads (Persist r i) 0 seat.old seat.new) }
         ensures halted { OnErr result (Halts self.now seat.old seat.new) }
     {
-        seat.mirror.check()?;
+        seat.summary.check()?;
         let kind = Kind::Persist { r, i };
         let word = per_at(self.callers, seat.copy.region(), r, i);
         let v = seat.copy.word(i);
         self.store_learned(&mut seat.seat, &kind, word, v);
         seat.copy.persist(i);
-        seat.mirror.write_word();
+        seat.summary.write_word();
         Ok(())
     }
 
     /// Whether a load is marked as a refusal: that is asked for, and the word found shows that the code last loaded from CUR
     /// is outdated.
-    fn is_refusal(&self, mirror: &Mirror, r: u64, i: u64, mark: bool, found: u64) -> bool
-        ensures { (l : _) → mirror.now ≡ mirror_of l → result ≡ (mark && is_outdated (instance_at self.now O.step O.only_reads) r i l found) }
+    fn is_refusal(&self, summary: &Summary, r: u64, i: u64, mark: bool, found: u64) -> bool
+        ensures { (l : _) → summary.now ≡ summary_of l → result ≡ (mark && is_outdated (instance_at self.now O.step O.only_reads) r i l found) }
     {
         mark && i == 0
-            && is_at(r, mirror.shared)
-            && mirror.is_fresh_on(self.callers, r)
-            && found != root_place(self.callers, mirror.seen_cur)
+            && is_at(r, summary.shared)
+            && summary.is_fresh_on(self.callers, r)
+            && found != root_place(self.callers, summary.seen_cur)
     }
 }

@@ -9,6 +9,7 @@ ghost use Rattle.cx_rule.specs.Running.{IsSeatOf, instance_at};
 ghost use Rattle.cx_rule.specs.Seats.{unseen};
 ghost use Rattle.cx_rule.specs.Steps.{Halts, Steps};
 
+use crate::events::Instruction;
 use crate::seat::CallerSeat;
 use crate::shared::Shared;
 use cx_base::{Halt, Object};
@@ -24,11 +25,11 @@ impl<O: Object> Shared<O> {
         ensures halted { OnErr result (Halts self.now seat.old seat.new) }
     {
         let _ = &self.table;
-        seat.mirror.check()?;
+        seat.summary.check()?;
         let kind = Kind::Protect { p };
-        let word = need_at(seat.mirror.number);
+        let word = need_at(seat.summary.number);
         self.store_event(&mut seat.seat, &kind, word, p);
-        seat.mirror.protect(p);
+        seat.summary.protect(p);
         Ok(())
     }
 
@@ -41,9 +42,9 @@ impl<O: Object> Shared<O> {
         ensures halted { OnErr result (Halts self.now seat.old seat.new) }
     {
         let _ = &self.table;
-        seat.mirror.check()?;
-        let found = self.load_event(&mut seat.seat, &Kind::Confirm, LOW_AT);
-        seat.mirror.confirm(self.callers, found);
+        seat.summary.check()?;
+        let found = self.event(&mut seat.seat, &Kind::Confirm, LOW_AT, Instruction::Load);
+        seat.summary.confirm(self.callers, found);
         Ok(found)
     }
 
@@ -55,10 +56,10 @@ impl<O: Object> Shared<O> {
         ensures halted { OnErr result (Halts self.now seat.old seat.new) }
     {
         let _ = &self.table;
-        seat.mirror.check()?;
-        let word = need_at(seat.mirror.number);
+        seat.summary.check()?;
+        let word = need_at(seat.summary.number);
         self.store_event(&mut seat.seat, &Kind::Unprotect, word, MAX_WORD);
-        seat.mirror.unprotect();
+        seat.summary.unprotect();
         Ok(())
     }
 
@@ -71,10 +72,10 @@ impl<O: Object> Shared<O> {
         ensures halted { OnErr result (Halts self.now seat.old seat.new) }
     {
         let _ = &self.table;
-        seat.mirror.check()?;
+        seat.summary.check()?;
         let kind = Kind::CloseLow { target };
-        let found = self.max_event(&mut seat.seat, &kind, LOW_AT, target);
-        seat.mirror.close_low(target);
+        let found = self.event(&mut seat.seat, &kind, LOW_AT, Instruction::Raise(target));
+        seat.summary.close_low(target);
         Ok(found)
     }
 
@@ -86,11 +87,11 @@ impl<O: Object> Shared<O> {
         ensures halted { OnErr result (Halts self.now seat.old seat.new) }
     {
         let _ = &self.table;
-        seat.mirror.check()?;
+        seat.summary.check()?;
         let kind = Kind::Scan { d };
         let word = need_at(d as u32);
-        let found = self.load_event(&mut seat.seat, &kind, word);
-        seat.mirror.scan(d, found);
+        let found = self.event(&mut seat.seat, &kind, word, Instruction::Load);
+        seat.summary.scan(d, found);
         Ok(found)
     }
 
@@ -103,10 +104,15 @@ impl<O: Object> Shared<O> {
         ensures halted { OnErr result (Halts self.now seat.old seat.new) }
     {
         let _ = &self.table;
-        seat.mirror.check()?;
-        let bound = seat.mirror.bound();
-        let found = self.max_event(&mut seat.seat, &Kind::OpenFree, FREE_AT, bound);
-        seat.mirror.open_free(found);
+        seat.summary.check()?;
+        let bound = seat.summary.bound();
+        let found = self.event(
+            &mut seat.seat,
+            &Kind::OpenFree,
+            FREE_AT,
+            Instruction::Raise(bound),
+        );
+        seat.summary.open_free(found);
         Ok(found)
     }
 }

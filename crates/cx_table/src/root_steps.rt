@@ -2,7 +2,7 @@
 //! publication that wins hands out the token of the win, and the call that retires it takes that. `Halt` comes exactly where
 //! the seat's steps equal its limit, and then nothing changes.
 
-ghost use Rattle.std.specs.Prelude.{◌≡◌, OnErr, OnOk, IfOk};
+ghost use Rattle.std.specs.Prelude.{OnErr, OnOk, IfOk};
 ghost use Rattle.cx_core.specs.declared.kinds.Kind.TheVariants.{LoadCur, Publish, Retire};
 ghost use Rattle.cx_rule.specs.Fitting.{Fitting};
 ghost use Rattle.cx_rule.specs.Running.{IsSeatOf, instance_at};
@@ -10,6 +10,7 @@ ghost use Rattle.cx_rule.specs.Seats.{SeenGuard};
 ghost use Rattle.cx_rule.specs.Steps.{Halts, Steps};
 ghost use Rattle.cx_table.specs.Tokens.{HandsWon, IsDowngradedOf, IsWonOf, TriedPublish};
 
+use crate::events::Instruction;
 use crate::seat::CallerSeat;
 use crate::shared::Shared;
 use crate::tokens::{Downgraded, Won};
@@ -26,9 +27,9 @@ impl<O: Object> Shared<O> {
         ensures halted { OnErr result (Halts self.now seat.old seat.new) }
     {
         let _ = &self.table;
-        seat.mirror.check()?;
-        let found = self.load_event(&mut seat.seat, &Kind::LoadCur, CUR_AT);
-        seat.mirror.load_cur(self.callers, found);
+        seat.summary.check()?;
+        let found = self.event(&mut seat.seat, &Kind::LoadCur, CUR_AT, Instruction::Load);
+        seat.summary.load_cur(self.callers, found);
         Ok(found)
     }
 
@@ -41,18 +42,22 @@ impl<O: Object> Shared<O> {
         held: Downgraded,
     ) -> Result<(u64, Result<Won, Downgraded>), Halt>
         requires seat { IsSeatOf self.now seat.old }
-        requires held { IsDowngradedOf self.now.callers seat.old held }
-        requires guard { SeenGuard (instance_at self.now O.step O.only_reads) Publish seat.old.known.local }
+        requires held { IsDowngradedOf self.now.callers seat.old held × SeenGuard (instance_at self.now O.step O.only_reads) Publish seat.old.known.local }
         ensures made { IfOk result (λ x. Steps self.now O.step O.only_reads Publish x.0 seat.old seat.new) }
         ensures token { IfOk result (λ x. TriedPublish self.now.callers seat.old held seat.new x.0 x.1) }
         ensures fits { OnOk result (Fitting self.now.lines (O.lawful self.now.object) self.now.base seat.new.known) }
         ensures halted { OnErr result (Halts self.now seat.old seat.new) }
     {
-        seat.mirror.check()?;
-        let seen = seat.mirror.seen_cur;
-        let code = seat.mirror.downgraded_code(self.callers);
-        let found = self.exchange_event(&mut seat.seat, &Kind::Publish, CUR_AT, seen, code);
-        seat.mirror.publish(self.callers, code, found);
+        seat.summary.check()?;
+        let seen = seat.summary.seen_cur;
+        let code = seat.summary.downgraded_code(self.callers);
+        let found = self.event(
+            &mut seat.seat,
+            &Kind::Publish,
+            CUR_AT,
+            Instruction::Exchange(seen, code),
+        );
+        seat.summary.publish(self.callers, code, found);
         Ok((found, won_token(code, seen, held, found)))
     }
 
@@ -70,11 +75,16 @@ impl<O: Object> Shared<O> {
             before,
             caller: _,
         } = won;
-        seat.mirror.check()?;
+        seat.summary.check()?;
         let r = u64::from(root_replica(self.callers, before));
         let word = lock_at(self.callers, r);
-        let found = self.subtract_learned(&mut seat.seat, &Kind::Retire, word, 1);
-        seat.mirror.retire();
+        let found = self.learned(
+            &mut seat.seat,
+            &Kind::Retire,
+            word,
+            Instruction::Subtract(1),
+        );
+        seat.summary.retire();
         Ok(found)
     }
 }

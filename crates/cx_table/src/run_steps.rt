@@ -1,14 +1,16 @@
 //! Several loads by one call: each is an event of its own, and they are counted at once. Where the limit leaves fewer steps than there are
 //! words, none is made.
 
-ghost use Rattle.std.specs.Prelude.{◌≡◌, ◌≢◌, ◌∷◌, ◌+◌, ◌<◌, ◌≤◌, [], ℕ, IsTrue, false, length};
+ghost use Rattle.std.specs.Prelude.{◌≡◌, ◌+◌, ◌<◌, ℕ, IsTrue, false, length};
 ghost use Rattle.cx_core.specs.Events.{Guard};
 ghost use Rattle.cx_core.specs.declared.kinds.Kind.TheVariants.{ReadCell};
 ghost use Rattle.cx_core.specs.RegionEvents.{CanLoad};
 ghost use Rattle.cx_rule.specs.Running.{IsSeatOf, instance_at};
 ghost use Rattle.cx_rule.specs.Seats.{known_of, unseen};
 ghost use Rattle.cx_table.specs.Runs.{Runs, TeachesRun, loads_from, reads_of};
+ghost use Rattle.cx_table.specs.Words.{IsOfOne, IsTaught};
 
+use crate::events::Instruction;
 use crate::seat::CallerSeat;
 use crate::shared::Shared;
 use atomic_table::Seat;
@@ -21,17 +23,15 @@ impl<O: Object> Shared<O> {
     /// Loads words of a replica that the caller holds exclusively or shared, from one behind the place on, each as `load_word`
     /// does without a mark. It answers whether the limit leaves so many steps: if not, nothing changes.
     pub fn load_words(&self, seat: &mut CallerSeat, r: u64, from: u64, into: &mut [u64]) -> bool
-        requires seat { IsSeatOf self.now seat.old }
+        requires seat { IsSeatOf self.now seat.old × (0 < from) }
         requires guard { (i : ℕ) → i < length into.old → CanLoad self.now.callers (length self.now.base.words) r (from + i) seat.old.known.local }
-        requires behind { 0 < from }
         ensures made { IsTrue result → Runs self.now O.step O.only_reads (O.lawful self.now.object) (loads_from r from) into.new seat.old seat.new }
-        ensures none { result ≡ false → seat.new ≡ seat.old }
-        ensures short { result ≡ false → seat.old.known.local.limit < seat.old.known.local.steps + length into.old }
+        ensures short { result ≡ false → (seat.new ≡ seat.old) × (seat.old.known.local.limit < seat.old.known.local.steps + length into.old) }
         ensures length { length into.new ≡ length into.old }
         ensures seat { IsSeatOf self.now seat.new }
     {
         let _ = &self.table;
-        if !seat.mirror.count(into.len() as u64) {
+        if !seat.summary.count(into.len() as u64) {
             return false;
         }
         let region = seat.copy.region();
@@ -41,12 +41,10 @@ impl<O: Object> Shared<O> {
 
     /// Loads words of a replica, as events of the seat's caller.
     fn load_each(&self, seat: &mut Seat<u8, View>, region: u64, r: u64, from: u64, into: &mut [u64])
-        requires table { seat.old.table_id ≡ self.now.table }
-        requires one { seat.old.me ≡ (known_of seat.old.me.0 ∷ [], []) }
+        requires one { IsOfOne self.now seat.old.table_id seat.old.me }
         requires region { region ≡ length self.now.base.words }
         requires guard { (i : ℕ) → i < length into.old → CanLoad self.now.callers region r (from + i) (known_of seat.old.me.0).local }
-        ensures table { seat.new.table_id ≡ seat.old.table_id }
-        ensures taught { TeachesRun (instance_at self.now O.step O.only_reads) (loads_from r from) into.new seat.old.me seat.new.me }
+        ensures taught { IsTaught seat.old.table_id seat.new.table_id (TeachesRun (instance_at self.now O.step O.only_reads) (loads_from r from) into.new seat.old.me seat.new.me) }
         ensures length { length into.new ≡ length into.old }
     {
         let callers = self.callers;
@@ -57,7 +55,7 @@ impl<O: Object> Shared<O> {
                 refused: false,
             };
             let word = vol_at(callers, region, r, from + i as u64);
-            into[i] = self.load_learned(seat, &kind, word);
+            into[i] = self.learned(seat, &kind, word, Instruction::Load);
         }
     }
 
@@ -72,7 +70,7 @@ impl<O: Object> Shared<O> {
         ensures seat { IsSeatOf self.now seat.new }
     {
         let _ = &self.table;
-        if !seat.mirror.count(CELL_WORDS) {
+        if !seat.summary.count(CELL_WORDS) {
             return false;
         }
         self.read_each(&mut seat.seat, t, k, into);
@@ -81,17 +79,15 @@ impl<O: Object> Shared<O> {
 
     /// Loads the words of a cell, as events of the seat's caller.
     fn read_each(&self, seat: &mut Seat<u8, View>, t: u64, k: u64, into: &mut [u64; 145])
-        requires table { seat.old.table_id ≡ self.now.table }
-        requires one { seat.old.me ≡ (known_of seat.old.me.0 ∷ [], []) }
+        requires one { IsOfOne self.now seat.old.table_id seat.old.me }
         requires guard { (i : ℕ) → i < 145 → Guard (instance_at self.now O.step O.only_reads) unseen (ReadCell t k i) (known_of seat.old.me.0).local }
-        ensures table { seat.new.table_id ≡ seat.old.table_id }
-        ensures taught { TeachesRun (instance_at self.now O.step O.only_reads) (reads_of t k) into.new seat.old.me seat.new.me }
+        ensures { IsTaught seat.old.table_id seat.new.table_id (TeachesRun (instance_at self.now O.step O.only_reads) (reads_of t k) into.new seat.old.me seat.new.me) }
     {
         let callers = self.callers;
         for i in 0..145 {
             let kind = Kind::ReadCell { t, k, i: i as u64 };
             let word = cell_at(callers, k, i as u64);
-            into[i] = self.load_event(seat, &kind, word);
+            into[i] = self.event(seat, &kind, word, Instruction::Load);
         }
     }
 }

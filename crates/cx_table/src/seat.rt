@@ -1,6 +1,6 @@
 //! A caller's seat: its right to step, and the numbers of its local state that code reads.
 
-ghost use Rattle.std.specs.Prelude.{◌≡◌, ◌+◌, ◌*◌, ◌^◌, ◌<◌, ◌≤◌, ◌↔◌, ℕ, IfNone, IfSome, IsTrue, length, slice_index};
+ghost use Rattle.std.specs.Prelude.{◌≡◌, ◌+◌, ◌^◌, ◌<◌, ◌≤◌, ◌↔◌, ℕ, IfNone, IfSome, IsTrue, length, slice_index};
 ghost use Rattle.std.specs.List.{Contains};
 ghost use Rattle.cx_core.specs.Rights.{held_dirty};
 ghost use Rattle.cx_core.specs.QueueEvents.{cell_of};
@@ -9,7 +9,7 @@ ghost use Rattle.cx_rule.specs.Seats.{HasCells, IsWithinLimit, place_noted, unan
 use atomic_table::Seat;
 use cx_core::{HeldDowngraded, Protection, SeenNeed, SeenSlot, WonCode};
 use cx_rule::View;
-use seat_memory::{Copies, Mirror};
+use seat_memory::{Copies, Summary};
 use std::marker::Model;
 
 /// The seat of one caller. It has no bytes of the table, and what it knows changes only at its own steps. Contracts see
@@ -17,7 +17,7 @@ use std::marker::Model;
 #[derive(Drop)]
 pub struct CallerSeat {
     pub(crate) seat: Seat<u8, View>,
-    pub(crate) mirror: Mirror,
+    pub(crate) summary: Summary,
     /// The number of the caller's last entry before this service.
     pub(crate) before: u64,
     /// What is known in plain memory of the replica held exclusively and of the caller's cells.
@@ -31,11 +31,11 @@ impl Model for CallerSeat {
 
     ghost use Rattle.std.specs.Prelude.{length};
     ghost use Rattle.seat_memory.specs.Copies.{IsCopied};
-    ghost use Rattle.seat_memory.specs.Mirrors.{IsMirrored};
+    ghost use Rattle.seat_memory.specs.Summaries.{HasSummary};
 
     ghost view = { λ s. record { table = s.seat.table_id; before = s.before; region = length s.copy.words; known = known_of s.seat.me.0 } };
 
-    ghost invariant = { λ s. IsMirrored s.seat.me s.mirror s.before × IsCopied (known_of s.seat.me.0) s.copy };
+    ghost invariant = { λ s. HasSummary s.seat.me s.summary s.before × IsCopied (known_of s.seat.me.0) s.copy };
 }
 
 impl CallerSeat {
@@ -44,7 +44,7 @@ impl CallerSeat {
         ensures value { result ≡ self.now.known.local.number }
         ensures cells { HasCells self.now.known.local }
     {
-        self.mirror.number
+        self.summary.number
     }
 
     /// The steps made, of which there are no more than the limit allows. This stays at 2^64 - 1 once there.
@@ -52,14 +52,14 @@ impl CallerSeat {
         ensures value { result ≡ self.now.known.local.steps }
         ensures within { IsWithinLimit self.now.known.local }
     {
-        self.mirror.steps
+        self.summary.steps
     }
 
     /// The steps allowed, where 2^64 - 1 is no limit.
     pub fn limit(&self) -> u64
         ensures { result ≡ self.now.known.local.limit }
     {
-        self.mirror.limit
+        self.summary.limit
     }
 
     /// Every ticket from the base's place to below it is linked.
@@ -67,14 +67,14 @@ impl CallerSeat {
         ensures value { result ≡ self.now.known.local.front }
         ensures small { result ≤ 2 ^ 40 }
     {
-        self.mirror.front
+        self.summary.front
     }
 
     /// The refusals met. This stays at 2^64 - 1 once there.
     pub fn met(&self) -> u64
         ensures { result ≡ self.now.known.local.met }
     {
-        self.mirror.met
+        self.summary.met
     }
 
     /// The number of the caller's next entry: its numbers go on from the one in the base.
@@ -82,14 +82,14 @@ impl CallerSeat {
         ensures value { result ≡ self.now.before + length self.now.known.local.own + 1 }
         ensures cells { HasCells self.now.known.local }
     {
-        self.before + self.mirror.linked + 1
+        self.before + self.summary.linked + 1
     }
 
     /// The ticket of the caller's entry that is not answered yet.
     pub fn unanswered(&self) -> Option<u64>
         ensures { result ≡ unanswered_ticket self.now.known.local }
     {
-        self.mirror.unanswered
+        self.summary.unanswered
     }
 
     /// The ticket with which a cell of the caller was linked since it was last written.
@@ -97,7 +97,7 @@ impl CallerSeat {
         requires { j < 16 }
         ensures { result ≡ (cell_of self.now.known.local j).ticket }
     {
-        self.mirror.tickets[j as usize]
+        self.summary.tickets[j as usize]
     }
 
     /// A word of a cell of the caller, as it was last written.
@@ -138,83 +138,83 @@ impl CallerSeat {
     pub fn seen_slot(&self) -> Option<SeenSlot>
         ensures { result ≡ self.now.known.local.seen_slot }
     {
-        self.mirror.seen_slot
+        self.summary.seen_slot
     }
 
     /// The greatest FREE found.
     pub fn seen_free(&self) -> u64
         ensures { result ≡ self.now.known.local.seen_free }
     {
-        self.mirror.seen_free
+        self.summary.seen_free
     }
 
     /// The greatest LOW found.
     pub fn seen_low(&self) -> u64
         ensures { result ≡ self.now.known.local.seen_low }
     {
-        self.mirror.seen_low
+        self.summary.seen_low
     }
 
     /// The last word found in CUR.
     pub fn seen_cur(&self) -> u64
         ensures { result ≡ self.now.known.local.seen_cur }
     {
-        self.mirror.seen_cur
+        self.summary.seen_cur
     }
 
     /// Whether `seen_cur` was loaded, and nothing that ends its use came since.
     pub fn fresh(&self) -> bool
         ensures { result ≡ self.now.known.local.fresh }
     {
-        self.mirror.fresh
+        self.summary.fresh
     }
 
     /// The replica that the caller has downgraded, and its place.
     pub fn downgraded(&self) -> Option<HeldDowngraded>
         ensures { result ≡ self.now.known.local.downgraded }
     {
-        self.mirror.downgraded
+        self.summary.downgraded
     }
 
     /// The code with which the caller won and that it did not retire, and the code before it.
     pub fn won(&self) -> Option<WonCode>
         ensures { result ≡ self.now.known.local.won }
     {
-        self.mirror.won
+        self.summary.won
     }
 
     /// The greatest code with which the caller raised DUR.
     pub fn raised(&self) -> u64
         ensures { result ≡ self.now.known.local.raised }
     {
-        self.mirror.raised
+        self.summary.raised
     }
 
     /// The greatest place at which the caller was answered.
     pub fn floor(&self) -> u64
         ensures { result ≡ self.now.known.local.floor }
     {
-        self.mirror.floor
+        self.summary.floor
     }
 
     /// What keeps the cells from a ticket on from being given again, as the caller stated it.
     pub fn protection(&self) -> Protection
         ensures { result ≡ self.now.known.local.protection }
     {
-        self.mirror.protection
+        self.summary.protection
     }
 
     /// The least need that the last whole scan found, and the least caller that had it.
     pub fn seen_need(&self) -> Option<SeenNeed>
         ensures { result ≡ self.now.known.local.seen_need }
     {
-        self.mirror.seen_need
+        self.summary.seen_need
     }
 
     /// The scans ended. This stays at 2^64 - 1 once there.
     pub fn scans(&self) -> u64
         ensures { result ≡ self.now.known.local.scans }
     {
-        self.mirror.scans
+        self.summary.scans
     }
 }

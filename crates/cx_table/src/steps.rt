@@ -9,6 +9,7 @@ ghost use Rattle.cx_rule.specs.Running.{IsSeatOf, instance_at};
 ghost use Rattle.cx_rule.specs.Seats.{unseen};
 ghost use Rattle.cx_rule.specs.Steps.{Halts, Steps};
 
+use crate::events::Instruction;
 use crate::seat::CallerSeat;
 use crate::shared::Shared;
 use cx_base::{Halt, Object, link_code};
@@ -23,13 +24,13 @@ impl<O: Object> Shared<O> {
         ensures made { IfOk result (λ _. Steps self.now O.step O.only_reads (WriteCell j i v) 0 seat.old seat.new) }
         ensures halted { OnErr result (Halts self.now seat.old seat.new) }
     {
-        seat.mirror.check()?;
+        seat.summary.check()?;
         let kind = Kind::WriteCell { j, i, v };
-        let cell = CELLS * u64::from(seat.mirror.number) + j;
+        let cell = CELLS * u64::from(seat.summary.number) + j;
         let word = cell_at(self.callers, cell, i);
         self.store_event(&mut seat.seat, &kind, word, v);
         seat.copy.write_cell(j, i, v);
-        seat.mirror.write_cell(j);
+        seat.summary.write_cell(j);
         Ok(())
     }
 
@@ -41,16 +42,21 @@ impl<O: Object> Shared<O> {
         ensures made { IfOk result (λ found. Steps self.now O.step O.only_reads (Link j) found seat.old seat.new) }
         ensures halted { OnErr result (Halts self.now seat.old seat.new) }
     {
-        seat.mirror.check()?;
+        seat.summary.check()?;
         let kind = Kind::Link { j };
-        let mirror = &seat.mirror;
-        let slot = mirror.front % cell_count(self.callers);
+        let summary = &seat.summary;
+        let slot = summary.front % cell_count(self.callers);
         let word = link_at(self.callers, slot);
-        let seen = mirror.seen_word();
-        let cell = CELLS as u32 * mirror.number + j as u32;
-        let code = link_code(self.callers, mirror.front, cell);
-        let found = self.exchange_event(&mut seat.seat, &kind, word, seen, code);
-        seat.mirror.link(self.callers, j, found);
+        let seen = summary.seen_word();
+        let cell = CELLS as u32 * summary.number + j as u32;
+        let code = link_code(self.callers, summary.front, cell);
+        let found = self.event(
+            &mut seat.seat,
+            &kind,
+            word,
+            Instruction::Exchange(seen, code),
+        );
+        seat.summary.link(self.callers, j, found);
         Ok(found)
     }
 
@@ -61,11 +67,11 @@ impl<O: Object> Shared<O> {
         ensures made { IfOk result (λ found. Steps self.now O.step O.only_reads (Look s) found seat.old seat.new) }
         ensures halted { OnErr result (Halts self.now seat.old seat.new) }
     {
-        seat.mirror.check()?;
+        seat.summary.check()?;
         let kind = Kind::Look { s };
         let word = link_at(self.callers, s);
-        let found = self.load_event(&mut seat.seat, &kind, word);
-        seat.mirror.look(self.callers, s, found);
+        let found = self.event(&mut seat.seat, &kind, word, Instruction::Load);
+        seat.summary.look(self.callers, s, found);
         Ok(found)
     }
 
@@ -77,11 +83,11 @@ impl<O: Object> Shared<O> {
         ensures fits { OnOk result (Fitting self.now.lines (O.lawful self.now.object) self.now.base seat.new.known) }
         ensures halted { OnErr result (Halts self.now seat.old seat.new) }
     {
-        seat.mirror.check()?;
+        seat.summary.check()?;
         let kind = Kind::ReadCell { t, k, i };
         let word = cell_at(self.callers, k, i);
-        let found = self.load_event(&mut seat.seat, &kind, word);
-        seat.mirror.read_cell();
+        let found = self.event(&mut seat.seat, &kind, word, Instruction::Load);
+        seat.summary.read_cell();
         Ok(found)
     }
 
@@ -92,9 +98,9 @@ impl<O: Object> Shared<O> {
         ensures halted { OnErr result (Halts self.now seat.old seat.new) }
     {
         let _ = &self.table;
-        seat.mirror.check()?;
-        let found = self.load_event(&mut seat.seat, &Kind::LoadFree, FREE_AT);
-        seat.mirror.load_free(found);
+        seat.summary.check()?;
+        let found = self.event(&mut seat.seat, &Kind::LoadFree, FREE_AT, Instruction::Load);
+        seat.summary.load_free(found);
         Ok(found)
     }
 }

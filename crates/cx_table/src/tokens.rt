@@ -3,16 +3,17 @@
 
 ghost use Rattle.std.specs.Prelude.{◌≡◌};
 
-use std::marker::Model;
+use std::marker::{Model, PhantomData};
 
-/// The exclusive right on a replica. Contracts see the replica, and whose it is.
+/// A right of a kind on a replica. Contracts see the replica, and whose it is.
 #[derive(Debug, Drop)]
-pub struct Exclusive {
+pub struct Token<K> {
     pub(crate) replica: u32,
     pub(crate) caller: u32,
+    pub(crate) kind: PhantomData<K>,
 }
 
-impl Model for Exclusive {
+impl<K> Model for Token<K> {
     ghost use Rattle.cx_table.specs.Right.{Right};
 
     ghost Value = { Right };
@@ -20,7 +21,18 @@ impl Model for Exclusive {
     ghost view = { λ e. record { replica = e.replica; caller = e.caller } };
 }
 
-impl Exclusive {
+impl<K> Token<K> {
+    /// The token of a right that a step began.
+    pub(crate) fn of(replica: u32, caller: u32) -> Token<K>
+        ensures { result ≡ record { replica = replica; caller = caller } }
+    {
+        Token {
+            replica,
+            caller,
+            kind: PhantomData,
+        }
+    }
+
     /// The replica.
     pub fn replica(&self) -> u32
         ensures { result ≡ self.now.replica }
@@ -36,98 +48,33 @@ impl Exclusive {
     }
 }
 
-/// A shared right on a replica. Contracts see the replica, and whose it is.
+/// The right to load and to store, which one caller has alone.
 #[derive(Debug, Drop)]
-pub struct SharedHold {
-    pub(crate) replica: u32,
-    pub(crate) caller: u32,
-}
+pub struct Alone;
 
-impl Model for SharedHold {
-    ghost use Rattle.cx_table.specs.Right.{Right};
-
-    ghost Value = { Right };
-
-    ghost view = { λ e. record { replica = e.replica; caller = e.caller } };
-}
-
-impl SharedHold {
-    /// The replica.
-    pub fn replica(&self) -> u32
-        ensures { result ≡ self.now.replica }
-    {
-        self.replica
-    }
-
-    /// The caller, from 0.
-    pub fn caller(&self) -> u32
-        ensures { result ≡ self.now.caller }
-    {
-        self.caller
-    }
-}
-
-/// A passer's mark on a replica, which another holds exclusively. Contracts see the replica, and whose it is.
+/// The right to load, which several callers have together.
 #[derive(Debug, Drop)]
-pub struct Passer {
-    pub(crate) replica: u32,
-    pub(crate) caller: u32,
-}
+pub struct Together;
 
-impl Model for Passer {
-    ghost use Rattle.cx_table.specs.Right.{Right};
-
-    ghost Value = { Right };
-
-    ghost view = { λ e. record { replica = e.replica; caller = e.caller } };
-}
-
-impl Passer {
-    /// The replica.
-    pub fn replica(&self) -> u32
-        ensures { result ≡ self.now.replica }
-    {
-        self.replica
-    }
-
-    /// The caller, from 0.
-    pub fn caller(&self) -> u32
-        ensures { result ≡ self.now.caller }
-    {
-        self.caller
-    }
-}
-
-/// A shared right on a replica that was held exclusively. Contracts see the replica, and whose it is.
+/// The mark of a caller that came while another had the replica alone.
 #[derive(Debug, Drop)]
-pub struct Downgraded {
-    pub(crate) replica: u32,
-    pub(crate) caller: u32,
-}
+pub struct Passing;
 
-impl Model for Downgraded {
-    ghost use Rattle.cx_table.specs.Right.{Right};
+/// The right to load of a caller that had the replica alone.
+#[derive(Debug, Drop)]
+pub struct Lowered;
 
-    ghost Value = { Right };
+/// The exclusive right on a replica.
+pub type Exclusive = Token<Alone>;
 
-    ghost view = { λ e. record { replica = e.replica; caller = e.caller } };
-}
+/// A shared right on a replica.
+pub type SharedHold = Token<Together>;
 
-impl Downgraded {
-    /// The replica.
-    pub fn replica(&self) -> u32
-        ensures { result ≡ self.now.replica }
-    {
-        self.replica
-    }
+/// A passer's mark on a replica, which another holds exclusively.
+pub type Passer = Token<Passing>;
 
-    /// The caller, from 0.
-    pub fn caller(&self) -> u32
-        ensures { result ≡ self.now.caller }
-    {
-        self.caller
-    }
-}
+/// A shared right on a replica that was held exclusively.
+pub type Downgraded = Token<Lowered>;
 
 /// A root code that won and is not retired: a right on the replica of the code before it. Contracts see both codes, and
 /// whose it is.

@@ -8,7 +8,7 @@ use Rattle.std.specs.List.{Contains, slice_get}
 use Rattle.std.specs.Option.{option_map}
 use Rattle.cx_base.specs.Noted.{Note, led_by_load, led_by_store}
 use Rattle.cx_core.specs.declared.kinds.Kind.{Kind}
-use Rattle.cx_core.specs.declared.kinds.Kind.TheVariants.{WriteCell, Link, Look, ReadCell, LoadFree, TryExclusive, TryShared, BackOff, Downgrade, ReleaseExclusive, LoadWord, StoreWord, Persist, LoadCur, Publish, Raise, Retire, Protect, Confirm, Unprotect, CloseLow, Scan, OpenFree, WriteSet, Offer, LoadOffer, ReadSet}
+use Rattle.cx_core.specs.declared.kinds.Kind.TheVariants.{WriteCell, Link, TryExclusive, TryShared, BackOff, Downgrade, ReleaseExclusive, LoadWord, StoreWord, Persist, Publish, WriteSet, Offer}
 use Rattle.cx_core.specs.declared.local.Cell.{Cell}
 use Rattle.cx_core.specs.declared.local.HeldExclusive.{HeldExclusive}
 use Rattle.cx_core.specs.declared.local.Local.{Local}
@@ -267,9 +267,6 @@ copy_kept instance (WriteCell j i v) k found c guard shape long is = (
   refl,
   record { long = is.long; place = is.place; marks = is.marks; words = is.words; cells = written_cells k.local _ c.cells j i v shape guard.0 guard.1 refl is.cells },
 )
-copy_kept instance (Look s) k found c guard shape long is = (refl, still k _ c refl refl (λ j. refl) is)
-copy_kept instance (ReadCell t e i) k found c guard shape long is = (refl, still k _ c refl refl (λ j. refl) is)
-copy_kept instance LoadFree k found c guard shape long is = (refl, still k _ c refl refl (λ j. refl) is)
 copy_kept instance (Link j) k found c guard shape long is = (
   refl,
   still k _ c refl (elim (found == seen_word k.local.seen_slot) as (λ b. dirty_of (cond b (linked k.local j) (lost instance.callers k.local found)) ≡ dirty_of k.local) [ true ↦ refl | false ↦ refl ])
@@ -310,21 +307,11 @@ copy_kept instance (StoreWord r i v) k found c guard shape long is =
 copy_kept instance (Persist r i) k found c guard shape long is =
     let below = guard.0.1 in
     (refl, cleaned k _ c i (omega arith) refl (dirty_persisted k.local.exclusive i) (λ j. refl) is)
-copy_kept instance LoadCur k found c guard shape long is = (refl, still k _ c refl refl (λ j. refl) is)
 copy_kept instance Publish k found c guard shape long is = (
   refl,
   still k _ c refl (elim (found == k.local.seen_cur) as (λ b. dirty_of (cond b (published instance.callers k.local) (outrun instance.callers k.local found)) ≡ dirty_of k.local) [ true ↦ refl | false ↦ refl ])
       (elim (found == k.local.seen_cur) as (λ b. SameCells k.local (cond b (published instance.callers k.local) (outrun instance.callers k.local found))) [ true ↦ (λ j. refl) | false ↦ (λ j. refl) ]) is,
 )
-copy_kept instance (Raise code read) k found c guard shape long is = (refl, still k _ c refl refl (λ j. refl) is)
-copy_kept instance Retire k found c guard shape long is = (refl, still k _ c refl refl (λ j. refl) is)
-copy_kept instance (Protect p) k found c guard shape long is = (refl, still k _ c refl refl (λ j. refl) is)
-copy_kept instance Confirm k found c guard shape long is = (refl, still k _ c refl refl (λ j. refl) is)
-copy_kept instance Unprotect k found c guard shape long is = (refl, still k _ c refl refl (λ j. refl) is)
-copy_kept instance (CloseLow target) k found c guard shape long is = (refl, still k _ c refl refl (λ j. refl) is)
-copy_kept instance (Scan d) k found c guard shape long is = (refl, still k _ c refl refl (λ j. refl) is)
-copy_kept instance OpenFree k found c guard shape long is = (refl, still k _ c refl refl (λ j. refl) is)
 copy_kept instance (WriteSet j i v) k found c guard shape long is = (refl, still k _ c refl refl (λ n. words_kept k.local.cells j n (λ x. record x { set = set x.set i v }) (λ x. refl)) is)
 copy_kept instance (Offer j) k found c guard shape long is = (refl, still k _ c refl refl (λ n. words_kept k.local.cells j n (λ x. record x { offer = offer_of x.ticket x.offer }) (λ x. refl)) is)
-copy_kept instance (LoadOffer e t) k found c guard shape long is = (refl, still k _ c refl refl (λ j. refl) is)
-copy_kept instance (ReadSet e t i) k found c guard shape long is = (refl, still k _ c refl refl (λ j. refl) is)
+copy_kept instance kind k found c guard shape long is = (refl, still k _ c refl refl (λ j. refl) is)

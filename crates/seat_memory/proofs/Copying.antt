@@ -17,10 +17,10 @@ use Rattle.cx_rule.specs.Seats.{IsAtLimit, Seated, known_after, known_of}
 use Rattle.cx_rule.specs.Steps.{Steps, StepsCopied, TeachesCopied, known_copied}
 use Rattle.cx_rule.proofs.Copying.{noted_place, noted_tells}
 use Rattle.cx_rule.proofs.Fitting.{fitting}
-use Rattle.seat_memory.specs.declared.mirror.Mirror.{Mirror}
+use Rattle.seat_memory.specs.declared.summary.Summary.{Summary}
 use Rattle.seat_memory.specs.Copies.{Copied, IsCopied}
-use Rattle.seat_memory.specs.Mirrors.{Follows, IsMirrored, mirror_of}
-use Rattle.seat_memory.proofs.MirrorLaws.{IsSeat, seated, step_made}
+use Rattle.seat_memory.specs.Summaries.{Follows, HasSummary, summary_of}
+use Rattle.seat_memory.proofs.SummaryLaws.{IsSeat, seated, step_made}
 
 -- The words in plain memory stay those of the dirty places, since they were noted last both before and after.
 copy_moved : (instance : Instance) (r found : ℕ) (k : Known) (c : Copied) → length c.words ≡ length instance.base.words → 0 < length c.words → AgreeTo k (length c.words) → IsBehindNotes instance (known_after instance (BackOff r) k found) →
@@ -42,27 +42,27 @@ copy_moved instance r found k c long some agree behind is =
           subst (TellsWord n (loads_of (loaded_of k.local.shared)) i) same (noted_tells n (loads_of (loaded_of k.local.shared)) i a.0 below a.2));
     }
 
-module _ {O : Type 0} (r : Running O) (step : O → List ℕ → List ℕ → List ℕ × List ℕ) (reads : O → List ℕ → Bool) (replica found : ℕ) (me me' : Me ℕ (List Known)) (mirror mirror' : Mirror) (copy : Copied) (table table' : TableId) (before : ℕ) where
-  pub copied_made : (callers : ℕ) (old : Seated) → IsSeat me mirror before copy → seated table me before copy ≡ old → ((l : Local) → mirror ≡ mirror_of l → ¬ IsAtLimit l) → IsSeatOf r old →
-      CanBackOff r.callers replica old.known.local → table' ≡ table → TeachesCopied (instance_at r step reads) (BackOff replica) (known_of me.0) found me' → callers ≡ r.callers → Follows callers (BackOff replica) found mirror mirror' →
-      AgreeTo old.known old.region → 0 < length r.base.words → IsSeat me' mirror' before copy × StepsCopied r step reads replica found old (seated table' me' before copy)
+module _ {O : Type 0} (r : Running O) (step : O → List ℕ → List ℕ → List ℕ × List ℕ) (reads : O → List ℕ → Bool) (replica found : ℕ) (me me' : Me ℕ (List Known)) (summary summary' : Summary) (copy : Copied) (table table' : TableId) (before : ℕ) where
+  pub copied_made : (callers : ℕ) (old : Seated) → IsSeat me summary before copy → seated table me before copy ≡ old → ((l : Local) → summary ≡ summary_of l → ¬ IsAtLimit l) → IsSeatOf r old →
+      CanBackOff r.callers replica old.known.local → table' ≡ table → TeachesCopied (instance_at r step reads) (BackOff replica) (known_of me.0) found me' → callers ≡ r.callers → Follows callers (BackOff replica) found summary summary' →
+      AgreeTo old.known old.region → 0 < length r.base.words → IsSeat me' summary' before copy × StepsCopied r step reads replica found old (seated table' me' before copy)
   copied_made callers old is view allowed of guard same_table taught same follows agree some =
       let instance = instance_at r step reads in
       let k = known_of me.0 in
       let left : Me ℕ (List Known) = (known_after instance (BackOff replica) k found ∷ [], []) in
       let now : Me ℕ (List Known) = (known_copied instance (BackOff replica) k found ∷ [], []) in
-      let made = step_made r step reads (BackOff replica) found me left mirror mirror' copy copy table table' before callers old is view allowed of guard same_table taught.event same follows refl in
+      let made = step_made r step reads (BackOff replica) found me left summary summary' copy copy table table' before callers old is view allowed of guard same_table taught.event same follows refl in
       let m = made.0.0 in
       let at = made.1.seat in
       let long : length copy.words ≡ length r.base.words = ap (λ (s : Seated). s.region) view ∙ of.region in
-      let mirrored : IsMirrored now mirror' before = record { one = refl; is = m.is; linked = m.linked; front = m.front; few = m.few; small = m.small; place = m.place; cells = m.cells; within = m.within } in
+      let summarised : HasSummary now summary' before = record { one = refl; is = m.is; linked = m.linked; front = m.front; few = m.few; small = m.small; place = m.place; cells = m.cells; within = m.within } in
       let copied = copy_moved instance replica found k copy long (subst (λ n. 0 < n) (sym long) some) (subst (λ (s : Seated). AgreeTo s.known s.region) (sym view) agree) taught.event.behind made.0.1 in
       let stands : IsSeatOf r (seated table' now before copy) = record { table = at.table; caller = at.caller; before = at.before; region = at.region } in
       let whole : seated table' now before copy ≡ record old { known = known_copied instance (BackOff replica) old.known found } =
       (λ i. record { table = same_table i; before = before; region = length copy.words; known = known_copied instance (BackOff replica) k found })
       ∙ ap (λ (s : Seated). record s { known = known_copied instance (BackOff replica) s.known found }) view in
-      subst (λ (x : Me ℕ (List Known)). IsSeat x mirror' before copy × StepsCopied r step reads replica found old (seated table' x before copy)) (sym taught.knows) (
-        (mirrored, copied),
+      subst (λ (x : Me ℕ (List Known)). IsSeat x summary' before copy × StepsCopied r step reads replica found old (seated table' x before copy)) (sym taught.knows) (
+        (summarised, copied),
         record { event = subst (λ (s : Seated). Steps r step reads (BackOff replica) found old s) made.1.made made.1; made = whole; seat = stands },
       )
 

@@ -1,6 +1,6 @@
 pub mod Rows
 mod CopyLaws
-pub mod MirrorLaws
+pub mod SummaryLaws
 mod Refused
 pub mod Copying
 pub mod Raising

@@ -10,9 +10,9 @@ use Rattle.cx_core.specs.declared.local.Local.{Local}
 use Rattle.cx_core.specs.Lawful.{CellShape}
 use Rattle.cx_core.specs.State.{blank_cell, opening_local}
 use Rattle.cx_rule.specs.declared.rule.Known.{Known}
-use Rattle.seat_memory.specs.declared.mirror.Mirror.{Mirror}
+use Rattle.seat_memory.specs.declared.summary.Summary.{Summary}
 use Rattle.seat_memory.specs.Copies.{Copied, HasCellWords, IsCopied, blank_copy}
-use Rattle.seat_memory.specs.Mirrors.{IsMirrored, mirror_of}
+use Rattle.seat_memory.specs.Summaries.{HasSummary, summary_of}
 use Rattle.cx_rule.specs.Seats.{HasCells, IsWithinLimit, known_of, opening_known}
 use Rattle.cx_rule.proofs.Moves.{one_caller}
 
@@ -27,16 +27,16 @@ blank_cells callers place number limit = record {
 }
 
 -- a caller's seat as it is cut from the first seat
-pub opening_mirrored : (me : Me ℕ (List Known)) (mirror : Mirror) (before callers place number : ℕ) (limits : List ℕ) → me ≡ (opening_known callers place limits number ∷ [], []) →
-    mirror ≡ mirror_of (opening_known callers place limits number).local → place ≤ 2 ^ 40 → before ≤ 2 ^ 40 → IsMirrored me mirror before
-opening_mirrored me mirror before callers place number limits is m most small =
+pub opening_summarised : (me : Me ℕ (List Known)) (summary : Summary) (before callers place number : ℕ) (limits : List ℕ) → me ≡ (opening_known callers place limits number ∷ [], []) →
+    summary ≡ summary_of (opening_known callers place limits number).local → place ≤ 2 ^ 40 → before ≤ 2 ^ 40 → HasSummary me summary before
+opening_summarised me summary before callers place number limits is m most small =
     let one = one_caller me (opening_known callers place limits number) is in
-    let linked : mirror.linked ≡ 0 = ap (λ (x : Mirror). x.linked) m in
+    let linked : summary.linked ≡ 0 = ap (λ (x : Summary). x.linked) m in
     record {
       one = one.0;
-      is = m ∙ ap (λ (k : Known). mirror_of k.local) (sym one.1);
+      is = m ∙ ap (λ (k : Known). summary_of k.local) (sym one.1);
       linked = omega arith;
-      front = omega (arith, ap (λ (x : Mirror). x.front) m);
+      front = omega (arith, ap (λ (x : Summary). x.front) m);
       few = omega arith;
       small = small;
       place = λ h is. absurd (none-some h (sym (ap (λ (k : Known). k.local.downgraded) one.1) ∙ is));

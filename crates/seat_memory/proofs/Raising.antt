@@ -23,11 +23,11 @@ use Rattle.cx_rule.specs.Running.{IsRunning, IsSeatOf, Running, instance_at}
 use Rattle.cx_rule.specs.Seats.{IsAtLimit, Seated, known_of, unanswered_ticket}
 use Rattle.cx_rule.proofs.Fitting.{fitting}
 use Rattle.cx_rule.proofs.Raising.{learns_raise}
-use Rattle.seat_memory.specs.declared.mirror.Mirror.{Mirror}
+use Rattle.seat_memory.specs.declared.summary.Summary.{Summary}
 use Rattle.seat_memory.specs.Copies.{Copied, IsCopied}
-use Rattle.seat_memory.specs.Mirrors.{IsMirrored, mirror_of}
-use Rattle.seat_memory.specs.Raised.{is_below, raised_mirror}
-use Rattle.seat_memory.proofs.MirrorLaws.{IsSeat, one_step, seated}
+use Rattle.seat_memory.specs.Summaries.{HasSummary, summary_of}
+use Rattle.seat_memory.specs.Raised.{is_below, raised_summary}
+use Rattle.seat_memory.proofs.SummaryLaws.{IsSeat, one_step, seated}
 
 -- one answer where the unanswered entry's ticket is below the place, else none
 abbrev Counts : Bool → List Answer → Type 0
@@ -60,39 +60,39 @@ floor_after floor place count false answers None counts = ap (λ (xs : List Answ
 floor_after floor place count false answers (Some read) counts = ap (λ (xs : List Answer). raised_floor floor place xs (read_at place count (Some read))) (sym counts)
 
 -- the numbers follow a raise
-mirror_raised : (instance : Instance) (code : ℕ) (answers : List Answer) (read : Option (List ℕ × List ℕ)) (l : Local) (m : Mirror) → m ≡ mirror_of l → length l.own ≤ length l.answered + 1 →
+summary_raised : (instance : Instance) (code : ℕ) (answers : List Answer) (read : Option (List ℕ × List ℕ)) (l : Local) (m : Summary) → m ≡ summary_of l → length l.own ≤ length l.answered + 1 →
     Counts (is_below (root_place_of instance.callers code) (unanswered_ticket l)) answers →
-    raised_mirror instance.callers code (is_some read) m ≡ mirror_of (answered_local instance code answers (read_at (root_place_of instance.callers code) (length l.answered + length answers) read) l)
-mirror_raised instance code answers read l m is one counts =
+    raised_summary instance.callers code (is_some read) m ≡ summary_of (answered_local instance code answers (read_at (root_place_of instance.callers code) (length l.answered + length answers) read) l)
+summary_raised instance code answers read l m is one counts =
     let place = root_place_of instance.callers code in
     let count = length l.answered + length answers in
     let b = is_below place (unanswered_ticket l) in
     let tickets = ticket_after l b answers one counts in
     let floor = floor_after l.floor place count b answers read counts in
-    ap (raised_mirror instance.callers code (is_some read)) is
-    ∙ (λ i. record (mirror_of (answered_local instance code answers (read_at place count read) l)) { unanswered = tickets i; floor = floor i })
+    ap (raised_summary instance.callers code (is_some read)) is
+    ∙ (λ i. record (summary_of (answered_local instance code answers (read_at place count read) l)) { unanswered = tickets i; floor = floor i })
 
-module _ {O : Type 0} (r : Running O) (step : O → List ℕ → List ℕ → List ℕ × List ℕ) (reads : O → List ℕ → Bool) (lines : ℕ) (lawful : List ℕ → Type 0) (code : ℕ) (read : Option (List ℕ × List ℕ)) (me me' : Me ℕ (List Known)) (mirror mirror' : Mirror) (copy : Copied)
+module _ {O : Type 0} (r : Running O) (step : O → List ℕ → List ℕ → List ℕ × List ℕ) (reads : O → List ℕ → Bool) (lines : ℕ) (lawful : List ℕ → Type 0) (code : ℕ) (read : Option (List ℕ × List ℕ)) (me me' : Me ℕ (List Known)) (summary summary' : Summary) (copy : Copied)
     (table table' : TableId) (before : ℕ) (answers : List Answer) where
   abbrev instance : Instance
   instance = instance_at r step reads
 
-  raised_inside : IsSeat me mirror before copy → ¬ IsAtLimit (known_of me.0).local → IsSeatOf r (seated table me before copy) → CanRaise instance code (op_in read) (known_of me.0).local →
-      table' ≡ table → TellsAnswers lines lawful r.base (step r.object) (known_of me.0) (root_place_of r.callers code) answers → TeachesRaised instance code answers read (known_of me.0) me' → mirror' ≡ raised_mirror r.callers code (is_some read) mirror →
-      IsSeat me' mirror' before copy × Raises r step reads code answers read (seated table me before copy) (seated table' me' before copy)
+  raised_inside : IsSeat me summary before copy → ¬ IsAtLimit (known_of me.0).local → IsSeatOf r (seated table me before copy) → CanRaise instance code (op_in read) (known_of me.0).local →
+      table' ≡ table → TellsAnswers lines lawful r.base (step r.object) (known_of me.0) (root_place_of r.callers code) answers → TeachesRaised instance code answers read (known_of me.0) me' → summary' ≡ raised_summary r.callers code (is_some read) summary →
+      IsSeat me' summary' before copy × Raises r step reads code answers read (seated table me before copy) (seated table' me' before copy)
   raised_inside old allowed of guard same_table tells taught numbers =
       let k = known_of me.0 in
       let l = k.local in
       let k' = known_answered instance code answers read k in
       let now : Me ℕ (List Known) = (k' ∷ [], []) in
       let counts = counts_of lines lawful r.base (step r.object) k (root_place_of r.callers code) (unanswered l) answers tells in
-      let is : mirror' ≡ mirror_of k'.local = numbers ∙ mirror_raised instance code answers read l mirror old.0.is taught.lawful.tickets.one counts in
-      let linked : mirror'.linked ≡ mirror.linked = ap (λ (m : Mirror). m.linked) numbers in
-      let front : mirror'.front ≡ mirror.front = ap (λ (m : Mirror). m.front) numbers in
+      let is : summary' ≡ summary_of k'.local = numbers ∙ summary_raised instance code answers read l summary old.0.is taught.lawful.tickets.one counts in
+      let linked : summary'.linked ≡ summary.linked = ap (λ (m : Summary). m.linked) numbers in
+      let front : summary'.front ≡ summary.front = ap (λ (m : Summary). m.front) numbers in
       let a = old.0.linked in
       let b = old.0.front in
       let c = old.0.few in
-      let mirrored : IsMirrored now mirror' before = record {
+      let summarised : HasSummary now summary' before = record {
         one = refl;
         is = is;
         linked = omega (arith, a, linked, front);
@@ -106,20 +106,20 @@ module _ {O : Type 0} (r : Running O) (step : O → List ℕ → List ℕ → Li
       let copied : IsCopied k' copy = record { long = old.1.long; place = old.1.place; marks = old.1.marks; words = old.1.words; cells = record { long = old.1.cells.long; each = old.1.cells.each } } in
       let stands : IsSeatOf r (seated table' now before copy) = record { table = same_table ∙ of.table; caller = of.caller; before = of.before; region = of.region } in
       let whole : seated table' now before copy ≡ record (seated table me before copy) { known = k' } = (λ i. record { table = same_table i; before = before; region = length copy.words; known = k' }) in
-      subst (λ (x : Me ℕ (List Known)). IsSeat x mirror' before copy × Raises r step reads code answers read (seated table me before copy) (seated table' x before copy)) (sym taught.knows) (
-        (mirrored, copied),
-        record { allowed = allowed; guard = guard; made = whole; lawful = taught.lawful; lawful_after = taught.lawful_after; within = mirrored.within; seat = stands },
+      subst (λ (x : Me ℕ (List Known)). IsSeat x summary' before copy × Raises r step reads code answers read (seated table me before copy) (seated table' x before copy)) (sym taught.knows) (
+        (summarised, copied),
+        record { allowed = allowed; guard = guard; made = whole; lawful = taught.lawful; lawful_after = taught.lawful_after; within = summarised.within; seat = stands },
       )
 
-  pub raised_made : (callers : ℕ) (old : Seated) → IsSeat me mirror before copy → seated table me before copy ≡ old → ((l : Local) → mirror ≡ mirror_of l → ¬ IsAtLimit l) → IsSeatOf r old →
+  pub raised_made : (callers : ℕ) (old : Seated) → IsSeat me summary before copy → seated table me before copy ≡ old → ((l : Local) → summary ≡ summary_of l → ¬ IsAtLimit l) → IsSeatOf r old →
       CanRaise instance code (op_in read) old.known.local → table' ≡ table → TellsAnswers lines lawful r.base (step r.object) old.known (root_place_of r.callers code) answers →
-      TeachesRaised instance code answers read (known_of me.0) me' → callers ≡ r.callers → mirror' ≡ raised_mirror callers code (is_some read) mirror →
-      IsSeat me' mirror' before copy × Raises r step reads code answers read old (seated table' me' before copy)
+      TeachesRaised instance code answers read (known_of me.0) me' → callers ≡ r.callers → summary' ≡ raised_summary callers code (is_some read) summary →
+      IsSeat me' summary' before copy × Raises r step reads code answers read old (seated table' me' before copy)
   raised_made callers old is view allowed of guard same_table tells taught same numbers =
-      subst (λ (s : Seated). IsSeat me' mirror' before copy × Raises r step reads code answers read s (seated table' me' before copy)) view
+      subst (λ (s : Seated). IsSeat me' summary' before copy × Raises r step reads code answers read s (seated table' me' before copy)) view
       (raised_inside is (allowed (known_of me.0).local is.0.is) (subst (IsSeatOf r) (sym view) of) (subst (λ (s : Seated). CanRaise instance code (op_in read) s.known.local) (sym view) guard) same_table
       (subst (λ (s : Seated). TellsAnswers lines lawful r.base (step r.object) s.known (root_place_of r.callers code) answers) (sym view) tells) taught
-      (numbers ∙ ap (λ n. raised_mirror n code (is_some read) mirror) same))
+      (numbers ∙ ap (λ n. raised_summary n code (is_some read) summary) same))
 
 -- DUR is a word of the table
 pub dur_within : {O : Type 0} {line_count : O → ℕ} {lawful : O → List ℕ → Type 0} {r : Running O} → IsRunning line_count lawful r → dur_at < r.table.words

@@ -8,8 +8,8 @@ use Rattle.std.specs.List.{list_all, range_with_len}
 use Rattle.cx_core.specs.declared.local.Local.{Local}
 use Rattle.cx_core.specs.LockEvents.{has_all, is_in, refused_by, with_number}
 use Rattle.cx_core.specs.State.{one_more}
-use Rattle.seat_memory.specs.declared.mirror.Mirror.{Mirror}
-use Rattle.seat_memory.specs.Mirrors.{mirror_of}
+use Rattle.seat_memory.specs.declared.summary.Summary.{Summary}
+use Rattle.seat_memory.specs.Summaries.{summary_of}
 
 abbrev pub marks_of : List ℕ → List Bool
 marks_of xs = map (is_in xs) (range_with_len 0 16)
@@ -28,12 +28,16 @@ all_marked callers marks xs few is =
     all_same (λ r. slice_index_or marks r false) (is_in xs) 0 (2 * callers) (λ i _ below.
     ap (λ ms. slice_index_or ms i false) is ∙ get_or-map-range_with_len (is_in xs) 0 16 i i false (omega arith) (omega arith))
 
+absorbs : (b : Bool) → b ≡ (b || false)
+absorbs true = refl
+absorbs false = refl
+
+full : (b : Bool) → true ≡ (b || true)
+full true = refl
+full false = refl
+
 is_in_more : (xs : List ℕ) (x y : ℕ) → is_in (xs ++ x ∷ []) y ≡ (is_in xs y || (x == y))
-is_in_more [] x y = either_way (x == y)
-  where
-    either_way : (b : Bool) → (b || false) ≡ b
-    either_way true = refl
-    either_way false = refl
+is_in_more [] x y = sym (absorbs (x == y))
 is_in_more (z ∷ xs) x y = ap (λ b. (z == y) || b) (is_in_more xs x y) ∙ shift (z == y) (is_in xs y) (x == y)
   where
     shift : (a b c : Bool) → (a || (b || c)) ≡ ((a || b) || c)
@@ -48,14 +52,6 @@ is_in_with xs x y =
       | inr e ↦ ap (λ b. is_in (cond b xs (xs ++ x ∷ [])) y) e ∙ is_in_more xs x y
     ]
   where
-    absorbs : (b : Bool) → b ≡ (b || false)
-    absorbs true = refl
-    absorbs false = refl
-
-    full : (b : Bool) → true ≡ (b || true)
-    full true = refl
-    full false = refl
-
     there : is_in xs x ≡ true → is_in xs y ≡ (is_in xs y || (x == y))
     there e = elim (cases_eq x y) [
       | inl same ↦ ap (is_in xs) (sym same) ∙ e ∙ full (is_in xs y) ∙ ap (λ b. is_in xs y || b) (sym (eq-eqb x y same))
@@ -72,28 +68,20 @@ marked_more marks xs r small is =
       | inl e ↦ ap (λ k. slice_index_or (set marks r true) k false) e ∙ get_or-set_same marks r true false (omega (arith, long)) ∙ full (is_in xs i) ∙ ap (λ b. is_in xs i || b) (sym (eq-eqb r i (sym e))) ∙ sym new
       | inr ne ↦ get_or-set_other marks r i true false ne ∙ ap (λ ms. slice_index_or ms i false) is ∙ get_or-map-range_with_len (is_in xs) 0 16 i i false below (omega arith) ∙ absorbs (is_in xs i) ∙ ap (λ b. is_in xs i || b) (sym (ne_eqb r i (λ s. ne (sym s)))) ∙ sym new
     ]))
-  where
-    absorbs : (b : Bool) → b ≡ (b || false)
-    absorbs true = refl
-    absorbs false = refl
-
-    full : (b : Bool) → true ≡ (b || true)
-    full true = refl
-    full false = refl
-
-pub none_marked : replicate 16 false ≡ marks_of []
-none_marked = refl
 
 -- the numbers after an exclusive try that was refused, where each replica then was or not
-abbrev pub after_refusal : Bool → ℕ → Mirror → Mirror
+abbrev pub after_refusal : Bool → ℕ → Summary → Summary
 after_refusal all r m = record m { refused = cond all (replicate 16 false) (set m.refused r true); met = cond all (one_more m.met) m.met; steps = one_more m.steps }
 
-pub mirror_refused : (callers r found : ℕ) (l : Local) (m : Mirror) → r < 16 → m ≡ mirror_of l → after_refusal (has_all callers (with_number l.refused r)) r m ≡ mirror_of (refused_by callers r l found)
-mirror_refused callers r found l m small is =
-    let all = has_all callers (with_number l.refused r) in
-    let marks : set (mirror_of l).refused r true ≡ marks_of (with_number l.refused r) = marked_more (marks_of l.refused) l.refused r small refl in
-    ap (after_refusal all r) is
-    ∙ ap (λ ms. record (mirror_of (refused_by callers r l found)) { refused = ms }) (ap (λ ms. cond all (replicate 16 false) ms) marks ∙ both all)
+pub summary_refused : (callers r found : ℕ) (l : Local) (m : Summary) (all : Bool) → callers ≤ 8 → r < 2 * callers → m ≡ summary_of l →
+    list_all (λ q. slice_index_or (set m.refused r true) q false) (range_with_len 0 (2 * callers)) ≡ all → after_refusal all r m ≡ summary_of (refused_by callers r l found)
+summary_refused callers r found l m all few small is each =
+    let marks : set m.refused r true ≡ marks_of (with_number l.refused r) = marked_more m.refused l.refused r (omega arith) (ap (λ (x : Summary). x.refused) is) in
+    let same : all ≡ has_all callers (with_number l.refused r) = sym each ∙ all_marked callers (set m.refused r true) (with_number l.refused r) few marks in
+    let inside : set (summary_of l).refused r true ≡ marks_of (with_number l.refused r) = sym (ap (λ (x : Summary). set x.refused r true) is) ∙ marks in
+    ap (λ b. after_refusal b r m) same
+    ∙ ap (after_refusal (has_all callers (with_number l.refused r)) r) is
+    ∙ ap (λ ms. record (summary_of (refused_by callers r l found)) { refused = ms }) (ap (λ ms. cond (has_all callers (with_number l.refused r)) (replicate 16 false) ms) inside ∙ both (has_all callers (with_number l.refused r)))
   where
     both : (b : Bool) → cond b (replicate 16 false) (marks_of (with_number l.refused r)) ≡ marks_of (cond b [] (with_number l.refused r))
     both true = refl

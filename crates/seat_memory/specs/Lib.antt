@@ -1,4 +1,4 @@
-pub mod Mirrors
+pub mod Summaries
 pub mod Raised
 pub mod Copies
 pub mod Marks

@@ -2,7 +2,7 @@
 //! replica held exclusively that are to be persisted have to be known without a load, and so have those of the caller's
 //! cells, of which only the words that differ are written.
 
-ghost use Rattle.std.specs.Prelude.{◌≡◌, ◌≢◌, ◌+◌, ◌*◌, ◌<◌, ◌==◌, ℕ, IfOk, IfSome, IfNone, false, true, if◌then◌else◌, length, replicate, slice_get, slice_index, slice_set, Some, None};
+ghost use Rattle.std.specs.Prelude.{◌≡◌, ◌≢◌, ◌+◌, ◌*◌, ◌<◌, ◌==◌, ℕ, IfOk, IfSome, IfNone, false, true, if◌then◌else◌, length, slice_get, slice_index, slice_set, Some};
 ghost use Rattle.seat_memory.specs.Copies.{blank_copy};
 
 use crate::marks::Marks;

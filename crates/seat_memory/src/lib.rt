@@ -6,9 +6,9 @@
 mod closing;
 mod copies;
 mod marks;
-mod mirror;
 mod ring;
+mod summary;
 
 pub use closing::{copy_words, lead_on, mark_replica};
 pub use copies::Copies;
-pub use mirror::{EXCLUSIVE_MARK, Mirror, is_at, opening_mirror};
+pub use summary::{Summary, opening_summary};

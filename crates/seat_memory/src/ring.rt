@@ -1,65 +1,18 @@
 //! How the steps of the ring change the numbers: what a caller needs is stated, confirmed and given up, and tickets are
 //! closed, scanned and opened.
 
-ghost use Rattle.std.specs.Prelude.{◌≡◌, ◌<◌, ◌≤◌, ℕ};
+ghost use Rattle.std.specs.Prelude.{◌≡◌, ◌<◌, ℕ};
+ghost use Rattle.cx_base.specs.Callers.{AreCallers};
 ghost use Rattle.cx_core.specs.declared.kinds.Kind.TheVariants.{Protect, Confirm, Unprotect, CloseLow, Scan, OpenFree};
-ghost use Rattle.cx_core.specs.RingEvents.{bound_in, confirmed_by, least_in, lesser, scan_after, shows_outdated};
-ghost use Rattle.seat_memory.specs.Mirrors.{Follows, mirror_of};
+ghost use Rattle.cx_core.specs.RingEvents.{bound_in, confirmed_by, least_in, scan_after, shows_outdated};
+ghost use Rattle.seat_memory.specs.Summaries.{Follows, summary_of};
 
-use crate::mirror::Mirror;
+use crate::summary::Summary;
+use core_guards::ring::{bound_in, confirmed_by, least_in, scan_after};
 use cx_base::root_place;
-use cx_core::{Protection, SeenNeed};
+use cx_core::Protection;
 
-/// The protection after LOW was found.
-fn confirmed_by(found: u64, protection: Protection) -> Protection
-    ensures { result ≡ confirmed_by found protection }
-{
-    match protection {
-        Protection::Stated(p) if found <= p => Protection::Confirmed(p),
-        other => other,
-    }
-}
-
-/// The least need found so far, and the least caller that had it.
-fn lesser(d: u64, found: u64, least: Option<SeenNeed>) -> SeenNeed
-    ensures { result ≡ lesser d found least }
-{
-    match least {
-        Some(least) if least.need <= found => least,
-        _ => SeenNeed {
-            need: found,
-            caller: d,
-        },
-    }
-}
-
-/// A scan after the need of its next caller was found.
-fn scan_after(d: u64, found: u64, scan: Option<cx_core::Scan>) -> Option<cx_core::Scan>
-    requires { d < 8 }
-    ensures { result ≡ scan_after d found scan }
-{
-    match scan {
-        None => None,
-        Some(scan) => Some(cx_core::Scan {
-            target: scan.target,
-            bound: scan.bound.min(found),
-            next: d + 1,
-            least: Some(lesser(d, found, scan.least)),
-        }),
-    }
-}
-
-/// The least need that a scan found.
-fn least_in(scan: Option<cx_core::Scan>) -> Option<SeenNeed>
-    ensures { result ≡ least_in scan }
-{
-    match scan {
-        None => None,
-        Some(scan) => scan.least,
-    }
-}
-
-impl Mirror {
+impl Summary {
     /// A protection was stated.
     pub fn protect(&mut self, p: u64)
         ensures { (callers found : ℕ) → Follows callers (Protect p) found self.old self.new }
@@ -71,9 +24,8 @@ impl Mirror {
     /// Whether LOW was found above the place of a protection, though the code last loaded from CUR, which nothing ended the
     /// use of, is at no place above that.
     fn shows_outdated(&self, callers: u32, found: u64) -> bool
-        requires some { 1 ≤ callers }
-        requires few { callers ≤ 8 }
-        ensures { (l : _) → self.now ≡ mirror_of l → result ≡ shows_outdated callers l found l.protection }
+        requires callers { AreCallers callers }
+        ensures { (l : _) → self.now ≡ summary_of l → result ≡ shows_outdated callers l found l.protection }
     {
         match self.protection {
             Protection::Stated(p) => {
@@ -85,8 +37,7 @@ impl Mirror {
 
     /// LOW was found.
     pub fn confirm(&mut self, callers: u32, found: u64)
-        requires some { 1 ≤ callers }
-        requires few { callers ≤ 8 }
+        requires callers { AreCallers callers }
         ensures { Follows callers Confirm found self.old self.new }
     {
         if self.shows_outdated(callers, found) {
@@ -132,10 +83,7 @@ impl Mirror {
     pub fn bound(&self) -> u64
         ensures { result ≡ bound_in self.now.scan }
     {
-        match self.scan {
-            None => 0,
-            Some(scan) => scan.bound,
-        }
+        bound_in(self.scan)
     }
 
     /// FREE was raised to the scan's bound, which ends the scan.

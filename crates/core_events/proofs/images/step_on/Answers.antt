@@ -11,8 +11,8 @@ returns-clause-region g c =
     let entry = c.args.entry.now in
     let ws = words_of c.args.memory.now in
     let image = object_part ws in
-    let law = g.met.O.Object.keeps o image entry.op c.requires.region.object c.op_fits.ensures in
-    let kept = region_kept (g.O.Object.line_count o) (g.O.Object.step o) entry ws c.requires.caller c.requires.region.long (g.met.O.Object.shape o (g.O.Object.step o image entry.op).0 law).0.long (g.met.O.Object.replies o image entry.op c.requires.region.object c.op_fits.ensures).long in
+    let law = g.met.O.Object.keeps o image entry.op c.requires.region.0.object c.op_fits.ensures in
+    let kept = region_kept (g.O.Object.line_count o) (g.O.Object.step o) entry ws c.requires.caller c.requires.region.0.long (g.met.O.Object.shape o (g.O.Object.step o image entry.op).0 law).0.long (g.met.O.Object.replies o image entry.op c.requires.region.0.object c.op_fits.ensures).long in
     let is = known_after ws (words_of c.full_step.new.mem) c.full_step.new.mem.fit c.in-Ok.ensures.done in
     record {
       long = ap length is ∙ kept.0;
@@ -25,6 +25,6 @@ returns-clause-place g c =
     let entry = c.args.entry.now in
     let ws = words_of c.args.memory.now in
     let image = object_part ws in
-    let law = g.met.O.Object.keeps o image entry.op c.requires.region.object c.op_fits.ensures in
-    let kept = region_kept (g.O.Object.line_count o) (g.O.Object.step o) entry ws c.requires.caller c.requires.region.long (g.met.O.Object.shape o (g.O.Object.step o image entry.op).0 law).0.long (g.met.O.Object.replies o image entry.op c.requires.region.object c.op_fits.ensures).long in
+    let law = g.met.O.Object.keeps o image entry.op c.requires.region.0.object c.op_fits.ensures in
+    let kept = region_kept (g.O.Object.line_count o) (g.O.Object.step o) entry ws c.requires.caller c.requires.region.0.long (g.met.O.Object.shape o (g.O.Object.step o image entry.op).0 law).0.long (g.met.O.Object.replies o image entry.op c.requires.region.0.object c.op_fits.ensures).long in
     ap place_of (known_after ws (words_of c.full_step.new.mem) c.full_step.new.mem.fit c.in-Ok.ensures.done) ∙ kept.1

@@ -7,11 +7,11 @@ use Rattle.cx_rule.specs.Seats.{Seated, known_of}
 use Rattle.cx_rule.proofs.Keeps.{learns_shown}
 use Rattle.cx_table.specs.Tokens.{replica_of}
 use Rattle.cx_table.proofs.Handing.{can_back_off, steps_same}
-use Rattle.seat_memory.proofs.MirrorLaws.{step_made}
+use Rattle.seat_memory.proofs.SummaryLaws.{step_made}
 use Rattle.cx_table.proofs.shared.Shared.back_off.Goals as goal
 
-pub subtract_learned-found-requires-clause-learns : goal.subtract_learned-found-requires-clause-learns
-subtract_learned-found-requires-clause-learns g c = λ words within.
+pub learned-found-requires-clause-learns : goal.learned-found-requires-clause-learns
+learned-found-requires-clause-learns g c = λ words within.
     let t = c.args.self.now in
     let known = known_of c.seat.inside.seat.me.0 in
     let r = c.replica_in-r.result in
@@ -21,11 +21,11 @@ subtract_learned-found-requires-clause-learns g c = λ words within.
 
 pub invariant_of-seat : goal.invariant_of-seat
 invariant_of-seat g c =
-    (step_made c.args.self.now g.O.Object.step g.O.Object.only_reads (BackOff c.replica_in-r.result) c.subtract_learned-found.result _ _ _ _ _ _ _ _ _ _ _ c.seat.invariant c.seat.view_is c.in_ok-check.ensures c.requires.seat (subst (λ (n : ℕ). CanBackOff c.args.self.now.callers n c.args.seat.now.known.local) (sym c.replica_in-r.ensures) (can_back_off c.args.self.now.callers c.args.seat.now c.args.right c.requires.right))
-    c.subtract_learned-found.ensures.table c.subtract_learned-found.ensures.taught (ap (λ (r : Running _). r.callers) c.self.view_is) (c.back_off.ensures c.self.inside.callers c.subtract_learned-found.result) refl).0
+    (step_made c.args.self.now g.O.Object.step g.O.Object.only_reads (BackOff c.replica_in-r.result) c.learned-found.result _ _ _ _ _ _ _ _ _ _ _ c.seat.invariant c.seat.view_is c.in_ok-check.ensures c.requires.seat (subst (λ (n : ℕ). CanBackOff c.args.self.now.callers n c.args.seat.now.known.local) (sym c.replica_in-r.ensures) (can_back_off c.args.self.now.callers c.args.seat.now c.args.right c.requires.right))
+    c.learned-found.ensures.table c.learned-found.ensures.taught (ap (λ (r : Running _). r.callers) c.self.view_is) (c.back_off.ensures c.self.inside.callers c.learned-found.result) refl).0
 
 pub returns-clause-made : goal.returns-clause-made
 returns-clause-made g c =
     steps_same (BackOff c.replica_in-r.result) (BackOff (replica_of c.args.right)) (ap (λ (n : ℕ). BackOff n) c.replica_in-r.ensures)
-    (step_made c.args.self.now g.O.Object.step g.O.Object.only_reads (BackOff c.replica_in-r.result) c.subtract_learned-found.result _ _ _ _ _ _ _ _ _ _ _ c.seat.invariant c.seat.view_is c.in_ok-check.ensures c.requires.seat (subst (λ (n : ℕ). CanBackOff c.args.self.now.callers n c.args.seat.now.known.local) (sym c.replica_in-r.ensures) (can_back_off c.args.self.now.callers c.args.seat.now c.args.right c.requires.right))
-    c.subtract_learned-found.ensures.table c.subtract_learned-found.ensures.taught (ap (λ (r : Running _). r.callers) c.self.view_is) (c.back_off.ensures c.self.inside.callers c.subtract_learned-found.result) refl).1
+    (step_made c.args.self.now g.O.Object.step g.O.Object.only_reads (BackOff c.replica_in-r.result) c.learned-found.result _ _ _ _ _ _ _ _ _ _ _ c.seat.invariant c.seat.view_is c.in_ok-check.ensures c.requires.seat (subst (λ (n : ℕ). CanBackOff c.args.self.now.callers n c.args.seat.now.known.local) (sym c.replica_in-r.ensures) (can_back_off c.args.self.now.callers c.args.seat.now c.args.right c.requires.right))
+    c.learned-found.ensures.table c.learned-found.ensures.taught (ap (λ (r : Running _). r.callers) c.self.view_is) (c.back_off.ensures c.self.inside.callers c.learned-found.result) refl).1

@@ -31,8 +31,8 @@ pub loop-seat-preserved : goal.loop-seat-preserved
 loop-seat-preserved g c =
     let left = c.pop.new.self.items in
     let seat = c.in-Some.seat in
-    let me = c.take_in.ensures.me in record {
-      table = c.take_in.ensures.table ∙ c.loop-seat.invariant.table;
+    let me = c.take_in.ensures.1 in record {
+      table = c.take_in.ensures.0 ∙ c.loop-seat.invariant.table;
       of = (All-pop (λ (s : Seated). s.table ≡ c.args.self.now.table) _ _ (Some c.in-Some.seat) c.in-Some.ensures.items c.loop-seat.invariant.of).0;
       whole =
           ap (λ m. known_by left ++ m.0) me
@@ -52,7 +52,7 @@ known m rest ks done whole none =
     ap (λ k. (m.0, k)) none ∙ ap (λ (held : List Known). (held, [])) (ap (λ r. known_by r ++ m.0) (sym done) ∙ whole)
 
 pub returns : goal.returns
-returns g c = record {
-  table = c.loop-seat.invariant.table;
-  me = known c.loop-seat.closing.me c.loop-seat.seats.items (known_by c.args.seats.items) (nothing c.loop-seat.seats.items (sym c.loop-seat.seats.ok.0 ∙ c.in_default.ensures.cases.0)) c.loop-seat.invariant.whole c.loop-seat.invariant.none;
-}
+returns g c = (
+  c.loop-seat.invariant.table,
+  known c.loop-seat.closing.me c.loop-seat.seats.items (known_by c.args.seats.items) (nothing c.loop-seat.seats.items (sym c.loop-seat.seats.ok.0 ∙ c.in_default.ensures.cases.0)) c.loop-seat.invariant.whole c.loop-seat.invariant.none,
+)

@@ -1,15 +1,15 @@
 use Rattle.std.proofs.Common.{ap, refl}
 use Rattle.cx_core.specs.declared.kinds.Kind.TheVariants.{Link}
 use Rattle.cx_rule.specs.Running.{Running}
-use Rattle.seat_memory.proofs.MirrorLaws.{step_made}
+use Rattle.seat_memory.proofs.SummaryLaws.{step_made}
 use Rattle.cx_table.proofs.shared.Shared.link.Goals as goal
 
 pub invariant_of-seat : goal.invariant_of-seat
 invariant_of-seat g c =
-    (step_made c.args.self.now g.O.Object.step g.O.Object.only_reads (Link c.args.j) c.exchange_event-found.result _ _ _ _ _ _ _ _ _ _ _ c.seat.invariant c.seat.view_is c.in_ok-check.ensures c.requires.seat c.requires.guard
-    c.exchange_event-found.ensures.table c.exchange_event-found.ensures.taught (ap (λ (r : Running _). r.callers) c.self.view_is) c.link.ensures refl).0
+    (step_made c.args.self.now g.O.Object.step g.O.Object.only_reads (Link c.args.j) c.event-found.result _ _ _ _ _ _ _ _ _ _ _ c.seat.invariant c.seat.view_is c.in_ok-check.ensures c.requires.seat c.requires.guard
+    c.event-found.ensures.table c.event-found.ensures.taught (ap (λ (r : Running _). r.callers) c.self.view_is) c.link.ensures refl).0
 
 pub returns-clause-made : goal.returns-clause-made
 returns-clause-made g c =
-    (step_made c.args.self.now g.O.Object.step g.O.Object.only_reads (Link c.args.j) c.exchange_event-found.result _ _ _ _ _ _ _ _ _ _ _ c.seat.invariant c.seat.view_is c.in_ok-check.ensures c.requires.seat c.requires.guard
-    c.exchange_event-found.ensures.table c.exchange_event-found.ensures.taught (ap (λ (r : Running _). r.callers) c.self.view_is) c.link.ensures refl).1
+    (step_made c.args.self.now g.O.Object.step g.O.Object.only_reads (Link c.args.j) c.event-found.result _ _ _ _ _ _ _ _ _ _ _ c.seat.invariant c.seat.view_is c.in_ok-check.ensures c.requires.seat c.requires.guard
+    c.event-found.ensures.table c.event-found.ensures.taught (ap (λ (r : Running _). r.callers) c.self.view_is) c.link.ensures refl).1

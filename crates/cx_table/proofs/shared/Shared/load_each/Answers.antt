@@ -13,8 +13,8 @@ use Rattle.cx_table.proofs.shared.Shared.load_each.Goals as goal
 
 pub loop-i-init : goal.loop-i-init
 loop-i-init g c = record {
-  table = c.requires.table;
-  one = c.requires.one;
+  table = c.requires.one.table_is;
+  one = c.requires.one.one;
   may = c.requires.guard;
   taught = taught_nothing (instance_at c.args.self.now g.O.Object.step g.O.Object.only_reads) (loads_from c.args.r c.args.from) c.args.into.now c.args.seat.now.me;
   length = refl;
@@ -24,8 +24,8 @@ pub vol_at-word-requires-clause-replica : goal.vol_at-word-requires-clause-repli
 vol_at-word-requires-clause-replica g c =
     subst (λ n. c.args.r < 2 * n) (sym (ap (λ (x : Running _). x.callers) c.self.view_is)) (c.loop-i.invariant.may c.loop-i.i (omega (arith, c.loop-i-test.true, c.loop-i.invariant.length))).0
 
-pub load_learned-requires-clause-learns : goal.load_learned-requires-clause-learns
-load_learned-requires-clause-learns g c =
+pub learned-requires-clause-learns : goal.learned-requires-clause-learns
+learned-requires-clause-learns g c =
     let t = c.args.self.now in
     let may = c.loop-i.invariant.may c.loop-i.i (omega (arith, c.loop-i-test.true, c.loop-i.invariant.length)) in
     learns_load (instance_at t g.O.Object.step g.O.Object.only_reads) c.args.r (c.args.from + c.loop-i.i) false (known_of c.loop-i.seat.me.0) _
@@ -39,13 +39,13 @@ loop-i-preserved g c =
     let t = c.args.self.now in
     let instance = instance_at t g.O.Object.step g.O.Object.only_reads in
     let i = c.loop-i.i in
-    let taught = c.load_learned.ensures.taught in
+    let taught = c.learned.ensures.taught in
     let known = ap (λ (m : Me ℕ (List Known)). known_of m.0) taught.knows in
     record {
-      table = c.load_learned.ensures.table ∙ c.loop-i.invariant.table;
+      table = c.learned.ensures.table ∙ c.loop-i.invariant.table;
       one = taught.knows ∙ ap (λ k. (k ∷ [], [])) (sym known);
       may = λ j below. subst (λ (k : Known). CanLoad t.callers c.args.region c.args.r (c.args.from + j) k.local) (sym known)
-          (may_still instance t.callers c.args.region c.args.r (c.args.from + j) c.args.r (c.args.from + i) c.load_learned.result (known_of c.loop-i.seat.me.0) (c.loop-i.invariant.may j (subst (λ n. j < n) (length-set c.loop-i.into i c.load_learned.result) below)));
-      taught = taught_on instance (loads_from c.args.r c.args.from) c.loop-i.into i c.load_learned.result c.args.seat.now.me c.loop-i.seat.me c.load_learned.new.seat.me (omega (arith, c.loop-i-test.true, c.loop-i.invariant.length)) c.loop-i.invariant.taught taught;
-      length = length-set c.loop-i.into i c.load_learned.result ∙ c.loop-i.invariant.length;
+          (may_still instance t.callers c.args.region c.args.r (c.args.from + j) c.args.r (c.args.from + i) c.learned.result (known_of c.loop-i.seat.me.0) (c.loop-i.invariant.may j (subst (λ n. j < n) (length-set c.loop-i.into i c.learned.result) below)));
+      taught = taught_on instance (loads_from c.args.r c.args.from) c.loop-i.into i c.learned.result c.args.seat.now.me c.loop-i.seat.me c.learned.new.seat.me (omega (arith, c.loop-i-test.true, c.loop-i.invariant.length)) c.loop-i.invariant.taught taught;
+      length = length-set c.loop-i.into i c.learned.result ∙ c.loop-i.invariant.length;
     }

@@ -3,7 +3,7 @@ use Rattle.cx_core.specs.RegionEvents.{CanLoad}
 use Rattle.cx_rule.specs.declared.rule.Known.{Known}
 use Rattle.cx_rule.specs.Running.{IsRunning, IsSeatOf, instance_at}
 use Rattle.cx_rule.specs.Seats.{Seated, known_of}
-use Rattle.seat_memory.proofs.MirrorLaws.{IsSeat, seated}
+use Rattle.seat_memory.proofs.SummaryLaws.{IsSeat, seated}
 use Rattle.cx_table.specs.Runs.{Runs, loads_from}
 use Rattle.cx_table.proofs.Handing.{laws_at}
 use Rattle.cx_table.proofs.Runs.{kept_loading, led_to, may_still, numbers_loaded}
@@ -11,7 +11,7 @@ use Rattle.cx_table.proofs.shared.Shared.load_words.Goals as goal
 
 pub load_each-requires-clause-guard : goal.load_each-requires-clause-guard
 load_each-requires-clause-guard g c = λ i below. (
-    let region : length c.args.self.now.base.words ≡ c.region-region.result = sym (c.region-region.ensures ∙ ap (λ (s : Seated). s.region) c.seat.view_is ∙ c.requires.seat.region) in
+    let region : length c.args.self.now.base.words ≡ c.region-region.result = sym (c.region-region.ensures ∙ ap (λ (s : Seated). s.region) c.seat.view_is ∙ c.requires.seat.0.region) in
     subst (λ n. CanLoad c.args.self.now.callers n c.args.r (c.args.from + i) (known_of c.seat.inside.seat.me.0).local) region
     (subst (λ (s : Seated). CanLoad c.args.self.now.callers (length c.args.self.now.base.words) c.args.r (c.args.from + i) s.known.local) (sym c.seat.view_is) (c.requires.guard i below)))
 
@@ -36,9 +36,9 @@ loads_lead g c =
     (λ k i below may. may i below)
     (λ k i v may j below. may_still instance t.callers region c.args.r (c.args.from + j) c.args.r (c.args.from + i) v k (may j below))
     (λ k i v. numbers_loaded instance c.args.r (c.args.from + i) v k)
-    (λ k i v copy. kept_loading c.args.r (c.args.from + i) v k copy (omega (arith, c.requires.behind)))
-    c.seat.inside.seat.me c.seat.inside.mirror c.seat.inside.copy c.seat.inside.seat.table_id c.seat.inside.before c.args.seat.now words c.load_each.new.seat.me c.load_each.new.seat.table_id c.count.new.self c.seat.view_is
-    (counted.counted refl ∙ ap (λ k. record c.seat.inside.mirror { steps = c.seat.inside.mirror.steps + k }) (sym long)) c.load_each.ensures.table (omega (arith, long)) (omega (arith, long, counted.within refl)) (omega (arith, long, counted.small refl)) c.seat.invariant c.requires.guard c.requires.seat c.load_each.ensures.taught
+    (λ k i v copy. kept_loading c.args.r (c.args.from + i) v k copy (omega (arith, c.requires.seat.1)))
+    c.seat.inside.seat.me c.seat.inside.summary c.seat.inside.copy c.seat.inside.seat.table_id c.seat.inside.before c.args.seat.now words c.load_each.new.seat.me c.load_each.new.seat.table_id c.count.new.self c.seat.view_is
+    ((counted.counted refl).0 ∙ ap (λ k. record c.seat.inside.summary { steps = c.seat.inside.summary.steps + k }) (sym long)) c.load_each.ensures.taught.table (omega (arith, long)) (omega (arith, long, (counted.counted refl).1)) (omega (arith, long, (counted.counted refl).2)) c.seat.invariant c.requires.guard c.requires.seat.0 c.load_each.ensures.taught.taught
 
 pub invariant_of-seat-2 : goal.invariant_of-seat-2
 invariant_of-seat-2 g c = (loads_lead g c).0

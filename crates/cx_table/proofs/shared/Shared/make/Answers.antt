@@ -1,4 +1,4 @@
-use Rattle.std.proofs.Common.{◌≡◌, ◌^◌, ◌<◌, ◌≤◌, ℕ, [], List, length, sym, ap, subst, ◌∙◌, arith}
+use Rattle.std.proofs.Common.{◌≡◌, ◌^◌, ◌<◌, ◌≤◌, ℕ, [], List, length, sym, ap, subst, ◌∙◌, arith, rules}
 use Rattle.atomic_table.specs.Table as atomic
 use Rattle.cx_core.specs.declared.entry.Base.{Base}
 use Rattle.cx_core.specs.Region.{place_of as place_at}
@@ -20,8 +20,12 @@ of_words-requires g c =
     let words : c.words.result.now ≡ opening_words c.args.callers base = c.words.ensures.value ∙ ap (λ core. core.state.words) c.in_ok-opening.ensures ∙ ap (opening_words c.args.callers) (sym e) in
     let instance : Instance = record { callers = c.args.callers; base = base; step = g.O.Object.step c.of-4.result.value; reads = g.O.Object.only_reads c.of-4.result.value } in
     subst (λ (ws : List ℕ). RuleHolds instance (atomic.opening ws [] (opening_view c.args.callers base.place c.of-2.result))) (sym words)
-    (opening_held instance c.of-2.result c.requires.some c.requires.few place (subst (λ (b : Base). place_at b.words ≡ b.place) (sym e) c.requires.base.at_place)
+    (opening_held instance c.of-2.result c.requires.callers.some c.requires.callers.few place (subst (λ (b : Base). place_at b.words ≡ b.place) (sym e) c.requires.base.at_place)
     (let long = c.requires.base.size.long in subst (λ (b : Base). 0 < length b.words) (sym e) (omega (arith, long))))
 
-pub returns-clause-all : goal.returns-clause-all
-returns-clause-all g c = all_seated _ c.args.limits.now _ c.in_ok-seats-2.ensures
+pub returns : goal.returns
+returns g c = record {
+  table = search rules;
+  seats = c.in_ok-seats-2.ensures;
+  all = all_seated _ c.args.limits.now _ c.in_ok-seats-2.ensures;
+}

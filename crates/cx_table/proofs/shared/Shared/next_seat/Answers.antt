@@ -1,14 +1,14 @@
-use Rattle.std.proofs.Common.{◌≡◌, ◌+◌, ◌<◌, ℕ, [], List, length, slice_index, drop, sym, ap, ◌∙◌, arith}
+use Rattle.std.proofs.Common.{◌≡◌, ◌+◌, ◌<◌, ℕ, [], List, length, slice_index, drop, sym, ap, ◌∙◌, arith, rules}
 use Rattle.atomic_table.specs.Seated.{TableId}
 use Rattle.cx_core.specs.Region.{slot_number}
 use Rattle.cx_core.specs.State.{opening_local}
 use Rattle.cx_rule.specs.declared.rule.Known.{Known}
 use Rattle.std.proofs.lemmas.List.{length-replicate}
 use Rattle.seat_memory.specs.Copies.{Copied}
-use Rattle.seat_memory.specs.Mirrors.{mirror_of}
+use Rattle.seat_memory.specs.Summaries.{summary_of}
 use Rattle.cx_rule.specs.Seats.{Seated, opening_known, opening_view}
 use Rattle.cx_rule.proofs.Moves.{cut_rests, one_caller, splits}
-use Rattle.seat_memory.proofs.OpeningSeats.{opening_copied, opening_mirrored}
+use Rattle.seat_memory.proofs.OpeningSeats.{opening_copied, opening_summarised}
 use Rattle.cx_table.proofs.shared.Shared.next_seat.Goals as goal
 
 -- two seats that contracts see the same of
@@ -20,7 +20,7 @@ seated_at t u a b m n k l table before region known i = record { table = table i
 
 pub split_seat-seat-requires : goal.split_seat-seat-requires
 split_seat-seat-requires g c = (
-  c.requires.table ∙ sym (ap (λ s. s.table) c.self.view_is),
+  c.requires.first.0 ∙ sym (ap (λ s. s.table) c.self.view_is),
   omega (arith, c.self.invariant.0.words),
   λ s h me. splits _ s _ c.args.first.now.me.0 h me,
 )
@@ -32,27 +32,27 @@ invariant_of-result g c =
     let limits = c.args.limits.now in
     let callers = c.args.self.now.callers in
     let view = c.self.view_is in
-    let r = cut_rests callers place limits n c.args.first.now.me.0 c.requires.caller (ap (λ m. m.0) c.requires.me) in
+    let r = cut_rests callers place limits n c.args.first.now.me.0 c.requires.caller (ap (λ m. m.0) c.requires.first.1) in
     let running = c.self.invariant.0 in
     let eight : n < 8 = omega (arith, running.few, c.requires.caller, ap (λ s. s.callers) view) in
     let at = c.slot_start.result in
     let before : slice_index c.as_slice.result.now at ≡ slot_number n c.self.inside.base.words = ap (λ ws. slice_index ws at) c.as_slice.ensures ∙ ap (slice_index c.self.inside.base.words) c.slot_start.ensures in
     let me = c.split_seat-seat.ensures.4 ∙ ap (λ (v : List Known). (v, [])) r.1 in (
-      opening_mirrored c.split_seat-seat.result.me c.opening_mirror-mirror.result (slice_index c.as_slice.result.now at) callers place n limits
+      opening_summarised c.split_seat-seat.result.me c.opening_summary-summary.result (slice_index c.as_slice.result.now at) callers place n limits
           me
-          (c.opening_mirror-mirror.ensures ∙ ap (λ s. mirror_of (record (opening_local s.callers s.base.place n) { limit = slice_index limits n })) view)
+          (c.opening_summary-summary.ensures ∙ ap (λ s. summary_of (record (opening_local s.callers s.base.place n) { limit = slice_index limits n })) view)
           (omega (arith, ap (λ s. s.base.place) view, running.base.place_within))
           (omega (arith, before, running.base.numbers n eight, running.base.place_within)),
       opening_copied c.split_seat-seat.result.me c.args.copy callers place n (length c.args.self.now.base.words) limits me c.requires.copy,
     )
 
-pub returns-clause-me : goal.returns-clause-me
-returns-clause-me g c =
+pub returns-clause-first : goal.returns-clause-first
+returns-clause-first g c =
     let callers = c.args.self.now.callers in
     let place = c.args.self.now.base.place in
     let limits = c.args.limits.now in
-    let r = cut_rests callers place limits c.args.number c.args.first.now.me.0 c.requires.caller (ap (λ m. m.0) c.requires.me) in
-    c.split_seat-seat.ensures.2 ∙ ap (λ (v : List Known). (v, c.args.first.now.me.1)) r.0 ∙ ap (λ m. (drop (c.args.number + 1) (opening_view callers place limits), m.1)) c.requires.me
+    let r = cut_rests callers place limits c.args.number c.args.first.now.me.0 c.requires.caller (ap (λ m. m.0) c.requires.first.1) in
+    (search rules, c.split_seat-seat.ensures.2 ∙ ap (λ (v : List Known). (v, c.args.first.now.me.1)) r.0 ∙ ap (λ m. (drop (c.args.number + 1) (opening_view callers place limits), m.1)) c.requires.first.1)
 
 pub returns-clause-seat : goal.returns-clause-seat
 returns-clause-seat g c =
@@ -60,9 +60,9 @@ returns-clause-seat g c =
     let place = c.args.self.now.base.place in
     let limits = c.args.limits.now in
     let n = c.args.number in
-    let r = cut_rests callers place limits n c.args.first.now.me.0 c.requires.caller (ap (λ m. m.0) c.requires.me) in
+    let r = cut_rests callers place limits n c.args.first.now.me.0 c.requires.caller (ap (λ m. m.0) c.requires.first.1) in
     let one = one_caller c.split_seat-seat.result.me (opening_known callers place limits n) (c.split_seat-seat.ensures.4 ∙ ap (λ (v : List Known). (v, [])) r.1) in
-    let table = c.split_seat-seat.ensures.3 ∙ c.requires.table in
+    let table = c.split_seat-seat.ensures.3 ∙ c.requires.first.0 in
     let at = c.slot_start.result in
     let before = ap (λ ws. slice_index ws at) (c.as_slice.ensures ∙ ap (λ s. s.base.words) c.self.view_is) ∙ ap (slice_index c.args.self.now.base.words) c.slot_start.ensures in
     let region = ap (λ (x : Copied). length x.words) c.requires.copy ∙ length-replicate (length c.args.self.now.base.words) 0 in

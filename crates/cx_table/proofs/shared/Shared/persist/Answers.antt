@@ -5,7 +5,7 @@ use Rattle.cx_rule.specs.Fitting.{TellsWord}
 use Rattle.cx_rule.specs.Running.{Running, instance_at}
 use Rattle.cx_rule.specs.Seats.{Seated, SeenGuard, known_of}
 use Rattle.cx_rule.proofs.Giving.{learns_persist}
-use Rattle.seat_memory.proofs.MirrorLaws.{step_made}
+use Rattle.seat_memory.proofs.SummaryLaws.{step_made}
 use Rattle.cx_table.proofs.shared.Shared.persist.Goals as goal
 
 pub store_learned-requires-clause-learns : goal.store_learned-requires-clause-learns

@@ -1,7 +1,7 @@
 use Rattle.std.proofs.Common.{ap, refl}
 use Rattle.cx_core.specs.declared.kinds.Kind.TheVariants.{Protect}
 use Rattle.cx_rule.specs.Running.{Running}
-use Rattle.seat_memory.proofs.MirrorLaws.{step_made}
+use Rattle.seat_memory.proofs.SummaryLaws.{step_made}
 use Rattle.cx_table.proofs.shared.Shared.protect.Goals as goal
 
 pub invariant_of-seat : goal.invariant_of-seat

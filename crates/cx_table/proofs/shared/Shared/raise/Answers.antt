@@ -1,49 +1,53 @@
-use Rattle.std.proofs.Common.{ap, subst, ◌∙◌}
+use Rattle.std.proofs.Common.{ap, rules, subst, ◌∙◌}
 use Rattle.cx_rule.specs.Running.{IsRunning, Running}
 use Rattle.cx_rule.specs.Seats.{Seated, known_of}
 use Rattle.cx_table.proofs.Handing.{laws_at}
 use Rattle.seat_memory.proofs.Raising.{dur_within, raise_learned, raised_fits, raised_made}
-use Rattle.seat_memory.specs.Raised.{raised_mirror}
+use Rattle.seat_memory.specs.Raised.{raised_summary}
 use Rattle.cx_table.proofs.shared.Shared.raise.Goals as goal
 
-pub raise_learned-found-requires-clause-within : goal.raise_learned-found-requires-clause-within
-raise_learned-found-requires-clause-within g c = dur_within (subst (IsRunning g.O.Object.line_count g.O.Object.lawful) c.self.view_is c.self.invariant.0)
+pub raise_learned-found-requires-clause-on : goal.raise_learned-found-requires-clause-on
+raise_learned-found-requires-clause-on g c = record {
+  table_is = search rules;
+  one = search rules;
+  within = dur_within (subst (IsRunning g.O.Object.line_count g.O.Object.lawful) c.self.view_is c.self.invariant.0);
+}
 
 pub raise_learned-found-requires-clause-learns : goal.raise_learned-found-requires-clause-learns
 raise_learned-found-requires-clause-learns g c =
     let running = (subst (IsRunning g.O.Object.line_count g.O.Object.lawful) c.self.view_is c.self.invariant.0) in
     let laws = (laws_at g.O.Object.line_count g.O.Object.lawful g.O.Object.step c.args.self.now (subst (IsRunning g.O.Object.line_count g.O.Object.lawful) c.self.view_is c.self.invariant.0) g.met.O.Object.keeps (λ o image law. (g.met.O.Object.shape o image law).0) g.met.O.Object.replies) in
     let learned = raise_learned g.O.Object.line_count g.O.Object.lawful g.O.Object.step g.O.Object.only_reads c.args.self.now c.args.code c.args.read (known_of c.seat.inside.seat.me.0) c.args.seat.now running
-    laws (ap (λ (s : Seated). s.known) c.seat.view_is) c.requires.guard c.requires.reads in
-    (c.requires.told.0, learned c.requires.told.0 c.requires.told.1)
+    laws (ap (λ (s : Seated). s.known) c.seat.view_is) c.requires.guard c.requires.told.1 in
+    (c.requires.told.0.0, learned c.requires.told.0.0 c.requires.told.0.1)
 
 pub invariant_of-seat : goal.invariant_of-seat
 invariant_of-seat g c =
     let running = (subst (IsRunning g.O.Object.line_count g.O.Object.lawful) c.self.view_is c.self.invariant.0) in
     let laws = (laws_at g.O.Object.line_count g.O.Object.lawful g.O.Object.step c.args.self.now (subst (IsRunning g.O.Object.line_count g.O.Object.lawful) c.self.view_is c.self.invariant.0) g.met.O.Object.keeps (λ o image law. (g.met.O.Object.shape o image law).0) g.met.O.Object.replies) in
     let learned = raise_learned g.O.Object.line_count g.O.Object.lawful g.O.Object.step g.O.Object.only_reads c.args.self.now c.args.code c.args.read (known_of c.seat.inside.seat.me.0) c.args.seat.now running
-    laws (ap (λ (s : Seated). s.known) c.seat.view_is) c.requires.guard c.requires.reads in
-    (raised_made c.args.self.now g.O.Object.step g.O.Object.only_reads c.args.self.now.lines (g.O.Object.lawful c.args.self.now.object) c.args.code c.args.read _ _ _ _ c.seat.inside.copy _ _ _ c.requires.told.0 c.self.inside.callers c.args.seat.now
-    c.seat.invariant c.seat.view_is c.in_ok-check.ensures c.requires.seat c.requires.guard c.raise_learned-found.ensures.table c.requires.told.1
-    (c.raise_learned-found.ensures.taught c.requires.told.0 (learned c.requires.told.0 c.requires.told.1)) (ap (λ (r : Running _). r.callers) c.self.view_is)
-    (c.raise.ensures ∙ ap (λ b. raised_mirror c.self.inside.callers c.args.code b c.seat.inside.mirror) c.is_some-reads.ensures)).0
+    laws (ap (λ (s : Seated). s.known) c.seat.view_is) c.requires.guard c.requires.told.1 in
+    (raised_made c.args.self.now g.O.Object.step g.O.Object.only_reads c.args.self.now.lines (g.O.Object.lawful c.args.self.now.object) c.args.code c.args.read _ _ _ _ c.seat.inside.copy _ _ _ c.requires.told.0.0 c.self.inside.callers c.args.seat.now
+    c.seat.invariant c.seat.view_is c.in_ok-check.ensures c.requires.seat c.requires.guard c.raise_learned-found.ensures.table c.requires.told.0.1
+    (c.raise_learned-found.ensures.taught c.requires.told.0.0 (learned c.requires.told.0.0 c.requires.told.0.1)) (ap (λ (r : Running _). r.callers) c.self.view_is)
+    (c.raise.ensures ∙ ap (λ b. raised_summary c.self.inside.callers c.args.code b c.seat.inside.summary) c.is_some-reads.ensures)).0
 
 pub returns-clause-made : goal.returns-clause-made
 returns-clause-made g c = λ answers tells. (
     let running = (subst (IsRunning g.O.Object.line_count g.O.Object.lawful) c.self.view_is c.self.invariant.0) in
     let laws = (laws_at g.O.Object.line_count g.O.Object.lawful g.O.Object.step c.args.self.now (subst (IsRunning g.O.Object.line_count g.O.Object.lawful) c.self.view_is c.self.invariant.0) g.met.O.Object.keeps (λ o image law. (g.met.O.Object.shape o image law).0) g.met.O.Object.replies) in
     let learned = raise_learned g.O.Object.line_count g.O.Object.lawful g.O.Object.step g.O.Object.only_reads c.args.self.now c.args.code c.args.read (known_of c.seat.inside.seat.me.0) c.args.seat.now running
-    laws (ap (λ (s : Seated). s.known) c.seat.view_is) c.requires.guard c.requires.reads in
+    laws (ap (λ (s : Seated). s.known) c.seat.view_is) c.requires.guard c.requires.told.1 in
     (raised_made c.args.self.now g.O.Object.step g.O.Object.only_reads c.args.self.now.lines (g.O.Object.lawful c.args.self.now.object) c.args.code c.args.read _ _ _ _ c.seat.inside.copy _ _ _ answers c.self.inside.callers c.args.seat.now
     c.seat.invariant c.seat.view_is c.in_ok-check.ensures c.requires.seat c.requires.guard c.raise_learned-found.ensures.table tells
     (c.raise_learned-found.ensures.taught answers (learned answers tells)) (ap (λ (r : Running _). r.callers) c.self.view_is)
-    (c.raise.ensures ∙ ap (λ b. raised_mirror c.self.inside.callers c.args.code b c.seat.inside.mirror) c.is_some-reads.ensures)).1)
+    (c.raise.ensures ∙ ap (λ b. raised_summary c.self.inside.callers c.args.code b c.seat.inside.summary) c.is_some-reads.ensures)).1)
 
 pub returns-clause-fits : goal.returns-clause-fits
 returns-clause-fits g c =
     let running = (subst (IsRunning g.O.Object.line_count g.O.Object.lawful) c.self.view_is c.self.invariant.0) in
     let laws = (laws_at g.O.Object.line_count g.O.Object.lawful g.O.Object.step c.args.self.now (subst (IsRunning g.O.Object.line_count g.O.Object.lawful) c.self.view_is c.self.invariant.0) g.met.O.Object.keeps (λ o image law. (g.met.O.Object.shape o image law).0) g.met.O.Object.replies) in
     let learned = raise_learned g.O.Object.line_count g.O.Object.lawful g.O.Object.step g.O.Object.only_reads c.args.self.now c.args.code c.args.read (known_of c.seat.inside.seat.me.0) c.args.seat.now running
-    laws (ap (λ (s : Seated). s.known) c.seat.view_is) c.requires.guard c.requires.reads in
-    raised_fits g.O.Object.line_count g.O.Object.lawful g.O.Object.step g.O.Object.only_reads c.args.self.now c.args.code c.requires.told.0 c.args.read (known_of c.seat.inside.seat.me.0) _ running laws
-    (c.raise_learned-found.ensures.taught c.requires.told.0 (learned c.requires.told.0 c.requires.told.1))
+    laws (ap (λ (s : Seated). s.known) c.seat.view_is) c.requires.guard c.requires.told.1 in
+    raised_fits g.O.Object.line_count g.O.Object.lawful g.O.Object.step g.O.Object.only_reads c.args.self.now c.args.code c.requires.told.0.0 c.args.read (known_of c.seat.inside.seat.me.0) _ running laws
+    (c.raise_learned-found.ensures.taught c.requires.told.0.0 (learned c.requires.told.0.0 c.requires.told.0.1))

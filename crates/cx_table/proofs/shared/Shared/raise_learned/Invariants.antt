@@ -5,5 +5,5 @@ use Rattle.cx_rule.specs.Running.{instance_at}
 use Rattle.cx_rule.specs.Seats.{known_of}
 use Rattle.cx_table.proofs.shared.Shared.raise_learned.Given as goal
 
-abbrev pub ghosts-raise_as : goal.ghosts-raise_as
-ghosts-raise_as g a = record { tells = λ _ after. (answers : List Answer) → IsRaiseLearned (instance_at a.self.now g.O.Object.step g.O.Object.only_reads) a.code answers a.read (known_of a.seat.now.me.0) a.word → TeachesRaised (instance_at a.self.now g.O.Object.step g.O.Object.only_reads) a.code answers a.read (known_of a.seat.now.me.0) after }
+abbrev pub ghosts-run : goal.ghosts-run
+ghosts-run g a = record { tells = λ _ after. (answers : List Answer) → IsRaiseLearned (instance_at a.self.now g.O.Object.step g.O.Object.only_reads) a.about.now.0 answers a.about.now.1 (known_of a.seat.now.me.0) a.word → TeachesRaised (instance_at a.self.now g.O.Object.step g.O.Object.only_reads) a.about.now.0 answers a.about.now.1 (known_of a.seat.now.me.0) after }

@@ -2,17 +2,17 @@ use Rattle.std.proofs.Common.{ap, refl, subst}
 use Rattle.cx_core.specs.declared.kinds.Kind.TheVariants.{ReadCell}
 use Rattle.cx_rule.specs.Running.{IsRunning, Running}
 use Rattle.cx_table.proofs.Handing.{laws_at, step_fits}
-use Rattle.seat_memory.proofs.MirrorLaws.{step_made}
+use Rattle.seat_memory.proofs.SummaryLaws.{step_made}
 use Rattle.cx_table.proofs.shared.Shared.read_cell.Goals as goal
 
 pub invariant_of-seat : goal.invariant_of-seat
 invariant_of-seat g c =
-    (step_made c.args.self.now g.O.Object.step g.O.Object.only_reads (ReadCell c.args.t c.args.k c.args.i) c.load_event-found.result _ _ _ _ _ _ _ _ _ _ _ c.seat.invariant c.seat.view_is c.in_ok-check.ensures c.requires.seat c.requires.guard
-    c.load_event-found.ensures.table c.load_event-found.ensures.taught (ap (λ (r : Running _). r.callers) c.self.view_is) (c.read_cell.ensures c.self.inside.callers c.args.t c.args.k c.args.i c.load_event-found.result) refl).0
+    (step_made c.args.self.now g.O.Object.step g.O.Object.only_reads (ReadCell c.args.t c.args.k c.args.i) c.event-found.result _ _ _ _ _ _ _ _ _ _ _ c.seat.invariant c.seat.view_is c.in_ok-check.ensures c.requires.seat c.requires.guard
+    c.event-found.ensures.table c.event-found.ensures.taught (ap (λ (r : Running _). r.callers) c.self.view_is) (c.read_cell.ensures c.self.inside.callers c.args.t c.args.k c.args.i c.event-found.result) refl).0
 
 pub returns-clause-fits : goal.returns-clause-fits
 returns-clause-fits g c =
-    step_fits g.O.Object.line_count g.O.Object.lawful g.O.Object.step g.O.Object.only_reads c.args.self.now (ReadCell c.args.t c.args.k c.args.i) _ c.load_event-found.result _ (subst (IsRunning g.O.Object.line_count g.O.Object.lawful) c.self.view_is c.self.invariant.0)
+    step_fits g.O.Object.line_count g.O.Object.lawful g.O.Object.step g.O.Object.only_reads c.args.self.now (ReadCell c.args.t c.args.k c.args.i) _ c.event-found.result _ (subst (IsRunning g.O.Object.line_count g.O.Object.lawful) c.self.view_is c.self.invariant.0)
     (laws_at g.O.Object.line_count g.O.Object.lawful g.O.Object.step c.args.self.now (subst (IsRunning g.O.Object.line_count g.O.Object.lawful) c.self.view_is c.self.invariant.0)
     g.met.O.Object.keeps (λ o image law. (g.met.O.Object.shape o image law).0) g.met.O.Object.replies)
-    c.load_event-found.ensures.taught
+    c.event-found.ensures.taught

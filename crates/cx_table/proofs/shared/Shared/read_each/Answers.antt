@@ -13,15 +13,15 @@ use Rattle.cx_table.proofs.shared.Shared.read_each.Goals as goal
 
 pub loop-i-init : goal.loop-i-init
 loop-i-init g c = record {
-  table = c.requires.table;
-  one = c.requires.one;
+  table = c.requires.one.table_is;
+  one = c.requires.one.one;
   may = c.requires.guard;
   taught = taught_nothing (instance_at c.args.self.now g.O.Object.step g.O.Object.only_reads) (reads_of c.args.t c.args.k) c.args.into.now c.args.seat.now.me;
   length = c.told-into;
 }
 
-pub load_event-requires-clause-event : goal.load_event-requires-clause-event
-load_event-requires-clause-event g c =
+pub event-requires-clause-event : goal.event-requires-clause-event
+event-requires-clause-event g c =
     let may = c.loop-i.invariant.may c.loop-i.i c.loop-i-test.true in
     let t = c.args.self.now in
     let place = c.cell_at-word.ensures ∙ ap (λ (x : Running _). cell_at x.callers c.args.k c.loop-i.i) c.self.view_is in
@@ -42,12 +42,12 @@ loop-i-preserved g c =
     let t = c.args.self.now in
     let instance = instance_at t g.O.Object.step g.O.Object.only_reads in
     let i = c.loop-i.i in
-    let taught = c.load_event.ensures.taught in
+    let taught = c.event.ensures.taught in
     let known = ap (λ (m : Me ℕ (List Known)). known_of m.0) taught.knows in
     record {
-      table = c.load_event.ensures.table ∙ c.loop-i.invariant.table;
+      table = c.event.ensures.table ∙ c.loop-i.invariant.table;
       one = taught.knows ∙ ap (λ k. (k ∷ [], [])) (sym known);
       may = λ j below. subst (λ (k : Known). Guard instance unseen (ReadCell c.args.t c.args.k j) k.local) (sym known) (c.loop-i.invariant.may j below);
-      taught = taught_on instance (reads_of c.args.t c.args.k) c.loop-i.into i c.load_event.result c.args.seat.now.me c.loop-i.seat.me c.load_event.new.seat.me (omega (arith, c.loop-i-test.true, c.loop-i.invariant.length)) c.loop-i.invariant.taught taught;
-      length = length-set c.loop-i.into i c.load_event.result ∙ c.loop-i.invariant.length;
+      taught = taught_on instance (reads_of c.args.t c.args.k) c.loop-i.into i c.event.result c.args.seat.now.me c.loop-i.seat.me c.event.new.seat.me (omega (arith, c.loop-i-test.true, c.loop-i.invariant.length)) c.loop-i.invariant.taught taught;
+      length = length-set c.loop-i.into i c.event.result ∙ c.loop-i.invariant.length;
     }

@@ -4,7 +4,7 @@ use Rattle.cx_core.specs.declared.kinds.Kind.TheVariants.{ReadCell}
 use Rattle.cx_rule.specs.declared.rule.Known.{Known}
 use Rattle.cx_rule.specs.Running.{IsRunning, IsSeatOf, instance_at}
 use Rattle.cx_rule.specs.Seats.{Seated, unseen}
-use Rattle.seat_memory.proofs.MirrorLaws.{IsSeat, seated}
+use Rattle.seat_memory.proofs.SummaryLaws.{IsSeat, seated}
 use Rattle.cx_table.specs.Runs.{Runs, reads_of}
 use Rattle.cx_table.proofs.Handing.{laws_at}
 use Rattle.cx_table.proofs.Runs.{led_to}
@@ -35,8 +35,8 @@ reads_lead g c =
     (λ k i v may j below. may j below)
     (λ k i v. refl)
     (λ k i v copy. refl)
-    c.seat.inside.seat.me c.seat.inside.mirror c.seat.inside.copy c.seat.inside.seat.table_id c.seat.inside.before c.args.seat.now words c.read_each.new.seat.me c.read_each.new.seat.table_id c.count.new.self c.seat.view_is
-    (counted.counted refl ∙ ap (λ k. record c.seat.inside.mirror { steps = c.seat.inside.mirror.steps + k }) (sym long)) c.read_each.ensures.table (omega (arith, long)) (omega (arith, long, counted.within refl)) (omega (arith, long, counted.small refl)) c.seat.invariant c.requires.guard c.requires.seat c.read_each.ensures.taught
+    c.seat.inside.seat.me c.seat.inside.summary c.seat.inside.copy c.seat.inside.seat.table_id c.seat.inside.before c.args.seat.now words c.read_each.new.seat.me c.read_each.new.seat.table_id c.count.new.self c.seat.view_is
+    ((counted.counted refl).0 ∙ ap (λ k. record c.seat.inside.summary { steps = c.seat.inside.summary.steps + k }) (sym long)) c.read_each.ensures.table (omega (arith, long)) (omega (arith, long, (counted.counted refl).1)) (omega (arith, long, (counted.counted refl).2)) c.seat.invariant c.requires.guard c.requires.seat c.read_each.ensures.taught
 
 pub invariant_of-seat-2 : goal.invariant_of-seat-2
 invariant_of-seat-2 g c = (reads_lead g c).0

@@ -8,11 +8,11 @@ use Rattle.cx_rule.specs.Seats.{Seated, known_of}
 use Rattle.cx_rule.proofs.Giving.{learns_release}
 use Rattle.cx_table.proofs.Handing.{laws_at, steps_same}
 use Rattle.cx_table.specs.Right.{Right}
-use Rattle.seat_memory.proofs.MirrorLaws.{step_made}
+use Rattle.seat_memory.proofs.SummaryLaws.{step_made}
 use Rattle.cx_table.proofs.shared.Shared.release_exclusive.Goals as goal
 
-pub subtract_learned-found-requires-clause-learns : goal.subtract_learned-found-requires-clause-learns
-subtract_learned-found-requires-clause-learns g c =
+pub learned-found-requires-clause-learns : goal.learned-found-requires-clause-learns
+learned-found-requires-clause-learns g c =
     let t = c.args.self.now in
     learns_release t.lines (g.O.Object.lawful t.object) (instance_at c.args.self.now g.O.Object.step g.O.Object.only_reads)
     (laws_at g.O.Object.line_count g.O.Object.lawful g.O.Object.step c.args.self.now (subst (IsRunning g.O.Object.line_count g.O.Object.lawful) c.self.view_is c.self.invariant.0)
@@ -24,11 +24,11 @@ subtract_learned-found-requires-clause-learns g c =
 
 pub invariant_of-seat : goal.invariant_of-seat
 invariant_of-seat g c =
-    (step_made c.args.self.now g.O.Object.step g.O.Object.only_reads (ReleaseExclusive c.held.inside.replica) c.subtract_learned-found.result _ _ _ _ _ _ _ _ _ _ _ c.seat.invariant c.seat.view_is c.in_ok-check.ensures c.requires.seat (subst (λ (n : ℕ). IsClean c.args.self.now.callers n c.args.seat.now.known.local) (sym (ap (λ (x : Right). x.replica) c.held.view_is)) c.requires.guard)
-    c.subtract_learned-found.ensures.table c.subtract_learned-found.ensures.taught (ap (λ (r : Running _). r.callers) c.self.view_is) (c.release_exclusive.ensures _ c.held.inside.replica c.subtract_learned-found.result) refl).0
+    (step_made c.args.self.now g.O.Object.step g.O.Object.only_reads (ReleaseExclusive c.held.inside.replica) c.learned-found.result _ _ _ _ _ _ _ _ _ _ _ c.seat.invariant c.seat.view_is c.in_ok-check.ensures c.requires.seat (subst (λ (n : ℕ). IsClean c.args.self.now.callers n c.args.seat.now.known.local) (sym (ap (λ (x : Right). x.replica) c.held.view_is)) c.requires.guard)
+    c.learned-found.ensures.table c.learned-found.ensures.taught (ap (λ (r : Running _). r.callers) c.self.view_is) (c.release_exclusive.ensures _ c.held.inside.replica c.learned-found.result) refl).0
 
 pub returns-clause-made : goal.returns-clause-made
 returns-clause-made g c =
     steps_same (ReleaseExclusive c.held.inside.replica) (ReleaseExclusive c.args.held.replica) (ap (λ (n : ℕ). ReleaseExclusive n) (ap (λ (x : Right). x.replica) c.held.view_is))
-    (step_made c.args.self.now g.O.Object.step g.O.Object.only_reads (ReleaseExclusive c.held.inside.replica) c.subtract_learned-found.result _ _ _ _ _ _ _ _ _ _ _ c.seat.invariant c.seat.view_is c.in_ok-check.ensures c.requires.seat (subst (λ (n : ℕ). IsClean c.args.self.now.callers n c.args.seat.now.known.local) (sym (ap (λ (x : Right). x.replica) c.held.view_is)) c.requires.guard)
-    c.subtract_learned-found.ensures.table c.subtract_learned-found.ensures.taught (ap (λ (r : Running _). r.callers) c.self.view_is) (c.release_exclusive.ensures _ c.held.inside.replica c.subtract_learned-found.result) refl).1
+    (step_made c.args.self.now g.O.Object.step g.O.Object.only_reads (ReleaseExclusive c.held.inside.replica) c.learned-found.result _ _ _ _ _ _ _ _ _ _ _ c.seat.invariant c.seat.view_is c.in_ok-check.ensures c.requires.seat (subst (λ (n : ℕ). IsClean c.args.self.now.callers n c.args.seat.now.known.local) (sym (ap (λ (x : Right). x.replica) c.held.view_is)) c.requires.guard)
+    c.learned-found.ensures.table c.learned-found.ensures.taught (ap (λ (r : Running _). r.callers) c.self.view_is) (c.release_exclusive.ensures _ c.held.inside.replica c.learned-found.result) refl).1

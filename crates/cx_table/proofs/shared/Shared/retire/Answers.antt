@@ -8,11 +8,11 @@ use Rattle.cx_rule.specs.Running.{Running, instance_at}
 use Rattle.cx_rule.specs.Seats.{Seated, known_of}
 use Rattle.cx_rule.proofs.Keeps.{learns_shown}
 use Rattle.cx_table.specs.Right.{WonRight}
-use Rattle.seat_memory.proofs.MirrorLaws.{step_made}
+use Rattle.seat_memory.proofs.SummaryLaws.{step_made}
 use Rattle.cx_table.proofs.shared.Shared.retire.Goals as goal
 
-pub subtract_learned-found-requires-clause-learns : goal.subtract_learned-found-requires-clause-learns
-subtract_learned-found-requires-clause-learns g c = λ words within.
+pub learned-found-requires-clause-learns : goal.learned-found-requires-clause-learns
+learned-found-requires-clause-learns g c = λ words within.
     let t = c.args.self.now in
     let known = known_of c.seat.inside.seat.me.0 in
     let can = subst (λ (s : Seated). CanRetire s.known.local.raised s.known.local.won) (sym c.seat.view_is) c.requires.guard in
@@ -28,5 +28,5 @@ subtract_learned-found-requires-clause-learns g c = λ words within.
 
 pub invariant_of-seat : goal.invariant_of-seat
 invariant_of-seat g c =
-    (step_made c.args.self.now g.O.Object.step g.O.Object.only_reads Retire c.subtract_learned-found.result _ _ _ _ _ _ _ _ _ _ _ c.seat.invariant c.seat.view_is c.in_ok-check.ensures c.requires.seat c.requires.guard
-    c.subtract_learned-found.ensures.table c.subtract_learned-found.ensures.taught (ap (λ (r : Running _). r.callers) c.self.view_is) (c.retire.ensures c.self.inside.callers c.subtract_learned-found.result) refl).0
+    (step_made c.args.self.now g.O.Object.step g.O.Object.only_reads Retire c.learned-found.result _ _ _ _ _ _ _ _ _ _ _ c.seat.invariant c.seat.view_is c.in_ok-check.ensures c.requires.seat c.requires.guard
+    c.learned-found.ensures.table c.learned-found.ensures.taught (ap (λ (r : Running _). r.callers) c.self.view_is) (c.retire.ensures c.self.inside.callers c.learned-found.result) refl).0

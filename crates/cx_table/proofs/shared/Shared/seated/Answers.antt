@@ -9,8 +9,8 @@ pub loop-number-preserved : goal.loop-number-preserved
 loop-number-preserved g c =
     let f = opening_seat c.args.self.now c.args.limits.now in
     let k = c.loop-number.number in record {
-      table = c.next_seat-seat.ensures.table ∙ c.loop-number.invariant.table;
-      left = c.next_seat-seat.ensures.me;
+      table = c.next_seat-seat.ensures.first.0 ∙ c.loop-number.invariant.table;
+      left = c.next_seat-seat.ensures.first.1;
       made = c.push_reserved.ensures.items
           ∙ ap (λ (xs : List Seated). xs ++ c.next_seat-seat.result ∷ []) c.loop-number.invariant.made
           ∙ ap (λ (x : Seated). map f (range_with_len 0 k) ++ x ∷ []) c.next_seat-seat.ensures.seat

@@ -1,30 +1,30 @@
 use Rattle.std.proofs.Common.{ap, subst}
 use Rattle.cx_core.specs.declared.kinds.Kind.TheVariants.{TryExclusive}
 use Rattle.cx_rule.specs.Running.{IsRunning, Running}
-use Rattle.seat_memory.specs.declared.mirror.Mirror.{Mirror}
+use Rattle.seat_memory.specs.declared.summary.Summary.{Summary}
 use Rattle.cx_table.proofs.Handing.{laws_at, step_fits, tried_exclusive}
-use Rattle.seat_memory.proofs.MirrorLaws.{step_made}
+use Rattle.seat_memory.proofs.SummaryLaws.{step_made}
 use Rattle.cx_table.proofs.shared.Shared.try_exclusive.Goals as goal
 
 pub invariant_of-seat : goal.invariant_of-seat
 invariant_of-seat g c =
-    (step_made c.args.self.now g.O.Object.step g.O.Object.only_reads (TryExclusive c.args.r) c.exchange_event-found.result _ _ _ _ _ _ _ _ _ _ _ c.seat.invariant c.seat.view_is c.in_ok-check.ensures c.requires.seat c.requires.guard
-    c.exchange_event-found.ensures.table c.exchange_event-found.ensures.taught (ap (λ (r : Running _). r.callers) c.self.view_is) (c.try_exclusive.ensures) c.begin.ensures).0
+    (step_made c.args.self.now g.O.Object.step g.O.Object.only_reads (TryExclusive c.args.r) c.event-found.result _ _ _ _ _ _ _ _ _ _ _ c.seat.invariant c.seat.view_is c.in_ok-check.ensures c.requires.seat c.requires.guard
+    c.event-found.ensures.table c.event-found.ensures.taught (ap (λ (r : Running _). r.callers) c.self.view_is) (c.try_exclusive.ensures) c.begin.ensures).0
 
 pub returns-clause-made : goal.returns-clause-made
 returns-clause-made g c =
-    (step_made c.args.self.now g.O.Object.step g.O.Object.only_reads (TryExclusive c.args.r) c.exchange_event-found.result _ _ _ _ _ _ _ _ _ _ _ c.seat.invariant c.seat.view_is c.in_ok-check.ensures c.requires.seat c.requires.guard
-    c.exchange_event-found.ensures.table c.exchange_event-found.ensures.taught (ap (λ (r : Running _). r.callers) c.self.view_is) (c.try_exclusive.ensures) c.begin.ensures).1
+    (step_made c.args.self.now g.O.Object.step g.O.Object.only_reads (TryExclusive c.args.r) c.event-found.result _ _ _ _ _ _ _ _ _ _ _ c.seat.invariant c.seat.view_is c.in_ok-check.ensures c.requires.seat c.requires.guard
+    c.event-found.ensures.table c.event-found.ensures.taught (ap (λ (r : Running _). r.callers) c.self.view_is) (c.try_exclusive.ensures) c.begin.ensures).1
 
 pub returns-clause-token : goal.returns-clause-token
 returns-clause-token g c =
-    let made = (step_made c.args.self.now g.O.Object.step g.O.Object.only_reads (TryExclusive c.args.r) c.exchange_event-found.result _ _ _ _ _ _ _ _ _ _ _ c.seat.invariant c.seat.view_is c.in_ok-check.ensures c.requires.seat c.requires.guard
-    c.exchange_event-found.ensures.table c.exchange_event-found.ensures.taught (ap (λ (r : Running _). r.callers) c.self.view_is) (c.try_exclusive.ensures) c.begin.ensures) in
-    tried_exclusive c.args.self.now g.O.Object.step g.O.Object.only_reads c.args.r _ c.exchange_event-found.result _ _ c.requires.guard.0 (ap (λ (m : Mirror). m.number) made.0.0.is) _ made.1 c.exclusive_token.ensures
+    let made = (step_made c.args.self.now g.O.Object.step g.O.Object.only_reads (TryExclusive c.args.r) c.event-found.result _ _ _ _ _ _ _ _ _ _ _ c.seat.invariant c.seat.view_is c.in_ok-check.ensures c.requires.seat c.requires.guard
+    c.event-found.ensures.table c.event-found.ensures.taught (ap (λ (r : Running _). r.callers) c.self.view_is) (c.try_exclusive.ensures) c.begin.ensures) in
+    tried_exclusive c.args.self.now g.O.Object.step g.O.Object.only_reads c.args.r _ c.event-found.result _ _ c.requires.guard.0 (ap (λ (m : Summary). m.number) made.0.0.is) _ made.1 c.exclusive_token.ensures
 
 pub returns-clause-fits : goal.returns-clause-fits
 returns-clause-fits g c =
-    step_fits g.O.Object.line_count g.O.Object.lawful g.O.Object.step g.O.Object.only_reads c.args.self.now (TryExclusive c.args.r) _ c.exchange_event-found.result _ (subst (IsRunning g.O.Object.line_count g.O.Object.lawful) c.self.view_is c.self.invariant.0)
+    step_fits g.O.Object.line_count g.O.Object.lawful g.O.Object.step g.O.Object.only_reads c.args.self.now (TryExclusive c.args.r) _ c.event-found.result _ (subst (IsRunning g.O.Object.line_count g.O.Object.lawful) c.self.view_is c.self.invariant.0)
     (laws_at g.O.Object.line_count g.O.Object.lawful g.O.Object.step c.args.self.now (subst (IsRunning g.O.Object.line_count g.O.Object.lawful) c.self.view_is c.self.invariant.0)
     g.met.O.Object.keeps (λ o image law. (g.met.O.Object.shape o image law).0) g.met.O.Object.replies)
-    c.exchange_event-found.ensures.taught
+    c.event-found.ensures.taught

@@ -7,7 +7,7 @@ use Rattle.atomic_table.specs.Seated.{TableId}
 use Rattle.atomic_table.specs.Table.{Me}
 use Rattle.cx_base.specs.Codes.{link_ticket_of}
 use Rattle.cx_core.specs.declared.kinds.Kind.{Kind}
-use Rattle.cx_core.specs.declared.kinds.Kind.TheVariants.{WriteCell, Link, Look, ReadCell, LoadFree, TryExclusive, TryShared, BackOff, Downgrade, ReleaseExclusive, LoadWord, StoreWord, Persist, LoadCur, Publish, Raise, Retire, Protect, Confirm, Unprotect, CloseLow, Scan, OpenFree, WriteSet, Offer, LoadOffer, ReadSet}
+use Rattle.cx_core.specs.declared.kinds.Kind.TheVariants.{WriteCell, Link, Look, TryExclusive, TryShared, BackOff, LoadCur, Publish, WriteSet, Offer}
 use Rattle.cx_core.specs.declared.local.Cell.{Cell}
 use Rattle.cx_core.specs.declared.local.Linked.{Linked}
 use Rattle.cx_core.specs.declared.local.Local.{Local}
@@ -21,10 +21,10 @@ use Rattle.cx_core.specs.Layout.{max_word}
 use Rattle.cx_core.specs.Region.{slot_number}
 use Rattle.cx_core.proofs.Locals.{slice_get-last}
 use Rattle.core_queue.proofs.Shapes.{cell_there, shape_linked, shape_put, shape_same, shape_written}
-use Rattle.seat_memory.specs.declared.mirror.Mirror.{Mirror}
+use Rattle.seat_memory.specs.declared.summary.Summary.{Summary}
 use Rattle.cx_rule.specs.declared.rule.Known.{Known}
 use Rattle.seat_memory.specs.Copies.{Copied, IsCopied, copied_after}
-use Rattle.seat_memory.specs.Mirrors.{Follows, IsMirrored, mirror_of}
+use Rattle.seat_memory.specs.Summaries.{Follows, HasSummary, summary_of}
 use Rattle.seat_memory.proofs.CopyLaws.{copy_kept}
 use Rattle.cx_rule.specs.Rule.{IsLawfulLocal}
 use Rattle.cx_rule.specs.Running.{IsSeatOf, Running, instance_at}
@@ -35,27 +35,27 @@ abbrev ticket_in : Cell → Option ℕ
 ticket_in c = c.ticket
 
 -- the numbers after a word was written into cell j
-abbrev pub after_write : ℕ → Mirror → Mirror
+abbrev pub after_write : ℕ → Summary → Summary
 after_write j m = record m { tickets = set m.tickets j None; fresh = false; steps = one_more m.steps }
 
-pub mirror_written : (instance : Instance) (l : Local) (m : Mirror) (j i v found : ℕ) → m ≡ mirror_of l → after_write j m ≡ mirror_of (shown_next instance (WriteCell j i v) l found)
-mirror_written instance l m j i v found is =
+pub summary_written : (instance : Instance) (l : Local) (m : Summary) (j i v found : ℕ) → m ≡ summary_of l → after_write j m ≡ summary_of (shown_next instance (WriteCell j i v) l found)
+summary_written instance l m j i v found is =
     ap (after_write j) is
-    ∙ (λ k. record (mirror_of (shown_next instance (WriteCell j i v) l found)) { tickets = sym (map-set ticket_in l.cells j (record (cell_of l j) { words = set (cell_of l j).words i v; ticket = None })) k })
+    ∙ (λ k. record (summary_of (shown_next instance (WriteCell j i v) l found)) { tickets = sym (map-set ticket_in l.cells j (record (cell_of l j) { words = set (cell_of l j).words i v; ticket = None })) k })
 
 -- the numbers after the entry in cell j was linked
-abbrev pub after_win : ℕ → Mirror → Mirror
+abbrev pub after_win : ℕ → Summary → Summary
 after_win j m = record m { front = m.front + 1; linked = m.linked + 1; unanswered = Some m.front; tickets = set m.tickets j (Some m.front); steps = one_more m.steps }
 
-pub mirror_won : (l : Local) (m : Mirror) (j : ℕ) → m ≡ mirror_of l → length l.answered ≡ length l.own → after_win j m ≡ mirror_of (linked l j)
-mirror_won l m j is same =
+pub summary_won : (l : Local) (m : Summary) (j : ℕ) → m ≡ summary_of l → length l.answered ≡ length l.own → after_win j m ≡ summary_of (linked l j)
+summary_won l m j is same =
     let new : Linked = record { ticket = l.front; entry = entry_in l j } in
     let last : slice_get (l.own ++ new ∷ []) (length l.answered) ≡ Some new = ap (slice_get (l.own ++ new ∷ [])) same ∙ slice_get-last l.own new in
     let ticket : unanswered_ticket (linked l j) ≡ Some l.front = ap (option_map (λ (x : Linked). x.ticket)) last in
     let cells = map-set ticket_in l.cells j (record (cell_of l j) { ticket = Some l.front }) in
     let longer : length l.own + 1 ≡ length (l.own ++ new ∷ []) = sym (length-append l.own (new ∷ [])) in
     ap (after_win j) is
-    ∙ (λ k. record (mirror_of (linked l j)) { linked = longer k; unanswered = sym ticket k; tickets = sym cells k })
+    ∙ (λ k. record (summary_of (linked l j)) { linked = longer k; unanswered = sym ticket k; tickets = sym cells k })
 
 -- own entries are at most 2^40, and at most as many as the front
 abbrev pub IsSmall : Local → Type 0
@@ -111,13 +111,6 @@ goes_on instance (BackOff r) k found guard small shape = backed (is_at r (shared
     backed true b = quiet k.local _ small shape refl refl refl refl refl refl
     backed false true = quiet k.local _ small shape refl refl refl refl refl refl
     backed false false = quiet k.local _ small shape refl refl refl refl refl refl
-goes_on instance (ReadCell t c i) k found guard small shape = quiet k.local _ small shape refl refl refl refl refl refl
-goes_on instance LoadFree k found guard small shape = quiet k.local _ small shape refl refl refl refl refl refl
-goes_on instance (Downgrade r) k found guard small shape = quiet k.local _ small shape refl refl refl refl refl refl
-goes_on instance (ReleaseExclusive r) k found guard small shape = quiet k.local _ small shape refl refl refl refl refl refl
-goes_on instance (LoadWord r i refused) k found guard small shape = quiet k.local _ small shape refl refl refl refl refl refl
-goes_on instance (StoreWord r i v) k found guard small shape = quiet k.local _ small shape refl refl refl refl refl refl
-goes_on instance (Persist r i) k found guard small shape = quiet k.local _ small shape refl refl refl refl refl refl
 goes_on instance LoadCur k found guard small shape = (let own = small.0 in record { small = (omega arith, small.1); shape = shape_same k.local.number k.local _ shape refl refl; steps = refl; limit = refl })
 goes_on instance Publish k found guard small shape =
     let own = small.0 in
@@ -125,22 +118,13 @@ goes_on instance Publish k found guard small shape =
       | true ↦ record { small = (omega arith, small.1); shape = shape_same k.local.number k.local _ shape refl refl; steps = refl; limit = refl }
       | false ↦ record { small = (omega arith, small.1); shape = shape_same k.local.number k.local _ shape refl refl; steps = refl; limit = refl }
     ]
-goes_on instance (Raise code read) k found guard small shape = quiet k.local _ small shape refl refl refl refl refl refl
-goes_on instance Retire k found guard small shape = quiet k.local _ small shape refl refl refl refl refl refl
-goes_on instance (Protect p) k found guard small shape = quiet k.local _ small shape refl refl refl refl refl refl
-goes_on instance Confirm k found guard small shape = quiet k.local _ small shape refl refl refl refl refl refl
-goes_on instance Unprotect k found guard small shape = quiet k.local _ small shape refl refl refl refl refl refl
-goes_on instance (CloseLow target) k found guard small shape = quiet k.local _ small shape refl refl refl refl refl refl
-goes_on instance (Scan d) k found guard small shape = quiet k.local _ small shape refl refl refl refl refl refl
-goes_on instance OpenFree k found guard small shape = quiet k.local _ small shape refl refl refl refl refl refl
 goes_on instance (WriteSet j i v) k found guard small shape =
     let old = shape.each j (cell_of k.local j) (cell_there k.local.number k.local j shape guard.0.0) in
     record { small = small; shape = shape_put k.local.number k.local _ j _ shape guard.0.0 (record { words = old.words; fit = old.fit; set = length-set (cell_of k.local j).set i v ∙ old.set }) refl refl; steps = refl; limit = refl }
 goes_on instance (Offer j) k found guard small shape =
     let old = shape.each j (cell_of k.local j) (cell_there k.local.number k.local j shape guard.0) in
     record { small = small; shape = shape_put k.local.number k.local _ j _ shape guard.0 (record { words = old.words; fit = old.fit; set = old.set }) refl refl; steps = refl; limit = refl }
-goes_on instance (LoadOffer c t) k found guard small shape = quiet k.local _ small shape refl refl refl refl refl refl
-goes_on instance (ReadSet c t i) k found guard small shape = quiet k.local _ small shape refl refl refl refl refl refl
+goes_on instance kind k found guard small shape = quiet k.local _ small shape refl refl refl refl refl refl
 
 -- one step more within the limit
 pub one_step : (l : Local) → IsWithinLimit l → ¬ IsAtLimit l → l.limit < max_word → one_more l.steps ≤ l.limit
@@ -157,23 +141,23 @@ within_after l l' goes within allowed few =
     omega (arith, most, steps, same)
 
 -- a seat's numbers are its caller's after a step
-mirrored : (instance : Instance) (kind : Kind) (found : ℕ) (me me' : Me ℕ (List Known)) (mirror mirror' : Mirror) (before : ℕ) → IsMirrored me mirror before → ¬ IsAtLimit (known_of me.0).local →
-    SeenGuard instance kind (known_of me.0).local → Teaches instance kind (known_of me.0) found me' → mirror' ≡ mirror_of (known_local instance kind (known_of me.0) found) → IsMirrored me' mirror' before
-mirrored instance kind found me me' mirror mirror' before old allowed guard taught numbers =
+summarised : (instance : Instance) (kind : Kind) (found : ℕ) (me me' : Me ℕ (List Known)) (summary summary' : Summary) (before : ℕ) → HasSummary me summary before → ¬ IsAtLimit (known_of me.0).local →
+    SeenGuard instance kind (known_of me.0).local → Teaches instance kind (known_of me.0) found me' → summary' ≡ summary_of (known_local instance kind (known_of me.0) found) → HasSummary me' summary' before
+summarised instance kind found me me' summary summary' before old allowed guard taught numbers =
     let l = (known_of me.0).local in
     let l' = known_local instance kind (known_of me.0) found in
     let same = old.is in
-    let own : mirror.linked ≡ length l.own = ap (λ (m : Mirror). m.linked) same in
-    let front : mirror.front ≡ l.front = ap (λ (m : Mirror). m.front) same in
+    let own : summary.linked ≡ length l.own = ap (λ (m : Summary). m.linked) same in
+    let front : summary.front ≡ l.front = ap (λ (m : Summary). m.front) same in
     let a = old.linked in
     let b = old.few in
     let goes = goes_on instance kind (known_of me.0) found guard (omega arith, omega arith) (record { number = refl; cells = old.cells.count; each = old.cells.each }) in
     let c = goes.small.0 in
     let d = goes.small.1 in
     let most = taught.lawful_after.to in
-    let own' : mirror'.linked ≡ length l'.own = ap (λ (m : Mirror). m.linked) numbers in
-    let front' : mirror'.front ≡ l'.front = ap (λ (m : Mirror). m.front) numbers in
-    subst (λ (m : Me ℕ (List Known)). IsMirrored m mirror' before) (sym taught.knows) (record {
+    let own' : summary'.linked ≡ length l'.own = ap (λ (m : Summary). m.linked) numbers in
+    let front' : summary'.front ≡ l'.front = ap (λ (m : Summary). m.front) numbers in
+    subst (λ (m : Me ℕ (List Known)). HasSummary m summary' before) (sym taught.knows) (record {
       one = refl;
       is = numbers;
       linked = omega arith;
@@ -189,19 +173,19 @@ mirrored instance kind found me me' mirror mirror' before old allowed guard taug
 abbrev pub seated : TableId → Me ℕ (List Known) → ℕ → Copied → Seated
 seated table me before copy = record { table = table; before = before; region = length copy.words; known = known_of me.0 }
 
-abbrev pub IsSeat : Me ℕ (List Known) → Mirror → ℕ → Copied → Type 0
-IsSeat me mirror before copy = IsMirrored me mirror before × IsCopied (known_of me.0) copy
+abbrev pub IsSeat : Me ℕ (List Known) → Summary → ℕ → Copied → Type 0
+IsSeat me summary before copy = HasSummary me summary before × IsCopied (known_of me.0) copy
 
 -- a step that was made: the seat's numbers are its caller's, and the seat is as the step says
-module _ {O : Type 0} (r : Running O) (step : O → List ℕ → List ℕ → List ℕ × List ℕ) (reads : O → List ℕ → Bool) (kind : Kind) (found : ℕ) (me me' : Me ℕ (List Known)) (mirror mirror' : Mirror) (copy copy' : Copied) (table table' : TableId) (before : ℕ) where
-  made_inside : IsSeat me mirror before copy → ¬ IsAtLimit (known_of me.0).local → IsSeatOf r (seated table me before copy) → SeenGuard (instance_at r step reads) kind (known_of me.0).local →
-      table' ≡ table → Teaches (instance_at r step reads) kind (known_of me.0) found me' → mirror' ≡ mirror_of (known_local (instance_at r step reads) kind (known_of me.0) found) → copy' ≡ copied_after kind (known_of me.0) found copy →
-      IsSeat me' mirror' before copy' × Steps r step reads kind found (seated table me before copy) (seated table' me' before copy')
+module _ {O : Type 0} (r : Running O) (step : O → List ℕ → List ℕ → List ℕ × List ℕ) (reads : O → List ℕ → Bool) (kind : Kind) (found : ℕ) (me me' : Me ℕ (List Known)) (summary summary' : Summary) (copy copy' : Copied) (table table' : TableId) (before : ℕ) where
+  made_inside : IsSeat me summary before copy → ¬ IsAtLimit (known_of me.0).local → IsSeatOf r (seated table me before copy) → SeenGuard (instance_at r step reads) kind (known_of me.0).local →
+      table' ≡ table → Teaches (instance_at r step reads) kind (known_of me.0) found me' → summary' ≡ summary_of (known_local (instance_at r step reads) kind (known_of me.0) found) → copy' ≡ copied_after kind (known_of me.0) found copy →
+      IsSeat me' summary' before copy' × Steps r step reads kind found (seated table me before copy) (seated table' me' before copy')
   made_inside old allowed of may same_table taught numbers copied =
       let instance = instance_at r step reads in
       let l = (known_of me.0).local in
       let known : known_of me'.0 ≡ known_after instance kind (known_of me.0) found = ap (λ (m : Me ℕ (List Known)). known_of m.0) taught.knows in
-      let new = mirrored instance kind found me me' mirror mirror' before old.0 allowed may taught numbers in
+      let new = summarised instance kind found me me' summary summary' before old.0 allowed may taught numbers in
       let kept = copy_kept instance kind (known_of me.0) found copy may old.0.cells of.region old.1 in
       let number : (known_of me'.0).local.number ≡ l.number = ap (λ (k : Known). k.local.number) known ∙ (goes_on instance kind (known_of me.0) found may (numbers_small old.0) (record { number = refl; cells = old.0.cells.count; each = old.0.cells.each })).shape.number in
       let region : length copy'.words ≡ length copy.words = ap (λ (c : Copied). length c.words) copied ∙ kept.0 in (
@@ -222,29 +206,29 @@ module _ {O : Type 0} (r : Running O) (step : O → List ℕ → List ℕ → Li
         },
       )
     where
-      numbers_small : IsMirrored me mirror before → IsSmall (known_of me.0).local
+      numbers_small : HasSummary me summary before → IsSmall (known_of me.0).local
       numbers_small old =
-          let own : mirror.linked ≡ length (known_of me.0).local.own = ap (λ (m : Mirror). m.linked) old.is in
-          let front : mirror.front ≡ (known_of me.0).local.front = ap (λ (m : Mirror). m.front) old.is in
+          let own : summary.linked ≡ length (known_of me.0).local.own = ap (λ (m : Summary). m.linked) old.is in
+          let front : summary.front ≡ (known_of me.0).local.front = ap (λ (m : Summary). m.front) old.is in
           let a = old.linked in
           let b = old.few in
           (omega arith, omega arith)
 
   -- the same where the numbers afterwards are the caller's
-  pub step_made_at : (old : Seated) → IsSeat me mirror before copy → seated table me before copy ≡ old → ((l : Local) → mirror ≡ mirror_of l → ¬ IsAtLimit l) → IsSeatOf r old →
-      SeenGuard (instance_at r step reads) kind old.known.local → table' ≡ table → Teaches (instance_at r step reads) kind (known_of me.0) found me' → mirror' ≡ mirror_of (known_local (instance_at r step reads) kind (known_of me.0) found) →
-      copy' ≡ copied_after kind (known_of me.0) found copy → IsSeat me' mirror' before copy' × Steps r step reads kind found old (seated table' me' before copy')
+  pub step_made_at : (old : Seated) → IsSeat me summary before copy → seated table me before copy ≡ old → ((l : Local) → summary ≡ summary_of l → ¬ IsAtLimit l) → IsSeatOf r old →
+      SeenGuard (instance_at r step reads) kind old.known.local → table' ≡ table → Teaches (instance_at r step reads) kind (known_of me.0) found me' → summary' ≡ summary_of (known_local (instance_at r step reads) kind (known_of me.0) found) →
+      copy' ≡ copied_after kind (known_of me.0) found copy → IsSeat me' summary' before copy' × Steps r step reads kind found old (seated table' me' before copy')
   step_made_at old is view allowed of guard same_table taught numbers copied =
       let instance = instance_at r step reads in
       let may = subst (λ (s : Seated). SeenGuard instance kind s.known.local) (sym view) guard in
-      subst (λ (s : Seated). IsSeat me' mirror' before copy' × Steps r step reads kind found s (seated table' me' before copy')) view
+      subst (λ (s : Seated). IsSeat me' summary' before copy' × Steps r step reads kind found s (seated table' me' before copy')) view
       (made_inside is (allowed (known_of me.0).local is.0.is) (subst (IsSeatOf r) (sym view) of) may same_table taught numbers copied)
 
-  pub step_made : (callers : ℕ) (old : Seated) → IsSeat me mirror before copy → seated table me before copy ≡ old → ((l : Local) → mirror ≡ mirror_of l → ¬ IsAtLimit l) → IsSeatOf r old →
-      SeenGuard (instance_at r step reads) kind old.known.local → table' ≡ table → Teaches (instance_at r step reads) kind (known_of me.0) found me' → callers ≡ r.callers → Follows callers kind found mirror mirror' →
-      copy' ≡ copied_after kind (known_of me.0) found copy → IsSeat me' mirror' before copy' × Steps r step reads kind found old (seated table' me' before copy')
+  pub step_made : (callers : ℕ) (old : Seated) → IsSeat me summary before copy → seated table me before copy ≡ old → ((l : Local) → summary ≡ summary_of l → ¬ IsAtLimit l) → IsSeatOf r old →
+      SeenGuard (instance_at r step reads) kind old.known.local → table' ≡ table → Teaches (instance_at r step reads) kind (known_of me.0) found me' → callers ≡ r.callers → Follows callers kind found summary summary' →
+      copy' ≡ copied_after kind (known_of me.0) found copy → IsSeat me' summary' before copy' × Steps r step reads kind found old (seated table' me' before copy')
   step_made callers old is view allowed of guard same_table taught same follows copied =
       let instance = instance_at r step reads in
       let may = subst (λ (s : Seated). SeenGuard instance kind s.known.local) (sym view) guard in
-      subst (λ (s : Seated). IsSeat me' mirror' before copy' × Steps r step reads kind found s (seated table' me' before copy')) view
+      subst (λ (s : Seated). IsSeat me' summary' before copy' × Steps r step reads kind found s (seated table' me' before copy')) view
       (made_inside is (allowed (known_of me.0).local is.0.is) (subst (IsSeatOf r) (sym view) of) may same_table taught (follows instance (known_of me.0) (sym same) may is.0.is) copied)

@@ -1,35 +1,26 @@
 //! The numbers of a local state that code reads, and how each kind of step changes them.
 
-ghost use Rattle.std.specs.Prelude.{◌≡◌, ◌+◌, ◌*◌, ◌^◌, ◌<◌, ◌≤◌, ℕ, IsTrue, MatchResult, false, length, max, slice_index, slice_index_or, Some, None};
-ghost use Rattle.cx_core.specs.QueueEvents.{linked, lost, raised_front, seen_word};
+ghost use Rattle.std.specs.Prelude.{◌≡◌, ◌+◌, ◌*◌, ◌^◌, ◌<◌, ◌≤◌, ℕ, IsTrue, MatchResult, false, length, max, slice_index_or, Some, None};
+ghost use Rattle.cx_core.specs.QueueEvents.{linked, lost, seen_word};
 ghost use Rattle.cx_base.specs.Codes.{root_place_of};
 ghost use Rattle.cx_core.specs.declared.local.HeldDowngraded.{HeldDowngraded};
 ghost use Rattle.cx_core.specs.RootEvents.{code_in, outrun, published};
 ghost use Rattle.cx_core.specs.declared.kinds.Kind.TheVariants.{WriteCell, Link, Look, ReadCell, LoadFree, TryExclusive, TryShared, BackOff, Downgrade, ReleaseExclusive, LoadWord, StoreWord, Persist, LoadCur, Publish, Retire};
 ghost use Rattle.std.specs.List.{list_all, range_with_len};
+ghost use Rattle.cx_base.specs.Callers.{AreCallers};
 ghost use Rattle.cx_core.specs.LockEvents.{is_fresh_on, refused_by, taken};
 ghost use Rattle.cx_core.specs.State.{Instance, opening_local};
 ghost use Rattle.cx_core.specs.Rights.{is_at};
-ghost use Rattle.seat_memory.specs.Mirrors.{Follows, mirror_of};
-ghost use Rattle.seat_memory.specs.Raised.{is_below, raised_mirror};
+ghost use Rattle.seat_memory.specs.Summaries.{Follows, summary_of};
+ghost use Rattle.seat_memory.specs.Raised.{is_below, raised_summary};
 ghost use Rattle.cx_rule.specs.declared.rule.Known.{Known};
 ghost use Rattle.cx_rule.specs.Seats.{IsAtLimit, known_local, place_noted, unseen};
 
-use cx_base::{Halt, link_ticket, root_code, root_place, root_replica};
+use core_guards::locks::is_at;
+use core_guards::queue::{front_after, word_seen};
+use cx_base::{Halt, root_code, root_place, root_replica};
+use cx_core::layout::EXCLUSIVE_MARK;
 use cx_core::{HeldDowngraded, Protection, Scan, SeenNeed, SeenSlot, WonCode};
-
-/// What an exclusive right adds to a lock word.
-pub const EXCLUSIVE_MARK: u64 = 1 << 32;
-
-/// Whether a right is on this replica.
-pub fn is_at(r: u64, right: Option<u64>) -> bool
-    ensures { result ≡ is_at r right }
-{
-    match right {
-        None => false,
-        Some(q) => q == r,
-    }
-}
 
 /// Whether a ticket is below a place, where there is one.
 fn is_below(place: u64, ticket: Option<u64>) -> bool
@@ -43,7 +34,7 @@ fn is_below(place: u64, ticket: Option<u64>) -> bool
 
 /// The numbers of a caller's local state that code reads: all but its lists and the words of its cells.
 #[derive(Clone, Copy, Debug, Drop)]
-pub struct Mirror {
+pub struct Summary {
     pub number: u32,
     pub front: u64,
     /// The number of its linked entries.
@@ -82,14 +73,13 @@ pub struct Mirror {
 }
 
 /// The numbers of a caller that made no step.
-pub fn opening_mirror(callers: u32, place: u64, number: u32, limit: u64) -> Mirror
-    requires some { 1 ≤ callers }
-    requires few { callers ≤ 8 }
+pub fn opening_summary(callers: u32, place: u64, number: u32, limit: u64) -> Summary
+    requires callers { AreCallers callers }
     requires place { place ≤ 2 ^ 40 }
-    ensures { result ≡ mirror_of (record (opening_local callers place number) { limit = limit }) }
+    ensures { result ≡ summary_of (record (opening_local callers place number) { limit = limit }) }
 {
     let code = root_code(callers, place, 0);
-    Mirror {
+    Summary {
         number,
         front: place,
         linked: 0,
@@ -118,10 +108,10 @@ pub fn opening_mirror(callers: u32, place: u64, number: u32, limit: u64) -> Mirr
     }
 }
 
-impl Mirror {
+impl Summary {
     /// Refuses a step where the steps equal the limit.
     pub fn check(&self) -> Result<(), Halt>
-        ensures { (l : _) → self.now ≡ mirror_of l → MatchResult result (λ _. ¬ IsAtLimit l) (λ _. IsAtLimit l) }
+        ensures { (l : _) → self.now ≡ summary_of l → MatchResult result (λ _. ¬ IsAtLimit l) (λ _. IsAtLimit l) }
     {
         if self.steps == self.limit && self.limit != u64::MAX {
             return Err(Halt);
@@ -131,11 +121,8 @@ impl Mirror {
 
     /// Counts so many steps, each of which changes no other number, and answers whether the limit leaves them: if not, none is counted.
     pub fn count(&mut self, count: u64) -> bool
-        ensures counted { IsTrue result → self.new ≡ record self.old { steps = self.old.steps + count } }
-        ensures within { IsTrue result → self.old.steps + count ≤ self.old.limit }
-        ensures small { IsTrue result → self.old.steps + count < 2 ^ 64 }
-        ensures none { result ≡ false → self.new ≡ self.old }
-        ensures short { result ≡ false → self.old.limit < self.old.steps + count }
+        ensures counted { IsTrue result → (self.new ≡ record self.old { steps = self.old.steps + count }) × (self.old.steps + count ≤ self.old.limit) × (self.old.steps + count < 2 ^ 64) }
+        ensures short { result ≡ false → (self.new ≡ self.old) × (self.old.limit < self.old.steps + count) }
     {
         if self.steps > self.limit || count > self.limit - self.steps {
             return false;
@@ -159,7 +146,7 @@ impl Mirror {
         requires j { j < 16 }
         requires front { self.old.front < 2 ^ 40 }
         requires linked { self.old.linked ≤ self.old.front }
-        ensures { (l : _) → self.old ≡ mirror_of l → length l.answered ≡ length l.own → self.new ≡ mirror_of (linked l j) }
+        ensures { (l : _) → self.old ≡ summary_of l → length l.answered ≡ length l.own → self.new ≡ summary_of (linked l j) }
     {
         self.unanswered = Some(self.front);
         self.tickets[j as usize] = Some(self.front);
@@ -170,18 +157,16 @@ impl Mirror {
 
     /// A link was lost to the word found.
     pub fn lose(&mut self, callers: u32, found: u64)
-        requires some { 1 ≤ callers }
-        requires few { callers ≤ 8 }
-        ensures { (l : _) → self.old ≡ mirror_of l → self.new ≡ mirror_of (lost callers l found) }
+        requires callers { AreCallers callers }
+        ensures { (l : _) → self.old ≡ summary_of l → self.new ≡ summary_of (lost callers l found) }
     {
-        self.raise_front(callers, found);
+        self.front = front_after(callers, self.front, found);
         self.steps = self.steps.saturating_add(1);
     }
 
     /// A link of the entry in cell `j` found this word.
     pub fn link(&mut self, callers: u32, j: u64, found: u64)
-        requires some { 1 ≤ callers }
-        requires few { callers ≤ 8 }
+        requires callers { AreCallers callers }
         requires j { j < 16 }
         requires front { self.old.front < 2 ^ 40 }
         requires linked { self.old.linked ≤ self.old.front }
@@ -198,23 +183,19 @@ impl Mirror {
     pub fn seen_word(&self) -> u64
         ensures { result ≡ seen_word self.now.seen_slot }
     {
-        match self.seen_slot {
-            None => 0,
-            Some(seen) => seen.word,
-        }
+        word_seen(self.seen_slot)
     }
 
     /// A link slot was looked at.
     pub fn look(&mut self, callers: u32, s: u64, found: u64)
-        requires some { 1 ≤ callers }
-        requires few { callers ≤ 8 }
+        requires callers { AreCallers callers }
         ensures { Follows callers (Look s) found self.old self.new }
     {
         self.seen_slot = Some(SeenSlot {
             slot: s,
             word: found,
         });
-        self.raise_front(callers, found);
+        self.front = front_after(callers, self.front, found);
         self.steps = self.steps.saturating_add(1);
     }
 
@@ -235,8 +216,7 @@ impl Mirror {
 
     /// An exclusive try of a replica found this word.
     pub fn try_exclusive(&mut self, callers: u32, r: u64, found: u64)
-        requires some { 1 ≤ callers }
-        requires few { callers ≤ 8 }
+        requires callers { AreCallers callers }
         requires r { r < 2 * callers }
         ensures { Follows callers (TryExclusive r) found self.old self.new }
     {
@@ -249,7 +229,7 @@ impl Mirror {
 
     /// A replica was taken exclusively.
     fn take(&mut self, r: u64)
-        ensures { (instance : Instance) (l : _) → self.old ≡ mirror_of l → self.new ≡ mirror_of (taken instance unseen r l) }
+        ensures { (instance : Instance) (l : _) → self.old ≡ summary_of l → self.new ≡ summary_of (taken instance unseen r l) }
     {
         self.exclusive = Some(r);
         self.refused = [false; 16];
@@ -260,7 +240,7 @@ impl Mirror {
     fn refuse(&mut self, callers: u32, r: u64)
         requires few { callers ≤ 8 }
         requires r { r < 2 * callers }
-        ensures { (l : _) (found : ℕ) → self.old ≡ mirror_of l → self.new ≡ mirror_of (refused_by callers r l found) }
+        ensures { (l : _) (found : ℕ) → self.old ≡ summary_of l → self.new ≡ summary_of (refused_by callers r l found) }
     {
         self.refused[r as usize] = true;
         let all = self.all_refused(callers);
@@ -281,8 +261,7 @@ impl Mirror {
 
     /// A shared try of a replica found this word.
     pub fn try_shared(&mut self, callers: u32, r: u64, found: u64)
-        requires some { 1 ≤ callers }
-        requires few { callers ≤ 8 }
+        requires callers { AreCallers callers }
         ensures { Follows callers (TryShared r) found self.old self.new }
     {
         if found < EXCLUSIVE_MARK {
@@ -300,9 +279,8 @@ impl Mirror {
 
     /// Whether the code last loaded from CUR names this replica, and nothing ended its use.
     pub fn is_fresh_on(&self, callers: u32, r: u64) -> bool
-        requires some { 1 ≤ callers }
-        requires few { callers ≤ 8 }
-        ensures { (l : _) → self.now ≡ mirror_of l → result ≡ is_fresh_on callers r l }
+        requires callers { AreCallers callers }
+        ensures { (l : _) → self.now ≡ summary_of l → result ≡ is_fresh_on callers r l }
     {
         u64::from(root_replica(callers, self.seen_cur)) == r && self.fresh
     }
@@ -323,7 +301,7 @@ impl Mirror {
 
     /// An exclusive right was turned into a shared one, at the place noted.
     pub fn downgrade(&mut self, r: u64, place: u64)
-        ensures { (instance : Instance) (k : Known) (found : ℕ) → place ≡ place_noted 0 k.accesses → self.old ≡ mirror_of k.local → self.new ≡ mirror_of (known_local instance (Downgrade r) k found) }
+        ensures { (instance : Instance) (k : Known) (found : ℕ) → place ≡ place_noted 0 k.accesses → self.old ≡ summary_of k.local → self.new ≡ summary_of (known_local instance (Downgrade r) k found) }
     {
         self.exclusive = None;
         self.downgraded = Some(HeldDowngraded { replica: r, place });
@@ -340,8 +318,7 @@ impl Mirror {
 
     /// CUR was found.
     pub fn load_cur(&mut self, callers: u32, found: u64)
-        requires some { 1 ≤ callers }
-        requires few { callers ≤ 8 }
+        requires callers { AreCallers callers }
         ensures { Follows callers LoadCur found self.old self.new }
     {
         self.see_cur(callers, found);
@@ -351,8 +328,7 @@ impl Mirror {
 
     /// The root code of the replica that was downgraded, 0 where there is none.
     pub fn downgraded_code(&self, callers: u32) -> u64
-        requires some { 1 ≤ callers }
-        requires few { callers ≤ 8 }
+        requires callers { AreCallers callers }
         requires placed { (h : HeldDowngraded) → self.now.downgraded ≡ Some h → (h.replica < 2 * callers) × (h.place ≤ 2 ^ 40) }
         ensures { result ≡ code_in callers self.now.downgraded }
     {
@@ -364,8 +340,7 @@ impl Mirror {
 
     /// A publication of this code found this word in CUR.
     pub fn publish(&mut self, callers: u32, code: u64, found: u64)
-        requires some { 1 ≤ callers }
-        requires few { callers ≤ 8 }
+        requires callers { AreCallers callers }
         requires code { code ≡ code_in callers self.old.downgraded }
         ensures { Follows callers Publish found self.old self.new }
     {
@@ -378,10 +353,9 @@ impl Mirror {
 
     /// A publication of this code won.
     fn win_cur(&mut self, callers: u32, code: u64)
-        requires some { 1 ≤ callers }
-        requires few { callers ≤ 8 }
+        requires callers { AreCallers callers }
         requires code { code ≡ code_in callers self.old.downgraded }
-        ensures { (l : _) → self.old ≡ mirror_of l → self.new ≡ mirror_of (published callers l) }
+        ensures { (l : _) → self.old ≡ summary_of l → self.new ≡ summary_of (published callers l) }
     {
         self.won = Some(WonCode {
             code,
@@ -395,9 +369,8 @@ impl Mirror {
 
     /// A publication was lost to the code found.
     fn lose_cur(&mut self, callers: u32, found: u64)
-        requires some { 1 ≤ callers }
-        requires few { callers ≤ 8 }
-        ensures { (l : _) → self.old ≡ mirror_of l → self.new ≡ mirror_of (outrun callers l found) }
+        requires callers { AreCallers callers }
+        ensures { (l : _) → self.old ≡ summary_of l → self.new ≡ summary_of (outrun callers l found) }
     {
         if self.fresh {
             self.met = self.met.saturating_add(1);
@@ -436,9 +409,8 @@ impl Mirror {
 
     /// DUR was raised by a code, with a read that is answered or without.
     pub fn raise(&mut self, callers: u32, code: u64, read: bool)
-        requires some { 1 ≤ callers }
-        requires few { callers ≤ 8 }
-        ensures { self.new ≡ raised_mirror callers code read self.old }
+        requires callers { AreCallers callers }
+        ensures { self.new ≡ raised_summary callers code read self.old }
     {
         let place = root_place(callers, code);
         let answers = is_below(place, self.unanswered);
@@ -455,22 +427,10 @@ impl Mirror {
 
     /// This code was found in CUR, or put there.
     fn see_cur(&mut self, callers: u32, code: u64)
-        requires some { 1 ≤ callers }
-        requires few { callers ≤ 8 }
+        requires callers { AreCallers callers }
         ensures { self.new ≡ record self.old { seen_cur = code; front = max self.old.front (root_place_of callers code) } }
     {
         self.seen_cur = code;
         self.front = self.front.max(root_place(callers, code));
-    }
-
-    /// The ticket in a link word is linked, and so is each one before it.
-    fn raise_front(&mut self, callers: u32, found: u64)
-        requires some { 1 ≤ callers }
-        requires few { callers ≤ 8 }
-        ensures { self.new ≡ record self.old { front = raised_front callers self.old.front found } }
-    {
-        if found != 0 {
-            self.front = self.front.max(link_ticket(callers, found) + 1);
-        }
     }
 }

@@ -9,12 +9,12 @@ use Rattle.cx_core.specs.declared.local.Local.{Local}
 use Rattle.cx_core.specs.LockEvents.{is_in}
 use Rattle.cx_core.specs.Rights.{exclusive_on, shared_on}
 use Rattle.cx_core.specs.State.{Instance}
-use Rattle.seat_memory.specs.declared.mirror.Mirror.{Mirror}
+use Rattle.seat_memory.specs.declared.summary.Summary.{Summary}
 use Rattle.cx_rule.specs.declared.rule.Known.{Known}
 use Rattle.cx_rule.specs.Seats.{HasCells, IsWithinLimit, SeenGuard, known_local, known_of, unanswered_ticket}
 
-abbrev pub mirror_of : Local → Mirror
-mirror_of l = record {
+abbrev pub summary_of : Local → Summary
+summary_of l = record {
   number = l.number;
   front = l.front;
   linked = length l.own;
@@ -44,18 +44,18 @@ mirror_of l = record {
 
 -- the numbers follow an event of this kind that found this word, of a caller that is seen to be allowed to make it, in each
 -- instance with so many callers
-abbrev pub Follows : ℕ → Kind → ℕ → Mirror → Mirror → Type 0
+abbrev pub Follows : ℕ → Kind → ℕ → Summary → Summary → Type 0
 Follows callers kind found before after =
-    (instance : Instance) (k : Known) → instance.callers ≡ callers → SeenGuard instance kind k.local → before ≡ mirror_of k.local → after ≡ mirror_of (known_local instance kind k found)
+    (instance : Instance) (k : Known) → instance.callers ≡ callers → SeenGuard instance kind k.local → before ≡ summary_of k.local → after ≡ summary_of (known_local instance kind k found)
 
 -- a seat knows one caller, and its numbers are that caller's. They are small enough to be counted on, and no more steps were
 -- made than the limit allows.
-pub record IsMirrored (me : Me ℕ (List Known)) (mirror : Mirror) (before : ℕ) : Type 0 where
+pub record HasSummary (me : Me ℕ (List Known)) (summary : Summary) (before : ℕ) : Type 0 where
   pub one : me ≡ (known_of me.0 ∷ [], [])
-  pub is : mirror ≡ mirror_of (known_of me.0).local
-  pub linked : mirror.linked ≤ mirror.front
-  pub front : mirror.front ≤ 2 ^ 40
-  pub few : mirror.linked ≤ 2 ^ 40
+  pub is : summary ≡ summary_of (known_of me.0).local
+  pub linked : summary.linked ≤ summary.front
+  pub front : summary.front ≤ 2 ^ 40
+  pub few : summary.linked ≤ 2 ^ 40
   pub small : before ≤ 2 ^ 40
   pub place : (h : HeldDowngraded) → (known_of me.0).local.downgraded ≡ Some h → h.place ≤ 2 ^ 40
   pub cells : HasCells (known_of me.0).local

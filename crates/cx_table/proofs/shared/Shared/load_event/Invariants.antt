@@ -1,7 +1,0 @@
-use Rattle.cx_rule.specs.Running.{instance_at}
-use Rattle.cx_rule.specs.Seats.{known_of}
-use Rattle.cx_rule.specs.Steps.{Teaches}
-use Rattle.cx_table.proofs.shared.Shared.load_event.Given as goal
-
-abbrev pub ghosts-load_as : goal.ghosts-load_as
-ghosts-load_as g a = record { tells = Teaches (instance_at a.self.now g.O.Object.step g.O.Object.only_reads) a.kind.now (known_of a.seat.now.me.0) }
