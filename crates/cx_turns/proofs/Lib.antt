@@ -1,4 +1,5 @@
 pub mod Queries
+pub mod ReadEntries
 mod Kept
 pub mod ReadSteps
 mod Refusals

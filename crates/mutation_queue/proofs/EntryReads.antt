@@ -1,6 +1,7 @@
 -- Reading the words of an entry, one step each.
 use Rattle.std.proofs.Common.{◌≡◌, ◌+◌, ◌/◌, ◌^◌, ◌<◌, ◌≤◌, ℕ, zero, suc, Bool, List, [], ◌∷◌, ◌++◌, length, slice_get, slice_index, refl, sym, ap, subst, ◌∙◌, arith, append-nil, zero-add, inr, Some}
 use Rattle.std.proofs.lemmas.List.{append_assoc, length-append}
+use Rattle.cx_base.specs.declared.object.Object.{Ghosts}
 use Rattle.cx_core.specs.declared.entry.Base.{Base}
 use Rattle.cx_core.specs.declared.entry.Entry.{Entry}
 use Rattle.cx_core.specs.declared.kinds.Kind.TheVariants.{ReadCell}
@@ -13,7 +14,7 @@ use Rattle.cx_rule.specs.Fitting.{Fitting, IsNoted}
 use Rattle.cx_table.specs.Running.{Running, instance_at}
 use Rattle.cx_table.specs.Runs.{Runs, no_step, one_more_step, reads_of}
 use Rattle.cx_table.specs.Seats.{IsAtLimit, Seated, stepped}
-use Rattle.mutation_queue.specs.Entries.{EndsAfter, HaltsAmong, HaltsReading, Looked, NotesEntry, ReadsEntry, notes_of, steps_after, with_look, with_read}
+use Rattle.mutation_queue.specs.Entries.{EndsAfter, HaltsAmong, HaltsReading, Looked, NotesEntry, ReadsEntry, ReadsWords, notes_of, steps_after, with_look, with_read}
 
 -- ---- steps
 
@@ -75,10 +76,6 @@ halts_among caller ticket ws s now after fewer is same limit = record {
   limit = ends (length ws) s.known.local (subst (λ (x : Seated). IsAtLimit x.known.local) is limit);
 }
 
--- it was come to then
-pub at_limit : (caller ticket : ℕ) (before after : Seated) → HaltsAmong caller ticket before after → IsAtLimit after.known.local
-at_limit caller ticket before after h = subst (λ (x : Seated). IsAtLimit x.known.local) (sym h.seat) (at_end (length h.words) before.known.local h.limit)
-
 -- no step so far came to the limit, and neither did this one
 pub none_ends : (caller ticket : ℕ) (ws : List ℕ) (i : ℕ) (s now : Seated) → now ≡ with_read caller ticket ws s → i ≡ length ws → ((n : ℕ) → n < i → EndsAfter n s.known.local → ⊥) → (IsAtLimit now.known.local → ⊥) →
     (n : ℕ) → n < i + 1 → EndsAfter n s.known.local → ⊥
@@ -131,20 +128,20 @@ read_after_look caller ticket words s looked after look is =
     let seen : after.known.local.seen_slot ≡ looked.known.local.seen_slot = ap (λ (x : Seated). x.known.local.seen_slot) is in
     is ∙ ap (with_read caller ticket words) (look ∙ ap (λ x. with_look x s) (sym seen))
 
-pub reads_entry : (callers caller ticket cell : ℕ) (words : List ℕ) (s looked after : Seated) → Looked callers ticket cell s looked → after ≡ with_read caller ticket words looked → length words ≡ 145 →
-    (IsAtLimit s.known.local → ⊥) → ((n : ℕ) → n < 145 → EndsAfter n looked.known.local → ⊥) → ReadsEntry caller ticket words s after
-reads_entry callers caller ticket cell words s looked after l is long first rest = record {
-  seat = read_after_look caller ticket words s looked after l.seat is;
+pub reads_entry : {O : Type 0} (o : Ghosts O) (r : Running O) (caller ticket cell : ℕ) (words : List ℕ) (s looked after : Seated) → Looked r ticket cell s looked → ReadsWords o r caller ticket words looked after → length words ≡ 145 → ReadsEntry caller ticket words s after
+reads_entry o r caller ticket cell words s looked after l read long = record {
+  seat = read_after_look caller ticket words s looked after l.seat read.seat;
   long = long;
-  within = within_all s looked l.seat first rest;
+  within = within_all s looked l.seat l.allowed read.within;
 }
 
-pub halts_reading : (callers caller ticket cell : ℕ) (s looked after : Seated) → Looked callers ticket cell s looked → HaltsAmong caller ticket looked after → HaltsReading ticket s after
-halts_reading callers caller ticket cell s looked after l h =
+pub halts_reading : {O : Type 0} (r : Running O) (caller ticket cell : ℕ) (s looked after : Seated) → Looked r ticket cell s looked → HaltsAmong caller ticket looked after → HaltsReading ticket s after
+halts_reading r caller ticket cell s looked after l h =
     let fewer = h.fewer in record {
       made = suc (length h.words);
       fewer = omega arith;
       limit = ends_before_look s looked (length h.words) l.seat h.limit;
+      ended = subst (λ (x : Seated). IsAtLimit x.known.local) (sym h.seat) (at_end (length h.words) looked.known.local h.limit);
       seat = inr (caller, h.words, read_after_look caller ticket h.words s looked after l.seat h.seat);
     }
 

@@ -13,11 +13,11 @@ use Rattle.cx_core.specs.QueueEvents.{IsIdle, ShowsOpen, cell_of, entry_in, link
 use Rattle.cx_core.specs.Layout.{cell_count}
 use Rattle.cx_core.specs.State.{Instance}
 use Rattle.cx_rule.specs.declared.rule.Noted.{Noted}
-use Rattle.cx_core.specs.Region.{slot_number}
 use Rattle.cx_table.specs.Running.{IsSeatOf, Running}
 use Rattle.cx_table.specs.Seats.{IsAtLimit, Seated, shown_next, stepped, unseen}
 use Rattle.cx_table.specs.Told.{LinkTold, LookTold}
-use Rattle.mutation_queue.specs.Links.{FindsLink, FindsOpen, LinksAt, LinksNone, LinksPast, WinsTry, but_linked, with_front, with_loss, with_win}
+use Rattle.mutation_queue.specs.Leaves.{Leaves, number_of}
+use Rattle.mutation_queue.specs.Links.{FindsLink, FindsOpen, LinksAt, LinksNone, LinksPast, MayLink, WinsTry, but_front, but_linked, with_front, with_loss, with_win}
 
 -- a raised front, by the word found
 raised_zero : (callers front found : ℕ) → found ≡ 0 → raised_front callers front found ≡ front
@@ -215,25 +215,26 @@ won_at instance s found found2 cell stays e =
       from = omega arith;
     })
 
--- what holds of a seat but for its front, slot and steps holds before a try and after one that linked nothing
-pub still_of : {O : Type 0} (r : Running O) (s t : Seated) → LinksNone s t → IsSeatOf r s → IsSeatOf r t
-still_of r s t none of =
-    let number = ap (λ (x : Seated). x.known.local.number) none.same in record {
-      table = ap (λ (x : Seated). x.table) none.same ∙ of.table;
-      caller = subst (λ n. n < r.callers) (sym number) of.caller;
-      before = ap (λ (x : Seated). x.before) none.same ∙ of.before ∙ ap (λ n. slot_number n r.base.words) (sym number);
-      region = ap (λ (x : Seated). x.region) none.same ∙ of.region;
-    }
+-- what a seat shows but for its front, slot, steps, linked entries and cells tells whose it is
+pub leaves_linked : {O : Type 0} (r : Running O) (n : ℕ) (s t : Seated) → IsSeatOf r s → t.known.local.steps ≤ s.known.local.steps + n → but_linked t ≡ but_linked s → Leaves r number_of n s t
+leaves_linked r n s t of most same =
+    let now : IsSeatOf r (but_linked t) = subst (IsSeatOf r) (sym same) (record { table = of.table; caller = of.caller; before = of.before; region = of.region }) in
+    record { of = record { table = now.table; caller = now.caller; before = now.before; region = now.region }; rest = ap number_of same; steps = most }
 
-pub still_idle : (s t : Seated) (cell : ℕ) → LinksNone s t → IsIdle s.known.local cell → IsIdle t.known.local cell
-still_idle s t cell none idle = subst (λ (x : Seated). IsIdle x.known.local cell) (sym none.same) idle
+pub leaves_none : {O : Type 0} (r : Running O) (n : ℕ) (s t : Seated) → IsSeatOf r s → t.known.local.steps ≤ s.known.local.steps + n → LinksNone s t → Leaves r number_of n s t
+leaves_none r n s t of most none = leaves_linked r n s t of most (ap but_linked none.same)
 
-pub still_announced : (base : Base) (s t : Seated) (cell : ℕ) → LinksNone s t → slice_index (cell_of s.known.local cell).words 0 ≡ next_number base s.known.local →
-    slice_index (cell_of t.known.local cell).words 0 ≡ next_number base t.known.local
-still_announced base s t cell none announced = subst (λ (x : Seated). slice_index (cell_of x.known.local cell).words 0 ≡ next_number base x.known.local) (sym none.same) announced
-
-pub still_answered : (s t : Seated) → LinksNone s t → length s.known.local.answered ≡ length s.known.local.own → length t.known.local.answered ≡ length t.known.local.own
-still_answered s t none answered = subst (λ (x : Seated). length x.known.local.answered ≡ length x.known.local.own) (sym none.same) answered
+-- an entry that may be linked still may, where a try linked nothing
+pub still_may : {O : Type 0} (r : Running O) (cell : ℕ) (s t : Seated) → LinksNone s t → MayLink r cell s → MayLink r cell t
+still_may r cell s t none may =
+    let of : IsSeatOf r s = may.of in
+    let answered = may.answered in
+    let idle = may.announced.idle in
+    let number = may.announced.number in
+    let before : MayLink r cell (but_front s) = record { of = record { table = of.table; caller = of.caller; before = of.before; region = of.region }; few = may.few; announced = record { idle = idle; number = number }; answered = answered } in
+    let now : MayLink r cell (but_front t) = subst (MayLink r cell) (sym none.same) before in
+    let of' = now.of in
+    record { of = record { table = of'.table; caller = of'.caller; before = of'.before; region = of'.region }; few = now.few; announced = record { idle = now.announced.idle; number = now.announced.number }; answered = now.answered }
 
 pub none_here : (s : Seated) → LinksNone s s
 none_here s = record { same = refl; front = omega arith }
@@ -249,23 +250,3 @@ none_at cell ticket s t u none at = record {
   front = at.front;
   from = omega (arith, none.front, at.from);
 }
-
--- what was loaded from CUR is as it was
-pub same_cur : (s t : Seated) → LinksNone s t → t.known.local.seen_cur ≡ s.known.local.seen_cur
-same_cur s t none = ap (λ (x : Seated). x.known.local.seen_cur) none.same
-
--- a seat whose entry was linked is still its caller's
-pub linked_of : {O : Type 0} (r : Running O) (cell ticket : ℕ) (s t : Seated) → LinksAt cell ticket s t → IsSeatOf r s → IsSeatOf r t
-linked_of r cell ticket s t at of =
-    let number = ap (λ (x : Seated). x.known.local.number) at.same in record {
-      table = ap (λ (x : Seated). x.table) at.same ∙ of.table;
-      caller = subst (λ n. n < r.callers) (sym number) of.caller;
-      before = ap (λ (x : Seated). x.before) at.same ∙ of.before ∙ ap (λ n. slot_number n r.base.words) (sym number);
-      region = ap (λ (x : Seated). x.region) at.same ∙ of.region;
-    }
-
-pub linked_number : (cell ticket : ℕ) (s t : Seated) → LinksAt cell ticket s t → t.known.local.number ≡ s.known.local.number
-linked_number cell ticket s t at = ap (λ (x : Seated). x.known.local.number) at.same
-
-pub none_number : (s t : Seated) → LinksNone s t → t.known.local.number ≡ s.known.local.number
-none_number s t none = ap (λ (x : Seated). x.known.local.number) none.same

@@ -5,7 +5,7 @@ use Rattle.cx_core.specs.declared.kinds.Kind.TheVariants.{WriteCell}
 use Rattle.cx_core.specs.declared.local.Local.{Local}
 use Rattle.cx_core.specs.QueueEvents.{IsIdle, cell_of, next_number}
 use Rattle.cx_core.specs.Layout.{max_word}
-use Rattle.cx_table.specs.Running.{Running}
+use Rattle.cx_table.specs.Running.{IsSeatOf, Running}
 use Rattle.cx_table.specs.Seats.{IsAtLimit, IsWithinLimit, Seated}
 use Rattle.cx_table.specs.Steps.{Steps}
 
@@ -16,6 +16,12 @@ IsInUseAt free (Some ticket) = free ≤ ticket
 
 abbrev pub IsInUse : Local → ℕ → Type 0
 IsInUse l j = IsInUseAt l.seen_free (cell_of l j).ticket
+
+-- a cell of this caller of the table may be written
+pub record MayAnnounce {O : Type 0} (r : Running O) (cell : ℕ) (seat : Seated) : Type 0 where
+  pub of : IsSeatOf r seat
+  pub few : cell < 16
+  pub idle : IsIdle seat.known.local cell
 
 -- at how many places two lists differ
 unfoldable pub differing : List ℕ → List ℕ → ℕ

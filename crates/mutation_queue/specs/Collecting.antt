@@ -1,10 +1,12 @@
 -- What collecting cells comes to.
 use Rattle.std.specs.Prelude.{◌≡◌, ◌+◌, ◌<◌, ◌≤◌, ◌⊎◌, false, ℕ, min, Option, Some, None, Result, Ok, Err}
+use Rattle.cx_base.specs.Codes.{root_place_of}
 use Rattle.cx_core.specs.declared.local.Scan.{Scan}
 use Rattle.cx_core.specs.declared.local.SeenNeed.{SeenNeed}
 use Rattle.cx_core.specs.Layout.{max_word}
 use Rattle.cx_core.specs.RingEvents.{need_word}
 use Rattle.cx_core.specs.State.{one_more}
+use Rattle.cx_table.specs.Running.{IsSeatOf, Running}
 use Rattle.cx_table.specs.Seats.{IsAtLimit, Seated}
 use Rattle.mutation_queue.specs.declared.collecting.Collected.{Collected}
 
@@ -12,6 +14,12 @@ use Rattle.mutation_queue.specs.declared.collecting.Collected.{Collected}
 -- steps and scans
 abbrev pub but_collected : Seated → Seated
 but_collected s = record s { known = record s.known { local = record s.known.local { seen_free = 0; seen_need = None; scan = None; fresh = false; steps = 0; scans = 0 } } }
+
+-- LOW may be raised to a target: it is at most the place of the code last loaded from CUR, and no scan is under way
+pub record MayCollect {O : Type 0} (r : Running O) (target : ℕ) (seat : Seated) : Type 0 where
+  pub of : IsSeatOf r seat
+  pub below : target ≤ root_place_of r.callers seat.known.local.seen_cur
+  pub none : seat.known.local.scan ≡ None
 
 -- LOW was raised to a target, each caller's need was scanned, and FREE was raised to the least of them and the target. What the scan
 -- found is noted: the least need, and the least caller that had it. The caller's own is the one that it states.

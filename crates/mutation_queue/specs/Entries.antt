@@ -1,15 +1,18 @@
 -- An entry that is read, word after word.
 use Rattle.std.specs.Prelude.{◌≡◌, ◌+◌, ◌<◌, ◌^◌, ◌⊎◌, ℕ, zero, suc, List, [], ◌∷◌, ◌++◌, length, Option}
+use Rattle.cx_base.specs.declared.object.Object.{Ghosts}
 use Rattle.cx_core.specs.declared.entry.Entry.{Entry}
 use Rattle.cx_core.specs.declared.local.Local.{Local}
 use Rattle.cx_core.specs.declared.local.SeenSlot.{SeenSlot}
 use Rattle.cx_core.specs.History.{IsLawfulEntry}
 use Rattle.cx_core.specs.QueueEvents.{ShowsTicket}
+use Rattle.cx_core.specs.RingEvents.{Protects}
 use Rattle.cx_core.specs.State.{one_more}
 use Rattle.cx_core.specs.Layout.{max_word}
 use Rattle.cx_rule.specs.declared.rule.Noted.{Noted}
-use Rattle.cx_rule.specs.Fitting.{IsNoted}
-use Rattle.cx_table.specs.Seats.{Seated}
+use Rattle.cx_rule.specs.Fitting.{Fitting, IsNoted}
+use Rattle.cx_table.specs.Running.{IsSeatOf, Running}
+use Rattle.cx_table.specs.Seats.{IsAtLimit, Seated}
 
 -- the notes of words of the entry with a ticket, from an index on
 abbrev pub notes_of : ℕ → ℕ → ℕ → List ℕ → List Noted
@@ -38,10 +41,26 @@ with_look seen s = record s { known = record s.known { local = record s.known.lo
 abbrev pub EndsAfter : ℕ → Local → Type 0
 EndsAfter n l = (l.steps + n ≡ l.limit) × (l.limit < max_word)
 
--- one look at the ticket's slot shows the ticket in a cell
-pub record Looked (callers ticket cell : ℕ) (before after : Seated) : Type 0 where
+-- the entry with a ticket may be read: it is linked, and a protection keeps it
+pub record MayRead {O : Type 0} (r : Running O) (ticket : ℕ) (seat : Seated) : Type 0 where
+  pub of : IsSeatOf r seat
+  pub linked : ticket < seat.known.local.front
+  pub protected : Protects ticket seat.known.local.protection
+
+-- one look at the ticket's slot, which the limit allowed, shows the ticket in a cell
+pub record Looked {O : Type 0} (r : Running O) (ticket cell : ℕ) (before after : Seated) : Type 0 where
+  pub of : IsSeatOf r after
+  pub allowed : ¬ IsAtLimit before.known.local
   pub seat : after ≡ with_look after.known.local.seen_slot before
-  pub shows : ShowsTicket callers after.known.local.seen_slot ticket cell
+  pub shows : ShowsTicket r.callers after.known.local.seen_slot ticket cell
+  pub few : cell < 128
+  pub small : ticket < 2 ^ 40
+
+-- the words of an entry were read, all within the limit, and what is noted fits what is there
+pub record ReadsWords {O : Type 0} (o : Ghosts O) (r : Running O) (caller ticket : ℕ) (words : List ℕ) (before after : Seated) : Type 0 where
+  pub seat : after ≡ with_read caller ticket words before
+  pub fits : Fitting r.lines (o.lawful r.object) r.base after.known
+  pub within : (n : ℕ) → n < 145 → EndsAfter n before.known.local → ⊥
 
 -- the limit was come to before all words were read
 pub record HaltsAmong (caller ticket : ℕ) (before after : Seated) : Type 0 where
@@ -72,4 +91,5 @@ pub record HaltsReading (ticket : ℕ) (before after : Seated) : Type 0 where
   pub made : ℕ
   pub fewer : made < 146
   pub limit : EndsAfter made before.known.local
+  pub ended : IsAtLimit after.known.local
   pub seat : (after ≡ before) ⊎ ((caller : ℕ) × (words : List ℕ) × (after ≡ with_read caller ticket words (with_look after.known.local.seen_slot before)))

@@ -1,13 +1,22 @@
 -- What tries to link an entry come to.
-use Rattle.std.specs.Prelude.{◌≡◌, ◌+◌, ◌%◌, ◌^◌, ◌<◌, ◌≤◌, ◌⊎◌, ℕ, zero, suc, [], ◌∷◌, ◌++◌, slice_set, Option, Some, None}
+use Rattle.std.specs.Prelude.{◌≡◌, ◌+◌, ◌%◌, ◌^◌, ◌<◌, ◌≤◌, ◌⊎◌, ℕ, zero, suc, [], ◌∷◌, ◌++◌, length, slice_set, Option, Some, None}
 use Rattle.cx_base.specs.Codes.{link_ticket_of, root_place_of}
 use Rattle.cx_core.specs.declared.local.Local.{Local}
 use Rattle.cx_core.specs.Layout.{cell_count}
 use Rattle.cx_core.specs.QueueEvents.{ShowsOpen, cell_of, entry_in, linked, lost, raised_front}
 use Rattle.cx_core.specs.State.{one_more}
+use Rattle.cx_table.specs.Running.{IsSeatOf, Running}
 use Rattle.cx_table.specs.Seats.{IsAtLimit, Seated}
+use Rattle.mutation_queue.specs.Cells.{IsAnnounced}
 use Rattle.mutation_queue.specs.declared.linking.LinkTried.{LinkTried}
 use Rattle.mutation_queue.specs.declared.linking.LinkTried.TheVariants.{Again, Linked, Worn}
+
+-- the entry that was announced in a cell may be linked: each entry of the caller before it is answered
+pub record MayLink {O : Type 0} (r : Running O) (cell : ℕ) (seat : Seated) : Type 0 where
+  pub of : IsSeatOf r seat
+  pub few : cell < 16
+  pub announced : IsAnnounced r.base cell seat
+  pub answered : length seat.known.local.answered ≡ length seat.known.local.own
 
 -- a seat but for its front, the slot last looked at and its steps
 abbrev pub but_front : Seated → Seated

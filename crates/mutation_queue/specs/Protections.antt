@@ -1,11 +1,12 @@
 -- What protecting tickets comes to.
-use Rattle.std.specs.Prelude.{◌≡◌, ◌+◌, ◌<◌, ◌≤◌, ◌⊎◌, true, false, ℕ, min, Result, Ok, Err}
+use Rattle.std.specs.Prelude.{◌≡◌, ◌+◌, ◌^◌, ◌<◌, ◌≤◌, ◌⊎◌, true, false, ℕ, min, Result, Ok, Err}
 use Rattle.cx_base.specs.Codes.{root_place_of}
 use Rattle.cx_core.specs.declared.local.Local.{Local}
 use Rattle.cx_core.specs.declared.local.Protection.TheVariants.{Confirmed, Unprotected}
 use Rattle.cx_core.specs.Layout.{max_word}
-use Rattle.cx_core.specs.RingEvents.{confirmed, stated}
+use Rattle.cx_core.specs.RingEvents.{IsUnprotected, confirmed, stated}
 use Rattle.cx_core.specs.State.{one_more}
+use Rattle.cx_table.specs.Running.{IsSeatOf, Running}
 use Rattle.cx_table.specs.Seats.{IsAtLimit, Seated}
 use Rattle.mutation_queue.specs.declared.protecting.Protected.{Protected}
 use Rattle.mutation_queue.specs.declared.protecting.Protected.TheVariants.{Behind, Kept}
@@ -13,6 +14,12 @@ use Rattle.mutation_queue.specs.declared.protecting.Protected.TheVariants.{Behin
 -- a seat but for its protection, the greatest LOW found, whether what was seen of CUR is fresh, and the counts of steps and refusals
 abbrev pub but_protected : Seated → Seated
 but_protected s = record s { known = record s.known { local = record s.known.local { protection = Unprotected; seen_low = 0; fresh = false; steps = 0; met = 0 } } }
+
+-- the tickets from a place on may be protected: no protection stands
+pub record MayProtect {O : Type 0} (r : Running O) (place : ℕ) (seat : Seated) : Type 0 where
+  pub of : IsSeatOf r seat
+  pub small : place ≤ 2 ^ 40
+  pub none : IsUnprotected seat.known.local.protection
 
 -- the code last loaded from CUR is in use, and its place is at most this one: a LOW above it shows that the code is outdated
 abbrev pub ShowsOutdated : ℕ → ℕ → Local → Type 0

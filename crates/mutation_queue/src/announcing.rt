@@ -1,13 +1,13 @@
 //! An entry is written into a cell before it is linked.
 
-ghost use Rattle.std.specs.Prelude.{◌≡◌, ◌≢◌, ◌+◌, ◌<◌, ◌∷◌, ℕ, OnErr, OnOk, slice_index};
+ghost use Rattle.std.specs.Prelude.{◌≡◌, ◌≢◌, ◌∷◌, OnErr, OnOk, slice_index};
 ghost use Rattle.cx_core.specs.Events.{Guard};
-ghost use Rattle.cx_core.specs.QueueEvents.{IsIdle, cell_of, next_number};
+ghost use Rattle.cx_core.specs.QueueEvents.{cell_of, next_number};
 ghost use Rattle.cx_core.specs.declared.kinds.Kind.TheVariants.{WriteCell};
 ghost use Rattle.cx_table.specs.Running.{IsSeatOf, instance_at};
 ghost use Rattle.cx_table.specs.Seats.{unseen};
 ghost use Rattle.cx_table.specs.Steps.{Halts};
-ghost use Rattle.mutation_queue.specs.Cells.{Announces, HaltsIn, IsAnnounced, WritesDiffering};
+ghost use Rattle.mutation_queue.specs.Cells.{Announces, HaltsIn, IsAnnounced, MayAnnounce, WritesDiffering};
 
 use cx_base::{Halt, Object};
 use cx_table::{CallerSeat, Shared};
@@ -21,8 +21,7 @@ pub fn announce<O: Object>(
     cell: u32,
     op: &[u64; 144],
 ) -> Result<(), Halt>
-    requires seat { IsSeatOf shared.now seat.old }
-    requires cell { (cell < 16) × IsIdle seat.old.known.local cell }
+    requires may { MayAnnounce shared.now cell seat.old }
     ensures announced { OnOk result (Announces cell (next_number shared.now.base seat.old.known.local ∷ op.now) seat.old seat.new) }
     ensures ready { OnOk result (IsAnnounced shared.now.base cell seat.new) }
     ensures seat { IsSeatOf shared.now seat.new }

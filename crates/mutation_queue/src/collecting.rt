@@ -1,11 +1,10 @@
 //! Cells that nobody needs are opened, so that they can be written again.
 
-ghost use Rattle.std.specs.Prelude.{◌≡◌, ◌+◌, ◌^◌, ◌<◌, ◌≤◌, None, Some, OnErr, OnOk};
-ghost use Rattle.cx_base.specs.Codes.{root_place_of};
+ghost use Rattle.std.specs.Prelude.{◌≡◌, ◌+◌, ◌^◌, ◌<◌, ◌≤◌, Some, OnErr, OnOk};
 ghost use Rattle.cx_core.specs.declared.local.SeenNeed.{SeenNeed};
-ghost use Rattle.cx_table.specs.Running.{IsSeatOf};
 ghost use Rattle.cx_table.specs.Seats.{IsAtLimit};
-ghost use Rattle.mutation_queue.specs.Collecting.{EndsCollecting, EndsScanning, but_collected};
+ghost use Rattle.mutation_queue.specs.Collecting.{EndsCollecting, EndsScanning, MayCollect, but_collected};
+ghost use Rattle.mutation_queue.specs.Leaves.{Leaves};
 
 use cx_base::{Halt, Object};
 use cx_table::{CallerSeat, Shared};
@@ -29,15 +28,10 @@ pub fn collect<O: Object>(
     seat: &mut CallerSeat,
     target: u64,
 ) -> Result<Collected, Halt>
-    requires seat { IsSeatOf shared.now seat.old }
-    requires target { target ≤ root_place_of shared.now.callers seat.old.known.local.seen_cur }
-    requires none { seat.old.known.local.scan ≡ None }
+    requires may { MayCollect shared.now target seat.old }
     ensures allowed { OnOk result (¬ IsAtLimit seat.old.known.local) }
     ensures collected { EndsCollecting shared.now.callers target seat.old seat.new result }
-    ensures halted { OnErr result (IsAtLimit seat.new.known.local) }
-    ensures rest { but_collected seat.new ≡ but_collected seat.old }
-    ensures steps { seat.new.known.local.steps ≤ seat.old.known.local.steps + shared.now.callers + 3 }
-    ensures seat { IsSeatOf shared.now seat.new }
+    ensures leaves { Leaves shared.now but_collected (shared.now.callers + 3) seat.old seat.new }
 {
     scan_needs(shared, seat, target)?;
     shared.open_free(seat)?;
@@ -47,16 +41,12 @@ pub fn collect<O: Object>(
 
 /// Raises LOW to a target and scans what each caller needs, one after another.
 fn scan_needs<O: Object>(shared: &Shared<O>, seat: &mut CallerSeat, target: u64) -> Result<(), Halt>
-    requires seat { IsSeatOf shared.now seat.old }
-    requires target { target ≤ root_place_of shared.now.callers seat.old.known.local.seen_cur }
-    requires none { seat.old.known.local.scan ≡ None }
+    requires may { MayCollect shared.now target seat.old }
     ensures allowed { OnOk result (¬ IsAtLimit seat.old.known.local) }
     ensures scans { EndsScanning shared.now.callers target seat.old seat.new result }
     ensures some { OnOk result ((1 ≤ shared.now.callers) × (shared.now.callers ≤ 8)) }
     ensures halted { OnErr result (IsAtLimit seat.new.known.local) }
-    ensures rest { but_collected seat.new ≡ but_collected seat.old }
-    ensures steps { seat.new.known.local.steps ≤ seat.old.known.local.steps + shared.now.callers + 1 }
-    ensures seat { IsSeatOf shared.now seat.new }
+    ensures leaves { Leaves shared.now but_collected (shared.now.callers + 1) seat.old seat.new }
 {
     let callers = u64::from(shared.callers());
     shared.close_low(seat, target)?;

@@ -1,11 +1,10 @@
 //! An announced entry is linked at the end of the queue.
 
-ghost use Rattle.std.specs.Prelude.{◌≡◌, ◌+◌, ◌*◌, ◌^◌, ◌<◌, ◌≤◌, ◌⊎◌, IfOk, IsErr, MatchBool, OnErr, length, slice_index};
+ghost use Rattle.std.specs.Prelude.{◌+◌, ◌*◌, ◌^◌, ◌<◌, ◌≤◌, IfOk, MatchBool, OnErr};
 ghost use Rattle.cx_base.specs.Codes.{link_ticket_of};
-ghost use Rattle.cx_core.specs.QueueEvents.{IsIdle, cell_of, next_number};
-ghost use Rattle.cx_table.specs.Running.{IsSeatOf};
 ghost use Rattle.cx_table.specs.Seats.{IsAtLimit};
-ghost use Rattle.mutation_queue.specs.Links.{HaltsTries, HaltsTry, LinksNone, MakesTries, Tried, TriedOnce};
+ghost use Rattle.mutation_queue.specs.Leaves.{Leaves, number_of};
+ghost use Rattle.mutation_queue.specs.Links.{HaltsTries, HaltsTry, LinksNone, MakesTries, MayLink, Tried, TriedOnce};
 
 use cx_base::{Halt, Object, link_ticket};
 use cx_core::layout::cell_count;
@@ -36,18 +35,12 @@ pub fn link<O: Object>(
     cell: u32,
     tries: u64,
 ) -> Result<LinkTried, Halt>
-    requires seat { IsSeatOf shared.now seat.old }
-    requires cell { (cell < 16) × IsIdle seat.old.known.local cell }
-    requires announced { slice_index (cell_of seat.old.known.local cell).words 0 ≡ next_number shared.now.base seat.old.known.local }
-    requires answered { length seat.old.known.local.answered ≡ length seat.old.known.local.own }
+    requires may { MayLink shared.now cell seat.old }
     requires tries { 1 ≤ tries }
     ensures tried { IfOk result (λ tried. Tried shared.now.callers cell tries seat.old seat.new tried) }
     ensures made { IfOk result (MakesTries shared.now.callers cell tries seat.old seat.new) }
     ensures halted { OnErr result (HaltsTries shared.now.callers tries seat.old seat.new) }
-    ensures halts { IsAtLimit seat.old.known.local → IsErr result ⊎ (seat.old.known.local.front ≡ 2 ^ 40) }
-    ensures steps { seat.new.known.local.steps ≤ seat.old.known.local.steps + 2 * tries }
-    ensures seat { IsSeatOf shared.now seat.new }
-    ensures number { seat.new.known.local.number ≡ seat.old.known.local.number }
+    ensures leaves { Leaves shared.now number_of (2 * tries) seat.old seat.new }
 {
     for _tried in 0..tries {
         if seat.front() >= END {
@@ -69,14 +62,10 @@ fn try_link<O: Object>(
     seat: &mut CallerSeat,
     cell: u32,
 ) -> Result<Option<u64>, Halt>
-    requires seat { IsSeatOf shared.now seat.old }
-    requires cell { (cell < 16) × IsIdle seat.old.known.local cell }
-    requires announced { slice_index (cell_of seat.old.known.local cell).words 0 ≡ next_number shared.now.base seat.old.known.local }
-    requires answered { length seat.old.known.local.answered ≡ length seat.old.known.local.own }
+    requires may { MayLink shared.now cell seat.old }
     requires front { seat.old.known.local.front < 2 ^ 40 }
     ensures tried { IfOk result (λ tried. TriedOnce shared.now.callers cell seat.old seat.new tried) }
     ensures halted { OnErr result (LinksNone seat.old seat.new × IsAtLimit seat.new.known.local × HaltsTry shared.now.callers seat.old seat.new) }
-    ensures halts { IsAtLimit seat.old.known.local → IsErr result }
     ensures steps { seat.new.known.local.steps ≤ seat.old.known.local.steps + 2 }
 {
     let callers = shared.callers();

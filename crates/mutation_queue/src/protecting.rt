@@ -1,10 +1,11 @@
 //! Tickets are protected while their entries are read.
 
-ghost use Rattle.std.specs.Prelude.{◌≡◌, ◌+◌, ◌^◌, ◌≤◌, OnErr, OnOk};
-ghost use Rattle.cx_core.specs.RingEvents.{IsProtected, IsUnprotected};
+ghost use Rattle.std.specs.Prelude.{◌≡◌, ◌≤◌, OnErr, OnOk};
+ghost use Rattle.cx_core.specs.RingEvents.{IsProtected};
 ghost use Rattle.cx_table.specs.Running.{IsSeatOf};
 ghost use Rattle.cx_table.specs.Seats.{IsAtLimit};
-ghost use Rattle.mutation_queue.specs.Protections.{EndsProtecting, but_protected, unprotected};
+ghost use Rattle.mutation_queue.specs.Leaves.{Leaves};
+ghost use Rattle.mutation_queue.specs.Protections.{EndsProtecting, MayProtect, but_protected, unprotected};
 
 use cx_base::{Halt, Object};
 use cx_table::{CallerSeat, Shared};
@@ -26,16 +27,11 @@ pub fn protect<O: Object>(
     seat: &mut CallerSeat,
     place: u64,
 ) -> Result<Protected, Halt>
-    requires seat { IsSeatOf shared.now seat.old }
-    requires place { place ≤ 2 ^ 40 }
-    requires none { IsUnprotected seat.old.known.local.protection }
+    requires may { MayProtect shared.now place seat.old }
     ensures allowed { OnOk result (¬ IsAtLimit seat.old.known.local) }
     ensures protected { EndsProtecting shared.now.callers place seat.old seat.new result }
     ensures low { seat.old.known.local.seen_low ≤ seat.new.known.local.seen_low }
-    ensures halted { OnErr result (IsAtLimit seat.new.known.local) }
-    ensures rest { but_protected seat.new ≡ but_protected seat.old }
-    ensures steps { seat.new.known.local.steps ≤ seat.old.known.local.steps + 3 }
-    ensures seat { IsSeatOf shared.now seat.new }
+    ensures leaves { Leaves shared.now but_protected 3 seat.old seat.new }
 {
     shared.protect(seat, place)?;
     let low = shared.confirm(seat)?;
@@ -53,8 +49,7 @@ pub fn unprotect<O: Object>(shared: &Shared<O>, seat: &mut CallerSeat) -> Result
     ensures allowed { OnOk result (¬ IsAtLimit seat.old.known.local) }
     ensures given_up { OnOk result (seat.new ≡ unprotected seat.old) }
     ensures halted { OnErr result (IsAtLimit seat.new.known.local) }
-    ensures rest { but_protected seat.new ≡ but_protected seat.old }
-    ensures seat { IsSeatOf shared.now seat.new }
+    ensures leaves { Leaves shared.now but_protected 1 seat.old seat.new }
 {
     shared.unprotect(seat)
 }

@@ -1,12 +1,10 @@
 //! An entry is read from the cell that it was announced in.
 
-ghost use Rattle.std.specs.Prelude.{◌≡◌, ◌<◌, ◌≤◌, ◌/◌, ◌^◌, ℕ, IfOk, IsErr, OnErr, OnOk, length};
+ghost use Rattle.std.specs.Prelude.{◌≤◌, ◌/◌, IfOk, OnErr, OnOk};
 ghost use Rattle.cx_core.specs.QueueEvents.{ShowsTicket};
-ghost use Rattle.cx_core.specs.RingEvents.{Protects};
-ghost use Rattle.cx_table.specs.Fitting.{Fitting};
 ghost use Rattle.cx_table.specs.Running.{IsSeatOf};
-ghost use Rattle.cx_table.specs.Seats.{IsAtLimit};
-ghost use Rattle.mutation_queue.specs.Entries.{EndsAfter, HaltsAmong, HaltsReading, Looked, NotesEntry, ReadsEntry, with_read};
+ghost use Rattle.cx_table.specs.Steps.{Halts};
+ghost use Rattle.mutation_queue.specs.Entries.{HaltsAmong, HaltsReading, Looked, MayRead, NotesEntry, ReadsEntry, ReadsWords};
 
 use cx_base::{Halt, Object, link_cell};
 use cx_core::layout::cell_count;
@@ -22,14 +20,11 @@ pub fn entry<O: Object>(
     ticket: u64,
     into: &mut [u64; 145],
 ) -> Result<u32, Halt>
-    requires seat { IsSeatOf shared.now seat.old }
-    requires linked { ticket < seat.old.known.local.front }
+    requires may { MayRead shared.now ticket seat.old }
     requires later { shared.now.base.place ≤ ticket }
-    requires protected { Protects ticket seat.old.known.local.protection }
     ensures read { IfOk result (λ caller. ReadsEntry caller ticket into.new seat.old seat.new) }
     ensures entry { IfOk result (λ caller. NotesEntry caller ticket into.new seat.new) }
     ensures halted { OnErr result (HaltsReading ticket seat.old seat.new) }
-    ensures limit { OnErr result (IsAtLimit seat.new.known.local) }
     ensures seat { IsSeatOf shared.now seat.new }
 {
     let cell = find_cell(shared, seat, ticket)?;
@@ -39,17 +34,10 @@ pub fn entry<O: Object>(
 
 /// The cell of a ticket, by one look at its slot.
 fn find_cell<O: Object>(shared: &Shared<O>, seat: &mut CallerSeat, ticket: u64) -> Result<u64, Halt>
-    requires seat { IsSeatOf shared.now seat.old }
-    requires linked { ticket < seat.old.known.local.front }
+    requires may { MayRead shared.now ticket seat.old }
     requires later { shared.now.base.place ≤ ticket }
-    requires protected { Protects ticket seat.old.known.local.protection }
-    ensures found { IfOk result (λ cell. Looked shared.now.callers ticket cell seat.old seat.new) }
-    ensures small { IfOk result (λ cell. cell < 128) }
-    ensures below { OnOk result (ticket < 2 ^ 40) }
-    ensures halted { OnErr result (seat.new ≡ seat.old) }
-    ensures halts { IsErr result → IsAtLimit seat.old.known.local }
-    ensures within { OnOk result (IsAtLimit seat.old.known.local → ⊥) }
-    ensures seat { IsSeatOf shared.now seat.new }
+    ensures found { IfOk result (λ cell. Looked shared.now ticket cell seat.old seat.new) }
+    ensures halted { OnErr result (Halts shared.now seat.old seat.new) }
 {
     let callers = shared.callers();
     let slot = ticket % cell_count(callers);
@@ -65,13 +53,9 @@ fn read_words<O: Object>(
     cell: u64,
     into: &mut [u64; 145],
 ) -> Result<(), Halt>
-    requires seat { IsSeatOf shared.now seat.old }
-    requires linked { ticket < seat.old.known.local.front }
+    requires may { MayRead shared.now ticket seat.old }
     requires shows { ShowsTicket shared.now.callers seat.old.known.local.seen_slot ticket cell }
-    requires protected { Protects ticket seat.old.known.local.protection }
-    ensures read { OnOk result (seat.new ≡ with_read (cell / 16) ticket into.new seat.old) }
-    ensures fits { OnOk result (Fitting shared.now.lines (O.lawful shared.now.object) shared.now.base seat.new.known) }
-    ensures within { OnOk result ((n : ℕ) → n < 145 → EndsAfter n seat.old.known.local → ⊥) }
+    ensures read { OnOk result (ReadsWords O.Object shared.now (cell / 16) ticket into.new seat.old seat.new) }
     ensures halted { OnErr result (HaltsAmong (cell / 16) ticket seat.old seat.new) }
     ensures seat { IsSeatOf shared.now seat.new }
 {
@@ -89,13 +73,9 @@ fn read_each<O: Object>(
     cell: u64,
     into: &mut [u64; 145],
 ) -> Result<(), Halt>
-    requires seat { IsSeatOf shared.now seat.old }
-    requires linked { ticket < seat.old.known.local.front }
+    requires may { MayRead shared.now ticket seat.old }
     requires shows { ShowsTicket shared.now.callers seat.old.known.local.seen_slot ticket cell }
-    requires protected { Protects ticket seat.old.known.local.protection }
-    ensures read { OnOk result (seat.new ≡ with_read (cell / 16) ticket into.new seat.old) }
-    ensures fits { OnOk result (Fitting shared.now.lines (O.lawful shared.now.object) shared.now.base seat.new.known) }
-    ensures within { OnOk result ((n : ℕ) → n < 145 → EndsAfter n seat.old.known.local → ⊥) }
+    ensures read { OnOk result (ReadsWords O.Object shared.now (cell / 16) ticket into.new seat.old seat.new) }
     ensures halted { OnErr result (HaltsAmong (cell / 16) ticket seat.old seat.new) }
     ensures seat { IsSeatOf shared.now seat.new }
 {

@@ -15,7 +15,7 @@ use Rattle.cx_table.specs.Tokens.{TriedPublish}
 use Rattle.strong_trylock.specs.Ends.{but_downgraded}
 use Rattle.strong_trylock.specs.Held.{AllRights, all_rights}
 use Rattle.publish.proofs.Options.{none_of}
-use Rattle.publish.specs.Publishing.{Exchanges, KeepsMet, MeetsOne, PassedBy, beside_publish, place_in}
+use Rattle.publish.specs.Publishing.{Exchanges, KeepsMet, LeavesRest, MeetsOne, PassedBy, beside_publish, place_in}
 
 -- what is downgraded at a place above a code may be published
 pub may_publish : (callers code : ℕ) (o : Option HeldDowngraded) → root_place_of callers code < place_in o → IsAbove callers code o
@@ -55,21 +55,21 @@ module _ {O : Type 0} (r : Running O) (step : O → List ℕ → List ℕ → Li
   rest_by true = ap (λ ns. (let b : Seated = record (beside_publish before) { known = record (beside_publish before).known { noted = ns } } in b)) (append-nil before.known.noted)
   rest_by false = ap (λ ns. (let b : Seated = record (beside_publish before) { known = record (beside_publish before).known { noted = ns } } in b)) (append-nil before.known.noted)
 
-  pub exchange_rest : beside_publish after ≡ beside_publish before
+  exchange_rest : beside_publish after ≡ beside_publish before
   exchange_rest = ap beside_publish s.made ∙ rest_by (found == before.known.local.seen_cur)
 
   front_by : (won : Bool) → before.known.local.front ≤ (by won).known.local.front
   front_by true = le-max_left before.known.local.front _
   front_by false = le-max_left before.known.local.front _
 
-  pub exchange_front : before.known.local.front ≤ after.known.local.front
+  exchange_front : before.known.local.front ≤ after.known.local.front
   exchange_front = subst (λ (t : Seated). before.known.local.front ≤ t.known.local.front) (sym s.made) (front_by (found == before.known.local.seen_cur))
 
   met_by : (won : Bool) → KeepsMet before (by won)
   met_by true was = refl
   met_by false was = ap (λ b. cond b (one_more before.known.local.met) before.known.local.met) was
 
-  pub exchange_met : KeepsMet before after
+  exchange_met : KeepsMet before after
   exchange_met = subst (KeepsMet before) (sym s.made) (met_by (found == before.known.local.seen_cur))
 
   counted_by : before.known.local.met < 2 ^ 64 → (won : Bool) → before.known.local.met ≤ (by won).known.local.met
@@ -77,7 +77,7 @@ module _ {O : Type 0} (r : Running O) (step : O → List ℕ → List ℕ → Li
   counted_by small false = not_less before.known.local.met small before.known.local.fresh
 
   -- no refusal is taken back
-  pub exchange_counted : before.known.local.met < 2 ^ 64 → before.known.local.met ≤ after.known.local.met
+  exchange_counted : before.known.local.met < 2 ^ 64 → before.known.local.met ≤ after.known.local.met
   exchange_counted small = subst (λ (t : Seated). before.known.local.met ≤ t.known.local.met) (sym s.made) (counted_by small (found == before.known.local.seen_cur))
 
   most_by : (won : Bool) → (by won).known.local.met ≤ before.known.local.met + 1
@@ -85,7 +85,7 @@ module _ {O : Type 0} (r : Running O) (step : O → List ℕ → List ℕ → Li
   most_by false = not_above before.known.local.met before.known.local.fresh
 
   -- and at most one is met
-  pub exchange_most : after.known.local.met ≤ before.known.local.met + 1
+  exchange_most : after.known.local.met ≤ before.known.local.met + 1
   exchange_most = subst (λ (t : Seated). t.known.local.met ≤ before.known.local.met + 1) (sym s.made) (most_by (found == before.known.local.seen_cur))
 
   step_by : (won : Bool) → (by won).known.local.steps ≤ before.known.local.steps + 1
@@ -96,13 +96,24 @@ module _ {O : Type 0} (r : Running O) (step : O → List ℕ → List ℕ → Li
   one_step = subst (λ (t : Seated). t.known.local.steps ≤ before.known.local.steps + 1) (sym s.made) (step_by (found == before.known.local.seen_cur))
 
   -- the step found a later code, or put one there
-  pub exchange_steps : (x : Result WonRight Right) → 1 ≤ r.callers → root_place_of r.callers before.known.local.seen_cur < place_in before.known.local.downgraded → Exchanges r.callers before after x →
+  exchange_steps : (x : Result WonRight Right) → 1 ≤ r.callers → root_place_of r.callers before.known.local.seen_cur < place_in before.known.local.downgraded → Exchanges r.callers before after x →
       after.known.local.steps + before.known.local.seen_cur ≤ before.known.local.steps + after.known.local.seen_cur
   exchange_steps (Ok won) some below exchanged =
       let above = code_above r.callers before.known.local.seen_cur before.known.local.downgraded some below in
       let seen = exchanged.seen ∙ exchanged.code in
       omega (arith, seen, above, one_step)
   exchange_steps (Err given) some below exchanged = (let later = exchanged.later in omega (arith, later, one_step))
+
+  pub exchange_leaves : (x : Result WonRight Right) → 1 ≤ r.callers → before.known.local.met < 2 ^ 64 → root_place_of r.callers before.known.local.seen_cur < place_in before.known.local.downgraded → Exchanges r.callers before after x → LeavesRest r 0 before after
+  exchange_leaves x some small below exchanged = record {
+    of = s.seat;
+    front = exchange_front;
+    met = exchange_met;
+    counted = exchange_counted small;
+    most = exchange_most;
+    steps = (let most = exchange_steps x some below exchanged in omega (arith, most));
+    rest = exchange_rest;
+  }
 
   pub exchanged : (held : Right) (x : Result WonRight Right) → before.known.local.won ≡ None → TriedPublish r.callers before held after found x → Exchanges r.callers before after x
   exchanged held (Ok won) none tried =

@@ -62,20 +62,31 @@ MeetsOne before after = (after.known.local.met ≡ before.known.local.met) ⊎ (
 abbrev pub KeepsMet : Seated → Seated → Type 0
 KeepsMet before after = before.known.local.fresh ≡ false → after.known.local.met ≡ before.known.local.met
 
--- each exchange so far was lost
-pub record Turns {O : Type 0} (r : Running O) (first seat : Seated) (right : Right) : Type 0 where
+-- what a publication needs: the seat is of the table, its caller has downgraded the replica, and has no win that is not retired
+pub record MayPublish {O : Type 0} (r : Running O) (seat : Seated) (held : Right) : Type 0 where
   pub of : IsSeatOf r seat
-  pub token : IsDowngradedOf r.callers seat right
-  pub held : seat.known.local.downgraded ≡ first.known.local.downgraded
+  pub token : IsDowngradedOf r.callers seat held
   pub none : seat.known.local.won ≡ None
-  pub front : first.known.local.front ≤ seat.known.local.front
-  pub rest : beside_publish seat ≡ beside_publish first
-  pub met : KeepsMet first seat
-  pub counted : first.known.local.met ≤ seat.known.local.met
+
+-- What exchanges of CUR, and the giving up of a right, leave of the seat: the front does not fall, at most one refusal is met and none
+-- is taken back, and the rest is the same. Beside so many, no more steps were made than what was seen of CUR rose.
+pub record LeavesRest {O : Type 0} (r : Running O) (n : ℕ) (before after : Seated) : Type 0 where
+  pub of : IsSeatOf r after
+  pub front : before.known.local.front ≤ after.known.local.front
+  pub met : KeepsMet before after
+  pub counted : before.known.local.met ≤ after.known.local.met
+  pub most : after.known.local.met ≤ before.known.local.met + 1
+  pub steps : after.known.local.steps + before.known.local.seen_cur ≤ before.known.local.steps + after.known.local.seen_cur + n
+  pub rest : beside_publish after ≡ beside_publish before
+
+-- each exchange so far was lost
+pub record LosesAll {O : Type 0} (r : Running O) (first seat : Seated) (right : Right) : Type 0 where
+  pub may : MayPublish r seat right
+  pub held : seat.known.local.downgraded ≡ first.known.local.downgraded
+  pub leaves : LeavesRest r 0 first seat
   pub stale : first.known.local.fresh ≡ false → seat.known.local.fresh ≡ false
-  pub most : MeetsOne first seat
+  pub one : MeetsOne first seat
   pub stands : IsAtLimit first.known.local → IsAtLimit seat.known.local
-  pub steps : seat.known.local.steps + first.known.local.seen_cur ≤ first.known.local.steps + seat.known.local.seen_cur
 
 -- a code was found in CUR whose place is not below the caller's own: the caller gave its right up
 pub record PassedBy (callers found : ℕ) (before after : Seated) : Type 0 where

@@ -1,11 +1,9 @@
 //! A downgraded replica is put into CUR, where its place is above that of the code found there.
 
-ghost use Rattle.std.specs.Prelude.{◌≡◌, ◌+◌, ◌<◌, ◌≤◌, None, OnErr, OnOk};
+ghost use Rattle.std.specs.Prelude.{◌≡◌, ◌<◌, ◌≤◌, OnOk};
 ghost use Rattle.cx_base.specs.Codes.{root_place_of};
-ghost use Rattle.cx_rule.specs.Running.{IsSeatOf};
 ghost use Rattle.cx_rule.specs.Seats.{IsAtLimit};
-ghost use Rattle.cx_table.specs.Tokens.{IsDowngradedOf};
-ghost use Rattle.publish.specs.Publishing.{EndsExchange, EndsPublishing, KeepsMet, beside_publish, place_in};
+ghost use Rattle.publish.specs.Publishing.{EndsExchange, EndsPublishing, LeavesRest, MayPublish, place_in};
 
 use cx_base::{Halt, Object, root_place};
 use cx_table::{CallerSeat, Downgraded, Shared, Won};
@@ -29,19 +27,10 @@ pub fn publish<O: Object>(
     seat: &mut CallerSeat,
     held: Downgraded,
 ) -> Result<Published, Halt>
-    requires seat { IsSeatOf shared.now seat.old }
-    requires held { IsDowngradedOf shared.now.callers seat.old held }
-    requires retired { seat.old.known.local.won ≡ None }
+    requires ready { MayPublish shared.now seat.old held }
     ensures published { EndsPublishing shared.now.callers seat.old seat.new result }
     ensures allowed { OnOk result (¬ IsAtLimit seat.old.known.local) }
-    ensures seat { IsSeatOf shared.now seat.new }
-    ensures front { seat.old.known.local.front ≤ seat.new.known.local.front }
-    ensures met { KeepsMet seat.old seat.new }
-    ensures counted { seat.old.known.local.met ≤ seat.new.known.local.met }
-    ensures most { seat.new.known.local.met ≤ seat.old.known.local.met + 1 }
-    ensures steps { seat.new.known.local.steps + seat.old.known.local.seen_cur ≤ seat.old.known.local.steps + seat.new.known.local.seen_cur + 1 }
-    ensures rest { beside_publish seat.new ≡ beside_publish seat.old }
-    ensures halts { OnErr result (IsAtLimit seat.new.known.local) }
+    ensures leaves { LeavesRest shared.now 1 seat.old seat.new }
 {
     let callers = shared.callers();
     let place = held_place(seat);
@@ -61,19 +50,12 @@ fn pass<O: Object>(
     seat: &mut CallerSeat,
     held: Downgraded,
 ) -> Result<Published, Halt>
-    requires seat { IsSeatOf shared.now seat.old }
-    requires held { IsDowngradedOf shared.now.callers seat.old held }
-    requires retired { seat.old.known.local.won ≡ None }
+    requires ready { MayPublish shared.now seat.old held }
     requires above { place_in seat.old.known.local.downgraded ≤ root_place_of shared.now.callers seat.old.known.local.seen_cur }
     ensures published { EndsPublishing shared.now.callers seat.old seat.new result }
     ensures allowed { OnOk result (¬ IsAtLimit seat.old.known.local) }
-    ensures seat { IsSeatOf shared.now seat.new }
-    ensures front { seat.old.known.local.front ≤ seat.new.known.local.front }
-    ensures met { KeepsMet seat.old seat.new }
-    ensures counted { seat.new.known.local.met ≡ seat.old.known.local.met }
-    ensures steps { seat.new.known.local.steps + seat.old.known.local.seen_cur ≤ seat.old.known.local.steps + seat.new.known.local.seen_cur + 1 }
-    ensures rest { beside_publish seat.new ≡ beside_publish seat.old }
-    ensures halts { OnErr result (IsAtLimit seat.new.known.local) }
+    ensures leaves { LeavesRest shared.now 1 seat.old seat.new }
+    ensures met { seat.new.known.local.met ≡ seat.old.known.local.met }
 {
     let found = seat.seen_cur();
     release_downgraded(shared, seat, held)?;
@@ -86,20 +68,11 @@ fn exchange<O: Object>(
     seat: &mut CallerSeat,
     held: Downgraded,
 ) -> Result<Result<Won, Downgraded>, Halt>
-    requires seat { IsSeatOf shared.now seat.old }
-    requires held { IsDowngradedOf shared.now.callers seat.old held }
-    requires retired { seat.old.known.local.won ≡ None }
+    requires ready { MayPublish shared.now seat.old held }
     requires below { root_place_of shared.now.callers seat.old.known.local.seen_cur < place_in seat.old.known.local.downgraded }
     ensures exchanged { EndsExchange shared.now.callers seat.old seat.new result }
     ensures allowed { OnOk result (¬ IsAtLimit seat.old.known.local) }
-    ensures seat { IsSeatOf shared.now seat.new }
-    ensures front { seat.old.known.local.front ≤ seat.new.known.local.front }
-    ensures met { KeepsMet seat.old seat.new }
-    ensures counted { seat.old.known.local.met ≤ seat.new.known.local.met }
-    ensures most { seat.new.known.local.met ≤ seat.old.known.local.met + 1 }
-    ensures steps { seat.new.known.local.steps + seat.old.known.local.seen_cur ≤ seat.old.known.local.steps + seat.new.known.local.seen_cur }
-    ensures rest { beside_publish seat.new ≡ beside_publish seat.old }
-    ensures halts { OnErr result (IsAtLimit seat.new.known.local) }
+    ensures leaves { LeavesRest shared.now 0 seat.old seat.new }
 {
     // counts are words
     let _met = seat.met();

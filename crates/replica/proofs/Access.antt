@@ -110,12 +110,15 @@ module _ {O : Type 0} (lines : ℕ) (r : Running O) (step : O → List ℕ → L
       }
 
   -- loads of words from a place on
-  pub run_accesses : (from : ℕ) (words : List ℕ) (before after : Seated) → IsHeld lines r lawful before held → Runs r step reads lawful (loads_from held.replica from) words before after → LoadsRun (LoadsHeld lines r lawful held) from words before after × IsHeld lines r lawful after held
+  run_accesses : (from : ℕ) (words : List ℕ) (before after : Seated) → IsHeld lines r lawful before held → Runs r step reads lawful (loads_from held.replica from) words before after → LoadsRun (LoadsHeld lines r lawful held) from words before after × IsHeld lines r lawful after held
   run_accesses from words before after of (no_step _ _ _ none same) = (no_load _ _ _ none same, subst (λ s. IsHeld lines r lawful s held) (sym same) of)
   run_accesses from words before after of (one_more_step _ _ _ first found mid longer run s fits) =
       let was = run_accesses from first before mid of run in
       let now = load_accesses (from + length first) found mid after was.1 s fits in
       (one_more_load _ _ _ first found mid longer was.0 now, now.still)
+
+  pub accesses_of : (q from : ℕ) (words : List ℕ) (before after : Seated) → q ≡ held.replica → IsHeld lines r lawful before held → Runs r step reads lawful (loads_from q from) words before after → LoadsRun (LoadsHeld lines r lawful held) from words before after
+  accesses_of q from words before after is of run = (run_accesses from words before after of (subst (λ k. Runs r step reads lawful (loads_from k from) words before after) is run)).0
 
   pub store_accesses : (at v : ℕ) (before after : Seated) → at < region_words lines → IsHeld lines r lawful before held → Steps r step reads (StoreWord held.replica at v) 0 before after → Fitting r.lines lawful r.base after.known → Accesses lines r lawful held (true, at, v) before after
   store_accesses at v before after below of s fits =
@@ -171,12 +174,15 @@ module _ {O : Type 0} (lines : ℕ) (r : Running O) (step : O → List ℕ → L
         still = record { sized = of.sized; of = s.seat; right = right; some = subst (λ n. SomeReadFits n lawful r.base (loaded_of after.known.local.shared)) of.sized.lines_are (fitting_shared r lawful after.known held.replica right.holds fits) };
       }
 
-  pub run_loads : (from : ℕ) (words : List ℕ) (before after : Seated) → IsHeldShared lines r lawful before held → Runs r step reads lawful (loads_from held.replica from) words before after → LoadsRun (LoadsShared lines r lawful held) from words before after × IsHeldShared lines r lawful after held
+  run_loads : (from : ℕ) (words : List ℕ) (before after : Seated) → IsHeldShared lines r lawful before held → Runs r step reads lawful (loads_from held.replica from) words before after → LoadsRun (LoadsShared lines r lawful held) from words before after × IsHeldShared lines r lawful after held
   run_loads from words before after of (no_step _ _ _ none same) = (no_load _ _ _ none same, subst (λ s. IsHeldShared lines r lawful s held) (sym same) of)
   run_loads from words before after of (one_more_step _ _ _ first found mid longer run s fits) =
       let was = run_loads from first before mid of run in
       let now = load_shared_loads (from + length first) found mid after was.1 s fits in
       (one_more_load _ _ _ first found mid longer was.0 now, now.still)
+
+  pub loads_of_run : (q from : ℕ) (words : List ℕ) (before after : Seated) → q ≡ held.replica → IsHeldShared lines r lawful before held → Runs r step reads lawful (loads_from q from) words before after → LoadsRun (LoadsShared lines r lawful held) from words before after
+  loads_of_run q from words before after is of run = (run_loads from words before after of (subst (λ k. Runs r step reads lawful (loads_from k from) words before after) is run)).0
 
 -- ---- step calls
 

@@ -3,6 +3,7 @@ use Rattle.std.proofs.Common.{false, true, cond, nat_lt, IfSome, IsErrAnd, inl, 
 use Rattle.std.proofs.lemmas.Bool.{cases_lt, false≢true}
 use Rattle.std.specs.Option.{option_map}
 use Rattle.std.specs.Result.{result_ok}
+use Rattle.cx_base.specs.declared.object.Object.{Ghosts}
 use Rattle.cx_core.specs.declared.kinds.Kind.TheVariants.{LoadWord, StoreWord, TryShared}
 use Rattle.cx_core.specs.declared.local.HeldExclusive.{HeldExclusive}
 use Rattle.cx_core.specs.declared.local.HeldShared.{HeldShared}
@@ -21,7 +22,7 @@ use Rattle.cx_rule.specs.Steps.{Halts, Steps}
 use Rattle.cx_table.specs.Right.{Right}
 use Rattle.cx_table.specs.Runs.{Runs, loads_from, no_step, one_more_step}
 use Rattle.cx_table.specs.Tokens.{IsExclusiveOf, IsSharedOf, TriedShared}
-use Rattle.replica.specs.Copies.{EndsRuns, HoldsBoth, LoadsAtMost, LoadsFewer, SomeDiffers, StoresAsMany, beside_copy, but_loads, known_compared, stores_in}
+use Rattle.replica.specs.Copies.{CopiesOn, EndsRuns, LeavesCopied, HoldsBoth, LoadsAtMost, LoadsFewer, SomeDiffers, StoresAsMany, beside_copy, but_loads, known_compared, stores_in}
 use Rattle.replica.specs.Held.{IsHeld, but_words}
 use Rattle.replica.specs.Laws.{shared_held}
 use Rattle.replica.proofs.Access.{beside, dirty_stored, replica_but_words, unstored}
@@ -64,6 +65,14 @@ load_rest r step reads q at found before after s =
     ∙ ap (λ n. beside before n exclusive (option_map but_loads (option_map (loaded_into q at found) before.known.local.shared))) (append-nil before.known.noted)
     ∙ ap (λ o. beside before before.known.noted exclusive o) (unloaded_all q at found before.known.local.shared)
 
+-- and neither does a store
+store_rest : {O : Type 0} (r : Running O) (step : O → List ℕ → List ℕ → List ℕ × List ℕ) (reads : O → List ℕ → Bool) (q at v : ℕ) (before after : Seated) → Steps r step reads (StoreWord q at v) 0 before after → beside_copy after ≡ beside_copy before
+store_rest r step reads q at v before after s =
+    let shared = option_map but_loads before.known.local.shared in
+    ap beside_copy s.made
+    ∙ ap (λ n. beside before n (option_map but_words (option_map (stored_into at v) before.known.local.exclusive)) shared) (append-nil before.known.noted)
+    ∙ ap (λ o. beside before before.known.noted o shared) (unstored at v before.known.local.exclusive)
+
 module _ {O : Type 0} (lines : ℕ) (r : Running O) (step : O → List ℕ → List ℕ → List ℕ × List ℕ) (reads : O → List ℕ → Bool) (lawful : List ℕ → Type 0) (held source : Right) (before after : Seated) where
   -- both rights stay through a step that is the same beside a copy, after which some pair fits
   both_still : HoldsBoth lines r lawful before held source → IsSeatOf r after → beside_copy after ≡ beside_copy before → Fitting r.lines lawful r.base after.known → All (λ i. i < region_words lines) (held_dirty after.known.local.exclusive) →
@@ -80,19 +89,14 @@ module _ {O : Type 0} (lines : ℕ) (r : Running O) (step : O → List ℕ → L
         shared = shared_held lines r lawful after source both.shared.sized seat (shared_still r.callers before after source same both.shared.right) fits;
       }
 
-  pub both_load : (q at found : ℕ) → HoldsBoth lines r lawful before held source → Steps r step reads (LoadWord q at false) found before after → Fitting r.lines lawful r.base after.known → HoldsBoth lines r lawful after held source
+  both_load : (q at found : ℕ) → HoldsBoth lines r lawful before held source → Steps r step reads (LoadWord q at false) found before after → Fitting r.lines lawful r.base after.known → HoldsBoth lines r lawful after held source
   both_load q at found both s fits =
       both_still both s.seat (load_rest r step reads q at found before after s) fits
       (subst (λ (t : Seated). All (λ i. i < region_words lines) (held_dirty t.known.local.exclusive)) (sym s.made) both.exclusive.dirty)
 
   pub both_store : (q at v : ℕ) → at < region_words lines → HoldsBoth lines r lawful before held source → Steps r step reads (StoreWord q at v) 0 before after → Fitting r.lines lawful r.base after.known → HoldsBoth lines r lawful after held source
   both_store q at v below both s fits =
-      let shared = option_map but_loads before.known.local.shared in
-      let rest : beside_copy after ≡ beside_copy before =
-      ap beside_copy s.made
-      ∙ ap (λ n. beside before n (option_map but_words (option_map (stored_into at v) before.known.local.exclusive)) shared) (append-nil before.known.noted)
-      ∙ ap (λ o. beside before before.known.noted o shared) (unstored at v before.known.local.exclusive) in
-      both_still both s.seat rest fits
+      both_still both s.seat (store_rest r step reads q at v before after s) fits
       (subst (λ (t : Seated). All (λ i. i < region_words lines) (held_dirty t.known.local.exclusive)) (sym s.made) (dirty_stored (λ i. i < region_words lines) at v before.known.local.exclusive below both.exclusive.dirty))
 
 -- a run of loads leaves both rights, and tells of each of its words
@@ -131,17 +135,25 @@ pub compared : {O : Type 0} (r : Running O) (step : O → List ℕ → List ℕ 
 compared r step reads h s at u v before mid after first second =
     ap (λ (t : Seated). t.known) second.made ∙ ap (λ (t : Seated). known_after (instance_at r step reads) (LoadWord s at false) t.known v) first.made
 
-module _ {O E : Type 0} (lines : ℕ) (r : Running O) (step : O → List ℕ → List ℕ → List ℕ × List ℕ) (reads : O → List ℕ → Bool) (lawful : List ℕ → Type 0) (held source : Right) (q at : ℕ) (before after : Seated) (both : HoldsBoth lines r lawful before held source) where
-  -- both rights stay after a load and after a store, whether the step was made or refused
-  pub load_both : (result : Result ℕ E) → IfOk result (λ found. Steps r step reads (LoadWord q at false) found before after) → OnOk result (Fitting r.lines lawful r.base after.known) → OnErr result (Halts r before after) →
-      HoldsBoth lines r lawful after held source
-  load_both (Ok found) made fits halted = both_load lines r step reads lawful held source before after q at found both made fits
-  load_both (Err e) made fits halted = subst (λ (s : Seated). HoldsBoth lines r lawful s held source) (sym halted.same) both
+unmoved : {O : Type 0} (o : Ghosts O) (r : Running O) (held source : Right) (before after : Seated) → HoldsBoth (o.line_count r.object) r (o.lawful r.object) before held source → Halts r before after → LeavesCopied o r held source before after
+unmoved o r held source before after both halted = record { both = subst (λ (s : Seated). HoldsBoth (o.line_count r.object) r (o.lawful r.object) s held source) (sym halted.same) both; rest = ap beside_copy halted.same }
 
-  pub store_both : {A : Type 0} (v : ℕ) (result : Result A E) → at < region_words lines → IfOk result (λ _. Steps r step reads (StoreWord q at v) 0 before after) → OnOk result (Fitting r.lines lawful r.base after.known) → OnErr result (Halts r before after) →
-      HoldsBoth lines r lawful after held source
-  store_both v (Ok x) below made fits halted = both_store lines r step reads lawful held source before after q at v below both made fits
-  store_both v (Err e) below made fits halted = subst (λ (s : Seated). HoldsBoth lines r lawful s held source) (sym halted.same) both
+module _ {O E : Type 0} (o : Ghosts O) (r : Running O) (held source : Right) (q at : ℕ) (before after : Seated) (both : HoldsBoth (o.line_count r.object) r (o.lawful r.object) before held source) where
+  -- what a load and a store leave, whether the step was made or refused
+  pub load_leaves : (result : Result ℕ E) → IfOk result (λ found. Steps r o.step o.only_reads (LoadWord q at false) found before after) → OnOk result (Fitting r.lines (o.lawful r.object) r.base after.known) → OnErr result (Halts r before after) → LeavesCopied o r held source before after
+  load_leaves (Ok found) made fits halted = record {
+    both = both_load (o.line_count r.object) r o.step o.only_reads (o.lawful r.object) held source before after q at found both made fits;
+    rest = load_rest r o.step o.only_reads q at found before after made;
+  }
+  load_leaves (Err e) made fits halted = unmoved o r held source before after both halted
+
+  pub store_leaves : {A : Type 0} (v : ℕ) (result : Result A E) → at < region_words (o.line_count r.object) → IfOk result (λ _. Steps r o.step o.only_reads (StoreWord q at v) 0 before after) → OnOk result (Fitting r.lines (o.lawful r.object) r.base after.known) → OnErr result (Halts r before after) →
+      LeavesCopied o r held source before after
+  store_leaves v (Ok x) below made fits halted = record {
+    both = both_store (o.line_count r.object) r o.step o.only_reads (o.lawful r.object) held source before after q at v below both made fits;
+    rest = store_rest r o.step o.only_reads q at v before after made;
+  }
+  store_leaves v (Err e) below made fits halted = unmoved o r held source before after both halted
 
 -- a replica held exclusively stays so when another is tried shared
 module _ {O : Type 0} (lines : ℕ) (r : Running O) (step : O → List ℕ → List ℕ → List ℕ × List ℕ) (reads : O → List ℕ → Bool) (lawful : List ℕ → Type 0) (q found : ℕ) (before after : Seated) (held : Right) where
@@ -183,22 +195,22 @@ refused n first mid last few one same =
     subst (λ (s : Seated). (s.known.local.steps < first.known.local.steps + 2) × StoresAsMany first.known s.known) (sym same) (let a = one.0 in (omega (arith, a, few), one.1))
 
 -- one run, and then another or none
-pub runs_end : (n : ℕ) (first mid last : Seated) (made : Bool) → Counts n first.known mid.known → mid.known.local.limit ≡ first.known.local.limit → (made ≡ true → Counts n mid.known last.known) → (made ≡ false → last ≡ mid) → (made ≡ false → mid.known.local.limit < mid.known.local.steps + n) →
-    EndsRuns (2 * n) first.known last.known made
-runs_end n first mid last true one limit made none short =
+pub runs_end : (from n : ℕ) (first mid last : Seated) (made : Bool) → CopiesOn from from first.known last.known → Counts n first.known mid.known → mid.known.local.limit ≡ first.known.local.limit → (made ≡ true → Counts n mid.known last.known) → (made ≡ false → last ≡ mid) → (made ≡ false → mid.known.local.limit < mid.known.local.steps + n) →
+    EndsRuns from (2 * n) first.known last.known made
+runs_end from n first mid last true copied one limit made none short =
     let two = made refl in
     let a = one.0 in
     let b = two.0 in
-    record { stores = two.1 ∙ one.1; steps = λ is. omega (arith, a, b); short = λ is. absurd (false≢true (sym is)) }
-runs_end n first mid last false one limit made none short =
+    record { copied = copied; stores = two.1 ∙ one.1; steps = λ is. omega (arith, a, b); short = λ is. absurd (false≢true (sym is)) }
+runs_end from n first mid last false copied one limit made none short =
     let few = short refl in
     let a = one.0 in
-    record { stores = ap (λ (s : Seated). stores_in s.known.accesses) (none refl) ∙ one.1; steps = λ is. absurd (false≢true is); short = λ is. omega (arith, a, few, limit) }
+    record { copied = copied; stores = ap (λ (s : Seated). stores_in s.known.accesses) (none refl) ∙ one.1; steps = λ is. absurd (false≢true is); short = λ is. omega (arith, a, few, limit) }
 
 -- where the limit does not leave both runs, it leaves fewer steps than both take
-pub left_of_runs : (n : ℕ) (first mid last : Seated) → EndsRuns n first.known mid.known false → beside_copy last ≡ beside_copy first → StoresAsMany mid.known last.known → IsWithinLimit last.known.local → last.known.local.steps ≤ max_word →
+pub left_of_runs : (from n : ℕ) (first mid last : Seated) → EndsRuns from n first.known mid.known false → beside_copy last ≡ beside_copy first → StoresAsMany mid.known last.known → IsWithinLimit last.known.local → last.known.local.steps ≤ max_word →
     (last.known.local.steps < first.known.local.steps + n) × StoresAsMany first.known last.known
-left_of_runs n first mid last runs same stores within small =
+left_of_runs from n first mid last runs same stores within small =
     let short = runs.short refl in
     let limit : last.known.local.limit ≡ first.known.local.limit = ap (λ (s : Seated). s.known.local.limit) same in
     let most : last.known.local.steps ≤ last.known.local.limit = elim (cases_lt last.known.local.limit max_word) [ inl few ↦ within few | inr none ↦ omega (arith, none, small) ] in

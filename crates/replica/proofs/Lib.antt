@@ -8,6 +8,4 @@ mod Runs
 pub mod Replaying
 pub mod Persisting
 mod Renewing
-pub mod Updating
 pub mod Stepping
-pub mod Protecting

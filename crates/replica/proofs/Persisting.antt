@@ -4,6 +4,7 @@ use Rattle.std.proofs.lemmas.Bool.{cases_eq, ne_eqb}
 use Rattle.std.proofs.lemmas.List.Elements.{All-filter, All-nil, Contains-append_cases, Contains-push_cases}
 use Rattle.std.specs.List.{Contains}
 use Rattle.std.specs.Option.{option_map}
+use Rattle.cx_base.specs.declared.object.Object.{Ghosts}
 use Rattle.cx_core.specs.declared.kinds.Kind.TheVariants.{Persist}
 use Rattle.cx_core.specs.declared.local.HeldExclusive.{HeldExclusive}
 use Rattle.cx_core.specs.Region.{region_words}
@@ -53,31 +54,31 @@ unpersisted : (at : ℕ) (o : Option HeldExclusive) → option_map but_words (op
 unpersisted at None = refl
 unpersisted at (Some h) = refl
 
-module _ {O : Type 0} (lines : ℕ) (r : Running O) (step : O → List ℕ → List ℕ → List ℕ × List ℕ) (reads : O → List ℕ → Bool) (lawful : List ℕ → Type 0) (held : Right) (at : ℕ) (before after : Seated) where
-  pub persists : Steps r step reads (Persist held.replica at) 0 before after → Persists held.replica before after
-  persists s = record {
-    accesses = ap (λ (t : Seated). t.known.accesses) s.made;
-    rest = ap (beside_held held.replica) s.made
-        ∙ ap (λ n. beside before n (option_map but_words (option_map (persisted at) before.known.local.exclusive)) (option_map (but_loaded held.replica) before.known.local.shared)) (append-nil before.known.noted)
-        ∙ ap (λ o. beside before before.known.noted o (option_map (but_loaded held.replica) before.known.local.shared)) (unpersisted at before.known.local.exclusive);
-  }
-
-  dirty_after : (P Q : List ℕ → Type 0) → Steps r step reads (Persist held.replica at) 0 before after → P [] → ((xs : List ℕ) → Q xs → P (filter (λ x. cond (x == at) false true) xs)) → Q (held_dirty before.known.local.exclusive) → P (held_dirty after.known.local.exclusive)
+module _ {O : Type 0} (o : Ghosts O) (r : Running O) (held : Right) (at : ℕ) (before after : Seated) where
+  dirty_after : (P Q : List ℕ → Type 0) → Steps r o.step o.only_reads (Persist held.replica at) 0 before after → P [] → ((xs : List ℕ) → Q xs → P (filter (λ x. cond (x == at) false true) xs)) → Q (held_dirty before.known.local.exclusive) → P (held_dirty after.known.local.exclusive)
   dirty_after P Q s none on q = subst (λ (t : Seated). P (held_dirty t.known.local.exclusive)) (sym s.made) (dirty_persisted P Q at before.known.local.exclusive none on q)
 
-  pub held_persisted : Steps r step reads (Persist held.replica at) 0 before after → IsHeld lines r lawful before held → IsHeld lines r lawful after held
-  held_persisted s of =
-      let p = persists s in
-      let Below : List ℕ → Type 0 = All (λ i. i < region_words lines) in
+  pub persists : Steps r o.step o.only_reads (Persist held.replica at) 0 before after → IsHeld (o.line_count r.object) r (o.lawful r.object) before held → Persists o r held before after
+  persists s of =
+      let accesses : after.known.accesses ≡ before.known.accesses = ap (λ (t : Seated). t.known.accesses) s.made in
+      let rest : beside_held held.replica after ≡ beside_held held.replica before =
+      ap (beside_held held.replica) s.made
+      ∙ ap (λ n. beside before n (option_map but_words (option_map (persisted at) before.known.local.exclusive)) (option_map (but_loaded held.replica) before.known.local.shared)) (append-nil before.known.noted)
+      ∙ ap (λ e. beside before before.known.noted e (option_map (but_loaded held.replica) before.known.local.shared)) (unpersisted at before.known.local.exclusive) in
+      let below : ℕ → Type 0 = λ i. i < region_words (o.line_count r.object) in
       record {
-        sized = of.sized;
-        of = s.seat;
-        right = still_exclusive r.callers held.replica before after held p.rest of.right;
-        some = subst (SomeFits lines lawful r.base) (sym p.accesses) of.some;
-        dirty = dirty_after Below Below s (All-nil (λ i. i < region_words lines)) (λ xs all. All-filter (λ x. cond (x == at) false true) (λ i. i < region_words lines) xs all) of.dirty;
+        still = record {
+          sized = of.sized;
+          of = s.seat;
+          right = still_exclusive r.callers held.replica before after held rest of.right;
+          some = subst (SomeFits (o.line_count r.object) (o.lawful r.object) r.base) (sym accesses) of.some;
+          dirty = dirty_after (All below) (All below) s (All-nil below) (λ xs all. All-filter (λ x. cond (x == at) false true) below xs all) of.dirty;
+        };
+        accesses = accesses;
+        rest = rest;
       }
 
-  pub fewer_persisted : Steps r step reads (Persist held.replica at) 0 before after → Contains (held_dirty before.known.local.exclusive) at → length (held_dirty after.known.local.exclusive) < length (held_dirty before.known.local.exclusive)
+  pub fewer_persisted : Steps r o.step o.only_reads (Persist held.replica at) 0 before after → Contains (held_dirty before.known.local.exclusive) at → length (held_dirty after.known.local.exclusive) < length (held_dirty before.known.local.exclusive)
   fewer_persisted s dirty =
       subst (λ (t : Seated). length (held_dirty t.known.local.exclusive) < length (held_dirty before.known.local.exclusive)) (sym s.made) (by before.known.local.exclusive dirty)
     where

@@ -6,6 +6,7 @@ use Rattle.std.proofs.Props.{props}
 use Rattle.std.proofs.lemmas.Bool.{cases_eq, true≢false}
 use Rattle.std.proofs.lemmas.List.Elements.{All-head, All-push, All-tail}
 use Rattle.std.proofs.lemmas.List.{get_or-set_other, get_or-set_same, length-set}
+use Rattle.cx_base.specs.declared.object.Object.{Ghosts}
 use Rattle.cx_base.specs.Memory.{Becomes}
 use Rattle.cx_base.specs.Noted.{Note, NotesLead}
 use Rattle.cx_core.specs.declared.entry.Base.{Base}
@@ -19,10 +20,13 @@ use Rattle.cx_core.proofs.KeepLemmas as keep
 use Rattle.cx_rule.specs.declared.rule.Known.{Known}
 use Rattle.cx_rule.specs.declared.rule.Noted.{Noted}
 use Rattle.cx_rule.specs.Fitting.{Fits, IsNoted, ReplayedTo, SomeFits, base_of, start, with_entry, with_set}
-use Rattle.cx_rule.specs.Seats.{place_noted}
+use Rattle.cx_rule.specs.Running.{Running}
+use Rattle.cx_rule.specs.Seats.{Seated, place_noted}
+use Rattle.cx_table.specs.Right.{Right}
+use Rattle.replica.specs.Held.{Accesses}
 use Rattle.replica.specs.Regions.{HasPlace}
 use Rattle.replica.proofs.RegionLaws.{loaded_place}
-use Rattle.replica.specs.Replays.{IsImage, StoresNone}
+use Rattle.replica.specs.Replays.{Accessed, CanStep, ComesNext, IsImage, IsReady, StoresNone, noted_place}
 
 -- ---- the place that was noted
 
@@ -148,15 +152,26 @@ module _ (lines : ℕ) (lawful : List ℕ → Type 0) (base : Base) (step : List
         noted 0,
       )
 
-module _ {E : Type 0} (lines : ℕ) (lawful : List ℕ → Type 0) (base : Base) (step : List ℕ → List ℕ → List ℕ × List ℕ) (old new : Known) where
+module _ {O : Type 0} (o : Ghosts O) (r : Running O) (held : Right) where
   -- whether the load was made or not
-  pub begins_after : (result : Result ℕ E) → StoresNone old.accesses → IfOk result (λ v. new.accesses ≡ old.accesses ++ (false, 0, v) ∷ []) →
-      OnOk result (IsImage lines lawful base step new) × IfOk result (λ v. place_noted 0 new.accesses ≡ v)
-  begins_after (Ok v) none made = begins lines lawful base step old new v none made
-  begins_after (Err e) none made = (tt, tt)
+  pub begins_ready : {E : Type 0} (before after : Seated) (result : Result ℕ E) → StoresNone before.known.accesses → IfOk result (λ v. Accesses (o.line_count r.object) r (o.lawful r.object) held (false, 0, v) before after) → IfOk result (λ v. IsReady o r held v after)
+  begins_ready before after (Ok v) none made =
+      let image = begins (o.line_count r.object) (o.lawful r.object) r.base (o.step r.object) before.known after.known v none made.accesses in
+      record { is_held = made.still; image = image.0; place = image.1 }
+  begins_ready before after (Err e) none made = tt
 
-  -- whether the full step was done or not
-  pub image_after : {X : Type 0} → ObjectLaws lines lawful step → (entry : Entry) (result : Result X E) → new.noted ≡ old.noted → HasPlace new.accesses → SomeFits lines lawful base new.accesses → IsImage lines lawful base step old → IsNoted old.noted (place_noted 0 old.accesses) entry → IsLawfulEntry (place_noted 0 old.accesses) entry → place_noted 0 old.accesses < 2 ^ 40 →
-      OnOk result (Becomes (Fits lines lawful base old.accesses) (Fits lines lawful base new.accesses) (λ before now. now ≡ full_step_of step entry before)) → OnOk result (IsImage lines lawful base step new) × OnOk result (place_noted 0 new.accesses ≡ place_noted 0 old.accesses + 1)
-  image_after laws entry (Ok x) same begun some image noted is small becomes = next_image lines lawful base step laws old new entry same begun some image noted is small becomes
-  image_after laws entry (Err e) same begun some image noted is small becomes = (tt, tt)
+  -- a full step can be done on an image before the last place
+  pub can_step : (at : ℕ) (seat : Seated) → IsReady o r held at seat → place_noted 0 seat.known.accesses < 2 ^ 40 → CanStep o r seat
+  can_step at seat ready small = record {
+    place = image_below (o.line_count r.object) (o.lawful r.object) r.base (o.step r.object) seat.known (2 ^ 40) ready.image small;
+    object = image_object (o.line_count r.object) (o.lawful r.object) r.base (o.step r.object) seat.known ready.image;
+    begun = ready.image.begun;
+  }
+
+  -- whether it was done or not
+  pub steps_ready : {X E : Type 0} (entry : Entry) (before after : Seated) → ObjectLaws (o.line_count r.object) (o.lawful r.object) (o.step r.object) → (result : Result X E) → IsImage (o.line_count r.object) (o.lawful r.object) r.base (o.step r.object) before.known → ComesNext entry before → Accessed o r held before after →
+      OnOk result (Becomes (Fits (o.line_count r.object) (o.lawful r.object) r.base before.known.accesses) (Fits (o.line_count r.object) (o.lawful r.object) r.base after.known.accesses) (λ first now. now ≡ full_step_of (o.step r.object) entry first)) → OnOk result (IsReady o r held (noted_place before + 1) after)
+  steps_ready entry before after laws (Ok x) image next leaves becomes =
+      let on = next_image (o.line_count r.object) (o.lawful r.object) r.base (o.step r.object) laws before.known after.known entry (ap (λ (s : Seated). s.known.noted) leaves.rest) leaves.begun leaves.still.some image next.noted next.lawful next.small becomes in
+      record { is_held = leaves.still; image = on.0; place = on.1 }
+  steps_ready entry before after laws (Err e) image next leaves becomes = tt

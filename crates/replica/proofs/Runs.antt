@@ -1,10 +1,15 @@
 -- What the loads of a run tell together.
-use Rattle.std.proofs.Common.{◌≡◌, ◌+◌, ◌<◌, ℕ, List, [], ◌∷◌, ◌++◌, length, set, slice_index, take, ap, sym, subst, ◌∙◌, arith, below_more, length-append}
+use Rattle.std.proofs.Common.{◌≡◌, ◌+◌, ◌<◌, ℕ, Bool, List, [], ◌∷◌, ◌++◌, length, set, slice_index, take, ap, sym, subst, ◌∙◌, arith, below_more, length-append}
 use Rattle.std.proofs.lemmas.List.{get_or_append_left, length-take-le, take_all, take_more_set}
 use Rattle.std.proofs.Math.Seq.{get_or-append_seam}
 use Rattle.cx_base.specs.Memory.{AreAt, Loaded, Reads}
 use Rattle.cx_base.proofs.ReadLemmas.{Reads-load, Reads-none}
+use Rattle.cx_core.specs.declared.kinds.Kind.{Kind}
+use Rattle.cx_rule.specs.Fitting.{Fitting}
+use Rattle.cx_rule.specs.Running.{Running}
 use Rattle.cx_rule.specs.Seats.{Seated}
+use Rattle.cx_rule.specs.Steps.{Steps}
+use Rattle.cx_table.specs.Runs.{Runs, one_more_step}
 use Rattle.replica.specs.Held.{LoadsRun, no_load, one_more_load}
 
 -- one word more stands behind others
@@ -16,16 +21,17 @@ one_more_at from v words now so_far is i below =
     (is ∙ sym (get_or-append_seam words v [] 0))
     i (let long = length-append words (v ∷ []) in omega (arith, long, below))
 
-module _ (load : ℕ → ℕ → Seated → Seated → Type 0) (from : ℕ) where
-  -- one word more was loaded
-  pub run_more : (words : List ℕ) (i v : ℕ) (before mid after : Seated) → i < length words → LoadsRun load from (take i words) before mid → load (from + i) v mid after → LoadsRun load from (take (i + 1) (set words i v)) before after
-  run_more words i v before mid after below run last =
-      one_more_load _ _ _ (take i words) v mid (take_more_set words i v below) run (subst (λ k. load (from + k) v mid after) (sym (length-take-le i words (omega arith))) last)
+module _ {O : Type 0} (r : Running O) (step : O → List ℕ → List ℕ → List ℕ × List ℕ) (reads : O → List ℕ → Bool) (lawful : List ℕ → Type 0) (kinds : ℕ → Kind) where
+  -- one step more was made
+  pub run_more : (words : List ℕ) (i v : ℕ) (before mid after : Seated) → i < length words → Runs r step reads lawful kinds (take i words) before mid → Steps r step reads (kinds i) v mid after → Fitting r.lines lawful r.base after.known → Runs r step reads lawful kinds (take (i + 1) (set words i v)) before after
+  run_more words i v before mid after below run last fits =
+      one_more_step _ _ _ (take i words) v mid (take_more_set words i v below) run (subst (λ k. Steps r step reads (kinds k) v mid after) (sym (length-take-le i words (omega arith))) last) fits
 
   -- all the words are the first so many of them
-  pub run_whole : (words : List ℕ) (before after : Seated) → LoadsRun load from words before after → (n : ℕ) × LoadsRun load from (take n words) before after
-  run_whole words before after run = (length words, subst (λ ws. LoadsRun load from ws before after) (sym (take_all (length words) words (omega arith))) run)
+  pub run_whole : (words : List ℕ) (before after : Seated) → Runs r step reads lawful kinds words before after → (n : ℕ) × Runs r step reads lawful kinds (take n words) before after
+  run_whole words before after run = (length words, subst (λ ws. Runs r step reads lawful kinds ws before after) (sym (take_all (length words) words (omega arith))) run)
 
+module _ (load : ℕ → ℕ → Seated → Seated → Type 0) (from : ℕ) where
   -- what each load keeps is kept
   pub run_keeps : (P : Seated → Type 0) → ((at v : ℕ) (before after : Seated) → load at v before after → P before → P after) → (words : List ℕ) (before after : Seated) → LoadsRun load from words before after → P before → P after
   run_keeps P each words before after (no_load _ _ _ none same) was = subst P (sym same) was

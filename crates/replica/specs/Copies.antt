@@ -1,18 +1,21 @@
 -- A replica held shared that is copied over one held exclusively.
-use Rattle.std.specs.Prelude.{◌≡◌, ◌≢◌, ◌+◌, ◌<◌, ◌≤◌, ◌⊎◌, ℕ, Bool, IsTrue, false, if◌then◌else◌, List, [], ◌∷◌, length, slice_index, Some, None, Result, Ok, Err}
+use Rattle.std.specs.Prelude.{◌≡◌, ◌≢◌, ◌+◌, ◌%◌, ◌<◌, ◌≤◌, ◌⊎◌, ℕ, Bool, IsTrue, false, if◌then◌else◌, List, [], ◌∷◌, length, slice_index, Some, None, Result, Ok, Err}
 use Rattle.std.specs.List.{Contains}
 use Rattle.std.specs.Option.{option_map}
+use Rattle.cx_base.specs.declared.object.Object.{Ghosts}
 use Rattle.cx_base.specs.Noted.{Note, NotesLead}
 use Rattle.cx_core.specs.declared.kinds.Kind.TheVariants.{LoadWord}
+use Rattle.cx_core.specs.Region.{region_words}
 use Rattle.cx_core.specs.Rights.{held_dirty}
 use Rattle.cx_core.specs.State.{Instance}
 use Rattle.cx_rule.specs.declared.rule.Known.{Known}
 use Rattle.cx_core.specs.declared.local.HeldShared.{HeldShared}
-use Rattle.cx_rule.specs.Fitting.{AgreeTo, loaded_of, loads_of, word_noted}
+use Rattle.cx_rule.specs.Fitting.{AgreeTo, AreEqual, loaded_of, loads_of, word_noted}
 use Rattle.cx_rule.specs.Running.{Running}
 use Rattle.cx_rule.specs.Seats.{Seated, known_after}
 use Rattle.cx_table.specs.Right.{Right}
 use Rattle.replica.specs.Held.{IsHeld, IsHeldShared, but_words}
+use Rattle.replica.specs.Replays.{IsReady, noted_place}
 
 -- a seat holds one replica exclusively and another shared
 pub record HoldsBoth {O : Type 0} (lines : ℕ) (r : Running O) (lawful : List ℕ → Type 0) (seat : Seated) (held source : Right) : Type 0 where
@@ -32,6 +35,11 @@ beside_copy s = record s {
     accesses = [];
   };
 }
+
+-- whatever was copied, both are held still, and what a copy does not change is as it was
+pub record LeavesCopied {O : Type 0} (o : Ghosts O) (r : Running O) (held source : Right) (before after : Seated) : Type 0 where
+  pub both : HoldsBoth (o.line_count r.object) r (o.lawful r.object) after held source
+  pub rest : beside_copy after ≡ beside_copy before
 
 -- the same with no replica held shared
 abbrev pub without_shared : Seated → Seated
@@ -78,6 +86,43 @@ pub record IsCopiedTo (n region : ℕ) (before now : Known) : Type 0 where
 abbrev pub CopiesOn : ℕ → ℕ → Known → Known → Type 0
 CopiesOn n m before after = (region : ℕ) (first : Known) → m ≤ region → IsCopiedTo n region first before → IsCopiedTo m region first after
 
+-- the words of a region from one on, loaded of both
+pub record ArePiece (lines from : ℕ) (us vs : List ℕ) : Type 0 where
+  pub within : from + length us ≤ region_words lines
+  pub lengths : length vs ≡ length us
+
+-- the words of up to 8 lines
+pub record AreLines (lines from : ℕ) (us vs : List ℕ) : Type 0 where
+  pub piece : ArePiece lines from us vs
+  pub few : length us ≤ 64
+  pub whole : length us % 8 ≡ 0
+
+-- the words of a piece from a line on were loaded, and what was loaded stands
+pub record SeesLine (lines from first : ℕ) (us vs : List ℕ) (known : Known) : Type 0 where
+  pub piece : ArePiece lines from us vs
+  pub line : first + 8 ≤ length us
+  pub seen : AreSeen from first (length us) us vs known
+
+-- a copy went on from one word to another, and the words of a piece from one on are as they were loaded
+pub record CopiesPiece (from n m least : ℕ) (us vs : List ℕ) (before after : Known) : Type 0 where
+  pub seen : AreSeen from least (length us) us vs after
+  pub copied : CopiesOn n m before after
+
+-- A replica held shared was copied over one held exclusively, which then has its words and this place.
+pub record Copies {O : Type 0} (o : Ghosts O) (r : Running O) (at : ℕ) (before after : Seated) : Type 0 where
+  pub agree : AgreeTo after.known (region_words (o.line_count r.object))
+  pub equal : AreEqual (o.line_count r.object) (o.lawful r.object) r.base after.known
+  pub differed : DirtiesDiffering (region_words (o.line_count r.object)) before.known after.known
+  pub place : noted_place after ≡ at
+  pub loaded : KeepsLoaded before after
+
+-- One was, whose shared right was given back: the replica is the image after this place, which is the one that was loaded before, if
+-- it was.
+pub record Renews {O : Type 0} (o : Ghosts O) (r : Running O) (held : Right) (at : ℕ) (before after : Seated) : Type 0 where
+  pub ready : IsReady o r held at after
+  pub placed : (p : ℕ) → Contains (loaded_of before.known.local.shared) (0, p) → noted_place after ≡ p
+  pub rest : beside_copy after ≡ without_shared (beside_copy before)
+
 -- ---- the steps of a copy
 
 -- how many of the accesses noted are stores
@@ -95,7 +140,8 @@ EndsLoads n before after (Ok x) = (after.local.steps ≤ before.local.steps + n)
 EndsLoads n before after (Err e) = (after.local.steps < before.local.steps + n) × StoresAsMany before after
 
 -- The same of words that are loaded by one call each, where the limit leaves so many steps.
-pub record EndsRuns (n : ℕ) (before after : Known) (made : Bool) : Type 0 where
+pub record EndsRuns (from n : ℕ) (before after : Known) (made : Bool) : Type 0 where
+  pub copied : CopiesOn from from before after
   pub stores : StoresAsMany before after
   pub steps : IsTrue made → after.local.steps ≤ before.local.steps + n
   pub short : made ≡ false → before.local.limit < before.local.steps + n

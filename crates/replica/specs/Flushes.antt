@@ -1,8 +1,11 @@
 -- A replica held exclusively whose stored words are persisted.
 use Rattle.std.specs.Prelude.{◌≡◌, ◌<◌, ℕ, [], length, Result, Ok, Err}
+use Rattle.cx_base.specs.declared.object.Object.{Ghosts}
 use Rattle.cx_core.specs.Rights.{held_dirty}
+use Rattle.cx_rule.specs.Running.{Running}
 use Rattle.cx_rule.specs.Seats.{IsAtLimit, Seated}
-use Rattle.replica.specs.Held.{beside_held}
+use Rattle.cx_table.specs.Right.{Right}
+use Rattle.replica.specs.Held.{IsHeld, beside_held}
 
 -- no word is dirty
 abbrev pub IsFlushed : Seated → Type 0
@@ -17,7 +20,8 @@ abbrev pub EndsFlushing : {A E : Type 0} → Seated → Result A E → Type 0
 EndsFlushing seat (Ok x) = IsFlushed seat
 EndsFlushing seat (Err e) = HaltsFlushing seat
 
--- words were persisted: beside what is dirty and the steps nothing is changed
-pub record Persists (replica : ℕ) (before after : Seated) : Type 0 where
+-- words of a replica held exclusively were persisted: beside what is dirty and the steps nothing is changed
+pub record Persists {O : Type 0} (o : Ghosts O) (r : Running O) (held : Right) (before after : Seated) : Type 0 where
+  pub still : IsHeld (o.line_count r.object) r (o.lawful r.object) after held
   pub accesses : after.known.accesses ≡ before.known.accesses
-  pub rest : beside_held replica after ≡ beside_held replica before
+  pub rest : beside_held held.replica after ≡ beside_held held.replica before

@@ -1,6 +1,7 @@
 -- A replica that a caller holds: whose it is, and what an access of it changes.
 use Rattle.std.specs.Prelude.{false, ◌≡◌, ◌+◌, ◌-◌, ◌<◌, ◌≤◌, ◌==◌, if◌then◌else◌, nat_lt, ℕ, All, List, [], ◌∷◌, ◌++◌, length, Option, Some, None}
 use Rattle.std.specs.Option.{option_map}
+use Rattle.cx_base.specs.declared.object.Object.{Ghosts}
 use Rattle.cx_base.specs.Noted.{Note}
 use Rattle.cx_core.specs.declared.local.HeldExclusive.{HeldExclusive}
 use Rattle.cx_core.specs.declared.local.HeldShared.{HeldShared}
@@ -68,6 +69,11 @@ beside_shared r s = record s {
     accesses = if is_at r (exclusive_on s.known.local) then [] else s.known.accesses;
   };
 }
+
+-- whatever accesses of a replica held exclusively were made, it is held still, and what no access changes is as it was
+pub record LeavesHeld {O : Type 0} (o : Ghosts O) (r : Running O) (held : Right) (before after : Seated) : Type 0 where
+  pub still : IsHeld (o.line_count r.object) r (o.lawful r.object) after held
+  pub rest : beside_held held.replica after ≡ beside_held held.replica before
 
 -- an access of a replica held exclusively was made: it is noted, and nothing else is changed
 pub record Accesses {O : Type 0} (lines : ℕ) (r : Running O) (lawful : List ℕ → Type 0) (held : Right) (note : Note) (before after : Seated) : Type 0 where

@@ -6,4 +6,3 @@ pub mod Flushes
 pub mod Copies
 pub mod Laws
 pub mod Stepping
-pub mod Tests

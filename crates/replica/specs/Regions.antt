@@ -8,23 +8,43 @@ use Rattle.cx_core.specs.Region.{region_words}
 use Rattle.cx_rule.specs.Fitting.{Fits, ReadFits, loads_of}
 use Rattle.cx_rule.specs.Seats.{Seated, place_noted}
 use Rattle.cx_table.specs.Right.{Right}
+use Rattle.replica.specs.Held.{beside_held}
 
--- what no access of a region changes: the reference to the seat, the board, the token, whether the place was accessed before, and the seat
+-- what no access of a region changes: the reference to the seat, the table, the token, whether the place was accessed before, and the seat
 -- but for what an access changes
-pub record RegionFixed (Name Board : Type 0) : Type 0 where
+pub record RegionFixed (Name Table : Type 0) : Type 0 where
   pub name : Name
-  pub board : Board
+  pub table : Table
   pub held : Right
   pub placed : Bool
   pub rest : Seated
 
+abbrev pub region_fixed : {Name Table : Type 0} → Name → Table → Right → Bool → Seated → RegionFixed Name Table
+region_fixed name table held placed seat = record { name = name; table = table; held = held; placed = placed; rest = beside_held held.replica seat }
+
+-- it is the same region
+pub record SameRegion {Name Table : Type 0} (before after : RegionFixed Name Table) : Type 0 where
+  pub name : after.name ≡ before.name
+  pub table : after.table ≡ before.table
+  pub held : after.held ≡ before.held
+  pub placed : after.placed ≡ before.placed
+  pub rest : after.rest ≡ before.rest
+
 -- the same of a region for loads, where the place may have been loaded before
-pub record ReadFixed (Name Board : Type 0) : Type 0 where
+pub record ReadFixed (Name Table : Type 0) : Type 0 where
   pub name : Name
-  pub board : Board
+  pub table : Table
   pub held : Right
   pub placed : Option ℕ
   pub rest : Seated
+
+-- a region is over this table, seat and right, and it is known of its place whether, or as what, it was accessed before
+pub record IsRegionOf {Name Table Placed : Type 0} (n n' : Name) (t t' : Table) (s s' : Seated) (h h' : Right) (p p' : Placed) : Type 0 where
+  pub name : n' ≡ n
+  pub table : t' ≡ t
+  pub seat : s' ≡ s
+  pub held : h' ≡ h
+  pub placed : p' ≡ p
 
 -- the place is among the words loaded or stored
 abbrev pub HasPlace : List Note → Type 0

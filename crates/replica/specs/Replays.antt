@@ -1,11 +1,19 @@
 -- A replica held exclusively that is the image after its place, by noted entries.
-use Rattle.std.specs.Prelude.{false, ◌≡◌, ℕ, All, List}
+use Rattle.std.specs.Prelude.{false, ◌≡◌, ◌<◌, ◌^◌, ℕ, All, List}
+use Rattle.cx_base.specs.declared.object.Object.{Ghosts}
+use Rattle.cx_base.specs.Memory.{Always}
 use Rattle.cx_base.specs.Noted.{Note}
 use Rattle.cx_core.specs.declared.entry.Base.{Base}
+use Rattle.cx_core.specs.declared.entry.Entry.{Entry}
 use Rattle.cx_core.specs.Base.{LawfulBase}
+use Rattle.cx_core.specs.History.{IsLawfulEntry}
+use Rattle.cx_core.specs.Region.{object_part, place_of}
 use Rattle.cx_rule.specs.declared.rule.Known.{Known}
-use Rattle.cx_rule.specs.Fitting.{Fits, IsReplayedToPlace, base_of}
-use Rattle.cx_rule.specs.Seats.{Seated, place_noted}
+use Rattle.cx_rule.specs.Fitting.{Fits, IsNoted, IsReplayedToPlace, base_of}
+use Rattle.cx_rule.specs.Running.{Running}
+use Rattle.cx_rule.specs.Seats.{IsWithinLimit, Seated, place_noted}
+use Rattle.cx_table.specs.Right.{Right}
+use Rattle.replica.specs.Held.{IsHeld, beside_held}
 use Rattle.replica.specs.Regions.{HasPlace}
 
 -- no access is a store
@@ -22,3 +30,28 @@ pub record IsImage (lines : ℕ) (lawful : List ℕ → Type 0) (base : Base) (s
   pub begun : HasPlace known.accesses
   pub replayed : IsReplayedToPlace lines lawful base step known
   pub law : (first now : List ℕ) → Fits lines lawful base known.accesses first now → LawfulBase lines lawful (base_of now)
+
+-- a replica is held exclusively that is the image after this place
+pub record IsReady {O : Type 0} (o : Ghosts O) (r : Running O) (held : Right) (at : ℕ) (seat : Seated) : Type 0 where
+  pub is_held : IsHeld (o.line_count r.object) r (o.lawful r.object) seat held
+  pub image : IsImage (o.line_count r.object) (o.lawful r.object) r.base (o.step r.object) seat.known
+  pub place : noted_place seat ≡ at
+
+-- an entry is noted at the place of the replica held exclusively, and it is one that may come there
+pub record ComesNext (entry : Entry) (seat : Seated) : Type 0 where
+  pub noted : IsNoted seat.known.noted (noted_place seat) entry
+  pub lawful : IsLawfulEntry (noted_place seat) entry
+  pub small : noted_place seat < 2 ^ 40
+
+-- whatever fits the accesses of the replica held exclusively, a full step can be done on it
+pub record CanStep {O : Type 0} (o : Ghosts O) (r : Running O) (seat : Seated) : Type 0 where
+  pub place : Always (Fits (o.line_count r.object) (o.lawful r.object) r.base seat.known.accesses) (λ region. place_of region < 2 ^ 40)
+  pub object : Always (Fits (o.line_count r.object) (o.lawful r.object) r.base seat.known.accesses) (λ region. o.lawful r.object (object_part region))
+  pub begun : HasPlace seat.known.accesses
+
+-- what a full step leaves, whether it was done or not
+pub record Accessed {O : Type 0} (o : Ghosts O) (r : Running O) (held : Right) (before after : Seated) : Type 0 where
+  pub still : IsHeld (o.line_count r.object) r (o.lawful r.object) after held
+  pub begun : HasPlace after.known.accesses
+  pub within : IsWithinLimit after.known.local
+  pub rest : beside_held held.replica after ≡ beside_held held.replica before

@@ -1,15 +1,12 @@
 //! A replica held shared is copied over one held exclusively.
 
-ghost use Rattle.std.specs.Prelude.{◌≡◌, ◌+◌, ◌*◌, ◌%◌, ◌<◌, ◌≤◌, ℕ, IfOk, IsTrue, OnErr, OnOk, length};
-ghost use Rattle.std.specs.List.{Contains};
+ghost use Rattle.std.specs.Prelude.{◌≡◌, ◌+◌, ◌*◌, ◌<◌, ◌≤◌, IfOk, IsTrue, OnErr, OnOk, length};
 ghost use Rattle.cx_core.specs.declared.kinds.Kind.TheVariants.{StoreWord};
 ghost use Rattle.cx_core.specs.Region.{region_words};
-ghost use Rattle.cx_rule.specs.Fitting.{AgreeTo, AreEqual, loaded_of};
 ghost use Rattle.cx_rule.specs.Running.{IsSeatOf, instance_at};
 ghost use Rattle.cx_rule.specs.Seats.{IsAtLimit, known_after};
-ghost use Rattle.replica.specs.Copies.{AreSeen, CopiesOn, DirtiesDiffering, EndsCopy, EndsLoads, EndsRuns, HoldsBoth, KeepsLoaded, beside_copy, known_compared, without_shared};
-ghost use Rattle.replica.specs.Held.{IsHeld};
-ghost use Rattle.replica.specs.Replays.{IsImage, noted_place};
+ghost use Rattle.cx_rule.specs.Steps.{Halts};
+ghost use Rattle.replica.specs.Copies.{AreLines, ArePiece, AreSeen, Copies, CopiesOn, CopiesPiece, EndsCopy, EndsLoads, EndsRuns, HoldsBoth, LeavesCopied, Renews, SeesLine, beside_copy, known_compared};
 
 use cx_base::{Halt, Object};
 use cx_core::{HEAD_LINES, LINE_WORDS};
@@ -38,14 +35,9 @@ pub fn copy_from<O: Object>(
     source: &SharedHold,
 ) -> Result<u64, Halt>
     requires { HoldsBoth (O.line_count shared.now.object) shared.now (O.lawful shared.now.object) seat.old held.now source.now }
-    ensures both { HoldsBoth (O.line_count shared.now.object) shared.now (O.lawful shared.now.object) seat.new held.now source.now }
-    ensures copied { OnOk result (AgreeTo seat.new.known (region_words (O.line_count shared.now.object))) }
-    ensures equal { OnOk result (AreEqual (O.line_count shared.now.object) (O.lawful shared.now.object) shared.now.base seat.new.known) }
-    ensures differed { OnOk result (DirtiesDiffering (region_words (O.line_count shared.now.object)) seat.old.known seat.new.known) }
-    ensures place { IfOk result (λ place. noted_place seat.new ≡ place) }
-    ensures loaded { OnOk result (KeepsLoaded seat.old seat.new) }
+    ensures copied { IfOk result (λ place. Copies O.Object shared.now place seat.old seat.new) }
     ensures steps { EndsCopy (2 * region_words (O.line_count shared.now.object)) (region_words (O.line_count shared.now.object)) seat.old.known seat.new.known result }
-    ensures rest { beside_copy seat.new ≡ beside_copy seat.old }
+    ensures leaves { LeavesCopied O.Object shared.now held.now source.now seat.old seat.new }
     ensures halts { OnErr result (IsAtLimit seat.new.known.local) }
 {
     let lines = HEAD_LINES + shared.lines();
@@ -80,11 +72,7 @@ pub fn renew_from<O: Object>(
     source: SharedHold,
 ) -> Result<u64, Halt>
     requires { HoldsBoth (O.line_count shared.now.object) shared.now (O.lawful shared.now.object) seat.old held.now source }
-    ensures held { OnOk result (IsHeld (O.line_count shared.now.object) shared.now (O.lawful shared.now.object) seat.new held.now) }
-    ensures image { OnOk result (IsImage (O.line_count shared.now.object) (O.lawful shared.now.object) shared.now.base (O.step shared.now.object) seat.new.known) }
-    ensures place { IfOk result (λ place. noted_place seat.new ≡ place) }
-    ensures placed { OnOk result ((p : ℕ) → Contains (loaded_of seat.old.known.local.shared) (0, p) → noted_place seat.new ≡ p) }
-    ensures rest { OnOk result (beside_copy seat.new ≡ without_shared (beside_copy seat.old)) }
+    ensures renewed { IfOk result (λ place. Renews O.Object shared.now held.now place seat.old seat.new) }
     ensures still { OnErr result (beside_copy seat.new ≡ beside_copy seat.old) }
     ensures seat { IsSeatOf shared.now seat.new }
     ensures halts { OnErr result (IsAtLimit seat.new.known.local) }
@@ -120,14 +108,10 @@ fn copy_piece<O: Object>(
     source_words: &mut [u64],
 ) -> Result<(), Halt>
     requires both { HoldsBoth (O.line_count shared.now.object) shared.now (O.lawful shared.now.object) seat.old held.now source.now }
-    requires from { from + length held_words.old ≤ region_words (O.line_count shared.now.object) }
-    requires few { length held_words.old ≤ 64 }
-    requires whole { length held_words.old % 8 ≡ 0 }
-    requires lengths { length source_words.old ≡ length held_words.old }
-    ensures both { HoldsBoth (O.line_count shared.now.object) shared.now (O.lawful shared.now.object) seat.new held.now source.now }
+    requires lines { AreLines (O.line_count shared.now.object) from held_words.old source_words.old }
     ensures copied { OnOk result (CopiesOn from (from + length held_words.old) seat.old.known seat.new.known) }
     ensures steps { EndsCopy (2 * length held_words.old) (region_words (O.line_count shared.now.object)) seat.old.known seat.new.known result }
-    ensures rest { beside_copy seat.new ≡ beside_copy seat.old }
+    ensures leaves { LeavesCopied O.Object shared.now held.now source.now seat.old seat.new }
     ensures halts { OnErr result (IsAtLimit seat.new.known.local) }
 {
     load_piece(shared, seat, held, source, from, held_words, source_words)?;
@@ -162,13 +146,10 @@ fn load_piece<O: Object>(
     source_words: &mut [u64],
 ) -> Result<(), Halt>
     requires both { HoldsBoth (O.line_count shared.now.object) shared.now (O.lawful shared.now.object) seat.old held.now source.now }
-    requires from { from + length held_words.old ≤ region_words (O.line_count shared.now.object) }
-    requires lengths { length source_words.old ≡ length held_words.old }
-    ensures both { HoldsBoth (O.line_count shared.now.object) shared.now (O.lawful shared.now.object) seat.new held.now source.now }
-    ensures seen { OnOk result (AreSeen from 0 (length held_words.old) held_words.new source_words.new seat.new.known) }
-    ensures copied { OnOk result (CopiesOn from from seat.old.known seat.new.known) }
+    requires piece { ArePiece (O.line_count shared.now.object) from held_words.old source_words.old }
+    ensures loaded { OnOk result (CopiesPiece from from from 0 held_words.new source_words.new seat.old.known seat.new.known) }
     ensures steps { EndsLoads (2 * length held_words.old) seat.old.known seat.new.known result }
-    ensures rest { beside_copy seat.new ≡ beside_copy seat.old }
+    ensures leaves { LeavesCopied O.Object shared.now held.now source.now seat.old seat.new }
     ensures halts { OnErr result (IsAtLimit seat.new.known.local) }
 {
     if from > 0 && load_runs(shared, seat, held, source, from, held_words, source_words) {
@@ -191,14 +172,11 @@ fn load_runs<O: Object>(
     source_words: &mut [u64],
 ) -> bool
     requires both { HoldsBoth (O.line_count shared.now.object) shared.now (O.lawful shared.now.object) seat.old held.now source.now }
-    requires from { from + length held_words.old ≤ region_words (O.line_count shared.now.object) }
-    requires lengths { length source_words.old ≡ length held_words.old }
+    requires piece { ArePiece (O.line_count shared.now.object) from held_words.old source_words.old }
     requires behind { 0 < from }
-    ensures both { HoldsBoth (O.line_count shared.now.object) shared.now (O.lawful shared.now.object) seat.new held.now source.now }
     ensures seen { IsTrue result → AreSeen from 0 (length held_words.old) held_words.new source_words.new seat.new.known }
-    ensures copied { CopiesOn from from seat.old.known seat.new.known }
-    ensures steps { EndsRuns (2 * length held_words.old) seat.old.known seat.new.known result }
-    ensures rest { beside_copy seat.new ≡ beside_copy seat.old }
+    ensures steps { EndsRuns from (2 * length held_words.old) seat.old.known seat.new.known result }
+    ensures leaves { LeavesCopied O.Object shared.now held.now source.now seat.old seat.new }
 {
     shared.load_words(seat, held.replica() as u64, from, held_words)
         && shared.load_words(seat, source.replica() as u64, from, source_words)
@@ -215,13 +193,10 @@ fn load_each<O: Object>(
     source_words: &mut [u64],
 ) -> Result<(), Halt>
     requires both { HoldsBoth (O.line_count shared.now.object) shared.now (O.lawful shared.now.object) seat.old held.now source.now }
-    requires from { from + length held_words.old ≤ region_words (O.line_count shared.now.object) }
-    requires lengths { length source_words.old ≡ length held_words.old }
-    ensures both { HoldsBoth (O.line_count shared.now.object) shared.now (O.lawful shared.now.object) seat.new held.now source.now }
-    ensures seen { OnOk result (AreSeen from 0 (length held_words.old) held_words.new source_words.new seat.new.known) }
-    ensures copied { OnOk result (CopiesOn from from seat.old.known seat.new.known) }
+    requires piece { ArePiece (O.line_count shared.now.object) from held_words.old source_words.old }
+    ensures loaded { OnOk result (CopiesPiece from from from 0 held_words.new source_words.new seat.old.known seat.new.known) }
     ensures steps { EndsLoads (2 * length held_words.old) seat.old.known seat.new.known result }
-    ensures rest { beside_copy seat.new ≡ beside_copy seat.old }
+    ensures leaves { LeavesCopied O.Object shared.now held.now source.now seat.old seat.new }
     ensures halts { OnErr result (IsAtLimit seat.new.known.local) }
 {
     for i in 0..held_words.len() {
@@ -242,10 +217,9 @@ fn load_both<O: Object>(
 ) -> Result<(u64, u64), Halt>
     requires both { HoldsBoth (O.line_count shared.now.object) shared.now (O.lawful shared.now.object) seat.old held.now source.now }
     requires at { at < region_words (O.line_count shared.now.object) }
-    ensures both { HoldsBoth (O.line_count shared.now.object) shared.now (O.lawful shared.now.object) seat.new held.now source.now }
     ensures known { IfOk result (λ words. seat.new.known ≡ known_compared (instance_at shared.now O.step O.only_reads) held.now.replica source.now.replica at words.0 words.1 seat.old.known) }
     ensures steps { EndsLoads 2 seat.old.known seat.new.known result }
-    ensures rest { beside_copy seat.new ≡ beside_copy seat.old }
+    ensures leaves { LeavesCopied O.Object shared.now held.now source.now seat.old seat.new }
     ensures halts { OnErr result (IsAtLimit seat.new.known.local) }
 {
     let old = shared.load_word(seat, held.replica() as u64, at, false)?;
@@ -265,15 +239,10 @@ fn store_line<O: Object>(
     first: usize,
 ) -> Result<(), Halt>
     requires both { HoldsBoth (O.line_count shared.now.object) shared.now (O.lawful shared.now.object) seat.old held.now source.now }
-    requires from { from + length held_words.now ≤ region_words (O.line_count shared.now.object) }
-    requires first { first + 8 ≤ length held_words.now }
-    requires lengths { length source_words.now ≡ length held_words.now }
-    requires seen { AreSeen from first (length held_words.now) held_words.now source_words.now seat.old.known }
-    ensures both { HoldsBoth (O.line_count shared.now.object) shared.now (O.lawful shared.now.object) seat.new held.now source.now }
-    ensures seen { OnOk result (AreSeen from (first + 8) (length held_words.now) held_words.now source_words.now seat.new.known) }
-    ensures copied { OnOk result (CopiesOn (from + first) (from + first + 8) seat.old.known seat.new.known) }
+    requires line { SeesLine (O.line_count shared.now.object) from first held_words.now source_words.now seat.old.known }
+    ensures stored { OnOk result (CopiesPiece from (from + first) (from + first + 8) (first + 8) held_words.now source_words.now seat.old.known seat.new.known) }
     ensures steps { EndsCopy 0 (region_words (O.line_count shared.now.object)) seat.old.known seat.new.known result }
-    ensures rest { beside_copy seat.new ≡ beside_copy seat.old }
+    ensures leaves { LeavesCopied O.Object shared.now held.now source.now seat.old seat.new }
     ensures halts { OnErr result (IsAtLimit seat.new.known.local) }
 {
     for i in first..first + LINE {
@@ -295,11 +264,9 @@ pub(crate) fn store_copied<O: Object>(
 ) -> Result<(), Halt>
     requires both { HoldsBoth (O.line_count shared.now.object) shared.now (O.lawful shared.now.object) seat.old held.now source.now }
     requires at { at < region_words (O.line_count shared.now.object) }
-    ensures both { HoldsBoth (O.line_count shared.now.object) shared.now (O.lawful shared.now.object) seat.new held.now source.now }
     ensures known { OnOk result (seat.new.known ≡ known_after (instance_at shared.now O.step O.only_reads) (StoreWord held.now.replica at word) seat.old.known 0) }
-    ensures still { OnErr result (seat.new ≡ seat.old) }
-    ensures rest { beside_copy seat.new ≡ beside_copy seat.old }
-    ensures halts { OnErr result (IsAtLimit seat.new.known.local) }
+    ensures halted { OnErr result (Halts shared.now seat.old seat.new) }
+    ensures leaves { LeavesCopied O.Object shared.now held.now source.now seat.old seat.new }
 {
     let _ = source;
     shared.store_word(seat, held.replica() as u64, at, word)?;

@@ -1,10 +1,10 @@
 //! What was stored into a replica held exclusively is persisted.
 
-ghost use Rattle.std.specs.Prelude.{◌≡◌, ◌<◌, length, OnErr, OnOk};
+ghost use Rattle.std.specs.Prelude.{◌<◌, length, OnErr, OnOk};
 ghost use Rattle.std.specs.List.{Contains};
 ghost use Rattle.cx_core.specs.Region.{region_words};
 ghost use Rattle.cx_core.specs.Rights.{held_dirty};
-ghost use Rattle.cx_rule.specs.Seats.{IsAtLimit};
+ghost use Rattle.cx_rule.specs.Steps.{Halts};
 ghost use Rattle.replica.specs.Flushes.{EndsFlushing, Persists};
 ghost use Rattle.replica.specs.Held.{IsHeld};
 ghost use Rattle.replica.specs.Replays.{IsImage};
@@ -20,11 +20,9 @@ pub fn flush<O: Object>(
     held: &Exclusive,
 ) -> Result<(), Halt>
     requires { IsHeld (O.line_count shared.now.object) shared.now (O.lawful shared.now.object) seat.old held.now }
-    ensures held { IsHeld (O.line_count shared.now.object) shared.now (O.lawful shared.now.object) seat.new held.now }
     ensures clean { EndsFlushing seat.new result }
-    ensures persists { Persists held.now.replica seat.old seat.new }
+    ensures persists { Persists O.Object shared.now held.now seat.old seat.new }
     ensures image { IsImage (O.line_count shared.now.object) (O.lawful shared.now.object) shared.now.base (O.step shared.now.object) seat.old.known → IsImage (O.line_count shared.now.object) (O.lawful shared.now.object) shared.now.base (O.step shared.now.object) seat.new.known }
-    ensures halts { OnErr result (IsAtLimit seat.new.known.local) }
 {
     while let Some(at) = seat.some_dirty() {
         persist_dirty(shared, seat, held, at)?;
@@ -42,11 +40,9 @@ fn persist_dirty<O: Object>(
     requires held { IsHeld (O.line_count shared.now.object) shared.now (O.lawful shared.now.object) seat.old held.now }
     requires at { at < region_words (O.line_count shared.now.object) }
     requires dirty { Contains (held_dirty seat.old.known.local.exclusive) at }
-    ensures held { IsHeld (O.line_count shared.now.object) shared.now (O.lawful shared.now.object) seat.new held.now }
     ensures fewer { OnOk result (length (held_dirty seat.new.known.local.exclusive) < length (held_dirty seat.old.known.local.exclusive)) }
-    ensures persists { Persists held.now.replica seat.old seat.new }
-    ensures still { OnErr result (seat.new ≡ seat.old) }
-    ensures halts { OnErr result (IsAtLimit seat.new.known.local) }
+    ensures persists { Persists O.Object shared.now held.now seat.old seat.new }
+    ensures halted { OnErr result (Halts shared.now seat.old seat.new) }
 {
     shared.persist(seat, held.replica() as u64, at)?;
     Ok(())

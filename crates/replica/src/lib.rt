@@ -2,18 +2,18 @@
 //! stored is made durable before the right is given up.
 #![tactic(auto)]
 
-mod board;
 mod copying;
 mod flushing;
 mod outcomes;
 mod read_region;
 mod region;
 mod replay;
+mod words;
 
-pub use board::Board;
 pub use copying::{copy_from, renew_from};
 pub use flushing::flush;
 pub use outcomes::{outcome, place};
 pub use read_region::ReadRegion;
 pub use region::Region;
 pub use replay::{apply, begin, replay_one};
+pub use words::HeldWords;

@@ -7,7 +7,7 @@ use Rattle.cx_table.specs.Running.{Running}
 use Rattle.cx_table.specs.Seats.{Seated}
 use Rattle.cx_table.specs.Steps.{Steps}
 use Rattle.cx_table.specs.Tokens.{IsDowngradedOf}
-use Rattle.strong_trylock.specs.Held.{all_rights}
+use Rattle.strong_trylock.specs.Held.{AllRights, all_rights}
 
 -- the exclusive right on a replica was made a shared one, by one event
 pub record Downgrades {O : Type 0} (r : Running O) (step : O → List ℕ → List ℕ → List ℕ × List ℕ) (reads : O → List ℕ → Bool) (replica : ℕ) (before after : Seated) (held : Right) : Type 0 where
@@ -21,6 +21,12 @@ pub record Downgrades {O : Type 0} (r : Running O) (step : O → List ℕ → Li
 pub record MakesOne {O : Type 0} (r : Running O) (step : O → List ℕ → List ℕ → List ℕ × List ℕ) (reads : O → List ℕ → Bool) (kind : Kind) (before after : Seated) : Type 0 where
   pub found : ℕ
   pub made : Steps r step reads kind found before after
+
+-- one event of this kind ended a right, and these are left
+pub record Ends {O : Type 0} (r : Running O) (step : O → List ℕ → List ℕ → List ℕ × List ℕ) (reads : O → List ℕ → Bool) (kind : Kind) (left : AllRights) (before after : Seated) : Type 0 where
+  pub found : ℕ
+  pub made : Steps r step reads kind found before after
+  pub rights : all_rights after ≡ left
 
 -- a seat but for what is downgraded and the steps
 abbrev pub but_downgraded : Seated → Seated

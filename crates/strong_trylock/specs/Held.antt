@@ -3,6 +3,8 @@ use Rattle.std.specs.Prelude.{◌≡◌, ℕ, Option, Some, None}
 use Rattle.cx_core.specs.declared.local.Local.{Local}
 use Rattle.cx_core.specs.declared.local.WonCode.{WonCode}
 use Rattle.cx_core.specs.Rights.{downgraded_on, exclusive_on, shared_on}
+use Rattle.cx_table.specs.Right.{Right}
+use Rattle.cx_table.specs.Running.{IsSeatOf, Running}
 use Rattle.cx_table.specs.Seats.{Seated}
 
 -- the replicas that a caller's rights are on, and its win that is not retired
@@ -32,3 +34,8 @@ no_rights = record { exclusive = None; shared = None; passer = None; downgraded 
 -- this word is the one that was last found by a try, of this replica
 abbrev pub SawWord : ℕ → ℕ → Seated → Type 0
 SawWord replica found seat = seat.known.local.seen_lock ≡ Some (record { replica = replica; word = found })
+
+-- the seat is of the table, and its caller has this right
+pub record Has {O : Type 0} (right : ℕ → Seated → Right → Type 0) (r : Running O) (seat : Seated) (held : Right) : Type 0 where
+  pub of : IsSeatOf r seat
+  pub token : right r.callers seat held

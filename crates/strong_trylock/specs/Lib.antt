@@ -1,4 +1,3 @@
 pub mod Held
 pub mod Tries
 pub mod Ends
-pub mod Tests

@@ -5,11 +5,10 @@ ghost use Rattle.std.specs.Prelude.{◌≡◌, None, IfOk, OnErr, OnOk};
 ghost use Rattle.cx_core.specs.declared.kinds.Kind.TheVariants.{BackOff, ReleaseExclusive};
 ghost use Rattle.cx_core.specs.LockEvents.{IsClean};
 ghost use Rattle.cx_table.specs.Fitting.{IsReplayed, IsReplayedToPlace};
-ghost use Rattle.cx_table.specs.Running.{IsSeatOf};
 ghost use Rattle.cx_table.specs.Steps.{Halts};
 ghost use Rattle.cx_table.specs.Tokens.{IsDowngradedOf, IsExclusiveOf, IsSharedOf};
-ghost use Rattle.strong_trylock.specs.Ends.{Downgrades, MakesOne, but_downgraded};
-ghost use Rattle.strong_trylock.specs.Held.{all_rights};
+ghost use Rattle.strong_trylock.specs.Ends.{Downgrades, Ends, but_downgraded};
+ghost use Rattle.strong_trylock.specs.Held.{Has, all_rights};
 
 use cx_base::{Halt, Object};
 use cx_table::{CallerSeat, Downgraded, Exclusive, Shared, SharedHold, SharedRight};
@@ -21,8 +20,7 @@ pub fn downgrade<O: Object>(
     seat: &mut CallerSeat,
     held: Exclusive,
 ) -> Result<Downgraded, Halt>
-    requires seat { IsSeatOf shared.now seat.old }
-    requires held { IsExclusiveOf shared.now.callers seat.old held }
+    requires held { Has IsExclusiveOf shared.now seat.old held }
     requires clean { IsClean shared.now.callers held.replica seat.old.known.local }
     requires replayed { IsReplayedToPlace shared.now.lines (O.lawful shared.now.object) shared.now.base (O.step shared.now.object) seat.old.known }
     ensures downgraded { IfOk result (λ token. Downgrades shared.now O.step O.only_reads held.replica seat.old seat.new token) }
@@ -39,12 +37,10 @@ pub fn release<O: Object>(
     seat: &mut CallerSeat,
     held: Exclusive,
 ) -> Result<(), Halt>
-    requires seat { IsSeatOf shared.now seat.old }
-    requires held { IsExclusiveOf shared.now.callers seat.old held }
+    requires held { Has IsExclusiveOf shared.now seat.old held }
     requires clean { IsClean shared.now.callers held.replica seat.old.known.local }
     requires replayed { IsReplayed shared.now.lines (O.lawful shared.now.object) shared.now.base (O.step shared.now.object) seat.old.known }
-    ensures released { OnOk result (MakesOne shared.now O.step O.only_reads (ReleaseExclusive held.replica) seat.old seat.new) }
-    ensures rights { OnOk result (all_rights seat.new ≡ record (all_rights seat.old) { exclusive = None }) }
+    ensures released { OnOk result (Ends shared.now O.step O.only_reads (ReleaseExclusive held.replica) (record (all_rights seat.old) { exclusive = None }) seat.old seat.new) }
     ensures halted { OnErr result (Halts shared.now seat.old seat.new) }
 {
     shared.release_exclusive(seat, held)?;
@@ -57,10 +53,8 @@ pub fn release_shared<O: Object>(
     seat: &mut CallerSeat,
     held: SharedHold,
 ) -> Result<(), Halt>
-    requires seat { IsSeatOf shared.now seat.old }
-    requires held { IsSharedOf shared.now.callers seat.old held }
-    ensures released { OnOk result (MakesOne shared.now O.step O.only_reads (BackOff held.replica) seat.old seat.new) }
-    ensures rights { OnOk result (all_rights seat.new ≡ record (all_rights seat.old) { shared = None }) }
+    requires held { Has IsSharedOf shared.now seat.old held }
+    ensures released { OnOk result (Ends shared.now O.step O.only_reads (BackOff held.replica) (record (all_rights seat.old) { shared = None }) seat.old seat.new) }
     ensures halted { OnErr result (Halts shared.now seat.old seat.new) }
 {
     shared.back_off(seat, SharedRight::Hold(held))?;
@@ -73,10 +67,8 @@ pub fn release_downgraded<O: Object>(
     seat: &mut CallerSeat,
     held: Downgraded,
 ) -> Result<(), Halt>
-    requires seat { IsSeatOf shared.now seat.old }
-    requires held { IsDowngradedOf shared.now.callers seat.old held }
-    ensures released { OnOk result (MakesOne shared.now O.step O.only_reads (BackOff held.replica) seat.old seat.new) }
-    ensures rights { OnOk result (all_rights seat.new ≡ record (all_rights seat.old) { downgraded = None }) }
+    requires held { Has IsDowngradedOf shared.now seat.old held }
+    ensures released { OnOk result (Ends shared.now O.step O.only_reads (BackOff held.replica) (record (all_rights seat.old) { downgraded = None }) seat.old seat.new) }
     ensures rest { OnOk result (but_downgraded seat.new ≡ but_downgraded seat.old) }
     ensures halted { OnErr result (Halts shared.now seat.old seat.new) }
 {

@@ -2,3 +2,5 @@ mod OneOfEach
 mod Replays
 mod Rights
 mod Updates
+mod Protecting
+mod Tried

@@ -1,1 +1,3 @@
+pub mod Replaying
+pub mod Trylocks
 pub mod Turns

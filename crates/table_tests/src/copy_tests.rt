@@ -5,7 +5,7 @@ ghost use Rattle.cx_core.specs.LockEvents.{CanTryShared};
 ghost use Rattle.cx_rule.specs.Running.{IsSeatOf};
 ghost use Rattle.replica.specs.Copies.{HoldsBoth};
 ghost use Rattle.replica.specs.Held.{IsHeld};
-ghost use Rattle.replica.specs.Tests.{IsNew};
+ghost use Rattle.table_tests.specs.Replaying.{IsNew};
 ghost use Rattle.table_tests.specs.Turns.{TakesIt};
 
 use crate::holds::holds;

@@ -5,7 +5,7 @@ ghost use Rattle.cx_base.specs.Tally.{IsTally};
 ghost use Rattle.cx_core.specs.LockEvents.{CanTryShared};
 ghost use Rattle.replica.specs.Copies.{HoldsBoth};
 ghost use Rattle.replica.specs.Held.{IsHeld, IsSized};
-ghost use Rattle.replica.specs.Tests.{IsFree};
+ghost use Rattle.table_tests.specs.Replaying.{IsFree};
 
 use crate::holds::holds;
 use cx_base::Halt;

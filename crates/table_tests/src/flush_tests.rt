@@ -4,7 +4,7 @@ ghost use Rattle.std.specs.Prelude.{◌≡◌, ◌<◌};
 ghost use Rattle.cx_base.specs.Tally.{IsTally};
 ghost use Rattle.cx_rule.specs.Running.{IsSeatOf};
 ghost use Rattle.replica.specs.Held.{IsHeld};
-ghost use Rattle.replica.specs.Tests.{IsNew};
+ghost use Rattle.table_tests.specs.Replaying.{IsNew};
 
 use crate::copy_tests::share_beside;
 use crate::holds::holds;
@@ -15,7 +15,7 @@ use cx_base::Halt;
 use cx_base::tally::Tally;
 use cx_core::Base;
 use cx_table::{CallerSeat, Exclusive, Remains, Shared};
-use replica::{Board, copy_from, flush};
+use replica::{HeldWords, copy_from, flush};
 use std::alloc::{AllocError, Global};
 use std::test::Fail;
 

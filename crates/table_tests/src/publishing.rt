@@ -5,7 +5,7 @@ ghost use Rattle.cx_core.specs.RootEvents.{CanPublish};
 ghost use Rattle.cx_rule.specs.Running.{IsSeatOf};
 ghost use Rattle.cx_table.specs.Tokens.{IsDowngradedOf};
 ghost use Rattle.replica.specs.Held.{IsSized};
-ghost use Rattle.replica.specs.Tests.{GivenBack, IsNew};
+ghost use Rattle.table_tests.specs.Replaying.{GivenBack, IsNew};
 
 use crate::holds::holds;
 use crate::replaying::{adds, renew, update};

@@ -11,8 +11,8 @@ ghost use Rattle.cx_table.specs.Tokens.{IsDowngradedOf};
 ghost use Rattle.mutation_queue.specs.Entries.{IsNotedEntry};
 ghost use Rattle.replica.specs.Held.{IsHeld, IsHeldShared, IsSized};
 ghost use Rattle.replica.specs.Laws.{IsTaken};
-ghost use Rattle.replica.specs.Replays.{IsImage, noted_place};
-ghost use Rattle.replica.specs.Tests.{IsFree, IsNew, IsReady, Keeps, KnowsLinked};
+ghost use Rattle.replica.specs.Replays.{IsImage, IsReady, noted_place};
+ghost use Rattle.table_tests.specs.Replaying.{IsFree, IsNew, Keeps, KnowsLinked};
 
 use crate::holds::holds;
 use crate::tables::{NO_LIMIT, NO_LIMITS, made};
@@ -63,13 +63,11 @@ fn read_next<O: Object>(
     held: &Exclusive,
     ticket: u64,
 ) -> Result<Entry, Halt>
-    requires held { IsHeld (O.line_count shared.now.object) shared.now (O.lawful shared.now.object) seat.old held.now }
-    requires image { IsImage (O.line_count shared.now.object) (O.lawful shared.now.object) shared.now.base (O.step shared.now.object) seat.old.known }
-    requires place { noted_place seat.old ≡ ticket }
+    requires ready { IsReady O.Object shared.now held.now ticket seat.old }
     requires linked { ticket < seat.old.known.local.front }
     requires later { shared.now.base.place ≤ ticket }
     requires protected { Protects ticket seat.old.known.local.protection }
-    ensures ready { OnOk result (IsReady (O.line_count shared.now.object) shared.now (O.lawful shared.now.object) (O.step shared.now.object) held.now ticket seat.new) }
+    ensures ready { OnOk result (IsReady O.Object shared.now held.now ticket seat.new) }
     ensures keeps { OnOk result (Keeps seat.old seat.new) }
     ensures entry { IfOk result (IsNotedEntry ticket seat.new) }
 {
@@ -85,13 +83,11 @@ fn replay_ticket<O: Object>(
     held: &Exclusive,
     ticket: u64,
 ) -> Result<(), Halt>
-    requires held { IsHeld (O.line_count shared.now.object) shared.now (O.lawful shared.now.object) seat.old held.now }
-    requires image { IsImage (O.line_count shared.now.object) (O.lawful shared.now.object) shared.now.base (O.step shared.now.object) seat.old.known }
-    requires place { noted_place seat.old ≡ ticket }
+    requires ready { IsReady O.Object shared.now held.now ticket seat.old }
     requires linked { ticket < seat.old.known.local.front }
     requires later { shared.now.base.place ≤ ticket }
     requires protected { Protects ticket seat.old.known.local.protection }
-    ensures ready { OnOk result (IsReady (O.line_count shared.now.object) shared.now (O.lawful shared.now.object) (O.step shared.now.object) held.now (ticket + 1) seat.new) }
+    ensures ready { OnOk result (IsReady O.Object shared.now held.now (ticket + 1) seat.new) }
     ensures keeps { OnOk result (Keeps seat.old seat.new) }
 {
     let next = read_next(shared, seat, held, ticket)?;
@@ -106,12 +102,12 @@ fn replay_to<O: Object>(
     place: u64,
     end: u64,
 ) -> Result<(), Halt>
-    requires ready { IsReady (O.line_count shared.now.object) shared.now (O.lawful shared.now.object) (O.step shared.now.object) held.now place seat.old }
+    requires ready { IsReady O.Object shared.now held.now place seat.old }
     requires linked { end ≤ seat.old.known.local.front }
     requires later { shared.now.base.place ≤ place }
     requires order { place ≤ end }
     requires protected { seat.old.known.local.protection ≡ Confirmed place }
-    ensures ready { OnOk result (IsReady (O.line_count shared.now.object) shared.now (O.lawful shared.now.object) (O.step shared.now.object) held.now end seat.new) }
+    ensures ready { OnOk result (IsReady O.Object shared.now held.now end seat.new) }
     ensures keeps { OnOk result (Keeps seat.old seat.new) }
 {
     for ticket in place..end {
@@ -129,12 +125,12 @@ fn replay_protected<O: Object>(
     place: u64,
     end: u64,
 ) -> Result<(), Halt>
-    requires ready { IsReady (O.line_count shared.now.object) shared.now (O.lawful shared.now.object) (O.step shared.now.object) held.now place seat.old }
+    requires ready { IsReady O.Object shared.now held.now place seat.old }
     requires linked { end ≤ seat.old.known.local.front }
     requires later { shared.now.base.place ≤ place }
     requires order { place ≤ end }
     requires none { seat.old.known.local.protection ≡ Unprotected }
-    ensures ready { OnOk result (IsReady (O.line_count shared.now.object) shared.now (O.lawful shared.now.object) (O.step shared.now.object) held.now end seat.new) }
+    ensures ready { OnOk result (IsReady O.Object shared.now held.now end seat.new) }
     ensures keeps { OnOk result (Keeps seat.old seat.new) }
 {
     // tickets are few

@@ -3,7 +3,7 @@
 ghost use Rattle.std.specs.Prelude.{◌≡◌, ◌≤◌, IfOk, IsTrue, OnOk};
 ghost use Rattle.cx_rule.specs.Running.{IsSeatOf};
 ghost use Rattle.mutation_queue.specs.Tests.{IsPairOf};
-ghost use Rattle.replica.specs.Tests.{IsNew};
+ghost use Rattle.table_tests.specs.Replaying.{IsNew};
 ghost use Rattle.strong_trylock.specs.Held.{all_rights, no_rights};
 
 use crate::linking::two;

@@ -3,7 +3,7 @@
 ghost use Rattle.std.specs.Prelude.{◌<◌};
 ghost use Rattle.cx_base.specs.Memory.{Words};
 ghost use Rattle.cx_rule.specs.Running.{IsSeatOf};
-ghost use Rattle.replica.specs.Tests.{IsNew};
+ghost use Rattle.table_tests.specs.Replaying.{IsNew};
 
 use crate::commands::{entry_of, put};
 use crate::holds::holds;

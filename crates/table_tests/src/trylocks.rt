@@ -3,7 +3,7 @@
 ghost use Rattle.std.specs.Prelude.{◌≡◌, ◌≢◌, ◌*◌, ◌<◌, IfOk, IfSome, OnOk, length};
 ghost use Rattle.cx_base.specs.Tally.{IsTally};
 ghost use Rattle.cx_core.specs.Base.{LawfulBase};
-ghost use Rattle.strong_trylock.specs.Tests.{ArePair, HoldsDowngraded, IsFreeIn};
+ghost use Rattle.table_tests.specs.Trylocks.{ArePair, HoldsDowngraded, IsFreeIn};
 
 use crate::holds::holds;
 use crate::linking::{NO_LIMIT, two};

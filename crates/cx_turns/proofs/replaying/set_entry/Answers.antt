@@ -1,4 +1,4 @@
-use Rattle.replica.proofs.Updating.{first_and_rest}
+use Rattle.cx_turns.proofs.ReadEntries.{first_and_rest}
 use Rattle.cx_turns.proofs.replaying.set_entry.Goals as goal
 
 pub returns-clause-words : goal.returns-clause-words

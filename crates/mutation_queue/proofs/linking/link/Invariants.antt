@@ -1,6 +1,5 @@
-use Rattle.std.proofs.Common.{◌≡◌, ◌+◌, ◌*◌, ◌<◌, ◌≤◌, ◌⊎◌}
+use Rattle.std.proofs.Common.{◌≡◌, ◌+◌, ◌*◌, ◌<◌, ◌≤◌}
 use Rattle.cx_base.specs.Codes.{root_place_of}
-use Rattle.cx_table.specs.Seats.{IsAtLimit}
 use Rattle.mutation_queue.specs.Links.{LinksNone, LosesTries}
 use Rattle.mutation_queue.proofs.linking.link.Given as goal
 
@@ -13,5 +12,4 @@ invariant-loop-tried g l = record {
   at_first : l._tried ≡ 0 → l.seat ≡ l.fn.seat;
   cur : 0 < l._tried → root_place_of l.shared.callers l.fn.seat.known.local.seen_cur ≤ l.fn.seat.known.local.front;
   steps : l.seat.known.local.steps ≤ l.fn.seat.known.local.steps + 2 * l._tried;
-  moved : ((l._tried ≡ 0) × (l.seat ≡ l.fn.seat)) ⊎ (¬ IsAtLimit l.fn.seat.known.local);
 }

@@ -26,7 +26,7 @@ link-requires-clause-guard g c =
     let looked : c.look.new.seat ≡ stepped instance (Look slot) s seen = c.in_ok-seen.ensures.made.made ∙ ap (λ n. stepped instance (Look n) s seen) at in
     let open_ = subst (λ n. 0 < seen → link_ticket_of n seen < l.front) c.callers-callers.ensures.value
     (subst (λ f. 0 < seen → link_ticket_of c.callers-callers.result seen < f) c.front-front.ensures.value c.if-is_taken.ensures) in
-    let may = may_link instance l seen some told open_ c.args.cell c.requires.cell.0 c.requires.cell.1 c.requires.announced c.requires.front c.requires.answered in
+    let may = may_link instance l seen some told open_ c.args.cell c.requires.may.few c.requires.may.announced.idle c.requires.may.announced.number c.requires.front c.requires.may.answered in
     subst (λ (x : Seated). Guard instance unseen (Link c.from.result) x.known.local) (sym looked)
     (subst (λ n. Guard instance unseen (Link n) (shown_next instance (Look slot) l seen)) (sym c.from.ensures) may)
 

@@ -16,7 +16,7 @@ loop-i-init g c = record {
   seat = none_read (c.args.cell / 16) c.args.ticket c.args.seat.now;
   long = c.told-into;
   within = λ n below e. absurd (omega arith);
-  of = c.requires.seat;
+  of = c.requires.may.of;
   fits = λ some. absurd (omega arith);
 }
 
@@ -49,13 +49,9 @@ loop-i-preserved g c =
 pub returns-clause-read : goal.returns-clause-read
 returns-clause-read g c =
     let end : c.loop-i.i ≡ 145 = omega (arith, c.loop-i-test.false, c.loop-i.auto) in
-    c.loop-i.invariant.seat
-    ∙ ap (λ (xs : List ℕ). with_read (c.args.cell / 16) c.args.ticket xs c.args.seat.now) (take_all c.loop-i.i c.loop-i.into (omega (arith, c.loop-i.invariant.long)))
-
-pub returns-clause-within : goal.returns-clause-within
-returns-clause-within g c =
-    let end : c.loop-i.i ≡ 145 = omega (arith, c.loop-i-test.false, c.loop-i.auto) in
-    λ n below e. c.loop-i.invariant.within n (omega arith) e
-
-pub returns-clause-fits : goal.returns-clause-fits
-returns-clause-fits g c = c.loop-i.invariant.fits (omega (arith, c.loop-i-test.false, c.loop-i.auto))
+    let inv = c.loop-i.invariant in
+    record {
+      seat = inv.seat ∙ ap (λ (xs : List ℕ). with_read (c.args.cell / 16) c.args.ticket xs c.args.seat.now) (take_all c.loop-i.i c.loop-i.into (omega (arith, inv.long)));
+      fits = inv.fits (omega (arith, end));
+      within = λ n below e. inv.within n (omega (arith, end, below)) e;
+    }

@@ -1,4 +1,4 @@
-use Rattle.std.proofs.Common.{◌≡◌, ◌+◌, ◌*◌, ◌≤◌, length, take, refl, subst, ◌∙◌, arith}
+use Rattle.std.proofs.Common.{◌≡◌, ◌+◌, ◌*◌, ◌≤◌, length, take, refl, sym, subst, ◌∙◌, arith}
 use Rattle.std.proofs.lemmas.List.{length-take-le}
 use Rattle.cx_core.specs.Region.{region_words}
 use Rattle.cx_rule.specs.Fitting.{AgreeTo}
@@ -21,18 +21,20 @@ loop-line-init g c = record {
 
 pub returns-clause-copied : goal.returns-clause-copied
 returns-clause-copied g c =
-    let lines = g.O.Object.line_count c.args.shared.now.object in
-    let count = c.lines-lines.ensures.value ∙ c.requires.exclusive.sized.lines_are in
-    let all : 8 * c.loop-line.line ≡ region_words lines = omega (arith, c.loop-line.invariant.within, c.loop-line-test.false, count) in
-    subst (AgreeTo c.loop-line.seat.known) all c.loop-line.invariant.copied.agree
-
-pub returns-clause-equal : goal.returns-clause-equal
-returns-clause-equal g c =
     let t = c.args.shared.now in
     let lines = g.O.Object.line_count t.object in
+    let was = c.loop-line.invariant in
+    let known = c.loop-line.seat.known in
     let count = c.lines-lines.ensures.value ∙ c.requires.exclusive.sized.lines_are in
-    let all : 8 * c.loop-line.line ≡ region_words lines = omega (arith, c.loop-line.invariant.within, c.loop-line-test.false, count) in
-    agree_equal lines (g.O.Object.lawful t.object) t.base c.loop-line.seat.known (region_words lines) refl (subst (AgreeTo c.loop-line.seat.known) all c.loop-line.invariant.copied.agree)
+    let all : 8 * c.loop-line.line ≡ region_words lines = omega (arith, was.within, c.loop-line-test.false, count) in
+    let agree = subst (AgreeTo known) all was.copied.agree in
+    record {
+      agree = agree;
+      equal = agree_equal lines (g.O.Object.lawful t.object) t.base known (region_words lines) refl agree;
+      differed = was.copied.dirty;
+      place = sym c.noted_place.ensures;
+      loaded = was.copied.loaded;
+    }
 
 pub loop-line-preserved : goal.loop-line-preserved
 loop-line-preserved g c =
@@ -48,11 +50,11 @@ loop-line-preserved g c =
     let long' = length-take-le (8 * some) c.loop-line.source_words within' in
     let next : 8 * line + length (take (8 * some) c.loop-line.held_words) ≡ 8 * (line + some) = omega (arith, long) in
     record {
-      both = c.copy_piece.ensures.both;
+      both = c.copy_piece.ensures.leaves.both;
       copied = subst (λ n. IsCopiedTo n (region_words lines) c.args.seat.now.known c.copy_piece.new.seat.known) next
           (c.in_ok-copy_piece.ensures.copied (region_words lines) c.args.seat.now.known (omega (arith, long, count, c.piece_lines-count.ensures.left)) was.copied);
       counts = loads_on (16 * line) (2 * length (take (8 * some) c.loop-line.held_words)) (16 * (line + some)) c.args.seat.now.known c.loop-line.seat.known c.copy_piece.new.seat.known (omega (arith, long)) was.counts c.in_ok-copy_piece.ensures.steps;
-      rest = c.copy_piece.ensures.rest ∙ was.rest;
+      rest = c.copy_piece.ensures.leaves.rest ∙ was.rest;
       within = c.piece_lines-count.ensures.left;
       held_long = overwritten (8 * some) c.loop-line.held_words c.copy_piece.new.held_words within (c.copy_piece.auto.held_words ∙ long) ∙ was.held_long;
       source_long = overwritten (8 * some) c.loop-line.source_words c.copy_piece.new.source_words within' (c.copy_piece.auto.source_words ∙ long') ∙ was.source_long;

@@ -16,11 +16,11 @@ loop-line-init g c =
     let now = c.in_ok-load_piece.ensures in
     let none : c.args.from ≡ c.args.from + 0 = omega arith in
     record {
-      both = now.both;
-      seen = λ i least below. now.seen i least (omega (arith, below));
-      copied = λ region first below copied. subst (λ n. IsCopiedTo n region first c.load_piece.new.seat.known) none (now.copied region first (omega (arith, below)) copied);
+      both = now.leaves.both;
+      seen = λ i least below. now.loaded.seen i least (omega (arith, below));
+      copied = λ region first below copied. subst (λ n. IsCopiedTo n region first c.load_piece.new.seat.known) none (now.loaded.copied region first (omega (arith, below)) copied);
       counts = loads_most (2 * length c.args.held_words.now) c.args.seat.now.known c.load_piece.new.seat.known now.steps;
-      rest = now.rest;
+      rest = now.leaves.rest;
     }
 
 pub loop-line-preserved : goal.loop-line-preserved
@@ -42,16 +42,16 @@ loop-line-preserved g c =
           let now = w.seat-is in
           let knows = ap (λ (s : Seated). s.known) now in
           record {
-            both = subst (λ (s : Seated). HoldsBoth (g.O.Object.line_count t.object) t (g.O.Object.lawful t.object) s c.args.held.now c.args.source.now) (sym now) after.both;
-            seen = subst (λ (k : Known). AreSeen from (8 * (line + 1)) n us vs k) (sym knows) (λ i least below. after.seen i (omega (arith, least)) below);
-            copied = subst (λ (k : Known). CopiesOn from (from + 8 * (line + 1)) before k) (sym knows) (on_stored_line from line before known w.store_line.new.seat.known was.copied after.copied);
+            both = subst (λ (s : Seated). HoldsBoth (g.O.Object.line_count t.object) t (g.O.Object.lawful t.object) s c.args.held.now c.args.source.now) (sym now) after.leaves.both;
+            seen = subst (λ (k : Known). AreSeen from (8 * (line + 1)) n us vs k) (sym knows) (λ i least below. after.stored.seen i (omega (arith, least)) below);
+            copied = subst (λ (k : Known). CopiesOn from (from + 8 * (line + 1)) before k) (sym knows) (on_stored_line from line before known w.store_line.new.seat.known was.copied after.stored.copied);
             counts = subst (λ (k : Known). LoadsAtMost most before k) (sym knows) (loads_on most 0 most before known w.store_line.new.seat.known (omega arith) was.counts after.steps);
-            rest = ap beside_copy now ∙ after.rest ∙ was.rest;
+            rest = ap beside_copy now ∙ after.leaves.rest ∙ was.rest;
           })
       | else-differs-line w ↦ (
           let now = w.seat-is in
           let knows = ap (λ (s : Seated). s.known) now in
-          let lines : n / 8 ≤ 8 = omega (arith, c.requires.few) in
+          let lines : n / 8 ≤ 8 = omega (arith, c.requires.lines.few) in
           let marked : line < length c.differing.new.out = subst (λ m. line < m) (sym (c.differing.auto.out ∙ length-take-le _ _ lines)) c.loop-line-test.true in
           let none : ¬ DiffersInLine us vs line = λ d. false≢true (sym w.if-differs-line.false ∙ get_or_append_left c.differing.new.out _ false line marked ∙ (c.differing.ensures line marked).1 d) in
           record {
@@ -65,7 +65,7 @@ loop-line-preserved g c =
 
 pub returns-clause-copied : goal.returns-clause-copied
 returns-clause-copied g c =
-    let end : c.args.from + 8 * c.loop-line.line ≡ c.args.from + length c.args.held_words.now = omega (arith, c.loop-line-test.false, c.loop-line.auto.line-end, c.requires.whole) in
+    let end : c.args.from + 8 * c.loop-line.line ≡ c.args.from + length c.args.held_words.now = omega (arith, c.loop-line-test.false, c.loop-line.auto.line-end, c.requires.lines.whole) in
     subst (λ m. CopiesOn c.args.from m c.args.seat.now.known c.loop-line.seat.known) end c.loop-line.invariant.copied
 
 pub returns-in_err-load_piece-clause-steps : goal.returns-in_err-load_piece-clause-steps

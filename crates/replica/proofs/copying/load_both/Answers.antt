@@ -1,4 +1,4 @@
-use Rattle.std.proofs.Common.{false, ◌≡◌, ap, refl, sym, subst, arith}
+use Rattle.std.proofs.Common.{false, ◌≡◌, ap, refl, sym, subst, ◌∙◌, arith}
 use Rattle.cx_rule.specs.declared.rule.Known.{Known}
 use Rattle.cx_rule.specs.Running.{instance_at}
 use Rattle.cx_rule.specs.Seats.{Seated, known_after}
@@ -6,24 +6,26 @@ use Rattle.replica.specs.Copies.{EndsLoads}
 use Rattle.replica.proofs.LineLoads.{Counts, compared_counts, load_counts}
 use Rattle.cx_core.specs.declared.kinds.Kind.TheVariants.{LoadWord}
 use Rattle.cx_rule.specs.Steps.{Steps}
-use Rattle.replica.proofs.CopySteps.{at_err, compared, load_both, refused}
+use Rattle.replica.proofs.CopySteps.{at_err, compared, load_leaves, refused}
 use Rattle.replica.proofs.copying.load_both.Goals as goal
 
-pub returns-in_err-new-clause-both : goal.returns-in_err-new-clause-both
-returns-in_err-new-clause-both g c =
+pub returns-in_err-new-clause-leaves : goal.returns-in_err-new-clause-leaves
+returns-in_err-new-clause-leaves g c =
     let t = c.args.shared.now in
-    let lines = g.O.Object.line_count t.object in
-    let lawful = g.O.Object.lawful t.object in
-    let one = load_both lines t g.O.Object.step g.O.Object.only_reads lawful c.args.held.now c.args.source.now c.replica.result c.args.at c.args.seat.now c.load_word.new.seat c.requires.both c.load_word.result c.load_word.ensures.made c.load_word.ensures.fits c.load_word.ensures.halted in
-    load_both lines t g.O.Object.step g.O.Object.only_reads lawful c.args.held.now c.args.source.now c.replica-2.result c.args.at c.load_word.new.seat c.load_word-2.new.seat one c.load_word-2.result c.load_word-2.ensures.made c.load_word-2.ensures.fits c.load_word-2.ensures.halted
+    let h = c.args.held.now in
+    let s = c.args.source.now in
+    let one = load_leaves g.O.Object t h s c.replica.result c.args.at c.args.seat.now c.load_word.new.seat c.requires.both c.load_word.result c.load_word.ensures.made c.load_word.ensures.fits c.load_word.ensures.halted in
+    let two = load_leaves g.O.Object t h s c.replica-2.result c.args.at c.load_word.new.seat c.load_word-2.new.seat one.both c.load_word-2.result c.load_word-2.ensures.made c.load_word-2.ensures.fits c.load_word-2.ensures.halted in
+    record { both = two.both; rest = two.rest ∙ one.rest }
 
-pub returns-clause-both : goal.returns-clause-both
-returns-clause-both g c =
+pub returns-clause-leaves : goal.returns-clause-leaves
+returns-clause-leaves g c =
     let t = c.args.shared.now in
-    let lines = g.O.Object.line_count t.object in
-    let lawful = g.O.Object.lawful t.object in
-    let one = load_both lines t g.O.Object.step g.O.Object.only_reads lawful c.args.held.now c.args.source.now c.replica.result c.args.at c.args.seat.now c.load_word.new.seat c.requires.both c.load_word.result c.load_word.ensures.made c.load_word.ensures.fits c.load_word.ensures.halted in
-    load_both lines t g.O.Object.step g.O.Object.only_reads lawful c.args.held.now c.args.source.now c.replica-2.result c.args.at c.load_word.new.seat c.load_word-2.new.seat one c.load_word-2.result c.load_word-2.ensures.made c.load_word-2.ensures.fits c.load_word-2.ensures.halted
+    let h = c.args.held.now in
+    let s = c.args.source.now in
+    let one = load_leaves g.O.Object t h s c.replica.result c.args.at c.args.seat.now c.load_word.new.seat c.requires.both c.load_word.result c.load_word.ensures.made c.load_word.ensures.fits c.load_word.ensures.halted in
+    let two = load_leaves g.O.Object t h s c.replica-2.result c.args.at c.load_word.new.seat c.load_word-2.new.seat one.both c.load_word-2.result c.load_word-2.ensures.made c.load_word-2.ensures.fits c.load_word-2.ensures.halted in
+    record { both = two.both; rest = two.rest ∙ one.rest }
 
 pub returns-clause-known : goal.returns-clause-known
 returns-clause-known g c =

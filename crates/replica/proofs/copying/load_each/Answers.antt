@@ -19,11 +19,11 @@ loop-i-preserved g c =
     let now = c.in_ok-old.ensures in
     record {
       lengths = length-set c.loop-i.source_words c.loop-i.i c.in_ok-old.new ∙ was.lengths ∙ sym (length-set c.loop-i.held_words c.loop-i.i c.in_ok-old.old);
-      both = now.both;
+      both = now.leaves.both;
       seen = subst (λ (k : Known). AreSeen c.args.from 0 (c.loop-i.i + 1) (set c.loop-i.held_words c.loop-i.i c.in_ok-old.old) (set c.loop-i.source_words c.loop-i.i c.in_ok-old.new) k) (sym now.known)
           (seen_more instance h s c.args.from c.loop-i.i c.in_ok-old.old c.in_ok-old.new c.loop-i.held_words c.loop-i.source_words known was.both.exclusive.right.holds was.both.shared.right.holds (omega arith) (omega (arith, was.lengths)) was.seen);
       copied = λ region first below copied. subst (λ (k : Known). IsCopiedTo c.args.from region first k) (sym now.known)
           (copied_loaded (λ i. i ≡ at) c.args.from region first known (known_compared instance h s at c.in_ok-old.old c.in_ok-old.new known) (λ i e. omega (arith, e)) (compared_load instance h s at c.in_ok-old.old c.in_ok-old.new known) (was.copied region first below copied));
       counts = counts_on (2 * c.loop-i.i) 2 (2 * (c.loop-i.i + 1)) c.args.seat.now.known known c.load_both.new.seat.known (omega arith) was.counts now.steps;
-      rest = now.rest ∙ was.rest;
+      rest = now.leaves.rest ∙ was.rest;
     }

@@ -7,15 +7,15 @@ use Rattle.replica.proofs.LineLoads.{Counts}
 use Rattle.replica.proofs.copying.load_piece.Goals.{else-from-gt0-via-then-from-gt0+else-load_runs, else-from-gt0-via-else-from-gt0}
 use Rattle.replica.proofs.copying.load_piece.Goals as goal
 
-pub returns-clause-copied : goal.returns-clause-copied
-returns-clause-copied g c =
+pub returns-clause-loaded : goal.returns-clause-loaded
+returns-clause-loaded g c =
     let from = c.args.from in
     let before = c.args.seat.now.known in
     let tried : CopiesOn from from before c.else-from-gt0.seat.known = elim c.else-from-gt0.branch [
-      | else-from-gt0-via-then-from-gt0+else-load_runs w ↦ subst (λ (s : Seated). CopiesOn from from before s.known) (sym w.seat-is) w.load_runs.ensures.copied
+      | else-from-gt0-via-then-from-gt0+else-load_runs w ↦ subst (λ (s : Seated). CopiesOn from from before s.known) (sym w.seat-is) w.load_runs.ensures.steps.copied
       | else-from-gt0-via-else-from-gt0 w ↦ subst (λ (s : Seated). CopiesOn from from before s.known) (sym w.seat-is) (λ region first below copied. copied)
     ] in
-    λ region first below copied. c.in_ok-load_each.ensures.copied region first below (tried region first below copied)
+    record { seen = c.in_ok-load_each.ensures.loaded.seen; copied = λ region first below copied. c.in_ok-load_each.ensures.loaded.copied region first below (tried region first below copied) }
 
 pub returns-clause-steps : goal.returns-clause-steps
 returns-clause-steps g c =
@@ -26,9 +26,9 @@ returns-clause-steps g c =
     let small : last.known.local.steps ≤ max_word = omega (arith, c.steps-steps.ensures.value) in
     elim c.else-from-gt0.branch [
       | else-from-gt0-via-then-from-gt0+else-load_runs w ↦ (
-          let runs : EndsRuns n first.known w.load_runs.new.seat.known false = subst (EndsRuns n first.known w.load_runs.new.seat.known) w.if-load_runs.false w.load_runs.ensures.steps in
+          let runs : EndsRuns c.args.from n first.known w.load_runs.new.seat.known false = subst (EndsRuns c.args.from n first.known w.load_runs.new.seat.known) w.if-load_runs.false w.load_runs.ensures.steps in
           let stores : StoresAsMany w.load_runs.new.seat.known last.known = subst (λ (s : Seated). StoresAsMany s.known last.known) w.seat-is e.steps.1 in
-          let fewer = left_of_runs n first w.load_runs.new.seat last runs (e.rest ∙ ap beside_copy w.seat-is ∙ w.load_runs.ensures.rest) stores c.steps-steps.ensures.within small in
+          let fewer = left_of_runs c.args.from n first w.load_runs.new.seat last runs (e.leaves.rest ∙ ap beside_copy w.seat-is ∙ w.load_runs.ensures.leaves.rest) stores c.steps-steps.ensures.within small in
           let few = fewer.0 in (omega (arith, few), fewer.1))
       | else-from-gt0-via-else-from-gt0 w ↦ subst (λ (s : Seated). Counts n s.known last.known) w.seat-is (subst (λ m. Counts (2 * m) c.else-from-gt0.seat.known last.known) (ap (λ (ws : List ℕ). length ws) w.held_words-is) e.steps)
     ]
@@ -45,8 +45,8 @@ returns-in_err-load_each-clause-steps g c =
     at_err _ c.from_residual.result (EndsLoads n first.known last.known) c.from_residual.ensures.1
     (λ err. elim c.else-from-gt0.branch [
       | else-from-gt0-via-then-from-gt0+else-load_runs w ↦ (
-          let runs : EndsRuns n first.known w.load_runs.new.seat.known false = subst (EndsRuns n first.known w.load_runs.new.seat.known) w.if-load_runs.false w.load_runs.ensures.steps in
+          let runs : EndsRuns c.args.from n first.known w.load_runs.new.seat.known false = subst (EndsRuns c.args.from n first.known w.load_runs.new.seat.known) w.if-load_runs.false w.load_runs.ensures.steps in
           let stores : StoresAsMany w.load_runs.new.seat.known last.known = subst (λ (s : Seated). StoresAsMany s.known last.known) w.seat-is e.steps.1 in
-          left_of_runs n first w.load_runs.new.seat last runs (e.rest ∙ ap beside_copy w.seat-is ∙ w.load_runs.ensures.rest) stores (λ below. omega (arith, at)) (omega (arith, at, few)))
+          left_of_runs c.args.from n first w.load_runs.new.seat last runs (e.leaves.rest ∙ ap beside_copy w.seat-is ∙ w.load_runs.ensures.leaves.rest) stores (λ below. omega (arith, at)) (omega (arith, at, few)))
       | else-from-gt0-via-else-from-gt0 w ↦ subst (λ (s : Seated). (last.known.local.steps < s.known.local.steps + n) × StoresAsMany s.known last.known) w.seat-is (subst (λ m. (last.known.local.steps < c.else-from-gt0.seat.known.local.steps + 2 * m) × StoresAsMany c.else-from-gt0.seat.known last.known) (ap (λ (ws : List ℕ). length ws) w.held_words-is) e.steps)
     ])

@@ -1,29 +1,27 @@
-use Rattle.std.proofs.Common.{◌∙◌}
+use Rattle.std.proofs.Common.{rules, ◌∙◌}
 use Rattle.replica.proofs.Renewing.{renewed_held, renewed_image, renewed_place}
 use Rattle.replica.proofs.copying.renew_from.Goals as goal
 
-pub returns-clause-held : goal.returns-clause-held
-returns-clause-held g c =
+pub returns-clause-renewed : goal.returns-clause-renewed
+returns-clause-renewed g c =
     let t = c.args.shared.now in
-    renewed_held (g.O.Object.line_count t.object) t g.O.Object.step g.O.Object.only_reads (g.O.Object.lawful t.object) c.args.held.now c.args.source c.in_ok-release_copied.field-0 c.copy_from.new.seat c.release_copied.new.seat
-    c.in_ok-place.ensures.both c.in_ok-release_copied.ensures.made c.in_ok-release_copied.ensures.held c.in_ok-release_copied.ensures.fits
-
-pub returns-clause-image : goal.returns-clause-image
-returns-clause-image g c =
-    let t = c.args.shared.now in
-    (renewed_image (g.O.Object.line_count t.object) t g.O.Object.step g.O.Object.only_reads (g.O.Object.lawful t.object) c.args.held.now c.args.source c.in_ok-release_copied.field-0 c.copy_from.new.seat c.release_copied.new.seat
-    c.in_ok-place.ensures.both c.in_ok-release_copied.ensures.made c.in_ok-place.ensures.copied).0
-
-pub returns-clause-place : goal.returns-clause-place
-returns-clause-place g c =
-    let t = c.args.shared.now in
-    (renewed_image (g.O.Object.line_count t.object) t g.O.Object.step g.O.Object.only_reads (g.O.Object.lawful t.object) c.args.held.now c.args.source c.in_ok-release_copied.field-0 c.copy_from.new.seat c.release_copied.new.seat
-    c.in_ok-place.ensures.both c.in_ok-release_copied.ensures.made c.in_ok-place.ensures.copied).1
-    ∙ c.in_ok-place.ensures.place
-
-pub returns-clause-placed : goal.returns-clause-placed
-returns-clause-placed g c =
-    let t = c.args.shared.now in
-    λ p has.
-    renewed_place (g.O.Object.line_count t.object) t g.O.Object.step g.O.Object.only_reads (g.O.Object.lawful t.object) c.args.held.now c.args.source c.in_ok-release_copied.field-0 c.copy_from.new.seat c.release_copied.new.seat
-    c.in_ok-place.ensures.both c.in_ok-release_copied.ensures.made p c.in_ok-place.ensures.copied (c.in_ok-place.ensures.loaded (0, p) has)
+    let lines = g.O.Object.line_count t.object in
+    let lawful = g.O.Object.lawful t.object in
+    let step = g.O.Object.step in
+    let reads = g.O.Object.only_reads in
+    let found = c.in_ok-release_copied.field-0 in
+    let mid = c.copy_from.new.seat in
+    let last = c.release_copied.new.seat in
+    let copied = c.in_ok-place.ensures.copied in
+    let both = c.in_ok-place.ensures.leaves.both in
+    let made = c.in_ok-release_copied.ensures.made in
+    let image = renewed_image lines t step reads lawful c.args.held.now c.args.source found mid last both made copied.agree in
+    record {
+      ready = record {
+        is_held = renewed_held lines t step reads lawful c.args.held.now c.args.source found mid last both made c.in_ok-release_copied.ensures.held c.in_ok-release_copied.ensures.fits;
+        image = image.0;
+        place = image.1 ∙ copied.place;
+      };
+      placed = λ p has. renewed_place lines t step reads lawful c.args.held.now c.args.source found mid last both made p copied.agree (copied.loaded (0, p) has);
+      rest = search rules;
+    }

@@ -20,7 +20,7 @@ loop-i-preserved g c =
     let vs = c.args.source_words.now in
     let n = length us in
     let start = c.args.from + c.args.first in
-    let below : i < n = omega (arith, c.loop-i-test.true, c.loop-i.auto.i-end, c.requires.first) in
+    let below : i < n = omega (arith, c.loop-i-test.true, c.loop-i.auto.i-end, c.requires.line.line) in
     let before = c.args.seat.now.known in
     let known = c.loop-i.seat.known in
     elim c.if-held_words-i.branch [
@@ -29,12 +29,12 @@ loop-i-preserved g c =
           let now = w.seat-is in
           let knows = ap (λ (s : Seated). s.known) now ∙ after.known in
           record {
-            both = subst (λ (s : Seated). HoldsBoth (g.O.Object.line_count t.object) t (g.O.Object.lawful t.object) s c.args.held.now c.args.source.now) (sym now) after.both;
+            both = subst (λ (s : Seated). HoldsBoth (g.O.Object.line_count t.object) t (g.O.Object.lawful t.object) s c.args.held.now c.args.source.now) (sym now) after.leaves.both;
             seen = subst (λ (k : Known). AreSeen c.args.from (i + 1) n us vs k) (sym knows) (seen_behind instance c.args.held.now.replica us vs c.args.from n i (slice_index vs i) known was.seen);
             copied = subst (λ (k : Known). CopiesOn start (c.args.from + (i + 1)) before k) (sym knows)
                 (on_over instance c.args.held.now.replica us vs start c.args.from i n before known below w.if-held_words-i.true was.seen was.copied);
             counts = subst (λ (k : Known). LoadsAtMost 0 before k) (sym knows) (loads_on 0 0 0 before known (known_after instance (StoreWord c.args.held.now.replica (c.args.from + i) (slice_index vs i)) known 0) refl was.counts (store_counts instance c.args.held.now.replica (c.args.from + i) (slice_index vs i) known));
-            rest = ap beside_copy now ∙ after.rest ∙ was.rest;
+            rest = ap beside_copy now ∙ after.leaves.rest ∙ was.rest;
           })
       | else-held_words-i w ↦ (
           let now = w.seat-is in
@@ -48,11 +48,14 @@ loop-i-preserved g c =
           })
     ]
 
-pub returns-clause-copied : goal.returns-clause-copied
-returns-clause-copied g c =
+pub returns-clause-stored : goal.returns-clause-stored
+returns-clause-stored g c =
     let start = c.args.from + c.args.first in
     let end : c.args.from + c.loop-i.i ≡ start + 8 = omega (arith, c.loop-i-test.false, c.loop-i.auto.i-end) in
-    subst (λ m. CopiesOn start m c.args.seat.now.known c.loop-i.seat.known) end c.loop-i.invariant.copied
+    record {
+      seen = λ i least below. c.loop-i.invariant.seen i (omega (arith, end, least)) below;
+      copied = subst (λ m. CopiesOn start m c.args.seat.now.known c.loop-i.seat.known) end c.loop-i.invariant.copied;
+    }
 
 pub returns-in_err-store_copied-clause-steps : goal.returns-in_err-store_copied-clause-steps
 returns-in_err-store_copied-clause-steps g c =
@@ -60,14 +63,14 @@ returns-in_err-store_copied-clause-steps g c =
     let was = c.loop-i.invariant in
     let i = c.loop-i.i in
     let us = c.args.held_words.now in
-    let below : i < length us = omega (arith, c.loop-i-test.true, c.loop-i.auto.i-end, c.requires.first) in
+    let below : i < length us = omega (arith, c.loop-i-test.true, c.loop-i.auto.i-end, c.requires.line.line) in
     let differs : SomeDiffers region c.loop-i.seat.known = record {
       at = c.args.from + i;
-      within = omega (arith, below, c.requires.from);
+      within = omega (arith, below, c.requires.line.piece.within);
       held = slice_index us i;
       source = slice_index c.args.source_words.now i;
       apart = c.if-held_words-i.true;
       seen = was.seen i (omega arith) below;
     } in
     at_err _ c.from_residual.result (EndsCopy 0 region c.args.seat.now.known c.store_copied.new.seat.known) c.from_residual.ensures.1
-    (λ e. inr (subst (λ (s : Seated). SomeDiffers region s.known) (sym c.in_err-store_copied.ensures.still) differs))
+    (λ e. inr (subst (λ (s : Seated). SomeDiffers region s.known) (sym c.in_err-store_copied.ensures.halted.same) differs))

@@ -1,14 +1,10 @@
 use Rattle.std.proofs.Common.{length}
 use Rattle.cx_core.specs.Rights.{held_dirty}
 use Rattle.replica.specs.Flushes.{Persists}
-use Rattle.replica.specs.Held.{IsHeld}
 use Rattle.replica.proofs.flushing.flush.Given as goal
 
 abbrev pub invariant-loop-at : goal.invariant-loop-at
-invariant-loop-at g l = record {
-  held : IsHeld (g.O.Object.line_count l.shared.object) l.shared (g.O.Object.lawful l.shared.object) l.seat l.held;
-  persists : Persists l.held.replica l.fn.seat l.seat;
-}
+invariant-loop-at g l = Persists g.O.Object l.shared l.held l.fn.seat l.seat
 
 abbrev pub decreases-loop-at : goal.decreases-loop-at
 decreases-loop-at g l = length (held_dirty l.seat.known.local.exclusive)

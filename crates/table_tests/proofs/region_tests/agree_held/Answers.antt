@@ -12,5 +12,5 @@ agree-requires-clause-mem g c =
     let Can : Running g.row.O.Denot → g.row.O.Denot → Seated → Type 0 = λ r o s. IsSteppable (g.O.Object.line_count o) (g.O.Object.lawful o) (region_words (g.O.Object.line_count r.object)) true (Fits (g.O.Object.line_count r.object) (g.O.Object.lawful r.object) r.base s.known.accesses) c.args.count in
     let shared = c.args.shared.now in
     let here : Can shared shared.object c.args.seat.now = image_steppable (g.O.Object.line_count shared.object) (g.O.Object.lawful shared.object) shared.base (g.O.Object.step shared.object) c.args.seat.now.known c.args.count c.requires.image c.requires.place in
-    subst (λ o. Can c.of-region.result.board.now o c.of-region.result.seat.now) (sym c.object-object.ensures)
-    (subst (λ r. Can r shared.object c.of-region.result.seat.now) (sym c.of-region.ensures.board) (subst (λ s. Can shared shared.object s) (sym c.of-region.ensures.seat) here))
+    subst (λ o. Can c.of-region.result.table.now o c.of-region.result.seat.now) (sym c.object-object.ensures)
+    (subst (λ r. Can r shared.object c.of-region.result.seat.now) (sym c.of-region.ensures.table) (subst (λ s. Can shared shared.object s) (sym c.of-region.ensures.seat) here))

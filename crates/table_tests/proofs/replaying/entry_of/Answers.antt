@@ -1,4 +1,5 @@
-use Rattle.replica.proofs.Updating.{first_and_rest, rest_words}
+use Rattle.cx_turns.proofs.ReadEntries.{first_and_rest}
+use Rattle.table_tests.proofs.Tried.{rest_words}
 use Rattle.table_tests.proofs.replaying.entry_of.Goals as goal
 
 pub returns-clause-words : goal.returns-clause-words

@@ -1,6 +1,6 @@
 use Rattle.std.proofs.Common.{IfSome, subst, sym}
 use Rattle.replica.specs.Held.{IsHeldShared}
-use Rattle.replica.proofs.Updating.{shared_tried}
+use Rattle.table_tests.proofs.Tried.{shared_tried}
 use Rattle.table_tests.proofs.replaying.share.Goals as goal
 
 pub returns : goal.returns

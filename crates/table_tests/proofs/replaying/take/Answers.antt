@@ -1,4 +1,4 @@
-use Rattle.replica.proofs.Updating.{taken_tried}
+use Rattle.table_tests.proofs.Tried.{taken_tried}
 use Rattle.table_tests.proofs.replaying.take.Goals as goal
 
 pub returns-clause-taken : goal.returns-clause-taken

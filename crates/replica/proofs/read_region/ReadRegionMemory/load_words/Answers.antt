@@ -7,34 +7,34 @@ use Rattle.replica.proofs.read_region.ReadRegionMemory.load_words.Goals as goal
 pub invariant_of-self : goal.invariant_of-self
 invariant_of-self g c =
     let region = c.args.self.now in
-    let board = region.board.now in
-    let some = c.load_run.ensures.some in
-    let after = shared_run (g.T.Board.line_count board) (g.T.Board.running board) (g.T.Board.lawful board) region.held.now c.args.at (take some.0 c.load_run.new.into) region.seat.now c.load_run.new.seat region.placed some.1 region.of region.within region.place in
+    let table = region.table.now in
+    let some = c.load_shared_words.ensures.some in
+    let after = shared_run (g.T.HeldWords.line_count table) (g.T.HeldWords.running table) (g.T.HeldWords.lawful table) region.held.now c.args.at (take some.0 c.load_shared_words.new.into) region.seat.now c.load_shared_words.new.seat region.placed some.1 region.of region.within region.place in
     record { of = after.0; within = after.1; place = after.2 }
 
 pub returns-clause-read : goal.returns-clause-read
 returns-clause-read g c =
     let region = c.args.self.now in
-    let board = region.board.now in
-    on_ok_weaker c.load_run.result (stands_shared_run (g.T.Board.line_count board) (g.T.Board.running board) (g.T.Board.lawful board) region.held.now c.args.at c.load_run.new.into region.seat.now c.load_run.new.seat) c.load_run.ensures.made
+    let table = region.table.now in
+    on_ok_weaker c.load_shared_words.result (stands_shared_run (g.T.HeldWords.line_count table) (g.T.HeldWords.running table) (g.T.HeldWords.lawful table) region.held.now c.args.at c.load_shared_words.new.into region.seat.now c.load_shared_words.new.seat) c.load_shared_words.ensures.made
 
 pub returns-clause-unchanged : goal.returns-clause-unchanged
 returns-clause-unchanged g c =
     let region = c.args.self.now in
-    let board = region.board.now in
-    let some = c.load_run.ensures.some in
-    let read = stands_shared_run (g.T.Board.line_count board) (g.T.Board.running board) (g.T.Board.lawful board) region.held.now c.args.at (take some.0 c.load_run.new.into) region.seat.now c.load_run.new.seat some.1 in
+    let table = region.table.now in
+    let some = c.load_shared_words.ensures.some in
+    let read = stands_shared_run (g.T.HeldWords.line_count table) (g.T.HeldWords.running table) (g.T.HeldWords.lawful table) region.held.now c.args.at (take some.0 c.load_shared_words.new.into) region.seat.now c.load_shared_words.new.seat some.1 in
     record { from = λ first now s. (now, (read.from first now s).0, refl) }
 
 pub returns-clause-framed : goal.returns-clause-framed
 returns-clause-framed g c =
     let region = c.args.self.now in
-    let board = region.board.now in
-    let some = c.load_run.ensures.some in
-    let rest = rest_shared_run (g.T.Board.line_count board) (g.T.Board.running board) (g.T.Board.lawful board) region.held.now c.args.at (take some.0 c.load_run.new.into) region.seat.now c.load_run.new.seat some.1 in
+    let table = region.table.now in
+    let some = c.load_shared_words.ensures.some in
+    let rest = rest_shared_run (g.T.HeldWords.line_count table) (g.T.HeldWords.running table) (g.T.HeldWords.lawful table) region.held.now c.args.at (take some.0 c.load_shared_words.new.into) region.seat.now c.load_shared_words.new.seat some.1 in
     record {
       size_kept = refl;
-      fixed_kept = ap (λ (s : Seated). record { name = region.seat.ghost_name; board = board; held = region.held.now; placed = region.placed; rest = s }) rest;
+      fixed_kept = ap (λ (s : Seated). record { name = region.seat.ghost_name; table = table; held = region.held.now; placed = region.placed; rest = s }) rest;
       writable_kept = ap (λ (s : Seated). s.known.local.limit == 0) rest;
-      limited = still_limited region.seat.now.known.local c.load_run.new.seat.known.local (ap (λ (s : Seated). s.known.local.limit) rest);
+      limited = still_limited region.seat.now.known.local c.load_shared_words.new.seat.known.local (ap (λ (s : Seated). s.known.local.limit) rest);
     }

@@ -1,4 +1,4 @@
--- What the tests speak of.
+-- Callers in the tests of try-locks.
 use Rattle.std.specs.Prelude.{◌≡◌, ◌<◌, length, Some}
 use Rattle.cx_table.specs.Right.{Right}
 use Rattle.cx_table.specs.Tokens.{IsDowngradedOf}

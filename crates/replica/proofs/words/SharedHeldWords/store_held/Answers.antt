@@ -1,5 +1,5 @@
 use Rattle.replica.proofs.Access.{store_guard, made_by_store}
-use Rattle.replica.proofs.board.SharedBoard.store_held.Goals as goal
+use Rattle.replica.proofs.words.SharedHeldWords.store_held.Goals as goal
 
 pub store_word-requires-clause-guard : goal.store_word-requires-clause-guard
 store_word-requires-clause-guard g c = store_guard _ c.args.self.now _ c.args.held.now c.replica.result c.args.at c.args.seat.now c.replica.ensures c.requires.held c.requires.at

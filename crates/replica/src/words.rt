@@ -1,16 +1,19 @@
 //! What a region stands on: a running table that lends the accesses of a replica held.
 
-ghost use Rattle.std.specs.Prelude.{◌≡◌, ◌+◌, ◌<◌, ◌≤◌, ℕ, List, true, false, OnErr, OnOk, IfOk, IsTrue, length};
+ghost use Rattle.std.specs.Prelude.{◌≡◌, ◌+◌, ◌^◌, ◌<◌, ◌≤◌, ℕ, List, true, false, OnErr, OnOk, IfOk, length, take};
 ghost use Rattle.cx_core.specs.Region.{region_words};
-ghost use Rattle.cx_rule.specs.Running.{Running};
+ghost use Rattle.cx_core.specs.RegionEvents.{CanLoad};
+ghost use Rattle.cx_rule.specs.Running.{IsSeatOf, Running};
+ghost use Rattle.cx_rule.specs.Seats.{IsAtLimit};
 ghost use Rattle.cx_rule.specs.Steps.{Halts};
+ghost use Rattle.cx_table.specs.Runs.{Runs, loads_from};
 ghost use Rattle.replica.specs.Held.{Accesses, IsHeld, IsHeldShared, LoadsHeld, LoadsRun, LoadsShared};
 
 use cx_base::{Halt, Object};
 use cx_table::{CallerSeat, Exclusive, Shared, SharedHold};
 
 /// The accesses of a replica held, on a running table of some object.
-pub trait Board {
+pub trait HeldWords {
     /// The object of the table.
     ghost Object: { Type 0 };
 
@@ -30,21 +33,20 @@ pub trait Board {
         ensures made { IfOk result (λ v. Accesses (line_count self.now) (running self.now) (lawful self.now) held.now (false, at, v) seat.old seat.new) }
         ensures halted { OnErr result (Halts (running self.now) seat.old seat.new) };
 
-    /// Loads words of the replica held exclusively, from one behind the place on, each as `load_held` does. It answers whether the
-    /// limit leaves so many steps: if not, nothing changes.
+    /// Loads words of the replica held exclusively, from a place on, each as `load_held` does. `Halt` comes only where the seat's steps
+    /// equal its limit, and then the first of the words were loaded.
     fn load_held_words(
         &self,
         seat: &mut CallerSeat,
         held: &Exclusive,
         from: u64,
         into: &mut [u64],
-    ) -> bool
+    ) -> Result<(), Halt>
         requires held { IsHeld (line_count self.now) (running self.now) (lawful self.now) seat.old held.now }
         requires within { from + length into.old ≤ region_words (line_count self.now) }
-        requires behind { 0 < from }
-        ensures made { IsTrue result → LoadsRun (LoadsHeld (line_count self.now) (running self.now) (lawful self.now) held.now) from into.new seat.old seat.new }
-        ensures none { result ≡ false → seat.new ≡ seat.old }
-        ensures short { result ≡ false → seat.old.known.local.limit < seat.old.known.local.steps + length into.old }
+        ensures made { OnOk result (LoadsRun (LoadsHeld (line_count self.now) (running self.now) (lawful self.now) held.now) from into.new seat.old seat.new) }
+        ensures some { (n : ℕ) × LoadsRun (LoadsHeld (line_count self.now) (running self.now) (lawful self.now) held.now) from (take n into.new) seat.old seat.new }
+        ensures halted { OnErr result (IsAtLimit seat.new.known.local) }
         ensures length { length into.new ≡ length into.old };
 
     /// Stores a word of the replica held exclusively. `Halt` comes exactly where the seat's steps equal its limit.
@@ -67,25 +69,24 @@ pub trait Board {
         ensures made { IfOk result (λ v. LoadsShared (line_count self.now) (running self.now) (lawful self.now) held.now at v seat.old seat.new) }
         ensures halted { OnErr result (Halts (running self.now) seat.old seat.new) };
 
-    /// Loads words of the replica held shared, from one behind the place on, each as `load_shared` does. It answers whether the
-    /// limit leaves so many steps: if not, nothing changes.
+    /// Loads words of the replica held shared, from a place on, each as `load_shared` does. `Halt` comes only where the seat's steps
+    /// equal its limit, and then the first of the words were loaded.
     fn load_shared_words(
         &self,
         seat: &mut CallerSeat,
         held: &SharedHold,
         from: u64,
         into: &mut [u64],
-    ) -> bool
+    ) -> Result<(), Halt>
         requires held { IsHeldShared (line_count self.now) (running self.now) (lawful self.now) seat.old held.now }
         requires within { from + length into.old ≤ region_words (line_count self.now) }
-        requires behind { 0 < from }
-        ensures made { IsTrue result → LoadsRun (LoadsShared (line_count self.now) (running self.now) (lawful self.now) held.now) from into.new seat.old seat.new }
-        ensures none { result ≡ false → seat.new ≡ seat.old }
-        ensures short { result ≡ false → seat.old.known.local.limit < seat.old.known.local.steps + length into.old }
+        ensures made { OnOk result (LoadsRun (LoadsShared (line_count self.now) (running self.now) (lawful self.now) held.now) from into.new seat.old seat.new) }
+        ensures some { (n : ℕ) × LoadsRun (LoadsShared (line_count self.now) (running self.now) (lawful self.now) held.now) from (take n into.new) seat.old seat.new }
+        ensures halted { OnErr result (IsAtLimit seat.new.known.local) }
         ensures length { length into.new ≡ length into.old };
 }
 
-impl<O: Object> Board for Shared<O> {
+impl<O: Object> HeldWords for Shared<O> {
     ghost Object = { O };
 
     ghost running = { λ s. s };
@@ -104,8 +105,8 @@ impl<O: Object> Board for Shared<O> {
         held: &Exclusive,
         from: u64,
         into: &mut [u64],
-    ) -> bool {
-        self.load_words(seat, held.replica() as u64, from, into)
+    ) -> Result<(), Halt> {
+        load_run(self, seat, held.replica() as u64, from, into)
     }
 
     fn store_held(
@@ -128,7 +129,51 @@ impl<O: Object> Board for Shared<O> {
         held: &SharedHold,
         from: u64,
         into: &mut [u64],
-    ) -> bool {
-        self.load_words(seat, held.replica() as u64, from, into)
+    ) -> Result<(), Halt> {
+        load_run(self, seat, held.replica() as u64, from, into)
     }
+}
+
+/// Loads words of a replica that the caller holds exclusively or shared, from a place on, by one call where that may be. `Halt` comes
+/// only where the seat's steps equal its limit, and then the first of the words were loaded.
+fn load_run<O: Object>(
+    shared: &Shared<O>,
+    seat: &mut CallerSeat,
+    r: u64,
+    from: u64,
+    into: &mut [u64],
+) -> Result<(), Halt>
+    requires seat { IsSeatOf shared.now seat.old × (from + length into.old < 2 ^ 64) }
+    requires guard { (i : ℕ) → i < length into.old → CanLoad shared.now.callers (length shared.now.base.words) r (from + i) seat.old.known.local }
+    ensures made { OnOk result (Runs shared.now O.step O.only_reads (O.lawful shared.now.object) (loads_from r from) into.new seat.old seat.new) }
+    ensures some { (n : ℕ) × Runs shared.now O.step O.only_reads (O.lawful shared.now.object) (loads_from r from) (take n into.new) seat.old seat.new }
+    ensures halted { OnErr result (IsAtLimit seat.new.known.local) }
+    ensures length { length into.new ≡ length into.old }
+{
+    // the place is noted by itself, and where fewer steps are left the first words are loaded all the same
+    if from > 0 && shared.load_words(seat, r, from, into) {
+        return Ok(());
+    }
+    load_each(shared, seat, r, from, into)
+}
+
+/// The same, one by one.
+fn load_each<O: Object>(
+    shared: &Shared<O>,
+    seat: &mut CallerSeat,
+    r: u64,
+    from: u64,
+    into: &mut [u64],
+) -> Result<(), Halt>
+    requires seat { IsSeatOf shared.now seat.old × (from + length into.old < 2 ^ 64) }
+    requires guard { (i : ℕ) → i < length into.old → CanLoad shared.now.callers (length shared.now.base.words) r (from + i) seat.old.known.local }
+    ensures made { OnOk result (Runs shared.now O.step O.only_reads (O.lawful shared.now.object) (loads_from r from) into.new seat.old seat.new) }
+    ensures some { (n : ℕ) × Runs shared.now O.step O.only_reads (O.lawful shared.now.object) (loads_from r from) (take n into.new) seat.old seat.new }
+    ensures halted { OnErr result (IsAtLimit seat.new.known.local) }
+    ensures length { length into.new ≡ length into.old }
+{
+    for i in 0..into.len() {
+        into[i] = shared.load_word(seat, r, from + i as u64, false)?;
+    }
+    Ok(())
 }

@@ -1,5 +1,6 @@
 -- A replica held exclusively, while a protection is stated and given up.
 use Rattle.std.proofs.Common.{All, ◌≡◌, ◌<◌, ℕ, List, ap, sym, subst, ◌∙◌}
+use Rattle.cx_base.specs.declared.object.Object.{Ghosts}
 use Rattle.cx_core.specs.Region.{region_words}
 use Rattle.cx_core.specs.Rights.{held_dirty}
 use Rattle.cx_rule.specs.Fitting.{SomeFits}
@@ -9,8 +10,7 @@ use Rattle.cx_table.specs.Right.{Right}
 use Rattle.cx_table.specs.Tokens.{IsExclusiveOf}
 use Rattle.mutation_queue.specs.Protections.{but_protected}
 use Rattle.replica.specs.Held.{IsHeld}
-use Rattle.replica.specs.Replays.{IsImage, noted_place}
-use Rattle.replica.specs.Tests.{IsReady}
+use Rattle.replica.specs.Replays.{IsImage, IsReady, noted_place}
 
 -- a replica that is held still is
 pub held_protected : {O : Type 0} (lines : ℕ) (r : Running O) (lawful : List ℕ → Type 0) (before after : Seated) (held : Right) → IsSeatOf r after → but_protected after ≡ but_protected before → IsHeld lines r lawful before held → IsHeld lines r lawful after held
@@ -33,9 +33,9 @@ image_protected lines r lawful step before after same was =
     let here : IsImage lines lawful r.base step (but_protected after).known = subst (λ (s : Seated). IsImage lines lawful r.base step s.known) (sym same) there in
     record { begun = here.begun; replayed = here.replayed; law = here.law }
 
-pub ready_protected : {O : Type 0} (lines : ℕ) (r : Running O) (lawful : List ℕ → Type 0) (step : List ℕ → List ℕ → List ℕ × List ℕ) (before after : Seated) (held : Right) (at : ℕ) → IsSeatOf r after → but_protected after ≡ but_protected before → IsReady lines r lawful step held at before → IsReady lines r lawful step held at after
-ready_protected lines r lawful step before after held at of same was = record {
-  is_held = held_protected lines r lawful before after held of same was.is_held;
-  image = image_protected lines r lawful step before after same was.image;
+pub ready_protected : {O : Type 0} (o : Ghosts O) (r : Running O) (before after : Seated) (held : Right) (at : ℕ) → IsSeatOf r after → but_protected after ≡ but_protected before → IsReady o r held at before → IsReady o r held at after
+ready_protected o r before after held at of same was = record {
+  is_held = held_protected (o.line_count r.object) r (o.lawful r.object) before after held of same was.is_held;
+  image = image_protected (o.line_count r.object) r (o.lawful r.object) (o.step r.object) before after same was.image;
   place = ap noted_place same ∙ was.place;
 }

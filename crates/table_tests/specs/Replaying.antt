@@ -1,4 +1,4 @@
--- What the tests speak of.
+-- Callers in the tests of replicas: which have no right, and what a step leaves of one.
 use Rattle.std.specs.Prelude.{◌≡◌, ◌<◌, ℕ, List, [], None, Result, Ok, Err}
 use Rattle.cx_core.specs.declared.local.Local.{Local}
 use Rattle.cx_core.specs.declared.local.Protection.TheVariants.{Unprotected}
@@ -7,16 +7,8 @@ use Rattle.cx_rule.specs.Running.{IsSeatOf, Running}
 use Rattle.cx_rule.specs.Seats.{Seated}
 use Rattle.cx_table.specs.Right.{Right, WonRight}
 use Rattle.cx_table.specs.Tokens.{IsDowngradedOf}
-use Rattle.replica.specs.Held.{IsHeld}
 use Rattle.mutation_queue.specs.declared.linking.LinkTried.{LinkTried}
 use Rattle.mutation_queue.specs.declared.linking.LinkTried.TheVariants.{Again, Linked, Worn}
-use Rattle.replica.specs.Replays.{IsImage, noted_place}
-
--- a replica is held exclusively that is the image after this place
-pub record IsReady {O : Type 0} (lines : ℕ) (r : Running O) (lawful : List ℕ → Type 0) (step : List ℕ → List ℕ → List ℕ × List ℕ) (held : Right) (at : ℕ) (seat : Seated) : Type 0 where
-  pub is_held : IsHeld lines r lawful seat held
-  pub image : IsImage lines lawful r.base step seat.known
-  pub place : noted_place seat ≡ at
 
 -- a caller has no right on a replica
 pub record HasNoRight (l : Local) : Type 0 where

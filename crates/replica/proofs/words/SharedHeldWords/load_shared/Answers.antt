@@ -1,5 +1,5 @@
 use Rattle.replica.proofs.Access.{made_by_shared_load, shared_guard}
-use Rattle.replica.proofs.board.SharedBoard.load_shared.Goals as goal
+use Rattle.replica.proofs.words.SharedHeldWords.load_shared.Goals as goal
 
 pub load_word-requires-clause-guard : goal.load_word-requires-clause-guard
 load_word-requires-clause-guard g c = shared_guard _ c.args.self.now _ c.args.held.now c.replica.result c.args.at c.args.seat.now c.replica.ensures c.requires.held c.requires.at

@@ -1,0 +1,40 @@
+-- What an entry that was read leaves of a replica held exclusively, and its words.
+use Rattle.std.proofs.Common.{All, ◌≡◌, ◌<◌, ℕ, List, [], ◌∷◌, length, drop, slice_index, take, ap, sym, subst, ◌∙◌, arith}
+use Rattle.std.proofs.lemmas.List.{take_all}
+use Rattle.cx_base.specs.declared.object.Object.{Ghosts}
+use Rattle.cx_core.specs.Region.{region_words}
+use Rattle.cx_core.specs.Rights.{held_dirty}
+use Rattle.cx_rule.specs.Fitting.{SomeFits}
+use Rattle.cx_rule.specs.Running.{IsSeatOf, Running}
+use Rattle.cx_rule.specs.Seats.{Seated}
+use Rattle.cx_table.specs.Right.{Right}
+use Rattle.cx_table.specs.Tokens.{IsExclusiveOf}
+use Rattle.mutation_queue.specs.Entries.{ReadsEntry, notes_of, with_look, with_read}
+use Rattle.replica.specs.Held.{IsHeld}
+use Rattle.replica.specs.Replays.{IsReady, noted_place}
+use Rattle.replica.specs.Laws.{image_more}
+
+-- a replica that is held still is, once an entry was read
+held_read : {O : Type 0} (lines : ℕ) (r : Running O) (lawful : List ℕ → Type 0) (caller ticket : ℕ) (words : List ℕ) (before after : Seated) (held : Right) → IsSeatOf r after → ReadsEntry caller ticket words before after → IsHeld lines r lawful before held → IsHeld lines r lawful after held
+held_read lines r lawful caller ticket words before after held of read was =
+    let now = with_read caller ticket words (with_look after.known.local.seen_slot before) in
+    record {
+      sized = was.sized;
+      of = of;
+      right = subst (λ s. IsExclusiveOf r.callers s held) (sym read.seat) (let right : IsExclusiveOf r.callers now held = record { few = was.right.few; caller = was.right.caller; holds = was.right.holds } in right);
+      some = subst (λ (s : Seated). SomeFits lines lawful r.base s.known.accesses) (sym read.seat) was.some;
+      dirty = subst (λ (s : Seated). All (λ i. i < region_words lines) (held_dirty s.known.local.exclusive)) (sym read.seat) was.dirty;
+    }
+
+-- a replica that is the image after its place still is, once an entry was read
+pub ready_read : {O : Type 0} (o : Ghosts O) (r : Running O) (caller ticket at : ℕ) (words : List ℕ) (before after : Seated) (held : Right) → IsSeatOf r after → ReadsEntry caller ticket words before after → IsReady o r held at before → IsReady o r held at after
+ready_read o r caller ticket at words before after held of read was = record {
+  is_held = held_read (o.line_count r.object) r (o.lawful r.object) caller ticket words before after held of read was.is_held;
+  image = image_more (o.line_count r.object) (o.lawful r.object) r.base (o.step r.object) before.known after.known (notes_of caller ticket 0 words) (ap (λ (s : Seated). s.known.accesses) read.seat) (ap (λ (s : Seated). s.known.noted) read.seat) was.image;
+  place = ap noted_place read.seat ∙ was.place;
+}
+
+-- words, the first of them and the 144 behind it
+pub first_and_rest : (ws op : List ℕ) → length ws ≡ 145 → op ≡ take 144 (drop 1 ws) → slice_index ws 0 ∷ op ≡ ws
+first_and_rest [] op long is = absurd (omega arith)
+first_and_rest (w ∷ ws) op long is = ap (λ xs. w ∷ xs) (is ∙ take_all 144 ws (omega arith))
