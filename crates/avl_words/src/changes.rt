@@ -3,8 +3,8 @@
 ghost use Rattle.std.specs.Prelude.{◌≡◌, ◌≢◌, ◌≤◌, ℕ, List, IfOk, length};
 ghost use Rattle.std.specs.declared.cmp.Ordering.{Ordering};
 ghost use Rattle.cx_base.specs.Calls.{Changes, Finds};
-ghost use Rattle.avl_tree.specs.Removal.{gone_way, gone_rest};
-ghost use Rattle.avl_tree.specs.Tree.{Tree};
+ghost use Rattle.avl_words.specs.Removal.{gone_way, gone_rest};
+ghost use Rattle.avl_words.specs.Tree.{Tree};
 ghost use Rattle.avl_words.specs.Changes.{CanPut, Puts, CanTake, Takes, HasTwo, CanDescend, Descends, Raises};
 ghost use Rattle.avl_words.specs.Lines.{CanLoad, CanStore};
 

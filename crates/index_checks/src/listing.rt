@@ -8,7 +8,7 @@ ghost use Rattle.index_checks.specs.Reading.{text_at, pair_at, store_in};
 
 use crate::node_checks::word_at;
 use crate::text_checks::read_content;
-use avl_checks::InOrder;
+use crate::in_order::InOrder;
 use cx_base::{Bytes, unpack};
 use doc_model::Pair;
 use std::alloc::{AllocError, Global};
