@@ -8,9 +8,9 @@ ghost use Rattle.index_checks.specs.Shape.{HasShape};
 ghost use Rattle.avl_words.specs.Lines.{word_of, IsPartLength};
 ghost use Rattle.index_checks.specs.Lawful.{CanCheck, HasKey, NoKey, HasDocument, NoDocument, HasPair, NoPair, HasNodes, NoNodes};
 
+use crate::in_order::InOrder;
 use crate::marks::mark;
 use crate::text_checks::text_at;
-use crate::in_order::InOrder;
 
 /// The word at a place of a line.
 pub fn word_at(words: &[u64], line: u64, place: usize) -> u64
