@@ -4,12 +4,12 @@ use Rattle.std.specs.List.{range_with_len}
 use Rattle.std.proofs.lemmas.Bool.{cases_eq, cases_lt, cond-true, cond-false, eq-eqb, ne_eqb}
 use Rattle.std.proofs.lemmas.List.{ext_get_or}
 use Rattle.std.proofs.lemmas.List.FromFn.{get_or-map-range_with_len, length-map-range_with_len}
-use Rattle.avl_tree.specs.Tree.{Tree, Empty, Node, height}
+use Rattle.avl_words.specs.Tree.{Tree, Empty, Node, height}
 use Rattle.avl_words.specs.Lines.{word_of}
 use Rattle.avl_words.specs.Words.{root, times, Stands, IsTree}
 use Rattle.avl_words.specs.Links.{SameBut}
 use Rattle.avl_words.specs.Exact.{tree_at, tree_in, node_word, link_of, with_links}
-use Rattle.avl_tree.proofs.Depth.{depth_bound}
+use Rattle.avl_words.proofs.Depth.{depth_bound}
 use Rattle.avl_words.proofs.Frames.{times_self, times_other}
 
 -- the tree below a link

@@ -2,7 +2,7 @@
 use Rattle.std.proofs.Common.{◌≡◌, ◌≢◌, ◌+◌, ◌-◌, ◌*◌, ◌<◌, ◌≤◌, ◌⊎◌, inl, inr, max, ℕ, zero, suc, cond, eqb, List, length, refl, sym, ap, subst, ◌∙◌, get_or-set_other, get_or-set_same, arith, lit<}
 use Rattle.std.proofs.Math.ListN.{length-set}
 use Rattle.std.proofs.lemmas.Bool.Decides.{nat_tests}
-use Rattle.avl_tree.specs.Tree.{Tree, Empty, Node, height, node_on}
+use Rattle.avl_words.specs.Tree.{Tree, Empty, Node, height, node_on}
 use Rattle.avl_words.specs.Lines.{word_of, IsWithin, with_word}
 use Rattle.avl_words.specs.Words.{root, times, IsNode, Stands}
 use Rattle.avl_words.specs.Links.{high_of, with_node, SameBut}

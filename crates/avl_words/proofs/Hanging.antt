@@ -1,15 +1,15 @@
 -- What hangs a tree at the end of a way, and what stands all the way up.
 use Rattle.std.proofs.Common.{◌≡◌, ◌+◌, ◌-◌, ◌*◌, ◌<◌, ◌≤◌, inl, ℕ, zero, suc, cond, leb, List, [], ◌∷◌, length, get_or, refl, sym, ap, subst, ◌∙◌, arith}
 use Rattle.std.proofs.lemmas.Bool.{cond_both}
-use Rattle.avl_tree.specs.Tree.{Tree, Empty, Node, height, node_on, inner_up, child_up, rotated, joined}
-use Rattle.avl_tree.specs.Ways.{Turn, under, whole, mended}
+use Rattle.avl_words.specs.Tree.{Tree, Empty, Node, height, node_on, inner_up, child_up, rotated, joined}
+use Rattle.avl_words.specs.Ways.{Turn, under, whole, mended}
 use Rattle.avl_words.specs.Lines.{word_of, IsWithin}
 use Rattle.avl_words.specs.Words.{root, times}
 use Rattle.avl_words.specs.Links.{high_of, HasLink, IsSubtree, SameBut, IsOpen, IsHigh, CanJoin, Joins}
 use Rattle.avl_words.specs.Mending.{IsHanging, CanHang, Hangs, Spine, times_way, IsHung}
 use Rattle.avl_words.proofs.Frames.{times_self, times_on, high_is, stands_apart}
 use Rattle.avl_words.proofs.Rotations.{link_is}
-use Rattle.avl_tree.proofs.Trees.{height_on}
+use Rattle.avl_words.proofs.Trees.{height_on}
 
 -- the lines of a balanced node
 inner_up_times : (k side : ℕ) (a : Tree ℕ) (y : ℕ) (b : Tree ℕ) (x : ℕ) (c : Tree ℕ) → times k (inner_up side a y b x c) ≡ times k (node_on side (node_on side a y b) x c)

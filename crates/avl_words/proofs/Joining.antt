@@ -1,7 +1,7 @@
 -- A node over two trees, balanced by the code.
 use Rattle.std.proofs.Common.{◌≡◌, ◌+◌, ◌<◌, ◌≤◌, max, ℕ, cond, leb, List, sym, subst, ◌∙◌, arith, lit<}
 use Rattle.std.proofs.lemmas.Bool.{cond-true, cond-false, le-leb, lt-leb}
-use Rattle.avl_tree.specs.Tree.{Tree, Node, height, rotated}
+use Rattle.avl_words.specs.Tree.{Tree, Node, height, rotated}
 use Rattle.avl_words.specs.Lines.{IsWithin}
 use Rattle.avl_words.specs.Words.{root}
 use Rattle.avl_words.specs.Links.{with_node, IsLink, CanSet, IsOpen, IsHigh, CanRotate, Rotates, CanJoin, Joins}

@@ -1,12 +1,12 @@
 -- A node is taken out where a walk ended.
 use Rattle.std.proofs.Common.{◌≡◌, ◌≢◌, ◌+◌, ◌<◌, ◌≤◌, ℕ, suc, List, [], ◌∷◌, ◌++◌, length, get_or, set, refl, sym, ap, subst, ◌∙◌, add-one, length-append, get_or-set_same, get_or-set_other, arith, lit<}
 use Rattle.std.specs.declared.cmp.Ordering.{Ordering}
-use Rattle.avl_tree.specs.Tree.{Tree, Empty, Node, height, IsLevel, Balanced}
-use Rattle.avl_tree.specs.Ways.{Turn, whole, mended, spot}
-use Rattle.avl_tree.specs.Removal.{least, gone_way, gone_rest, with_out}
-use Rattle.avl_tree.proofs.Trees.{balanced_at}
-use Rattle.avl_tree.proofs.Depth.{depth_bound, height_at}
-use Rattle.avl_tree.proofs.Spots.{spot_whole}
+use Rattle.avl_words.specs.Tree.{Tree, Empty, Node, height, IsLevel, Balanced}
+use Rattle.avl_words.specs.Ways.{Turn, whole, mended, spot}
+use Rattle.avl_words.specs.Removal.{least, gone_way, gone_rest, with_out}
+use Rattle.avl_words.proofs.Trees.{balanced_at}
+use Rattle.avl_words.proofs.Depth.{depth_bound, height_at}
+use Rattle.avl_words.proofs.Spots.{spot_whole}
 use Rattle.avl_words.specs.Changes.{IsThere, CanTake, Takes, HasTwo, IsBelow, CanDescend, IsLeast, Descends, IsGone, IsOut, Raises, IsDescending}
 use Rattle.avl_words.specs.Lines.{word_of, IsWithin, with_word}
 use Rattle.avl_words.specs.Words.{root, times, Stands, IsNoted}

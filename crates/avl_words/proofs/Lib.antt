@@ -1,3 +1,8 @@
+pub mod Trees
+pub mod Depth
+pub mod Stopping
+pub mod Removing
+pub mod Spots
 pub mod Memories
 pub mod Frames
 pub mod Rotations

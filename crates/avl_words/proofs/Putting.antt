@@ -3,11 +3,11 @@ use Rattle.std.proofs.Common.{◌≡◌, ◌≢◌, ◌^◌, ◌+◌, ◌-◌, �
 use Rattle.std.specs.declared.cmp.Ordering.{Ordering}
 use Rattle.std.proofs.Math.ListN.{length-set}
 use Rattle.std.proofs.lemmas.Bool.{cases_eq}
-use Rattle.avl_tree.specs.Tree.{Tree, Empty, Node, height, items, size, IsLevel, Balanced, node_on}
-use Rattle.avl_tree.specs.Ways.{Turn, under, whole, before, behind, spot, with_new}
-use Rattle.avl_tree.proofs.Trees.{height_on, balanced_at, mended_balanced}
-use Rattle.avl_tree.proofs.Depth.{depth_bound, height_at}
-use Rattle.avl_tree.proofs.Spots.{spot_whole, spot_items, new_items, new_balanced, size_is}
+use Rattle.avl_words.specs.Tree.{Tree, Empty, Node, height, items, size, IsLevel, Balanced, node_on}
+use Rattle.avl_words.specs.Ways.{Turn, under, whole, before, behind, spot, with_new}
+use Rattle.avl_words.proofs.Trees.{height_on, balanced_at, mended_balanced}
+use Rattle.avl_words.proofs.Depth.{depth_bound, height_at}
+use Rattle.avl_words.proofs.Spots.{spot_whole, spot_items, new_items, new_balanced, size_is}
 use Rattle.avl_words.specs.Lines.{word_of, IsWithin, with_word}
 use Rattle.avl_words.specs.Words.{root, times, IsNode, Stands, IsTree, IsSpot}
 use Rattle.avl_words.specs.Links.{IsMade}

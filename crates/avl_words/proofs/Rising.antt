@@ -1,8 +1,8 @@
 -- Up a way, node by node: each is balanced, until one is as high as it was.
 use Rattle.std.proofs.Common.{◌≡◌, ◌+◌, ◌-◌, ◌<◌, ◌≤◌, ℕ, List, [], ◌∷◌, get_or, refl, sym, ap, subst, ◌∙◌, arith}
-use Rattle.avl_tree.specs.Tree.{Tree, height, node_on}
-use Rattle.avl_tree.specs.Ways.{Turn, under, whole, mended}
-use Rattle.avl_tree.proofs.Stopping.{mended_level}
+use Rattle.avl_words.specs.Tree.{Tree, height, node_on}
+use Rattle.avl_words.specs.Ways.{Turn, under, whole, mended}
+use Rattle.avl_words.proofs.Stopping.{mended_level}
 use Rattle.avl_words.specs.Lines.{word_of, IsWithin}
 use Rattle.avl_words.specs.Words.{root, times, Stands}
 use Rattle.avl_words.specs.Links.{SameBut, IsMade, IsHigh}

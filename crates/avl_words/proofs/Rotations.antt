@@ -1,11 +1,11 @@
 -- What the writes of a rotation make of a tree.
 use Rattle.std.proofs.Common.{◌≡◌, ◌≢◌, ◌^◌, ◌+◌, ◌-◌, ◌<◌, ◌≤◌, max, ℕ, zero, suc, cond, eqb, leb, List, refl, sym, ap, subst, ◌∙◌, arith}
 use Rattle.std.proofs.lemmas.Bool.{cond-true, cond-false, le-leb, lt-leb}
-use Rattle.avl_tree.specs.Tree.{Tree, Empty, Node, height, node_on, inner_up, child_up, rotated}
+use Rattle.avl_words.specs.Tree.{Tree, Empty, Node, height, node_on, inner_up, child_up, rotated}
 use Rattle.avl_words.specs.Lines.{word_of, IsWithin}
 use Rattle.avl_words.specs.Words.{root, times, IsNode, Stands}
 use Rattle.avl_words.specs.Links.{high_of, with_node, IsLink, CanSet, SameBut, IsOpen, IsHigh, CanRotate, Rotates}
-use Rattle.avl_tree.proofs.Trees.{height_on}
+use Rattle.avl_words.proofs.Trees.{height_on}
 use Rattle.avl_words.proofs.Frames.{times_self, times_on, root_on, stands_set, high_is, IsThere, there_set, stands_on, but_set, but_then}
 
 -- a link to a tree that stands

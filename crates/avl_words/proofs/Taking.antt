@@ -1,18 +1,18 @@
 -- A node with two children is taken out by one write and one way up: the least node behind it takes its place on the way.
 use Rattle.std.proofs.Common.{◌≡◌, ◌+◌, ◌*◌, ◌≤◌, max, ℕ, cond, eqb, List, [], ◌∷◌, ◌++◌, length, refl, sym, ap, subst, ◌∙◌, get_or-set_same, arith, lit<}
-use Rattle.avl_tree.specs.Tree.{Tree, Empty, Node, height, Balanced, node_on}
-use Rattle.avl_tree.specs.Ways.{Turn, whole}
+use Rattle.avl_words.specs.Tree.{Tree, Empty, Node, height, Balanced, node_on}
+use Rattle.avl_words.specs.Ways.{Turn, whole}
 use Rattle.avl_words.specs.Lines.{with_word}
 use Rattle.avl_words.specs.Words.{root, times, Stands, IsNoted}
 use Rattle.avl_words.specs.Mending.{Spine, times_way, IsHung, Settled}
 use Rattle.avl_words.proofs.Relinking.{settled_of, settled_kept, settled_behind}
-use Rattle.avl_tree.specs.Removal.{Least, least}
-use Rattle.avl_tree.proofs.Trees.{height_on, balanced_at}
+use Rattle.avl_words.specs.Removal.{Least, least}
+use Rattle.avl_words.proofs.Trees.{height_on, balanced_at}
 use Rattle.avl_words.proofs.Walks.{stands_at}
 use Rattle.avl_words.proofs.Frames.{stands_apart, link_but}
 use Rattle.avl_words.proofs.Hanging.{whole_times, spine_kept}
 use Rattle.avl_words.proofs.Putting.{spine_of, low_way}
-use Rattle.avl_tree.proofs.Removing.{least_whole, balanced_in, whole_both}
+use Rattle.avl_words.proofs.Removing.{least_whole, balanced_in, whole_both}
 
 spine_both : (ws : List ℕ) (w v : List (Turn ℕ)) → Spine ws w → Spine ws v → Spine ws (w ++ v)
 spine_both ws [] v p q = q

@@ -3,12 +3,12 @@ use Rattle.std.proofs.Common.{◌≡◌, ◌≢◌, ◌^◌, ◌+◌, ◌*◌, �
 use Rattle.std.specs.declared.cmp.Ordering.{Ordering}
 use Rattle.std.specs.declared.cmp.Ordering.TheVariants.{Less, Equal, Greater}
 use Rattle.std.proofs.Math.Pow.{pow_mono}
-use Rattle.avl_tree.specs.Tree.{Tree, Empty, Node, height, items, size, node_on}
-use Rattle.avl_tree.specs.Ways.{Turn, whole, behind, spot}
+use Rattle.avl_words.specs.Tree.{Tree, Empty, Node, height, items, size, node_on}
+use Rattle.avl_words.specs.Ways.{Turn, whole, behind, spot}
 use Rattle.avl_words.specs.Lines.{word_of, IsWithin}
 use Rattle.avl_words.specs.Words.{root, Stands, IsTree, IsNoted, IsOnWay, IsSpot}
-use Rattle.avl_tree.proofs.Depth.{depth_law, depth_bound, height_at}
-use Rattle.avl_tree.proofs.Spots.{spot_right, spot_here, spot_left, spot_whole}
+use Rattle.avl_words.proofs.Depth.{depth_law, depth_bound, height_at}
+use Rattle.avl_words.proofs.Spots.{spot_right, spot_here, spot_left, spot_whole}
 
 -- what stands at a place
 parts_stand : (ws : List ℕ) (side : ℕ) (t : Tree ℕ) (x : ℕ) (s : Tree ℕ) → Stands ws (node_on side t x s) → Stands ws t

@@ -1,9 +1,9 @@
 -- A node is put where a walk ended, or the node there is taken out.
 use Rattle.std.specs.Prelude.{◌≡◌, ◌≢◌, ◌+◌, ◌≤◌, ℕ, List, [], ◌++◌, length}
 use Rattle.std.specs.declared.cmp.Ordering.{Ordering}
-use Rattle.avl_tree.specs.Tree.{Tree, Empty, Node, height}
-use Rattle.avl_tree.specs.Ways.{Turn, whole, spot, with_new}
-use Rattle.avl_tree.specs.Removal.{least, gone_way, gone_rest, without}
+use Rattle.avl_words.specs.Tree.{Tree, Empty, Node, height}
+use Rattle.avl_words.specs.Ways.{Turn, whole, spot, with_new}
+use Rattle.avl_words.specs.Removal.{least, gone_way, gone_rest, without}
 use Rattle.avl_words.specs.Lines.{word_of}
 use Rattle.avl_words.specs.Words.{times, IsNode, Stands, IsTree, IsNoted, IsSpot}
 use Rattle.avl_words.specs.Links.{SameBut}

@@ -1,7 +1,7 @@
 -- The tree that words stand for, and words with the links of a tree.
 use Rattle.std.specs.Prelude.{◌/◌, ◌%◌, ◌==◌, ℕ, zero, suc, List, length, map, slice_index, if◌then◌else◌}
 use Rattle.std.specs.List.{range_with_len}
-use Rattle.avl_tree.specs.Tree.{Tree, Empty, Node, height}
+use Rattle.avl_words.specs.Tree.{Tree, Empty, Node, height}
 use Rattle.avl_words.specs.Lines.{word_of, with_word}
 use Rattle.avl_words.specs.Words.{root}
 

@@ -1,3 +1,6 @@
+pub mod Tree
+pub mod Ways
+pub mod Removal
 pub mod Lines
 pub mod Words
 pub mod Links

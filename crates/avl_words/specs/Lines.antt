@@ -1,5 +1,7 @@
 -- Lines of eight words; line 0 is a header, and a word that names no line is 0.
-use Rattle.std.specs.Prelude.{◌≡◌, ◌^◌, ◌+◌, ◌*◌, ◌/◌, ◌≤◌, ℕ, List, length, slice_index, slice_set}
+use Rattle.std.specs.Prelude.{◌≡◌, ◌^◌, ◌+◌, ◌*◌, ◌/◌, ◌≤◌, ℕ, List, length, slice_index, slice_set, IsTrue}
+use Rattle.cx_base.specs.Memory.{Always}
+use Rattle.cx_base.specs.declared.memory.Memory.{Ghosts}
 
 -- word i of a line, and the number of lines
 abbrev pub word_of : List ℕ → ℕ → ℕ → ℕ
@@ -21,3 +23,14 @@ pub record IsPartLength (n : ℕ) : Type 0 where
   pub whole : n ≡ 8 * (n / 8)
   pub some : 1 ≤ n / 8
   pub few : n / 8 ≤ 2 ^ 32
+
+-- A memory of so many lines that may be loaded, and all the words that may be there are so.
+pub record CanLoad {Memory : Type 0} (m : Ghosts Memory) (memory : Memory) (P : List ℕ → Type 0) : Type 0 where
+  pub sized : IsPartLength (m.size memory)
+  pub all : Always (m.stands memory) P
+
+-- the same of one that may be stored to
+pub record CanStore {Memory : Type 0} (m : Ghosts Memory) (memory : Memory) (P : List ℕ → Type 0) : Type 0 where
+  pub sized : IsPartLength (m.size memory)
+  pub writable : IsTrue (m.writable memory)
+  pub all : Always (m.stands memory) P

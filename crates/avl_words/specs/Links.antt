@@ -1,6 +1,6 @@
 -- How the links and heights of nodes change, and what that leaves as it was.
 use Rattle.std.specs.Prelude.{◌≡◌, ◌≢◌, ◌^◌, ◌+◌, ◌-◌, ◌<◌, ◌≤◌, ◌⊎◌, max, ℕ, zero, suc, List, length}
-use Rattle.avl_tree.specs.Tree.{Tree, Node, height, rotated, joined}
+use Rattle.avl_words.specs.Tree.{Tree, Node, height, rotated, joined}
 use Rattle.avl_words.specs.Lines.{word_of, IsWithin, with_word}
 use Rattle.avl_words.specs.Words.{root, times, Stands}
 

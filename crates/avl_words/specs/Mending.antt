@@ -1,7 +1,7 @@
 -- A tree takes another's place at the end of a way down, and each node of the way is balanced again, the last one first.
 use Rattle.std.specs.Prelude.{◌≡◌, ◌^◌, ◌+◌, ◌-◌, ◌≤◌, ◌==◌, ℕ, List, [], ◌∷◌, length, if◌then◌else◌}
-use Rattle.avl_tree.specs.Tree.{Tree, height, node_on, Balanced}
-use Rattle.avl_tree.specs.Ways.{Turn, under, whole, mended}
+use Rattle.avl_words.specs.Tree.{Tree, height, node_on, Balanced}
+use Rattle.avl_words.specs.Ways.{Turn, under, whole, mended}
 use Rattle.avl_words.specs.Lines.{word_of, IsWithin}
 use Rattle.avl_words.specs.Words.{root, times, Stands, IsNoted}
 use Rattle.avl_words.specs.Links.{high_of, SameBut, IsMade, IsHigh}

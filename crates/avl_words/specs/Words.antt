@@ -1,8 +1,8 @@
 -- How words stand for a tree of lines: word 0 of a node's line is its left child, word 1 its right child, word 2 its height.
 use Rattle.std.specs.Prelude.{◌≡◌, ◌^◌, ◌+◌, ◌<◌, ◌≤◌, ◌==◌, ℕ, List, [], ◌∷◌, length, slice_index, if◌then◌else◌}
 use Rattle.std.specs.declared.cmp.Ordering.{Ordering}
-use Rattle.avl_tree.specs.Tree.{Tree, Empty, Node, height, size, Balanced}
-use Rattle.avl_tree.specs.Ways.{Turn, whole, spot}
+use Rattle.avl_words.specs.Tree.{Tree, Empty, Node, height, size, Balanced}
+use Rattle.avl_words.specs.Ways.{Turn, whole, spot}
 use Rattle.avl_words.specs.Lines.{word_of, IsWithin}
 
 abbrev pub root : Tree ℕ → ℕ

@@ -1,12 +1,12 @@
 //! A node is put where a walk ended, or the node there is taken out.
 
-ghost use Rattle.std.specs.Prelude.{◌≡◌, ◌≢◌, ◌≤◌, ℕ, List, IsTrue, IfOk, OnErr, Some, length};
+ghost use Rattle.std.specs.Prelude.{◌≡◌, ◌≢◌, ◌≤◌, ℕ, List, IfOk, length};
 ghost use Rattle.std.specs.declared.cmp.Ordering.{Ordering};
-ghost use Rattle.cx_base.specs.Memory.{Always, Becomes, Framed, Reads};
-ghost use Rattle.avl_tree.specs.Removal.{gone_way, gone_rest};
-ghost use Rattle.avl_tree.specs.Tree.{Tree};
+ghost use Rattle.cx_base.specs.Calls.{Changes, Finds};
+ghost use Rattle.avl_words.specs.Removal.{gone_way, gone_rest};
+ghost use Rattle.avl_words.specs.Tree.{Tree};
 ghost use Rattle.avl_words.specs.Changes.{CanPut, Puts, CanTake, Takes, HasTwo, CanDescend, Descends, Raises};
-ghost use Rattle.avl_words.specs.Lines.{IsPartLength};
+ghost use Rattle.avl_words.specs.Lines.{CanLoad, CanStore};
 
 use crate::blocks::{put_new, word};
 use crate::links::{Subtree, height_of};
@@ -15,12 +15,8 @@ use cx_base::{Halt, Memory};
 
 /// Puts a leaf where a walk ended at nothing, and balances the tree.
 pub fn put_node<M: Memory>(mem: &mut M, way: &Way, node: u64) -> Result<(), Halt>
-    requires sized { IsPartLength (M.size mem.old) }
-    requires writable { IsTrue (M.writable mem.old) }
-    requires can { Always (M.stands mem.old) (λ ws. CanPut ws way.now.nodes way.now.sides way.now.depth node) }
-    ensures done { IfOk result (λ _. Becomes (M.stands mem.old) (M.stands mem.new) (Puts way.now.nodes way.now.sides way.now.depth node)) }
-    ensures halts { OnErr result (M.left mem.new ≡ Some 0) }
-    ensures framed { Framed M.size M.fixed M.writable M.left mem.old mem.new }
+    requires { CanStore M.Memory mem.old (λ ws. CanPut ws way.now.nodes way.now.sides way.now.depth node) }
+    ensures { Changes M.Memory mem.old mem.new result (λ _. Puts way.now.nodes way.now.sides way.now.depth node) }
 {
     let leaf = Subtree {
         root: node,
@@ -33,16 +29,11 @@ pub fn put_node<M: Memory>(mem: &mut M, way: &Way, node: u64) -> Result<(), Halt
 
 /// Notes the way from a node down to the least node below it, and gives that node.
 fn descend<M: Memory>(mem: &mut M, way: &mut Way, node: u64) -> Result<u64, Halt>
-    requires sized { IsPartLength (M.size mem.old) }
+    requires memory { CanLoad M.Memory mem.old (λ ws. CanDescend ws way.old.nodes way.old.sides way.old.depth node) }
     requires arrays { (length way.old.nodes ≡ 64) × (length way.old.sides ≡ 64) }
-    requires can { Always (M.stands mem.old) (λ ws. CanDescend ws way.old.nodes way.old.sides way.old.depth node) }
-    ensures done { IfOk result (λ least. Reads (M.stands mem.old) (M.stands mem.new)
-        (Descends way.old.nodes way.old.sides way.old.depth node way.new.nodes way.new.sides way.new.depth least)) }
+    ensures finds { Finds M.Memory mem.old mem.new result (λ least. Descends way.old.nodes way.old.sides way.old.depth node way.new.nodes way.new.sides way.new.depth least) }
     ensures arrays { (length way.new.nodes ≡ 64) × (length way.new.sides ≡ 64) }
     ensures depth { IfOk result (λ _. way.new.depth ≤ 64) }
-    ensures kept { Becomes (M.stands mem.old) (M.stands mem.new) ◌≡◌ }
-    ensures halts { OnErr result (M.left mem.new ≡ Some 0) }
-    ensures framed { Framed M.size M.fixed M.writable M.left mem.old mem.new }
 {
     let mut least = node;
     for depth in way.depth..64 {
@@ -68,16 +59,11 @@ fn next_up<M: Memory>(
     left: u64,
     right: u64,
 ) -> Result<u64, Halt>
-    requires sized { IsPartLength (M.size mem.old) }
-    requires writable { IsTrue (M.writable mem.old) }
+    requires memory { CanStore M.Memory mem.old (λ ws. HasTwo ws way.old.nodes way.old.sides way.old.depth node left right) }
     requires arrays { (length way.old.nodes ≡ 64) × (length way.old.sides ≡ 64) }
     requires some { (left ≢ 0) × (right ≢ 0) }
-    requires can { Always (M.stands mem.old) (λ ws. HasTwo ws way.old.nodes way.old.sides way.old.depth node left right) }
-    ensures done { IfOk result (λ rest. Becomes (M.stands mem.old) (M.stands mem.new)
-        (Raises way.old.nodes way.old.sides way.old.depth node left right way.new.nodes way.new.sides way.new.depth rest)) }
+    ensures changes { Changes M.Memory mem.old mem.new result (λ rest. Raises way.old.nodes way.old.sides way.old.depth node left right way.new.nodes way.new.sides way.new.depth rest) }
     ensures depth { IfOk result (λ _. way.new.depth ≤ 64) }
-    ensures halts { OnErr result (M.left mem.new ≡ Some 0) }
-    ensures framed { Framed M.size M.fixed M.writable M.left mem.old mem.new }
 {
     let at = way.depth;
     way.nodes[at] = node;
@@ -98,15 +84,10 @@ fn hung_up<M: Memory>(
     left: u64,
     right: u64,
 ) -> Result<u64, Halt>
-    requires sized { IsPartLength (M.size mem.old) }
-    requires writable { IsTrue (M.writable mem.old) }
+    requires memory { CanStore M.Memory mem.old (λ ws. HasTwo ws way.old.nodes way.old.sides way.old.depth node left right) }
     requires arrays { (length way.old.nodes ≡ 64) × (length way.old.sides ≡ 64) }
-    requires can { Always (M.stands mem.old) (λ ws. HasTwo ws way.old.nodes way.old.sides way.old.depth node left right) }
-    ensures done { IfOk result (λ rest. Becomes (M.stands mem.old) (M.stands mem.new)
-        (Raises way.old.nodes way.old.sides way.old.depth node left right way.new.nodes way.new.sides way.new.depth rest)) }
+    ensures changes { Changes M.Memory mem.old mem.new result (λ rest. Raises way.old.nodes way.old.sides way.old.depth node left right way.new.nodes way.new.sides way.new.depth rest) }
     ensures depth { IfOk result (λ _. way.new.depth ≤ 64) }
-    ensures halts { OnErr result (M.left mem.new ≡ Some 0) }
-    ensures framed { Framed M.size M.fixed M.writable M.left mem.old mem.new }
 {
     if left == 0 {
         return Ok(right);
@@ -120,13 +101,9 @@ fn hung_up<M: Memory>(
 /// Takes the node of a walk's end out, and balances the tree: its one child takes its place, or the least node behind it
 /// does, whose own place its right child takes. Words 0 to 2 of the node's own line stay as they are.
 pub fn take_node<M: Memory>(mem: &mut M, way: &mut Way, node: u64) -> Result<(), Halt>
-    requires sized { IsPartLength (M.size mem.old) }
-    requires writable { IsTrue (M.writable mem.old) }
+    requires memory { CanStore M.Memory mem.old (λ ws. CanTake ws way.old.nodes way.old.sides way.old.depth node) }
     requires arrays { (length way.old.nodes ≡ 64) × (length way.old.sides ≡ 64) }
-    requires can { Always (M.stands mem.old) (λ ws. CanTake ws way.old.nodes way.old.sides way.old.depth node) }
-    ensures done { IfOk result (λ _. Becomes (M.stands mem.old) (M.stands mem.new) (Takes way.old.nodes way.old.sides way.old.depth node)) }
-    ensures halts { OnErr result (M.left mem.new ≡ Some 0) }
-    ensures framed { Framed M.size M.fixed M.writable M.left mem.old mem.new }
+    ensures { Changes M.Memory mem.old mem.new result (λ _. Takes way.old.nodes way.old.sides way.old.depth node) }
 {
     let left = word(mem, node, 0)?;
     let right = word(mem, node, 1)?;

@@ -1,12 +1,16 @@
-//! A balanced tree over the lines of a memory: links and heights, a node balanced, and the repair of a way.
+//! Trees of items, balanced by height, as definitions and laws: rotations, the repair of a way, an item put in and taken out. What an
+//! item is does not matter to any of them. And such a tree over the lines of a memory: links and heights, a node balanced, and the
+//! repair of a way.
 #![tactic(auto)]
 
 mod blocks;
 mod changes;
+mod laws;
 mod links;
 mod mending;
 
 pub use blocks::{put, put_new, start_of, word};
 pub use changes::{put_node, take_node};
+pub use laws::{items_are_put, items_are_taken_out, trees_are_shallow};
 pub use links::{Subtree, below, height_of, join, rotate, set_node};
 pub use mending::{Way, hang, mend};

@@ -1,8 +1,8 @@
 //! Links and heights of nodes, and how a node is balanced.
 
-ghost use Rattle.std.specs.Prelude.{◌≡◌, ◌≢◌, ◌+◌, ◌*◌, ◌<◌, ◌≤◌, max, IsTrue, IfOk, OnErr, Some};
-ghost use Rattle.cx_base.specs.Memory.{Always, Becomes, Framed, Reads};
-ghost use Rattle.avl_words.specs.Lines.{IsWithin, IsPartLength};
+ghost use Rattle.std.specs.Prelude.{◌≡◌, ◌≢◌, ◌+◌, ◌*◌, ◌<◌, ◌≤◌, max, IfOk};
+ghost use Rattle.cx_base.specs.Calls.{Changes, Finds};
+ghost use Rattle.avl_words.specs.Lines.{CanLoad, CanStore, IsWithin};
 ghost use Rattle.avl_words.specs.Links.{high_of, with_node, CanSet, HasLink, IsSubtree, CanRotate, Rotates, CanJoin, Joins};
 
 use crate::blocks::{put_new, word};
@@ -17,24 +17,17 @@ pub struct Subtree {
 
 /// The height of the tree below a link.
 pub fn height_of<M: Memory>(mem: &mut M, node: u64) -> Result<u64, Halt>
-    requires sized { IsPartLength (M.size mem.old) }
-    requires link { Always (M.stands mem.old) (λ ws. node ≢ 0 → IsWithin ws node) }
-    ensures done { IfOk result (λ h. Reads (M.stands mem.old) (M.stands mem.new) (λ ws. high_of node ws ≡ h)) }
-    ensures kept { Becomes (M.stands mem.old) (M.stands mem.new) ◌≡◌ }
-    ensures halts { OnErr result (M.left mem.new ≡ Some 0) }
-    ensures framed { Framed M.size M.fixed M.writable M.left mem.old mem.new }
+    requires { CanLoad M.Memory mem.old (λ ws. node ≢ 0 → IsWithin ws node) }
+    ensures { Finds M.Memory mem.old mem.new result (λ h ws. high_of node ws ≡ h) }
 {
     if node == 0 { Ok(0) } else { word(mem, node, 2) }
 }
 
 /// The tree below the link at a side of a node.
 pub fn below<M: Memory>(mem: &mut M, node: u64, side: u64) -> Result<Subtree, Halt>
-    requires sized { IsPartLength (M.size mem.old) }
+    requires memory { CanLoad M.Memory mem.old (λ ws. HasLink ws node side) }
     requires side { side < 2 }
-    requires link { Always (M.stands mem.old) (λ ws. HasLink ws node side) }
-    ensures done { IfOk result (λ t. Reads (M.stands mem.old) (M.stands mem.new) (IsSubtree node side t.root t.height)) }
-    ensures halts { OnErr result (M.left mem.new ≡ Some 0) }
-    ensures framed { Framed M.size M.fixed M.writable M.left mem.old mem.new }
+    ensures { Finds M.Memory mem.old mem.new result (λ t. IsSubtree node side t.root t.height) }
 {
     let root = word(mem, node, side)?;
     let height = height_of(mem, root)?;
@@ -49,16 +42,11 @@ pub fn set_node<M: Memory>(
     a: Subtree,
     b: Subtree,
 ) -> Result<Subtree, Halt>
-    requires sized { IsPartLength (M.size mem.old) }
-    requires writable { IsTrue (M.writable mem.old) }
+    requires memory { CanStore M.Memory mem.old (λ ws. CanSet ws node a.root a.height b.root b.height) }
     requires side { side < 2 }
-    requires can { Always (M.stands mem.old) (λ ws. CanSet ws node a.root a.height b.root b.height) }
-    ensures done { IfOk result (λ _. Becomes (M.stands mem.old) (M.stands mem.new)
-        (λ old now. now ≡ with_node node side a.root b.root old)) }
+    ensures changes { Changes M.Memory mem.old mem.new result (λ _ old now. now ≡ with_node node side a.root b.root old) }
     ensures root { IfOk result (λ top. top.root ≡ node) }
     ensures height { IfOk result (λ top. top.height ≡ 1 + max a.height b.height) }
-    ensures halts { OnErr result (M.left mem.new ≡ Some 0) }
-    ensures framed { Framed M.size M.fixed M.writable M.left mem.old mem.new }
 {
     let height = 1 + a.height.max(b.height);
     put_new(mem, node, side, a.root)?;
@@ -76,13 +64,9 @@ pub fn rotate<M: Memory>(
     child: u64,
     low: Subtree,
 ) -> Result<Subtree, Halt>
-    requires sized { IsPartLength (M.size mem.old) }
-    requires writable { IsTrue (M.writable mem.old) }
+    requires memory { CanStore M.Memory mem.old (λ ws. CanRotate ws node side child low.root low.height) }
     requires side { side < 2 }
-    requires can { Always (M.stands mem.old) (λ ws. CanRotate ws node side child low.root low.height) }
-    ensures done { IfOk result (λ top. Becomes (M.stands mem.old) (M.stands mem.new) (Rotates node side child low.root top.root top.height)) }
-    ensures halts { OnErr result (M.left mem.new ≡ Some 0) }
-    ensures framed { Framed M.size M.fixed M.writable M.left mem.old mem.new }
+    ensures { Changes M.Memory mem.old mem.new result (λ top. Rotates node side child low.root top.root top.height) }
 {
     let outer = below(mem, child, side)?;
     let inner = below(mem, child, 1 - side)?;
@@ -107,12 +91,8 @@ pub fn join<M: Memory>(
     left: Subtree,
     right: Subtree,
 ) -> Result<Subtree, Halt>
-    requires sized { IsPartLength (M.size mem.old) }
-    requires writable { IsTrue (M.writable mem.old) }
-    requires can { Always (M.stands mem.old) (λ ws. CanJoin ws node left.root left.height right.root right.height) }
-    ensures done { IfOk result (λ top. Becomes (M.stands mem.old) (M.stands mem.new) (Joins node left.root right.root top.root top.height)) }
-    ensures halts { OnErr result (M.left mem.new ≡ Some 0) }
-    ensures framed { Framed M.size M.fixed M.writable M.left mem.old mem.new }
+    requires { CanStore M.Memory mem.old (λ ws. CanJoin ws node left.root left.height right.root right.height) }
+    ensures { Changes M.Memory mem.old mem.new result (λ top. Joins node left.root right.root top.root top.height) }
 {
     if left.height + 2 <= right.height {
         let top = rotate(mem, node, 1, right.root, left)?;

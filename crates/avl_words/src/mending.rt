@@ -1,8 +1,8 @@
 //! A tree takes another's place at the end of a way down.
 
-ghost use Rattle.std.specs.Prelude.{◌≡◌, ◌<◌, ◌≤◌, IsTrue, IfOk, OnErr, Some, length};
-ghost use Rattle.cx_base.specs.Memory.{Always, Becomes, Framed};
-ghost use Rattle.avl_words.specs.Lines.{IsPartLength};
+ghost use Rattle.std.specs.Prelude.{◌≡◌, ◌<◌, ◌≤◌, length};
+ghost use Rattle.cx_base.specs.Calls.{Changes};
+ghost use Rattle.avl_words.specs.Lines.{CanStore};
 ghost use Rattle.avl_words.specs.Mending.{CanHang, Hangs, CanRelink, Relinks, CanMend, Mends};
 
 use crate::blocks::{put_new, word};
@@ -33,13 +33,9 @@ impl Way {
 
 /// Hangs a tree at a side of a node, and balances it. Gives the tree on top.
 pub fn hang<M: Memory>(mem: &mut M, node: u64, side: u64, child: Subtree) -> Result<Subtree, Halt>
-    requires sized { IsPartLength (M.size mem.old) }
-    requires writable { IsTrue (M.writable mem.old) }
+    requires memory { CanStore M.Memory mem.old (λ ws. CanHang ws node side child.root child.height) }
     requires side { side < 2 }
-    requires can { Always (M.stands mem.old) (λ ws. CanHang ws node side child.root child.height) }
-    ensures done { IfOk result (λ top. Becomes (M.stands mem.old) (M.stands mem.new) (Hangs node side child.root top.root top.height)) }
-    ensures halts { OnErr result (M.left mem.new ≡ Some 0) }
-    ensures framed { Framed M.size M.fixed M.writable M.left mem.old mem.new }
+    ensures { Changes M.Memory mem.old mem.new result (λ top. Hangs node side child.root top.root top.height) }
 {
     let sibling = below(mem, node, 1 - side)?;
     if side == 0 {
@@ -53,13 +49,9 @@ pub fn hang<M: Memory>(mem: &mut M, node: u64, side: u64, child: Subtree) -> Res
 
 /// Links a tree to the end of a way of so many nodes, which stand for a tree as high as it. Gives the node on top of all.
 fn relink<M: Memory>(mem: &mut M, way: &Way, depth: usize, node: u64) -> Result<u64, Halt>
-    requires sized { IsPartLength (M.size mem.old) }
-    requires writable { IsTrue (M.writable mem.old) }
+    requires memory { CanStore M.Memory mem.old (λ ws. CanRelink ws way.now.nodes way.now.sides depth node) }
     requires depth { depth ≤ 64 }
-    requires can { Always (M.stands mem.old) (λ ws. CanRelink ws way.now.nodes way.now.sides depth node) }
-    ensures done { IfOk result (λ top. Becomes (M.stands mem.old) (M.stands mem.new) (Relinks way.now.nodes way.now.sides depth node top)) }
-    ensures halts { OnErr result (M.left mem.new ≡ Some 0) }
-    ensures framed { Framed M.size M.fixed M.writable M.left mem.old mem.new }
+    ensures { Changes M.Memory mem.old mem.new result (λ top. Relinks way.now.nodes way.now.sides depth node top) }
 {
     if depth == 0 {
         return Ok(node);
@@ -72,13 +64,9 @@ fn relink<M: Memory>(mem: &mut M, way: &Way, depth: usize, node: u64) -> Result<
 /// `settled` nodes of the way stand as they did before the change: where one of them has the height that it had, those
 /// above it stay as they are.
 pub fn mend<M: Memory>(mem: &mut M, way: &Way, settled: usize, tree: Subtree) -> Result<u64, Halt>
-    requires sized { IsPartLength (M.size mem.old) }
-    requires writable { IsTrue (M.writable mem.old) }
+    requires memory { CanStore M.Memory mem.old (λ ws. CanMend ws way.now.nodes way.now.sides way.now.depth settled tree.root tree.height) }
     requires depth { way.now.depth ≤ 64 }
-    requires can { Always (M.stands mem.old) (λ ws. CanMend ws way.now.nodes way.now.sides way.now.depth settled tree.root tree.height) }
-    ensures done { IfOk result (λ top. Becomes (M.stands mem.old) (M.stands mem.new) (Mends way.now.nodes way.now.sides way.now.depth settled tree.root tree.height top)) }
-    ensures halts { OnErr result (M.left mem.new ≡ Some 0) }
-    ensures framed { Framed M.size M.fixed M.writable M.left mem.old mem.new }
+    ensures { Changes M.Memory mem.old mem.new result (λ top. Mends way.now.nodes way.now.sides way.now.depth settled tree.root tree.height top) }
 {
     let mut top = tree;
     for i in 0..way.depth {

@@ -103,27 +103,15 @@ op_key Count = []
 
 abbrev pub op_document : Op → List ℕ
 op_document (Put key document) = document
-op_document (Del key) = []
-op_document (Add key amount) = []
-op_document (Get key) = []
-op_document (Next above) = []
-op_document Count = []
+op_document _ = []
 
 abbrev pub op_number : Op → ℕ
-op_number (Put key document) = 0
-op_number (Del key) = 0
 op_number (Add key amount) = cast_unsigned w64 amount
-op_number (Get key) = 0
-op_number (Next above) = 0
-op_number Count = 0
+op_number _ = 0
 
 pub op_words_are : (op : Op) → op_words op ≡ words_with (op_kind op) (op_key op) (op_document op) (op_number op)
 op_words_are (Put key document) = refl
-op_words_are (Del key) = refl
-op_words_are (Add key amount) = refl
-op_words_are (Get key) = refl
-op_words_are (Next above) = refl
-op_words_are Count = refl
+op_words_are op = refl
 
 pub op_key_text : (op : Op) → IsOp op → IsShortText 64 (op_key op)
 op_key_text (Put key document) is = key_text key is.0
@@ -136,11 +124,7 @@ op_key_text Count is = no_text 64
 
 pub op_document_text : (op : Op) → IsOp op → IsShortText 1024 (op_document op)
 op_document_text (Put key document) is = document_text document is.1
-op_document_text (Del key) is = no_text 1024
-op_document_text (Add key amount) is = no_text 1024
-op_document_text (Get key) is = no_text 1024
-op_document_text (Next above) is = no_text 1024
-op_document_text Count is = no_text 1024
+op_document_text op is = no_text 1024
 
 only_key_passes : (key : List ℕ) → IsKey key → has_key_only key [] ≡ true
 only_key_passes key is = and_from (is_key key) true (key_passes key is) refl
@@ -160,12 +144,8 @@ op_has Count is = refl
 
 -- and of this one
 pub op_again : (op : Op) → HasIntegerAmount op → op_with (op_kind op) (op_key op) (op_document op) (op_number op) ≡ op
-op_again (Put key document) fits = refl
-op_again (Del key) fits = refl
 op_again (Add key amount) fits = ap (Add key) (to_z-of_z w64 amount fits)
-op_again (Get key) fits = refl
-op_again (Next above) fits = refl
-op_again Count fits = refl
+op_again op fits = refl
 
 -- an operation is read from words that it has
 pub op_known : (kind : ℕ) (key document : List ℕ) (number : ℕ) → IsShortText 64 key → IsShortText 1024 document →
@@ -206,19 +186,11 @@ module _ (words : List ℕ) (kind : ℕ) (key document : List ℕ) (number : ℕ
 
 number_small : (op : Op) → HasIntegerAmount op → op_number op < 2 ^ 64
 number_small (Add key amount) fits = omega (arith, ints)
-number_small (Put key document) fits = omega arith
-number_small (Del key) fits = omega arith
-number_small (Get key) fits = omega arith
-number_small (Next above) fits = omega arith
-number_small Count fits = omega arith
+number_small op fits = omega arith
 
 kind_small : (op : Op) → op_kind op < 2 ^ 64
 kind_small (Put key document) = omega arith
-kind_small (Del key) = omega arith
-kind_small (Add key amount) = omega arith
-kind_small (Get key) = omega arith
-kind_small (Next above) = omega arith
-kind_small Count = omega arith
+kind_small op = omega arith
 
 pub op_words_fit : (op : Op) → IsOp op → HasIntegerAmount op → (length (op_words op) ≡ 144) × All (λ w. w < 2 ^ 64) (op_words op)
 op_words_fit op is amount =
@@ -232,8 +204,4 @@ op_words_fit op is amount =
 pub reads_by_kind : (op : Op) → only_reads op ≡ (nat_le 4 (get_or (op_words op) 0 0) && nat_le (get_or (op_words op) 0 0) 6)
 unfolding words_in
 reads_by_kind (Put key document) = refl
-reads_by_kind (Del key) = refl
-reads_by_kind (Add key amount) = refl
-reads_by_kind (Get key) = refl
-reads_by_kind (Next above) = refl
-reads_by_kind Count = refl
+reads_by_kind op = refl

@@ -135,16 +135,7 @@ reply_number _ = 0
 
 pub reply_words_are : (reply : Reply) → reply_words reply ≡ words_with (reply_kind reply) (reply_key reply) (reply_document reply) (reply_number reply)
 reply_words_are New = refl
-reply_words_are Replaced = refl
-reply_words_are Deleted = refl
-reply_words_are Absent = refl
-reply_words_are (Doc document) = refl
-reply_words_are (Sum sum) = refl
-reply_words_are NotNumber = refl
-reply_words_are Overflow = refl
-reply_words_are NoRoom = refl
-reply_words_are (Key key) = refl
-reply_words_are (Number number) = refl
+reply_words_are reply = refl
 
 pub reply_key_text : (reply : Reply) → IsReply reply → IsShortText 64 (reply_key reply)
 reply_key_text (Key key) is = key_text key is
@@ -156,31 +147,14 @@ reply_document_text _ is = no_text 1024
 
 -- they are a reply's
 pub reply_has : (reply : Reply) → IsReply reply → has_reply (reply_kind reply) (reply_key reply) (reply_document reply) (reply_number reply) ≡ true
-reply_has New is = refl
-reply_has Replaced is = refl
-reply_has Deleted is = refl
-reply_has Absent is = refl
 reply_has (Doc document) is = and_from (true && is_document document) true (document_passes document is) refl
-reply_has (Sum sum) is = refl
-reply_has NotNumber is = refl
-reply_has Overflow is = refl
-reply_has NoRoom is = refl
 reply_has (Key key) is = and_from (has_key_only key []) true (and_from (is_key key) true (key_passes key is) refl) refl
-reply_has (Number number) is = refl
+reply_has reply is = refl
 
 -- and of this one
 pub reply_again : (reply : Reply) → HasWordNumber reply → reply_with (reply_kind reply) (reply_key reply) (reply_document reply) (reply_number reply) ≡ reply
 reply_again (Sum sum) fits = ap Sum (to_z-of_z w64 sum fits)
-reply_again New fits = refl
-reply_again Replaced fits = refl
-reply_again Deleted fits = refl
-reply_again Absent fits = refl
-reply_again (Doc document) fits = refl
-reply_again NotNumber fits = refl
-reply_again Overflow fits = refl
-reply_again NoRoom fits = refl
-reply_again (Key key) fits = refl
-reply_again (Number number) fits = refl
+reply_again reply fits = refl
 
 -- a reply is read from words that it has
 pub reply_known : (kind : ℕ) (key document : List ℕ) (number : ℕ) → IsShortText 64 key → IsShortText 1024 document →
@@ -217,28 +191,11 @@ module _ (words : List ℕ) (kind : ℕ) (key document : List ℕ) (number : ℕ
 number_small : (reply : Reply) → HasWordNumber reply → reply_number reply < 2 ^ 64
 number_small (Sum sum) fits = omega (arith, ints)
 number_small (Number number) fits = fits
-number_small New fits = omega arith
-number_small Replaced fits = omega arith
-number_small Deleted fits = omega arith
-number_small Absent fits = omega arith
-number_small (Doc document) fits = omega arith
-number_small NotNumber fits = omega arith
-number_small Overflow fits = omega arith
-number_small NoRoom fits = omega arith
-number_small (Key key) fits = omega arith
+number_small reply fits = omega arith
 
 kind_small : (reply : Reply) → reply_kind reply < 2 ^ 64
 kind_small New = omega arith
-kind_small Replaced = omega arith
-kind_small Deleted = omega arith
-kind_small Absent = omega arith
-kind_small (Doc document) = omega arith
-kind_small (Sum sum) = omega arith
-kind_small NotNumber = omega arith
-kind_small Overflow = omega arith
-kind_small NoRoom = omega arith
-kind_small (Key key) = omega arith
-kind_small (Number number) = omega arith
+kind_small reply = omega arith
 
 pub reply_words_fit : (reply : Reply) → IsReply reply → HasWordNumber reply → (length (reply_words reply) ≡ 144) × All (λ w. w < 2 ^ 64) (reply_words reply)
 reply_words_fit reply is fits =

@@ -69,9 +69,7 @@ pub keys_rise_after : (lines : ℕ) (store : Store) (op : Op) → KeysRise store
 keys_rise_after lines store (Put key document) rising = after_put KeysRise lines store rising key document (with_pair_rises key document store rising)
 keys_rise_after lines store (Del key) rising = without_key_rises key store rising
 keys_rise_after lines store (Add key amount) rising = after_add KeysRise lines store rising key amount (number_at key store) (λ sum fits. with_pair_rises key (signed_decimal sum) store rising)
-keys_rise_after lines store (Get key) rising = rising
-keys_rise_after lines store (Next above) rising = rising
-keys_rise_after lines store Count rising = rising
+keys_rise_after lines store op rising = rising
 
 -- so they do after a step that may have failed
 pub rise_after_step : {E : Type 0} (lines : ℕ) (store new : Store) (op : Op) (r : Result Reply E) → KeysRise store → OnOk r (new ≡ store_after lines store op) → OnErr r (new ≡ store) → KeysRise new
@@ -126,15 +124,11 @@ pub IsStore-after : (lines : ℕ) (store : Store) (op : Op) → IsStore store �
 IsStore-after lines store (Put key document) lawful within = after_put IsStore lines store lawful key document (IsStore-with_pair key document store within.0 within.1 lawful)
 IsStore-after lines store (Del key) lawful within = IsStore-without_key key store lawful
 IsStore-after lines store (Add key amount) lawful within = after_add IsStore lines store lawful key amount (number_at key store) (λ sum fits. IsStore-with_pair key (signed_decimal sum) store within (IsDocument-signed_decimal sum fits) lawful)
-IsStore-after lines store (Get key) lawful within = lawful
-IsStore-after lines store (Next above) lawful within = lawful
-IsStore-after lines store Count lawful within = lawful
+IsStore-after lines store op lawful within = lawful
 
 -- an operation that only reads leaves the store
 pub reading_leaves : (lines : ℕ) (store : Store) (op : Op) → only_reads op ≡ true → store_after lines store op ≡ store
 reading_leaves lines store (Put key document) h = cc
 reading_leaves lines store (Del key) h = cc
 reading_leaves lines store (Add key amount) h = cc
-reading_leaves lines store (Get key) h = refl
-reading_leaves lines store (Next above) h = refl
-reading_leaves lines store Count h = refl
+reading_leaves lines store op h = refl

@@ -47,40 +47,20 @@ reply_words (Number number) = words_with 11 [] [] number
 
 -- a reply whose key or document is within the limits
 abbrev pub IsReply : Reply → Type 0
-IsReply New = Unit {0}
-IsReply Replaced = Unit {0}
-IsReply Deleted = Unit {0}
-IsReply Absent = Unit {0}
 IsReply (Doc document) = IsDocument document
-IsReply (Sum sum) = Unit {0}
-IsReply NotNumber = Unit {0}
-IsReply Overflow = Unit {0}
-IsReply NoRoom = Unit {0}
 IsReply (Key key) = IsKey key
-IsReply (Number number) = Unit {0}
+IsReply _ = Unit {0}
 
 -- the amount of an operation is a 64-bit integer, as each amount of the program is
 abbrev pub HasIntegerAmount : Op → Type 0
-HasIntegerAmount (Put key document) = Unit {0}
-HasIntegerAmount (Del key) = Unit {0}
 HasIntegerAmount (Add key amount) = FitsSigned w64 amount
-HasIntegerAmount (Get key) = Unit {0}
-HasIntegerAmount (Next above) = Unit {0}
-HasIntegerAmount Count = Unit {0}
+HasIntegerAmount _ = Unit {0}
 
 -- the number of a reply has 64 bits
 abbrev pub HasWordNumber : Reply → Type 0
-HasWordNumber New = Unit {0}
-HasWordNumber Replaced = Unit {0}
-HasWordNumber Deleted = Unit {0}
-HasWordNumber Absent = Unit {0}
-HasWordNumber (Doc document) = Unit {0}
 HasWordNumber (Sum sum) = FitsSigned w64 sum
-HasWordNumber NotNumber = Unit {0}
-HasWordNumber Overflow = Unit {0}
-HasWordNumber NoRoom = Unit {0}
-HasWordNumber (Key key) = Unit {0}
 HasWordNumber (Number number) = number < 2 ^ 64
+HasWordNumber _ = Unit {0}
 
 -- an operation within the limits, which has these words
 pub record IsOpOf (words : List ℕ) (op : Op) : Type 0 where

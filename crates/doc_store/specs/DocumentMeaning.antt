@@ -12,17 +12,11 @@ use Rattle.typed_object.specs.Meaning.{Encoding, Meaning}
 
 -- texts of bytes, and numbers of 64 bits
 abbrev pub IsReplyValue : Reply → Type 0
-IsReplyValue New = Unit {0}
-IsReplyValue Replaced = Unit {0}
-IsReplyValue Deleted = Unit {0}
-IsReplyValue Absent = Unit {0}
 IsReplyValue (Doc document) = All (λ b. b < 256) document
 IsReplyValue (Sum sum) = FitsSigned w64 sum
-IsReplyValue NotNumber = Unit {0}
-IsReplyValue Overflow = Unit {0}
-IsReplyValue NoRoom = Unit {0}
 IsReplyValue (Key key) = All (λ b. b < 256) key
 IsReplyValue (Number number) = number < 2 ^ 64
+IsReplyValue _ = Unit {0}
 
 -- a reply within the limits, whose number has 64 bits
 pub record IsWholeReply (reply : Reply) : Type 0 where

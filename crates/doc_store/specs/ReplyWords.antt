@@ -17,43 +17,17 @@ document_length : (reply : Reply) → get_or (reply_words reply) 2 0 ≡ length 
 document_length reply = ap (λ w. get_or w 2 0) (reply_words_are reply) ∙ document_length_in 8 128 (reply_kind reply) (reply_key reply) (reply_document reply) (reply_number reply)
 
 value_number : (reply : Reply) → IsReplyValue reply → HasWordNumber reply
-value_number New is = tt
-value_number Replaced is = tt
-value_number Deleted is = tt
-value_number Absent is = tt
-value_number (Doc document) is = tt
 value_number (Sum sum) is = is
-value_number NotNumber is = tt
-value_number Overflow is = tt
-value_number NoRoom is = tt
-value_number (Key key) is = tt
 value_number (Number number) is = is
+value_number reply is = tt
 
 key_bytes : (reply : Reply) → IsReplyValue reply → length (reply_key reply) ≤ 64 → IsShortText 64 (reply_key reply)
 key_bytes (Key key) is short = record { short = short; bytes = is }
-key_bytes New is short = no_text 64
-key_bytes Replaced is short = no_text 64
-key_bytes Deleted is short = no_text 64
-key_bytes Absent is short = no_text 64
-key_bytes (Doc document) is short = no_text 64
-key_bytes (Sum sum) is short = no_text 64
-key_bytes NotNumber is short = no_text 64
-key_bytes Overflow is short = no_text 64
-key_bytes NoRoom is short = no_text 64
-key_bytes (Number number) is short = no_text 64
+key_bytes reply is short = no_text 64
 
 document_bytes : (reply : Reply) → IsReplyValue reply → length (reply_document reply) ≤ 1024 → IsShortText 1024 (reply_document reply)
 document_bytes (Doc document) is short = record { short = short; bytes = is }
-document_bytes New is short = no_text 1024
-document_bytes Replaced is short = no_text 1024
-document_bytes Deleted is short = no_text 1024
-document_bytes Absent is short = no_text 1024
-document_bytes (Key key) is short = no_text 1024
-document_bytes (Sum sum) is short = no_text 1024
-document_bytes NotNumber is short = no_text 1024
-document_bytes Overflow is short = no_text 1024
-document_bytes NoRoom is short = no_text 1024
-document_bytes (Number number) is short = no_text 1024
+document_bytes reply is short = no_text 1024
 
 pub told_by_words : (one other : Reply) → IsReplyValue one → IsReply other → HasWordNumber other → reply_words one ≡ reply_words other → one ≡ other
 told_by_words one other value is fits same =

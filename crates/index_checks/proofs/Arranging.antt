@@ -3,13 +3,13 @@ use Rattle.std.proofs.Common.{◌≡◌, ◌<◌, ◌≤◌, ℕ, cond, ltb, leb
 use Rattle.std.specs.List.{flat_map}
 use Rattle.std.proofs.lemmas.Bool.Decides.{nat_tests}
 use Rattle.cx_base.specs.Store.{Store}
-use Rattle.avl_tree.specs.Tree.{Tree, Empty, Node, size, items}
-use Rattle.avl_tree.proofs.Depth.{depth_bound}
+use Rattle.avl_words.specs.Tree.{Tree, Empty, Node, size, items}
+use Rattle.avl_words.proofs.Depth.{depth_bound}
 use Rattle.avl_words.specs.Lines.{word_of}
 use Rattle.avl_words.specs.Words.{times, IsTree}
-use Rattle.avl_checks.specs.Order.{in_order}
-use Rattle.avl_checks.specs.Shape.{HasShape}
-use Rattle.avl_checks.proofs.Orders.{items_count, in_order_is}
+use Rattle.index_checks.specs.Order.{in_order}
+use Rattle.index_checks.specs.Shape.{HasShape}
+use Rattle.index_checks.proofs.Orders.{items_count, in_order_is}
 use Rattle.index_checks.specs.Lawful.{count_of}
 use Rattle.index_checks.specs.Layout.{Place, lines_at, nodes_of, Arranged}
 use Rattle.index_checks.proofs.Counts.{count_append, count_cons}

@@ -7,7 +7,7 @@ use Rattle.std.proofs.lemmas.List.{append-nil, length-set, length-replicate, get
 use Rattle.std.proofs.lemmas.List.Elements.{All-from_get_or, All-head, All-tail}
 use Rattle.cx_base.specs.Store.{Store, IsKey, IsDocument}
 use Rattle.avl_words.specs.Lines.{word_of, line_count}
-use Rattle.avl_checks.proofs.Orders.{items_count, shape_lines, in_order_root}
+use Rattle.index_checks.proofs.Orders.{items_count, shape_lines, in_order_root}
 use Rattle.index_checks.specs.Layout.{Place, lines_at, Placed, nodes_of, StandsFor}
 use Rattle.index_checks.specs.Lawful.{IsLawful, HasOneStore, count_of, mark_of, CanMark, HasChain, NoChain, HasNodes, NoNodes, IsHeader, HasRoot, AreLinesLawful}
 use Rattle.index_checks.specs.Reading.{text_at, pair_at, store_in}

@@ -8,7 +8,9 @@ pub mod Listings
 pub mod Marking
 pub mod NodeChecks
 pub mod OneStore
+pub mod Orders
 pub mod PairChecks
+pub mod Shapes
 pub mod TextChecks
 pub mod Texts
 pub mod Totals

@@ -7,7 +7,7 @@ use Rattle.std.proofs.lemmas.List.Concat.{flat_map-append}
 use Rattle.std.proofs.lemmas.List.Elements.{All-head, All-weaker}
 use Rattle.std.proofs.lemmas.List.Sums.{get_or-le-sum_by}
 use Rattle.cx_base.specs.Store.{Store}
-use Rattle.avl_tree.specs.Tree.{Tree}
+use Rattle.avl_words.specs.Tree.{Tree}
 use Rattle.avl_words.specs.Lines.{IsWithin, word_of}
 use Rattle.index_checks.specs.Layout.{Place, lines_at, Arranged}
 

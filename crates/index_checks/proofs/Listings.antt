@@ -9,10 +9,10 @@ use Rattle.std.proofs.lemmas.List.FromFn.{fill_by_all}
 use Rattle.cx_base.specs.Packing.{packed, unpacked, packed_at}
 use Rattle.cx_base.specs.Store.{Store, IsKey, IsDocument}
 use Rattle.cx_base.proofs.PackingLemmas.{unpacked-packed}
-use Rattle.avl_tree.specs.Tree.{size}
+use Rattle.avl_words.specs.Tree.{size}
 use Rattle.avl_words.specs.Lines.{word_of, IsWithin}
-use Rattle.avl_checks.specs.Order.{in_order, HasTree}
-use Rattle.avl_checks.proofs.Orders.{tree_of, in_order_root}
+use Rattle.index_checks.specs.Order.{in_order, HasTree}
+use Rattle.index_checks.proofs.Orders.{tree_of, in_order_root}
 use Rattle.index_checks.specs.Lawful.{HasBlocks, IsContent}
 use Rattle.index_checks.specs.Layout.{IsChain, Place, lines_at, Placed, nodes_of, IsIndex}
 use Rattle.index_checks.specs.Listing.{HasPlainText}

@@ -8,7 +8,7 @@ use Rattle.std.proofs.lemmas.List.Elements.{All-nil, All-cons, All-head, All-tai
 use Rattle.cx_base.specs.Store.{Store, IsStore, IsKey, IsDocument, KeysRise, key_cmp}
 use Rattle.doc_model.proofs.Order.{below_both}
 use Rattle.avl_words.specs.Lines.{word_of}
-use Rattle.avl_checks.specs.Order.{in_order}
+use Rattle.index_checks.specs.Order.{in_order}
 use Rattle.index_checks.specs.Layout.{Place, lines_at, Placed, nodes_of}
 use Rattle.index_checks.specs.Lawful.{Marks, CanMark, HasPair, NoPair, HasNodes, NoNodes}
 use Rattle.index_checks.proofs.Lines.{all_middle}

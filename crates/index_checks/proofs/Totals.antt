@@ -5,7 +5,7 @@ use Rattle.std.proofs.lemmas.Bool.{cases_eq}
 use Rattle.std.proofs.lemmas.Bool.Decides.{nat_tests}
 use Rattle.std.proofs.lemmas.List.Elements.{All-head, All-tail, All-weaker}
 use Rattle.cx_base.specs.Store.{Store}
-use Rattle.avl_tree.specs.Tree.{Tree}
+use Rattle.avl_words.specs.Tree.{Tree}
 use Rattle.avl_words.specs.Lines.{word_of}
 use Rattle.index_checks.specs.Layout.{Place, lines_at, Arranged}
 use Rattle.avl_words.proofs.Frames.{times_other}

@@ -3,8 +3,8 @@ use Rattle.std.specs.Prelude.{◌≡◌, ◌+◌, ◌*◌, ◌/◌, ◌%◌, ◌
 use Rattle.std.specs.List.{flat_map}
 use Rattle.std.specs.declared.cmp.Ordering.TheVariants.{Less}
 use Rattle.cx_base.specs.Store.{Store, IsStore, IsKey, IsDocument, key_cmp}
-use Rattle.avl_checks.specs.Order.{in_order}
-use Rattle.avl_checks.specs.Shape.{HasShape}
+use Rattle.index_checks.specs.Order.{in_order}
+use Rattle.index_checks.specs.Shape.{HasShape}
 use Rattle.avl_words.specs.Lines.{word_of, line_count, IsPartLength, IsWithin}
 use Rattle.index_checks.specs.Layout.{IsChain, Holds, Place, lines_at, IsAt, Placed, nodes_of, StandsFor}
 

@@ -4,7 +4,7 @@ use Rattle.std.specs.Prelude.{◌≡◌, ◌+◌, ◌*◌, ◌/◌, ◌%◌, ◌
 use Rattle.std.specs.List.{flat_map}
 use Rattle.cx_base.specs.Store.{Store, IsStore, blocks}
 use Rattle.cx_base.specs.Packing.{packed_at}
-use Rattle.avl_tree.specs.Tree.{Tree, items, Balanced}
+use Rattle.avl_words.specs.Tree.{Tree, items, Balanced}
 use Rattle.avl_words.specs.Lines.{word_of, line_count, IsPartLength}
 use Rattle.avl_words.specs.Words.{root, Stands}
 

@@ -3,7 +3,7 @@ use Rattle.std.specs.Prelude.{◌+◌, ◌/◌, ℕ, zero, suc, List, [], ◌++�
 use Rattle.std.specs.List.{range_with_len}
 use Rattle.cx_base.specs.Store.{Store}
 use Rattle.cx_base.specs.Packing.{unpacked}
-use Rattle.avl_tree.specs.Tree.{items}
+use Rattle.avl_words.specs.Tree.{items}
 use Rattle.avl_words.specs.Exact.{tree_in}
 use Rattle.avl_words.specs.Lines.{word_of}
 

@@ -6,7 +6,7 @@ ghost use Rattle.index_checks.specs.Lawful.{IsLawful, IsHeader, HasRoot, CanChec
 
 use crate::marks::mark_chain;
 use crate::node_checks::nodes_at;
-use avl_checks::is_balanced;
+use crate::shape::is_balanced;
 use std::alloc::{AllocError, Global};
 
 /// Whether words stand for some store, with this version. They may be anything: the tree's shape is told in one turn for

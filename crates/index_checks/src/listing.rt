@@ -6,9 +6,9 @@ ghost use Rattle.index_checks.specs.Layout.{IsIndex};
 ghost use Rattle.index_checks.specs.Listing.{HasPlainText};
 ghost use Rattle.index_checks.specs.Reading.{text_at, pair_at, store_in};
 
+use crate::in_order::InOrder;
 use crate::node_checks::word_at;
 use crate::text_checks::read_content;
-use avl_checks::InOrder;
 use cx_base::{Bytes, unpack};
 use doc_model::Pair;
 use std::alloc::{AllocError, Global};

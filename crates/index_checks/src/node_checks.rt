@@ -4,13 +4,13 @@ ghost use Rattle.std.specs.Prelude.{◌≡◌, ◌+◌, ◌*◌, ◌<◌, ◌≤
 ghost use Rattle.std.specs.Bool.{MatchBool};
 ghost use Rattle.std.specs.declared.cmp.Ordering.TheVariants.{Less};
 ghost use Rattle.cx_base.specs.Store.{key_cmp};
-ghost use Rattle.avl_checks.specs.Shape.{HasShape};
+ghost use Rattle.index_checks.specs.Shape.{HasShape};
 ghost use Rattle.avl_words.specs.Lines.{word_of, IsPartLength};
 ghost use Rattle.index_checks.specs.Lawful.{CanCheck, HasKey, NoKey, HasDocument, NoDocument, HasPair, NoPair, HasNodes, NoNodes};
 
+use crate::in_order::InOrder;
 use crate::marks::mark;
 use crate::text_checks::text_at;
-use avl_checks::InOrder;
 
 /// The word at a place of a line.
 pub fn word_at(words: &[u64], line: u64, place: usize) -> u64

@@ -4,9 +4,9 @@ use Rattle.std.specs.List.{flat_map}
 use Rattle.cx_base.specs.Store.{Store, IsKey, IsDocument, pair_lines, lines_of}
 use Rattle.doc_model.specs.Meaning.{pairs_below, pairs_above, with_pair}
 use Rattle.doc_model.proofs.Stores.{IsStore-with_pair}
-use Rattle.avl_tree.specs.Tree.{Tree, Empty, Node, items, Balanced, size}
-use Rattle.avl_tree.specs.Ways.{before, behind, spot, with_new}
-use Rattle.avl_tree.proofs.Spots.{new_items, new_balanced}
+use Rattle.avl_words.specs.Tree.{Tree, Empty, Node, items, Balanced, size}
+use Rattle.avl_words.specs.Ways.{before, behind, spot, with_new}
+use Rattle.avl_words.proofs.Spots.{new_items, new_balanced}
 use Rattle.avl_words.specs.Changes.{IsBeside, CanPut as CanPutNode, Puts}
 use Rattle.avl_words.specs.Lines.{word_of, line_count, with_word}
 use Rattle.avl_words.specs.Words.{root, Stands, times as tree_times}

@@ -4,7 +4,7 @@ use Rattle.std.proofs.lemmas.Bool.Decides.{nat_tests}
 use Rattle.std.proofs.lemmas.List.{get_or-take, take-append-drop, take_more, take_more_set, drop-set-lt}
 use Rattle.std.proofs.lemmas.List.Elements.{All-nil}
 use Rattle.word_index.specs.Exact.{with_empty_header}
-use Rattle.avl_tree.specs.Tree.{Empty}
+use Rattle.avl_words.specs.Tree.{Empty}
 use Rattle.avl_words.specs.Lines.{IsPartLength}
 use Rattle.index_checks.specs.Layout.{IsIndex, StandsFor}
 use Rattle.index_checks.specs.Reading.{store_in}

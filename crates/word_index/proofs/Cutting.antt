@@ -7,12 +7,12 @@ use Rattle.std.proofs.lemmas.List.Concat.{flat_map-append}
 use Rattle.cx_base.specs.Memory.{Becomes, Always}
 use Rattle.cx_base.specs.Store.{Store, IsStore, KeysRise, key_cmp, IsKey, IsDocument}
 use Rattle.doc_model.specs.Meaning.{document_at, without_key}
-use Rattle.avl_tree.specs.Tree.{Tree, items, Balanced, size}
+use Rattle.avl_words.specs.Tree.{Tree, items, Balanced, size}
 use Rattle.index_checks.proofs.Arranging.{tree_few}
-use Rattle.avl_tree.specs.Ways.{whole, before, behind, spot}
-use Rattle.avl_tree.specs.Removal.{with_out, without}
-use Rattle.avl_tree.proofs.Removing.{out_items, out_balanced}
-use Rattle.avl_tree.proofs.Spots.{spot_whole}
+use Rattle.avl_words.specs.Ways.{whole, before, behind, spot}
+use Rattle.avl_words.specs.Removal.{with_out, without}
+use Rattle.avl_words.proofs.Removing.{out_items, out_balanced}
+use Rattle.avl_words.proofs.Spots.{spot_whole}
 use Rattle.avl_words.specs.Changes.{IsThere, CanTake, Takes}
 use Rattle.avl_words.specs.Lines.{word_of, with_word}
 use Rattle.avl_words.specs.Words.{root, times as tree_times}

@@ -6,7 +6,7 @@ use Rattle.std.proofs.lemmas.List.{get_or-set_same, get_or-set_other, length-set
 use Rattle.std.proofs.lemmas.List.Elements.{All-head, All-tail}
 use Rattle.cx_base.specs.Packing.{packed}
 use Rattle.cx_base.specs.Store.{Store, blocks}
-use Rattle.avl_tree.specs.Tree.{Tree}
+use Rattle.avl_words.specs.Tree.{Tree}
 use Rattle.avl_words.specs.Lines.{word_of, with_word, IsWithin}
 use Rattle.index_checks.specs.Layout.{IsChain, Holds, Place, lines_at, Arranged}
 use Rattle.index_checks.proofs.Lines.{all_left, all_right, lines_within, place_lines}

@@ -8,7 +8,7 @@ use Rattle.std.proofs.lemmas.List.Elements.{All-nil, All-cons, All-append, All-h
 use Rattle.std.proofs.lemmas.List.Sums.{get_or-le-sum_by, sum_by-append, sum_by-cons}
 use Rattle.cx_base.specs.Store.{Store}
 use Rattle.avl_words.specs.Lines.{with_word, word_of}
-use Rattle.avl_tree.specs.Tree.{Tree, Empty, Node, items}
+use Rattle.avl_words.specs.Tree.{Tree, Empty, Node, items}
 use Rattle.avl_words.specs.Words.{times as tree_times}
 use Rattle.avl_words.proofs.Frames.{stands_same}
 use Rattle.index_checks.specs.Layout.{IsChain, Holds, Place, lines_at, nodes_of, IsAt, Placed, Nodes}

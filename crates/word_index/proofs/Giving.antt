@@ -11,7 +11,7 @@ use Rattle.index_checks.proofs.Totals.{few_given}
 use Rattle.index_checks.specs.Layout.{IsChain, Place, lines_at, Nodes, Arranged}
 use Rattle.word_index.proofs.Frames.{times, times_append, times_cons, times_self, absent, stored_elsewhere, same_then, chain_same, nodes_same}
 use Rattle.word_index.specs.Changes.{SameLine, with_given, CanGive, IsLoose, LooseChain, ChainGiven}
-use Rattle.avl_tree.specs.Tree.{Tree}
+use Rattle.avl_words.specs.Tree.{Tree}
 
 -- a line that stands first among the loose ones stands nowhere else
 pub record StandsAlone (line : ℕ) (used given loose : List ℕ) : Type 0 where

@@ -5,7 +5,7 @@ use Rattle.std.proofs.lemmas.Bool.Decides.{nat_tests}
 use Rattle.cx_base.specs.Store.{Store, IsKey, IsDocument, blocks, pair_lines, lines_of}
 use Rattle.doc_model.specs.Meaning.{document_at, pairs_below, pairs_above, with_pair, has_room}
 use Rattle.doc_model.proofs.Stores.{IsStore-with_pair}
-use Rattle.avl_tree.specs.Ways.{spot, with_new}
+use Rattle.avl_words.specs.Ways.{spot, with_new}
 use Rattle.avl_words.specs.Lines.{line_count}
 use Rattle.avl_words.specs.Words.{root}
 use Rattle.avl_words.specs.Exact.{with_tree}

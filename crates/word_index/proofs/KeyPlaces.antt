@@ -10,9 +10,9 @@ use Rattle.std.proofs.lemmas.List.Elements.{All-nil, All-cons, All-head, All-tai
 use Rattle.cx_base.specs.Store.{Store, KeysRise, IsStore, key_cmp, IsKey, IsDocument}
 use Rattle.doc_model.specs.Meaning.{document_at, pairs_above}
 use Rattle.doc_model.proofs.Order.{filter_none, ties_itself, same_key, above_from_greater, below_both, greater_from_above}
-use Rattle.avl_tree.specs.Tree.{Tree, Empty, Node, items, size}
-use Rattle.avl_tree.specs.Ways.{Turn, whole, before, behind, spot, Cut, Ends}
-use Rattle.avl_tree.proofs.Spots.{IsBetween, parted, spot_whole, spot_ends, spot_items, top_between, size_is}
+use Rattle.avl_words.specs.Tree.{Tree, Empty, Node, items, size}
+use Rattle.avl_words.specs.Ways.{Turn, whole, before, behind, spot, Cut, Ends}
+use Rattle.avl_words.proofs.Spots.{IsBetween, parted, spot_whole, spot_ends, spot_items, top_between, size_is}
 use Rattle.avl_words.specs.Lines.{word_of, IsWithin}
 use Rattle.avl_words.specs.Words.{root, Stands, IsTree}
 use Rattle.avl_words.proofs.Walks.{stands_at, goes_right, goes_left, way_ends, way_ended, way_ends_same, way_ended_same, few_on_way, few_at_node, deep_none}

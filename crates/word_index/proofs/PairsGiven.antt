@@ -12,7 +12,7 @@ use Rattle.index_checks.specs.Layout.{IsChain, Holds, Place, lines_at, Arranged}
 use Rattle.word_index.proofs.Frames.{times, times_append, times_cons, holds_same}
 use Rattle.word_index.proofs.Giving.{give_arranged}
 use Rattle.word_index.specs.Changes.{SameLine, with_given, CanGive, IsLoose, ChainGiven, LooseText, TextGiven, LoosePair, HasLoosePair, PairGiven}
-use Rattle.avl_tree.specs.Tree.{Tree}
+use Rattle.avl_words.specs.Tree.{Tree}
 
 -- loose lines in another order
 pub reordered : (ws : List ℕ) (version : ℕ) (store : Store) (tree : Tree ℕ) (places : List Place) (given loose other : List ℕ) → ((x : ℕ) → times x other ≡ times x loose) →

@@ -22,7 +22,7 @@ use Rattle.word_index.specs.Answers.{IsPacked, IsPackOf}
 use Rattle.word_index.specs.Changes.{SameLine}
 use Rattle.word_index.specs.Fresh.{CanTake, LineTaken, LineFilled, IsWritten, TextWritten}
 use Rattle.word_index.specs.Insertion.{PairWritten}
-use Rattle.avl_tree.specs.Tree.{Tree}
+use Rattle.avl_words.specs.Tree.{Tree}
 
 -- the lines of a store's places are as many as the store takes
 pub lines_of_places : (ws : List ℕ) (places : List Place) (store : Store) → Placed ws places store → length (flat_map lines_at places) ≡ lines_of store

@@ -6,7 +6,7 @@ use Rattle.std.proofs.lemmas.Bool.Decides.{nat_tests}
 use Rattle.std.proofs.lemmas.List.{get_or-set_same, get_or-set_other}
 use Rattle.std.proofs.lemmas.List.Elements.{All-nil, All-cons}
 use Rattle.cx_base.specs.Store.{Store}
-use Rattle.avl_tree.specs.Tree.{Tree, items, Balanced}
+use Rattle.avl_words.specs.Tree.{Tree, items, Balanced}
 use Rattle.avl_words.specs.Lines.{word_of, IsWithin, with_word, IsPartLength}
 use Rattle.avl_words.specs.Words.{root, Stands, times as tree_times}
 use Rattle.avl_words.specs.Exact.{with_tree}

@@ -13,7 +13,7 @@ use Rattle.word_index.proofs.Frames.{times, times_append, times_cons, stored_els
 use Rattle.word_index.proofs.Giving.{moved_line}
 use Rattle.word_index.specs.Changes.{SameLine}
 use Rattle.word_index.specs.Fresh.{HasRoom, CanTake, IsTaken, LineTaken}
-use Rattle.avl_tree.specs.Tree.{Tree}
+use Rattle.avl_words.specs.Tree.{Tree}
 
 -- the lists of lines that are from 1 on
 pub from_one : (ws : List ℕ) (version : ℕ) (store : Store) (tree : Tree ℕ) (places : List Place) (given loose : List ℕ) → Arranged ws version store tree places given loose →

@@ -7,9 +7,9 @@ use Rattle.cx_base.specs.Memory.{Words}
 use Rattle.cx_base.specs.Packing.{packed}
 use Rattle.cx_base.specs.Store.{Store, IsKey, IsDocument, blocks, pair_lines, lines_of}
 use Rattle.doc_model.specs.Meaning.{document_at, with_pair, has_room}
-use Rattle.avl_tree.specs.Tree.{Tree, Empty, Node, height, size}
-use Rattle.avl_tree.specs.Ways.{with_new}
-use Rattle.avl_tree.specs.Removal.{without}
+use Rattle.avl_words.specs.Tree.{Tree, Empty, Node, height, size}
+use Rattle.avl_words.specs.Ways.{with_new}
+use Rattle.avl_words.specs.Removal.{without}
 use Rattle.avl_words.specs.Lines.{word_of, with_word, line_count}
 use Rattle.avl_words.specs.Words.{root, times as tree_times}
 use Rattle.avl_words.specs.Exact.{node_word, link_of, with_links, with_tree}

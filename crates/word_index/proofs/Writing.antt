@@ -13,7 +13,7 @@ use Rattle.word_index.proofs.PairsGiven.{loose_within}
 use Rattle.word_index.proofs.Taking.{from_one}
 use Rattle.word_index.specs.Changes.{SameLine}
 use Rattle.word_index.specs.Fresh.{HasRoom, CanTake, LineTaken, LineFilled, IsBlock, IsWritten, TextWritten}
-use Rattle.avl_tree.specs.Tree.{Tree}
+use Rattle.avl_words.specs.Tree.{Tree}
 
 -- a loose line that is filled
 pub fill_arranged : (x y : List ℕ) (version : ℕ) (store : Store) (tree : Tree ℕ) (places : List Place) (given loose content : List ℕ) (line : ℕ) → Arranged x version store tree places given (line ∷ loose) → LineFilled line content x y →

@@ -17,6 +17,18 @@ pub record IsPackOf (n len : ℕ) (words bytes : List ℕ) : Type 0 where
   pub long : len ≡ length bytes
   pub packs : words ≡ packed n bytes
 
+-- a key that may be, packed
+pub record IsPackedKey (name : Key) : Type 0 where
+  pub key : IsPacked 8 name.len name.words
+  pub is_key : IsKey (unpacked name.len name.words)
+
+-- a key and a document that may be, packed
+pub record IsPackedPair (name : Key) (len : ℕ) (words : List ℕ) : Type 0 where
+  pub key : IsPacked 8 name.len name.words
+  pub doc : IsPacked 128 len words
+  pub is_key : IsKey (unpacked name.len name.words)
+  pub is_document : IsDocument (unpacked len words)
+
 -- a node of this pair
 pub record IsNodeOf (words : List ℕ) (node : ℕ) (pair : List ℕ × List ℕ) : Type 0 where
   pub place : Place

@@ -5,7 +5,7 @@ use Rattle.avl_words.specs.Lines.{IsWithin, word_of, with_word}
 use Rattle.index_checks.specs.Blocks.{IsText}
 use Rattle.index_checks.specs.Layout.{IsChain, Place, lines_at, IsAt, Arranged, StandsFor}
 use Rattle.doc_model.specs.Meaning.{document_at, without_key}
-use Rattle.avl_tree.specs.Tree.{Tree}
+use Rattle.avl_words.specs.Tree.{Tree}
 
 -- a line has the words that it had
 abbrev pub SameLine : List ℕ → List ℕ → ℕ → Type 0

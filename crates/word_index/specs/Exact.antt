@@ -6,8 +6,8 @@ use Rattle.cx_base.specs.Memory.{overwritten}
 use Rattle.cx_base.specs.Store.{blocks, key_cmp}
 use Rattle.cx_base.specs.Packing.{packed}
 use Rattle.doc_model.specs.Meaning.{document_at, with_pair, has_room}
-use Rattle.avl_tree.specs.Ways.{spot, with_new}
-use Rattle.avl_tree.specs.Removal.{without}
+use Rattle.avl_words.specs.Ways.{spot, with_new}
+use Rattle.avl_words.specs.Removal.{without}
 use Rattle.avl_words.specs.Exact.{tree_in, with_tree}
 use Rattle.avl_words.specs.Words.{root}
 use Rattle.index_checks.specs.Reading.{text_at, store_in}

@@ -5,7 +5,7 @@ use Rattle.cx_base.specs.Store.{Store}
 use Rattle.avl_words.specs.Lines.{word_of, line_count}
 use Rattle.index_checks.specs.Layout.{IsChain, Place, lines_at, Arranged}
 use Rattle.word_index.specs.Changes.{SameLine}
-use Rattle.avl_tree.specs.Tree.{Tree}
+use Rattle.avl_words.specs.Tree.{Tree}
 
 -- so many lines more can be taken, beside those of the places and the loose ones; line 0 is not one of them
 abbrev pub HasRoom : List ℕ → List Place → List ℕ → ℕ → Type 0

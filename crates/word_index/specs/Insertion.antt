@@ -2,7 +2,7 @@
 use Rattle.std.specs.Prelude.{◌≡◌, ◌≢◌, ◌+◌, ◌≤◌, ℕ, true, false, List, [], length, is_some}
 use Rattle.cx_base.specs.Store.{Store, IsKey, IsDocument, pair_lines, lines_of}
 use Rattle.doc_model.specs.Meaning.{document_at, with_pair, has_room}
-use Rattle.avl_tree.specs.Tree.{Tree}
+use Rattle.avl_words.specs.Tree.{Tree}
 use Rattle.avl_words.specs.Lines.{line_count}
 use Rattle.avl_words.specs.Words.{IsNode}
 use Rattle.index_checks.specs.Layout.{Place, lines_at, IsAt, Arranged, StandsFor, IsIndex}

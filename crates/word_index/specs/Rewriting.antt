@@ -1,7 +1,7 @@
 -- A document is put in another's place.
 use Rattle.std.specs.Prelude.{◌≡◌, ◌≢◌, ◌+◌, ◌≤◌, ℕ, List, [], ◌∷◌, ◌++◌, length, All}
 use Rattle.cx_base.specs.Store.{Store, blocks, pair_lines, lines_of}
-use Rattle.avl_tree.specs.Tree.{Tree}
+use Rattle.avl_words.specs.Tree.{Tree}
 use Rattle.avl_words.specs.Lines.{word_of, line_count, IsWithin}
 use Rattle.index_checks.specs.Layout.{IsChain, Place, Placed, Arranged}
 use Rattle.word_index.specs.Exact.{document_blocks}

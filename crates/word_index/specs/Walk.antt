@@ -2,9 +2,11 @@
 use Rattle.std.specs.Prelude.{◌≡◌, ◌^◌, ◌+◌, ◌*◌, ◌≤◌, ℕ, Bool, true, false, List, [], ◌∷◌, length}
 use Rattle.std.specs.declared.cmp.Ordering.{Ordering}
 use Rattle.std.specs.declared.cmp.Ordering.TheVariants.{Less, Equal, Greater}
+use Rattle.cx_base.specs.Memory.{Always}
 use Rattle.cx_base.specs.Store.{Store}
-use Rattle.avl_tree.specs.Tree.{Tree}
-use Rattle.avl_tree.specs.Ways.{behind, spot}
+use Rattle.cx_base.specs.declared.memory.Memory.{Ghosts}
+use Rattle.avl_words.specs.Tree.{Tree}
+use Rattle.avl_words.specs.Ways.{behind, spot}
 use Rattle.avl_words.specs.Words.{IsOnWay, IsSpot}
 use Rattle.index_checks.specs.Layout.{StandsFor}
 use Rattle.word_index.specs.Answers.{IsNodeOf}
@@ -67,6 +69,11 @@ FewVisits visits words = (version : ℕ) (store : Store) → StandsFor words ver
 -- the same for words that may be there
 abbrev pub Walked : {Key : Type 0} → (Key → List ℕ → Type 0) → ℕ → Type 0
 Walked {Key = Key} stands visits = ∥ ((first : Key) × (now : List ℕ) × stands first now × FewVisits visits now) ∥₁
+
+-- few visits, for all words that may be there after a walk, and for words that may have been there before it
+pub record VisitsFew {Memory : Type 0} (m : Ghosts Memory) (old new : Memory) (visits : ℕ) : Type 0 where
+  pub few : Always (m.stands new) (FewVisits visits)
+  pub walked : Walked (m.stands old) visits
 
 -- the node of the first of some pairs, 0 for none
 abbrev pub IsFirstNode : List ℕ → ℕ → Store → Type 0

@@ -1,11 +1,12 @@
 //! What is asked of an index by a key.
 
-ghost use Rattle.std.specs.Prelude.{◌≡◌, ◌-◌, ◌≤◌, ℕ, List, true, false, IfOk, OnErr, Some, replicate};
-ghost use Rattle.cx_base.specs.Memory.{Always, Becomes, Framed, Reads};
+ghost use Rattle.std.specs.Prelude.{◌≡◌, ◌-◌, ◌≤◌, ℕ, List, true, false, replicate};
+ghost use Rattle.cx_base.specs.Calls.{Finds};
+ghost use Rattle.cx_base.specs.Memory.{Always};
 ghost use Rattle.cx_base.specs.Packing.{unpacked};
 ghost use Rattle.cx_base.specs.Store.{Store};
 ghost use Rattle.doc_model.specs.Meaning.{pairs_above};
-ghost use Rattle.avl_words.specs.Lines.{IsPartLength};
+ghost use Rattle.avl_words.specs.Lines.{CanLoad};
 ghost use Rattle.index_checks.specs.Layout.{IsIndex, StandsFor};
 ghost use Rattle.word_index.specs.Answers.{IsFound, IsLeast, IsNodeOf, IsPackOf};
 ghost use Rattle.word_index.specs.Walk.{FewVisits, HasNode};
@@ -23,15 +24,10 @@ pub fn find<M: Memory, L: Ledger>(
     key: &Key,
     visits: &mut Steps<L>,
 ) -> Result<Option<u64>, Halt>
-    requires sized { IsPartLength (M.size mem.old) }
-    requires lawful { Always (M.stands mem.old) IsIndex }
+    requires memory { CanLoad M.Memory mem.old IsIndex }
     requires key { key.now.len ≤ 64 }
-    ensures done { IfOk result (λ found. Reads (M.stands mem.old) (M.stands mem.new)
-        (λ ws. (version : ℕ) (store : Store) → StandsFor ws version store → IsFound ws (unpacked key.now.len key.now.words) found store)) }
+    ensures finds { Finds M.Memory mem.old mem.new result (λ found ws. (version : ℕ) (store : Store) → StandsFor ws version store → IsFound ws (unpacked key.now.len key.now.words) found store) }
     ensures visits { Always (M.stands mem.new) (FewVisits (visits.new - visits.old)) }
-    ensures kept { Becomes (M.stands mem.old) (M.stands mem.new) ◌≡◌ }
-    ensures halts { OnErr result (M.left mem.new ≡ Some 0) }
-    ensures framed { Framed M.size M.fixed M.writable M.left mem.old mem.new }
 {
     let end = reach(mem, key, false, visits)?;
     if end.node == 0 {
@@ -47,15 +43,10 @@ pub fn least_above<M: Memory, L: Ledger>(
     key: &Key,
     visits: &mut Steps<L>,
 ) -> Result<Option<Key>, Halt>
-    requires sized { IsPartLength (M.size mem.old) }
-    requires lawful { Always (M.stands mem.old) IsIndex }
+    requires memory { CanLoad M.Memory mem.old IsIndex }
     requires key { key.now.len ≤ 64 }
-    ensures done { IfOk result (λ found. Reads (M.stands mem.old) (M.stands mem.new)
-        (λ ws. (version : ℕ) (store : Store) → StandsFor ws version store → IsLeast found (pairs_above (unpacked key.now.len key.now.words) store))) }
+    ensures finds { Finds M.Memory mem.old mem.new result (λ found ws. (version : ℕ) (store : Store) → StandsFor ws version store → IsLeast found (pairs_above (unpacked key.now.len key.now.words) store)) }
     ensures visits { Always (M.stands mem.new) (FewVisits (visits.new - visits.old)) }
-    ensures kept { Becomes (M.stands mem.old) (M.stands mem.new) ◌≡◌ }
-    ensures halts { OnErr result (M.left mem.new ≡ Some 0) }
-    ensures framed { Framed M.size M.fixed M.writable M.left mem.old mem.new }
 {
     let end = reach(mem, key, true, visits)?;
     if end.above == 0 {
@@ -68,14 +59,9 @@ pub fn least_above<M: Memory, L: Ledger>(
 /// Reads the packed document of a node that `find` gave on these words into words that are 0, and gives the number of its bytes.
 /// `Halt` comes only where no access is left.
 pub fn read_document<M: Memory>(mem: &mut M, node: u64, into: &mut [u64]) -> Result<u64, Halt>
-    requires sized { IsPartLength (M.size mem.old) }
-    requires node { Always (M.stands mem.old) (λ ws. HasNode ws node) }
+    requires memory { CanLoad M.Memory mem.old (λ ws. HasNode ws node) }
     requires zero { into.old ≡ replicate 128 0 }
-    ensures done { IfOk result (λ len. Reads (M.stands mem.old) (M.stands mem.new)
-        (λ ws. (pair : List ℕ × List ℕ) → IsNodeOf ws node pair → IsPackOf 128 len into.new pair.1)) }
-    ensures kept { Becomes (M.stands mem.old) (M.stands mem.new) ◌≡◌ }
-    ensures halts { OnErr result (M.left mem.new ≡ Some 0) }
-    ensures framed { Framed M.size M.fixed M.writable M.left mem.old mem.new }
+    ensures { Finds M.Memory mem.old mem.new result (λ len ws. (pair : List ℕ × List ℕ) → IsNodeOf ws node pair → IsPackOf 128 len into.new pair.1) }
 {
     read_text(mem, node, 5, into)
 }

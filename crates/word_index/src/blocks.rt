@@ -1,9 +1,9 @@
 //! The bytes that a chain of blocks holds.
 
-ghost use Rattle.std.specs.Prelude.{◌≡◌, ◌+◌, ◌*◌, ◌/◌, ◌%◌, ◌<◌, ◌≤◌, ◌≢◌, ℕ, List, IsTrue, IfOk, OnErr, Some, length, replicate};
-ghost use Rattle.cx_base.specs.Memory.{Always, Loaded, Stored, Becomes, Framed, Reads};
+ghost use Rattle.std.specs.Prelude.{◌≡◌, ◌+◌, ◌*◌, ◌/◌, ◌%◌, ◌<◌, ◌≤◌, ◌≢◌, ℕ, List, length, replicate};
+ghost use Rattle.cx_base.specs.Calls.{Finds};
 ghost use Rattle.cx_base.specs.Packing.{packed, packed_at};
-ghost use Rattle.avl_words.specs.Lines.{IsWithin, IsPartLength, word_of};
+ghost use Rattle.avl_words.specs.Lines.{CanLoad, IsWithin, word_of};
 ghost use Rattle.index_checks.specs.Blocks.{HasWords, IsText, HasText};
 ghost use Rattle.index_checks.specs.Layout.{Holds};
 ghost use Rattle.word_index.specs.Answers.{IsPackOf};
@@ -13,13 +13,8 @@ use cx_base::{Halt, Memory};
 
 /// The block line in which the word behind one stands that is word `place` of `line`, from 0 to 6.
 fn line_after<M: Memory>(mem: &mut M, line: u64, place: u64) -> Result<u64, Halt>
-    requires sized { IsPartLength (M.size mem.old) }
-    requires line { Always (M.stands mem.old) (λ ws. IsWithin ws line) }
-    ensures done { IfOk result (λ next. Reads (M.stands mem.old) (M.stands mem.new)
-        (λ ws. (place ≡ 6 → word_of ws line 0 ≡ next) × (place ≢ 6 → next ≡ line))) }
-    ensures kept { Becomes (M.stands mem.old) (M.stands mem.new) ◌≡◌ }
-    ensures halts { OnErr result (M.left mem.new ≡ Some 0) }
-    ensures framed { Framed M.size M.fixed M.writable M.left mem.old mem.new }
+    requires { CanLoad M.Memory mem.old (λ ws. IsWithin ws line) }
+    ensures { Finds M.Memory mem.old mem.new result (λ next ws. (place ≡ 6 → word_of ws line 0 ≡ next) × (place ≢ 6 → next ≡ line)) }
 {
     if place == 6 {
         word(mem, line, 0)
@@ -43,15 +38,10 @@ fn read_words<M: Memory>(
     count: usize,
     into: &mut [u64],
 ) -> Result<(), Halt>
-    requires sized { IsPartLength (M.size mem.old) }
+    requires memory { CanLoad M.Memory mem.old (λ ws. HasWords ws first count) }
     requires zero { into.old ≡ replicate (length into.old) 0 }
     requires room { count ≤ length into.old }
-    requires chain { Always (M.stands mem.old) (λ ws. HasWords ws first count) }
-    ensures done { IfOk result (λ _. Reads (M.stands mem.old) (M.stands mem.new)
-        (λ ws. (lines bytes : List ℕ) → Holds ws first lines bytes → count ≡ (length bytes + 7) / 8 → into.new ≡ packed (length into.old) bytes)) }
-    ensures kept { Becomes (M.stands mem.old) (M.stands mem.new) ◌≡◌ }
-    ensures halts { OnErr result (M.left mem.new ≡ Some 0) }
-    ensures framed { Framed M.size M.fixed M.writable M.left mem.old mem.new }
+    ensures { Finds M.Memory mem.old mem.new result (λ _ ws. (lines bytes : List ℕ) → Holds ws first lines bytes → count ≡ (length bytes + 7) / 8 → into.new ≡ packed (length into.old) bytes) }
 {
     let mut line = first;
     let mut place = 0;
@@ -65,14 +55,9 @@ fn read_words<M: Memory>(
 
 /// A word of a chain of blocks of which at most 8 words have a byte in use, and this one has. The first seven stand in the first block.
 pub fn early_word<M: Memory>(mem: &mut M, first: u64, at: usize) -> Result<u64, Halt>
-    requires sized { IsPartLength (M.size mem.old) }
+    requires memory { CanLoad M.Memory mem.old (λ ws. (count : ℕ) × (at < count) × HasWords ws first count) }
     requires at { at < 8 }
-    requires chain { Always (M.stands mem.old) (λ ws. (count : ℕ) × (at < count) × HasWords ws first count) }
-    ensures done { IfOk result (λ v. Reads (M.stands mem.old) (M.stands mem.new)
-        (λ ws. (lines bytes : List ℕ) → Holds ws first lines bytes → at < (length bytes + 7) / 8 → v ≡ packed_at bytes at)) }
-    ensures kept { Becomes (M.stands mem.old) (M.stands mem.new) ◌≡◌ }
-    ensures halts { OnErr result (M.left mem.new ≡ Some 0) }
-    ensures framed { Framed M.size M.fixed M.writable M.left mem.old mem.new }
+    ensures { Finds M.Memory mem.old mem.new result (λ v ws. (lines bytes : List ℕ) → Holds ws first lines bytes → at < (length bytes + 7) / 8 → v ≡ packed_at bytes at) }
 {
     if at < 7 {
         let low = word(mem, first, 1 + at as u64)?;
@@ -85,15 +70,10 @@ pub fn early_word<M: Memory>(mem: &mut M, first: u64, at: usize) -> Result<u64, 
 
 /// Reads the bytes that a node names by its words `at` and `at + 1`, and gives their number.
 pub fn read_text<M: Memory>(mem: &mut M, node: u64, at: u64, into: &mut [u64]) -> Result<u64, Halt>
-    requires sized { IsPartLength (M.size mem.old) }
+    requires memory { CanLoad M.Memory mem.old (λ ws. HasText ws node at (length into.old)) }
     requires zero { into.old ≡ replicate (length into.old) 0 }
     requires at { at < 7 }
-    requires text { Always (M.stands mem.old) (λ ws. HasText ws node at (length into.old)) }
-    ensures done { IfOk result (λ len. Reads (M.stands mem.old) (M.stands mem.new)
-        (λ ws. (lines bytes : List ℕ) → IsText ws node at lines bytes → IsPackOf (length into.old) len into.new bytes)) }
-    ensures kept { Becomes (M.stands mem.old) (M.stands mem.new) ◌≡◌ }
-    ensures halts { OnErr result (M.left mem.new ≡ Some 0) }
-    ensures framed { Framed M.size M.fixed M.writable M.left mem.old mem.new }
+    ensures { Finds M.Memory mem.old mem.new result (λ len ws. (lines bytes : List ℕ) → IsText ws node at lines bytes → IsPackOf (length into.old) len into.new bytes) }
 {
     let first = word(mem, node, at)?;
     let len = word(mem, node, at + 1)?;

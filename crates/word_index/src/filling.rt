@@ -1,32 +1,15 @@
 //! The blocks of a chain get other words.
 
-ghost use Rattle.std.specs.Prelude.{◌≡◌, ◌*◌, ◌≤◌, ◌^◌, IsTrue, IfOk, OnErr, Some, length};
-ghost use Rattle.cx_base.specs.Memory.{Always, Becomes, Framed, overwritten};
-ghost use Rattle.avl_words.specs.Lines.{IsWithin, IsPartLength};
+ghost use Rattle.std.specs.Prelude.{◌≡◌, ◌*◌, ◌≤◌, ◌^◌, length};
+ghost use Rattle.cx_base.specs.Calls.{Changes};
+ghost use Rattle.cx_base.specs.Memory.{overwritten};
+ghost use Rattle.avl_words.specs.Lines.{CanStore, IsWithin};
 ghost use Rattle.word_index.specs.Exact.{with_chain_filled};
-ghost use Rattle.word_index.specs.Fresh.{LineFilled};
 ghost use Rattle.word_index.specs.Rewriting.{HasLines};
 
-use crate::taken::block;
-use avl_words::{start_of, word};
-use cx_base::{Halt, Memory, store_words};
-
-/// Fills a line, and stores only the words that change.
-fn fill_line<M: Memory>(mem: &mut M, line: u64, content: &[u64; 8]) -> Result<(), Halt>
-    requires sized { IsPartLength (M.size mem.old) }
-    requires writable { IsTrue (M.writable mem.old) }
-    requires line { Always (M.stands mem.old) (λ ws. IsWithin ws line) }
-    ensures done { IfOk result
-        (λ _. Becomes (M.stands mem.old) (M.stands mem.new) (LineFilled line content.now)) }
-    ensures exact { IfOk result (λ _. Becomes (M.stands mem.old) (M.stands mem.new)
-        (λ old now. now ≡ overwritten (8 * line) content.now old)) }
-    ensures halts { OnErr result (M.left mem.new ≡ Some 0) }
-    ensures framed { Framed M.size M.fixed M.writable M.left mem.old mem.new }
-{
-    let start = start_of(mem, line);
-    store_words(mem, start, content)?;
-    Ok(())
-}
+use crate::taken::{block, put_line};
+use avl_words::word;
+use cx_base::{Halt, Memory};
 
 /// Fills the blocks of a chain of so many lines with the words of a text.
 pub fn fill_chain<M: Memory>(
@@ -35,19 +18,14 @@ pub fn fill_chain<M: Memory>(
     words: &[u64],
     count: usize,
 ) -> Result<(), Halt>
-    requires sized { IsPartLength (M.size mem.old) }
-    requires writable { IsTrue (M.writable mem.old) }
+    requires memory { CanStore M.Memory mem.old (λ ws. HasLines ws first count) }
     requires few { count ≤ 2 ^ 32 }
-    requires chain { Always (M.stands mem.old) (λ ws. HasLines ws first count) }
-    ensures exact { IfOk result (λ _. Becomes (M.stands mem.old) (M.stands mem.new)
-        (λ old now. now ≡ with_chain_filled words.now count 0 first old)) }
-    ensures halts { OnErr result (M.left mem.new ≡ Some 0) }
-    ensures framed { Framed M.size M.fixed M.writable M.left mem.old mem.new }
+    ensures { Changes M.Memory mem.old mem.new result (λ _ old now. now ≡ with_chain_filled words.now count 0 first old) }
 {
     let mut line = first;
     for j in 0..count {
         let next = word(mem, line, 0)?;
-        fill_line(mem, line, &block(next, words, 7 * j))?;
+        put_line(mem, line, &block(next, words, 7 * j))?;
         line = next;
     }
     Ok(())

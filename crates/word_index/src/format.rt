@@ -1,7 +1,8 @@
 //! The empty index.
 
-ghost use Rattle.std.specs.Prelude.{◌≡◌, ◌<◌, ◌∷◌, [], IsTrue, IfOk, OnErr, Some, slice_index, replicate};
-ghost use Rattle.cx_base.specs.Memory.{Becomes, Framed};
+ghost use Rattle.std.specs.Prelude.{◌≡◌, ◌<◌, ◌∷◌, [], IsTrue, IfOk, slice_index, replicate};
+ghost use Rattle.cx_base.specs.Calls.{Changes};
+ghost use Rattle.cx_base.specs.Memory.{Becomes};
 ghost use Rattle.avl_words.specs.Lines.{IsPartLength};
 ghost use Rattle.index_checks.specs.Layout.{StandsFor};
 ghost use Rattle.word_index.specs.Exact.{with_empty_header};
@@ -13,12 +14,8 @@ use cx_base::{Halt, Memory};
 pub fn format_index<M: Memory>(mem: &mut M, version: u64) -> Result<(), Halt>
     requires size { IsPartLength (M.size mem.old) }
     requires writable { IsTrue (M.writable mem.old) }
-    ensures done { IfOk result
-        (λ _. Becomes (M.stands mem.old) (M.stands mem.new) (λ _ now. StandsFor now version [])) }
-    ensures exact { IfOk result
-        (λ _. Becomes (M.stands mem.old) (M.stands mem.new) (λ before now. now ≡ with_empty_header version before)) }
-    ensures halts { OnErr result (M.left mem.new ≡ Some 0) }
-    ensures framed { Framed M.size M.fixed M.writable M.left mem.old mem.new }
+    ensures changes { Changes M.Memory mem.old mem.new result (λ _ _ now. StandsFor now version []) }
+    ensures exact { IfOk result (λ _. Becomes (M.stands mem.old) (M.stands mem.new) (λ before now. now ≡ with_empty_header version before)) }
 {
     for at in 0..8 {
         mem.store(at, header_word(version, at))?;

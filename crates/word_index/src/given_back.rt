@@ -1,8 +1,9 @@
 //! Lines that are given back.
 
-ghost use Rattle.std.specs.Prelude.{◌≡◌, ℕ, IsTrue, IfOk, OnErr, Some};
-ghost use Rattle.cx_base.specs.Memory.{Always, Becomes, Framed};
-ghost use Rattle.avl_words.specs.Lines.{IsPartLength};
+ghost use Rattle.std.specs.Prelude.{◌≡◌, ℕ, IfOk};
+ghost use Rattle.cx_base.specs.Calls.{Changes};
+ghost use Rattle.cx_base.specs.Memory.{Becomes};
+ghost use Rattle.avl_words.specs.Lines.{CanStore};
 ghost use Rattle.word_index.specs.Changes.{with_given, CanGive, LooseChain, ChainGiven};
 ghost use Rattle.word_index.specs.Exact.{with_chain_given};
 
@@ -11,13 +12,8 @@ use cx_base::{Halt, Memory};
 
 /// Puts a loose line in front of the given-back lines.
 pub fn give_back<M: Memory>(mem: &mut M, line: u64) -> Result<(), Halt>
-    requires sized { IsPartLength (M.size mem.old) }
-    requires writable { IsTrue (M.writable mem.old) }
-    requires line { Always (M.stands mem.old) (λ ws. CanGive ws line) }
-    ensures done { IfOk result
-        (λ _. Becomes (M.stands mem.old) (M.stands mem.new) (λ before now. now ≡ with_given line before)) }
-    ensures halts { OnErr result (M.left mem.new ≡ Some 0) }
-    ensures framed { Framed M.size M.fixed M.writable M.left mem.old mem.new }
+    requires { CanStore M.Memory mem.old (λ ws. CanGive ws line) }
+    ensures { Changes M.Memory mem.old mem.new result (λ _ before now. now ≡ with_given line before) }
 {
     let head = word(mem, 0, 2)?;
     let number = word(mem, 0, 4)?;
@@ -29,15 +25,9 @@ pub fn give_back<M: Memory>(mem: &mut M, line: u64) -> Result<(), Halt>
 
 /// Gives back the lines of a chain of loose lines.
 pub fn give_chain<M: Memory>(mem: &mut M, first: u64, count: u64) -> Result<(), Halt>
-    requires sized { IsPartLength (M.size mem.old) }
-    requires writable { IsTrue (M.writable mem.old) }
-    requires chain { Always (M.stands mem.old) (λ ws. LooseChain ws first count) }
-    ensures done { IfOk result
-        (λ _. Becomes (M.stands mem.old) (M.stands mem.new) (ChainGiven first count)) }
-    ensures exact { IfOk result (λ _. Becomes (M.stands mem.old) (M.stands mem.new)
-        (λ old now. now ≡ with_chain_given count first old)) }
-    ensures halts { OnErr result (M.left mem.new ≡ Some 0) }
-    ensures framed { Framed M.size M.fixed M.writable M.left mem.old mem.new }
+    requires { CanStore M.Memory mem.old (λ ws. LooseChain ws first count) }
+    ensures changes { Changes M.Memory mem.old mem.new result (λ _. ChainGiven first count) }
+    ensures exact { IfOk result (λ _. Becomes (M.stands mem.old) (M.stands mem.new) (λ old now. now ≡ with_chain_given count first old)) }
 {
     let mut line = first;
     for _ in 0..count {

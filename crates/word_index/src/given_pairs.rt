@@ -1,9 +1,10 @@
 //! Lines of a pair are given back.
 
-ghost use Rattle.std.specs.Prelude.{◌≡◌, ◌+◌, ◌*◌, ◌<◌, ◌≤◌, ℕ, IsTrue, IfOk, OnErr, Some};
-ghost use Rattle.cx_base.specs.Memory.{Always, Becomes, Framed};
+ghost use Rattle.std.specs.Prelude.{◌≡◌, ◌+◌, ◌*◌, ◌<◌, ◌≤◌, ℕ, IfOk};
+ghost use Rattle.cx_base.specs.Calls.{Changes};
+ghost use Rattle.cx_base.specs.Memory.{Becomes};
 ghost use Rattle.cx_base.specs.Packing.{unpacked};
-ghost use Rattle.avl_words.specs.Lines.{IsPartLength, word_of};
+ghost use Rattle.avl_words.specs.Lines.{CanStore, word_of};
 ghost use Rattle.index_checks.specs.Layout.{IsIndex};
 ghost use Rattle.word_index.specs.Changes.{LooseText, TextGiven, HasLoosePair, PairGiven};
 ghost use Rattle.word_index.specs.Exact.{with_text_given, with_pair_given};
@@ -14,16 +15,10 @@ use cx_base::{Halt, Memory};
 
 /// Gives back the blocks that a node names by its words `at` and `at + 1`.
 pub fn give_text<M: Memory>(mem: &mut M, node: u64, at: u64) -> Result<(), Halt>
-    requires sized { IsPartLength (M.size mem.old) }
-    requires writable { IsTrue (M.writable mem.old) }
+    requires memory { CanStore M.Memory mem.old (λ ws. LooseText ws node at) }
     requires at { at < 7 }
-    requires text { Always (M.stands mem.old) (λ ws. LooseText ws node at) }
-    ensures done { IfOk result
-        (λ _. Becomes (M.stands mem.old) (M.stands mem.new) (TextGiven node at)) }
-    ensures exact { IfOk result (λ _. Becomes (M.stands mem.old) (M.stands mem.new)
-        (λ old now. now ≡ with_text_given node at old)) }
-    ensures halts { OnErr result (M.left mem.new ≡ Some 0) }
-    ensures framed { Framed M.size M.fixed M.writable M.left mem.old mem.new }
+    ensures changes { Changes M.Memory mem.old mem.new result (λ _. TextGiven node at) }
+    ensures exact { IfOk result (λ _. Becomes (M.stands mem.old) (M.stands mem.new) (λ old now. now ≡ with_text_given node at old)) }
 {
     let first = word(mem, node, at)?;
     let len = word(mem, node, at + 1)?;
@@ -32,15 +27,9 @@ pub fn give_text<M: Memory>(mem: &mut M, node: u64, at: u64) -> Result<(), Halt>
 
 /// Gives back the node and the blocks of a pair that is out of the nodes.
 pub fn give_pair<M: Memory>(mem: &mut M, node: u64) -> Result<(), Halt>
-    requires sized { IsPartLength (M.size mem.old) }
-    requires writable { IsTrue (M.writable mem.old) }
-    requires pair { Always (M.stands mem.old) (λ ws. HasLoosePair ws node) }
-    ensures done { IfOk result
-        (λ _. Becomes (M.stands mem.old) (M.stands mem.new) (PairGiven node)) }
-    ensures exact { IfOk result (λ _. Becomes (M.stands mem.old) (M.stands mem.new)
-        (λ old now. now ≡ with_pair_given node old)) }
-    ensures halts { OnErr result (M.left mem.new ≡ Some 0) }
-    ensures framed { Framed M.size M.fixed M.writable M.left mem.old mem.new }
+    requires { CanStore M.Memory mem.old (λ ws. HasLoosePair ws node) }
+    ensures changes { Changes M.Memory mem.old mem.new result (λ _. PairGiven node) }
+    ensures exact { IfOk result (λ _. Becomes (M.stands mem.old) (M.stands mem.new) (λ old now. now ≡ with_pair_given node old)) }
 {
     give_text(mem, node, 5)?;
     give_text(mem, node, 3)?;

@@ -1,13 +1,14 @@
 //! A pair is put in.
 
-ghost use Rattle.std.specs.Prelude.{◌≡◌, ◌≢◌, ◌+◌, ◌-◌, ◌*◌, ◌≤◌, ℕ, List, IsTrue, IfOk, OnErr, Some, length};
-ghost use Rattle.cx_base.specs.Memory.{Always, Becomes, Framed, Reads};
+ghost use Rattle.std.specs.Prelude.{◌≡◌, ◌≢◌, ◌+◌, ◌-◌, ◌*◌, ◌≤◌, ℕ, List, IfOk, length};
+ghost use Rattle.cx_base.specs.Calls.{Changes, Finds};
+ghost use Rattle.cx_base.specs.Memory.{Becomes};
 ghost use Rattle.cx_base.specs.Packing.{unpacked};
 ghost use Rattle.cx_base.specs.Store.{Store, IsKey, IsDocument, lines_of, pair_lines};
 ghost use Rattle.doc_model.specs.Meaning.{with_pair};
-ghost use Rattle.avl_words.specs.Lines.{IsPartLength};
+ghost use Rattle.avl_words.specs.Lines.{CanLoad, CanStore};
 ghost use Rattle.index_checks.specs.Layout.{IsIndex, StandsFor};
-ghost use Rattle.word_index.specs.Answers.{IsPacked, IsNodeOf};
+ghost use Rattle.word_index.specs.Answers.{IsPacked, IsPackedPair, IsNodeOf};
 ghost use Rattle.word_index.specs.Exact.{with_new_pair, inserted_in, with_document};
 ghost use Rattle.word_index.specs.Fresh.{CanTake};
 ghost use Rattle.word_index.specs.Insertion.{PairWritten, CanAdd, Adds, Inserts, LinesAt};
@@ -34,20 +35,15 @@ pub enum Inserted {
 fn lines_of_pair(key: &Key, doc: &Doc<'_>) -> u64
     requires key { key.now.len ≤ 64 }
     requires doc { doc.now.len ≤ 1024 }
-    ensures { result
-        ≡ pair_lines (unpacked key.now.len key.now.words, unpacked doc.now.len doc.now.words.now) }
+    ensures { result ≡ pair_lines (unpacked key.now.len key.now.words, unpacked doc.now.len doc.now.words.now) }
 {
     1 + key.len.div_ceil(56) + doc.len.div_ceil(56)
 }
 
 /// The lines that the pair of a node takes.
 fn lines_of_node<M: Memory>(mem: &mut M, node: u64) -> Result<u64, Halt>
-    requires sized { IsPartLength (M.size mem.old) }
-    requires node { Always (M.stands mem.old) (λ ws. HasNode ws node) }
-    ensures done { IfOk result (λ n. Reads (M.stands mem.old) (M.stands mem.new)
-        (λ ws. (pair : List ℕ × List ℕ) → IsNodeOf ws node pair → n ≡ pair_lines pair)) }
-    ensures halts { OnErr result (M.left mem.new ≡ Some 0) }
-    ensures framed { Framed M.size M.fixed M.writable M.left mem.old mem.new }
+    requires { CanLoad M.Memory mem.old (λ ws. HasNode ws node) }
+    ensures { Finds M.Memory mem.old mem.new result (λ n ws. (pair : List ℕ × List ℕ) → IsNodeOf ws node pair → n ≡ pair_lines pair) }
 {
     let key = word(mem, node, 4)?;
     let document = word(mem, node, 6)?;
@@ -56,11 +52,8 @@ fn lines_of_node<M: Memory>(mem: &mut M, node: u64) -> Result<u64, Halt>
 
 /// The lines that the pair of a node takes, 0 where there is no node.
 fn lines_at<M: Memory>(mem: &mut M, node: u64) -> Result<u64, Halt>
-    requires sized { IsPartLength (M.size mem.old) }
-    requires node { Always (M.stands mem.old) (λ ws. node ≢ 0 → HasNode ws node) }
-    ensures done { IfOk result (λ n. Reads (M.stands mem.old) (M.stands mem.new) (LinesAt node n)) }
-    ensures halts { OnErr result (M.left mem.new ≡ Some 0) }
-    ensures framed { Framed M.size M.fixed M.writable M.left mem.old mem.new }
+    requires { CanLoad M.Memory mem.old (λ ws. node ≢ 0 → HasNode ws node) }
+    ensures { Finds M.Memory mem.old mem.new result (λ n. LinesAt node n) }
 {
     if node == 0 {
         Ok(0)
@@ -71,12 +64,8 @@ fn lines_at<M: Memory>(mem: &mut M, node: u64) -> Result<u64, Halt>
 
 /// The lines that the store takes.
 fn lines_in_use<M: Memory>(mem: &mut M) -> Result<u64, Halt>
-    requires sized { IsPartLength (M.size mem.old) }
-    requires lawful { Always (M.stands mem.old) IsIndex }
-    ensures done { IfOk result (λ n. Reads (M.stands mem.old) (M.stands mem.new)
-        (λ ws. (version : ℕ) (store : Store) → StandsFor ws version store → n ≡ lines_of store)) }
-    ensures halts { OnErr result (M.left mem.new ≡ Some 0) }
-    ensures framed { Framed M.size M.fixed M.writable M.left mem.old mem.new }
+    requires { CanLoad M.Memory mem.old IsIndex }
+    ensures { Finds M.Memory mem.old mem.new result (λ n ws. (version : ℕ) (store : Store) → StandsFor ws version store → n ≡ lines_of store) }
 {
     let end = word(mem, 0, 3)?;
     let given = word(mem, 0, 4)?;
@@ -85,18 +74,11 @@ fn lines_in_use<M: Memory>(mem: &mut M) -> Result<u64, Halt>
 
 /// Writes a node, as a leaf, and the blocks of a pair into new lines, and gives the node.
 fn write_pair<M: Memory>(mem: &mut M, key: &Key, doc: &Doc<'_>) -> Result<u64, Halt>
-    requires sized { IsPartLength (M.size mem.old) }
-    requires writable { IsTrue (M.writable mem.old) }
+    requires memory { CanStore M.Memory mem.old (λ ws. CanTake ws (pair_lines (unpacked key.now.len key.now.words, unpacked doc.now.len doc.now.words.now))) }
     requires key { IsPacked 8 key.now.len key.now.words }
     requires doc { IsPacked 128 doc.now.len doc.now.words.now }
-    requires room { Always (M.stands mem.old)
-        (λ ws. CanTake ws (pair_lines (unpacked key.now.len key.now.words, unpacked doc.now.len doc.now.words.now))) }
-    ensures done { IfOk result (λ node. Becomes (M.stands mem.old) (M.stands mem.new)
-        (PairWritten (unpacked key.now.len key.now.words, unpacked doc.now.len doc.now.words.now) node)) }
-    ensures exact { IfOk result (λ node. Becomes (M.stands mem.old) (M.stands mem.new)
-        (λ old now. with_new_pair (unpacked key.now.len key.now.words, unpacked doc.now.len doc.now.words.now) old ≡ (node, now))) }
-    ensures halts { OnErr result (M.left mem.new ≡ Some 0) }
-    ensures framed { Framed M.size M.fixed M.writable M.left mem.old mem.new }
+    ensures changes { Changes M.Memory mem.old mem.new result (λ node. PairWritten (unpacked key.now.len key.now.words, unpacked doc.now.len doc.now.words.now) node) }
+    ensures exact { IfOk result (λ node. Becomes (M.stands mem.old) (M.stands mem.new) (λ old now. with_new_pair (unpacked key.now.len key.now.words, unpacked doc.now.len doc.now.words.now) old ≡ (node, now))) }
 {
     let node = take_line(mem)?;
     let key_first = write_text(mem, &key.words, key.len.div_ceil(56) as usize)?;
@@ -111,16 +93,10 @@ fn write_pair<M: Memory>(mem: &mut M, key: &Key, doc: &Doc<'_>) -> Result<u64, H
 
 /// Puts a new pair where the walk to its key ended at nothing.
 fn put_pair<M: Memory>(mem: &mut M, way: &Way, key: &Key, doc: &Doc<'_>) -> Result<(), Halt>
-    requires sized { IsPartLength (M.size mem.old) }
-    requires writable { IsTrue (M.writable mem.old) }
+    requires memory { CanStore M.Memory mem.old (λ ws. CanAdd ws way.now.nodes way.now.sides way.now.depth (unpacked key.now.len key.now.words, unpacked doc.now.len doc.now.words.now)) }
     requires key { IsPacked 8 key.now.len key.now.words }
     requires doc { IsPacked 128 doc.now.len doc.now.words.now }
-    requires can { Always (M.stands mem.old)
-        (λ ws. CanAdd ws way.now.nodes way.now.sides way.now.depth (unpacked key.now.len key.now.words, unpacked doc.now.len doc.now.words.now)) }
-    ensures exact { IfOk result (λ _. Becomes (M.stands mem.old) (M.stands mem.new)
-        (Adds way.now.nodes way.now.sides way.now.depth (unpacked key.now.len key.now.words, unpacked doc.now.len doc.now.words.now))) }
-    ensures halts { OnErr result (M.left mem.new ≡ Some 0) }
-    ensures framed { Framed M.size M.fixed M.writable M.left mem.old mem.new }
+    ensures { Changes M.Memory mem.old mem.new result (λ _. Adds way.now.nodes way.now.sides way.now.depth (unpacked key.now.len key.now.words, unpacked doc.now.len doc.now.words.now)) }
 {
     let node = write_pair(mem, key, doc)?;
     put_node(mem, way, node)?;
@@ -131,16 +107,10 @@ fn put_pair<M: Memory>(mem: &mut M, way: &Way, key: &Key, doc: &Doc<'_>) -> Resu
 
 /// The same over a write buffer. Its room covers each change in at most 16,384 lines, so that there each word that changes is stored once.
 fn add<M: Memory>(mem: &mut M, way: &Way, key: &Key, doc: &Doc<'_>) -> Result<(), Halt>
-    requires sized { IsPartLength (M.size mem.old) }
-    requires writable { IsTrue (M.writable mem.old) }
+    requires memory { CanStore M.Memory mem.old (λ ws. CanAdd ws way.now.nodes way.now.sides way.now.depth (unpacked key.now.len key.now.words, unpacked doc.now.len doc.now.words.now)) }
     requires key { IsPacked 8 key.now.len key.now.words }
     requires doc { IsPacked 128 doc.now.len doc.now.words.now }
-    requires can { Always (M.stands mem.old)
-        (λ ws. CanAdd ws way.now.nodes way.now.sides way.now.depth (unpacked key.now.len key.now.words, unpacked doc.now.len doc.now.words.now)) }
-    ensures exact { IfOk result (λ _. Becomes (M.stands mem.old) (M.stands mem.new)
-        (Adds way.now.nodes way.now.sides way.now.depth (unpacked key.now.len key.now.words, unpacked doc.now.len doc.now.words.now))) }
-    ensures halts { OnErr result (M.left mem.new ≡ Some 0) }
-    ensures framed { Framed M.size M.fixed M.writable M.left mem.old mem.new }
+    ensures { Changes M.Memory mem.old mem.new result (λ _. Adds way.now.nodes way.now.sides way.now.depth (unpacked key.now.len key.now.words, unpacked doc.now.len doc.now.words.now)) }
 {
     let mut held = Held::none();
     let mut buffer = WriteBuffer::over(mem, 0, &mut held);
@@ -159,22 +129,12 @@ pub fn insert<M: Memory, L: Ledger>(
     doc: &Doc<'_>,
     visits: &mut Steps<L>,
 ) -> Result<Inserted, Halt>
-    requires sized { IsPartLength (M.size mem.old) }
+    requires memory { CanStore M.Memory mem.old IsIndex }
     requires lines { M.size mem.old ≡ 8 * lines }
-    requires writable { IsTrue (M.writable mem.old) }
-    requires lawful { Always (M.stands mem.old) IsIndex }
-    requires key { IsPacked 8 key.now.len key.now.words }
-    requires doc { IsPacked 128 doc.now.len doc.now.words.now }
-    requires is_key { IsKey (unpacked key.now.len key.now.words) }
-    requires is_document { IsDocument (unpacked doc.now.len doc.now.words.now) }
-    ensures done { IfOk result (λ inserted. Becomes (M.stands mem.old) (M.stands mem.new)
-        (Inserts (unpacked key.now.len key.now.words) (unpacked doc.now.len doc.now.words.now) inserted)) }
-    ensures exact { IfOk result (λ inserted. Becomes (M.stands mem.old) (M.stands mem.new)
-        (λ old now. (inserted ≡ inserted_in (unpacked key.now.len key.now.words) (unpacked doc.now.len doc.now.words.now) old) × (now ≡ with_document (unpacked key.now.len key.now.words) (unpacked doc.now.len doc.now.words.now) old))) }
+    requires pair { IsPackedPair key.now doc.now.len doc.now.words.now }
+    ensures changes { Changes M.Memory mem.old mem.new result (λ inserted old now. (inserted ≡ inserted_in (unpacked key.now.len key.now.words) (unpacked doc.now.len doc.now.words.now) old) × (now ≡ with_document (unpacked key.now.len key.now.words) (unpacked doc.now.len doc.now.words.now) old)) }
     ensures visits { IfOk result (λ _. Becomes (M.stands mem.old) (M.stands mem.new) (λ old now. FewVisits (visits.new - visits.old) old)) }
     ensures walked { Walked (M.stands mem.old) (visits.new - visits.old) }
-    ensures halts { OnErr result (M.left mem.new ≡ Some 0) }
-    ensures framed { Framed M.size M.fixed M.writable M.left mem.old mem.new }
 {
     let mut way = Way::none();
     let end = seek_place(mem, key, visits, &mut way)?;

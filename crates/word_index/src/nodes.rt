@@ -1,11 +1,11 @@
 //! Nodes: the key and the document that each names, and the number of them.
 
-ghost use Rattle.std.specs.Prelude.{◌≡◌, ◌≤◌, ℕ, List, IfOk, OnErr, Some, length};
+ghost use Rattle.std.specs.Prelude.{◌≡◌, ◌≤◌, ℕ, List, length};
 ghost use Rattle.std.specs.Ordering.{nat_cmp};
-ghost use Rattle.cx_base.specs.Memory.{Always, Becomes, Framed, Reads};
+ghost use Rattle.cx_base.specs.Calls.{Finds};
 ghost use Rattle.cx_base.specs.Packing.{unpacked};
 ghost use Rattle.cx_base.specs.Store.{Store, key_cmp};
-ghost use Rattle.avl_words.specs.Lines.{IsPartLength};
+ghost use Rattle.avl_words.specs.Lines.{CanLoad};
 ghost use Rattle.index_checks.specs.Layout.{IsIndex, StandsFor};
 ghost use Rattle.word_index.specs.Answers.{IsPackOf, IsNodeOf};
 ghost use Rattle.word_index.specs.Walk.{HasNode};
@@ -18,26 +18,16 @@ use std::cmp::Ordering;
 
 /// The number of pairs.
 pub fn count<M: Memory>(mem: &mut M) -> Result<u64, Halt>
-    requires sized { IsPartLength (M.size mem.old) }
-    requires lawful { Always (M.stands mem.old) IsIndex }
-    ensures done { IfOk result (λ n. Reads (M.stands mem.old) (M.stands mem.new)
-        (λ ws. (version : ℕ) (store : Store) → StandsFor ws version store → n ≡ length store)) }
-    ensures kept { Becomes (M.stands mem.old) (M.stands mem.new) ◌≡◌ }
-    ensures halts { OnErr result (M.left mem.new ≡ Some 0) }
-    ensures framed { Framed M.size M.fixed M.writable M.left mem.old mem.new }
+    requires { CanLoad M.Memory mem.old IsIndex }
+    ensures { Finds M.Memory mem.old mem.new result (λ n ws. (version : ℕ) (store : Store) → StandsFor ws version store → n ≡ length store) }
 {
     word(mem, 0, 5)
 }
 
 /// The key of a node.
 pub fn key_at<M: Memory>(mem: &mut M, node: u64) -> Result<Key, Halt>
-    requires sized { IsPartLength (M.size mem.old) }
-    requires node { Always (M.stands mem.old) (λ ws. HasNode ws node) }
-    ensures done { IfOk result (λ key. Reads (M.stands mem.old) (M.stands mem.new)
-        (λ ws. (pair : List ℕ × List ℕ) → IsNodeOf ws node pair → IsPackOf 8 key.len key.words pair.0)) }
-    ensures kept { Becomes (M.stands mem.old) (M.stands mem.new) ◌≡◌ }
-    ensures halts { OnErr result (M.left mem.new ≡ Some 0) }
-    ensures framed { Framed M.size M.fixed M.writable M.left mem.old mem.new }
+    requires { CanLoad M.Memory mem.old (λ ws. HasNode ws node) }
+    ensures { Finds M.Memory mem.old mem.new result (λ key ws. (pair : List ℕ × List ℕ) → IsNodeOf ws node pair → IsPackOf 8 key.len key.words pair.0) }
 {
     let mut words = [0; 8];
     let len = read_text(mem, node, 3, &mut words)?;
@@ -46,13 +36,8 @@ pub fn key_at<M: Memory>(mem: &mut M, node: u64) -> Result<Key, Halt>
 
 /// How the length of a node's key compares with a number.
 fn order_of_lengths<M: Memory>(mem: &mut M, node: u64, len: u64) -> Result<Ordering, Halt>
-    requires sized { IsPartLength (M.size mem.old) }
-    requires node { Always (M.stands mem.old) (λ ws. HasNode ws node) }
-    ensures done { IfOk result (λ order. Reads (M.stands mem.old) (M.stands mem.new)
-        (λ ws. (pair : List ℕ × List ℕ) → IsNodeOf ws node pair → order ≡ nat_cmp (length pair.0) len)) }
-    ensures kept { Becomes (M.stands mem.old) (M.stands mem.new) ◌≡◌ }
-    ensures halts { OnErr result (M.left mem.new ≡ Some 0) }
-    ensures framed { Framed M.size M.fixed M.writable M.left mem.old mem.new }
+    requires { CanLoad M.Memory mem.old (λ ws. HasNode ws node) }
+    ensures { Finds M.Memory mem.old mem.new result (λ order ws. (pair : List ℕ × List ℕ) → IsNodeOf ws node pair → order ≡ nat_cmp (length pair.0) len) }
 {
     let mine = word(mem, node, 4)?;
     Ok(mine.cmp(&len))
@@ -60,14 +45,9 @@ fn order_of_lengths<M: Memory>(mem: &mut M, node: u64, len: u64) -> Result<Order
 
 /// How the key of a node compares with another key. Its words are compared where they stand, up to the first that differs.
 fn order_of_all<M: Memory>(mem: &mut M, node: u64, key: &Key) -> Result<Ordering, Halt>
-    requires sized { IsPartLength (M.size mem.old) }
-    requires node { Always (M.stands mem.old) (λ ws. HasNode ws node) }
+    requires memory { CanLoad M.Memory mem.old (λ ws. HasNode ws node) }
     requires key { key.now.len ≤ 64 }
-    ensures done { IfOk result (λ order. Reads (M.stands mem.old) (M.stands mem.new)
-        (λ ws. (pair : List ℕ × List ℕ) → IsNodeOf ws node pair → order ≡ key_cmp pair.0 (unpacked key.now.len key.now.words))) }
-    ensures kept { Becomes (M.stands mem.old) (M.stands mem.new) ◌≡◌ }
-    ensures halts { OnErr result (M.left mem.new ≡ Some 0) }
-    ensures framed { Framed M.size M.fixed M.writable M.left mem.old mem.new }
+    ensures { Finds M.Memory mem.old mem.new result (λ order ws. (pair : List ℕ × List ℕ) → IsNodeOf ws node pair → order ≡ key_cmp pair.0 (unpacked key.now.len key.now.words)) }
 {
     let first = word(mem, node, 3)?;
     let len = word(mem, node, 4)?;
@@ -84,14 +64,9 @@ fn order_of_all<M: Memory>(mem: &mut M, node: u64, key: &Key) -> Result<Ordering
 /// The same. The length is loaded only where the other key ends before a byte differs, which saves a load at most visits; a key of more than
 /// 56 bytes is then compared anew.
 pub fn order_at<M: Memory>(mem: &mut M, node: u64, key: &Key) -> Result<Ordering, Halt>
-    requires sized { IsPartLength (M.size mem.old) }
-    requires node { Always (M.stands mem.old) (λ ws. HasNode ws node) }
+    requires memory { CanLoad M.Memory mem.old (λ ws. HasNode ws node) }
     requires key { key.now.len ≤ 64 }
-    ensures done { IfOk result (λ order. Reads (M.stands mem.old) (M.stands mem.new)
-        (λ ws. (pair : List ℕ × List ℕ) → IsNodeOf ws node pair → order ≡ key_cmp pair.0 (unpacked key.now.len key.now.words))) }
-    ensures kept { Becomes (M.stands mem.old) (M.stands mem.new) ◌≡◌ }
-    ensures halts { OnErr result (M.left mem.new ≡ Some 0) }
-    ensures framed { Framed M.size M.fixed M.writable M.left mem.old mem.new }
+    ensures { Finds M.Memory mem.old mem.new result (λ order ws. (pair : List ℕ × List ℕ) → IsNodeOf ws node pair → order ≡ key_cmp pair.0 (unpacked key.now.len key.now.words)) }
 {
     let first = word(mem, node, 3)?;
     for at in 0..key.len.div_ceil(8).min(7) as usize {

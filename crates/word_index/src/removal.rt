@@ -1,9 +1,10 @@
 //! A pair is taken out.
 
-ghost use Rattle.std.specs.Prelude.{◌≡◌, ◌-◌, ◌≤◌, IsTrue, IfOk, OnErr, Some, length};
-ghost use Rattle.cx_base.specs.Memory.{Always, Becomes, Framed};
+ghost use Rattle.std.specs.Prelude.{◌≡◌, ◌-◌, ◌≤◌, IfOk, length};
+ghost use Rattle.cx_base.specs.Calls.{Changes};
+ghost use Rattle.cx_base.specs.Memory.{Becomes};
 ghost use Rattle.cx_base.specs.Packing.{unpacked};
-ghost use Rattle.avl_words.specs.Lines.{IsPartLength};
+ghost use Rattle.avl_words.specs.Lines.{CanStore};
 ghost use Rattle.index_checks.specs.Layout.{IsIndex};
 ghost use Rattle.word_index.specs.Changes.{IsRemoved};
 ghost use Rattle.word_index.specs.Exact.{is_key_in, with_key_removed};
@@ -20,13 +21,9 @@ use write_buffer::{Held, WriteBuffer, store_held};
 
 /// Takes the node at the end of a way out of the tree.
 fn cut<M: Memory>(mem: &mut M, way: &mut Way, node: u64) -> Result<(), Halt>
-    requires sized { IsPartLength (M.size mem.old) }
-    requires writable { IsTrue (M.writable mem.old) }
+    requires memory { CanStore M.Memory mem.old (λ ws. CanCut ws way.old.nodes way.old.sides way.old.depth node) }
     requires arrays { (length way.old.nodes ≡ 64) × (length way.old.sides ≡ 64) }
-    requires can { Always (M.stands mem.old) (λ ws. CanCut ws way.old.nodes way.old.sides way.old.depth node) }
-    ensures exact { IfOk result (λ _. Becomes (M.stands mem.old) (M.stands mem.new) (Cuts way.old.nodes way.old.sides way.old.depth node)) }
-    ensures halts { OnErr result (M.left mem.new ≡ Some 0) }
-    ensures framed { Framed M.size M.fixed M.writable M.left mem.old mem.new }
+    ensures { Changes M.Memory mem.old mem.new result (λ _. Cuts way.old.nodes way.old.sides way.old.depth node) }
 {
     take_node(mem, way, node)?;
     let pairs = word(mem, 0, 5)?;
@@ -36,13 +33,9 @@ fn cut<M: Memory>(mem: &mut M, way: &mut Way, node: u64) -> Result<(), Halt>
 
 /// Takes the node at the end of a way out of the tree, and gives its lines back.
 fn cut_pair<M: Memory>(mem: &mut M, way: &mut Way, node: u64) -> Result<(), Halt>
-    requires sized { IsPartLength (M.size mem.old) }
-    requires writable { IsTrue (M.writable mem.old) }
+    requires memory { CanStore M.Memory mem.old (λ ws. CanCut ws way.old.nodes way.old.sides way.old.depth node) }
     requires arrays { (length way.old.nodes ≡ 64) × (length way.old.sides ≡ 64) }
-    requires can { Always (M.stands mem.old) (λ ws. CanCut ws way.old.nodes way.old.sides way.old.depth node) }
-    ensures exact { IfOk result (λ _. Becomes (M.stands mem.old) (M.stands mem.new) (TakesOut way.old.nodes way.old.sides way.old.depth node)) }
-    ensures halts { OnErr result (M.left mem.new ≡ Some 0) }
-    ensures framed { Framed M.size M.fixed M.writable M.left mem.old mem.new }
+    ensures { Changes M.Memory mem.old mem.new result (λ _. TakesOut way.old.nodes way.old.sides way.old.depth node) }
 {
     cut(mem, way, node)?;
     give_pair(mem, node)?;
@@ -51,13 +44,9 @@ fn cut_pair<M: Memory>(mem: &mut M, way: &mut Way, node: u64) -> Result<(), Halt
 
 /// The same over a write buffer. Its room covers each change in at most 16,384 lines, so that there each word that changes is stored once.
 fn take_out<M: Memory>(mem: &mut M, way: &mut Way, node: u64) -> Result<(), Halt>
-    requires sized { IsPartLength (M.size mem.old) }
-    requires writable { IsTrue (M.writable mem.old) }
+    requires memory { CanStore M.Memory mem.old (λ ws. CanCut ws way.old.nodes way.old.sides way.old.depth node) }
     requires arrays { (length way.old.nodes ≡ 64) × (length way.old.sides ≡ 64) }
-    requires can { Always (M.stands mem.old) (λ ws. CanCut ws way.old.nodes way.old.sides way.old.depth node) }
-    ensures exact { IfOk result (λ _. Becomes (M.stands mem.old) (M.stands mem.new) (TakesOut way.old.nodes way.old.sides way.old.depth node)) }
-    ensures halts { OnErr result (M.left mem.new ≡ Some 0) }
-    ensures framed { Framed M.size M.fixed M.writable M.left mem.old mem.new }
+    ensures { Changes M.Memory mem.old mem.new result (λ _. TakesOut way.old.nodes way.old.sides way.old.depth node) }
 {
     let mut held = Held::none();
     let mut buffer = WriteBuffer::over(mem, node, &mut held);
@@ -73,18 +62,11 @@ pub fn remove<M: Memory, L: Ledger>(
     key: &Key,
     visits: &mut Steps<L>,
 ) -> Result<bool, Halt>
-    requires sized { IsPartLength (M.size mem.old) }
-    requires writable { IsTrue (M.writable mem.old) }
-    requires lawful { Always (M.stands mem.old) IsIndex }
+    requires memory { CanStore M.Memory mem.old IsIndex }
     requires key { key.now.len ≤ 64 }
-    ensures done { IfOk result
-        (λ there. Becomes (M.stands mem.old) (M.stands mem.new) (IsRemoved (unpacked key.now.len key.now.words) there)) }
-    ensures exact { IfOk result (λ there. Becomes (M.stands mem.old) (M.stands mem.new)
-        (λ old now. (there ≡ is_key_in (unpacked key.now.len key.now.words) old) × (now ≡ with_key_removed (unpacked key.now.len key.now.words) old))) }
+    ensures changes { Changes M.Memory mem.old mem.new result (λ there old now. (there ≡ is_key_in (unpacked key.now.len key.now.words) old) × (now ≡ with_key_removed (unpacked key.now.len key.now.words) old)) }
     ensures visits { IfOk result (λ _. Becomes (M.stands mem.old) (M.stands mem.new) (λ old now. FewVisits (visits.new - visits.old) old)) }
     ensures walked { Walked (M.stands mem.old) (visits.new - visits.old) }
-    ensures halts { OnErr result (M.left mem.new ≡ Some 0) }
-    ensures framed { Framed M.size M.fixed M.writable M.left mem.old mem.new }
 {
     let mut way = Way::none();
     let end = seek_place(mem, key, visits, &mut way)?;

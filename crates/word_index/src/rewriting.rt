@@ -1,10 +1,10 @@
 //! A document takes another's place.
 
-ghost use Rattle.std.specs.Prelude.{◌≡◌, IsTrue, IfOk, OnErr, Some};
-ghost use Rattle.cx_base.specs.Memory.{Always, Becomes, Framed};
+ghost use Rattle.std.specs.Prelude.{◌≡◌};
+ghost use Rattle.cx_base.specs.Calls.{Changes};
 ghost use Rattle.cx_base.specs.Packing.{unpacked};
 ghost use Rattle.cx_base.specs.Store.{blocks};
-ghost use Rattle.avl_words.specs.Lines.{IsPartLength};
+ghost use Rattle.avl_words.specs.Lines.{CanStore};
 ghost use Rattle.word_index.specs.Answers.{IsPacked};
 ghost use Rattle.word_index.specs.Exact.{with_refilled, with_renewed, with_rewritten};
 ghost use Rattle.word_index.specs.Rewriting.{CanRefit, CanRenew, IsOld};
@@ -19,15 +19,9 @@ use write_buffer::{Held, WriteBuffer, store_held};
 
 /// Writes a document into the blocks of another of as many blocks.
 fn refill<M: Memory>(mem: &mut M, node: u64, first: u64, doc: &Doc<'_>) -> Result<(), Halt>
-    requires sized { IsPartLength (M.size mem.old) }
-    requires writable { IsTrue (M.writable mem.old) }
+    requires memory { CanStore M.Memory mem.old (λ ws. IsOld ws node first (blocks (unpacked doc.now.len doc.now.words.now)) (unpacked doc.now.len doc.now.words.now)) }
     requires doc { IsPacked 128 doc.now.len doc.now.words.now }
-    requires old { Always (M.stands mem.old)
-        (λ ws. IsOld ws node first (blocks (unpacked doc.now.len doc.now.words.now)) (unpacked doc.now.len doc.now.words.now)) }
-    ensures exact { IfOk result (λ _. Becomes (M.stands mem.old) (M.stands mem.new)
-        (λ old now. now ≡ with_refilled (unpacked doc.now.len doc.now.words.now) node old)) }
-    ensures halts { OnErr result (M.left mem.new ≡ Some 0) }
-    ensures framed { Framed M.size M.fixed M.writable M.left mem.old mem.new }
+    ensures { Changes M.Memory mem.old mem.new result (λ _ old now. now ≡ with_refilled (unpacked doc.now.len doc.now.words.now) node old) }
 {
     fill_chain(mem, first, doc.words, doc.len.div_ceil(56) as usize)?;
     put_new(mem, node, 6, doc.len)?;
@@ -42,15 +36,9 @@ fn renew<M: Memory>(
     count: u64,
     doc: &Doc<'_>,
 ) -> Result<(), Halt>
-    requires sized { IsPartLength (M.size mem.old) }
-    requires writable { IsTrue (M.writable mem.old) }
+    requires memory { CanStore M.Memory mem.old (λ ws. IsOld ws node first count (unpacked doc.now.len doc.now.words.now)) }
     requires doc { IsPacked 128 doc.now.len doc.now.words.now }
-    requires old { Always (M.stands mem.old)
-        (λ ws. IsOld ws node first count (unpacked doc.now.len doc.now.words.now)) }
-    ensures exact { IfOk result (λ _. Becomes (M.stands mem.old) (M.stands mem.new)
-        (λ old now. now ≡ with_renewed (unpacked doc.now.len doc.now.words.now) node old)) }
-    ensures halts { OnErr result (M.left mem.new ≡ Some 0) }
-    ensures framed { Framed M.size M.fixed M.writable M.left mem.old mem.new }
+    ensures { Changes M.Memory mem.old mem.new result (λ _ old now. now ≡ with_renewed (unpacked doc.now.len doc.now.words.now) node old) }
 {
     put(mem, node, 5, 0)?;
     put(mem, node, 6, 0)?;
@@ -63,15 +51,9 @@ fn renew<M: Memory>(
 
 /// Puts a document in place of a node's own of as many blocks, into the same blocks. No word is stored twice, so none has to be held back.
 pub fn refit<M: Memory>(mem: &mut M, node: u64, doc: &Doc<'_>) -> Result<(), Halt>
-    requires sized { IsPartLength (M.size mem.old) }
-    requires writable { IsTrue (M.writable mem.old) }
+    requires memory { CanStore M.Memory mem.old (λ ws. CanRefit ws node (unpacked doc.now.len doc.now.words.now)) }
     requires doc { IsPacked 128 doc.now.len doc.now.words.now }
-    requires can { Always (M.stands mem.old)
-        (λ ws. CanRefit ws node (unpacked doc.now.len doc.now.words.now)) }
-    ensures exact { IfOk result (λ _. Becomes (M.stands mem.old) (M.stands mem.new)
-        (λ old now. now ≡ with_rewritten (unpacked doc.now.len doc.now.words.now) node old)) }
-    ensures halts { OnErr result (M.left mem.new ≡ Some 0) }
-    ensures framed { Framed M.size M.fixed M.writable M.left mem.old mem.new }
+    ensures { Changes M.Memory mem.old mem.new result (λ _ old now. now ≡ with_rewritten (unpacked doc.now.len doc.now.words.now) node old) }
 {
     let first = word(mem, node, 5)?;
     refill(mem, node, first, doc)
@@ -79,15 +61,9 @@ pub fn refit<M: Memory>(mem: &mut M, node: u64, doc: &Doc<'_>) -> Result<(), Hal
 
 /// Puts a document in place of a node's own of more or fewer blocks, into new ones.
 fn replace<M: Memory>(mem: &mut M, node: u64, doc: &Doc<'_>) -> Result<(), Halt>
-    requires sized { IsPartLength (M.size mem.old) }
-    requires writable { IsTrue (M.writable mem.old) }
+    requires memory { CanStore M.Memory mem.old (λ ws. CanRenew ws node (unpacked doc.now.len doc.now.words.now)) }
     requires doc { IsPacked 128 doc.now.len doc.now.words.now }
-    requires can { Always (M.stands mem.old)
-        (λ ws. CanRenew ws node (unpacked doc.now.len doc.now.words.now)) }
-    ensures exact { IfOk result (λ _. Becomes (M.stands mem.old) (M.stands mem.new)
-        (λ old now. now ≡ with_rewritten (unpacked doc.now.len doc.now.words.now) node old)) }
-    ensures halts { OnErr result (M.left mem.new ≡ Some 0) }
-    ensures framed { Framed M.size M.fixed M.writable M.left mem.old mem.new }
+    ensures { Changes M.Memory mem.old mem.new result (λ _ old now. now ≡ with_rewritten (unpacked doc.now.len doc.now.words.now) node old) }
 {
     let first = word(mem, node, 5)?;
     let count = word(mem, node, 6)?.div_ceil(56);
@@ -96,15 +72,9 @@ fn replace<M: Memory>(mem: &mut M, node: u64, doc: &Doc<'_>) -> Result<(), Halt>
 
 /// The same over a write buffer. Its room covers each change in at most 16,384 lines, so that there each word that changes is stored once.
 pub fn rewrite<M: Memory>(mem: &mut M, node: u64, doc: &Doc<'_>) -> Result<(), Halt>
-    requires sized { IsPartLength (M.size mem.old) }
-    requires writable { IsTrue (M.writable mem.old) }
+    requires memory { CanStore M.Memory mem.old (λ ws. CanRenew ws node (unpacked doc.now.len doc.now.words.now)) }
     requires doc { IsPacked 128 doc.now.len doc.now.words.now }
-    requires can { Always (M.stands mem.old)
-        (λ ws. CanRenew ws node (unpacked doc.now.len doc.now.words.now)) }
-    ensures exact { IfOk result (λ _. Becomes (M.stands mem.old) (M.stands mem.new)
-        (λ old now. now ≡ with_rewritten (unpacked doc.now.len doc.now.words.now) node old)) }
-    ensures halts { OnErr result (M.left mem.new ≡ Some 0) }
-    ensures framed { Framed M.size M.fixed M.writable M.left mem.old mem.new }
+    ensures { Changes M.Memory mem.old mem.new result (λ _ old now. now ≡ with_rewritten (unpacked doc.now.len doc.now.words.now) node old) }
 {
     let mut held = Held::none();
     let mut buffer = WriteBuffer::over(mem, node, &mut held);

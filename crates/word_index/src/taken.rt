@@ -1,8 +1,9 @@
 //! Lines are taken and filled.
 
-ghost use Rattle.std.specs.Prelude.{◌≡◌, ◌+◌, ◌*◌, ◌-◌, ◌<◌, ◌≤◌, ◌≢◌, ◌^◌, ℕ, IsTrue, IfOk, OnErr, Some, length};
-ghost use Rattle.cx_base.specs.Memory.{Always, Becomes, Framed, overwritten};
-ghost use Rattle.avl_words.specs.Lines.{IsWithin, with_word, IsPartLength, word_of};
+ghost use Rattle.std.specs.Prelude.{◌≡◌, ◌+◌, ◌*◌, ◌-◌, ◌<◌, ◌≤◌, ◌≢◌, ◌^◌, ℕ, IfOk, length};
+ghost use Rattle.cx_base.specs.Calls.{Changes};
+ghost use Rattle.cx_base.specs.Memory.{Becomes, overwritten};
+ghost use Rattle.avl_words.specs.Lines.{CanStore, IsWithin, with_word, word_of};
 ghost use Rattle.word_index.specs.Exact.{line_to_take, with_line_taken, with_text};
 ghost use Rattle.word_index.specs.Fresh.{CanTake, LineTaken, LineFilled, IsBlock, TextWritten};
 
@@ -11,13 +12,8 @@ use cx_base::{Halt, Memory, store_words};
 
 /// Takes the first line never given.
 fn take_new<M: Memory>(mem: &mut M) -> Result<u64, Halt>
-    requires sized { IsPartLength (M.size mem.old) }
-    requires writable { IsTrue (M.writable mem.old) }
-    requires few { Always (M.stands mem.old) (λ ws. word_of ws 0 3 ≤ 2 ^ 32) }
-    ensures done { IfOk result (λ line. Becomes (M.stands mem.old) (M.stands mem.new)
-        (λ before now. (word_of before 0 3 ≡ line) × (now ≡ with_word 0 3 (line + 1) before))) }
-    ensures halts { OnErr result (M.left mem.new ≡ Some 0) }
-    ensures framed { Framed M.size M.fixed M.writable M.left mem.old mem.new }
+    requires { CanStore M.Memory mem.old (λ ws. word_of ws 0 3 ≤ 2 ^ 32) }
+    ensures { Changes M.Memory mem.old mem.new result (λ line before now. (word_of before 0 3 ≡ line) × (now ≡ with_word 0 3 (line + 1) before)) }
 {
     let line = word(mem, 0, 3)?;
     put(mem, 0, 3, line + 1)?;
@@ -26,13 +22,8 @@ fn take_new<M: Memory>(mem: &mut M) -> Result<u64, Halt>
 
 /// Takes the first given-back line.
 fn take_given<M: Memory>(mem: &mut M, head: u64) -> Result<(), Halt>
-    requires sized { IsPartLength (M.size mem.old) }
-    requires writable { IsTrue (M.writable mem.old) }
-    requires head { Always (M.stands mem.old) (λ ws. IsWithin ws head × (1 ≤ word_of ws 0 4)) }
-    ensures done { IfOk result (λ _. Becomes (M.stands mem.old) (M.stands mem.new)
-        (λ before now. now ≡ with_word 0 4 (word_of before 0 4 - 1) (with_word 0 2 (word_of before head 0) before))) }
-    ensures halts { OnErr result (M.left mem.new ≡ Some 0) }
-    ensures framed { Framed M.size M.fixed M.writable M.left mem.old mem.new }
+    requires { CanStore M.Memory mem.old (λ ws. IsWithin ws head × (1 ≤ word_of ws 0 4)) }
+    ensures { Changes M.Memory mem.old mem.new result (λ _ before now. now ≡ with_word 0 4 (word_of before 0 4 - 1) (with_word 0 2 (word_of before head 0) before)) }
 {
     let next = word(mem, head, 0)?;
     let number = word(mem, 0, 4)?;
@@ -43,15 +34,9 @@ fn take_given<M: Memory>(mem: &mut M, head: u64) -> Result<(), Halt>
 
 /// Takes a line: the first given-back one, or else the first never given.
 pub fn take_line<M: Memory>(mem: &mut M) -> Result<u64, Halt>
-    requires sized { IsPartLength (M.size mem.old) }
-    requires writable { IsTrue (M.writable mem.old) }
-    requires room { Always (M.stands mem.old) (λ ws. CanTake ws 1) }
-    ensures done { IfOk result
-        (λ line. Becomes (M.stands mem.old) (M.stands mem.new) (LineTaken line)) }
-    ensures exact { IfOk result (λ line. Becomes (M.stands mem.old) (M.stands mem.new)
-        (λ old now. (line ≡ line_to_take old) × (now ≡ with_line_taken old))) }
-    ensures halts { OnErr result (M.left mem.new ≡ Some 0) }
-    ensures framed { Framed M.size M.fixed M.writable M.left mem.old mem.new }
+    requires { CanStore M.Memory mem.old (λ ws. CanTake ws 1) }
+    ensures changes { Changes M.Memory mem.old mem.new result (λ line. LineTaken line) }
+    ensures exact { IfOk result (λ line. Becomes (M.stands mem.old) (M.stands mem.new) (λ old now. (line ≡ line_to_take old) × (now ≡ with_line_taken old))) }
 {
     let head = word(mem, 0, 2)?;
     if head == 0 {
@@ -61,17 +46,11 @@ pub fn take_line<M: Memory>(mem: &mut M) -> Result<u64, Halt>
     Ok(head)
 }
 
-/// Fills a line.
+/// Fills a line, and stores only the words that change.
 pub fn put_line<M: Memory>(mem: &mut M, line: u64, content: &[u64; 8]) -> Result<(), Halt>
-    requires sized { IsPartLength (M.size mem.old) }
-    requires writable { IsTrue (M.writable mem.old) }
-    requires line { Always (M.stands mem.old) (λ ws. IsWithin ws line) }
-    ensures done { IfOk result
-        (λ _. Becomes (M.stands mem.old) (M.stands mem.new) (LineFilled line content.now)) }
-    ensures exact { IfOk result (λ _. Becomes (M.stands mem.old) (M.stands mem.new)
-        (λ old now. now ≡ overwritten (8 * line) content.now old)) }
-    ensures halts { OnErr result (M.left mem.new ≡ Some 0) }
-    ensures framed { Framed M.size M.fixed M.writable M.left mem.old mem.new }
+    requires { CanStore M.Memory mem.old (λ ws. IsWithin ws line) }
+    ensures changes { Changes M.Memory mem.old mem.new result (λ _. LineFilled line content.now) }
+    ensures exact { IfOk result (λ _. Becomes (M.stands mem.old) (M.stands mem.new) (λ old now. now ≡ overwritten (8 * line) content.now old)) }
 {
     let start = start_of(mem, line);
     store_words(mem, start, content)?;
@@ -92,16 +71,10 @@ pub fn block(next: u64, words: &[u64], from: usize) -> [u64; 8]
 
 /// Writes words into a chain of so many new blocks, and gives its first line.
 pub fn write_text<M: Memory>(mem: &mut M, words: &[u64], count: usize) -> Result<u64, Halt>
-    requires sized { IsPartLength (M.size mem.old) }
-    requires writable { IsTrue (M.writable mem.old) }
+    requires memory { CanStore M.Memory mem.old (λ ws. CanTake ws count) }
     requires few { count ≤ 2 ^ 32 }
-    requires room { Always (M.stands mem.old) (λ ws. CanTake ws count) }
-    ensures done { IfOk result
-        (λ first. Becomes (M.stands mem.old) (M.stands mem.new) (TextWritten words.now count first)) }
-    ensures exact { IfOk result (λ first. Becomes (M.stands mem.old) (M.stands mem.new)
-        (λ old now. with_text words.now count 0 old ≡ (first, now))) }
-    ensures halts { OnErr result (M.left mem.new ≡ Some 0) }
-    ensures framed { Framed M.size M.fixed M.writable M.left mem.old mem.new }
+    ensures changes { Changes M.Memory mem.old mem.new result (λ first. TextWritten words.now count first) }
+    ensures exact { IfOk result (λ first. Becomes (M.stands mem.old) (M.stands mem.new) (λ old now. with_text words.now count 0 old ≡ (first, now))) }
 {
     let mut next = 0;
     for j in 0..count {

@@ -1,14 +1,15 @@
 //! A walk down the tree to the place of a key.
 
-ghost use Rattle.std.specs.Prelude.{◌≡◌, ◌≢◌, ◌+◌, ◌-◌, ◌≤◌, ℕ, Bool, false, List, IfOk, OnErr, Some, length};
+ghost use Rattle.std.specs.Prelude.{◌≡◌, ◌≢◌, ◌+◌, ◌-◌, ◌≤◌, ℕ, Bool, false, List, IfOk, length};
 ghost use Rattle.std.specs.declared.cmp.Ordering.TheVariants.{Less, Greater};
-ghost use Rattle.cx_base.specs.Memory.{Always, Becomes, Framed, Reads};
+ghost use Rattle.cx_base.specs.Calls.{Finds};
+ghost use Rattle.cx_base.specs.Memory.{Always};
 ghost use Rattle.cx_base.specs.Packing.{unpacked};
 ghost use Rattle.cx_base.specs.Store.{key_cmp};
-ghost use Rattle.avl_words.specs.Lines.{IsPartLength};
+ghost use Rattle.avl_words.specs.Lines.{CanLoad};
 ghost use Rattle.index_checks.specs.Layout.{IsIndex};
 ghost use Rattle.word_index.specs.Answers.{IsNodeOf};
-ghost use Rattle.word_index.specs.Walk.{AtEnd, AtSpot, FewVisits, HasNode, Walked, toward};
+ghost use Rattle.word_index.specs.Walk.{AtEnd, AtSpot, FewVisits, HasNode, VisitsFew, toward};
 
 use crate::nodes::order_at;
 use crate::texts::Key;
@@ -61,15 +62,10 @@ fn visit<M: Memory, L: Ledger>(
     key: &Key,
     visits: &mut Steps<L>,
 ) -> Result<Ordering, Halt>
-    requires sized { IsPartLength (M.size mem.old) }
-    requires node { Always (M.stands mem.old) (λ ws. HasNode ws node) }
+    requires memory { CanLoad M.Memory mem.old (λ ws. HasNode ws node) }
     requires key { key.now.len ≤ 64 }
+    ensures finds { Finds M.Memory mem.old mem.new result (λ order ws. (pair : List ℕ × List ℕ) → IsNodeOf ws node pair → order ≡ key_cmp pair.0 (unpacked key.now.len key.now.words)) }
     ensures counted { visits.new ≡ visits.old + 1 }
-    ensures done { IfOk result (λ order. Reads (M.stands mem.old) (M.stands mem.new)
-        (λ ws. (pair : List ℕ × List ℕ) → IsNodeOf ws node pair → order ≡ key_cmp pair.0 (unpacked key.now.len key.now.words))) }
-    ensures kept { Becomes (M.stands mem.old) (M.stands mem.new) ◌≡◌ }
-    ensures halts { OnErr result (M.left mem.new ≡ Some 0) }
-    ensures framed { Framed M.size M.fixed M.writable M.left mem.old mem.new }
 {
     visits.tick();
     order_at(mem, node, key)
@@ -82,15 +78,10 @@ pub fn reach<M: Memory, L: Ledger>(
     past: bool,
     visits: &mut Steps<L>,
 ) -> Result<End, Halt>
-    requires sized { IsPartLength (M.size mem.old) }
-    requires lawful { Always (M.stands mem.old) IsIndex }
+    requires memory { CanLoad M.Memory mem.old IsIndex }
     requires key { key.now.len ≤ 64 }
-    ensures done { IfOk result (λ end. Reads (M.stands mem.old) (M.stands mem.new)
-        (AtEnd past (unpacked key.now.len key.now.words) end.node end.above)) }
+    ensures finds { Finds M.Memory mem.old mem.new result (λ end. AtEnd past (unpacked key.now.len key.now.words) end.node end.above) }
     ensures visits { Always (M.stands mem.new) (FewVisits (visits.new - visits.old)) }
-    ensures kept { Becomes (M.stands mem.old) (M.stands mem.new) ◌≡◌ }
-    ensures halts { OnErr result (M.left mem.new ≡ Some 0) }
-    ensures framed { Framed M.size M.fixed M.writable M.left mem.old mem.new }
 {
     let mut above = 0;
     let mut node = word(mem, 0, 1)?;
@@ -117,17 +108,12 @@ fn seek<M: Memory, L: Ledger>(
     visits: &mut Steps<L>,
     way: &mut Way,
 ) -> Result<End, Halt>
-    requires sized { IsPartLength (M.size mem.old) }
-    requires lawful { Always (M.stands mem.old) IsIndex }
+    requires memory { CanLoad M.Memory mem.old IsIndex }
     requires key { key.now.len ≤ 64 }
     requires arrays { (length way.old.nodes ≡ 64) × (length way.old.sides ≡ 64) }
-    ensures done { IfOk result (λ end. Reads (M.stands mem.old) (M.stands mem.new)
-        (AtSpot past (unpacked key.now.len key.now.words) way.new.nodes way.new.sides way.new.depth end.node end.above)) }
+    ensures finds { Finds M.Memory mem.old mem.new result (λ end. AtSpot past (unpacked key.now.len key.now.words) way.new.nodes way.new.sides way.new.depth end.node end.above) }
     ensures arrays { IfOk result (λ _. (length way.new.nodes ≡ 64) × (length way.new.sides ≡ 64)) }
     ensures visits { Always (M.stands mem.new) (FewVisits (visits.new - visits.old)) }
-    ensures kept { Becomes (M.stands mem.old) (M.stands mem.new) ◌≡◌ }
-    ensures halts { OnErr result (M.left mem.new ≡ Some 0) }
-    ensures framed { Framed M.size M.fixed M.writable M.left mem.old mem.new }
 {
     let mut above = 0;
     let mut node = word(mem, 0, 1)?;
@@ -159,18 +145,12 @@ pub fn seek_place<M: Memory, L: Ledger>(
     visits: &mut Steps<L>,
     way: &mut Way,
 ) -> Result<End, Halt>
-    requires sized { IsPartLength (M.size mem.old) }
-    requires lawful { Always (M.stands mem.old) IsIndex }
+    requires memory { CanLoad M.Memory mem.old IsIndex }
     requires key { key.now.len ≤ 64 }
     requires arrays { (length way.old.nodes ≡ 64) × (length way.old.sides ≡ 64) }
-    ensures done { IfOk result (λ end. Reads (M.stands mem.old) (M.stands mem.new)
-        (AtSpot false (unpacked key.now.len key.now.words) way.new.nodes way.new.sides way.new.depth end.node end.above)) }
+    ensures finds { Finds M.Memory mem.old mem.new result (λ end. AtSpot false (unpacked key.now.len key.now.words) way.new.nodes way.new.sides way.new.depth end.node end.above) }
     ensures arrays { IfOk result (λ _. (length way.new.nodes ≡ 64) × (length way.new.sides ≡ 64)) }
-    ensures visits { Always (M.stands mem.new) (FewVisits (visits.new - visits.old)) }
-    ensures walked { Walked (M.stands mem.old) (visits.new - visits.old) }
-    ensures kept { Becomes (M.stands mem.old) (M.stands mem.new) ◌≡◌ }
-    ensures halts { OnErr result (M.left mem.new ≡ Some 0) }
-    ensures framed { Framed M.size M.fixed M.writable M.left mem.old mem.new }
+    ensures visits { VisitsFew M.Memory mem.old mem.new (visits.new - visits.old) }
 {
     seek(mem, key, false, visits, way)
 }

@@ -1,7 +1,7 @@
 //! A memory over another that holds stores back.
 
-ghost use Rattle.std.specs.Prelude.{◌≡◌, ◌<◌, ◌≤◌, ℕ, IsTrue, IfOk, OnErr, Some};
-ghost use Rattle.cx_base.specs.Memory.{Becomes, Framed};
+ghost use Rattle.std.specs.Prelude.{◌≡◌, ◌<◌, ◌≤◌, ℕ, IsTrue};
+ghost use Rattle.cx_base.specs.Calls.{Changes};
 ghost use Rattle.write_buffer.specs.Buffering.{IsHeld, Shows, Covers, BufferFixed, shows_some, shows_words};
 
 use crate::held::Held;
@@ -87,9 +87,7 @@ impl<M: Memory> Memory for WriteBuffer<'_, M> {
 pub fn store_held<M: Memory>(mem: &mut M, held: &Held) -> Result<(), Halt>
     requires writable { IsTrue (M.writable mem.old) }
     requires held { IsHeld (M.stands mem.old) (M.size mem.old) held.now.count held.now.places held.now.found held.now.values }
-    ensures done { IfOk result (λ _. Becomes (M.stands mem.old) (M.stands mem.new) (Covers held.now.count held.now.places held.now.values)) }
-    ensures halts { OnErr result (M.left mem.new ≡ Some 0) }
-    ensures framed { Framed M.size M.fixed M.writable M.left mem.old mem.new }
+    ensures { Changes M.Memory mem.old mem.new result (λ _. Covers held.now.count held.now.places held.now.values) }
 {
     for i in 0..held.count {
         if held.values[i] != held.found[i] {

@@ -15,16 +15,16 @@ loop-depth-init g c = record {
   framed = Framed-same _;
 }
 
-pub word-requires-clause-line : goal.word-requires-clause-line
-word-requires-clause-line g c =
+pub word-requires-clause-memory : goal.word-requires-clause-memory
+word-requires-clause-memory g c =
     let l = c.loop-depth in
     let w = c.args.way.now in
-    always_read c.requires.can l.invariant.done (λ ws h o. (let d = o h.way h.left h.item h.right h.below in descending_within ws l.way.nodes l.way.sides l.depth l.least h.way h.left h.item h.right d))
+    record { sized = search rules; all = always_read c.requires.memory.all l.invariant.done (λ ws h o. (let d = o h.way h.left h.item h.right h.below in descending_within ws l.way.nodes l.way.sides l.depth l.least h.way h.left h.item h.right d)) }
 
-pub returns-then-left-eq0-clause-done : goal.returns-then-left-eq0-clause-done
-returns-then-left-eq0-clause-done g c =
+pub returns-then-left-eq0-clause-finds : goal.returns-then-left-eq0-clause-finds
+returns-then-left-eq0-clause-finds g c =
     let l = c.loop-depth in
-    Reads-load l.invariant.done c.in_ok-left.ensures.done (λ ws o e way cc z d b. descending_ends ws l.way.nodes l.way.sides l.depth l.least c.in_ok-left.left way cc z d (o way cc z d b) e c.if-left-eq0.true)
+    record { done = Reads-load l.invariant.done c.in_ok-left.ensures.done (λ ws o e way cc z d b. descending_ends ws l.way.nodes l.way.sides l.depth l.least c.in_ok-left.left way cc z d (o way cc z d b) e c.if-left-eq0.true); kept = search rules; halts = search rules; framed = search rules }
 
 pub loop-depth-preserved : goal.loop-depth-preserved
 loop-depth-preserved g c =
@@ -41,9 +41,9 @@ loop-depth-preserved g c =
       framed = Framed-then i.framed w.framed;
     }
 
-pub returns-clause-done : goal.returns-clause-done
-returns-clause-done g c =
+pub returns-clause-finds : goal.returns-clause-finds
+returns-clause-finds g c =
     let l = c.loop-depth in
     let w = c.args.way.now in
     let deep : 64 ≤ l.depth = omega (arith, c.loop-depth-test.false) in
-    Reads-weaker (Reads-with c.requires.can l.invariant.done) (λ ws p. absurd (descending_deep ws w.nodes w.sides w.depth c.args.node l.way.nodes l.way.sides l.depth l.least p.0 deep p.1))
+    record { done = Reads-weaker (Reads-with c.requires.memory.all l.invariant.done) (λ ws p. absurd (descending_deep ws w.nodes w.sides w.depth c.args.node l.way.nodes l.way.sides l.depth l.least p.0 deep p.1)); kept = search rules; halts = search rules; framed = search rules }

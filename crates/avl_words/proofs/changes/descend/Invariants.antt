@@ -1,7 +1,7 @@
 use Rattle.std.proofs.Common.{◌≡◌, length, ℕ, List}
 use Rattle.cx_base.specs.Memory.{Becomes, Framed, Reads}
-use Rattle.avl_tree.specs.Tree.{Tree}
-use Rattle.avl_tree.specs.Ways.{Turn}
+use Rattle.avl_words.specs.Tree.{Tree}
+use Rattle.avl_words.specs.Ways.{Turn}
 use Rattle.avl_words.specs.Changes.{IsBelow, IsDescending}
 use Rattle.avl_words.specs.Lines.{IsPartLength}
 use Rattle.avl_words.proofs.changes.descend.Given as goal

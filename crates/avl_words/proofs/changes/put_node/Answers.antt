@@ -1,3 +1,4 @@
+use Rattle.std.proofs.Common.{rules}
 use Rattle.cx_base.proofs.MemoryLemmas.{Becomes-then, always_at_most}
 use Rattle.avl_words.proofs.Putting.{can_mend_leaf, put_depth, puts}
 use Rattle.avl_words.proofs.changes.put_node.Goals as goal
@@ -6,14 +7,14 @@ pub mend-requires-clause-depth : goal.mend-requires-clause-depth
 mend-requires-clause-depth g c =
     let m = c.args.mem.now in
     let w = c.args.way.now in
-    always_at_most (g.M.Memory.stands m) (g.met.M.Memory.some_stands m) w.depth 64 (λ first now s. put_depth now w.nodes w.sides w.depth c.args.node (c.requires.can first now s))
+    always_at_most (g.M.Memory.stands m) (g.met.M.Memory.some_stands m) w.depth 64 (λ first now s. put_depth now w.nodes w.sides w.depth c.args.node (c.requires.all first now s))
 
-pub mend-requires-clause-can : goal.mend-requires-clause-can
-mend-requires-clause-can g c =
+pub mend-requires-clause-memory : goal.mend-requires-clause-memory
+mend-requires-clause-memory g c =
     let w = c.args.way.now in
-    λ first now s. can_mend_leaf now w.nodes w.sides w.depth c.args.node (c.requires.can first now s)
+    record { sized = search rules; writable = search rules; all = λ first now s. can_mend_leaf now w.nodes w.sides w.depth c.args.node (c.requires.all first now s) }
 
-pub returns-clause-done : goal.returns-clause-done
-returns-clause-done g c =
+pub returns : goal.returns
+returns g c =
     let w = c.args.way.now in
-    Becomes-then c.in_ok-top.ensures.done c.in_ok-put_new.ensures.done (λ x y z m e. puts x y z w.nodes w.sides w.depth c.args.node c.in_ok-top.top m e)
+    record { done = Becomes-then c.in_ok-top.ensures.done c.in_ok-put_new.ensures.done (λ x y z m e. puts x y z w.nodes w.sides w.depth c.args.node c.in_ok-top.top m e); halts = search rules; framed = search rules }

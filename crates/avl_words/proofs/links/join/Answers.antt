@@ -1,4 +1,4 @@
-use Rattle.std.proofs.Common.{◌^◌, ◌≤◌, arith}
+use Rattle.std.proofs.Common.{◌^◌, ◌≤◌, arith, rules}
 use Rattle.cx_base.proofs.MemoryLemmas.{always_at_most}
 use Rattle.cx_base.proofs.ReadLemmas.{Reads-none}
 use Rattle.avl_words.specs.Links.{with_node, Joins}
@@ -11,7 +11,7 @@ overflow_add-left g c =
     let a = c.args in
     let m = a.mem.now in
     let few : a.left.height ≤ 2 ^ 32 = always_at_most (g.M.Memory.stands m) (g.met.M.Memory.some_stands m) a.left.height (2 ^ 32)
-    (λ first now s. (join_left now a.node a.left.root a.left.height a.right.root a.right.height (c.requires.can first now s)).low) in
+    (λ first now s. (join_left now a.node a.left.root a.left.height a.right.root a.right.height (c.requires.all first now s)).low) in
     omega arith
 
 pub overflow_add-right : goal.overflow_add-right
@@ -19,41 +19,53 @@ overflow_add-right g c =
     let a = c.args in
     let m = a.mem.now in
     let few : a.right.height ≤ 2 ^ 32 = always_at_most (g.M.Memory.stands m) (g.met.M.Memory.some_stands m) a.right.height (2 ^ 32)
-    (λ first now s. (join_right now a.node a.left.root a.left.height a.right.root a.right.height (c.requires.can first now s)).low) in
+    (λ first now s. (join_right now a.node a.left.root a.left.height a.right.root a.right.height (c.requires.all first now s)).low) in
     omega arith
 
-pub rotate-requires-clause-can : goal.rotate-requires-clause-can
-rotate-requires-clause-can g c =
+pub rotate-requires-clause-memory : goal.rotate-requires-clause-memory
+rotate-requires-clause-memory g c =
     let a = c.args in
-    λ first now s. can_right now a.node a.left.root a.left.height a.right.root a.right.height (c.requires.can first now s) c.if-left-right.true
+    record { sized = search rules; writable = search rules; all = λ first now s. can_right now a.node a.left.root a.left.height a.right.root a.right.height (c.requires.all first now s) c.if-left-right.true }
 
-pub returns-then-left-right-clause-done : goal.returns-then-left-right-clause-done
-returns-then-left-right-clause-done g c =
+pub returns-then-left-right : goal.returns-then-left-right
+returns-then-left-right g c =
     let a = c.args in
     let t = c.in_ok-top.top in
-    Becomes-behind (Joins a.node a.left.root a.right.root t.root t.height) (Reads-none _ c.requires.can) c.in_ok-top.ensures.done
-    (λ ws now p q. joins_right ws a.node a.left.root a.left.height a.right.root a.right.height p now t.root t.height c.if-left-right.true q)
+    record {
+      done = Becomes-behind (Joins a.node a.left.root a.right.root t.root t.height) (Reads-none _ c.requires.all) c.in_ok-top.ensures.done
+          (λ ws now p q. joins_right ws a.node a.left.root a.left.height a.right.root a.right.height p now t.root t.height c.if-left-right.true q);
+      halts = search rules;
+      framed = search rules;
+    }
 
-pub rotate-requires-then-right-left-clause-can : goal.rotate-requires-then-right-left-clause-can
-rotate-requires-then-right-left-clause-can g c =
+pub rotate-requires-then-right-left-clause-memory : goal.rotate-requires-then-right-left-clause-memory
+rotate-requires-then-right-left-clause-memory g c =
     let a = c.args in
-    λ first now s. can_left now a.node a.left.root a.left.height a.right.root a.right.height (c.requires.can first now s) c.if-right-left.true
+    record { sized = search rules; writable = search rules; all = λ first now s. can_left now a.node a.left.root a.left.height a.right.root a.right.height (c.requires.all first now s) c.if-right-left.true }
 
-pub returns-then-right-left-clause-done : goal.returns-then-right-left-clause-done
-returns-then-right-left-clause-done g c =
+pub returns-then-right-left : goal.returns-then-right-left
+returns-then-right-left g c =
     let a = c.args in
     let t = c.in_ok-top-2.top in
-    Becomes-behind (Joins a.node a.left.root a.right.root t.root t.height) (Reads-none _ c.requires.can) c.in_ok-top-2.ensures.done
-    (λ ws now p q. joins_left ws a.node a.left.root a.left.height a.right.root a.right.height p now t.root t.height c.if-right-left.true q)
+    record {
+      done = Becomes-behind (Joins a.node a.left.root a.right.root t.root t.height) (Reads-none _ c.requires.all) c.in_ok-top-2.ensures.done
+          (λ ws now p q. joins_left ws a.node a.left.root a.left.height a.right.root a.right.height p now t.root t.height c.if-right-left.true q);
+      halts = search rules;
+      framed = search rules;
+    }
 
-pub set_node-requires-clause-can : goal.set_node-requires-clause-can
-set_node-requires-clause-can g c =
+pub set_node-requires-clause-memory : goal.set_node-requires-clause-memory
+set_node-requires-clause-memory g c =
     let a = c.args in
-    λ first now s. can_plain now a.node a.left.root a.left.height a.right.root a.right.height (c.requires.can first now s)
+    record { sized = search rules; writable = search rules; all = λ first now s. can_plain now a.node a.left.root a.left.height a.right.root a.right.height (c.requires.all first now s) }
 
-pub returns-clause-done : goal.returns-clause-done
-returns-clause-done g c =
+pub returns : goal.returns
+returns g c =
     let a = c.args in
     let t = c.in_ok-top-3 in
-    Becomes-set (with_node a.node 0 a.left.root a.right.root) (Joins a.node a.left.root a.right.root t.top.root t.top.height) (Reads-none _ c.requires.can) t.ensures.done
-    (λ ws p. joins_plain ws a.node a.left.root a.left.height a.right.root a.right.height p t.top.root t.top.height c.if-left-right.false c.if-right-left.false t.ensures.root t.ensures.height)
+    record {
+      done = Becomes-set (with_node a.node 0 a.left.root a.right.root) (Joins a.node a.left.root a.right.root t.top.root t.top.height) (Reads-none _ c.requires.all) t.ensures.changes.done
+          (λ ws p. joins_plain ws a.node a.left.root a.left.height a.right.root a.right.height p t.top.root t.top.height c.if-left-right.false c.if-right-left.false t.ensures.root t.ensures.height);
+      halts = search rules;
+      framed = search rules;
+    }

@@ -10,16 +10,16 @@ begins ws nodes sides depth settled node high = (let e : depth ≡ depth - 0 = o
 pub loop-i-init : goal.loop-i-init
 loop-i-init g c = record {
   done = record { from = λ first now s. (now, s, begins now c.args.way.now.nodes c.args.way.now.sides c.args.way.now.depth c.args.settled c.args.tree.root c.args.tree.height) };
-  sized = c.requires.sized;
+  sized = c.requires.memory.sized;
   framed = Framed-same _;
 }
 
-pub word-requires-clause-line : goal.word-requires-clause-line
-word-requires-clause-line g c =
+pub word-requires-clause-memory : goal.word-requires-clause-memory
+word-requires-clause-memory g c =
     let l = c.loop-i in
     let w = c.args.way.now in
     let t = c.args.tree in
-    always_after c.requires.can l.invariant.done (λ x y p m. node_within x y w.nodes w.sides w.depth c.args.settled t.root t.height (w.depth - l.i) l.top.root l.top.height p m (omega (arith, c.loop-i-test.true)))
+    record { sized = search rules; all = always_after c.requires.memory.all l.invariant.done (λ x y p m. node_within x y w.nodes w.sides w.depth c.args.settled t.root t.height (w.depth - l.i) l.top.root l.top.height p m (omega (arith, c.loop-i-test.true))) }
 
 pub hang-requires-clause-side : goal.hang-requires-clause-side
 hang-requires-clause-side g c =
@@ -27,35 +27,47 @@ hang-requires-clause-side g c =
     let w = c.args.way.now in
     let t = c.args.tree in
     always_below (g.M.Memory.stands l.mem) (g.met.M.Memory.some_stands l.mem) (get_or w.sides (w.depth - l.i - 1) 0) 2
-    (always_after c.requires.can l.invariant.done (λ x y p m. side_below x y w.nodes w.sides w.depth c.args.settled t.root t.height (w.depth - l.i) l.top.root l.top.height p m (omega (arith, c.loop-i-test.true))))
+    (always_after c.requires.memory.all l.invariant.done (λ x y p m. side_below x y w.nodes w.sides w.depth c.args.settled t.root t.height (w.depth - l.i) l.top.root l.top.height p m (omega (arith, c.loop-i-test.true))))
 
-pub hang-requires-clause-can : goal.hang-requires-clause-can
-hang-requires-clause-can g c =
+pub hang-requires-clause-memory : goal.hang-requires-clause-memory
+hang-requires-clause-memory g c =
     let l = c.loop-i in
     let w = c.args.way.now in
     let t = c.args.tree in
-    always_after c.requires.can (Becomes-loaded l.invariant.done c.in_ok-high.ensures.done)
-    (λ x y p m. can_go_on x y w.nodes w.sides w.depth c.args.settled t.root t.height (w.depth - l.i) l.top.root l.top.height p m.0 (omega (arith, c.loop-i-test.true)))
+    record {
+      sized = search rules;
+      writable = search rules;
+      all = always_after c.requires.memory.all (Becomes-loaded l.invariant.done c.in_ok-high.ensures.done)
+          (λ x y p m. can_go_on x y w.nodes w.sides w.depth c.args.settled t.root t.height (w.depth - l.i) l.top.root l.top.height p m.0 (omega (arith, c.loop-i-test.true)));
+    }
 
-pub relink-requires-clause-can : goal.relink-requires-clause-can
-relink-requires-clause-can g c =
-    let l = c.loop-i in
-    let w = c.args.way.now in
-    let t = c.args.tree in
-    let top = c.in_ok-top.top in
-    always_after c.requires.can (Becomes-both (Becomes-loaded l.invariant.done c.in_ok-high.ensures.done) c.in_ok-top.ensures.done)
-    (λ x z p m. can_relink x m.0 z w.nodes w.sides w.depth c.args.settled t.root t.height (w.depth - l.i) l.top.root l.top.height top.root top.height c.in_ok-high.high p m.1.0
-    (omega (arith, c.loop-i-test.true)) (omega (arith, c.if-last-settled.true)) m.1.1 c.if-top-high.true m.2)
-
-pub returns-then-top-high-clause-done : goal.returns-then-top-high-clause-done
-returns-then-top-high-clause-done g c =
+pub relink-requires-clause-memory : goal.relink-requires-clause-memory
+relink-requires-clause-memory g c =
     let l = c.loop-i in
     let w = c.args.way.now in
     let t = c.args.tree in
     let top = c.in_ok-top.top in
-    Becomes-then (Becomes-both (Becomes-loaded l.invariant.done c.in_ok-high.ensures.done) c.in_ok-top.ensures.done) c.in_ok-root.ensures.done
-    (λ x z u m r. mending_stops x m.0 z u w.nodes w.sides w.depth c.args.settled t.root t.height (w.depth - l.i) l.top.root l.top.height top.root top.height c.in_ok-high.high c.in_ok-root.root m.1.0
-    (omega (arith, c.loop-i-test.true)) (omega (arith, c.if-last-settled.true)) m.1.1 c.if-top-high.true m.2 r)
+    record {
+      sized = search rules;
+      writable = search rules;
+      all = always_after c.requires.memory.all (Becomes-both (Becomes-loaded l.invariant.done c.in_ok-high.ensures.done) c.in_ok-top.ensures.done)
+          (λ x z p m. can_relink x m.0 z w.nodes w.sides w.depth c.args.settled t.root t.height (w.depth - l.i) l.top.root l.top.height top.root top.height c.in_ok-high.high p m.1.0
+          (omega (arith, c.loop-i-test.true)) (omega (arith, c.if-last-settled.true)) m.1.1 c.if-top-high.true m.2);
+    }
+
+pub returns-then-top-high : goal.returns-then-top-high
+returns-then-top-high g c =
+    let l = c.loop-i in
+    let w = c.args.way.now in
+    let t = c.args.tree in
+    let top = c.in_ok-top.top in
+    record {
+      done = Becomes-then (Becomes-both (Becomes-loaded l.invariant.done c.in_ok-high.ensures.done) c.in_ok-top.ensures.done) c.in_ok-root.ensures.done
+          (λ x z u m r. mending_stops x m.0 z u w.nodes w.sides w.depth c.args.settled t.root t.height (w.depth - l.i) l.top.root l.top.height top.root top.height c.in_ok-high.high c.in_ok-root.root m.1.0
+          (omega (arith, c.loop-i-test.true)) (omega (arith, c.if-last-settled.true)) m.1.1 c.if-top-high.true m.2 r);
+      halts = search rules;
+      framed = search rules;
+    }
 
 pub loop-i-preserved : goal.loop-i-preserved
 loop-i-preserved g c =
@@ -72,11 +84,15 @@ loop-i-preserved g c =
       framed = Framed-then (Framed-then l.invariant.framed c.in_ok-high.ensures.framed) c.in_ok-top.ensures.framed;
     }
 
-pub returns-clause-done : goal.returns-clause-done
-returns-clause-done g c =
+pub returns : goal.returns
+returns g c =
     let l = c.loop-i in
     let w = c.args.way.now in
     let t = c.args.tree in
     let none : w.depth - l.i ≡ 0 = omega (arith, c.loop-i-test.false) in
-    Becomes-weaker l.invariant.done (λ first x y s m.
-    mending_ends x y w.nodes w.sides w.depth c.args.settled t.root t.height l.top.root l.top.height (subst (λ k. Mending w.nodes w.sides w.depth c.args.settled t.root t.height k l.top.root l.top.height x y) none m))
+    record {
+      done = Becomes-weaker l.invariant.done (λ first x y s m.
+          mending_ends x y w.nodes w.sides w.depth c.args.settled t.root t.height l.top.root l.top.height (subst (λ k. Mending w.nodes w.sides w.depth c.args.settled t.root t.height k l.top.root l.top.height x y) none m));
+      halts = search rules;
+      framed = search rules;
+    }

@@ -1,6 +1,6 @@
 use Rattle.std.proofs.Common.{length, sym, ap, subst, arith}
-use Rattle.avl_checks.specs.Order.{to_come}
-use Rattle.avl_checks.proofs.Orders.{some_noted}
+use Rattle.index_checks.specs.Order.{to_come}
+use Rattle.index_checks.proofs.Orders.{some_noted}
 use Rattle.index_checks.proofs.Listings.{ListedSoFar, list_begins, list_next, list_more, index_tree, index_count}
 use Rattle.index_checks.proofs.listing.pairs_of.Goals as goal
 

@@ -1,6 +1,6 @@
 use Rattle.std.proofs.Common.{◌≡◌, ◌+◌, length}
 use Rattle.avl_words.specs.Lines.{word_of}
-use Rattle.avl_checks.specs.Order.{AreNoted, to_come}
+use Rattle.index_checks.specs.Order.{AreNoted, to_come}
 use Rattle.index_checks.proofs.Listings.{ListedSoFar}
 use Rattle.index_checks.proofs.listing.pairs_of.Given as goal
 

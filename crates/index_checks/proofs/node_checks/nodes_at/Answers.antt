@@ -1,7 +1,7 @@
 use Rattle.std.proofs.Common.{◌≡◌, ◌^◌, ◌<◌, ◌≤◌, ℕ, length, take, sym, ap, subst, arith}
 use Rattle.avl_words.specs.Lines.{word_of}
-use Rattle.avl_checks.specs.Order.{to_come}
-use Rattle.avl_checks.proofs.Orders.{tree_of, shape_count, some_noted}
+use Rattle.index_checks.specs.Order.{to_come}
+use Rattle.index_checks.proofs.Orders.{tree_of, shape_count, some_noted}
 use Rattle.index_checks.specs.Lawful.{HasPair}
 use Rattle.index_checks.proofs.NodeChecks.{FoundSoFar, found_none, found_more, no_nodes_next}
 use Rattle.index_checks.proofs.PairChecks.{key_short}

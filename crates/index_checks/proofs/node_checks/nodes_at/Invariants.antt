@@ -1,6 +1,6 @@
 use Rattle.std.proofs.Common.{◌≡◌, ◌+◌, ◌≤◌, length, take}
 use Rattle.avl_words.specs.Lines.{word_of}
-use Rattle.avl_checks.specs.Order.{AreNoted, to_come}
+use Rattle.index_checks.specs.Order.{AreNoted, to_come}
 use Rattle.index_checks.proofs.NodeChecks.{FoundSoFar}
 use Rattle.index_checks.proofs.node_checks.nodes_at.Given as goal
 

@@ -1,4 +1,4 @@
-use Rattle.std.proofs.Common.{◌≡◌, ℕ, List, [], ◌∷◌, refl, arith}
+use Rattle.std.proofs.Common.{◌≡◌, ℕ, List, [], ◌∷◌, refl, arith, rules}
 use Rattle.cx_base.specs.Packing.{unpacked}
 use Rattle.cx_base.specs.Store.{Store}
 use Rattle.doc_model.specs.Meaning.{pairs_above}
@@ -18,26 +18,34 @@ key_of_first : (ws : List ℕ) (node len : ℕ) (words : List ℕ) (pairs : Stor
 key_of_first ws node len words [] some is packs = absurd (some is)
 key_of_first ws node len words (pair ∷ pairs) some is packs = (pair, pairs, refl, packs pair is.1)
 
-pub returns-then-end-eq0-clause-done : goal.returns-then-end-eq0-clause-done
-returns-then-end-eq0-clause-done g c =
+pub returns-then-end-eq0-clause-finds : goal.returns-then-end-eq0-clause-finds
+returns-then-end-eq0-clause-finds g c =
     let end = c.in_ok-end.end in
     let key = unpacked c.args.key.now.len c.args.key.now.words in
-    Reads-weaker c.in_ok-end.ensures.done (λ ws f version store s. none_there ws end.above (pairs_above key store) c.if-end-eq0.true (spot_above ws key f.nodes f.sides f.depth end.node end.above f.at version store s))
+    record { done = Reads-weaker c.in_ok-end.ensures.finds.done (λ ws f version store s. none_there ws end.above (pairs_above key store) c.if-end-eq0.true (spot_above ws key f.nodes f.sides f.depth end.node end.above f.at version store s)); kept = search rules; halts = search rules; framed = search rules }
 
-pub key_at-requires-clause-node : goal.key_at-requires-clause-node
-key_at-requires-clause-node g c =
+pub key_at-requires : goal.key_at-requires
+key_at-requires g c =
     let end = c.in_ok-end.end in
     let key = unpacked c.args.key.now.len c.args.key.now.words in
-    always_read c.requires.lawful c.in_ok-end.ensures.done
-    (λ ws i f. there_first ws end.above (pairs_above key i.store) (spot_above ws key f.nodes f.sides f.depth end.node end.above f.at i.version i.store i.stands) c.if-end-eq0.false)
+    record {
+      sized = search rules;
+      all = always_read c.requires.memory.all c.in_ok-end.ensures.finds.done
+          (λ ws i f. there_first ws end.above (pairs_above key i.store) (spot_above ws key f.nodes f.sides f.depth end.node end.above f.at i.version i.store i.stands) c.if-end-eq0.false);
+    }
 
-pub returns-clause-done : goal.returns-clause-done
-returns-clause-done g c =
+pub returns-clause-finds : goal.returns-clause-finds
+returns-clause-finds g c =
     let end = c.in_ok-end.end in
     let key = unpacked c.args.key.now.len c.args.key.now.words in
     let found = c.in_ok-key.key in
-    Reads-then c.in_ok-end.ensures.done c.in_ok-key.ensures.done
-    (λ ws f k version store s. key_of_first ws end.above found.len found.words (pairs_above key store) c.if-end-eq0.false (spot_above ws key f.nodes f.sides f.depth end.node end.above f.at version store s) k)
+    record {
+      done = Reads-then c.in_ok-end.ensures.finds.done c.in_ok-key.ensures.done
+          (λ ws f k version store s. key_of_first ws end.above found.len found.words (pairs_above key store) c.if-end-eq0.false (spot_above ws key f.nodes f.sides f.depth end.node end.above f.at version store s) k);
+      kept = search rules;
+      halts = search rules;
+      framed = search rules;
+    }
 
 pub returns-in_err-key-clause-visits : goal.returns-in_err-key-clause-visits
 returns-in_err-key-clause-visits g c = always_kept c.in_ok-end.ensures.visits c.in_err-key.ensures.kept

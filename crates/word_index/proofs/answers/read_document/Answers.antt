@@ -1,4 +1,4 @@
-use Rattle.std.proofs.Common.{◌≡◌, length, ap, sym, subst, ◌∙◌}
+use Rattle.std.proofs.Common.{◌≡◌, length, ap, sym, subst, ◌∙◌, rules}
 use Rattle.std.proofs.lemmas.List.{length-replicate}
 use Rattle.std.proofs.lemmas.Result.{IfOk-weaker}
 use Rattle.std.specs.Prelude.{ℕ, List, replicate}
@@ -14,14 +14,19 @@ read_text-requires-clause-zero g c =
     let long : length c.args.into.now ≡ 128 = ap length c.requires.zero ∙ length-replicate {A = ℕ} 128 0 in
     c.requires.zero ∙ ap (λ n. replicate n 0) (sym long)
 
-pub read_text-requires-clause-text : goal.read_text-requires-clause-text
-read_text-requires-clause-text g c =
+pub read_text-requires-clause-memory : goal.read_text-requires-clause-memory
+read_text-requires-clause-memory g c =
     let long : length c.args.into.now ≡ 128 = ap length c.requires.zero ∙ length-replicate {A = ℕ} 128 0 in
-    λ first now s. subst (HasText now c.args.node 5) (sym long) (has_document now c.args.node (c.requires.node first now s))
+    record { sized = search rules; all = λ first now s. subst (HasText now c.args.node 5) (sym long) (has_document now c.args.node (c.requires.memory.all first now s)) }
 
-pub returns-clause-done : goal.returns-clause-done
-returns-clause-done g c =
+pub returns : goal.returns
+returns g c =
     let long : length c.args.into.now ≡ 128 = ap length c.requires.zero ∙ length-replicate {A = ℕ} 128 0 in
-    IfOk-weaker c.read_text.result
-    (λ len. Reads (g.M.Memory.stands c.args.mem.now) (g.M.Memory.stands c.read_text.new.mem) (λ ws. (lines bytes : List ℕ) → IsText ws c.args.node 5 lines bytes → IsPackOf (length c.args.into.now) len c.read_text.new.into bytes)) _
-    (λ len r. Reads-weaker r (λ ws p pair is. subst (λ n. IsPackOf n len c.read_text.new.into pair.1) long (p is.place.document_lines pair.1 (document_text ws c.args.node pair is)))) c.read_text.ensures.done
+    record {
+      done = IfOk-weaker c.read_text.result
+          (λ len. Reads (g.M.Memory.stands c.args.mem.now) (g.M.Memory.stands c.read_text.new.mem) (λ ws. (lines bytes : List ℕ) → IsText ws c.args.node 5 lines bytes → IsPackOf (length c.args.into.now) len c.read_text.new.into bytes)) _
+          (λ len r. Reads-weaker r (λ ws p pair is. subst (λ n. IsPackOf n len c.read_text.new.into pair.1) long (p is.place.document_lines pair.1 (document_text ws c.args.node pair is)))) c.read_text.ensures.done;
+      kept = search rules;
+      halts = search rules;
+      framed = search rules;
+    }

@@ -11,7 +11,7 @@ len_short ws node at n len h e = omega (arith, h.text.long, h.short)
 pub read_words-requires-clause-room : goal.read_words-requires-clause-room
 read_words-requires-clause-room g c =
     let m = c.word-2.new.mem in
-    let r = Reads-loaded (Reads-loaded (Reads-none _ c.requires.text) c.in_ok-first.ensures.done) c.in_ok-len.ensures.done in
+    let r = Reads-loaded (Reads-loaded (Reads-none _ c.requires.memory.all) c.in_ok-first.ensures.done) c.in_ok-len.ensures.done in
     let short : (c.in_ok-len.len + 7) / 8 ≤ length c.args.into.now = always_at_most (g.M.Memory.stands m) (g.met.M.Memory.some_stands m) ((c.in_ok-len.len + 7) / 8) (length c.args.into.now)
     (λ first now s. (let p = r.from first now s in len_short now c.args.node c.args.at (length c.args.into.now) c.in_ok-len.len p.1.0.0 p.1.1)) in
     omega (arith, c.div_ceil.ensures)

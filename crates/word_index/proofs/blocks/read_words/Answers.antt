@@ -24,10 +24,15 @@ loop-i-preserved g c =
       framed = Framed-then (Framed-then i.framed w.framed) a.framed;
     }
 
-pub returns-clause-done : goal.returns-clause-done
-returns-clause-done g c =
+pub returns : goal.returns
+returns g c =
     let i = c.loop-i.invariant in
     let e : c.loop-i.i ≡ c.args.count = omega arith in
     let long : length c.loop-i.into ≡ length c.args.into.now = c.loop-i.auto.into in
-    Reads-weaker i.done (λ ws p lines bytes h counted. subst (λ n. c.loop-i.into ≡ packed n bytes) long
-    (read_all ws c.args.first c.args.count c.loop-i.i c.loop-i.line c.loop-i.into e p i.rest lines bytes h counted))
+    record {
+      done = Reads-weaker i.done (λ ws p lines bytes h counted. subst (λ n. c.loop-i.into ≡ packed n bytes) long
+          (read_all ws c.args.first c.args.count c.loop-i.i c.loop-i.line c.loop-i.into e p i.rest lines bytes h counted));
+      kept = search rules;
+      halts = search rules;
+      framed = search rules;
+    }

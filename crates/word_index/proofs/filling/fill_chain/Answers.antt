@@ -9,43 +9,43 @@ use Rattle.word_index.proofs.filling.fill_chain.Goals as goal
 
 pub loop-j-init : goal.loop-j-init
 loop-j-init g c = record {
-  there = (let e : c.args.count ≡ c.args.count - 0 = omega arith in λ first now s. subst (HasLines now c.args.first) e (c.requires.chain first now s));
+  there = (let e : c.args.count ≡ c.args.count - 0 = omega arith in λ first now s. subst (HasLines now c.args.first) e (c.requires.memory.all first now s));
   exact = Becomes-weaker (Becomes-same _) (λ first x y s e. fill_begins c.args.words.now c.args.count c.args.first x y e);
   sized = search rules;
   can_store = search rules;
   framed = Framed-same _;
 }
 
-pub word-requires-clause-line : goal.word-requires-clause-line
-word-requires-clause-line g c =
+pub word-requires-clause-memory : goal.word-requires-clause-memory
+word-requires-clause-memory g c =
     let l = c.loop-j in
     let less : c.args.count - l.j ≡ suc (c.args.count - (l.j + 1)) = (let t = c.loop-j-test.true in omega arith) in
-    λ first now s. line_there now l.line (c.args.count - l.j) (c.args.count - (l.j + 1)) (l.invariant.there first now s) less
+    record { sized = search rules; all = λ first now s. line_there now l.line (c.args.count - l.j) (c.args.count - (l.j + 1)) (l.invariant.there first now s) less }
 
-pub fill_line-requires-clause-line : goal.fill_line-requires-clause-line
-fill_line-requires-clause-line g c =
+pub put_line-requires : goal.put_line-requires
+put_line-requires g c =
     let l = c.loop-j in
     let less : c.args.count - l.j ≡ suc (c.args.count - (l.j + 1)) = (let t = c.loop-j-test.true in omega arith) in
-    always_said (Reads-weaker (Reads-loaded (Reads-none _ l.invariant.there) c.in_ok-next.ensures.done) (λ ws p. line_there ws l.line (c.args.count - l.j) (c.args.count - (l.j + 1)) p.0 less))
+    record { sized = search rules; writable = search rules; all = always_said (Reads-weaker (Reads-loaded (Reads-none _ l.invariant.there) c.in_ok-next.ensures.done) (λ ws p. line_there ws l.line (c.args.count - l.j) (c.args.count - (l.j + 1)) p.0 less)) }
 
 pub loop-j-preserved : goal.loop-j-preserved
 loop-j-preserved g c =
     let l = c.loop-j in
     let i = l.invariant in
     let w = c.in_ok-next.ensures in
-    let p = c.in_ok-fill_line.ensures in
+    let p = c.in_ok-put_line.ensures in
     let less : c.args.count - l.j ≡ suc (c.args.count - (l.j + 1)) = (let t = c.loop-j-test.true in omega arith) in
     record {
-      there = always_after (always_said (Reads-loaded (Reads-none _ i.there) w.done)) p.done (λ y z h f.
+      there = always_after (always_said (Reads-loaded (Reads-none _ i.there) w.done)) p.changes.done (λ y z h f.
           lines_on y z c.block.result c.args.words.now l.line (c.args.count - l.j) (c.args.count - (l.j + 1)) c.in_ok-next.next _ h.0 less h.1 c.block.ensures f);
       exact = Becomes-then (Becomes-loaded i.exact w.done) p.exact (λ x y z r f.
           fill_goes_on c.args.words.now c.args.count l.j l.line c.in_ok-next.next c.block.result y z (with_chain_filled c.args.words.now c.args.count 0 c.args.first x) c.loop-j-test.true r.0 r.1 c.block.ensures f);
       sized = search rules;
       can_store = search rules;
-      framed = Framed-then (Framed-then i.framed w.framed) p.framed;
+      framed = Framed-then (Framed-then i.framed w.framed) p.changes.framed;
     }
 
-pub returns-clause-exact : goal.returns-clause-exact
-returns-clause-exact g c =
+pub returns : goal.returns
+returns g c =
     let l = c.loop-j in
-    Becomes-weaker l.invariant.exact (λ first x y s r. fill_ends c.args.words.now c.args.count l.j l.line y (with_chain_filled c.args.words.now c.args.count 0 c.args.first x) (omega arith) r)
+    record { done = Becomes-weaker l.invariant.exact (λ first x y s r. fill_ends c.args.words.now c.args.count l.j l.line y (with_chain_filled c.args.words.now c.args.count 0 c.args.first x) (omega arith) r); halts = search rules; framed = search rules }

@@ -21,14 +21,18 @@ loop-at-preserved g c =
           empty_more c.args.version c.loop-at.at c.header_word.result x y (omega arith) (subst IsPartLength (sym (g.met.M.Memory.words c.loop-at.mem first y s).long) i.sized) c.header_word.ensures r);
       sized = search rules;
       can_store = search rules;
-      framed = Framed-then i.framed (Framed-access e.size e.fixed e.writable e.left);
+      framed = Framed-then i.framed (Framed-access e.access);
     }
 
-pub returns-clause-done : goal.returns-clause-done
-returns-clause-done g c =
+pub returns-clause-changes : goal.returns-clause-changes
+returns-clause-changes g c =
     let i = c.loop-at.invariant in
-    Becomes-weaker i.done (λ first x y s r.
-    empty_stands c.args.version c.loop-at.at x y (omega arith) (subst IsPartLength (sym (g.met.M.Memory.words c.loop-at.mem first y s).long) i.sized) r)
+    record {
+      done = Becomes-weaker i.done (λ first x y s r.
+          empty_stands c.args.version c.loop-at.at x y (omega arith) (subst IsPartLength (sym (g.met.M.Memory.words c.loop-at.mem first y s).long) i.sized) r);
+      halts = search rules;
+      framed = search rules;
+    }
 
 pub returns-clause-exact : goal.returns-clause-exact
 returns-clause-exact g c =

@@ -1,4 +1,4 @@
-use Rattle.std.proofs.Common.{◌≡◌, ◌^◌, ◌+◌, ◌≤◌, ℕ, List, slice_index, sym, ap, ◌∙◌, arith}
+use Rattle.std.proofs.Common.{◌≡◌, ◌^◌, ◌+◌, ◌≤◌, ℕ, List, slice_index, sym, ap, ◌∙◌, arith, rules}
 use Rattle.cx_base.proofs.MemoryLemmas.{Becomes-same, Becomes-store, Becomes-loaded, always_at_most}
 use Rattle.cx_base.proofs.ReadLemmas.{Reads-none, Reads-loaded}
 use Rattle.avl_words.specs.Lines.{with_word, word_of}
@@ -11,7 +11,7 @@ small ws line number can e = omega (arith, can.few)
 pub overflow_add-number : goal.overflow_add-number
 overflow_add-number g c =
     let m = c.word-2.new.mem in
-    let r = Reads-loaded (Reads-loaded (Reads-none _ c.requires.line) c.in_ok-head.ensures.done) c.in_ok-number.ensures.done in
+    let r = Reads-loaded (Reads-loaded (Reads-none _ c.requires.all) c.in_ok-head.ensures.done) c.in_ok-number.ensures.done in
     let few : c.in_ok-number.number ≤ 2 ^ 32 = always_at_most (g.M.Memory.stands m) (g.met.M.Memory.some_stands m) c.in_ok-number.number (2 ^ 32)
     (λ first now s. (let p = r.from first now s in small now c.args.line c.in_ok-number.number p.1.0.0 p.1.1)) in
     omega arith
@@ -41,12 +41,12 @@ third_store : (line head number : ℕ) (x y : List ℕ) → AfterSecond line hea
 unfolding with_given
 third_store line head number x y r = (let a = r.is in let b = r.head_is in let d = r.number_is in cc)
 
-pub returns-clause-done : goal.returns-clause-done
-returns-clause-done g c =
+pub returns : goal.returns
+returns g c =
     let line = c.args.line in
     let head = c.in_ok-head.head in
     let number = c.in_ok-number.number in
     let b = Becomes-loaded (Becomes-loaded (Becomes-same _) c.in_ok-head.ensures.done) c.in_ok-number.ensures.done in
     let p = Becomes-store {S = AfterFirst line head number} b c.in_ok-put.ensures.done (λ first x y s r. first_store line head number x y r) in
     let q = Becomes-store {S = AfterSecond line head number} p c.in_ok-put-2.ensures.done (λ first x y s r. second_store line head number x y r) in
-    Becomes-store q c.in_ok-put-3.ensures.done (λ first x y s r. third_store line head number x y r)
+    record { done = Becomes-store q c.in_ok-put-3.ensures.done (λ first x y s r. third_store line head number x y r); halts = search rules; framed = search rules }

@@ -14,15 +14,15 @@ loop-init g c = record {
   framed = Framed-same _;
 }
 
-pub word-requires-clause-line : goal.word-requires-clause-line
-word-requires-clause-line g c =
+pub word-requires-clause-memory : goal.word-requires-clause-memory
+word-requires-clause-memory g c =
     let l = c.loop in
-    always_after c.requires.chain l.invariant.done (λ x y h r. (next_can_be_given c.args.first c.args.count l.counter l.line x y c.loop-test.true h r).there)
+    record { sized = search rules; all = always_after c.requires.all l.invariant.done (λ x y h r. (next_can_be_given c.args.first c.args.count l.counter l.line x y c.loop-test.true h r).there) }
 
-pub give_back-requires-clause-line : goal.give_back-requires-clause-line
-give_back-requires-clause-line g c =
+pub give_back-requires : goal.give_back-requires
+give_back-requires g c =
     let l = c.loop in
-    always_after c.requires.chain (Becomes-loaded l.invariant.done c.in_ok-next.ensures.done) (λ x y h r. next_can_be_given c.args.first c.args.count l.counter l.line x y c.loop-test.true h r.0)
+    record { sized = search rules; writable = search rules; all = always_after c.requires.all (Becomes-loaded l.invariant.done c.in_ok-next.ensures.done) (λ x y h r. next_can_be_given c.args.first c.args.count l.counter l.line x y c.loop-test.true h r.0) }
 
 pub loop-preserved : goal.loop-preserved
 loop-preserved g c =
@@ -38,10 +38,10 @@ loop-preserved g c =
       framed = Framed-then (Framed-then i.framed w.framed) b.framed;
     }
 
-pub returns-clause-done : goal.returns-clause-done
-returns-clause-done g c =
+pub returns-clause-changes : goal.returns-clause-changes
+returns-clause-changes g c =
     let l = c.loop in
-    Becomes-weaker l.invariant.done (λ first x y s r. so_far_all c.args.first c.args.count l.counter l.line x y (omega arith) r)
+    record { done = Becomes-weaker l.invariant.done (λ first x y s r. so_far_all c.args.first c.args.count l.counter l.line x y (omega arith) r); halts = search rules; framed = search rules }
 
 pub returns-clause-exact : goal.returns-clause-exact
 returns-clause-exact g c =

@@ -1,4 +1,4 @@
-use Rattle.std.proofs.Common.{◌≡◌, ◌^◌, ◌*◌, ◌≤◌, ℕ, false, List, sym, ap, subst, ◌∙◌, arith}
+use Rattle.std.proofs.Common.{◌≡◌, ◌^◌, ◌*◌, ◌≤◌, ℕ, false, List, sym, ap, subst, ◌∙◌, arith, rules}
 use Rattle.cx_base.specs.Memory.{Words, Becomes, Reads}
 use Rattle.cx_base.specs.Packing.{unpacked}
 use Rattle.cx_base.specs.Store.{Store, IsKey, IsDocument, lines_of}
@@ -22,20 +22,15 @@ known_from key nodes sides depth node above used old n r u l words = record {
       (t.0, record { spot = t.1; in_use = q.1; here = p.1; long = (words first now s).long }));
 }
 
--- what was put says what it did, by the exact words
-told : {Key : Type 0} {a b : Key → List ℕ → Type 0} (key document : List ℕ) (inserted : Inserted) → IsKey key → IsDocument document → Becomes a b (λ x w. (inserted ≡ inserted_in key document x) × (w ≡ with_document key document x)) → Becomes a b (Inserts key document inserted)
-told key document inserted k d b =
-    Becomes-weaker b (λ first x w s r. subst (λ v. Inserts key document inserted x v) (sym r.1) (subst (λ i. Inserts key document i x (with_document key document x)) (sym r.0) (inserted_is key document x k d)))
+pub lines_in_use-requires : goal.lines_in_use-requires
+lines_in_use-requires g c = record { sized = search rules; all = always_read c.requires.memory.all c.in_ok-end.ensures.finds.done (λ ws i s. i) }
 
-pub lines_in_use-requires-clause-lawful : goal.lines_in_use-requires-clause-lawful
-lines_in_use-requires-clause-lawful g c = always_read c.requires.lawful c.in_ok-end.ensures.done (λ ws i s. i)
-
-pub lines_at-requires-clause-node : goal.lines_at-requires-clause-node
-lines_at-requires-clause-node g c =
+pub lines_at-requires : goal.lines_at-requires
+lines_at-requires g c =
     let key = unpacked c.args.key.now.len c.args.key.now.words in
     let way = c.seek_place.new.way in
     let end = c.in_ok-end.end in
-    always_read c.requires.lawful (Reads-then c.in_ok-end.ensures.done c.in_ok-used.ensures.done (λ ws s u. s)) (λ ws i s ne. can_have_node ws key way.nodes way.sides way.depth end.node end.above s i ne)
+    record { sized = search rules; all = always_read c.requires.memory.all (Reads-then c.in_ok-end.ensures.finds.done c.in_ok-used.ensures.done (λ ws s u. s)) (λ ws i s ne. can_have_node ws key way.nodes way.sides way.depth end.node end.above s i ne) }
 
 pub overflow_sub-needed : goal.overflow_sub-needed
 overflow_sub-needed g c =
@@ -45,9 +40,9 @@ overflow_sub-needed g c =
     let way = c.seek_place.new.way in
     let end = c.in_ok-end.end in
     let n = g.M.Memory.size m in
-    let known = known_from key way.nodes way.sides way.depth end.node end.above c.in_ok-used.used c.in_ok-old.old n c.in_ok-end.ensures.done c.in_ok-used.ensures.done c.in_ok-old.ensures.done (g.met.M.Memory.words m) in
+    let known = known_from key way.nodes way.sides way.depth end.node end.above c.in_ok-used.used c.in_ok-old.old n c.in_ok-end.ensures.finds.done c.in_ok-used.ensures.done c.in_ok-old.ensures.done (g.met.M.Memory.words m) in
     always_at_most (g.M.Memory.stands m) (g.met.M.Memory.some_stands m) c.in_ok-old.old c.in_ok-used.used
-    (always_read c.requires.lawful known (λ ws i k. (counted ws key doc way.nodes way.sides way.depth end.node end.above c.in_ok-used.used c.in_ok-old.old n k i.version i.store i.stands).below))
+    (always_read c.requires.memory.all known (λ ws i k. (counted ws key doc way.nodes way.sides way.depth end.node end.above c.in_ok-used.used c.in_ok-old.old n k i.version i.store i.stands).below))
 
 pub overflow_add-needed : goal.overflow_add-needed
 overflow_add-needed g c =
@@ -57,139 +52,151 @@ overflow_add-needed g c =
     let way = c.seek_place.new.way in
     let end = c.in_ok-end.end in
     let n = g.M.Memory.size m in
-    let known = known_from key way.nodes way.sides way.depth end.node end.above c.in_ok-used.used c.in_ok-old.old n c.in_ok-end.ensures.done c.in_ok-used.ensures.done c.in_ok-old.ensures.done (g.met.M.Memory.words m) in
+    let known = known_from key way.nodes way.sides way.depth end.node end.above c.in_ok-used.used c.in_ok-old.old n c.in_ok-end.ensures.finds.done c.in_ok-used.ensures.done c.in_ok-old.ensures.done (g.met.M.Memory.words m) in
     let few : c.in_ok-used.used ≤ 2 ^ 32 = always_at_most (g.M.Memory.stands m) (g.met.M.Memory.some_stands m) c.in_ok-used.used (2 ^ 32)
-    (always_read c.requires.lawful known (λ ws i k. used_few ws key doc way.nodes way.sides way.depth end.node end.above c.in_ok-used.used c.in_ok-old.old n k i)) in
-    omega (arith, c.lines_of_pair-new.ensures, c.requires.is_key.short, c.requires.is_document.short)
+    (always_read c.requires.memory.all known (λ ws i k. used_few ws key doc way.nodes way.sides way.depth end.node end.above c.in_ok-used.used c.in_ok-old.old n k i)) in
+    omega (arith, c.lines_of_pair-new.ensures, c.requires.pair.is_key.short, c.requires.pair.is_document.short)
 
-pub returns-then-lines-needed-clause-exact : goal.returns-then-lines-needed-clause-exact
-returns-then-lines-needed-clause-exact g c =
+pub returns-then-lines-needed-clause-changes : goal.returns-then-lines-needed-clause-changes
+returns-then-lines-needed-clause-changes g c =
     let m = c.lines_at.new.mem in
     let key = unpacked c.args.key.now.len c.args.key.now.words in
     let doc = unpacked c.args.doc.now.len c.args.doc.now.words.now in
     let way = c.seek_place.new.way in
     let end = c.in_ok-end.end in
     let n = g.M.Memory.size m in
-    let size : n ≡ 8 * c.args.lines = c.in_ok-old.ensures.framed.size_kept ∙ c.in_ok-used.ensures.framed.size_kept ∙ c.in_ok-end.ensures.framed.size_kept ∙ c.requires.lines in
-    let known = known_from key way.nodes way.sides way.depth end.node end.above c.in_ok-used.used c.in_ok-old.old n c.in_ok-end.ensures.done c.in_ok-used.ensures.done c.in_ok-old.ensures.done (g.met.M.Memory.words m) in
-    Becomes-weaker (Becomes-from-read (Reads-with c.requires.lawful known)) (λ first x y s r. (
-    let e = exact_none y key doc way.nodes way.sides way.depth end.node end.above c.in_ok-used.used c.in_ok-old.old n r.1.1 c.args.lines c.lines_of_pair-new.result r.1.0 c.lines_of_pair-new.ensures size c.if-lines-needed.true in
-    (e.0 ∙ ap (inserted_in key doc) r.0, e.1 ∙ ap (with_document key doc) r.0)))
+    let size : n ≡ 8 * c.args.lines = c.in_ok-old.ensures.framed.size_kept ∙ c.in_ok-used.ensures.framed.size_kept ∙ c.in_ok-end.ensures.finds.framed.size_kept ∙ c.requires.lines in
+    let known = known_from key way.nodes way.sides way.depth end.node end.above c.in_ok-used.used c.in_ok-old.old n c.in_ok-end.ensures.finds.done c.in_ok-used.ensures.done c.in_ok-old.ensures.done (g.met.M.Memory.words m) in
+    record {
+      done = Becomes-weaker (Becomes-from-read (Reads-with c.requires.memory.all known)) (λ first x y s r. (
+          let e = exact_none y key doc way.nodes way.sides way.depth end.node end.above c.in_ok-used.used c.in_ok-old.old n r.1.1 c.args.lines c.lines_of_pair-new.result r.1.0 c.lines_of_pair-new.ensures size c.if-lines-needed.true in
+          (e.0 ∙ ap (inserted_in key doc) r.0, e.1 ∙ ap (with_document key doc) r.0)));
+      halts = search rules;
+      framed = search rules;
+    }
 
-pub returns-then-lines-needed-clause-done : goal.returns-then-lines-needed-clause-done
-returns-then-lines-needed-clause-done g c =
-    told (unpacked c.args.key.now.len c.args.key.now.words) (unpacked c.args.doc.now.len c.args.doc.now.words.now) _ c.requires.is_key c.requires.is_document (returns-then-lines-needed-clause-exact g c)
-
-pub add-requires-clause-can : goal.add-requires-clause-can
-add-requires-clause-can g c =
+pub add-requires-clause-memory : goal.add-requires-clause-memory
+add-requires-clause-memory g c =
     let m = c.lines_at.new.mem in
     let key = unpacked c.args.key.now.len c.args.key.now.words in
     let doc = unpacked c.args.doc.now.len c.args.doc.now.words.now in
     let way = c.seek_place.new.way in
     let end = c.in_ok-end.end in
     let n = g.M.Memory.size m in
-    let size : n ≡ 8 * c.args.lines = c.in_ok-old.ensures.framed.size_kept ∙ c.in_ok-used.ensures.framed.size_kept ∙ c.in_ok-end.ensures.framed.size_kept ∙ c.requires.lines in
-    let known = known_from key way.nodes way.sides way.depth end.node end.above c.in_ok-used.used c.in_ok-old.old n c.in_ok-end.ensures.done c.in_ok-used.ensures.done c.in_ok-old.ensures.done (g.met.M.Memory.words m) in
-    always_read c.requires.lawful known (λ ws i k.
-    can_add ws key doc way.nodes way.sides way.depth end.node end.above c.in_ok-used.used c.in_ok-old.old n k c.args.lines c.lines_of_pair-new.result i c.lines_of_pair-new.ensures size c.if-lines-needed.false c.if-end-eq0.true
-    c.requires.is_key c.requires.is_document)
+    let size : n ≡ 8 * c.args.lines = c.in_ok-old.ensures.framed.size_kept ∙ c.in_ok-used.ensures.framed.size_kept ∙ c.in_ok-end.ensures.finds.framed.size_kept ∙ c.requires.lines in
+    let known = known_from key way.nodes way.sides way.depth end.node end.above c.in_ok-used.used c.in_ok-old.old n c.in_ok-end.ensures.finds.done c.in_ok-used.ensures.done c.in_ok-old.ensures.done (g.met.M.Memory.words m) in
+    record {
+      sized = search rules;
+      writable = search rules;
+      all = always_read c.requires.memory.all known (λ ws i k.
+          can_add ws key doc way.nodes way.sides way.depth end.node end.above c.in_ok-used.used c.in_ok-old.old n k c.args.lines c.lines_of_pair-new.result i c.lines_of_pair-new.ensures size c.if-lines-needed.false c.if-end-eq0.true
+          c.requires.pair.is_key c.requires.pair.is_document);
+    }
 
-pub returns-then-end-eq0-clause-exact : goal.returns-then-end-eq0-clause-exact
-returns-then-end-eq0-clause-exact g c =
+pub returns-then-end-eq0-clause-changes : goal.returns-then-end-eq0-clause-changes
+returns-then-end-eq0-clause-changes g c =
     let m = c.lines_at.new.mem in
     let key = unpacked c.args.key.now.len c.args.key.now.words in
     let doc = unpacked c.args.doc.now.len c.args.doc.now.words.now in
     let way = c.seek_place.new.way in
     let end = c.in_ok-end.end in
     let n = g.M.Memory.size m in
-    let size : n ≡ 8 * c.args.lines = c.in_ok-old.ensures.framed.size_kept ∙ c.in_ok-used.ensures.framed.size_kept ∙ c.in_ok-end.ensures.framed.size_kept ∙ c.requires.lines in
-    let known = known_from key way.nodes way.sides way.depth end.node end.above c.in_ok-used.used c.in_ok-old.old n c.in_ok-end.ensures.done c.in_ok-used.ensures.done c.in_ok-old.ensures.done (g.met.M.Memory.words m) in
-    Becomes-then (Becomes-from-read (Reads-with c.requires.lawful known)) c.in_ok-add.ensures.exact (λ x y w r a. (
-    let e = exact_new y key doc way.nodes way.sides way.depth end.node end.above c.in_ok-used.used c.in_ok-old.old n r.1.1 c.args.lines c.lines_of_pair-new.result r.1.0 c.lines_of_pair-new.ensures size w c.if-lines-needed.false c.if-end-eq0.true
-    c.requires.is_key c.requires.is_document a in
-    (e.0 ∙ ap (inserted_in key doc) r.0, e.1 ∙ ap (with_document key doc) r.0)))
+    let size : n ≡ 8 * c.args.lines = c.in_ok-old.ensures.framed.size_kept ∙ c.in_ok-used.ensures.framed.size_kept ∙ c.in_ok-end.ensures.finds.framed.size_kept ∙ c.requires.lines in
+    let known = known_from key way.nodes way.sides way.depth end.node end.above c.in_ok-used.used c.in_ok-old.old n c.in_ok-end.ensures.finds.done c.in_ok-used.ensures.done c.in_ok-old.ensures.done (g.met.M.Memory.words m) in
+    record {
+      done = Becomes-then (Becomes-from-read (Reads-with c.requires.memory.all known)) c.in_ok-add.ensures.done (λ x y w r a. (
+          let e = exact_new y key doc way.nodes way.sides way.depth end.node end.above c.in_ok-used.used c.in_ok-old.old n r.1.1 c.args.lines c.lines_of_pair-new.result r.1.0 c.lines_of_pair-new.ensures size w c.if-lines-needed.false c.if-end-eq0.true
+          c.requires.pair.is_key c.requires.pair.is_document a in
+          (e.0 ∙ ap (inserted_in key doc) r.0, e.1 ∙ ap (with_document key doc) r.0)));
+      halts = search rules;
+      framed = search rules;
+    }
 
-pub returns-then-end-eq0-clause-done : goal.returns-then-end-eq0-clause-done
-returns-then-end-eq0-clause-done g c =
-    told (unpacked c.args.key.now.len c.args.key.now.words) (unpacked c.args.doc.now.len c.args.doc.now.words.now) _ c.requires.is_key c.requires.is_document (returns-then-end-eq0-clause-exact g c)
-
-pub refit-requires-clause-can : goal.refit-requires-clause-can
-refit-requires-clause-can g c =
+pub refit-requires-clause-memory : goal.refit-requires-clause-memory
+refit-requires-clause-memory g c =
     let m = c.lines_at.new.mem in
     let key = unpacked c.args.key.now.len c.args.key.now.words in
     let doc = unpacked c.args.doc.now.len c.args.doc.now.words.now in
     let way = c.seek_place.new.way in
     let end = c.in_ok-end.end in
     let n = g.M.Memory.size m in
-    let size : n ≡ 8 * c.args.lines = c.in_ok-old.ensures.framed.size_kept ∙ c.in_ok-used.ensures.framed.size_kept ∙ c.in_ok-end.ensures.framed.size_kept ∙ c.requires.lines in
-    let known = known_from key way.nodes way.sides way.depth end.node end.above c.in_ok-used.used c.in_ok-old.old n c.in_ok-end.ensures.done c.in_ok-used.ensures.done c.in_ok-old.ensures.done (g.met.M.Memory.words m) in
-    always_read c.requires.lawful known (λ ws i k.
-    can_refit ws key doc way.nodes way.sides way.depth end.node end.above c.in_ok-used.used c.in_ok-old.old n k c.args.lines c.lines_of_pair-new.result i c.lines_of_pair-new.ensures size c.if-lines-needed.false c.if-end-eq0.false c.if-old-new.true)
+    let size : n ≡ 8 * c.args.lines = c.in_ok-old.ensures.framed.size_kept ∙ c.in_ok-used.ensures.framed.size_kept ∙ c.in_ok-end.ensures.finds.framed.size_kept ∙ c.requires.lines in
+    let known = known_from key way.nodes way.sides way.depth end.node end.above c.in_ok-used.used c.in_ok-old.old n c.in_ok-end.ensures.finds.done c.in_ok-used.ensures.done c.in_ok-old.ensures.done (g.met.M.Memory.words m) in
+    record {
+      sized = search rules;
+      writable = search rules;
+      all = always_read c.requires.memory.all known (λ ws i k.
+          can_refit ws key doc way.nodes way.sides way.depth end.node end.above c.in_ok-used.used c.in_ok-old.old n k c.args.lines c.lines_of_pair-new.result i c.lines_of_pair-new.ensures size c.if-lines-needed.false c.if-end-eq0.false c.if-old-new.true);
+    }
 
-pub returns-then-old-new-clause-exact : goal.returns-then-old-new-clause-exact
-returns-then-old-new-clause-exact g c =
+pub returns-then-old-new-clause-changes : goal.returns-then-old-new-clause-changes
+returns-then-old-new-clause-changes g c =
     let m = c.lines_at.new.mem in
     let key = unpacked c.args.key.now.len c.args.key.now.words in
     let doc = unpacked c.args.doc.now.len c.args.doc.now.words.now in
     let way = c.seek_place.new.way in
     let end = c.in_ok-end.end in
     let n = g.M.Memory.size m in
-    let size : n ≡ 8 * c.args.lines = c.in_ok-old.ensures.framed.size_kept ∙ c.in_ok-used.ensures.framed.size_kept ∙ c.in_ok-end.ensures.framed.size_kept ∙ c.requires.lines in
-    let known = known_from key way.nodes way.sides way.depth end.node end.above c.in_ok-used.used c.in_ok-old.old n c.in_ok-end.ensures.done c.in_ok-used.ensures.done c.in_ok-old.ensures.done (g.met.M.Memory.words m) in
-    Becomes-then (Becomes-from-read (Reads-with c.requires.lawful known)) c.in_ok-refit.ensures.exact (λ x y w r a. (
-    let e = exact_over y key doc way.nodes way.sides way.depth end.node end.above c.in_ok-used.used c.in_ok-old.old n r.1.1 c.args.lines c.lines_of_pair-new.result r.1.0 c.lines_of_pair-new.ensures size w c.if-lines-needed.false c.if-end-eq0.false a in
-    (e.0 ∙ ap (inserted_in key doc) r.0, e.1 ∙ ap (with_document key doc) r.0)))
+    let size : n ≡ 8 * c.args.lines = c.in_ok-old.ensures.framed.size_kept ∙ c.in_ok-used.ensures.framed.size_kept ∙ c.in_ok-end.ensures.finds.framed.size_kept ∙ c.requires.lines in
+    let known = known_from key way.nodes way.sides way.depth end.node end.above c.in_ok-used.used c.in_ok-old.old n c.in_ok-end.ensures.finds.done c.in_ok-used.ensures.done c.in_ok-old.ensures.done (g.met.M.Memory.words m) in
+    record {
+      done = Becomes-then (Becomes-from-read (Reads-with c.requires.memory.all known)) c.in_ok-refit.ensures.done (λ x y w r a. (
+          let e = exact_over y key doc way.nodes way.sides way.depth end.node end.above c.in_ok-used.used c.in_ok-old.old n r.1.1 c.args.lines c.lines_of_pair-new.result r.1.0 c.lines_of_pair-new.ensures size w c.if-lines-needed.false c.if-end-eq0.false a in
+          (e.0 ∙ ap (inserted_in key doc) r.0, e.1 ∙ ap (with_document key doc) r.0)));
+      halts = search rules;
+      framed = search rules;
+    }
 
-pub returns-then-old-new-clause-done : goal.returns-then-old-new-clause-done
-returns-then-old-new-clause-done g c =
-    told (unpacked c.args.key.now.len c.args.key.now.words) (unpacked c.args.doc.now.len c.args.doc.now.words.now) _ c.requires.is_key c.requires.is_document (returns-then-old-new-clause-exact g c)
-
-pub rewrite-requires-clause-can : goal.rewrite-requires-clause-can
-rewrite-requires-clause-can g c =
+pub rewrite-requires-clause-memory : goal.rewrite-requires-clause-memory
+rewrite-requires-clause-memory g c =
     let m = c.lines_at.new.mem in
     let key = unpacked c.args.key.now.len c.args.key.now.words in
     let doc = unpacked c.args.doc.now.len c.args.doc.now.words.now in
     let way = c.seek_place.new.way in
     let end = c.in_ok-end.end in
     let n = g.M.Memory.size m in
-    let size : n ≡ 8 * c.args.lines = c.in_ok-old.ensures.framed.size_kept ∙ c.in_ok-used.ensures.framed.size_kept ∙ c.in_ok-end.ensures.framed.size_kept ∙ c.requires.lines in
-    let known = known_from key way.nodes way.sides way.depth end.node end.above c.in_ok-used.used c.in_ok-old.old n c.in_ok-end.ensures.done c.in_ok-used.ensures.done c.in_ok-old.ensures.done (g.met.M.Memory.words m) in
-    always_read c.requires.lawful known (λ ws i k.
-    can_renew ws key doc way.nodes way.sides way.depth end.node end.above c.in_ok-used.used c.in_ok-old.old n k c.args.lines c.lines_of_pair-new.result i c.lines_of_pair-new.ensures size c.if-lines-needed.false c.if-end-eq0.false c.if-old-new.false)
+    let size : n ≡ 8 * c.args.lines = c.in_ok-old.ensures.framed.size_kept ∙ c.in_ok-used.ensures.framed.size_kept ∙ c.in_ok-end.ensures.finds.framed.size_kept ∙ c.requires.lines in
+    let known = known_from key way.nodes way.sides way.depth end.node end.above c.in_ok-used.used c.in_ok-old.old n c.in_ok-end.ensures.finds.done c.in_ok-used.ensures.done c.in_ok-old.ensures.done (g.met.M.Memory.words m) in
+    record {
+      sized = search rules;
+      writable = search rules;
+      all = always_read c.requires.memory.all known (λ ws i k.
+          can_renew ws key doc way.nodes way.sides way.depth end.node end.above c.in_ok-used.used c.in_ok-old.old n k c.args.lines c.lines_of_pair-new.result i c.lines_of_pair-new.ensures size c.if-lines-needed.false c.if-end-eq0.false c.if-old-new.false);
+    }
 
-pub returns-clause-exact : goal.returns-clause-exact
-returns-clause-exact g c =
+pub returns-clause-changes : goal.returns-clause-changes
+returns-clause-changes g c =
     let m = c.lines_at.new.mem in
     let key = unpacked c.args.key.now.len c.args.key.now.words in
     let doc = unpacked c.args.doc.now.len c.args.doc.now.words.now in
     let way = c.seek_place.new.way in
     let end = c.in_ok-end.end in
     let n = g.M.Memory.size m in
-    let size : n ≡ 8 * c.args.lines = c.in_ok-old.ensures.framed.size_kept ∙ c.in_ok-used.ensures.framed.size_kept ∙ c.in_ok-end.ensures.framed.size_kept ∙ c.requires.lines in
-    let known = known_from key way.nodes way.sides way.depth end.node end.above c.in_ok-used.used c.in_ok-old.old n c.in_ok-end.ensures.done c.in_ok-used.ensures.done c.in_ok-old.ensures.done (g.met.M.Memory.words m) in
-    Becomes-then (Becomes-from-read (Reads-with c.requires.lawful known)) c.in_ok-rewrite.ensures.exact (λ x y w r a. (
-    let e = exact_over y key doc way.nodes way.sides way.depth end.node end.above c.in_ok-used.used c.in_ok-old.old n r.1.1 c.args.lines c.lines_of_pair-new.result r.1.0 c.lines_of_pair-new.ensures size w c.if-lines-needed.false c.if-end-eq0.false a in
-    (e.0 ∙ ap (inserted_in key doc) r.0, e.1 ∙ ap (with_document key doc) r.0)))
-
-pub returns-clause-done : goal.returns-clause-done
-returns-clause-done g c =
-    told (unpacked c.args.key.now.len c.args.key.now.words) (unpacked c.args.doc.now.len c.args.doc.now.words.now) _ c.requires.is_key c.requires.is_document (returns-clause-exact g c)
+    let size : n ≡ 8 * c.args.lines = c.in_ok-old.ensures.framed.size_kept ∙ c.in_ok-used.ensures.framed.size_kept ∙ c.in_ok-end.ensures.finds.framed.size_kept ∙ c.requires.lines in
+    let known = known_from key way.nodes way.sides way.depth end.node end.above c.in_ok-used.used c.in_ok-old.old n c.in_ok-end.ensures.finds.done c.in_ok-used.ensures.done c.in_ok-old.ensures.done (g.met.M.Memory.words m) in
+    record {
+      done = Becomes-then (Becomes-from-read (Reads-with c.requires.memory.all known)) c.in_ok-rewrite.ensures.done (λ x y w r a. (
+          let e = exact_over y key doc way.nodes way.sides way.depth end.node end.above c.in_ok-used.used c.in_ok-old.old n r.1.1 c.args.lines c.lines_of_pair-new.result r.1.0 c.lines_of_pair-new.ensures size w c.if-lines-needed.false c.if-end-eq0.false a in
+          (e.0 ∙ ap (inserted_in key doc) r.0, e.1 ∙ ap (with_document key doc) r.0)));
+      halts = search rules;
+      framed = search rules;
+    }
 
 -- the bound on visits, over what is read and changed after the walk
 visits_over : {Key : Type 0} {a b d e : Key → List ℕ → Type 0} {P Q : List ℕ → Type 0} (visits : ℕ) → Becomes a b (λ x y. FewVisits visits x) → Reads b d P → Reads d e Q → Becomes a e (λ x y. FewVisits visits x)
 visits_over visits v r t = Becomes-then (Becomes-then v (Becomes-from-read r) (λ x y z p q. p)) (Becomes-from-read t) (λ x y z p q. p)
 
 pub returns-then-lines-needed-clause-visits : goal.returns-then-lines-needed-clause-visits
-returns-then-lines-needed-clause-visits g c = visits_over _ (visits_read c.in_ok-end.ensures.kept c.in_ok-end.ensures.visits) c.in_ok-used.ensures.done c.in_ok-old.ensures.done
+returns-then-lines-needed-clause-visits g c = visits_over _ (visits_read c.in_ok-end.ensures.finds.kept c.in_ok-end.ensures.visits.few) c.in_ok-used.ensures.done c.in_ok-old.ensures.done
 
 pub returns-then-end-eq0-clause-visits : goal.returns-then-end-eq0-clause-visits
 returns-then-end-eq0-clause-visits g c =
-    Becomes-then (visits_over _ (visits_read c.in_ok-end.ensures.kept c.in_ok-end.ensures.visits) c.in_ok-used.ensures.done c.in_ok-old.ensures.done) c.in_ok-add.ensures.exact (λ x y w v a. v)
+    Becomes-then (visits_over _ (visits_read c.in_ok-end.ensures.finds.kept c.in_ok-end.ensures.visits.few) c.in_ok-used.ensures.done c.in_ok-old.ensures.done) c.in_ok-add.ensures.done (λ x y w v a. v)
 
 pub returns-clause-visits : goal.returns-clause-visits
 returns-clause-visits g c =
-    Becomes-then (visits_over _ (visits_read c.in_ok-end.ensures.kept c.in_ok-end.ensures.visits) c.in_ok-used.ensures.done c.in_ok-old.ensures.done) c.in_ok-rewrite.ensures.exact (λ x y w v a. v)
+    Becomes-then (visits_over _ (visits_read c.in_ok-end.ensures.finds.kept c.in_ok-end.ensures.visits.few) c.in_ok-used.ensures.done c.in_ok-old.ensures.done) c.in_ok-rewrite.ensures.done (λ x y w v a. v)
 
 pub returns-then-old-new-clause-visits : goal.returns-then-old-new-clause-visits
 returns-then-old-new-clause-visits g c =
-    Becomes-then (visits_over _ (visits_read c.in_ok-end.ensures.kept c.in_ok-end.ensures.visits) c.in_ok-used.ensures.done c.in_ok-old.ensures.done) c.in_ok-refit.ensures.exact (λ x y w v a. v)
+    Becomes-then (visits_over _ (visits_read c.in_ok-end.ensures.finds.kept c.in_ok-end.ensures.visits.few) c.in_ok-used.ensures.done c.in_ok-old.ensures.done) c.in_ok-refit.ensures.done (λ x y w v a. v)

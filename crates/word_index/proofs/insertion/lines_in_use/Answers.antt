@@ -1,4 +1,4 @@
-use Rattle.std.proofs.Common.{◌≡◌, ◌+◌, ◌-◌, ◌≤◌, ℕ, List, [], arith}
+use Rattle.std.proofs.Common.{◌≡◌, ◌+◌, ◌-◌, ◌≤◌, ℕ, List, [], arith, rules}
 use Rattle.cx_base.specs.Store.{Store, lines_of}
 use Rattle.cx_base.proofs.MemoryLemmas.{always_at_most}
 use Rattle.cx_base.proofs.ReadLemmas.{Reads-none, Reads-loaded, Reads-weaker}
@@ -25,16 +25,16 @@ is ws end given version store s e f = omega (arith, used ws version store s)
 pub overflow_sub-result : goal.overflow_sub-result
 overflow_sub-result g c =
     let m = c.word-2.new.mem in
-    let r = Reads-loaded (Reads-loaded (Reads-none _ c.requires.lawful) c.in_ok-end.ensures.done) c.in_ok-given.ensures.done in
+    let r = Reads-loaded (Reads-loaded (Reads-none _ c.requires.all) c.in_ok-end.ensures.done) c.in_ok-given.ensures.done in
     always_at_most (g.M.Memory.stands m) (g.met.M.Memory.some_stands m) 1 c.in_ok-end.end (λ first now s. (let p = (r.from first now s).1 in some now c.in_ok-end.end p.0.0 p.0.1))
 
 pub overflow_sub-result-2 : goal.overflow_sub-result-2
 overflow_sub-result-2 g c =
     let m = c.word-2.new.mem in
-    let r = Reads-loaded (Reads-loaded (Reads-none _ c.requires.lawful) c.in_ok-end.ensures.done) c.in_ok-given.ensures.done in
+    let r = Reads-loaded (Reads-loaded (Reads-none _ c.requires.all) c.in_ok-end.ensures.done) c.in_ok-given.ensures.done in
     always_at_most (g.M.Memory.stands m) (g.met.M.Memory.some_stands m) c.in_ok-given.given (c.in_ok-end.end - 1) (λ first now s. (let p = (r.from first now s).1 in fewer now c.in_ok-end.end c.in_ok-given.given p.0.0 p.0.1 p.1))
 
-pub returns-clause-done : goal.returns-clause-done
-returns-clause-done g c =
-    let r = Reads-loaded (Reads-loaded (Reads-none _ c.requires.lawful) c.in_ok-end.ensures.done) c.in_ok-given.ensures.done in
-    Reads-weaker r (λ ws p version store s. is ws c.in_ok-end.end c.in_ok-given.given version store s p.0.1 p.1)
+pub returns : goal.returns
+returns g c =
+    let r = Reads-loaded (Reads-loaded (Reads-none _ c.requires.all) c.in_ok-end.ensures.done) c.in_ok-given.ensures.done in
+    record { done = Reads-weaker r (λ ws p version store s. is ws c.in_ok-end.end c.in_ok-given.given version store s p.0.1 p.1); kept = search rules; halts = search rules; framed = search rules }

@@ -11,7 +11,7 @@ pub loop-at-init : goal.loop-at-init
 loop-at-init g c =
     let a = c.in_ok-first.ensures in
     record {
-      done = Reads-load (Reads-none _ c.requires.node) a.done (λ ws p e. begun_none c.args.node c.in_ok-first.first c.args.key.now.words ws e);
+      done = Reads-load (Reads-none _ c.requires.memory.all) a.done (λ ws p e. begun_none c.args.node c.in_ok-first.first c.args.key.now.words ws e);
       kept = a.kept;
       sized = search rules;
       framed = a.framed;
@@ -31,31 +31,46 @@ loop-at-preserved g c =
       framed = Framed-then i.framed w.framed;
     }
 
-pub word-requires-in-loop-at-clause-line : goal.word-requires-in-loop-at-clause-line
-word-requires-in-loop-at-clause-line g c =
-    always_read c.requires.node c.loop-at.invariant.done (λ ws h p. begun_within c.args.node c.in_ok-first.first c.loop-at.at c.args.key.now.words ws p h)
+pub word-requires-in-loop-at-clause-memory : goal.word-requires-in-loop-at-clause-memory
+word-requires-in-loop-at-clause-memory g c =
+    record { sized = search rules; all = always_read c.requires.memory.all c.loop-at.invariant.done (λ ws h p. begun_within c.args.node c.in_ok-first.first c.loop-at.at c.args.key.now.words ws p h) }
 
-pub returns-in-Some-clause-done : goal.returns-in-Some-clause-done
-returns-in-Some-clause-done g c =
+pub returns-in-Some : goal.returns-in-Some
+returns-in-Some g c =
     let key = c.args.key.now in
     let low : c.loop-at.at < 7 = omega (arith, c.min-at-end.ensures, c.div_ceil.ensures) in
-    Reads-load c.loop-at.invariant.done c.in_ok-other.ensures.done
-    (λ ws p e. begun_tells c.args.node c.in_ok-first.first c.loop-at.at key.words ws p c.in_ok-other.other low e (λ len b. c.in-Some.order ≡ key_cmp b (unpacked key.len key.words))
-    (λ these len behind same l. c.in-Some.ensures these key.words len behind same l refl))
+    record {
+      done = Reads-load c.loop-at.invariant.done c.in_ok-other.ensures.done
+          (λ ws p e. begun_tells c.args.node c.in_ok-first.first c.loop-at.at key.words ws p c.in_ok-other.other low e (λ len b. c.in-Some.order ≡ key_cmp b (unpacked key.len key.words))
+          (λ these len behind same l. c.in-Some.ensures these key.words len behind same l refl));
+      kept = search rules;
+      halts = search rules;
+      framed = search rules;
+    }
 
-pub returns-in-None-clause-done : goal.returns-in-None-clause-done
-returns-in-None-clause-done g c =
+pub returns-in-None : goal.returns-in-None
+returns-in-None g c =
     let key = c.args.key.now in
     let low : c.loop-at.at < 7 = omega (arith, c.min-at-end.ensures, c.div_ceil.ensures) in
-    Reads-then (Reads-loaded c.loop-at.invariant.done c.in_ok-other.ensures.done) c.in_ok-short-in-None.ensures.done
-    (λ ws pe s pair is. s pair is ∙ begun_tells c.args.node c.in_ok-first.first c.loop-at.at key.words ws pe.0 c.in_ok-other.other low pe.1 (λ len b. nat_cmp len key.len ≡ key_cmp b (unpacked key.len key.words))
-    (λ these len behind same l. c.in-None.ensures these key.words len behind same l refl) pair is)
+    record {
+      done = Reads-then (Reads-loaded c.loop-at.invariant.done c.in_ok-other.ensures.done) c.in_ok-short-in-None.ensures.done
+          (λ ws pe s pair is. s pair is ∙ begun_tells c.args.node c.in_ok-first.first c.loop-at.at key.words ws pe.0 c.in_ok-other.other low pe.1 (λ len b. nat_cmp len key.len ≡ key_cmp b (unpacked key.len key.words))
+          (λ these len behind same l. c.in-None.ensures these key.words len behind same l refl) pair is);
+      kept = search rules;
+      halts = search rules;
+      framed = search rules;
+    }
 
-pub returns-then-key-le56-clause-done : goal.returns-then-key-le56-clause-done
-returns-then-key-le56-clause-done g c =
+pub returns-then-key-le56 : goal.returns-then-key-le56
+returns-then-key-le56 g c =
     let key = c.args.key.now in
     let at = c.loop-at.at in
     let few : at ≤ 8 = omega (arith, c.min-at-end.ensures, c.div_ceil.ensures) in
     let ends : key.len ≤ 8 * at = omega (arith, c.min-at-end.ensures, c.div_ceil.ensures, c.loop-at-test.false, c.if-key-le56.true) in
-    Reads-then c.loop-at.invariant.done c.in_ok-ended.ensures.done
-    (λ ws p s pair is. s pair is ∙ begun_ends c.args.node c.in_ok-first.first at key.words ws p key.len few ends pair is)
+    record {
+      done = Reads-then c.loop-at.invariant.done c.in_ok-ended.ensures.done
+          (λ ws p s pair is. s pair is ∙ begun_ends c.args.node c.in_ok-first.first at key.words ws p key.len few ends pair is);
+      kept = search rules;
+      halts = search rules;
+      framed = search rules;
+    }

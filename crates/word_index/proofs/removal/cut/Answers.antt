@@ -1,13 +1,13 @@
-use Rattle.std.proofs.Common.{◌-◌, refl}
+use Rattle.std.proofs.Common.{◌-◌, refl, rules}
 use Rattle.avl_words.specs.Lines.{with_word}
 use Rattle.cx_base.proofs.MemoryLemmas.{Becomes-store, always_at_most, always_after, Becomes-loaded}
 use Rattle.word_index.proofs.Cutting.{can_take, cut_count, cuts}
 use Rattle.word_index.proofs.removal.cut.Goals as goal
 
-pub take_node-requires-clause-can : goal.take_node-requires-clause-can
-take_node-requires-clause-can g c =
+pub take_node-requires-clause-memory : goal.take_node-requires-clause-memory
+take_node-requires-clause-memory g c =
     let w = c.args.way.now in
-    λ first now s. can_take now w.nodes w.sides w.depth c.args.node (c.requires.can first now s)
+    record { sized = search rules; writable = search rules; all = λ first now s. can_take now w.nodes w.sides w.depth c.args.node (c.requires.memory.all first now s) }
 
 pub overflow_sub-pairs : goal.overflow_sub-pairs
 overflow_sub-pairs g c =
@@ -15,10 +15,14 @@ overflow_sub-pairs g c =
     let m = c.word.new.mem in
     let n = c.in_ok-pairs.pairs in
     always_at_most (g.M.Memory.stands m) (g.met.M.Memory.some_stands m) 1 n
-    (always_after c.requires.can (Becomes-loaded c.in_ok-take_node.ensures.done c.in_ok-pairs.ensures.done) (λ x z h r. cut_count x z w.nodes w.sides w.depth c.args.node n h r.0 r.1))
+    (always_after c.requires.memory.all (Becomes-loaded c.in_ok-take_node.ensures.done c.in_ok-pairs.ensures.done) (λ x z h r. cut_count x z w.nodes w.sides w.depth c.args.node n h r.0 r.1))
 
-pub returns-clause-exact : goal.returns-clause-exact
-returns-clause-exact g c =
+pub returns : goal.returns
+returns g c =
     let w = c.args.way.now in
-    Becomes-store (Becomes-loaded c.in_ok-take_node.ensures.done c.in_ok-pairs.ensures.done) c.in_ok-put.ensures.done
-    (λ first x z s r. cuts x z (with_word 0 5 (c.in_ok-pairs.pairs - 1) z) w.nodes w.sides w.depth c.args.node c.in_ok-pairs.pairs r.0 r.1 refl)
+    record {
+      done = Becomes-store (Becomes-loaded c.in_ok-take_node.ensures.done c.in_ok-pairs.ensures.done) c.in_ok-put.ensures.done
+          (λ first x z s r. cuts x z (with_word 0 5 (c.in_ok-pairs.pairs - 1) z) w.nodes w.sides w.depth c.args.node c.in_ok-pairs.pairs r.0 r.1 refl);
+      halts = search rules;
+      framed = search rules;
+    }

@@ -1,4 +1,4 @@
-use Rattle.std.proofs.Common.{◌≡◌, refl}
+use Rattle.std.proofs.Common.{◌≡◌, refl, rules}
 use Rattle.cx_base.specs.Packing.{unpacked}
 use Rattle.cx_base.specs.Memory.{Becomes}
 use Rattle.cx_base.specs.Store.{blocks}
@@ -11,22 +11,30 @@ use Rattle.word_index.proofs.DocumentChanges.{node_here}
 use Rattle.word_index.proofs.DocumentRuns.{rewrite_refills}
 use Rattle.word_index.proofs.rewriting.refit.Goals as goal
 
-pub word-requires-clause-line : goal.word-requires-clause-line
-word-requires-clause-line g c = λ first now s. node_here now c.args.node _ (c.requires.can first now s).can
+pub word-requires-clause-memory : goal.word-requires-clause-memory
+word-requires-clause-memory g c = record { sized = search rules; all = λ first now s. node_here now c.args.node _ (c.requires.memory.all first now s).can }
 
-pub refill-requires-clause-old : goal.refill-requires-clause-old
-refill-requires-clause-old g c =
-    always_said (Reads-weaker (Reads-loaded (Reads-none _ c.requires.can) c.in_ok-first.ensures.done) (λ ws p. record {
-      can = p.0.can;
-      first_is = p.1;
-      counted = p.0.alike;
-    }))
+pub refill-requires-clause-memory : goal.refill-requires-clause-memory
+refill-requires-clause-memory g c =
+    record {
+      sized = search rules;
+      writable = search rules;
+      all = always_said (Reads-weaker (Reads-loaded (Reads-none _ c.requires.memory.all) c.in_ok-first.ensures.done) (λ ws p. record {
+        can = p.0.can;
+        first_is = p.1;
+        counted = p.0.alike;
+      }));
+    }
 
-pub returns-clause-exact : goal.returns-clause-exact
-returns-clause-exact g c =
+pub returns : goal.returns
+returns g c =
     let doc = c.args.doc.now in
     let d = unpacked doc.len doc.words.now in
-    let r = Reads-loaded (Reads-none _ c.requires.can) c.in_ok-first.ensures.done in
-    IfOk-weaker c.refill.result (λ _. Becomes (g.M.Memory.stands c.word.new.mem) (g.M.Memory.stands c.refill.new.mem) (λ old now. now ≡ with_refilled d c.args.node old)) _
-    (λ _ b. Becomes-then (Becomes-from-read r) b (λ x y z p q. rewrite_refills x y z c.args.node (blocks d) d p.0 p.1.0.alike refl q))
-    c.refill.ensures.exact
+    let r = Reads-loaded (Reads-none _ c.requires.memory.all) c.in_ok-first.ensures.done in
+    record {
+      done = IfOk-weaker c.refill.result (λ _. Becomes (g.M.Memory.stands c.word.new.mem) (g.M.Memory.stands c.refill.new.mem) (λ old now. now ≡ with_refilled d c.args.node old)) _
+          (λ _ b. Becomes-then (Becomes-from-read r) b (λ x y z p q. rewrite_refills x y z c.args.node (blocks d) d p.0 p.1.0.alike refl q))
+          c.refill.ensures.done;
+      halts = search rules;
+      framed = search rules;
+    }

@@ -1,4 +1,4 @@
-use Rattle.std.proofs.Common.{◌≡◌, ◌+◌, ◌*◌, ◌∙◌, ap, ℕ, List, refl, sym, subst}
+use Rattle.std.proofs.Common.{◌≡◌, ◌+◌, ◌*◌, ◌∙◌, ap, ℕ, List, refl, sym, subst, rules}
 use Rattle.cx_base.specs.Packing.{unpacked}
 use Rattle.cx_base.specs.Memory.{Becomes, Stored}
 use Rattle.cx_base.proofs.MemoryLemmas.{Becomes-store, Becomes-always, always_after, Becomes-both}
@@ -17,48 +17,72 @@ bared {P = P} node all s t =
     (Becomes-store {S = λ x y. P x × (y ≡ with_word node 5 0 x)} (Becomes-from-read (Reads-none _ all)) s (λ first x y m r. (subst P r.0 r.1, ap (with_word node 5 0) r.0)))
     t (λ first x y m r. (r.0, ap (with_word node 6 0) r.1))
 
-pub put-requires-clause-line : goal.put-requires-clause-line
-put-requires-clause-line g c = λ first now s. node_here now c.args.node _ (c.requires.old first now s).can
+pub put-requires-clause-memory : goal.put-requires-clause-memory
+put-requires-clause-memory g c = record { sized = search rules; writable = search rules; all = λ first now s. node_here now c.args.node _ (c.requires.memory.all first now s).can }
 
-pub put-requires-2-clause-line : goal.put-requires-2-clause-line
-put-requires-2-clause-line g c =
+pub put-requires-2-clause-memory : goal.put-requires-2-clause-memory
+put-requires-2-clause-memory g c =
     let doc = c.args.doc.now in
-    always_after c.requires.old (Becomes-store (Becomes-from-read (Reads-none _ c.requires.old)) c.in_ok-put.ensures.done (λ first x y m r. ap (with_word c.args.node 5 0) r.0))
-    (λ x z h e. subst (λ u. IsWithin u c.args.node) (sym e) (bare_here x c.args.node c.args.first c.args.count (unpacked doc.len doc.words.now) h))
+    record {
+      sized = search rules;
+      writable = search rules;
+      all = always_after c.requires.memory.all (Becomes-store (Becomes-from-read (Reads-none _ c.requires.memory.all)) c.in_ok-put.ensures.done (λ first x y m r. ap (with_word c.args.node 5 0) r.0))
+          (λ x z h e. subst (λ u. IsWithin u c.args.node) (sym e) (bare_here x c.args.node c.args.first c.args.count (unpacked doc.len doc.words.now) h));
+    }
 
-pub give_chain-requires-clause-chain : goal.give_chain-requires-clause-chain
-give_chain-requires-clause-chain g c =
+pub give_chain-requires : goal.give_chain-requires
+give_chain-requires g c =
     let doc = c.args.doc.now in
-    Becomes-always (bared c.args.node c.requires.old c.in_ok-put.ensures.done c.in_ok-put-2.ensures.done)
-    (λ x z r. subst (λ u. LooseChain u c.args.first c.args.count) (sym r.1) (renew_chain x c.args.node c.args.first c.args.count (unpacked doc.len doc.words.now) r.0))
+    record {
+      sized = search rules;
+      writable = search rules;
+      all = Becomes-always (bared c.args.node c.requires.memory.all c.in_ok-put.ensures.done c.in_ok-put-2.ensures.done)
+          (λ x z r. subst (λ u. LooseChain u c.args.first c.args.count) (sym r.1) (renew_chain x c.args.node c.args.first c.args.count (unpacked doc.len doc.words.now) r.0));
+    }
 
-pub write_text-requires-clause-room : goal.write_text-requires-clause-room
-write_text-requires-clause-room g c =
+pub write_text-requires-clause-memory : goal.write_text-requires-clause-memory
+write_text-requires-clause-memory g c =
     let doc = c.args.doc.now in
-    Becomes-always (Becomes-both (bared c.args.node c.requires.old c.in_ok-put.ensures.done c.in_ok-put-2.ensures.done) c.in_ok-give_chain.ensures.exact)
-    (λ x z r. renew_room x z c.args.node c.args.first c.args.count doc.len c.div_ceil.result doc.words.now r.1.0 (r.2 ∙ ap (with_chain_given c.args.count c.args.first) r.1.1) c.div_ceil.ensures)
+    record {
+      sized = search rules;
+      writable = search rules;
+      all = Becomes-always (Becomes-both (bared c.args.node c.requires.memory.all c.in_ok-put.ensures.done c.in_ok-put-2.ensures.done) c.in_ok-give_chain.ensures.exact)
+          (λ x z r. renew_room x z c.args.node c.args.first c.args.count doc.len c.div_ceil.result doc.words.now r.1.0 (r.2 ∙ ap (with_chain_given c.args.count c.args.first) r.1.1) c.div_ceil.ensures);
+    }
 
-pub put-requires-3-clause-line : goal.put-requires-3-clause-line
-put-requires-3-clause-line g c =
+pub put-requires-3-clause-memory : goal.put-requires-3-clause-memory
+put-requires-3-clause-memory g c =
     let doc = c.args.doc.now in
-    Becomes-always (Becomes-both (Becomes-both (bared c.args.node c.requires.old c.in_ok-put.ensures.done c.in_ok-put-2.ensures.done) c.in_ok-give_chain.ensures.exact) c.in_ok-text.ensures.exact)
-    (λ x w r. renew_node x r.0 w c.args.node c.args.first c.args.count doc.len c.div_ceil.result c.in_ok-text.text doc.words.now c.requires.doc r.1.1.0 (r.1.2 ∙ ap (with_chain_given c.args.count c.args.first) r.1.1.1) c.div_ceil.ensures r.2)
+    record {
+      sized = search rules;
+      writable = search rules;
+      all = Becomes-always (Becomes-both (Becomes-both (bared c.args.node c.requires.memory.all c.in_ok-put.ensures.done c.in_ok-put-2.ensures.done) c.in_ok-give_chain.ensures.exact) c.in_ok-text.ensures.exact)
+          (λ x w r. renew_node x r.0 w c.args.node c.args.first c.args.count doc.len c.div_ceil.result c.in_ok-text.text doc.words.now c.requires.doc r.1.1.0 (r.1.2 ∙ ap (with_chain_given c.args.count c.args.first) r.1.1.1) c.div_ceil.ensures r.2);
+    }
 
-pub put-requires-4-clause-line : goal.put-requires-4-clause-line
-put-requires-4-clause-line g c =
+pub put-requires-4-clause-memory : goal.put-requires-4-clause-memory
+put-requires-4-clause-memory g c =
     let doc = c.args.doc.now in
-    Becomes-always (Becomes-store (Becomes-both (Becomes-both (bared c.args.node c.requires.old c.in_ok-put.ensures.done c.in_ok-put-2.ensures.done) c.in_ok-give_chain.ensures.exact) c.in_ok-text.ensures.exact) c.in_ok-put-3.ensures.done
-    (λ first x w s r.
-    named_here w c.args.node c.in_ok-text.text (renew_node x r.0 w c.args.node c.args.first c.args.count doc.len c.div_ceil.result c.in_ok-text.text doc.words.now c.requires.doc r.1.1.0 (r.1.2 ∙ ap (with_chain_given c.args.count c.args.first) r.1.1.1) c.div_ceil.ensures r.2)))
-    (λ x v h. h)
+    record {
+      sized = search rules;
+      writable = search rules;
+      all = Becomes-always (Becomes-store (Becomes-both (Becomes-both (bared c.args.node c.requires.memory.all c.in_ok-put.ensures.done c.in_ok-put-2.ensures.done) c.in_ok-give_chain.ensures.exact) c.in_ok-text.ensures.exact) c.in_ok-put-3.ensures.done
+          (λ first x w s r.
+          named_here w c.args.node c.in_ok-text.text (renew_node x r.0 w c.args.node c.args.first c.args.count doc.len c.div_ceil.result c.in_ok-text.text doc.words.now c.requires.doc r.1.1.0 (r.1.2 ∙ ap (with_chain_given c.args.count c.args.first) r.1.1.1) c.div_ceil.ensures r.2)))
+          (λ x v h. h);
+    }
 
-pub returns-clause-exact : goal.returns-clause-exact
-returns-clause-exact g c =
+pub returns : goal.returns
+returns g c =
     let doc = c.args.doc.now in
     let node = c.args.node in
-    Becomes-store (Becomes-store {S = λ x u. with_word node 6 doc.len u ≡ with_renewed (unpacked doc.len doc.words.now) node x}
-    (Becomes-both (Becomes-both (bared node c.requires.old c.in_ok-put.ensures.done c.in_ok-put-2.ensures.done) c.in_ok-give_chain.ensures.exact) c.in_ok-text.ensures.exact) c.in_ok-put-3.ensures.done
-    (λ first x w s r.
-    renew_runs x r.0 w (with_word node 6 doc.len (with_word node 5 c.in_ok-text.text w)) node c.args.first c.args.count doc.len c.div_ceil.result c.in_ok-text.text doc.words.now c.requires.doc r.1.1.0 (r.1.2 ∙ ap (with_chain_given c.args.count c.args.first) r.1.1.1) c.div_ceil.ensures
-    r.2 refl)) c.in_ok-put-4.ensures.done
-    (λ first x u s q. q)
+    record {
+      done = Becomes-store (Becomes-store {S = λ x u. with_word node 6 doc.len u ≡ with_renewed (unpacked doc.len doc.words.now) node x}
+          (Becomes-both (Becomes-both (bared node c.requires.memory.all c.in_ok-put.ensures.done c.in_ok-put-2.ensures.done) c.in_ok-give_chain.ensures.exact) c.in_ok-text.ensures.exact) c.in_ok-put-3.ensures.done
+          (λ first x w s r.
+          renew_runs x r.0 w (with_word node 6 doc.len (with_word node 5 c.in_ok-text.text w)) node c.args.first c.args.count doc.len c.div_ceil.result c.in_ok-text.text doc.words.now c.requires.doc r.1.1.0 (r.1.2 ∙ ap (with_chain_given c.args.count c.args.first) r.1.1.1) c.div_ceil.ensures
+          r.2 refl)) c.in_ok-put-4.ensures.done
+          (λ first x u s q. q);
+      halts = search rules;
+      framed = search rules;
+    }

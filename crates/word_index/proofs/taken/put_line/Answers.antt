@@ -5,9 +5,9 @@ use Rattle.cx_base.proofs.ReadLemmas.{Reads-none, Becomes-from-read}
 use Rattle.word_index.proofs.ExactTaking.{filled_by_row}
 use Rattle.word_index.proofs.taken.put_line.Goals as goal
 
-pub returns-clause-done : goal.returns-clause-done
-returns-clause-done g c =
-    Becomes-then (Becomes-from-read (Reads-none _ c.requires.line)) c.in_ok-store_words.ensures.done (λ x y z p e. filled_by_row c.args.line c.start_of-start.result c.args.content.now x y z (search rules) c.start_of-start.ensures.is p e)
+pub returns-clause-changes : goal.returns-clause-changes
+returns-clause-changes g c =
+    record { done = Becomes-then (Becomes-from-read (Reads-none _ c.requires.all)) c.in_ok-store_words.ensures.done (λ x y z p e. filled_by_row c.args.line c.start_of-start.result c.args.content.now x y z (search rules) c.start_of-start.ensures.is p e); halts = search rules; framed = search rules }
 
 pub returns-clause-exact : goal.returns-clause-exact
 returns-clause-exact g c = Becomes-weaker c.in_ok-store_words.ensures.done (λ first x y s e. e ∙ ap (λ n. overwritten n c.args.content.now x) c.start_of-start.ensures.is)

@@ -11,5 +11,5 @@ pub overflow_sub-number : goal.overflow_sub-number
 overflow_sub-number g c =
     let m = c.word-2.new.mem in
     let number = c.in_ok-number.number in
-    let r = Reads-loaded (Reads-loaded (Reads-none _ c.requires.head) c.in_ok-next.ensures.done) c.in_ok-number.ensures.done in
+    let r = Reads-loaded (Reads-loaded (Reads-none _ c.requires.all) c.in_ok-next.ensures.done) c.in_ok-number.ensures.done in
     always_at_most (g.M.Memory.stands m) (g.met.M.Memory.some_stands m) 1 number (λ first now s. (let p = (r.from first now s).1 in some now number p.0.0.1 p.1))

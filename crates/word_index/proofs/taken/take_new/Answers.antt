@@ -11,6 +11,6 @@ pub overflow_add-line : goal.overflow_add-line
 overflow_add-line g c =
     let m = c.word.new.mem in
     let line = c.in_ok-line.line in
-    let r = Reads-loaded (Reads-none _ c.requires.few) c.in_ok-line.ensures.done in
+    let r = Reads-loaded (Reads-none _ c.requires.all) c.in_ok-line.ensures.done in
     let few : line ≤ 2 ^ 32 = always_at_most (g.M.Memory.stands m) (g.met.M.Memory.some_stands m) line (2 ^ 32) (λ first now s. (let p = (r.from first now s).1 in small now line p.0 p.1)) in
     omega arith

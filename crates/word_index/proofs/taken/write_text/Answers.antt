@@ -14,15 +14,15 @@ loop-j-init g c = record {
   framed = Framed-same _;
 }
 
-pub take_line-requires-clause-room : goal.take_line-requires-clause-room
-take_line-requires-clause-room g c =
+pub take_line-requires : goal.take_line-requires
+take_line-requires g c =
     let l = c.loop-j in
-    always_after c.requires.room l.invariant.done (λ x y h r. can_take_next c.args.words.now c.args.count l.j l.next x y c.loop-j-test.true h r)
+    record { sized = search rules; writable = search rules; all = always_after c.requires.memory.all l.invariant.done (λ x y h r. can_take_next c.args.words.now c.args.count l.j l.next x y c.loop-j-test.true h r) }
 
-pub put_line-requires-clause-line : goal.put_line-requires-clause-line
-put_line-requires-clause-line g c =
+pub put_line-requires : goal.put_line-requires
+put_line-requires g c =
     let l = c.loop-j in
-    always_after c.requires.room (Becomes-both l.invariant.done c.in_ok-line.ensures.done) (λ x z h r. taken_within c.args.words.now c.args.count l.j l.next c.in_ok-line.line x r.0 z c.loop-j-test.true h r.1 r.2)
+    record { sized = search rules; writable = search rules; all = always_after c.requires.memory.all (Becomes-both l.invariant.done c.in_ok-line.ensures.changes.done) (λ x z h r. taken_within c.args.words.now c.args.count l.j l.next c.in_ok-line.line x r.0 z c.loop-j-test.true h r.1 r.2) }
 
 pub loop-j-preserved : goal.loop-j-preserved
 loop-j-preserved g c =
@@ -31,17 +31,17 @@ loop-j-preserved g c =
     let t = c.in_ok-line.ensures in
     let p = c.in_ok-put_line.ensures in
     record {
-      done = Becomes-then (Becomes-both i.done t.done) p.done (λ x z w r f. written_more c.args.words.now c.args.count l.j l.next c.in_ok-line.line c.block.result x r.0 z w c.loop-j-test.true r.1 r.2 c.block.ensures f);
+      done = Becomes-then (Becomes-both i.done t.changes.done) p.changes.done (λ x z w r f. written_more c.args.words.now c.args.count l.j l.next c.in_ok-line.line c.block.result x r.0 z w c.loop-j-test.true r.1 r.2 c.block.ensures f);
       exact = Becomes-then (Becomes-both i.exact t.exact) p.exact (λ x z w r f. text_goes_on c.args.words.now c.args.count l.j l.next c.in_ok-line.line c.block.result r.0 z w (with_text c.args.words.now c.args.count 0 x) c.loop-j-test.true r.1 r.2 c.block.ensures f);
       sized = search rules;
       can_store = search rules;
-      framed = Framed-then (Framed-then i.framed t.framed) p.framed;
+      framed = Framed-then (Framed-then i.framed t.changes.framed) p.changes.framed;
     }
 
-pub returns-clause-done : goal.returns-clause-done
-returns-clause-done g c =
+pub returns-clause-changes : goal.returns-clause-changes
+returns-clause-changes g c =
     let l = c.loop-j in
-    Becomes-weaker l.invariant.done (λ first x y s r. written_all c.args.words.now c.args.count l.j l.next x y (omega arith) r)
+    record { done = Becomes-weaker l.invariant.done (λ first x y s r. written_all c.args.words.now c.args.count l.j l.next x y (omega arith) r); halts = search rules; framed = search rules }
 
 pub returns-clause-exact : goal.returns-clause-exact
 returns-clause-exact g c =

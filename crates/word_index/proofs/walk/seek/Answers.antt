@@ -13,7 +13,7 @@ pub loop-depth-init : goal.loop-depth-init
 loop-depth-init g c =
     let b = c.in_ok-node.ensures in
     record {
-      done = Reads-load (Reads-none _ c.requires.lawful) b.done (λ ws p e. passing_begins ws c.args.past (unpacked c.args.key.now.len c.args.key.now.words) _ _ 0 c.in_ok-node.node 0 e refl refl);
+      done = Reads-load (Reads-none _ c.requires.memory.all) b.done (λ ws p e. passing_begins ws c.args.past (unpacked c.args.key.now.len c.args.key.now.words) _ _ 0 c.in_ok-node.node 0 e refl refl);
       counted = omega arith;
       nodes_long = search rules;
       sides_long = search rules;
@@ -22,57 +22,60 @@ loop-depth-init g c =
       framed = b.framed;
     }
 
-pub returns-then-node-eq0-clause-done : goal.returns-then-node-eq0-clause-done
-returns-then-node-eq0-clause-done g c =
+pub returns-then-node-eq0-clause-finds : goal.returns-then-node-eq0-clause-finds
+returns-then-node-eq0-clause-finds g c =
     let l = c.loop-depth in
-    Reads-weaker l.invariant.done (λ ws w. passing_ends ws c.args.past (unpacked c.args.key.now.len c.args.key.now.words) l.way.nodes l.way.sides l.depth l.node l.above w c.if-node-eq0.true)
+    record { done = Reads-weaker l.invariant.done (λ ws w. passing_ends ws c.args.past (unpacked c.args.key.now.len c.args.key.now.words) l.way.nodes l.way.sides l.depth l.node l.above w c.if-node-eq0.true); kept = search rules; halts = search rules; framed = search rules }
 
 pub returns-then-node-eq0-clause-visits : goal.returns-then-node-eq0-clause-visits
 returns-then-node-eq0-clause-visits g c =
     let l = c.loop-depth in
     always_said (Reads-weaker l.invariant.done (λ ws w. few_counted ws c.args.visits.now l.visits l.depth (passing_few ws c.args.past (unpacked c.args.key.now.len c.args.key.now.words) l.way.nodes l.way.sides l.depth l.node l.above w) l.invariant.counted))
 
-pub visit-requires-clause-node : goal.visit-requires-clause-node
-visit-requires-clause-node g c =
+pub visit-requires-clause-memory : goal.visit-requires-clause-memory
+visit-requires-clause-memory g c =
     let l = c.loop-depth in
-    always_read c.requires.lawful l.invariant.done (λ ws i w. passing_has_node ws c.args.past (unpacked c.args.key.now.len c.args.key.now.words) l.way.nodes l.way.sides l.depth l.node l.above w c.if-node-eq0.false i)
+    record { sized = search rules; all = always_read c.requires.memory.all l.invariant.done (λ ws i w. passing_has_node ws c.args.past (unpacked c.args.key.now.len c.args.key.now.words) l.way.nodes l.way.sides l.depth l.node l.above w c.if-node-eq0.false i) }
 
 pub returns-in_err-visit-clause-visits : goal.returns-in_err-visit-clause-visits
 returns-in_err-visit-clause-visits g c =
     let l = c.loop-depth in
     always_kept (always_said (Reads-weaker l.invariant.done (λ ws w. few_counted ws c.args.visits.now c.visit.new.visits (l.depth + 1) (passing_few_node ws c.args.past (unpacked c.args.key.now.len c.args.key.now.words) l.way.nodes l.way.sides l.depth l.node l.above w c.if-node-eq0.false) (omega (arith, l.invariant.counted, c.in_err-visit.ensures.counted)))))
-    c.in_err-visit.ensures.kept
+    c.in_err-visit.ensures.finds.kept
 
-pub returns-then-is_eq-clause-done : goal.returns-then-is_eq-clause-done
-returns-then-is_eq-clause-done g c =
+pub returns-then-is_eq-clause-finds : goal.returns-then-is_eq-clause-finds
+returns-then-is_eq-clause-finds g c =
     let l = c.loop-depth in
     let o = c.in_ok-visit.field-0 in
     let same = sym c.toward-order.ensures ∙ is_same c.toward-order.result (sym c.is_eq.ensures ∙ c.if-is_eq.true) in
-    Reads-then l.invariant.done c.in_ok-visit.ensures.done (λ ws w is. passing_ends_same ws c.args.past (unpacked c.args.key.now.len c.args.key.now.words) l.way.nodes l.way.sides l.depth l.node l.above o w c.if-node-eq0.false is same)
+    record { done = Reads-then l.invariant.done c.in_ok-visit.ensures.finds.done (λ ws w is. passing_ends_same ws c.args.past (unpacked c.args.key.now.len c.args.key.now.words) l.way.nodes l.way.sides l.depth l.node l.above o w c.if-node-eq0.false is same); kept = search rules; halts = search rules; framed = search rules }
 
 pub returns-then-is_eq-clause-visits : goal.returns-then-is_eq-clause-visits
 returns-then-is_eq-clause-visits g c =
     let l = c.loop-depth in
     always_kept (always_said (Reads-weaker l.invariant.done (λ ws w. few_counted ws c.args.visits.now c.visit.new.visits (l.depth + 1) (passing_few_node ws c.args.past (unpacked c.args.key.now.len c.args.key.now.words) l.way.nodes l.way.sides l.depth l.node l.above w c.if-node-eq0.false) (omega (arith, l.invariant.counted, c.in_ok-visit.ensures.counted)))))
-    c.in_ok-visit.ensures.kept
+    c.in_ok-visit.ensures.finds.kept
 
-pub word-requires-in-loop-depth-clause-line : goal.word-requires-in-loop-depth-clause-line
-word-requires-in-loop-depth-clause-line g c =
+pub word-requires-in-loop-depth-clause-memory : goal.word-requires-in-loop-depth-clause-memory
+word-requires-in-loop-depth-clause-memory g c =
     let l = c.loop-depth in
-    always_read c.requires.lawful (Reads-then l.invariant.done c.in_ok-visit.ensures.done (λ ws w o. w))
-    (λ ws i w. node_within ws l.node (passing_has_node ws c.args.past (unpacked c.args.key.now.len c.args.key.now.words) l.way.nodes l.way.sides l.depth l.node l.above w c.if-node-eq0.false i))
+    record {
+      sized = search rules;
+      all = always_read c.requires.memory.all (Reads-then l.invariant.done c.in_ok-visit.ensures.finds.done (λ ws w o. w))
+          (λ ws i w. node_within ws l.node (passing_has_node ws c.args.past (unpacked c.args.key.now.len c.args.key.now.words) l.way.nodes l.way.sides l.depth l.node l.above w c.if-node-eq0.false i));
+    }
 
 pub returns-in_err-node-2-clause-visits : goal.returns-in_err-node-2-clause-visits
 returns-in_err-node-2-clause-visits g c =
     let l = c.loop-depth in
     always_kept (always_said (Reads-weaker l.invariant.done (λ ws w. few_counted ws c.args.visits.now c.visit.new.visits (l.depth + 1) (passing_few_node ws c.args.past (unpacked c.args.key.now.len c.args.key.now.words) l.way.nodes l.way.sides l.depth l.node l.above w c.if-node-eq0.false) (omega (arith, l.invariant.counted, c.in_ok-visit.ensures.counted)))))
-    (kept_then c.in_ok-visit.ensures.kept c.in_err-node-2.ensures.kept)
+    (kept_then c.in_ok-visit.ensures.finds.kept c.in_err-node-2.ensures.kept)
 
 pub loop-depth-preserved : goal.loop-depth-preserved
 loop-depth-preserved g c =
     let l = c.loop-depth in
     let i = l.invariant in
-    let o = c.in_ok-visit.ensures in
+    let o = c.in_ok-visit.ensures.finds in
     let w = c.in_ok-node-2.ensures in
     let t = c.toward-order.ensures in
     let s = c.side_of-side.ensures in
@@ -90,12 +93,17 @@ loop-depth-preserved g c =
       framed = Framed-then (Framed-then i.framed o.framed) w.framed;
     }
 
-pub returns-clause-done : goal.returns-clause-done
-returns-clause-done g c =
+pub returns-clause-finds : goal.returns-clause-finds
+returns-clause-finds g c =
     let l = c.loop-depth in
     let deep : l.depth ≡ 64 = omega (arith, c.loop-depth-test.false, l.auto.depth-end) in
-    Reads-weaker l.invariant.done (λ ws w. subst (λ d. AtSpot c.args.past (unpacked c.args.key.now.len c.args.key.now.words) l.way.nodes l.way.sides d l.node l.above ws) deep
-    (passing_deep ws c.args.past (unpacked c.args.key.now.len c.args.key.now.words) l.way.nodes l.way.sides l.depth l.node l.above w (omega (arith, deep))))
+    record {
+      done = Reads-weaker l.invariant.done (λ ws w. subst (λ d. AtSpot c.args.past (unpacked c.args.key.now.len c.args.key.now.words) l.way.nodes l.way.sides d l.node l.above ws) deep
+          (passing_deep ws c.args.past (unpacked c.args.key.now.len c.args.key.now.words) l.way.nodes l.way.sides l.depth l.node l.above w (omega (arith, deep))));
+      kept = search rules;
+      halts = search rules;
+      framed = search rules;
+    }
 
 pub returns-clause-visits : goal.returns-clause-visits
 returns-clause-visits g c =

@@ -1,6 +1,12 @@
+use Rattle.std.proofs.Common.{subst, sym}
+use Rattle.cx_base.specs.Packing.{unpacked}
+use Rattle.cx_base.specs.Store.{IsKey, IsDocument}
 use Rattle.word_index.proofs.Afterwards.{index_after_insert}
 use Rattle.cx_base.proofs.MemoryLemmas.{always_after}
 use Rattle.word_tests.proofs.index.put.Goals as goal
 
 pub returns-clause-lawful : goal.returns-clause-lawful
-returns-clause-lawful g c = always_after c.requires.lawful c.in_ok-done.ensures.done (λ x y i r. index_after_insert c.in_ok-done.done x y _ _ i r)
+returns-clause-lawful g c =
+    let key : IsKey (unpacked c.key_of.result.len c.key_of.result.words) = subst IsKey (sym c.key_of.ensures.is) c.requires.key in
+    let document : IsDocument (unpacked c.pack_document-len.result c.pack_document-len.new.words) = subst IsDocument (sym c.pack_document-len.ensures.is) c.requires.document in
+    always_after c.requires.lawful c.in_ok-done.ensures.changes.done (λ x y i r. index_after_insert x y _ _ key document i r.1)

@@ -3,4 +3,4 @@ use Rattle.cx_base.proofs.MemoryLemmas.{always_after}
 use Rattle.word_tests.proofs.index.take.Goals as goal
 
 pub returns-clause-lawful : goal.returns-clause-lawful
-returns-clause-lawful g c = always_after c.requires.lawful c.in_ok-there.ensures.done (λ x y i r. index_after_remove c.in_ok-there.there x y _ i r)
+returns-clause-lawful g c = always_after c.requires.lawful c.in_ok-there.ensures.changes.done (λ x y i r. index_after_remove x y _ i r.1)

@@ -13,7 +13,7 @@ loop-i-preserved g c =
       | then-held-i+in_ok-store w ↦ rw w.mem-is (record {
         done = becomes_stored (g.M.Memory.size c.args.mem.now) l.i h.count h.places h.found h.values c.loop-i-test.true c.requires.held
             (λ key now s. subst (λ n. Words n now) l.invariant.framed.size_kept (g.met.M.Memory.words l.mem key now s)) l.invariant.done w.in_ok-store.ensures.stands;
-        framed = Framed-then l.invariant.framed (Framed-access w.in_ok-store.ensures.size w.in_ok-store.ensures.fixed w.in_ok-store.ensures.writable w.in_ok-store.ensures.left);
+        framed = Framed-then l.invariant.framed (Framed-access w.in_ok-store.ensures.access);
       })
       | else-held-i w ↦ rw w.mem-is (record {
         done = becomes_kept (g.M.Memory.size c.args.mem.now) l.i h.count h.places h.found h.values c.loop-i-test.true w.if-held-i.false c.requires.held l.invariant.done;

@@ -12,7 +12,7 @@ returns-then-i-self-clause-stands g c =
     let here = c.find-i.ensures.there c.if-i-self.true in
     let stands = g.M.Memory.stands c.load.new.self in
     let same = found_there size h.count c.find-i.result c.args.at c.in_ok-word.word h.places h.found h.values c.if-i-self.true here (g.met.M.Memory.some_stands c.load.new.self) b.is c.in_ok-word.ensures.stands in
-    subst (λ n. Loaded c.args.at (slice_index h.values c.find-i.result) (Shows (g.M.Memory.stands b.inner.now) size h.count h.places h.values) (Shows stands n h.count h.places h.values)) (sym c.in_ok-word.ensures.size)
+    subst (λ n. Loaded c.args.at (slice_index h.values c.find-i.result) (Shows (g.M.Memory.stands b.inner.now) size h.count h.places h.values) (Shows stands n h.count h.places h.values)) (sym c.in_ok-word.ensures.access.size_kept)
     (shows_held size h.count c.find-i.result c.args.at c.in_ok-word.word h.places h.found h.values c.if-i-self.true here same b.is c.in_ok-word.ensures.stands)
 
 pub returns-clause-stands : goal.returns-clause-stands
@@ -29,5 +29,5 @@ returns-clause-stands g c =
     let room : h.count < 192 = omega (arith, few, other) in
     let x = c.in_ok-word.word in
     rw (c.push.ensures.count, c.push.ensures.places, c.push.ensures.values) (
-    subst (λ n. Loaded c.args.at x (Shows (g.M.Memory.stands b.inner.now) size h.count h.places h.values) (Shows stands n (h.count + 1) (slice_set h.places h.count c.args.at) (slice_set h.values h.count x))) (sym c.in_ok-word.ensures.size)
+    subst (λ n. Loaded c.args.at x (Shows (g.M.Memory.stands b.inner.now) size h.count h.places h.values) (Shows stands n (h.count + 1) (slice_set h.places h.count c.args.at) (slice_set h.values h.count x))) (sym c.in_ok-word.ensures.access.size_kept)
     (shows_push size h.count c.args.at x h.places h.found h.values room b.is (c.find-i.ensures.free all) c.in_ok-word.ensures.stands))

@@ -1,5 +1,0 @@
-pub mod Trees
-pub mod Depth
-pub mod Stopping
-pub mod Removing
-pub mod Spots

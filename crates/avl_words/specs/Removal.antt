@@ -1,0 +1,36 @@
+-- An item is taken out of a tree.
+use Rattle.std.specs.Prelude.{List, [], ◌∷◌, ◌++◌}
+use Rattle.std.specs.declared.cmp.Ordering.{Ordering}
+use Rattle.avl_words.specs.Tree.{Tree, Empty, Node}
+use Rattle.avl_words.specs.Ways.{Turn, mended, spot}
+
+-- the way to the least node below a node, that node, and its right child
+pub record Least (A : Type 0) : Type 0 where
+  pub way : List (Turn A)
+  pub item : A
+  pub rest : Tree A
+
+module _ {A : Type 0} where
+  abbrev pub least : List (Turn A) → Tree A → A → Tree A → Least A
+  least way Empty x r = record { way = way; item = x; rest = r }
+  least way (Node a y b) x r = least (record { side = 0; item = x; sibling = r } ∷ way) a y b
+
+  -- A node is taken out: its one child takes its place, or the least node behind it does, whose own place its right child takes.
+  abbrev pub gone_way : List (Turn A) → Tree A → Tree A → List (Turn A)
+  gone_way way Empty r = way
+  gone_way way (Node a y b) Empty = way
+  gone_way way (Node a y b) (Node c z d) =
+      (least [] c z d).way ++ record { side = 1; item = (least [] c z d).item; sibling = Node a y b } ∷ way
+
+  abbrev pub gone_rest : Tree A → Tree A → Tree A
+  gone_rest Empty r = r
+  gone_rest (Node a y b) Empty = Node a y b
+  gone_rest (Node a y b) (Node c z d) = (least [] c z d).rest
+
+  abbrev pub with_out : List (Turn A) → Tree A → Tree A
+  with_out way Empty = mended way Empty
+  with_out way (Node l x r) = mended (gone_way way l r) (gone_rest l r)
+
+  -- the item where a walk ends is taken out
+  abbrev pub without : (A → Ordering) → Tree A → Tree A
+  without order t = with_out (spot order [] t).0 (spot order [] t).1

@@ -1,0 +1,70 @@
+-- Ways down a tree, and the tree again with another in place at the end of a way.
+use Rattle.std.specs.Prelude.{◌≡◌, ◌≢◌, ℕ, zero, suc, List, [], ◌∷◌, ◌++◌, All}
+use Rattle.std.specs.declared.cmp.Ordering.{Ordering}
+use Rattle.std.specs.declared.cmp.Ordering.TheVariants.{Less, Equal, Greater}
+use Rattle.avl_words.specs.Tree.{Tree, Empty, Node, items, node_on, joined}
+
+-- A way down: the nodes passed, the last first, each with the side taken and the child at the other side.
+pub record Turn (A : Type 0) : Type 0 where
+  pub side : ℕ
+  pub item : A
+  pub sibling : Tree A
+
+-- one of three, by an ordering
+abbrev pub by_order : {B : Type 0} → Ordering → B → B → B → B
+by_order Less below same above = below
+by_order Equal below same above = same
+by_order Greater below same above = above
+
+module _ {A : Type 0} where
+  -- a node with a tree at a side, balanced
+  abbrev pub under : ℕ → Tree A → A → Tree A → Tree A
+  under zero t x sibling = joined t x sibling
+  under (suc _) t x sibling = joined sibling x t
+
+  -- the whole tree, and the whole tree with another in place and each node on the way balanced
+  abbrev pub whole : List (Turn A) → Tree A → Tree A
+  whole [] t = t
+  whole (turn ∷ way) t = whole way (node_on turn.side t turn.item turn.sibling)
+
+  abbrev pub mended : List (Turn A) → Tree A → Tree A
+  mended [] t = t
+  mended (turn ∷ way) t = mended way (under turn.side t turn.item turn.sibling)
+
+  -- what stands in order before and behind the place
+  abbrev pub passed : ℕ → A → Tree A → List A
+  passed zero x sibling = []
+  passed (suc _) x sibling = items sibling ++ x ∷ []
+
+  abbrev pub ahead : ℕ → A → Tree A → List A
+  ahead zero x sibling = x ∷ items sibling
+  ahead (suc _) x sibling = []
+
+  abbrev pub before : List (Turn A) → List A
+  before [] = []
+  before (turn ∷ way) = before way ++ passed turn.side turn.item turn.sibling
+
+  abbrev pub behind : List (Turn A) → List A
+  behind [] = []
+  behind (turn ∷ way) = ahead turn.side turn.item turn.sibling ++ behind way
+
+  -- Where a walk ends that goes right at an item below what is sought, and left at one above: the way to it, and what
+  -- stands there.
+  abbrev pub spot : (A → Ordering) → List (Turn A) → Tree A → List (Turn A) × Tree A
+  spot order way Empty = (way, Empty)
+  spot order way (Node l x r) =
+      by_order (order x) (spot order (record { side = 1; item = x; sibling = l } ∷ way) r) (way, Node l x r) (spot order (record { side = 0; item = x; sibling = r } ∷ way) l)
+
+  -- items in order: those below what is sought, at most one that is the same, and those above
+  abbrev pub Cut : (A → Ordering) → List A → Type 0
+  Cut order [] = Unit {0}
+  Cut order (x ∷ xs) = (order x ≢ Less → All (λ y. order y ≡ Greater) xs) × Cut order xs
+
+  -- such a walk ends at nothing, or at what is sought
+  abbrev pub Ends : (A → Ordering) → Tree A → Type 0
+  Ends order Empty = Unit {0}
+  Ends order (Node l x r) = order x ≡ Equal
+
+  -- a new item is put where such a walk ends
+  abbrev pub with_new : (A → Ordering) → A → Tree A → Tree A
+  with_new order x t = mended (spot order [] t).0 (Node Empty x Empty)
