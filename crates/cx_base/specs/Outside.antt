@@ -1,5 +1,5 @@
 -- What sources and sinks do.
-use Rattle.std.specs.Prelude.{◌≡◌, ◌⊎◌, ◌+◌, ◌-◌, ◌^◌, ◌<◌, ◌≤◌, ℕ, min, List, [], ◌++◌, length, take, drop, Option, Some, IfSome}
+use Rattle.std.specs.Prelude.{◌≡◌, ◌⊎◌, ◌+◌, ◌-◌, ◌^◌, ◌<◌, ◌≤◌, ℕ, min, List, [], ◌++◌, length, take, drop, Option, Some, IfSome, Result, IfOk, OnErr}
 
 -- A count of faults rose. It stands still at its type's end, where it counts as having risen.
 abbrev pub Rose : ℕ → ℕ → Type 0
@@ -19,6 +19,23 @@ Gave n before buffer after = IfSome before (λ bytes. Gives n bytes buffer after
 -- the first n bytes of a piece were appended, where the bytes written are told
 abbrev pub Took : ℕ → List ℕ → Option (List ℕ) → Option (List ℕ) → Type 0
 Took n piece before after = IfSome before (λ written. after ≡ Some (written ++ take n piece))
+
+-- A source was asked for at most so many bytes: those read came from the front of what was left, or it failed, and none was taken.
+pub record IsRead {E : Type 0} (most : ℕ) (result : Result ℕ E) (buffer : List ℕ) (before after : Option (List ℕ)) (faults faults' : ℕ) : Type 0 where
+  pub ok : IfOk result (λ n. Gave n before buffer after)
+  pub within : IfOk result (λ n. n ≤ most)
+  pub failed : OnErr result (Rose faults faults')
+  pub untouched : OnErr result (after ≡ before)
+  pub count : faults ≤ faults'
+
+-- A sink was handed a piece: some of its bytes were appended, or it failed, and none was.
+pub record IsWritten {E : Type 0} (piece : List ℕ) (result : Result ℕ E) (before after : Option (List ℕ)) (faults faults' : ℕ) : Type 0 where
+  pub ok : IfOk result (λ n. Took n piece before after)
+  pub some : IfOk result (λ n. 0 < n)
+  pub within : IfOk result (λ n. n ≤ length piece)
+  pub failed : OnErr result (Rose faults faults')
+  pub untouched : OnErr result (after ≡ before)
+  pub count : faults ≤ faults'
 
 -- what a sink in memory holds: the bytes, the room for them, and how often it has failed
 pub record Holding : Type 0 where

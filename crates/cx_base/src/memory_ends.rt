@@ -1,7 +1,7 @@
 //! A source and a sink in memory.
 
-ghost use Rattle.std.specs.Prelude.{◌≡◌, ◌↔◌, ◌<◌, ◌≤◌, length, vec_capacity, IfOk, IsOk, IsErr, OnErr, Some};
-ghost use Rattle.cx_base.specs.Outside.{Gave, Took, Rose};
+ghost use Rattle.std.specs.Prelude.{◌≡◌, ◌↔◌, ◌<◌, ◌≤◌, length, vec_capacity, IsOk, IsErr, Some};
+ghost use Rattle.cx_base.specs.Outside.{IsRead, IsWritten};
 
 use crate::outside::{Failed, Sink, Source};
 use std::marker::Model;
@@ -40,11 +40,7 @@ impl Source for SureSource {
 
     fn read(&mut self, into: &mut [u8]) -> Result<usize, Failed>
         requires { 0 < length into.old }
-        ensures ok { IfOk result (λ n. Gave n (Some self.old) into.new (Some self.new)) }
-        ensures within { IfOk result (λ n. n ≤ length into.old) }
-        ensures failed { OnErr result (Rose 0 0) }
-        ensures untouched { OnErr result (Some self.new ≡ Some self.old) }
-        ensures count { 0 ≤ 0 }
+        ensures read { IsRead (length into.old) result into.new (Some self.old) (Some self.new) 0 0 }
         // It never fails.
         ensures sure { IsOk result }
     {
@@ -106,12 +102,7 @@ impl Sink for SureSink {
 
     fn write(&mut self, piece: &[u8]) -> Result<usize, Failed>
         requires { 0 < length piece.now }
-        ensures ok { IfOk result (λ n. Took n piece.now (Some self.old.written) (Some self.new.written)) }
-        ensures some { IfOk result (λ n. 0 < n) }
-        ensures within { IfOk result (λ n. n ≤ length piece.now) }
-        ensures failed { OnErr result (Rose self.old.faults self.new.faults) }
-        ensures untouched { OnErr result (Some self.new.written ≡ Some self.old.written) }
-        ensures count { self.old.faults ≤ self.new.faults }
+        ensures written { IsWritten piece.now result (Some self.old.written) (Some self.new.written) self.old.faults self.new.faults }
         // It fails exactly where no room is left, and the room stays.
         ensures sure { IsErr result ↔ (self.old.room ≤ length self.old.written) }
         ensures room { self.new.room ≡ self.old.room }

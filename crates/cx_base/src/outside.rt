@@ -1,7 +1,7 @@
 //! Where bytes come from and go to, and the gate that each command passes.
 
-ghost use Rattle.std.specs.Prelude.{◌≡◌, ◌<◌, ◌≤◌, length, IfOk, OnErr, List, ℕ, Option};
-ghost use Rattle.cx_base.specs.Outside.{Rose, Gave, Took};
+ghost use Rattle.std.specs.Prelude.{◌<◌, length, List, ℕ, Option};
+ghost use Rattle.cx_base.specs.Outside.{IsRead, IsWritten};
 
 /// A call that a source or a sink refused.
 #[derive(Clone, Copy, Debug, PartialEq, Eq)]
@@ -19,11 +19,7 @@ pub trait Source {
     /// the input. After `Failed` no byte was taken. What `into` holds behind the bytes read is open.
     fn read(&mut self, into: &mut [u8]) -> Result<usize, Failed>
         requires { 0 < length into.old }
-        ensures ok { IfOk result (λ n. Gave n (left self.old) into.new (left self.new)) }
-        ensures within { IfOk result (λ n. n ≤ length into.old) }
-        ensures failed { OnErr result (Rose (faults self.old) (faults self.new)) }
-        ensures untouched { OnErr result (left self.new ≡ left self.old) }
-        ensures count { faults self.old ≤ faults self.new };
+        ensures { IsRead (length into.old) result into.new (left self.old) (left self.new) (faults self.old) (faults self.new) };
 }
 
 /// Where bytes go to.
@@ -38,12 +34,7 @@ pub trait Sink {
     /// nothing was appended. A sink that can take nothing fails.
     fn write(&mut self, piece: &[u8]) -> Result<usize, Failed>
         requires { 0 < length piece.now }
-        ensures ok { IfOk result (λ n. Took n piece.now (written self.old) (written self.new)) }
-        ensures some { IfOk result (λ n. 0 < n) }
-        ensures within { IfOk result (λ n. n ≤ length piece.now) }
-        ensures failed { OnErr result (Rose (faults self.old) (faults self.new)) }
-        ensures untouched { OnErr result (written self.new ≡ written self.old) }
-        ensures count { faults self.old ≤ faults self.new };
+        ensures { IsWritten piece.now result (written self.old) (written self.new) (faults self.old) (faults self.new) };
 }
 
 /// What each worker passes before a command (`after` false) and behind it (`after` true). It answers nothing.

@@ -1,7 +1,7 @@
 //! A source and a sink in memory that take so many bytes a call, and fail at chosen calls.
 
-ghost use Rattle.std.specs.Prelude.{◌≡◌, ◌↔◌, ◌⊎◌, ◌<◌, ◌≤◌, [], length, vec_capacity, Contains, IfOk, IsErr, IsTrue, OnErr, Some};
-ghost use Rattle.cx_base.specs.Outside.{Gave, Took, Rose, Tells, next_call};
+ghost use Rattle.std.specs.Prelude.{◌≡◌, ◌↔◌, ◌⊎◌, ◌<◌, ◌≤◌, [], length, vec_capacity, Contains, IfOk, IsErr, IsTrue, Some};
+ghost use Rattle.cx_base.specs.Outside.{IsRead, IsWritten, Tells, next_call};
 
 use crate::outside::{Failed, Sink, Source};
 use std::marker::Model;
@@ -95,11 +95,7 @@ impl Source for VecSource {
 
     fn read(&mut self, into: &mut [u8]) -> Result<usize, Failed>
         requires { 0 < length into.old }
-        ensures ok { IfOk result (λ n. Gave n (Some self.old.bytes) into.new (Some self.new.bytes)) }
-        ensures within { IfOk result (λ n. n ≤ length into.old) }
-        ensures failed { OnErr result (Rose self.old.faults self.new.faults) }
-        ensures untouched { OnErr result (Some self.new.bytes ≡ Some self.old.bytes) }
-        ensures count { self.old.faults ≤ self.new.faults }
+        ensures read { IsRead (length into.old) result into.new (Some self.old.bytes) (Some self.new.bytes) self.old.faults self.new.faults }
         // It gives at most so many bytes, and fails exactly at the calls chosen.
         ensures chunk { IfOk result (λ n. n ≤ self.old.chunk) }
         ensures chosen { IsErr result ↔ Contains self.old.fails (next_call self.old.calls) }
@@ -169,12 +165,7 @@ impl Sink for VecSink {
 
     fn write(&mut self, piece: &[u8]) -> Result<usize, Failed>
         requires { 0 < length piece.now }
-        ensures ok { IfOk result (λ n. Took n piece.now (Some self.old.told.bytes) (Some self.new.told.bytes)) }
-        ensures some { IfOk result (λ n. 0 < n) }
-        ensures within { IfOk result (λ n. n ≤ length piece.now) }
-        ensures failed { OnErr result (Rose self.old.told.faults self.new.told.faults) }
-        ensures untouched { OnErr result (Some self.new.told.bytes ≡ Some self.old.told.bytes) }
-        ensures count { self.old.told.faults ≤ self.new.told.faults }
+        ensures written { IsWritten piece.now result (Some self.old.told.bytes) (Some self.new.told.bytes) self.old.told.faults self.new.told.faults }
         // It takes at most so many bytes, and fails exactly at the calls chosen and where no room is left.
         ensures chunk { IfOk result (λ n. n ≤ self.old.told.chunk) }
         ensures chosen { IsErr result ↔ (Contains self.old.told.fails (next_call self.old.told.calls) ⊎ (self.old.room ≤ length self.old.told.bytes)) }
