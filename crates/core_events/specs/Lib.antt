@@ -2,3 +2,4 @@ pub mod Codes
 pub mod Images
 pub mod Tables
 pub mod Told
+pub mod Tries

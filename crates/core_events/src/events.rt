@@ -1,14 +1,14 @@
 //! One step of the core, executable: the guard of each kind, its step on one word, and the change of its caller's
 //! local state.
 
-ghost use Rattle.std.specs.Prelude.{◌≡◌, ◌^◌, ◌<◌, ◌≤◌, ◌↔◌, length, slice_get, IsTrue, IfOk, OnErr, None, Some};
+ghost use Rattle.std.specs.Prelude.{◌≡◌, ◌<◌, ◌↔◌, length, slice_get, IsTrue, IfOk, OnErr, None, Some};
 ghost use Rattle.core_events.specs.Tables.{HasRegions};
 ghost use Rattle.core_events.specs.Codes.{HasCode};
 ghost use Rattle.core_events.specs.Told.{Tells, TellsAnswers, TellsOfferWord};
 ghost use Rattle.cx_core.specs.Base.{LawfulBase};
+ghost use Rattle.core_events.specs.Tries.{Tries};
 ghost use Rattle.cx_core.specs.Events.{Applied, Did};
 ghost use Rattle.cx_core.specs.History.{IsFull};
-ghost use Rattle.cx_core.specs.Layout.{word_count};
 ghost use Rattle.cx_core.specs.Merge.{scene_of};
 ghost use Rattle.cx_core.specs.Rights.{held_words};
 ghost use Rattle.cx_core.specs.State.{EachScene, instance_of};
@@ -77,8 +77,7 @@ fn step(
     requires regions { HasRegions callers base.now words.old }
     requires caller { local.old.number < callers }
     requires code { HasCode callers local.old.downgraded }
-    ensures ok { IfOk result (λ made. EachScene callers base.now words.old (λ instance scene. Tells told.now instance scene kind.now local.old → Did made instance scene kind.now local.old local.new words.new)) }
-    ensures err { OnErr result ((local.new ≡ local.old) × (words.new ≡ words.old)) }
+    ensures { Tries result (λ made. EachScene callers base.now words.old (λ instance scene. Tells told.now instance scene kind.now local.old → Did made instance scene kind.now local.old local.new words.new)) ((local.new ≡ local.old) × (words.new ≡ words.old)) }
 {
     match *kind {
         Kind::WriteCell { j, i, v } => {

@@ -1,12 +1,13 @@
 //! The steps on lock words: a replica is tried, exclusively or shared, given up, downgraded or backed off from.
 
-ghost use Rattle.std.specs.Prelude.{◌≡◌, ◌+◌, ◌-◌, ◌*◌, ◌<◌, ◌≤◌, ◌↔◌, length, take, IsTrue, IfOk, OnErr, OnOk};
+ghost use Rattle.std.specs.Prelude.{◌≡◌, ◌+◌, ◌-◌, ◌*◌, ◌<◌, ◌≤◌, ◌↔◌, length, take, IsTrue, IfOk};
 ghost use Rattle.core_events.specs.Tables.{HasRegions, HasWords};
 ghost use Rattle.cx_base.specs.Callers.{AreCallers};
 ghost use Rattle.cx_core.specs.declared.kinds.Kind.TheVariants.{TryExclusive, TryShared, BackOff, Downgrade, ReleaseExclusive};
+ghost use Rattle.core_events.specs.Tries.{Tries};
 ghost use Rattle.cx_core.specs.Events.{Did};
 ghost use Rattle.cx_core.specs.History.{IsFull};
-ghost use Rattle.cx_core.specs.Layout.{lock_at, replica_words, replicas_at, word_count};
+ghost use Rattle.cx_core.specs.Layout.{lock_at, replica_words, word_count};
 ghost use Rattle.cx_core.specs.LockEvents.{backed_off, downgraded_to, has_all, is_fresh_on, passing, refused_by, shared_by, taken, with_number};
 ghost use Rattle.cx_core.specs.Rights.{held_words, is_at, shared_on};
 ghost use Rattle.cx_core.specs.State.{EachScene};
@@ -22,8 +23,7 @@ use std::alloc::{AllocError, Global};
 
 /// Adds a number to a list, unless it is in it. `Err` is want of memory, and leaves the list as it was.
 pub(crate) fn push_once(numbers: &mut Items<u64>, n: u64) -> Result<(), AllocError>
-    ensures ok { OnOk result (numbers.new ≡ with_number numbers.old n) }
-    ensures err { OnErr result (numbers.new ≡ numbers.old) }
+    ensures { Tries result (λ _. numbers.new ≡ with_number numbers.old n) (numbers.new ≡ numbers.old) }
 {
     if numbers.as_slice().contains(&n) {
         return Ok(());
@@ -42,8 +42,7 @@ pub(crate) fn try_exclusive(
     r: u64,
 ) -> Result<bool, AllocError>
     requires regions { HasRegions callers base.now words.old }
-    ensures ok { IfOk result (λ made. EachScene callers base.now words.old (λ instance scene. Did made instance scene (TryExclusive r) local.old local.new words.new)) }
-    ensures err { OnErr result ((local.new ≡ local.old) × (words.new ≡ words.old)) }
+    ensures { Tries result (λ made. EachScene callers base.now words.old (λ instance scene. Did made instance scene (TryExclusive r) local.old local.new words.new)) ((local.new ≡ local.old) × (words.new ≡ words.old)) }
 {
     if !can_try_exclusive(callers, local, r) {
         return Ok(false);
@@ -71,8 +70,7 @@ fn take(
 ) -> Result<(), AllocError>
     requires regions { HasRegions callers base.now words.now }
     requires r { r < 2 * callers }
-    ensures ok { OnOk result (EachScene callers base.now words.now (λ instance scene. local.new ≡ taken instance scene r local.old)) }
-    ensures err { OnErr result (local.new ≡ local.old) }
+    ensures { Tries result (λ _. EachScene callers base.now words.now (λ instance scene. local.new ≡ taken instance scene r local.old)) (local.new ≡ local.old) }
 {
     let copy = words_of(alloc, callers, base, words, r)?;
     local.exclusive = Some(HeldExclusive {
@@ -97,8 +95,7 @@ fn refuse(
     r: u64,
     found: u64,
 ) -> Result<(), AllocError>
-    ensures ok { OnOk result (local.new ≡ refused_by callers r local.old found) }
-    ensures err { OnErr result (local.new ≡ local.old) }
+    ensures { Tries result (λ _. local.new ≡ refused_by callers r local.old found) (local.new ≡ local.old) }
 {
     push_once(&mut local.refused, r)?;
     if has_all(callers, local.refused.as_slice()) {

@@ -1,11 +1,12 @@
 //! The steps of the queue: words of a caller's cells, link slots, and FREE.
 
-ghost use Rattle.std.specs.Prelude.{◌≡◌, ◌+◌, ◌*◌, ◌%◌, ◌^◌, ◌<◌, ◌≤◌, ℕ, max, length, IfOk, OnErr, OnOk, slice_index, slice_set, if◌then◌else◌, ◌==◌};
+ghost use Rattle.std.specs.Prelude.{◌≡◌, ◌+◌, ◌*◌, ◌%◌, ◌^◌, ◌<◌, ◌≤◌, ℕ, max, length, slice_index, slice_set, if◌then◌else◌, ◌==◌};
 ghost use Rattle.core_events.specs.Tables.{HasCaller, HasWords};
 ghost use Rattle.cx_base.specs.Callers.{AreCallers};
 ghost use Rattle.cx_core.specs.declared.kinds.Kind.TheVariants.{WriteCell, Link, Look, ReadCell, LoadFree};
+ghost use Rattle.core_events.specs.Tries.{Tries};
 ghost use Rattle.cx_core.specs.Events.{Did};
-ghost use Rattle.cx_core.specs.Layout.{cell_count, link_at, replicas_at};
+ghost use Rattle.cx_core.specs.Layout.{cell_count, link_at};
 ghost use Rattle.cx_core.specs.QueueEvents.{exchanged, lost, linked, seen_word};
 ghost use Rattle.cx_core.specs.State.{EachScene};
 
@@ -52,8 +53,7 @@ pub(crate) fn link(
 ) -> Result<bool, AllocError>
     requires table { HasCaller callers words.old local.old }
     requires slots { OBJECT_START ≤ length base.now.words }
-    ensures ok { IfOk result (λ b. EachScene callers base.now words.old (λ instance scene. Did b instance scene (Link j) local.old local.new words.new)) }
-    ensures err { OnErr result ((local.new ≡ local.old) × (words.new ≡ words.old)) }
+    ensures { Tries result (λ b. EachScene callers base.now words.old (λ instance scene. Did b instance scene (Link j) local.old local.new words.new)) ((local.new ≡ local.old) × (words.new ≡ words.old)) }
 {
     if !can_link(callers, base, local, j) {
         return Ok(false);
@@ -67,8 +67,7 @@ fn exchange(callers: u32, words: &mut [u64], local: &mut Local, j: u64) -> Resul
     requires table { HasCaller callers words.old local.old }
     requires j { j < 16 }
     requires front { local.old.front < 2 ^ 40 }
-    ensures did { let at = link_at callers (local.old.front % cell_count callers) in let found = slice_index words.old at in OnOk result ((words.new ≡ slice_set words.old at (exchanged callers local.old j found)) × (local.new ≡ (if found == seen_word local.old.seen_slot then linked local.old j else lost callers local.old found))) }
-    ensures err { OnErr result ((local.new ≡ local.old) × (words.new ≡ words.old)) }
+    ensures { let at = link_at callers (local.old.front % cell_count callers) in let found = slice_index words.old at in Tries result (λ _. (words.new ≡ slice_set words.old at (exchanged callers local.old j found)) × (local.new ≡ (if found == seen_word local.old.seen_slot then linked local.old j else lost callers local.old found))) ((local.new ≡ local.old) × (words.new ≡ words.old)) }
 {
     let at = link_at(callers, local.front % cell_count(callers));
     let found = words[at];
@@ -86,8 +85,7 @@ fn exchange(callers: u32, words: &mut [u64], local: &mut Local, j: u64) -> Resul
 fn win(local: &mut Local, j: u64) -> Result<(), AllocError>
     requires j { j < 16 }
     requires front { local.old.front < 2 ^ 40 }
-    ensures ok { OnOk result (local.new ≡ linked local.old j) }
-    ensures err { OnErr result (local.new ≡ local.old) }
+    ensures { Tries result (λ _. local.new ≡ linked local.old j) (local.new ≡ local.old) }
 {
     let linked = Linked {
         ticket: local.front,

@@ -1,8 +1,9 @@
 //! The steps on the words of replicas: words are loaded, stored and persisted.
 
-ghost use Rattle.std.specs.Prelude.{◌≡◌, ◌*◌, ◌<◌, ◌≤◌, length, IfOk, OnErr, OnOk, ◌==◌, true, false};
+ghost use Rattle.std.specs.Prelude.{◌≡◌, ◌*◌, ◌<◌, length, ◌==◌, true, false};
 ghost use Rattle.cx_base.specs.Callers.{AreCallers};
 ghost use Rattle.cx_core.specs.declared.kinds.Kind.TheVariants.{LoadWord, StoreWord, Persist};
+ghost use Rattle.core_events.specs.Tries.{Tries};
 ghost use Rattle.cx_core.specs.Events.{Did};
 ghost use Rattle.cx_core.specs.Layout.{word_count};
 ghost use Rattle.cx_core.specs.RegionEvents.{loaded_by, loaded_into, persisted, stored_into};
@@ -29,8 +30,7 @@ pub(crate) fn load_word(
 ) -> Result<bool, AllocError>
     requires callers { AreCallers callers }
     requires long { length words.now ≡ word_count callers (length base.now.words) }
-    ensures ok { IfOk result (λ made. EachScene callers base.now words.now (λ instance scene. Did made instance scene (LoadWord r i refused) local.old local.new words.now)) }
-    ensures err { OnErr result (local.new ≡ local.old) }
+    ensures { Tries result (λ made. EachScene callers base.now words.now (λ instance scene. Did made instance scene (LoadWord r i refused) local.old local.new words.now)) (local.new ≡ local.old) }
 {
     if !can_load_as(callers, base, words, local, r, i, refused) {
         return Ok(false);
@@ -42,8 +42,7 @@ pub(crate) fn load_word(
 
 /// What a caller learns by a load. `Err` is want of memory, and nothing changed.
 fn learn(local: &mut Local, r: u64, i: u64, refused: bool, found: u64) -> Result<(), AllocError>
-    ensures ok { OnOk result (local.new ≡ loaded_by r i refused local.old found) }
-    ensures err { OnErr result (local.new ≡ local.old) }
+    ensures { Tries result (λ _. local.new ≡ loaded_by r i refused local.old found) (local.new ≡ local.old) }
 {
     if let Some(held) = &mut local.shared {
         note(held, r, i, found)?;
@@ -58,8 +57,7 @@ fn learn(local: &mut Local, r: u64, i: u64, refused: bool, found: u64) -> Result
 
 /// Adds a word to what was loaded of a replica, where it is of this one. `Err` is want of memory, and nothing changed.
 fn note(held: &mut HeldShared, r: u64, i: u64, found: u64) -> Result<(), AllocError>
-    ensures ok { OnOk result (held.new ≡ loaded_into r i found held.old) }
-    ensures err { OnErr result (held.new ≡ held.old) }
+    ensures { Tries result (λ _. held.new ≡ loaded_into r i found held.old) (held.new ≡ held.old) }
 {
     if held.replica == r {
         held.loaded.push((i, found))?;
@@ -79,8 +77,7 @@ pub(crate) fn store_word(
     v: u64,
 ) -> Result<bool, AllocError>
     requires long { length words.old ≡ word_count callers (length base.now.words) }
-    ensures ok { IfOk result (λ made. EachScene callers base.now words.old (λ instance scene. Did made instance scene (StoreWord r i v) local.old local.new words.new)) }
-    ensures err { OnErr result ((local.new ≡ local.old) × (words.new ≡ words.old)) }
+    ensures { Tries result (λ made. EachScene callers base.now words.old (λ instance scene. Did made instance scene (StoreWord r i v) local.old local.new words.new)) ((local.new ≡ local.old) × (words.new ≡ words.old)) }
 {
     if !can_store(callers, base, local, r, i) {
         return Ok(false);
@@ -96,8 +93,7 @@ pub(crate) fn store_word(
 
 /// Stores a word into what is held. `Err` is want of memory, and nothing changed.
 fn put(alloc: Global, held: &mut HeldExclusive, i: u64, v: u64) -> Result<(), AllocError>
-    ensures ok { OnOk result (held.new ≡ stored_into i v held.old) }
-    ensures err { OnErr result (held.new ≡ held.old) }
+    ensures { Tries result (λ _. held.new ≡ stored_into i v held.old) (held.new ≡ held.old) }
 {
     push_once(&mut held.dirty, i)?;
     let mut words = mem::replace(&mut held.words, Items::new(alloc)).into_vec();

@@ -5,7 +5,6 @@ ghost use Rattle.core_events.specs.Tables.{HasCaller, HasWords};
 ghost use Rattle.cx_base.specs.Callers.{AreCallers};
 ghost use Rattle.cx_core.specs.declared.kinds.Kind.TheVariants.{Protect, Confirm, Unprotect, CloseLow, Scan, OpenFree};
 ghost use Rattle.cx_core.specs.Events.{Did};
-ghost use Rattle.cx_core.specs.Layout.{replicas_at};
 ghost use Rattle.cx_core.specs.RingEvents.{bound_in, confirmed, confirmed_by, least_in, opened, scan_after, shows_outdated};
 ghost use Rattle.cx_core.specs.State.{EachScene};
 

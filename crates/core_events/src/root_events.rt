@@ -1,6 +1,6 @@
 //! The steps on the root: CUR is loaded and replaced, DUR is raised, and a win is retired.
 
-ghost use Rattle.std.specs.Prelude.{◌≡◌, ◌+◌, ◌*◌, ◌<◌, ◌≤◌, ◌∷◌, ◌++◌, [], ℕ, List, Option, Some, max, length, IfOk, OnErr, OnOk};
+ghost use Rattle.std.specs.Prelude.{◌≡◌, ◌+◌, ◌*◌, ◌<◌, ◌∷◌, ◌++◌, [], ℕ, List, Option, Some, max};
 ghost use Rattle.std.specs.Option.{option_to_list};
 ghost use Rattle.core_events.specs.Tables.{HasWords};
 ghost use Rattle.cx_base.specs.Callers.{AreCallers};
@@ -8,8 +8,8 @@ ghost use Rattle.core_events.specs.Codes.{HasCode};
 ghost use Rattle.core_events.specs.Told.{TellsAnswers};
 ghost use Rattle.cx_base.specs.Codes.{root_place_of};
 ghost use Rattle.cx_core.specs.declared.kinds.Kind.TheVariants.{LoadCur, Publish, Raise, Retire};
+ghost use Rattle.core_events.specs.Tries.{Tries};
 ghost use Rattle.cx_core.specs.Events.{Did};
-ghost use Rattle.cx_core.specs.Layout.{replicas_at};
 ghost use Rattle.cx_core.specs.RootEvents.{before_in, code_in, outrun, published, raised_floor};
 ghost use Rattle.cx_core.specs.State.{EachScene, one_more};
 
@@ -113,8 +113,7 @@ pub(crate) fn raise(
     told: Option<Acknowledged>,
 ) -> Result<bool, AllocError>
     requires table { HasWords callers words.old }
-    ensures ok { IfOk result (λ made. (base : _) → EachScene callers base words.old (λ instance scene. (read : Option (List ℕ)) → TellsAnswers told instance scene code read local.old → Did made instance scene (Raise code read) local.old local.new words.new)) }
-    ensures err { OnErr result ((local.new ≡ local.old) × (words.new ≡ words.old)) }
+    ensures { Tries result (λ made. (base : _) → EachScene callers base words.old (λ instance scene. (read : Option (List ℕ)) → TellsAnswers told instance scene code read local.old → Did made instance scene (Raise code read) local.old local.new words.new)) ((local.new ≡ local.old) × (words.new ≡ words.old)) }
 {
     let Some(answers) = told else {
         return Ok(false);
@@ -134,8 +133,7 @@ fn acknowledge(
     place: u64,
     told: Acknowledged,
 ) -> Result<(), AllocError>
-    ensures ok { let answers = option_to_list told.entry in let reads = option_to_list told.read in OnOk result (local.new ≡ record local.old { answered = local.old.answered ++ answers; seen_reads = local.old.seen_reads ++ reads; floor = raised_floor local.old.floor place answers reads }) }
-    ensures err { OnErr result (local.new ≡ local.old) }
+    ensures { let answers = option_to_list told.entry in let reads = option_to_list told.read in Tries result (λ _. local.new ≡ record local.old { answered = local.old.answered ++ answers; seen_reads = local.old.seen_reads ++ reads; floor = raised_floor local.old.floor place answers reads }) (local.new ≡ local.old) }
 {
     push_both(
         alloc,
@@ -158,8 +156,7 @@ fn push_both(
     reads: &mut Items<SeenRead>,
     read: Option<SeenRead>,
 ) -> Result<(), AllocError>
-    ensures ok { OnOk result ((answered.new ≡ answered.old ++ option_to_list answer) × (reads.new ≡ reads.old ++ option_to_list read)) }
-    ensures err { OnErr result ((answered.new ≡ answered.old) × (reads.new ≡ reads.old)) }
+    ensures { Tries result (λ _. (answered.new ≡ answered.old ++ option_to_list answer) × (reads.new ≡ reads.old ++ option_to_list read)) ((answered.new ≡ answered.old) × (reads.new ≡ reads.old)) }
 {
     if let Some(answer) = answer {
         answered.push(answer)?;

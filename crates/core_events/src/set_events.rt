@@ -1,12 +1,11 @@
 //! The steps on write sets: a set is written and offered, and its offer word and its words are loaded.
 
-ghost use Rattle.std.specs.Prelude.{◌≡◌, ◌<◌, ◌≤◌, length};
+ghost use Rattle.std.specs.Prelude.{◌<◌};
 ghost use Rattle.core_events.specs.Tables.{HasCaller, HasWords};
 ghost use Rattle.cx_base.specs.Callers.{AreCallers};
 ghost use Rattle.core_events.specs.Told.{TellsOfferWord};
 ghost use Rattle.cx_core.specs.declared.kinds.Kind.TheVariants.{WriteSet, Offer, LoadOffer, ReadSet};
 ghost use Rattle.cx_core.specs.Events.{Did};
-ghost use Rattle.cx_core.specs.Layout.{replicas_at};
 ghost use Rattle.cx_core.specs.State.{EachScene};
 
 use core_guards::sets::{can_load_offer, can_read_set, can_write_set};

@@ -1,7 +1,7 @@
 //! The word with which a set is offered, where that is allowed: whether the set's pairs lead from the full image at its ticket to the
 //! next.
 
-ghost use Rattle.std.specs.Prelude.{◌≡◌, ◌^◌, ◌<◌, ◌↔◌, ℕ, Bool, List, slice_get, IsTrue, IfOk, Some};
+ghost use Rattle.std.specs.Prelude.{◌^◌, ◌<◌, ◌↔◌, ℕ, Bool, List, IsTrue, IfOk, Some};
 ghost use Rattle.core_events.specs.Images.{HasTickets};
 ghost use Rattle.core_events.specs.Told.{TellsOfferWord};
 ghost use Rattle.cx_core.specs.Base.{LawfulBase};

@@ -1,10 +1,10 @@
 //! The state of a core: the shared words, and the local state of each caller.
 
-ghost use Rattle.std.specs.Prelude.{◌≡◌, ◌+◌, ◌*◌, ◌^◌, ◌<◌, ◌≤◌, ◌++◌, ◌∷◌, [], ℕ, length, replicate, IfOk, OnOk, slice_get, slice_index, slice_range};
+ghost use Rattle.std.specs.Prelude.{◌≡◌, ◌+◌, ◌*◌, ◌^◌, ◌<◌, ◌≤◌, ◌++◌, length, replicate, IfOk, OnOk, slice_index, slice_range};
 ghost use Rattle.cx_base.specs.Callers.{AreCallers};
 ghost use Rattle.cx_core.specs.Base.{LawfulBase};
-ghost use Rattle.cx_core.specs.Layout.{cell_count, cur_at, dur_at, low_at, free_at, link_at, lock_at, need_at, cell_at, offer_at, set_at, vol_at, per_at, word_count, max_word};
-ghost use Rattle.cx_core.specs.State.{copies, opening_local, opening_locals, opening_words, opening_state};
+ghost use Rattle.cx_core.specs.Layout.{cell_count, cur_at, dur_at, low_at, free_at, link_at, lock_at, need_at, cell_at, offer_at, set_at, vol_at, per_at, word_count};
+ghost use Rattle.cx_core.specs.State.{copies, opening_locals, opening_words, opening_state};
 
 use cx_base::{Items, Object, root_code};
 use cx_core::layout::{

@@ -3,7 +3,7 @@
 ghost use Rattle.std.specs.Prelude.{◌≡◌, ◌+◌, ◌%◌, ◌<◌, ◌≤◌, ◌↔◌, max, length, IsTrue, slice_index, ◌==◌};
 ghost use Rattle.cx_base.specs.Callers.{AreCallers};
 ghost use Rattle.cx_core.specs.Layout.{cell_count};
-ghost use Rattle.cx_core.specs.QueueEvents.{CanLink, IsIdle, next_number, ShowsOpen, ShowsTicket, cell_of, entry_in, linked, raised_front, seen_word};
+ghost use Rattle.cx_core.specs.QueueEvents.{CanLink, IsIdle, next_number, ShowsOpen, ShowsTicket, cell_of, entry_in, raised_front, seen_word};
 ghost use Rattle.cx_core.specs.RingEvents.{Protects};
 
 use cx_base::{link_cell, link_ticket};

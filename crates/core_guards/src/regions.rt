@@ -1,6 +1,6 @@
 //! What guards on the words of replicas ask of a caller's local state.
 
-ghost use Rattle.std.specs.Prelude.{◌≡◌, ◌*◌, ◌<◌, ◌≤◌, ◌↔◌, length, IsTrue, slice_index, ◌==◌, false};
+ghost use Rattle.std.specs.Prelude.{◌≡◌, ◌*◌, ◌<◌, ◌↔◌, length, IsTrue, slice_index, ◌==◌, false};
 ghost use Rattle.std.specs.List.{Contains};
 ghost use Rattle.cx_base.specs.Callers.{AreCallers};
 ghost use Rattle.cx_core.specs.Layout.{word_count};

@@ -1,9 +1,9 @@
 //! What guards on the ring ask of a caller's local state: its protection and its scan.
 
-ghost use Rattle.std.specs.Prelude.{◌≡◌, ◌+◌, ◌<◌, ◌≤◌, ◌↔◌, IsTrue};
+ghost use Rattle.std.specs.Prelude.{◌≡◌, ◌+◌, ◌<◌, ◌↔◌, IsTrue};
 ghost use Rattle.cx_base.specs.Callers.{AreCallers};
 ghost use Rattle.cx_core.specs.declared.kinds.Kind.TheVariants.{Scan};
-ghost use Rattle.cx_core.specs.RingEvents.{CanClose, IsNext, IsProtected, IsStated, IsUnprotected, bound_in, confirmed, confirmed_by, least_in, lesser, scan_after, shows_outdated};
+ghost use Rattle.cx_core.specs.RingEvents.{CanClose, IsNext, IsProtected, IsStated, IsUnprotected, bound_in, confirmed_by, least_in, lesser, scan_after, shows_outdated};
 
 use cx_base::root_place;
 use cx_core::{Local, Protection, SeenNeed};

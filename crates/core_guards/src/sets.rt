@@ -1,6 +1,6 @@
 //! What guards on write sets ask: of a caller's local state, and of a set's words between two regions.
 
-ghost use Rattle.std.specs.Prelude.{◌≡◌, ◌<◌, ◌≤◌, ◌↔◌, IsTrue};
+ghost use Rattle.std.specs.Prelude.{◌<◌, ◌↔◌, IsTrue};
 ghost use Rattle.cx_base.specs.Callers.{AreCallers};
 ghost use Rattle.cx_core.specs.Layout.{cell_count};
 ghost use Rattle.cx_core.specs.QueueEvents.{ShowsTicket};

@@ -56,7 +56,8 @@ pub(crate) enum Instruction {
 }
 
 impl<O: Object> Shared<O> {
-    /// What it is about is for the proofs alone, and so is the kind of an event below.
+    /// Makes an instruction, and gives the word found. What it is about is for the proofs alone, and so is the kind of an event
+    /// below.
     fn run<J: Named, A>(
         &self,
         seat: &mut Seat<u8, View>,
