@@ -1,16 +1,15 @@
-use Rattle.std.proofs.Common.{◌≡◌, ◌^◌, ◌*◌, ◌≤◌, ℕ, false, List, sym, ap, subst, ◌∙◌, arith, rules}
+use Rattle.std.proofs.Common.{◌≡◌, ◌^◌, ◌*◌, ◌≤◌, ℕ, false, List, ap, ◌∙◌, arith, rules}
 use Rattle.cx_base.specs.Memory.{Words, Becomes, Reads}
 use Rattle.cx_base.specs.Packing.{unpacked}
-use Rattle.cx_base.specs.Store.{Store, IsKey, IsDocument, lines_of}
+use Rattle.cx_base.specs.Store.{Store, lines_of}
 use Rattle.cx_base.proofs.MemoryLemmas.{Becomes-then, Becomes-weaker, always_at_most}
 use Rattle.cx_base.proofs.ReadLemmas.{Reads-with, Becomes-from-read, always_read, Reads-then}
 use Rattle.index_checks.specs.Layout.{StandsFor}
 use Rattle.word_index.specs.Exact.{inserted_in, with_document}
-use Rattle.word_index.specs.Insertion.{Inserts, LinesAt}
+use Rattle.word_index.specs.Insertion.{LinesAt}
 use Rattle.word_index.specs.Walk.{AtSpot, FewVisits}
-use Rattle.word_index.specs.declared.insertion.Inserted.{Inserted}
 use Rattle.word_index.proofs.Cutting.{visits_read}
-use Rattle.word_index.proofs.Inserting.{IsKnown, can_have_node, counted, used_few, can_add, can_refit, can_renew, exact_none, exact_new, exact_over, inserted_is}
+use Rattle.word_index.proofs.Inserting.{IsKnown, can_have_node, counted, used_few, can_add, can_refit, can_renew, exact_none, exact_new, exact_over}
 use Rattle.avl_words.proofs.Memories.{changed, storable, loadable}
 use Rattle.word_index.proofs.insertion.insert.Goals as goal
 

@@ -2,7 +2,7 @@ use Rattle.std.proofs.Common.{rules}
 use Rattle.cx_base.specs.Packing.{unpacked}
 use Rattle.cx_base.proofs.MemoryLemmas.{Becomes-then, Becomes-weaker}
 use Rattle.cx_base.proofs.ReadLemmas.{always_read, Reads-with, Becomes-from-read}
-use Rattle.word_index.proofs.Cutting.{can_cut, visits_read, removed, not_removed, removal_runs, no_removal_runs}
+use Rattle.word_index.proofs.Cutting.{can_cut, visits_read, removal_runs, no_removal_runs}
 use Rattle.avl_words.proofs.Memories.{changed, storable}
 use Rattle.word_index.proofs.removal.remove.Goals as goal
 
