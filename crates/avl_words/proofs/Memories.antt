@@ -1,7 +1,9 @@
 -- Lines of a memory, and changes by a function of the words.
-use Rattle.std.proofs.Common.{◌≡◌, ◌+◌, ◌*◌, ◌≤◌, ◌^◌, ℕ, List, sym, ap, ◌∙◌, subst, arith}
-use Rattle.cx_base.specs.Memory.{Words, Becomes, Reads, Always}
-use Rattle.avl_words.specs.Lines.{IsWithin, IsPartLength}
+use Rattle.std.proofs.Common.{◌≡◌, ◌+◌, ◌*◌, ◌≤◌, ◌^◌, ℕ, List, Some, Result, IfOk, OnErr, IsTrue, sym, ap, ◌∙◌, subst, arith}
+use Rattle.cx_base.specs.Calls.{Changes, Finds}
+use Rattle.cx_base.specs.Memory.{Words, Becomes, Framed, Reads, Always}
+use Rattle.cx_base.specs.declared.memory.Memory.{Ghosts}
+use Rattle.avl_words.specs.Lines.{CanLoad, CanStore, IsWithin, IsPartLength}
 use Rattle.cx_base.proofs.MemoryLemmas.{always_at_most}
 
 -- a line that is there in all the words that stand is within the memory, and its places are small
@@ -42,3 +44,18 @@ pub Becomes-behind : {Key : Type 0} {old mid new : Key → List ℕ → Type 0} 
 Becomes-behind S r b w = record {
   from = λ first now s. (let q = b.from first now s in let p = r.from first q.0 q.1 in (q.0, p.0, w q.0 now p.1 q.2));
 }
+
+-- the clauses of a call one by one; a line then stays one line
+module _ {Memory T E : Type 0} {m : Ghosts Memory} {old new : Memory} {result : Result T E} where
+  pub found : {Told : T → List ℕ → Type 0} → IfOk result (λ v. Reads (m.stands old) (m.stands new) (Told v)) → Becomes (m.stands old) (m.stands new) ◌≡◌ → OnErr result (m.left new ≡ Some 0) → Framed m.size m.fixed m.writable m.left old new → Finds m old new result Told
+  found d k h f = record { done = d; kept = k; halts = h; framed = f }
+
+  pub changed : {Related : T → List ℕ → List ℕ → Type 0} → IfOk result (λ v. Becomes (m.stands old) (m.stands new) (Related v)) → OnErr result (m.left new ≡ Some 0) → Framed m.size m.fixed m.writable m.left old new → Changes m old new result Related
+  changed d h f = record { done = d; halts = h; framed = f }
+
+module _ {Memory : Type 0} {m : Ghosts Memory} {memory : Memory} {P : List ℕ → Type 0} where
+  pub loadable : IsPartLength (m.size memory) → Always (m.stands memory) P → CanLoad m memory P
+  loadable s a = record { sized = s; all = a }
+
+  pub storable : IsPartLength (m.size memory) → IsTrue (m.writable memory) → Always (m.stands memory) P → CanStore m memory P
+  storable s w a = record { sized = s; writable = w; all = a }

@@ -1,9 +1,8 @@
 //! The blocks of a chain get other words.
 
-ghost use Rattle.std.specs.Prelude.{◌≡◌, ◌*◌, ◌≤◌, ◌^◌, length};
+ghost use Rattle.std.specs.Prelude.{◌≡◌, ◌≤◌, ◌^◌};
 ghost use Rattle.cx_base.specs.Calls.{Changes};
-ghost use Rattle.cx_base.specs.Memory.{overwritten};
-ghost use Rattle.avl_words.specs.Lines.{CanStore, IsWithin};
+ghost use Rattle.avl_words.specs.Lines.{CanStore};
 ghost use Rattle.word_index.specs.Exact.{with_chain_filled};
 ghost use Rattle.word_index.specs.Rewriting.{HasLines};
 

@@ -1,6 +1,6 @@
 //! Lines that are given back.
 
-ghost use Rattle.std.specs.Prelude.{◌≡◌, ℕ, IfOk};
+ghost use Rattle.std.specs.Prelude.{◌≡◌, IfOk};
 ghost use Rattle.cx_base.specs.Calls.{Changes};
 ghost use Rattle.cx_base.specs.Memory.{Becomes};
 ghost use Rattle.avl_words.specs.Lines.{CanStore};

@@ -1,11 +1,9 @@
 //! Lines of a pair are given back.
 
-ghost use Rattle.std.specs.Prelude.{◌≡◌, ◌+◌, ◌*◌, ◌<◌, ◌≤◌, ℕ, IfOk};
+ghost use Rattle.std.specs.Prelude.{◌≡◌, ◌<◌, IfOk};
 ghost use Rattle.cx_base.specs.Calls.{Changes};
 ghost use Rattle.cx_base.specs.Memory.{Becomes};
-ghost use Rattle.cx_base.specs.Packing.{unpacked};
-ghost use Rattle.avl_words.specs.Lines.{CanStore, word_of};
-ghost use Rattle.index_checks.specs.Layout.{IsIndex};
+ghost use Rattle.avl_words.specs.Lines.{CanStore};
 ghost use Rattle.word_index.specs.Changes.{LooseText, TextGiven, HasLoosePair, PairGiven};
 ghost use Rattle.word_index.specs.Exact.{with_text_given, with_pair_given};
 

@@ -1,17 +1,16 @@
 //! A pair is put in.
 
-ghost use Rattle.std.specs.Prelude.{◌≡◌, ◌≢◌, ◌+◌, ◌-◌, ◌*◌, ◌≤◌, ℕ, List, IfOk, length};
+ghost use Rattle.std.specs.Prelude.{◌≡◌, ◌≢◌, ◌-◌, ◌*◌, ◌≤◌, ℕ, List, IfOk};
 ghost use Rattle.cx_base.specs.Calls.{Changes, Finds};
 ghost use Rattle.cx_base.specs.Memory.{Becomes};
 ghost use Rattle.cx_base.specs.Packing.{unpacked};
-ghost use Rattle.cx_base.specs.Store.{Store, IsKey, IsDocument, lines_of, pair_lines};
-ghost use Rattle.doc_model.specs.Meaning.{with_pair};
+ghost use Rattle.cx_base.specs.Store.{Store, lines_of, pair_lines};
 ghost use Rattle.avl_words.specs.Lines.{CanLoad, CanStore};
 ghost use Rattle.index_checks.specs.Layout.{IsIndex, StandsFor};
 ghost use Rattle.word_index.specs.Answers.{IsPacked, IsPackedPair, IsNodeOf};
 ghost use Rattle.word_index.specs.Exact.{with_new_pair, inserted_in, with_document};
 ghost use Rattle.word_index.specs.Fresh.{CanTake};
-ghost use Rattle.word_index.specs.Insertion.{PairWritten, CanAdd, Adds, Inserts, LinesAt};
+ghost use Rattle.word_index.specs.Insertion.{PairWritten, CanAdd, Adds, LinesAt};
 ghost use Rattle.word_index.specs.Walk.{HasNode, FewVisits, Walked};
 
 use crate::rewriting::{refit, rewrite};

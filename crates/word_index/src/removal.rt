@@ -6,7 +6,6 @@ ghost use Rattle.cx_base.specs.Memory.{Becomes};
 ghost use Rattle.cx_base.specs.Packing.{unpacked};
 ghost use Rattle.avl_words.specs.Lines.{CanStore};
 ghost use Rattle.index_checks.specs.Layout.{IsIndex};
-ghost use Rattle.word_index.specs.Changes.{IsRemoved};
 ghost use Rattle.word_index.specs.Exact.{is_key_in, with_key_removed};
 ghost use Rattle.word_index.specs.Removal.{CanCut, Cuts, TakesOut};
 ghost use Rattle.word_index.specs.Walk.{FewVisits, Walked};

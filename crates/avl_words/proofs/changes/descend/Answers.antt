@@ -3,6 +3,7 @@ use Rattle.std.proofs.Common.{rules, ◌∙◌, ◌≤◌, ◌<◌, arith}
 use Rattle.std.proofs.Math.ListN.{length-set}
 use Rattle.avl_words.proofs.Leaving.{descending_begins, descending_ends, descending_on, descending_within, descending_deep}
 use Rattle.cx_base.proofs.ReadLemmas.{kept_then, Reads-none, Reads-load, Reads-weaker, Reads-with, always_read}
+use Rattle.avl_words.proofs.Memories.{found, loadable}
 use Rattle.avl_words.proofs.changes.descend.Goals as goal
 
 pub loop-depth-init : goal.loop-depth-init
@@ -19,12 +20,12 @@ pub word-requires-clause-memory : goal.word-requires-clause-memory
 word-requires-clause-memory g c =
     let l = c.loop-depth in
     let w = c.args.way.now in
-    record { sized = search rules; all = always_read c.requires.memory.all l.invariant.done (λ ws h o. (let d = o h.way h.left h.item h.right h.below in descending_within ws l.way.nodes l.way.sides l.depth l.least h.way h.left h.item h.right d)) }
+    loadable (search rules) (always_read c.requires.memory.all l.invariant.done (λ ws h o. (let d = o h.way h.left h.item h.right h.below in descending_within ws l.way.nodes l.way.sides l.depth l.least h.way h.left h.item h.right d)))
 
 pub returns-then-left-eq0-clause-finds : goal.returns-then-left-eq0-clause-finds
 returns-then-left-eq0-clause-finds g c =
     let l = c.loop-depth in
-    record { done = Reads-load l.invariant.done c.in_ok-left.ensures.done (λ ws o e way cc z d b. descending_ends ws l.way.nodes l.way.sides l.depth l.least c.in_ok-left.left way cc z d (o way cc z d b) e c.if-left-eq0.true); kept = search rules; halts = search rules; framed = search rules }
+    found (Reads-load l.invariant.done c.in_ok-left.ensures.done (λ ws o e way cc z d b. descending_ends ws l.way.nodes l.way.sides l.depth l.least c.in_ok-left.left way cc z d (o way cc z d b) e c.if-left-eq0.true)) (search rules) (search rules) (search rules)
 
 pub loop-depth-preserved : goal.loop-depth-preserved
 loop-depth-preserved g c =
@@ -46,4 +47,4 @@ returns-clause-finds g c =
     let l = c.loop-depth in
     let w = c.args.way.now in
     let deep : 64 ≤ l.depth = omega (arith, c.loop-depth-test.false) in
-    record { done = Reads-weaker (Reads-with c.requires.memory.all l.invariant.done) (λ ws p. absurd (descending_deep ws w.nodes w.sides w.depth c.args.node l.way.nodes l.way.sides l.depth l.least p.0 deep p.1)); kept = search rules; halts = search rules; framed = search rules }
+    found (Reads-weaker (Reads-with c.requires.memory.all l.invariant.done) (λ ws p. absurd (descending_deep ws w.nodes w.sides w.depth c.args.node l.way.nodes l.way.sides l.depth l.least p.0 deep p.1))) (search rules) (search rules) (search rules)

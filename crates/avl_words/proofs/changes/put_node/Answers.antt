@@ -1,6 +1,7 @@
 use Rattle.std.proofs.Common.{rules}
 use Rattle.cx_base.proofs.MemoryLemmas.{Becomes-then, always_at_most}
 use Rattle.avl_words.proofs.Putting.{can_mend_leaf, put_depth, puts}
+use Rattle.avl_words.proofs.Memories.{changed, storable}
 use Rattle.avl_words.proofs.changes.put_node.Goals as goal
 
 pub mend-requires-clause-depth : goal.mend-requires-clause-depth
@@ -12,9 +13,9 @@ mend-requires-clause-depth g c =
 pub mend-requires-clause-memory : goal.mend-requires-clause-memory
 mend-requires-clause-memory g c =
     let w = c.args.way.now in
-    record { sized = search rules; writable = search rules; all = λ first now s. can_mend_leaf now w.nodes w.sides w.depth c.args.node (c.requires.all first now s) }
+    storable (search rules) (search rules) (λ first now s. can_mend_leaf now w.nodes w.sides w.depth c.args.node (c.requires.all first now s))
 
 pub returns : goal.returns
 returns g c =
     let w = c.args.way.now in
-    record { done = Becomes-then c.in_ok-top.ensures.done c.in_ok-put_new.ensures.done (λ x y z m e. puts x y z w.nodes w.sides w.depth c.args.node c.in_ok-top.top m e); halts = search rules; framed = search rules }
+    changed (Becomes-then c.in_ok-top.ensures.done c.in_ok-put_new.ensures.done (λ x y z m e. puts x y z w.nodes w.sides w.depth c.args.node c.in_ok-top.top m e)) (search rules) (search rules)

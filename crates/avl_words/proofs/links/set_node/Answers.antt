@@ -3,6 +3,7 @@ use Rattle.cx_base.proofs.MemoryLemmas.{Becomes-then, always_at_most}
 use Rattle.cx_base.proofs.ReadLemmas.{Reads-none, Becomes-from-read}
 use Rattle.avl_words.specs.Lines.{with_word}
 use Rattle.avl_words.specs.Links.{high_of, with_node, CanSet}
+use Rattle.avl_words.proofs.Memories.{changed}
 use Rattle.avl_words.proofs.links.set_node.Goals as goal
 
 pub overflow_add-height : goal.overflow_add-height
@@ -31,9 +32,5 @@ returns-clause-changes g c =
     let b1 = Becomes-then {T = λ x z. (y : List ℕ) × ((y ≡ x) × CanSet y node a.root a.height b.root b.height) × (z ≡ with_word node c.args.side a.root y)} b0 c.in_ok-put_new.ensures.done (λ x y z p q. (y, p, q)) in
     let b2 = Becomes-then {T = λ x w. (y : List ℕ) × (z : List ℕ) × ((y ≡ x) × CanSet y node a.root a.height b.root b.height) × (z ≡ with_word node c.args.side a.root y) × (w ≡ with_word node (1 - c.args.side) b.root z)}
     b1 c.in_ok-put_new-2.ensures.done (λ x z w p q. (p.0, z, p.1, p.2, q)) in
-    record {
-      done = Becomes-then b2 c.in_ok-put_new-3.ensures.done
-          (λ x w v p q. sets node c.args.side a.root a.height b.root b.height (1 + c.max-height.result) x p.0 p.1 w v p.2 (omega (arith, c.max-height.ensures)) p.3 p.4 q);
-      halts = search rules;
-      framed = search rules;
-    }
+    changed (Becomes-then b2 c.in_ok-put_new-3.ensures.done
+    (λ x w v p q. sets node c.args.side a.root a.height b.root b.height (1 + c.max-height.result) x p.0 p.1 w v p.2 (omega (arith, c.max-height.ensures)) p.3 p.4 q)) (search rules) (search rules)

@@ -2,6 +2,7 @@ use Rattle.std.proofs.Common.{rules, ◌≡◌, ◌+◌, ◌-◌, ℕ, List, get
 use Rattle.cx_base.proofs.MemoryLemmas.{Becomes-then, Becomes-both, Becomes-loaded, Becomes-weaker, Framed-same, Framed-then, always_after, always_below}
 use Rattle.avl_words.specs.Mending.{Mending}
 use Rattle.avl_words.proofs.Rising.{mending_begins, mending_goes_on, mending_ends, mending_stops, can_go_on, can_relink, side_below, node_within}
+use Rattle.avl_words.proofs.Memories.{changed, storable, loadable}
 use Rattle.avl_words.proofs.mending.mend.Goals as goal
 
 begins : (ws nodes sides : List ℕ) (depth settled node high : ℕ) → Mending nodes sides depth settled node high (depth - 0) node high ws ws
@@ -19,7 +20,7 @@ word-requires-clause-memory g c =
     let l = c.loop-i in
     let w = c.args.way.now in
     let t = c.args.tree in
-    record { sized = search rules; all = always_after c.requires.memory.all l.invariant.done (λ x y p m. node_within x y w.nodes w.sides w.depth c.args.settled t.root t.height (w.depth - l.i) l.top.root l.top.height p m (omega (arith, c.loop-i-test.true))) }
+    loadable (search rules) (always_after c.requires.memory.all l.invariant.done (λ x y p m. node_within x y w.nodes w.sides w.depth c.args.settled t.root t.height (w.depth - l.i) l.top.root l.top.height p m (omega (arith, c.loop-i-test.true))))
 
 pub hang-requires-clause-side : goal.hang-requires-clause-side
 hang-requires-clause-side g c =
@@ -34,12 +35,8 @@ hang-requires-clause-memory g c =
     let l = c.loop-i in
     let w = c.args.way.now in
     let t = c.args.tree in
-    record {
-      sized = search rules;
-      writable = search rules;
-      all = always_after c.requires.memory.all (Becomes-loaded l.invariant.done c.in_ok-high.ensures.done)
-          (λ x y p m. can_go_on x y w.nodes w.sides w.depth c.args.settled t.root t.height (w.depth - l.i) l.top.root l.top.height p m.0 (omega (arith, c.loop-i-test.true)));
-    }
+    storable (search rules) (search rules) (always_after c.requires.memory.all (Becomes-loaded l.invariant.done c.in_ok-high.ensures.done)
+    (λ x y p m. can_go_on x y w.nodes w.sides w.depth c.args.settled t.root t.height (w.depth - l.i) l.top.root l.top.height p m.0 (omega (arith, c.loop-i-test.true))))
 
 pub relink-requires-clause-memory : goal.relink-requires-clause-memory
 relink-requires-clause-memory g c =
@@ -47,13 +44,9 @@ relink-requires-clause-memory g c =
     let w = c.args.way.now in
     let t = c.args.tree in
     let top = c.in_ok-top.top in
-    record {
-      sized = search rules;
-      writable = search rules;
-      all = always_after c.requires.memory.all (Becomes-both (Becomes-loaded l.invariant.done c.in_ok-high.ensures.done) c.in_ok-top.ensures.done)
-          (λ x z p m. can_relink x m.0 z w.nodes w.sides w.depth c.args.settled t.root t.height (w.depth - l.i) l.top.root l.top.height top.root top.height c.in_ok-high.high p m.1.0
-          (omega (arith, c.loop-i-test.true)) (omega (arith, c.if-last-settled.true)) m.1.1 c.if-top-high.true m.2);
-    }
+    storable (search rules) (search rules) (always_after c.requires.memory.all (Becomes-both (Becomes-loaded l.invariant.done c.in_ok-high.ensures.done) c.in_ok-top.ensures.done)
+    (λ x z p m. can_relink x m.0 z w.nodes w.sides w.depth c.args.settled t.root t.height (w.depth - l.i) l.top.root l.top.height top.root top.height c.in_ok-high.high p m.1.0
+    (omega (arith, c.loop-i-test.true)) (omega (arith, c.if-last-settled.true)) m.1.1 c.if-top-high.true m.2))
 
 pub returns-then-top-high : goal.returns-then-top-high
 returns-then-top-high g c =
@@ -61,13 +54,9 @@ returns-then-top-high g c =
     let w = c.args.way.now in
     let t = c.args.tree in
     let top = c.in_ok-top.top in
-    record {
-      done = Becomes-then (Becomes-both (Becomes-loaded l.invariant.done c.in_ok-high.ensures.done) c.in_ok-top.ensures.done) c.in_ok-root.ensures.done
-          (λ x z u m r. mending_stops x m.0 z u w.nodes w.sides w.depth c.args.settled t.root t.height (w.depth - l.i) l.top.root l.top.height top.root top.height c.in_ok-high.high c.in_ok-root.root m.1.0
-          (omega (arith, c.loop-i-test.true)) (omega (arith, c.if-last-settled.true)) m.1.1 c.if-top-high.true m.2 r);
-      halts = search rules;
-      framed = search rules;
-    }
+    changed (Becomes-then (Becomes-both (Becomes-loaded l.invariant.done c.in_ok-high.ensures.done) c.in_ok-top.ensures.done) c.in_ok-root.ensures.done
+    (λ x z u m r. mending_stops x m.0 z u w.nodes w.sides w.depth c.args.settled t.root t.height (w.depth - l.i) l.top.root l.top.height top.root top.height c.in_ok-high.high c.in_ok-root.root m.1.0
+    (omega (arith, c.loop-i-test.true)) (omega (arith, c.if-last-settled.true)) m.1.1 c.if-top-high.true m.2 r)) (search rules) (search rules)
 
 pub loop-i-preserved : goal.loop-i-preserved
 loop-i-preserved g c =
@@ -90,9 +79,5 @@ returns g c =
     let w = c.args.way.now in
     let t = c.args.tree in
     let none : w.depth - l.i ≡ 0 = omega (arith, c.loop-i-test.false) in
-    record {
-      done = Becomes-weaker l.invariant.done (λ first x y s m.
-          mending_ends x y w.nodes w.sides w.depth c.args.settled t.root t.height l.top.root l.top.height (subst (λ k. Mending w.nodes w.sides w.depth c.args.settled t.root t.height k l.top.root l.top.height x y) none m));
-      halts = search rules;
-      framed = search rules;
-    }
+    changed (Becomes-weaker l.invariant.done (λ first x y s m.
+    mending_ends x y w.nodes w.sides w.depth c.args.settled t.root t.height l.top.root l.top.height (subst (λ k. Mending w.nodes w.sides w.depth c.args.settled t.root t.height k l.top.root l.top.height x y) none m))) (search rules) (search rules)

@@ -3,7 +3,7 @@ use Rattle.cx_base.specs.Packing.{unpacked}
 use Rattle.cx_base.specs.Store.{Store}
 use Rattle.doc_model.specs.Meaning.{pairs_above}
 use Rattle.cx_base.proofs.ReadLemmas.{Reads-weaker, Reads-then, always_read}
-use Rattle.avl_words.proofs.Memories.{always_kept}
+use Rattle.avl_words.proofs.Memories.{always_kept, found, loadable}
 use Rattle.word_index.specs.Answers.{IsNodeOf, IsPackOf}
 use Rattle.word_index.specs.Walk.{IsFirstNode}
 use Rattle.word_index.proofs.KeyPlaces.{spot_above, there_first}
@@ -22,30 +22,22 @@ pub returns-then-end-eq0-clause-finds : goal.returns-then-end-eq0-clause-finds
 returns-then-end-eq0-clause-finds g c =
     let end = c.in_ok-end.end in
     let key = unpacked c.args.key.now.len c.args.key.now.words in
-    record { done = Reads-weaker c.in_ok-end.ensures.finds.done (λ ws f version store s. none_there ws end.above (pairs_above key store) c.if-end-eq0.true (spot_above ws key f.nodes f.sides f.depth end.node end.above f.at version store s)); kept = search rules; halts = search rules; framed = search rules }
+    found (Reads-weaker c.in_ok-end.ensures.finds.done (λ ws f version store s. none_there ws end.above (pairs_above key store) c.if-end-eq0.true (spot_above ws key f.nodes f.sides f.depth end.node end.above f.at version store s))) (search rules) (search rules) (search rules)
 
 pub key_at-requires : goal.key_at-requires
 key_at-requires g c =
     let end = c.in_ok-end.end in
     let key = unpacked c.args.key.now.len c.args.key.now.words in
-    record {
-      sized = search rules;
-      all = always_read c.requires.memory.all c.in_ok-end.ensures.finds.done
-          (λ ws i f. there_first ws end.above (pairs_above key i.store) (spot_above ws key f.nodes f.sides f.depth end.node end.above f.at i.version i.store i.stands) c.if-end-eq0.false);
-    }
+    loadable (search rules) (always_read c.requires.memory.all c.in_ok-end.ensures.finds.done
+    (λ ws i f. there_first ws end.above (pairs_above key i.store) (spot_above ws key f.nodes f.sides f.depth end.node end.above f.at i.version i.store i.stands) c.if-end-eq0.false))
 
 pub returns-clause-finds : goal.returns-clause-finds
 returns-clause-finds g c =
     let end = c.in_ok-end.end in
     let key = unpacked c.args.key.now.len c.args.key.now.words in
-    let found = c.in_ok-key.key in
-    record {
-      done = Reads-then c.in_ok-end.ensures.finds.done c.in_ok-key.ensures.done
-          (λ ws f k version store s. key_of_first ws end.above found.len found.words (pairs_above key store) c.if-end-eq0.false (spot_above ws key f.nodes f.sides f.depth end.node end.above f.at version store s) k);
-      kept = search rules;
-      halts = search rules;
-      framed = search rules;
-    }
+    let least = c.in_ok-key.key in
+    found (Reads-then c.in_ok-end.ensures.finds.done c.in_ok-key.ensures.done
+    (λ ws f k version store s. key_of_first ws end.above least.len least.words (pairs_above key store) c.if-end-eq0.false (spot_above ws key f.nodes f.sides f.depth end.node end.above f.at version store s) k)) (search rules) (search rules) (search rules)
 
 pub returns-in_err-key-clause-visits : goal.returns-in_err-key-clause-visits
 returns-in_err-key-clause-visits g c = always_kept c.in_ok-end.ensures.visits c.in_err-key.ensures.kept

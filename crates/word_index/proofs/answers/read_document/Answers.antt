@@ -7,6 +7,7 @@ use Rattle.cx_base.proofs.ReadLemmas.{Reads-weaker}
 use Rattle.index_checks.specs.Blocks.{HasText, IsText}
 use Rattle.word_index.specs.Answers.{IsPackOf}
 use Rattle.word_index.proofs.NodeReads.{has_document, document_text}
+use Rattle.avl_words.proofs.Memories.{found, loadable}
 use Rattle.word_index.proofs.answers.read_document.Goals as goal
 
 pub read_text-requires-clause-zero : goal.read_text-requires-clause-zero
@@ -17,16 +18,11 @@ read_text-requires-clause-zero g c =
 pub read_text-requires-clause-memory : goal.read_text-requires-clause-memory
 read_text-requires-clause-memory g c =
     let long : length c.args.into.now ≡ 128 = ap length c.requires.zero ∙ length-replicate {A = ℕ} 128 0 in
-    record { sized = search rules; all = λ first now s. subst (HasText now c.args.node 5) (sym long) (has_document now c.args.node (c.requires.memory.all first now s)) }
+    loadable (search rules) (λ first now s. subst (HasText now c.args.node 5) (sym long) (has_document now c.args.node (c.requires.memory.all first now s)))
 
 pub returns : goal.returns
 returns g c =
     let long : length c.args.into.now ≡ 128 = ap length c.requires.zero ∙ length-replicate {A = ℕ} 128 0 in
-    record {
-      done = IfOk-weaker c.read_text.result
-          (λ len. Reads (g.M.Memory.stands c.args.mem.now) (g.M.Memory.stands c.read_text.new.mem) (λ ws. (lines bytes : List ℕ) → IsText ws c.args.node 5 lines bytes → IsPackOf (length c.args.into.now) len c.read_text.new.into bytes)) _
-          (λ len r. Reads-weaker r (λ ws p pair is. subst (λ n. IsPackOf n len c.read_text.new.into pair.1) long (p is.place.document_lines pair.1 (document_text ws c.args.node pair is)))) c.read_text.ensures.done;
-      kept = search rules;
-      halts = search rules;
-      framed = search rules;
-    }
+    found (IfOk-weaker c.read_text.result
+    (λ len. Reads (g.M.Memory.stands c.args.mem.now) (g.M.Memory.stands c.read_text.new.mem) (λ ws. (lines bytes : List ℕ) → IsText ws c.args.node 5 lines bytes → IsPackOf (length c.args.into.now) len c.read_text.new.into bytes)) _
+    (λ len r. Reads-weaker r (λ ws p pair is. subst (λ n. IsPackOf n len c.read_text.new.into pair.1) long (p is.place.document_lines pair.1 (document_text ws c.args.node pair is)))) c.read_text.ensures.done) (search rules) (search rules) (search rules)

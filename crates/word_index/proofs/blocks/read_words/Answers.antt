@@ -4,6 +4,7 @@ use Rattle.std.proofs.lemmas.List.{length-set, get_or-set_other}
 use Rattle.cx_base.specs.Packing.{packed}
 use Rattle.cx_base.proofs.ReadLemmas.{kept_then, Reads-loaded, Reads-then, Reads-weaker}
 use Rattle.index_checks.proofs.BlockReads.{read_more, read_all}
+use Rattle.avl_words.proofs.Memories.{found}
 use Rattle.word_index.proofs.blocks.read_words.Goals as goal
 
 pub loop-i-preserved : goal.loop-i-preserved
@@ -29,10 +30,5 @@ returns g c =
     let i = c.loop-i.invariant in
     let e : c.loop-i.i ≡ c.args.count = omega arith in
     let long : length c.loop-i.into ≡ length c.args.into.now = c.loop-i.auto.into in
-    record {
-      done = Reads-weaker i.done (λ ws p lines bytes h counted. subst (λ n. c.loop-i.into ≡ packed n bytes) long
-          (read_all ws c.args.first c.args.count c.loop-i.i c.loop-i.line c.loop-i.into e p i.rest lines bytes h counted));
-      kept = search rules;
-      halts = search rules;
-      framed = search rules;
-    }
+    found (Reads-weaker i.done (λ ws p lines bytes h counted. subst (λ n. c.loop-i.into ≡ packed n bytes) long
+    (read_all ws c.args.first c.args.count c.loop-i.i c.loop-i.line c.loop-i.into e p i.rest lines bytes h counted))) (search rules) (search rules) (search rules)

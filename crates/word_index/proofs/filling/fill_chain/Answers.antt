@@ -1,7 +1,7 @@
 use Rattle.std.proofs.Common.{◌≡◌, ◌+◌, ◌-◌, suc, subst, rules, arith}
 use Rattle.cx_base.proofs.MemoryLemmas.{Becomes-same, Becomes-then, Becomes-weaker, Becomes-loaded, always_after, Framed-same, Framed-then}
 use Rattle.cx_base.proofs.ReadLemmas.{Reads-none, Reads-loaded, Reads-weaker}
-use Rattle.avl_words.proofs.Memories.{always_said}
+use Rattle.avl_words.proofs.Memories.{always_said, changed, loadable, storable}
 use Rattle.word_index.specs.Exact.{with_chain_filled}
 use Rattle.word_index.specs.Rewriting.{HasLines}
 use Rattle.word_index.proofs.Refilling.{line_there, lines_on, fill_begins, fill_goes_on, fill_ends}
@@ -20,13 +20,13 @@ pub word-requires-clause-memory : goal.word-requires-clause-memory
 word-requires-clause-memory g c =
     let l = c.loop-j in
     let less : c.args.count - l.j ≡ suc (c.args.count - (l.j + 1)) = (let t = c.loop-j-test.true in omega arith) in
-    record { sized = search rules; all = λ first now s. line_there now l.line (c.args.count - l.j) (c.args.count - (l.j + 1)) (l.invariant.there first now s) less }
+    loadable (search rules) (λ first now s. line_there now l.line (c.args.count - l.j) (c.args.count - (l.j + 1)) (l.invariant.there first now s) less)
 
 pub put_line-requires : goal.put_line-requires
 put_line-requires g c =
     let l = c.loop-j in
     let less : c.args.count - l.j ≡ suc (c.args.count - (l.j + 1)) = (let t = c.loop-j-test.true in omega arith) in
-    record { sized = search rules; writable = search rules; all = always_said (Reads-weaker (Reads-loaded (Reads-none _ l.invariant.there) c.in_ok-next.ensures.done) (λ ws p. line_there ws l.line (c.args.count - l.j) (c.args.count - (l.j + 1)) p.0 less)) }
+    storable (search rules) (search rules) (always_said (Reads-weaker (Reads-loaded (Reads-none _ l.invariant.there) c.in_ok-next.ensures.done) (λ ws p. line_there ws l.line (c.args.count - l.j) (c.args.count - (l.j + 1)) p.0 less)))
 
 pub loop-j-preserved : goal.loop-j-preserved
 loop-j-preserved g c =
@@ -48,4 +48,4 @@ loop-j-preserved g c =
 pub returns : goal.returns
 returns g c =
     let l = c.loop-j in
-    record { done = Becomes-weaker l.invariant.exact (λ first x y s r. fill_ends c.args.words.now c.args.count l.j l.line y (with_chain_filled c.args.words.now c.args.count 0 c.args.first x) (omega arith) r); halts = search rules; framed = search rules }
+    changed (Becomes-weaker l.invariant.exact (λ first x y s r. fill_ends c.args.words.now c.args.count l.j l.line y (with_chain_filled c.args.words.now c.args.count 0 c.args.first x) (omega arith) r)) (search rules) (search rules)

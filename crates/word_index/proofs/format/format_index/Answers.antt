@@ -2,6 +2,7 @@ use Rattle.std.proofs.Common.{rules, sym, arith, subst}
 use Rattle.cx_base.proofs.MemoryLemmas.{Becomes-same, Becomes-store, Becomes-weaker, Framed-access, Framed-same, Framed-then}
 use Rattle.avl_words.specs.Lines.{IsPartLength}
 use Rattle.word_index.proofs.Arrangements.{empty_begins, empty_more, empty_stands, empty_done}
+use Rattle.avl_words.proofs.Memories.{changed}
 use Rattle.word_index.proofs.format.format_index.Goals as goal
 
 pub loop-at-init : goal.loop-at-init
@@ -27,12 +28,8 @@ loop-at-preserved g c =
 pub returns-clause-changes : goal.returns-clause-changes
 returns-clause-changes g c =
     let i = c.loop-at.invariant in
-    record {
-      done = Becomes-weaker i.done (λ first x y s r.
-          empty_stands c.args.version c.loop-at.at x y (omega arith) (subst IsPartLength (sym (g.met.M.Memory.words c.loop-at.mem first y s).long) i.sized) r);
-      halts = search rules;
-      framed = search rules;
-    }
+    changed (Becomes-weaker i.done (λ first x y s r.
+    empty_stands c.args.version c.loop-at.at x y (omega arith) (subst IsPartLength (sym (g.met.M.Memory.words c.loop-at.mem first y s).long) i.sized) r)) (search rules) (search rules)
 
 pub returns-clause-exact : goal.returns-clause-exact
 returns-clause-exact g c =

@@ -3,6 +3,7 @@ use Rattle.cx_base.proofs.MemoryLemmas.{Becomes-same, Becomes-store, Becomes-loa
 use Rattle.cx_base.proofs.ReadLemmas.{Reads-none, Reads-loaded}
 use Rattle.avl_words.specs.Lines.{with_word, word_of}
 use Rattle.word_index.specs.Changes.{with_given, CanGive}
+use Rattle.avl_words.proofs.Memories.{changed}
 use Rattle.word_index.proofs.given_back.give_back.Goals as goal
 
 small : (ws : List ℕ) (line number : ℕ) → CanGive ws line → word_of ws 0 4 ≡ number → number ≤ 2 ^ 32
@@ -49,4 +50,4 @@ returns g c =
     let b = Becomes-loaded (Becomes-loaded (Becomes-same _) c.in_ok-head.ensures.done) c.in_ok-number.ensures.done in
     let p = Becomes-store {S = AfterFirst line head number} b c.in_ok-put.ensures.done (λ first x y s r. first_store line head number x y r) in
     let q = Becomes-store {S = AfterSecond line head number} p c.in_ok-put-2.ensures.done (λ first x y s r. second_store line head number x y r) in
-    record { done = Becomes-store q c.in_ok-put-3.ensures.done (λ first x y s r. third_store line head number x y r); halts = search rules; framed = search rules }
+    changed (Becomes-store q c.in_ok-put-3.ensures.done (λ first x y s r. third_store line head number x y r)) (search rules) (search rules)

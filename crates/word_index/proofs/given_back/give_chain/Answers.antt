@@ -3,6 +3,7 @@ use Rattle.cx_base.proofs.MemoryLemmas.{Becomes-same, Becomes-then, Becomes-weak
 use Rattle.word_index.proofs.ExactRuns.{chain_begins, chain_goes_on, chain_ends}
 use Rattle.word_index.proofs.Giving.{so_far_none, next_can_be_given, so_far_more, so_far_all}
 use Rattle.word_index.specs.Exact.{with_chain_given}
+use Rattle.avl_words.proofs.Memories.{changed, loadable, storable}
 use Rattle.word_index.proofs.given_back.give_chain.Goals as goal
 
 pub loop-init : goal.loop-init
@@ -17,12 +18,12 @@ loop-init g c = record {
 pub word-requires-clause-memory : goal.word-requires-clause-memory
 word-requires-clause-memory g c =
     let l = c.loop in
-    record { sized = search rules; all = always_after c.requires.all l.invariant.done (λ x y h r. (next_can_be_given c.args.first c.args.count l.counter l.line x y c.loop-test.true h r).there) }
+    loadable (search rules) (always_after c.requires.all l.invariant.done (λ x y h r. (next_can_be_given c.args.first c.args.count l.counter l.line x y c.loop-test.true h r).there))
 
 pub give_back-requires : goal.give_back-requires
 give_back-requires g c =
     let l = c.loop in
-    record { sized = search rules; writable = search rules; all = always_after c.requires.all (Becomes-loaded l.invariant.done c.in_ok-next.ensures.done) (λ x y h r. next_can_be_given c.args.first c.args.count l.counter l.line x y c.loop-test.true h r.0) }
+    storable (search rules) (search rules) (always_after c.requires.all (Becomes-loaded l.invariant.done c.in_ok-next.ensures.done) (λ x y h r. next_can_be_given c.args.first c.args.count l.counter l.line x y c.loop-test.true h r.0))
 
 pub loop-preserved : goal.loop-preserved
 loop-preserved g c =
@@ -41,7 +42,7 @@ loop-preserved g c =
 pub returns-clause-changes : goal.returns-clause-changes
 returns-clause-changes g c =
     let l = c.loop in
-    record { done = Becomes-weaker l.invariant.done (λ first x y s r. so_far_all c.args.first c.args.count l.counter l.line x y (omega arith) r); halts = search rules; framed = search rules }
+    changed (Becomes-weaker l.invariant.done (λ first x y s r. so_far_all c.args.first c.args.count l.counter l.line x y (omega arith) r)) (search rules) (search rules)
 
 pub returns-clause-exact : goal.returns-clause-exact
 returns-clause-exact g c =

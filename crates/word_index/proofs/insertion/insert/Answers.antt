@@ -1,16 +1,16 @@
-use Rattle.std.proofs.Common.{◌≡◌, ◌^◌, ◌*◌, ◌≤◌, ℕ, false, List, sym, ap, subst, ◌∙◌, arith, rules}
+use Rattle.std.proofs.Common.{◌≡◌, ◌^◌, ◌*◌, ◌≤◌, ℕ, false, List, ap, ◌∙◌, arith, rules}
 use Rattle.cx_base.specs.Memory.{Words, Becomes, Reads}
 use Rattle.cx_base.specs.Packing.{unpacked}
-use Rattle.cx_base.specs.Store.{Store, IsKey, IsDocument, lines_of}
+use Rattle.cx_base.specs.Store.{Store, lines_of}
 use Rattle.cx_base.proofs.MemoryLemmas.{Becomes-then, Becomes-weaker, always_at_most}
 use Rattle.cx_base.proofs.ReadLemmas.{Reads-with, Becomes-from-read, always_read, Reads-then}
 use Rattle.index_checks.specs.Layout.{StandsFor}
 use Rattle.word_index.specs.Exact.{inserted_in, with_document}
-use Rattle.word_index.specs.Insertion.{Inserts, LinesAt}
+use Rattle.word_index.specs.Insertion.{LinesAt}
 use Rattle.word_index.specs.Walk.{AtSpot, FewVisits}
-use Rattle.word_index.specs.declared.insertion.Inserted.{Inserted}
 use Rattle.word_index.proofs.Cutting.{visits_read}
-use Rattle.word_index.proofs.Inserting.{IsKnown, can_have_node, counted, used_few, can_add, can_refit, can_renew, exact_none, exact_new, exact_over, inserted_is}
+use Rattle.word_index.proofs.Inserting.{IsKnown, can_have_node, counted, used_few, can_add, can_refit, can_renew, exact_none, exact_new, exact_over}
+use Rattle.avl_words.proofs.Memories.{changed, storable, loadable}
 use Rattle.word_index.proofs.insertion.insert.Goals as goal
 
 known_from : {Key : Type 0} {a b d e : Key → List ℕ → Type 0} (key nodes sides : List ℕ) (depth node above used old n : ℕ) → Reads a b (AtSpot false key nodes sides depth node above) →
@@ -23,14 +23,14 @@ known_from key nodes sides depth node above used old n r u l words = record {
 }
 
 pub lines_in_use-requires : goal.lines_in_use-requires
-lines_in_use-requires g c = record { sized = search rules; all = always_read c.requires.memory.all c.in_ok-end.ensures.finds.done (λ ws i s. i) }
+lines_in_use-requires g c = loadable (search rules) (always_read c.requires.memory.all c.in_ok-end.ensures.finds.done (λ ws i s. i))
 
 pub lines_at-requires : goal.lines_at-requires
 lines_at-requires g c =
     let key = unpacked c.args.key.now.len c.args.key.now.words in
     let way = c.seek_place.new.way in
     let end = c.in_ok-end.end in
-    record { sized = search rules; all = always_read c.requires.memory.all (Reads-then c.in_ok-end.ensures.finds.done c.in_ok-used.ensures.done (λ ws s u. s)) (λ ws i s ne. can_have_node ws key way.nodes way.sides way.depth end.node end.above s i ne) }
+    loadable (search rules) (always_read c.requires.memory.all (Reads-then c.in_ok-end.ensures.finds.done c.in_ok-used.ensures.done (λ ws s u. s)) (λ ws i s ne. can_have_node ws key way.nodes way.sides way.depth end.node end.above s i ne))
 
 pub overflow_sub-needed : goal.overflow_sub-needed
 overflow_sub-needed g c =
@@ -67,13 +67,9 @@ returns-then-lines-needed-clause-changes g c =
     let n = g.M.Memory.size m in
     let size : n ≡ 8 * c.args.lines = c.in_ok-old.ensures.framed.size_kept ∙ c.in_ok-used.ensures.framed.size_kept ∙ c.in_ok-end.ensures.finds.framed.size_kept ∙ c.requires.lines in
     let known = known_from key way.nodes way.sides way.depth end.node end.above c.in_ok-used.used c.in_ok-old.old n c.in_ok-end.ensures.finds.done c.in_ok-used.ensures.done c.in_ok-old.ensures.done (g.met.M.Memory.words m) in
-    record {
-      done = Becomes-weaker (Becomes-from-read (Reads-with c.requires.memory.all known)) (λ first x y s r. (
-          let e = exact_none y key doc way.nodes way.sides way.depth end.node end.above c.in_ok-used.used c.in_ok-old.old n r.1.1 c.args.lines c.lines_of_pair-new.result r.1.0 c.lines_of_pair-new.ensures size c.if-lines-needed.true in
-          (e.0 ∙ ap (inserted_in key doc) r.0, e.1 ∙ ap (with_document key doc) r.0)));
-      halts = search rules;
-      framed = search rules;
-    }
+    changed (Becomes-weaker (Becomes-from-read (Reads-with c.requires.memory.all known)) (λ first x y s r. (
+    let e = exact_none y key doc way.nodes way.sides way.depth end.node end.above c.in_ok-used.used c.in_ok-old.old n r.1.1 c.args.lines c.lines_of_pair-new.result r.1.0 c.lines_of_pair-new.ensures size c.if-lines-needed.true in
+    (e.0 ∙ ap (inserted_in key doc) r.0, e.1 ∙ ap (with_document key doc) r.0)))) (search rules) (search rules)
 
 pub add-requires-clause-memory : goal.add-requires-clause-memory
 add-requires-clause-memory g c =
@@ -85,13 +81,9 @@ add-requires-clause-memory g c =
     let n = g.M.Memory.size m in
     let size : n ≡ 8 * c.args.lines = c.in_ok-old.ensures.framed.size_kept ∙ c.in_ok-used.ensures.framed.size_kept ∙ c.in_ok-end.ensures.finds.framed.size_kept ∙ c.requires.lines in
     let known = known_from key way.nodes way.sides way.depth end.node end.above c.in_ok-used.used c.in_ok-old.old n c.in_ok-end.ensures.finds.done c.in_ok-used.ensures.done c.in_ok-old.ensures.done (g.met.M.Memory.words m) in
-    record {
-      sized = search rules;
-      writable = search rules;
-      all = always_read c.requires.memory.all known (λ ws i k.
-          can_add ws key doc way.nodes way.sides way.depth end.node end.above c.in_ok-used.used c.in_ok-old.old n k c.args.lines c.lines_of_pair-new.result i c.lines_of_pair-new.ensures size c.if-lines-needed.false c.if-end-eq0.true
-          c.requires.pair.is_key c.requires.pair.is_document);
-    }
+    storable (search rules) (search rules) (always_read c.requires.memory.all known (λ ws i k.
+    can_add ws key doc way.nodes way.sides way.depth end.node end.above c.in_ok-used.used c.in_ok-old.old n k c.args.lines c.lines_of_pair-new.result i c.lines_of_pair-new.ensures size c.if-lines-needed.false c.if-end-eq0.true
+    c.requires.pair.is_key c.requires.pair.is_document))
 
 pub returns-then-end-eq0-clause-changes : goal.returns-then-end-eq0-clause-changes
 returns-then-end-eq0-clause-changes g c =
@@ -103,14 +95,10 @@ returns-then-end-eq0-clause-changes g c =
     let n = g.M.Memory.size m in
     let size : n ≡ 8 * c.args.lines = c.in_ok-old.ensures.framed.size_kept ∙ c.in_ok-used.ensures.framed.size_kept ∙ c.in_ok-end.ensures.finds.framed.size_kept ∙ c.requires.lines in
     let known = known_from key way.nodes way.sides way.depth end.node end.above c.in_ok-used.used c.in_ok-old.old n c.in_ok-end.ensures.finds.done c.in_ok-used.ensures.done c.in_ok-old.ensures.done (g.met.M.Memory.words m) in
-    record {
-      done = Becomes-then (Becomes-from-read (Reads-with c.requires.memory.all known)) c.in_ok-add.ensures.done (λ x y w r a. (
-          let e = exact_new y key doc way.nodes way.sides way.depth end.node end.above c.in_ok-used.used c.in_ok-old.old n r.1.1 c.args.lines c.lines_of_pair-new.result r.1.0 c.lines_of_pair-new.ensures size w c.if-lines-needed.false c.if-end-eq0.true
-          c.requires.pair.is_key c.requires.pair.is_document a in
-          (e.0 ∙ ap (inserted_in key doc) r.0, e.1 ∙ ap (with_document key doc) r.0)));
-      halts = search rules;
-      framed = search rules;
-    }
+    changed (Becomes-then (Becomes-from-read (Reads-with c.requires.memory.all known)) c.in_ok-add.ensures.done (λ x y w r a. (
+    let e = exact_new y key doc way.nodes way.sides way.depth end.node end.above c.in_ok-used.used c.in_ok-old.old n r.1.1 c.args.lines c.lines_of_pair-new.result r.1.0 c.lines_of_pair-new.ensures size w c.if-lines-needed.false c.if-end-eq0.true
+    c.requires.pair.is_key c.requires.pair.is_document a in
+    (e.0 ∙ ap (inserted_in key doc) r.0, e.1 ∙ ap (with_document key doc) r.0)))) (search rules) (search rules)
 
 pub refit-requires-clause-memory : goal.refit-requires-clause-memory
 refit-requires-clause-memory g c =
@@ -122,12 +110,8 @@ refit-requires-clause-memory g c =
     let n = g.M.Memory.size m in
     let size : n ≡ 8 * c.args.lines = c.in_ok-old.ensures.framed.size_kept ∙ c.in_ok-used.ensures.framed.size_kept ∙ c.in_ok-end.ensures.finds.framed.size_kept ∙ c.requires.lines in
     let known = known_from key way.nodes way.sides way.depth end.node end.above c.in_ok-used.used c.in_ok-old.old n c.in_ok-end.ensures.finds.done c.in_ok-used.ensures.done c.in_ok-old.ensures.done (g.met.M.Memory.words m) in
-    record {
-      sized = search rules;
-      writable = search rules;
-      all = always_read c.requires.memory.all known (λ ws i k.
-          can_refit ws key doc way.nodes way.sides way.depth end.node end.above c.in_ok-used.used c.in_ok-old.old n k c.args.lines c.lines_of_pair-new.result i c.lines_of_pair-new.ensures size c.if-lines-needed.false c.if-end-eq0.false c.if-old-new.true);
-    }
+    storable (search rules) (search rules) (always_read c.requires.memory.all known (λ ws i k.
+    can_refit ws key doc way.nodes way.sides way.depth end.node end.above c.in_ok-used.used c.in_ok-old.old n k c.args.lines c.lines_of_pair-new.result i c.lines_of_pair-new.ensures size c.if-lines-needed.false c.if-end-eq0.false c.if-old-new.true))
 
 pub returns-then-old-new-clause-changes : goal.returns-then-old-new-clause-changes
 returns-then-old-new-clause-changes g c =
@@ -139,13 +123,9 @@ returns-then-old-new-clause-changes g c =
     let n = g.M.Memory.size m in
     let size : n ≡ 8 * c.args.lines = c.in_ok-old.ensures.framed.size_kept ∙ c.in_ok-used.ensures.framed.size_kept ∙ c.in_ok-end.ensures.finds.framed.size_kept ∙ c.requires.lines in
     let known = known_from key way.nodes way.sides way.depth end.node end.above c.in_ok-used.used c.in_ok-old.old n c.in_ok-end.ensures.finds.done c.in_ok-used.ensures.done c.in_ok-old.ensures.done (g.met.M.Memory.words m) in
-    record {
-      done = Becomes-then (Becomes-from-read (Reads-with c.requires.memory.all known)) c.in_ok-refit.ensures.done (λ x y w r a. (
-          let e = exact_over y key doc way.nodes way.sides way.depth end.node end.above c.in_ok-used.used c.in_ok-old.old n r.1.1 c.args.lines c.lines_of_pair-new.result r.1.0 c.lines_of_pair-new.ensures size w c.if-lines-needed.false c.if-end-eq0.false a in
-          (e.0 ∙ ap (inserted_in key doc) r.0, e.1 ∙ ap (with_document key doc) r.0)));
-      halts = search rules;
-      framed = search rules;
-    }
+    changed (Becomes-then (Becomes-from-read (Reads-with c.requires.memory.all known)) c.in_ok-refit.ensures.done (λ x y w r a. (
+    let e = exact_over y key doc way.nodes way.sides way.depth end.node end.above c.in_ok-used.used c.in_ok-old.old n r.1.1 c.args.lines c.lines_of_pair-new.result r.1.0 c.lines_of_pair-new.ensures size w c.if-lines-needed.false c.if-end-eq0.false a in
+    (e.0 ∙ ap (inserted_in key doc) r.0, e.1 ∙ ap (with_document key doc) r.0)))) (search rules) (search rules)
 
 pub rewrite-requires-clause-memory : goal.rewrite-requires-clause-memory
 rewrite-requires-clause-memory g c =
@@ -157,12 +137,8 @@ rewrite-requires-clause-memory g c =
     let n = g.M.Memory.size m in
     let size : n ≡ 8 * c.args.lines = c.in_ok-old.ensures.framed.size_kept ∙ c.in_ok-used.ensures.framed.size_kept ∙ c.in_ok-end.ensures.finds.framed.size_kept ∙ c.requires.lines in
     let known = known_from key way.nodes way.sides way.depth end.node end.above c.in_ok-used.used c.in_ok-old.old n c.in_ok-end.ensures.finds.done c.in_ok-used.ensures.done c.in_ok-old.ensures.done (g.met.M.Memory.words m) in
-    record {
-      sized = search rules;
-      writable = search rules;
-      all = always_read c.requires.memory.all known (λ ws i k.
-          can_renew ws key doc way.nodes way.sides way.depth end.node end.above c.in_ok-used.used c.in_ok-old.old n k c.args.lines c.lines_of_pair-new.result i c.lines_of_pair-new.ensures size c.if-lines-needed.false c.if-end-eq0.false c.if-old-new.false);
-    }
+    storable (search rules) (search rules) (always_read c.requires.memory.all known (λ ws i k.
+    can_renew ws key doc way.nodes way.sides way.depth end.node end.above c.in_ok-used.used c.in_ok-old.old n k c.args.lines c.lines_of_pair-new.result i c.lines_of_pair-new.ensures size c.if-lines-needed.false c.if-end-eq0.false c.if-old-new.false))
 
 pub returns-clause-changes : goal.returns-clause-changes
 returns-clause-changes g c =
@@ -174,13 +150,9 @@ returns-clause-changes g c =
     let n = g.M.Memory.size m in
     let size : n ≡ 8 * c.args.lines = c.in_ok-old.ensures.framed.size_kept ∙ c.in_ok-used.ensures.framed.size_kept ∙ c.in_ok-end.ensures.finds.framed.size_kept ∙ c.requires.lines in
     let known = known_from key way.nodes way.sides way.depth end.node end.above c.in_ok-used.used c.in_ok-old.old n c.in_ok-end.ensures.finds.done c.in_ok-used.ensures.done c.in_ok-old.ensures.done (g.met.M.Memory.words m) in
-    record {
-      done = Becomes-then (Becomes-from-read (Reads-with c.requires.memory.all known)) c.in_ok-rewrite.ensures.done (λ x y w r a. (
-          let e = exact_over y key doc way.nodes way.sides way.depth end.node end.above c.in_ok-used.used c.in_ok-old.old n r.1.1 c.args.lines c.lines_of_pair-new.result r.1.0 c.lines_of_pair-new.ensures size w c.if-lines-needed.false c.if-end-eq0.false a in
-          (e.0 ∙ ap (inserted_in key doc) r.0, e.1 ∙ ap (with_document key doc) r.0)));
-      halts = search rules;
-      framed = search rules;
-    }
+    changed (Becomes-then (Becomes-from-read (Reads-with c.requires.memory.all known)) c.in_ok-rewrite.ensures.done (λ x y w r a. (
+    let e = exact_over y key doc way.nodes way.sides way.depth end.node end.above c.in_ok-used.used c.in_ok-old.old n r.1.1 c.args.lines c.lines_of_pair-new.result r.1.0 c.lines_of_pair-new.ensures size w c.if-lines-needed.false c.if-end-eq0.false a in
+    (e.0 ∙ ap (inserted_in key doc) r.0, e.1 ∙ ap (with_document key doc) r.0)))) (search rules) (search rules)
 
 -- the bound on visits, over what is read and changed after the walk
 visits_over : {Key : Type 0} {a b d e : Key → List ℕ → Type 0} {P Q : List ℕ → Type 0} (visits : ℕ) → Becomes a b (λ x y. FewVisits visits x) → Reads b d P → Reads d e Q → Becomes a e (λ x y. FewVisits visits x)

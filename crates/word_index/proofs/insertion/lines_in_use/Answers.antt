@@ -6,6 +6,7 @@ use Rattle.avl_words.specs.Lines.{word_of}
 use Rattle.index_checks.proofs.Totals.{all_lines}
 use Rattle.index_checks.specs.Layout.{StandsFor, IsIndex}
 use Rattle.word_index.proofs.Putting.{lines_of_places}
+use Rattle.avl_words.proofs.Memories.{found}
 use Rattle.word_index.proofs.insertion.lines_in_use.Goals as goal
 
 used : (ws : List ℕ) (version : ℕ) (store : Store) → StandsFor ws version store → lines_of store + word_of ws 0 4 + 1 ≡ word_of ws 0 3
@@ -37,4 +38,4 @@ overflow_sub-result-2 g c =
 pub returns : goal.returns
 returns g c =
     let r = Reads-loaded (Reads-loaded (Reads-none _ c.requires.all) c.in_ok-end.ensures.done) c.in_ok-given.ensures.done in
-    record { done = Reads-weaker r (λ ws p version store s. is ws c.in_ok-end.end c.in_ok-given.given version store s p.0.1 p.1); kept = search rules; halts = search rules; framed = search rules }
+    found (Reads-weaker r (λ ws p version store s. is ws c.in_ok-end.end c.in_ok-given.given version store s p.0.1 p.1)) (search rules) (search rules) (search rules)

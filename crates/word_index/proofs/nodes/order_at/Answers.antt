@@ -5,6 +5,7 @@ use Rattle.cx_base.specs.Store.{key_cmp}
 use Rattle.cx_base.proofs.MemoryLemmas.{Framed-then}
 use Rattle.cx_base.proofs.ReadLemmas.{kept_then, Reads-none, Reads-load, Reads-loaded, Reads-then, always_read}
 use Rattle.word_index.proofs.KeyWords.{begun_none, begun_within, begun_more, begun_tells, begun_ends}
+use Rattle.avl_words.proofs.Memories.{found, loadable}
 use Rattle.word_index.proofs.nodes.order_at.Goals as goal
 
 pub loop-at-init : goal.loop-at-init
@@ -33,33 +34,23 @@ loop-at-preserved g c =
 
 pub word-requires-in-loop-at-clause-memory : goal.word-requires-in-loop-at-clause-memory
 word-requires-in-loop-at-clause-memory g c =
-    record { sized = search rules; all = always_read c.requires.memory.all c.loop-at.invariant.done (λ ws h p. begun_within c.args.node c.in_ok-first.first c.loop-at.at c.args.key.now.words ws p h) }
+    loadable (search rules) (always_read c.requires.memory.all c.loop-at.invariant.done (λ ws h p. begun_within c.args.node c.in_ok-first.first c.loop-at.at c.args.key.now.words ws p h))
 
 pub returns-in-Some : goal.returns-in-Some
 returns-in-Some g c =
     let key = c.args.key.now in
     let low : c.loop-at.at < 7 = omega (arith, c.min-at-end.ensures, c.div_ceil.ensures) in
-    record {
-      done = Reads-load c.loop-at.invariant.done c.in_ok-other.ensures.done
-          (λ ws p e. begun_tells c.args.node c.in_ok-first.first c.loop-at.at key.words ws p c.in_ok-other.other low e (λ len b. c.in-Some.order ≡ key_cmp b (unpacked key.len key.words))
-          (λ these len behind same l. c.in-Some.ensures these key.words len behind same l refl));
-      kept = search rules;
-      halts = search rules;
-      framed = search rules;
-    }
+    found (Reads-load c.loop-at.invariant.done c.in_ok-other.ensures.done
+    (λ ws p e. begun_tells c.args.node c.in_ok-first.first c.loop-at.at key.words ws p c.in_ok-other.other low e (λ len b. c.in-Some.order ≡ key_cmp b (unpacked key.len key.words))
+    (λ these len behind same l. c.in-Some.ensures these key.words len behind same l refl))) (search rules) (search rules) (search rules)
 
 pub returns-in-None : goal.returns-in-None
 returns-in-None g c =
     let key = c.args.key.now in
     let low : c.loop-at.at < 7 = omega (arith, c.min-at-end.ensures, c.div_ceil.ensures) in
-    record {
-      done = Reads-then (Reads-loaded c.loop-at.invariant.done c.in_ok-other.ensures.done) c.in_ok-short-in-None.ensures.done
-          (λ ws pe s pair is. s pair is ∙ begun_tells c.args.node c.in_ok-first.first c.loop-at.at key.words ws pe.0 c.in_ok-other.other low pe.1 (λ len b. nat_cmp len key.len ≡ key_cmp b (unpacked key.len key.words))
-          (λ these len behind same l. c.in-None.ensures these key.words len behind same l refl) pair is);
-      kept = search rules;
-      halts = search rules;
-      framed = search rules;
-    }
+    found (Reads-then (Reads-loaded c.loop-at.invariant.done c.in_ok-other.ensures.done) c.in_ok-short-in-None.ensures.done
+    (λ ws pe s pair is. s pair is ∙ begun_tells c.args.node c.in_ok-first.first c.loop-at.at key.words ws pe.0 c.in_ok-other.other low pe.1 (λ len b. nat_cmp len key.len ≡ key_cmp b (unpacked key.len key.words))
+    (λ these len behind same l. c.in-None.ensures these key.words len behind same l refl) pair is)) (search rules) (search rules) (search rules)
 
 pub returns-then-key-le56 : goal.returns-then-key-le56
 returns-then-key-le56 g c =
@@ -67,10 +58,5 @@ returns-then-key-le56 g c =
     let at = c.loop-at.at in
     let few : at ≤ 8 = omega (arith, c.min-at-end.ensures, c.div_ceil.ensures) in
     let ends : key.len ≤ 8 * at = omega (arith, c.min-at-end.ensures, c.div_ceil.ensures, c.loop-at-test.false, c.if-key-le56.true) in
-    record {
-      done = Reads-then c.loop-at.invariant.done c.in_ok-ended.ensures.done
-          (λ ws p s pair is. s pair is ∙ begun_ends c.args.node c.in_ok-first.first at key.words ws p key.len few ends pair is);
-      kept = search rules;
-      halts = search rules;
-      framed = search rules;
-    }
+    found (Reads-then c.loop-at.invariant.done c.in_ok-ended.ensures.done
+    (λ ws p s pair is. s pair is ∙ begun_ends c.args.node c.in_ok-first.first at key.words ws p key.len few ends pair is)) (search rules) (search rules) (search rules)

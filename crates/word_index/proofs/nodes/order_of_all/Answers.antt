@@ -3,6 +3,7 @@ use Rattle.std.proofs.lemmas.Bool.{cases_lt}
 use Rattle.cx_base.proofs.MemoryLemmas.{Framed-then}
 use Rattle.cx_base.proofs.ReadLemmas.{kept_then, Reads-none, Reads-load, Reads-loaded, Reads-then, Reads-weaker, always_read}
 use Rattle.word_index.proofs.KeyWords.{compared_none, compared_chain, compared_more, compared_apart, compared_ends}
+use Rattle.avl_words.proofs.Memories.{found, loadable}
 use Rattle.word_index.proofs.nodes.order_of_all.Goals as goal
 
 pub loop-at-init : goal.loop-at-init
@@ -33,20 +34,15 @@ loop-at-preserved g c =
 pub early_word-requires-clause-memory : goal.early_word-requires-clause-memory
 early_word-requires-clause-memory g c =
     let below : c.loop-at.at < (c.in_ok-len.len + 7) / 8 = omega (arith, c.min.ensures, c.div_ceil-at-end.ensures) in
-    record { sized = search rules; all = always_read c.requires.memory.all c.loop-at.invariant.done (λ ws h p. compared_chain c.args.node c.in_ok-first.first c.in_ok-len.len c.loop-at.at c.args.key.now.words ws p h below) }
+    loadable (search rules) (always_read c.requires.memory.all c.loop-at.invariant.done (λ ws h p. compared_chain c.args.node c.in_ok-first.first c.in_ok-len.len c.loop-at.at c.args.key.now.words ws p h below))
 
 pub returns-then-other-mine : goal.returns-then-other-mine
 returns-then-other-mine g c =
     let key = c.args.key.now in
     let below : c.loop-at.at < (c.in_ok-len.len + 7) / 8 = omega (arith, c.min.ensures, c.div_ceil-at-end.ensures) in
     let few : c.loop-at.at < 8 = omega (arith, c.min.ensures, c.div_ceil-at-end.ensures, c.requires.key) in
-    record {
-      done = Reads-then c.loop-at.invariant.done c.in_ok-other.ensures.done
-          (λ ws p q. compared_apart c.args.node c.in_ok-first.first c.in_ok-len.len c.loop-at.at key.words ws p c.in_ok-other.other below q key.len c.order_apart.result few c.order_apart.ensures);
-      kept = search rules;
-      halts = search rules;
-      framed = search rules;
-    }
+    found (Reads-then c.loop-at.invariant.done c.in_ok-other.ensures.done
+    (λ ws p q. compared_apart c.args.node c.in_ok-first.first c.in_ok-len.len c.loop-at.at key.words ws p c.in_ok-other.other below q key.len c.order_apart.result few c.order_apart.ensures)) (search rules) (search rules) (search rules)
 
 pub returns : goal.returns
 returns g c =
@@ -58,4 +54,4 @@ returns g c =
       | inl h ↦ inr (omega (arith, c.min.ensures, c.div_ceil-at-end.ensures, c.loop-at-test.false, h))
       | inr h ↦ inl (omega (arith, c.min.ensures, c.div_ceil-at-end.ensures, c.loop-at-test.false, h))
     ] in
-    record { done = Reads-weaker c.loop-at.invariant.done (λ ws p. compared_ends c.args.node c.in_ok-first.first len at key.words ws p key.len c.cmp.result few ends c.cmp.ensures); kept = search rules; halts = search rules; framed = search rules }
+    found (Reads-weaker c.loop-at.invariant.done (λ ws p. compared_ends c.args.node c.in_ok-first.first len at key.words ws p key.len c.cmp.result few ends c.cmp.ensures)) (search rules) (search rules) (search rules)

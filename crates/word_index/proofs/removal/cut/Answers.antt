@@ -2,12 +2,13 @@ use Rattle.std.proofs.Common.{◌-◌, refl, rules}
 use Rattle.avl_words.specs.Lines.{with_word}
 use Rattle.cx_base.proofs.MemoryLemmas.{Becomes-store, always_at_most, always_after, Becomes-loaded}
 use Rattle.word_index.proofs.Cutting.{can_take, cut_count, cuts}
+use Rattle.avl_words.proofs.Memories.{changed, storable}
 use Rattle.word_index.proofs.removal.cut.Goals as goal
 
 pub take_node-requires-clause-memory : goal.take_node-requires-clause-memory
 take_node-requires-clause-memory g c =
     let w = c.args.way.now in
-    record { sized = search rules; writable = search rules; all = λ first now s. can_take now w.nodes w.sides w.depth c.args.node (c.requires.memory.all first now s) }
+    storable (search rules) (search rules) (λ first now s. can_take now w.nodes w.sides w.depth c.args.node (c.requires.memory.all first now s))
 
 pub overflow_sub-pairs : goal.overflow_sub-pairs
 overflow_sub-pairs g c =
@@ -20,9 +21,5 @@ overflow_sub-pairs g c =
 pub returns : goal.returns
 returns g c =
     let w = c.args.way.now in
-    record {
-      done = Becomes-store (Becomes-loaded c.in_ok-take_node.ensures.done c.in_ok-pairs.ensures.done) c.in_ok-put.ensures.done
-          (λ first x z s r. cuts x z (with_word 0 5 (c.in_ok-pairs.pairs - 1) z) w.nodes w.sides w.depth c.args.node c.in_ok-pairs.pairs r.0 r.1 refl);
-      halts = search rules;
-      framed = search rules;
-    }
+    changed (Becomes-store (Becomes-loaded c.in_ok-take_node.ensures.done c.in_ok-pairs.ensures.done) c.in_ok-put.ensures.done
+    (λ first x z s r. cuts x z (with_word 0 5 (c.in_ok-pairs.pairs - 1) z) w.nodes w.sides w.depth c.args.node c.in_ok-pairs.pairs r.0 r.1 refl)) (search rules) (search rules)

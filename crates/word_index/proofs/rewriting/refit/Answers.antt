@@ -5,36 +5,28 @@ use Rattle.cx_base.specs.Store.{blocks}
 use Rattle.cx_base.proofs.MemoryLemmas.{Becomes-then}
 use Rattle.std.proofs.lemmas.Result.{IfOk-weaker}
 use Rattle.cx_base.proofs.ReadLemmas.{Reads-weaker, Reads-none, Reads-loaded, Becomes-from-read}
-use Rattle.avl_words.proofs.Memories.{always_said}
+use Rattle.avl_words.proofs.Memories.{always_said, changed, storable, loadable}
 use Rattle.word_index.specs.Exact.{with_refilled}
 use Rattle.word_index.proofs.DocumentChanges.{node_here}
 use Rattle.word_index.proofs.DocumentRuns.{rewrite_refills}
 use Rattle.word_index.proofs.rewriting.refit.Goals as goal
 
 pub word-requires-clause-memory : goal.word-requires-clause-memory
-word-requires-clause-memory g c = record { sized = search rules; all = λ first now s. node_here now c.args.node _ (c.requires.memory.all first now s).can }
+word-requires-clause-memory g c = loadable (search rules) (λ first now s. node_here now c.args.node _ (c.requires.memory.all first now s).can)
 
 pub refill-requires-clause-memory : goal.refill-requires-clause-memory
 refill-requires-clause-memory g c =
-    record {
-      sized = search rules;
-      writable = search rules;
-      all = always_said (Reads-weaker (Reads-loaded (Reads-none _ c.requires.memory.all) c.in_ok-first.ensures.done) (λ ws p. record {
-        can = p.0.can;
-        first_is = p.1;
-        counted = p.0.alike;
-      }));
-    }
+    storable (search rules) (search rules) (always_said (Reads-weaker (Reads-loaded (Reads-none _ c.requires.memory.all) c.in_ok-first.ensures.done) (λ ws p. record {
+      can = p.0.can;
+      first_is = p.1;
+      counted = p.0.alike;
+    })))
 
 pub returns : goal.returns
 returns g c =
     let doc = c.args.doc.now in
     let d = unpacked doc.len doc.words.now in
     let r = Reads-loaded (Reads-none _ c.requires.memory.all) c.in_ok-first.ensures.done in
-    record {
-      done = IfOk-weaker c.refill.result (λ _. Becomes (g.M.Memory.stands c.word.new.mem) (g.M.Memory.stands c.refill.new.mem) (λ old now. now ≡ with_refilled d c.args.node old)) _
-          (λ _ b. Becomes-then (Becomes-from-read r) b (λ x y z p q. rewrite_refills x y z c.args.node (blocks d) d p.0 p.1.0.alike refl q))
-          c.refill.ensures.done;
-      halts = search rules;
-      framed = search rules;
-    }
+    changed (IfOk-weaker c.refill.result (λ _. Becomes (g.M.Memory.stands c.word.new.mem) (g.M.Memory.stands c.refill.new.mem) (λ old now. now ≡ with_refilled d c.args.node old)) _
+    (λ _ b. Becomes-then (Becomes-from-read r) b (λ x y z p q. rewrite_refills x y z c.args.node (blocks d) d p.0 p.1.0.alike refl q))
+    c.refill.ensures.done) (search rules) (search rules)

@@ -3,6 +3,7 @@ use Rattle.cx_base.proofs.MemoryLemmas.{Becomes-same, Becomes-then, Becomes-weak
 use Rattle.word_index.proofs.ExactRuns.{text_begins, text_goes_on, text_ends}
 use Rattle.word_index.proofs.Writing.{written_none, can_take_next, taken_within, written_more, written_all}
 use Rattle.word_index.specs.Exact.{with_text}
+use Rattle.avl_words.proofs.Memories.{changed, storable}
 use Rattle.word_index.proofs.taken.write_text.Goals as goal
 
 pub loop-j-init : goal.loop-j-init
@@ -17,12 +18,12 @@ loop-j-init g c = record {
 pub take_line-requires : goal.take_line-requires
 take_line-requires g c =
     let l = c.loop-j in
-    record { sized = search rules; writable = search rules; all = always_after c.requires.memory.all l.invariant.done (λ x y h r. can_take_next c.args.words.now c.args.count l.j l.next x y c.loop-j-test.true h r) }
+    storable (search rules) (search rules) (always_after c.requires.memory.all l.invariant.done (λ x y h r. can_take_next c.args.words.now c.args.count l.j l.next x y c.loop-j-test.true h r))
 
 pub put_line-requires : goal.put_line-requires
 put_line-requires g c =
     let l = c.loop-j in
-    record { sized = search rules; writable = search rules; all = always_after c.requires.memory.all (Becomes-both l.invariant.done c.in_ok-line.ensures.changes.done) (λ x z h r. taken_within c.args.words.now c.args.count l.j l.next c.in_ok-line.line x r.0 z c.loop-j-test.true h r.1 r.2) }
+    storable (search rules) (search rules) (always_after c.requires.memory.all (Becomes-both l.invariant.done c.in_ok-line.ensures.changes.done) (λ x z h r. taken_within c.args.words.now c.args.count l.j l.next c.in_ok-line.line x r.0 z c.loop-j-test.true h r.1 r.2))
 
 pub loop-j-preserved : goal.loop-j-preserved
 loop-j-preserved g c =
@@ -41,7 +42,7 @@ loop-j-preserved g c =
 pub returns-clause-changes : goal.returns-clause-changes
 returns-clause-changes g c =
     let l = c.loop-j in
-    record { done = Becomes-weaker l.invariant.done (λ first x y s r. written_all c.args.words.now c.args.count l.j l.next x y (omega arith) r); halts = search rules; framed = search rules }
+    changed (Becomes-weaker l.invariant.done (λ first x y s r. written_all c.args.words.now c.args.count l.j l.next x y (omega arith) r)) (search rules) (search rules)
 
 pub returns-clause-exact : goal.returns-clause-exact
 returns-clause-exact g c =

@@ -2,7 +2,7 @@ use Rattle.cx_base.proofs.MemoryLemmas.{Framed-then}
 use Rattle.std.proofs.Common.{rules, arith, refl, sym, ◌+◌, ◌∙◌}
 use Rattle.cx_base.specs.Packing.{unpacked}
 use Rattle.cx_base.proofs.ReadLemmas.{kept_then, Reads-none, Reads-then, Reads-weaker, Reads-load, Reads-loaded, always_read}
-use Rattle.avl_words.proofs.Memories.{always_said, always_kept}
+use Rattle.avl_words.proofs.Memories.{always_said, always_kept, loadable, found}
 use Rattle.word_index.proofs.NodeReads.{node_within}
 use Rattle.word_index.proofs.KeyPlaces.{few_counted, is_same, is_other}
 use Rattle.word_index.proofs.Reaching.{some_begins, some_few, some_few_node, some_has_node, some_ends, some_ends_same, some_deep, some_on}
@@ -22,7 +22,7 @@ loop-depth-init g c =
 pub returns-then-node-eq0-clause-finds : goal.returns-then-node-eq0-clause-finds
 returns-then-node-eq0-clause-finds g c =
     let l = c.loop-depth in
-    record { done = Reads-weaker l.invariant.done (λ ws w. some_ends ws c.args.past (unpacked c.args.key.now.len c.args.key.now.words) l._depth l.node l.above w c.if-node-eq0.true); kept = search rules; halts = search rules; framed = search rules }
+    found (Reads-weaker l.invariant.done (λ ws w. some_ends ws c.args.past (unpacked c.args.key.now.len c.args.key.now.words) l._depth l.node l.above w c.if-node-eq0.true)) (search rules) (search rules) (search rules)
 
 pub returns-then-node-eq0-clause-visits : goal.returns-then-node-eq0-clause-visits
 returns-then-node-eq0-clause-visits g c =
@@ -32,7 +32,7 @@ returns-then-node-eq0-clause-visits g c =
 pub visit-requires-clause-memory : goal.visit-requires-clause-memory
 visit-requires-clause-memory g c =
     let l = c.loop-depth in
-    record { sized = search rules; all = always_read c.requires.memory.all l.invariant.done (λ ws i w. some_has_node ws c.args.past (unpacked c.args.key.now.len c.args.key.now.words) l._depth l.node l.above w c.if-node-eq0.false i) }
+    loadable (search rules) (always_read c.requires.memory.all l.invariant.done (λ ws i w. some_has_node ws c.args.past (unpacked c.args.key.now.len c.args.key.now.words) l._depth l.node l.above w c.if-node-eq0.false i))
 
 pub returns-in_err-visit-clause-visits : goal.returns-in_err-visit-clause-visits
 returns-in_err-visit-clause-visits g c =
@@ -45,7 +45,7 @@ returns-then-is_eq-clause-finds g c =
     let l = c.loop-depth in
     let o = c.in_ok-visit.field-0 in
     let same = sym c.toward-order.ensures ∙ is_same c.toward-order.result (sym c.is_eq.ensures ∙ c.if-is_eq.true) in
-    record { done = Reads-then l.invariant.done c.in_ok-visit.ensures.finds.done (λ ws w is. some_ends_same ws c.args.past (unpacked c.args.key.now.len c.args.key.now.words) l._depth l.node l.above o w c.if-node-eq0.false is same); kept = search rules; halts = search rules; framed = search rules }
+    found (Reads-then l.invariant.done c.in_ok-visit.ensures.finds.done (λ ws w is. some_ends_same ws c.args.past (unpacked c.args.key.now.len c.args.key.now.words) l._depth l.node l.above o w c.if-node-eq0.false is same)) (search rules) (search rules) (search rules)
 
 pub returns-then-is_eq-clause-visits : goal.returns-then-is_eq-clause-visits
 returns-then-is_eq-clause-visits g c =
@@ -56,11 +56,8 @@ returns-then-is_eq-clause-visits g c =
 pub word-requires-in-loop-depth-clause-memory : goal.word-requires-in-loop-depth-clause-memory
 word-requires-in-loop-depth-clause-memory g c =
     let l = c.loop-depth in
-    record {
-      sized = search rules;
-      all = always_read c.requires.memory.all (Reads-then l.invariant.done c.in_ok-visit.ensures.finds.done (λ ws w o. w))
-          (λ ws i w. node_within ws l.node (some_has_node ws c.args.past (unpacked c.args.key.now.len c.args.key.now.words) l._depth l.node l.above w c.if-node-eq0.false i));
-    }
+    loadable (search rules) (always_read c.requires.memory.all (Reads-then l.invariant.done c.in_ok-visit.ensures.finds.done (λ ws w o. w))
+    (λ ws i w. node_within ws l.node (some_has_node ws c.args.past (unpacked c.args.key.now.len c.args.key.now.words) l._depth l.node l.above w c.if-node-eq0.false i)))
 
 pub returns-in_err-node-2-clause-visits : goal.returns-in_err-node-2-clause-visits
 returns-in_err-node-2-clause-visits g c =
@@ -91,7 +88,7 @@ loop-depth-preserved g c =
 pub returns-clause-finds : goal.returns-clause-finds
 returns-clause-finds g c =
     let l = c.loop-depth in
-    record { done = Reads-weaker l.invariant.done (λ ws w. some_deep ws c.args.past (unpacked c.args.key.now.len c.args.key.now.words) l._depth l.node l.above w (omega (arith, c.loop-depth-test.false))); kept = search rules; halts = search rules; framed = search rules }
+    found (Reads-weaker l.invariant.done (λ ws w. some_deep ws c.args.past (unpacked c.args.key.now.len c.args.key.now.words) l._depth l.node l.above w (omega (arith, c.loop-depth-test.false)))) (search rules) (search rules) (search rules)
 
 pub returns-clause-visits : goal.returns-clause-visits
 returns-clause-visits g c =
