@@ -1,7 +1,6 @@
 -- What tries to link an entry come to.
 use Rattle.std.specs.Prelude.{◌≡◌, ◌+◌, ◌%◌, ◌^◌, ◌<◌, ◌≤◌, ◌⊎◌, ℕ, zero, suc, [], ◌∷◌, ◌++◌, length, slice_set, Option, Some, None}
 use Rattle.cx_base.specs.Codes.{link_ticket_of, root_place_of}
-use Rattle.cx_core.specs.declared.local.Local.{Local}
 use Rattle.cx_core.specs.Layout.{cell_count}
 use Rattle.cx_core.specs.QueueEvents.{ShowsOpen, cell_of, entry_in, linked, lost, raised_front}
 use Rattle.cx_core.specs.State.{one_more}

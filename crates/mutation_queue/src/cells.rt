@@ -1,6 +1,6 @@
 //! Which cells of a caller may be written again.
 
-ghost use Rattle.std.specs.Prelude.{◌≡◌, ◌<◌, ◌↔◌, ℕ, IfSome, IsNone, MatchBool};
+ghost use Rattle.std.specs.Prelude.{◌<◌, ◌↔◌, ℕ, IfSome, IsNone, MatchBool};
 ghost use Rattle.cx_core.specs.QueueEvents.{IsIdle};
 ghost use Rattle.mutation_queue.specs.Cells.{IsInUse};
 

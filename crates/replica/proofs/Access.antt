@@ -43,34 +43,26 @@ pub unstored : (i v : ℕ) (o : Option HeldExclusive) → option_map but_words (
 unstored i v None = refl
 unstored i v (Some h) = refl
 
--- the replica held exclusively, when all but the words is known
-pub replica_but_words : (o : Option HeldExclusive) → option_map (λ (h : HeldExclusive). h.replica) (option_map but_words o) ≡ option_map (λ (h : HeldExclusive). h.replica) o
-replica_but_words None = refl
-replica_but_words (Some h) = refl
-
-replica_but_loaded : (r : ℕ) (o : Option HeldShared) → option_map (λ (h : HeldShared). h.replica) (option_map (but_loaded r) o) ≡ option_map (λ (h : HeldShared). h.replica) o
-replica_but_loaded r None = refl
-replica_but_loaded r (Some h) = refl
+-- the replica that is held is known when all of it but the words is
+pub still_on : {H : Type 0} (f : H → H) (replica : H → ℕ) → ((h : H) → replica (f h) ≡ replica h) → (a b : Option H) (q : ℕ) → option_map f a ≡ option_map f b → option_map replica b ≡ Some q → option_map replica a ≡ Some q
+still_on f replica same None None q e on = on
+still_on f replica same None (Some y) q e on = absurd (none-some (f y) e)
+still_on f replica same (Some x) None q e on = absurd (none-some q on)
+still_on f replica same (Some x) (Some y) q e on = ap Some (sym (same x) ∙ ap replica (same_Some (f x) (f y) e) ∙ same y) ∙ on
 
 -- a seat that is the same beside the words held holds the same
 pub still_exclusive : (callers q : ℕ) (before after : Seated) (held : Right) → beside_held q after ≡ beside_held q before → IsExclusiveOf callers before held → IsExclusiveOf callers after held
 still_exclusive callers q before after held same of = record {
   few = of.few;
   caller = of.caller ∙ sym (ap (λ (s : Seated). s.known.local.number) same);
-  holds = sym (replica_but_words after.known.local.exclusive)
-      ∙ ap (λ (s : Seated). option_map (λ (h : HeldExclusive). h.replica) s.known.local.exclusive) same
-      ∙ replica_but_words before.known.local.exclusive
-      ∙ of.holds;
+  holds = still_on but_words (λ (h : HeldExclusive). h.replica) (λ h. refl) after.known.local.exclusive before.known.local.exclusive held.replica (ap (λ (s : Seated). s.known.local.exclusive) same) of.holds;
 }
 
 pub still_shared : (callers q : ℕ) (before after : Seated) (held : Right) → beside_shared q after ≡ beside_shared q before → IsSharedOf callers before held → IsSharedOf callers after held
 still_shared callers q before after held same of = record {
   few = of.few;
   caller = of.caller ∙ sym (ap (λ (s : Seated). s.known.local.number) same);
-  holds = sym (replica_but_loaded q after.known.local.shared)
-      ∙ ap (λ (s : Seated). option_map (λ (h : HeldShared). h.replica) s.known.local.shared) same
-      ∙ replica_but_loaded q before.known.local.shared
-      ∙ of.holds;
+  holds = still_on (but_loaded q) (λ (h : HeldShared). h.replica) (λ h. refl) after.known.local.shared before.known.local.shared held.replica (ap (λ (s : Seated). s.known.local.shared) same) of.holds;
 }
 
 -- ---- dirty words

@@ -25,36 +25,26 @@ use Rattle.cx_table.specs.Tokens.{IsExclusiveOf, IsSharedOf, TriedShared}
 use Rattle.replica.specs.Copies.{CopiesOn, EndsRuns, LeavesCopied, HoldsBoth, LoadsAtMost, LoadsFewer, SomeDiffers, StoresAsMany, beside_copy, but_loads, known_compared, stores_in}
 use Rattle.replica.specs.Held.{IsHeld, but_words}
 use Rattle.replica.specs.Laws.{shared_held}
-use Rattle.replica.proofs.Access.{beside, dirty_stored, replica_but_words, unstored}
+use Rattle.replica.proofs.Access.{beside, dirty_stored, still_on, unstored}
 use Rattle.replica.proofs.LineLoads.{Counts, IsRunOf, longer_run, no_run, one_store}
 
 unloaded_all : (r i found : ℕ) (o : Option HeldShared) → option_map but_loads (option_map (loaded_into r i found) o) ≡ option_map but_loads o
 unloaded_all r i found None = refl
 unloaded_all r i found (Some h) = refl
 
-replica_but_loads : (o : Option HeldShared) → option_map (λ (h : HeldShared). h.replica) (option_map but_loads o) ≡ option_map (λ (h : HeldShared). h.replica) o
-replica_but_loads None = refl
-replica_but_loads (Some h) = refl
-
 -- a seat that is the same beside a copy has the same rights
 exclusive_still : (callers : ℕ) (before after : Seated) (held : Right) → beside_copy after ≡ beside_copy before → IsExclusiveOf callers before held → IsExclusiveOf callers after held
 exclusive_still callers before after held same of = record {
   few = of.few;
   caller = of.caller ∙ sym (ap (λ (s : Seated). s.known.local.number) same);
-  holds = sym (replica_but_words after.known.local.exclusive)
-      ∙ ap (λ (s : Seated). option_map (λ (h : HeldExclusive). h.replica) s.known.local.exclusive) same
-      ∙ replica_but_words before.known.local.exclusive
-      ∙ of.holds;
+  holds = still_on but_words (λ (h : HeldExclusive). h.replica) (λ h. refl) after.known.local.exclusive before.known.local.exclusive held.replica (ap (λ (s : Seated). s.known.local.exclusive) same) of.holds;
 }
 
 shared_still : (callers : ℕ) (before after : Seated) (source : Right) → beside_copy after ≡ beside_copy before → IsSharedOf callers before source → IsSharedOf callers after source
 shared_still callers before after source same of = record {
   few = of.few;
   caller = of.caller ∙ sym (ap (λ (s : Seated). s.known.local.number) same);
-  holds = sym (replica_but_loads after.known.local.shared)
-      ∙ ap (λ (s : Seated). option_map (λ (h : HeldShared). h.replica) s.known.local.shared) same
-      ∙ replica_but_loads before.known.local.shared
-      ∙ of.holds;
+  holds = still_on but_loads (λ (h : HeldShared). h.replica) (λ h. refl) after.known.local.shared before.known.local.shared source.replica (ap (λ (s : Seated). s.known.local.shared) same) of.holds;
 }
 
 -- a load changes nothing beside a copy

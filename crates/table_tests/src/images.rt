@@ -1,6 +1,6 @@
 //! The words of an image on a plain memory, and replicas that are compared with them.
 
-ghost use Rattle.std.specs.Prelude.{◌≡◌, ◌<◌};
+ghost use Rattle.std.specs.Prelude.{◌<◌};
 ghost use Rattle.cx_base.specs.Memory.{Words};
 
 use crate::commands::{entry_of, put};

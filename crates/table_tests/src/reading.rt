@@ -1,6 +1,6 @@
 //! An entry is read by the other caller.
 
-ghost use Rattle.std.specs.Prelude.{◌≡◌, ◌*◌, ◌<◌, ◌≤◌, OnErr, OnOk};
+ghost use Rattle.std.specs.Prelude.{◌≡◌, ◌*◌, ◌<◌, ◌≤◌};
 ghost use Rattle.cx_core.specs.declared.local.Protection.TheVariants.{Confirmed};
 ghost use Rattle.cx_table.specs.Running.{IsSeatOf};
 

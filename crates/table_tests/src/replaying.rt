@@ -5,13 +5,12 @@ ghost use Rattle.cx_base.specs.Memory.{Words};
 ghost use Rattle.cx_core.specs.declared.local.Protection.TheVariants.{Confirmed, Unprotected};
 ghost use Rattle.cx_core.specs.Region.{region_words};
 ghost use Rattle.cx_core.specs.RingEvents.{Protects};
-ghost use Rattle.cx_rule.specs.Fitting.{IsNoted};
 ghost use Rattle.cx_rule.specs.Running.{IsSeatOf};
 ghost use Rattle.cx_table.specs.Tokens.{IsDowngradedOf};
 ghost use Rattle.mutation_queue.specs.Entries.{IsNotedEntry};
-ghost use Rattle.replica.specs.Held.{IsHeld, IsHeldShared, IsSized};
+ghost use Rattle.replica.specs.Held.{IsHeldShared, IsSized};
 ghost use Rattle.replica.specs.Laws.{IsTaken};
-ghost use Rattle.replica.specs.Replays.{IsImage, IsReady, noted_place};
+ghost use Rattle.replica.specs.Replays.{IsReady};
 ghost use Rattle.table_tests.specs.Replaying.{IsFree, IsNew, Keeps, KnowsLinked};
 
 use crate::holds::holds;

@@ -1,8 +1,6 @@
 //! Exact lock words, two callers in each outcome, and each limit of steps of a shared try that is refused.
 
 ghost use Rattle.std.specs.Prelude.{◌≡◌, ◌≢◌, ◌*◌, ◌<◌, IfOk, IfSome, OnOk, length};
-ghost use Rattle.cx_base.specs.Tally.{IsTally};
-ghost use Rattle.cx_core.specs.Base.{LawfulBase};
 ghost use Rattle.table_tests.specs.Trylocks.{ArePair, HoldsDowngraded, IsFreeIn};
 
 use crate::holds::holds;

@@ -1,4 +1,4 @@
-use Rattle.std.proofs.Common.{◌≡◌, ◌+◌, ◌*◌, ◌^◌, ◌<◌, ◌≤◌, ℕ, zero, suc, sym, refl, subst, add-one, arith}
+use Rattle.std.proofs.Common.{◌≡◌, ◌+◌, ◌*◌, ◌<◌, ◌≤◌, ℕ, zero, suc, sym, refl, subst, add-one, arith}
 use Rattle.cx_base.specs.Codes.{root_place_of}
 use Rattle.cx_table.specs.Seats.{Seated}
 use Rattle.mutation_queue.specs.Links.{LinksAt, LinksPast, LosesTries, LosesTry, TriedOnce, WinsTry}

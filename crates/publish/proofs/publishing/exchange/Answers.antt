@@ -1,4 +1,4 @@
-use Rattle.std.proofs.Common.{◌*◌, ◌<◌, ◌≤◌, arith}
+use Rattle.std.proofs.Common.{arith}
 use Rattle.publish.proofs.Exchanging.{exchange_leaves, exchanged}
 use Rattle.publish.proofs.publishing.exchange.Goals as goal
 
