@@ -1,7 +1,7 @@
 #!/usr/bin/env python3
-"""Says which names in README.md and docs/ are none of this repository: python3 tools/check_documents.py [ROOT]
+"""Says which names in README.md, docs/ and the heads of crates are none of this repository: python3 tools/check_documents.py [ROOT]
 
-What stands between backticks is looked up: a path has to exist; a name, with its parts apart at `::` and `.`, has to stand as a whole word in a
+The head of a crate is what the comment says that its src/lib.rt begins with. What stands between backticks is looked up: a path has to exist; a name, with its parts apart at `::` and `.`, has to stand as a whole word in a
 source, as an item, a clause's label, a crate or a word that a format fixes. Links of pages have to lead to a file. Each that is found nowhere
 is a line `FILE:LINE: NAME`, and the status is 1 where there is one. A word in capitals stands for what a reader puts there; `*` for anything, as does what
 is left out before `_`; what a build makes, under `out`, is not looked for.
@@ -11,7 +11,8 @@ import re
 import sys
 from pathlib import Path
 
-PAGES = ("README.md", "docs/*.md", "tools/README.md")
+PAGES = ("README.md", "docs/*.md", "tools/README.md", "crates/*/src/lib.rt")
+HEAD = re.compile(r"^//!.*$", re.M)
 SOURCE = re.compile(r"/(crates/.*\.(rt|antt|edit)|crates\.txt|(tools|bench)/.*\.(py|txt|rs|json)|examples/.*|\.ci/run)")
 WORD = re.compile(r"[^\W\d]\w*")
 TICKED = re.compile(r"`([^`\n]+)`")
@@ -33,11 +34,11 @@ def paths_of(root):
 
 
 def words_of(root, paths):
-    """All words of the sources, and those of the names of files and folders."""
+    """All words of the sources but for the heads of crates, and those of the names of files and folders."""
     words = set(WORD.findall(" ".join(paths)))
     for path in paths:
         if SOURCE.fullmatch(path):
-            words.update(WORD.findall((root / path[1:]).read_text(encoding="utf-8", errors="replace")))
+            words.update(WORD.findall(HEAD.sub("", (root / path[1:]).read_text(encoding="utf-8", errors="replace"))))
     return words
 
 
@@ -69,6 +70,8 @@ def faults_of(root):
     words = words_of(root, paths)
     for page in sorted(path for pattern in PAGES for path in root.glob(pattern)):
         for number, line in enumerate(page.read_text(encoding="utf-8").split("\n"), 1):
+            if page.suffix == ".rt" and not HEAD.match(line):
+                continue
             found = [word for text in TICKED.findall(line) for word in lacks(text, paths, words)]
             found += [link for link in LINK.findall(line) if "://" not in link and not is_path(paths, link)]
             faults += [f"{page.relative_to(root)}:{number}: {name}" for name in found]

@@ -29,6 +29,7 @@ sys.path[:0] = [str(TOOLS), str(TESTS)]
 
 import check_documents
 import check_report
+import clauses
 import draw_life
 import explain
 import gate_minutes
@@ -672,6 +673,18 @@ class Pictures(unittest.TestCase):
         for report in (b"life 0 clients 1 from 0\n", b"life 0 clients 9 from 0\npower 0 kept 0 of 0 documents 0\n", b"x\n"):
             with self.assertRaises(Fault):
                 draw_life.drawn(report)
+
+
+class ClausesTest(unittest.TestCase):
+    """What contracts say is counted."""
+
+    def test_clauses_are_their_functions(self):
+        source = "//! What it is.\n\npub fn one() -> u64\n    ensures { result ≡ 1 }\n{\n    1\n}\n\nimpl A {\n    fn two(&self)\n        requires few { a\n            (λ x. x) }\n"
+        source += "        ensures done { b };\n}\n"
+        self.assertEqual([("one", ["ensures { result ≡ 1 }"]), ("two", ["requires few { a (λ x. x) }", "ensures done { b };"])], clauses.functions_of(source))
+        with tempfile.TemporaryDirectory() as folder:
+            Path(folder, "lib.rt").write_text(source, encoding="utf-8")
+            self.assertEqual(13, clauses.lines_under(Path(folder)))
 
 
 class DocumentsTest(unittest.TestCase):
