@@ -1,6 +1,6 @@
 //! Nodes: the key and the document that each names, and the number of them.
 
-ghost use Rattle.std.specs.Prelude.{◌≡◌, ◌≤◌, ℕ, List, length};
+ghost use Rattle.std.specs.Prelude.{◌≡◌, ◌+◌, ◌≤◌, ℕ, List, length};
 ghost use Rattle.std.specs.Ordering.{nat_cmp};
 ghost use Rattle.cx_base.specs.Calls.{Finds};
 ghost use Rattle.cx_base.specs.Packing.{unpacked};
@@ -13,8 +13,9 @@ ghost use Rattle.word_index.specs.Walk.{HasNode};
 use crate::blocks::{early_word, read_text};
 use crate::texts::{Doc, Key, early_order, order_apart};
 use avl_words::word;
-use cx_base::{Halt, Memory};
+use cx_base::{Halt, Memory, Steps};
 use std::cmp::Ordering;
+use std::sync::ledger::Ledger;
 
 /// The number of pairs.
 pub fn count<M: Memory>(mem: &mut M) -> Result<u64, Halt>
@@ -61,13 +62,20 @@ fn order_of_all<M: Memory>(mem: &mut M, node: u64, key: &Key) -> Result<Ordering
     Ok(len.cmp(&key.len))
 }
 
-/// The same. The length is loaded only where the other key ends before a byte differs, which saves a load at most visits; a key of more than
-/// 56 bytes is then compared anew.
-pub fn order_at<M: Memory>(mem: &mut M, node: u64, key: &Key) -> Result<Ordering, Halt>
+/// The same, which is one visit: a walk sees the keys of nodes in no other way. The length is loaded only where the other key ends before a byte
+/// differs, which saves a load at most visits; a key of more than 56 bytes is then compared anew.
+pub fn order_at<M: Memory, L: Ledger>(
+    mem: &mut M,
+    node: u64,
+    key: &Key,
+    visits: &mut Steps<L>,
+) -> Result<Ordering, Halt>
     requires memory { CanLoad M.Memory mem.old (λ ws. HasNode ws node) }
     requires key { key.now.len ≤ 64 }
-    ensures { Finds M.Memory mem.old mem.new result (λ order ws. (pair : List ℕ × List ℕ) → IsNodeOf ws node pair → order ≡ key_cmp pair.0 (unpacked key.now.len key.now.words)) }
+    ensures counted { visits.new ≡ visits.old + 1 }
+    ensures finds { Finds M.Memory mem.old mem.new result (λ order ws. (pair : List ℕ × List ℕ) → IsNodeOf ws node pair → order ≡ key_cmp pair.0 (unpacked key.now.len key.now.words)) }
 {
+    visits.tick();
     let first = word(mem, node, 3)?;
     for at in 0..key.len.div_ceil(8).min(7) as usize {
         let other = word(mem, first, 1 + at as u64)?;

@@ -55,22 +55,6 @@ fn above_after(side: u64, node: u64, above: u64) -> u64
     if side == 0 { node } else { above }
 }
 
-/// Compares the key of a node with another key, which is one visit. A walk sees the keys of nodes in no other way.
-fn visit<M: Memory, L: Ledger>(
-    mem: &mut M,
-    node: u64,
-    key: &Key,
-    visits: &mut Steps<L>,
-) -> Result<Ordering, Halt>
-    requires memory { CanLoad M.Memory mem.old (λ ws. HasNode ws node) }
-    requires key { key.now.len ≤ 64 }
-    ensures finds { Finds M.Memory mem.old mem.new result (λ order ws. (pair : List ℕ × List ℕ) → IsNodeOf ws node pair → order ≡ key_cmp pair.0 (unpacked key.now.len key.now.words)) }
-    ensures counted { visits.new ≡ visits.old + 1 }
-{
-    visits.tick();
-    order_at(mem, node, key)
-}
-
 /// Walks to the place of a key, or past it, and keeps no way, which a reading does not need.
 pub fn reach<M: Memory, L: Ledger>(
     mem: &mut M,
@@ -89,7 +73,7 @@ pub fn reach<M: Memory, L: Ledger>(
         if node == 0 {
             return Ok(End { node, above });
         }
-        let order = toward(past, visit(mem, node, key, visits)?);
+        let order = toward(past, order_at(mem, node, key, visits)?);
         if order.is_eq() {
             return Ok(End { node, above });
         }
@@ -122,7 +106,7 @@ fn seek<M: Memory, L: Ledger>(
             way.depth = depth;
             return Ok(End { node, above });
         }
-        let order = toward(past, visit(mem, node, key, visits)?);
+        let order = toward(past, order_at(mem, node, key, visits)?);
         if order.is_eq() {
             way.depth = depth;
             return Ok(End { node, above });

@@ -36,24 +36,24 @@ pub word-requires-in-loop-at-clause-memory : goal.word-requires-in-loop-at-claus
 word-requires-in-loop-at-clause-memory g c =
     loadable (search rules) (always_read c.requires.memory.all c.loop-at.invariant.done (λ ws h p. begun_within c.args.node c.in_ok-first.first c.loop-at.at c.args.key.now.words ws p h))
 
-pub returns-in-Some : goal.returns-in-Some
-returns-in-Some g c =
+pub returns-in-Some-clause-finds : goal.returns-in-Some-clause-finds
+returns-in-Some-clause-finds g c =
     let key = c.args.key.now in
     let low : c.loop-at.at < 7 = omega (arith, c.min-at-end.ensures, c.div_ceil.ensures) in
     found (Reads-load c.loop-at.invariant.done c.in_ok-other.ensures.done
     (λ ws p e. begun_tells c.args.node c.in_ok-first.first c.loop-at.at key.words ws p c.in_ok-other.other low e (λ len b. c.in-Some.order ≡ key_cmp b (unpacked key.len key.words))
     (λ these len behind same l. c.in-Some.ensures these key.words len behind same l refl))) (search rules) (search rules) (search rules)
 
-pub returns-in-None : goal.returns-in-None
-returns-in-None g c =
+pub returns-in-None-clause-finds : goal.returns-in-None-clause-finds
+returns-in-None-clause-finds g c =
     let key = c.args.key.now in
     let low : c.loop-at.at < 7 = omega (arith, c.min-at-end.ensures, c.div_ceil.ensures) in
     found (Reads-then (Reads-loaded c.loop-at.invariant.done c.in_ok-other.ensures.done) c.in_ok-short-in-None.ensures.done
     (λ ws pe s pair is. s pair is ∙ begun_tells c.args.node c.in_ok-first.first c.loop-at.at key.words ws pe.0 c.in_ok-other.other low pe.1 (λ len b. nat_cmp len key.len ≡ key_cmp b (unpacked key.len key.words))
     (λ these len behind same l. c.in-None.ensures these key.words len behind same l refl) pair is)) (search rules) (search rules) (search rules)
 
-pub returns-then-key-le56 : goal.returns-then-key-le56
-returns-then-key-le56 g c =
+pub returns-then-key-le56-clause-finds : goal.returns-then-key-le56-clause-finds
+returns-then-key-le56-clause-finds g c =
     let key = c.args.key.now in
     let at = c.loop-at.at in
     let few : at ≤ 8 = omega (arith, c.min-at-end.ensures, c.div_ceil.ensures) in

@@ -32,47 +32,47 @@ returns-then-node-eq0-clause-visits g c =
     let l = c.loop-depth in
     always_said (Reads-weaker l.invariant.done (λ ws w. few_counted ws c.args.visits.now l.visits l.depth (passing_few ws c.args.past (unpacked c.args.key.now.len c.args.key.now.words) l.way.nodes l.way.sides l.depth l.node l.above w) l.invariant.counted))
 
-pub visit-requires-clause-memory : goal.visit-requires-clause-memory
-visit-requires-clause-memory g c =
+pub order_at-requires-clause-memory : goal.order_at-requires-clause-memory
+order_at-requires-clause-memory g c =
     let l = c.loop-depth in
     loadable (search rules) (always_read c.requires.memory.all l.invariant.done (λ ws i w. passing_has_node ws c.args.past (unpacked c.args.key.now.len c.args.key.now.words) l.way.nodes l.way.sides l.depth l.node l.above w c.if-node-eq0.false i))
 
-pub returns-in_err-visit-clause-visits : goal.returns-in_err-visit-clause-visits
-returns-in_err-visit-clause-visits g c =
+pub returns-in_err-order_at-clause-visits : goal.returns-in_err-order_at-clause-visits
+returns-in_err-order_at-clause-visits g c =
     let l = c.loop-depth in
-    always_kept (always_said (Reads-weaker l.invariant.done (λ ws w. few_counted ws c.args.visits.now c.visit.new.visits (l.depth + 1) (passing_few_node ws c.args.past (unpacked c.args.key.now.len c.args.key.now.words) l.way.nodes l.way.sides l.depth l.node l.above w c.if-node-eq0.false) (omega (arith, l.invariant.counted, c.in_err-visit.ensures.counted)))))
-    c.in_err-visit.ensures.finds.kept
+    always_kept (always_said (Reads-weaker l.invariant.done (λ ws w. few_counted ws c.args.visits.now c.order_at.new.visits (l.depth + 1) (passing_few_node ws c.args.past (unpacked c.args.key.now.len c.args.key.now.words) l.way.nodes l.way.sides l.depth l.node l.above w c.if-node-eq0.false) (omega (arith, l.invariant.counted, c.in_err-order_at.ensures.counted)))))
+    c.in_err-order_at.ensures.finds.kept
 
 pub returns-then-is_eq-clause-finds : goal.returns-then-is_eq-clause-finds
 returns-then-is_eq-clause-finds g c =
     let l = c.loop-depth in
-    let o = c.in_ok-visit.field-0 in
+    let o = c.in_ok-order_at.field-0 in
     let same = sym c.toward-order.ensures ∙ is_same c.toward-order.result (sym c.is_eq.ensures ∙ c.if-is_eq.true) in
-    found (Reads-then l.invariant.done c.in_ok-visit.ensures.finds.done (λ ws w is. passing_ends_same ws c.args.past (unpacked c.args.key.now.len c.args.key.now.words) l.way.nodes l.way.sides l.depth l.node l.above o w c.if-node-eq0.false is same)) (search rules) (search rules) (search rules)
+    found (Reads-then l.invariant.done c.in_ok-order_at.ensures.finds.done (λ ws w is. passing_ends_same ws c.args.past (unpacked c.args.key.now.len c.args.key.now.words) l.way.nodes l.way.sides l.depth l.node l.above o w c.if-node-eq0.false is same)) (search rules) (search rules) (search rules)
 
 pub returns-then-is_eq-clause-visits : goal.returns-then-is_eq-clause-visits
 returns-then-is_eq-clause-visits g c =
     let l = c.loop-depth in
-    always_kept (always_said (Reads-weaker l.invariant.done (λ ws w. few_counted ws c.args.visits.now c.visit.new.visits (l.depth + 1) (passing_few_node ws c.args.past (unpacked c.args.key.now.len c.args.key.now.words) l.way.nodes l.way.sides l.depth l.node l.above w c.if-node-eq0.false) (omega (arith, l.invariant.counted, c.in_ok-visit.ensures.counted)))))
-    c.in_ok-visit.ensures.finds.kept
+    always_kept (always_said (Reads-weaker l.invariant.done (λ ws w. few_counted ws c.args.visits.now c.order_at.new.visits (l.depth + 1) (passing_few_node ws c.args.past (unpacked c.args.key.now.len c.args.key.now.words) l.way.nodes l.way.sides l.depth l.node l.above w c.if-node-eq0.false) (omega (arith, l.invariant.counted, c.in_ok-order_at.ensures.counted)))))
+    c.in_ok-order_at.ensures.finds.kept
 
 pub word-requires-in-loop-depth-clause-memory : goal.word-requires-in-loop-depth-clause-memory
 word-requires-in-loop-depth-clause-memory g c =
     let l = c.loop-depth in
-    loadable (search rules) (always_read c.requires.memory.all (Reads-then l.invariant.done c.in_ok-visit.ensures.finds.done (λ ws w o. w))
+    loadable (search rules) (always_read c.requires.memory.all (Reads-then l.invariant.done c.in_ok-order_at.ensures.finds.done (λ ws w o. w))
     (λ ws i w. node_within ws l.node (passing_has_node ws c.args.past (unpacked c.args.key.now.len c.args.key.now.words) l.way.nodes l.way.sides l.depth l.node l.above w c.if-node-eq0.false i)))
 
 pub returns-in_err-node-2-clause-visits : goal.returns-in_err-node-2-clause-visits
 returns-in_err-node-2-clause-visits g c =
     let l = c.loop-depth in
-    always_kept (always_said (Reads-weaker l.invariant.done (λ ws w. few_counted ws c.args.visits.now c.visit.new.visits (l.depth + 1) (passing_few_node ws c.args.past (unpacked c.args.key.now.len c.args.key.now.words) l.way.nodes l.way.sides l.depth l.node l.above w c.if-node-eq0.false) (omega (arith, l.invariant.counted, c.in_ok-visit.ensures.counted)))))
-    (kept_then c.in_ok-visit.ensures.finds.kept c.in_err-node-2.ensures.kept)
+    always_kept (always_said (Reads-weaker l.invariant.done (λ ws w. few_counted ws c.args.visits.now c.order_at.new.visits (l.depth + 1) (passing_few_node ws c.args.past (unpacked c.args.key.now.len c.args.key.now.words) l.way.nodes l.way.sides l.depth l.node l.above w c.if-node-eq0.false) (omega (arith, l.invariant.counted, c.in_ok-order_at.ensures.counted)))))
+    (kept_then c.in_ok-order_at.ensures.finds.kept c.in_err-node-2.ensures.kept)
 
 pub loop-depth-preserved : goal.loop-depth-preserved
 loop-depth-preserved g c =
     let l = c.loop-depth in
     let i = l.invariant in
-    let o = c.in_ok-visit.ensures.finds in
+    let o = c.in_ok-order_at.ensures.finds in
     let w = c.in_ok-node-2.ensures in
     let t = c.toward-order.ensures in
     let s = c.side_of-side.ensures in
@@ -80,9 +80,9 @@ loop-depth-preserved g c =
     let other = is_other c.toward-order.result (sym c.is_eq.ensures ∙ c.if-is_eq.false) in
     record {
       done = Reads-then i.done (Reads-loaded o.done w.done) (λ ws p q.
-          passing_on ws c.args.past (unpacked c.args.key.now.len c.args.key.now.words) l.way.nodes l.way.sides l.depth l.node l.above c.in_ok-node-2.node c.side_of-side.result c.above_after-above.result c.in_ok-visit.field-0
+          passing_on ws c.args.past (unpacked c.args.key.now.len c.args.key.now.words) l.way.nodes l.way.sides l.depth l.node l.above c.in_ok-node-2.node c.side_of-side.result c.above_after-above.result c.in_ok-order_at.field-0
           p (omega (arith, c.loop-depth-test.true)) i.nodes_long i.sides_long c.if-node-eq0.false q.0 (λ e. other (t ∙ e)) (λ e. s.less (t ∙ e)) (λ e. s.more (t ∙ e)) a.left a.right q.1);
-      counted = omega (arith, i.counted, c.in_ok-visit.ensures.counted);
+      counted = omega (arith, i.counted, c.in_ok-order_at.ensures.counted);
       nodes_long = length-set l.way.nodes l.depth l.node ∙ i.nodes_long;
       sides_long = length-set l.way.sides l.depth c.side_of-side.result ∙ i.sides_long;
       kept = kept_then (kept_then i.kept o.kept) w.kept;
