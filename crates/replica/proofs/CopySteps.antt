@@ -1,6 +1,5 @@
 -- What a step of a copy does to the seat.
-use Rattle.std.proofs.Common.{false, true, cond, nat_lt, IfSome, IsErrAnd, inl, inr, arith, ◌≡◌, ◌+◌, ◌*◌, ◌<◌, ◌≤◌, ◌⊎◌, ℕ, Bool, All, List, [], ◌∷◌, ◌++◌, length, refl, ap, sym, subst, ◌∙◌, append-nil, Option, Some, None, Result, Ok, Err, IfOk, OnErr, OnOk}
-use Rattle.std.proofs.lemmas.Bool.{cases_lt, false≢true}
+use Rattle.std.proofs.Common.{false, true, cond, nat_lt, IfSome, IsErrAnd, inl, inr, arith, ◌≡◌, ◌+◌, ◌<◌, ◌≤◌, ◌⊎◌, ℕ, Bool, All, List, [], ◌∷◌, ◌++◌, length, refl, ap, sym, subst, ◌∙◌, append-nil, Option, Some, None, Result, Ok, Err, IfOk, OnErr, OnOk}
 use Rattle.std.specs.Option.{option_map}
 use Rattle.std.specs.Result.{result_ok}
 use Rattle.cx_base.specs.declared.object.Object.{Ghosts}
@@ -8,7 +7,6 @@ use Rattle.cx_core.specs.declared.kinds.Kind.TheVariants.{LoadWord, StoreWord, T
 use Rattle.cx_core.specs.declared.local.HeldExclusive.{HeldExclusive}
 use Rattle.cx_core.specs.declared.local.HeldShared.{HeldShared}
 use Rattle.cx_core.specs.declared.local.Local.{Local}
-use Rattle.cx_core.specs.Layout.{max_word}
 use Rattle.cx_core.specs.LockEvents.{exclusive_mark, passing, shared_by}
 use Rattle.cx_core.specs.Region.{region_words}
 use Rattle.cx_core.specs.RegionEvents.{loaded_into, stored_into}
@@ -17,12 +15,12 @@ use Rattle.cx_core.specs.State.{Instance}
 use Rattle.cx_rule.specs.declared.rule.Known.{Known}
 use Rattle.cx_rule.specs.Fitting.{Fitting, SomeFits}
 use Rattle.cx_rule.specs.Running.{IsSeatOf, Running, instance_at}
-use Rattle.cx_rule.specs.Seats.{IsAtLimit, IsWithinLimit, Seated, known_after}
+use Rattle.cx_rule.specs.Seats.{Seated, known_after}
 use Rattle.cx_rule.specs.Steps.{Halts, Steps}
 use Rattle.cx_table.specs.Right.{Right}
 use Rattle.cx_table.specs.Runs.{Runs, loads_from, no_step, one_more_step}
 use Rattle.cx_table.specs.Tokens.{IsExclusiveOf, IsSharedOf, TriedShared}
-use Rattle.replica.specs.Copies.{CopiesOn, EndsRuns, LeavesCopied, HoldsBoth, LoadsAtMost, LoadsFewer, SomeDiffers, StoresAsMany, beside_copy, but_loads, known_compared, stores_in}
+use Rattle.replica.specs.Copies.{HoldsBoth, LeavesCopied, LoadsAtMost, LoadsFewer, SomeDiffers, StoresAsMany, beside_copy, but_loads}
 use Rattle.replica.specs.Held.{IsHeld, but_words}
 use Rattle.replica.specs.Laws.{shared_held}
 use Rattle.replica.proofs.Access.{beside, dirty_stored, still_on, unstored}
@@ -113,30 +111,11 @@ module _ {O : Type 0} (lines : ℕ) (r : Running O) (step : O → List ℕ → L
             (longer_run (instance_at r step reads) q from found first before.known mid.known was.run));
       }
 
-  -- whether it was made or not
-  pub has_run_if : (words : List ℕ) (before after : Seated) (made : Bool) → HoldsBoth lines r lawful before held source → (made ≡ true → Runs r step reads lawful (loads_from q from) words before after) → (made ≡ false → after ≡ before) →
-      (ws : List ℕ) × HasRun lines r lawful held source q from ws before after
-  has_run_if words before after true both runs none = (words, has_run words before after both (runs refl))
-  has_run_if words before after false both runs none = ([], none_ran before after (none refl) both)
-
--- what is known after a word was loaded of both
-pub compared : {O : Type 0} (r : Running O) (step : O → List ℕ → List ℕ → List ℕ × List ℕ) (reads : O → List ℕ → Bool) (h s at u v : ℕ) (before mid after : Seated) → Steps r step reads (LoadWord h at false) u before mid → Steps r step reads (LoadWord s at false) v mid after →
-    after.known ≡ known_compared (instance_at r step reads) h s at u v before.known
-compared r step reads h s at u v before mid after first second =
-    ap (λ (t : Seated). t.known) second.made ∙ ap (λ (t : Seated). known_after (instance_at r step reads) (LoadWord s at false) t.known v) first.made
-
 unmoved : {O : Type 0} (o : Ghosts O) (r : Running O) (held source : Right) (before after : Seated) → HoldsBoth (o.line_count r.object) r (o.lawful r.object) before held source → Halts r before after → LeavesCopied o r held source before after
 unmoved o r held source before after both halted = record { both = subst (λ (s : Seated). HoldsBoth (o.line_count r.object) r (o.lawful r.object) s held source) (sym halted.same) both; rest = ap beside_copy halted.same }
 
 module _ {O E : Type 0} (o : Ghosts O) (r : Running O) (held source : Right) (q at : ℕ) (before after : Seated) (both : HoldsBoth (o.line_count r.object) r (o.lawful r.object) before held source) where
-  -- what a load and a store leave, whether the step was made or refused
-  pub load_leaves : (result : Result ℕ E) → IfOk result (λ found. Steps r o.step o.only_reads (LoadWord q at false) found before after) → OnOk result (Fitting r.lines (o.lawful r.object) r.base after.known) → OnErr result (Halts r before after) → LeavesCopied o r held source before after
-  load_leaves (Ok found) made fits halted = record {
-    both = both_load (o.line_count r.object) r o.step o.only_reads (o.lawful r.object) held source before after q at found both made fits;
-    rest = load_rest r o.step o.only_reads q at found before after made;
-  }
-  load_leaves (Err e) made fits halted = unmoved o r held source before after both halted
-
+  -- what a store leaves, whether the step was made or refused
   pub store_leaves : {A : Type 0} (v : ℕ) (result : Result A E) → at < region_words (o.line_count r.object) → IfOk result (λ _. Steps r o.step o.only_reads (StoreWord q at v) 0 before after) → OnOk result (Fitting r.lines (o.lawful r.object) r.base after.known) → OnErr result (Halts r before after) →
       LeavesCopied o r held source before after
   store_leaves v (Ok x) below made fits halted = record {
@@ -178,33 +157,6 @@ module _ {O : Type 0} (lines : ℕ) (r : Running O) (step : O → List ℕ → L
 pub at_err : {A E : Type 0} (Q : E → Type 0) (r : Result A E) (P : Result A E → Type 0) → IsErrAnd r Q → ((e : E) → P (Err e)) → P r
 at_err Q (Ok a) P h x = absurd h
 at_err Q (Err e) P h x = x e
-
--- a load was refused, before or after another
-pub refused : (n : ℕ) (first mid last : Seated) → n < 2 → Counts n first.known mid.known → last ≡ mid → (last.known.local.steps < first.known.local.steps + 2) × StoresAsMany first.known last.known
-refused n first mid last few one same =
-    subst (λ (s : Seated). (s.known.local.steps < first.known.local.steps + 2) × StoresAsMany first.known s.known) (sym same) (let a = one.0 in (omega (arith, a, few), one.1))
-
--- one run, and then another or none
-pub runs_end : (from n : ℕ) (first mid last : Seated) (made : Bool) → CopiesOn from from first.known last.known → Counts n first.known mid.known → mid.known.local.limit ≡ first.known.local.limit → (made ≡ true → Counts n mid.known last.known) → (made ≡ false → last ≡ mid) → (made ≡ false → mid.known.local.limit < mid.known.local.steps + n) →
-    EndsRuns from (2 * n) first.known last.known made
-runs_end from n first mid last true copied one limit made none short =
-    let two = made refl in
-    let a = one.0 in
-    let b = two.0 in
-    record { copied = copied; stores = two.1 ∙ one.1; steps = λ is. omega (arith, a, b); short = λ is. absurd (false≢true (sym is)) }
-runs_end from n first mid last false copied one limit made none short =
-    let few = short refl in
-    let a = one.0 in
-    record { copied = copied; stores = ap (λ (s : Seated). stores_in s.known.accesses) (none refl) ∙ one.1; steps = λ is. absurd (false≢true is); short = λ is. omega (arith, a, few, limit) }
-
--- where the limit does not leave both runs, it leaves fewer steps than both take
-pub left_of_runs : (from n : ℕ) (first mid last : Seated) → EndsRuns from n first.known mid.known false → beside_copy last ≡ beside_copy first → StoresAsMany mid.known last.known → IsWithinLimit last.known.local → last.known.local.steps ≤ max_word →
-    (last.known.local.steps < first.known.local.steps + n) × StoresAsMany first.known last.known
-left_of_runs from n first mid last runs same stores within small =
-    let short = runs.short refl in
-    let limit : last.known.local.limit ≡ first.known.local.limit = ap (λ (s : Seated). s.known.local.limit) same in
-    let most : last.known.local.steps ≤ last.known.local.limit = elim (cases_lt last.known.local.limit max_word) [ inl few ↦ within few | inr none ↦ omega (arith, none, small) ] in
-    (omega (arith, short, limit, most), stores ∙ runs.stores)
 
 -- loads are no stores
 pub loads_most : (n : ℕ) (k k' : Known) → Counts n k k' → LoadsAtMost n k k'

@@ -1,7 +1,7 @@
 -- What loads of the words of a replica tell, one by one and in runs.
-use Rattle.std.proofs.Common.{false, true, ◌≡◌, ◌+◌, ◌<◌, ◌≤◌, ◌==◌, inl, inr, ℕ, Bool, cond, List, [], ◌∷◌, ◌++◌, length, length-append, set, slice_index, refl, ap, sym, subst, ◌∙◌, arith, eq-eqb, Option, Some, None}
+use Rattle.std.proofs.Common.{false, true, ◌≡◌, ◌+◌, ◌<◌, ◌≤◌, ◌==◌, inl, inr, ℕ, Bool, cond, List, [], ◌∷◌, ◌++◌, length, length-append, slice_index, refl, ap, sym, subst, ◌∙◌, arith, eq-eqb, Option, Some, None}
 use Rattle.std.proofs.lemmas.Bool.{cases_eq}
-use Rattle.std.proofs.lemmas.List.{get_or-set_other, get_or-set_same, get_or_append_left, get_or_push, map-append}
+use Rattle.std.proofs.lemmas.List.{get_or_append_left, get_or_push, map-append}
 use Rattle.std.proofs.lemmas.List.Elements.{Contains-append_left}
 use Rattle.std.proofs.lemmas.Option.{none-some, same_Some}
 use Rattle.std.specs.List.{Contains}
@@ -16,7 +16,7 @@ use Rattle.cx_rule.specs.declared.rule.Known.{Known}
 use Rattle.cx_rule.specs.Fitting.{loaded_of, loads_of, word_noted}
 use Rattle.cx_rule.specs.Seats.{known_after}
 use Rattle.cx_rule.proofs.Copying.{here_or, or_there}
-use Rattle.replica.specs.Copies.{AreSeen, IsSeen, StoresAsMany, known_compared, read_notes, stores_in}
+use Rattle.replica.specs.Copies.{AreSeen, IsSeen, StoresAsMany, read_notes, stores_in}
 
 -- notes say the same of every word but these
 abbrev pub SameBut : (ℕ → Type 0) → List Note → List Note → Type 0
@@ -77,11 +77,6 @@ load_counts instance r at v k = (omega arith, load_stores (is_at r (exclusive_on
 
 pub counts_on : (m n l : ℕ) (k k' k'' : Known) → m + n ≡ l → Counts m k k' → Counts n k' k'' → Counts l k k''
 counts_on m n l k k' k'' all one two = (let a = one.0 in let b = two.0 in (omega (arith, all, a, b), two.1 ∙ one.1))
-
-pub compared_counts : (instance : Instance) (h s at u v : ℕ) (k : Known) → Counts 2 k (known_compared instance h s at u v k)
-compared_counts instance h s at u v k =
-    let mid = known_after instance (LoadWord h at false) k u in
-    counts_on 1 1 2 k mid (known_compared instance h s at u v k) refl (load_counts instance h at u k) (load_counts instance s at v mid)
 
 -- ---- what loads leave
 
@@ -257,38 +252,3 @@ seen_of P h s at u v k k' k'' held shared one two other = record {
 pub seen_runs : (h s from n : ℕ) (us vs : List ℕ) (k k' k'' : Known) → length us ≡ n → length vs ≡ n → exclusive_on k.local ≡ Some h → shared_on k.local ≡ Some s → IsRunOf h from us k k' → IsRunOf s from vs k' k'' → AreSeen from 0 n us vs k''
 seen_runs h s from n us vs k k' k'' long long' held shared one two i least below =
     seen_of (IsIn from (length vs)) h s (from + i) (slice_index us i) (slice_index vs i) k k' k'' held (one.loaded.shared ∙ shared) (one.each i (omega (arith, long, below))) two.loaded (two.each i (omega (arith, long', below)))
-
-pub compared_load : (instance : Instance) (h s at u v : ℕ) (k : Known) → AreLoaded (λ i. i ≡ at) k (known_compared instance h s at u v k)
-compared_load instance h s at u v k =
-    let mid = known_after instance (LoadWord h at false) k u in
-    loaded_on (λ i. i ≡ at) (λ i. i ≡ at) (λ i. i ≡ at) k mid (known_compared instance h s at u v k) (λ i x. x) (λ i x. x) (one_load instance h at u k) (one_load instance s at v mid)
-
-seen_compared : (instance : Instance) (h s at u v : ℕ) (k : Known) → exclusive_on k.local ≡ Some h → shared_on k.local ≡ Some s → IsSeen at u v (known_compared instance h s at u v k)
-seen_compared instance h s at u v k held shared =
-    let mid = known_after instance (LoadWord h at false) k u in
-    seen_of (λ i. i ≡ at) h s at u v k mid (known_compared instance h s at u v k) held (still_shared k.local.shared h at u ∙ shared) (load_of instance h at u k) (one_load instance s at v mid) (load_of instance s at v mid)
-
--- what was seen stays so when other words are loaded
-seen_later : (P : ℕ → Type 0) (i u v : ℕ) (k k' : Known) → ¬ P i → AreLoaded P k k' → IsSeen i u v k → IsSeen i u v k'
-seen_later P i u v k k' apart load seen = record {
-  source = load.beside_read i apart ∙ seen.source;
-  same = λ e. load.beside i apart ∙ seen.same e;
-  was = λ first now l. seen.was first now (load.held first now l);
-}
-
--- one word more of a line was loaded of both
-pub seen_more : (instance : Instance) (h s from n u v : ℕ) (us vs : List ℕ) (k : Known) → exclusive_on k.local ≡ Some h → shared_on k.local ≡ Some s → n < length us → n < length vs →
-    AreSeen from 0 n us vs k → AreSeen from 0 (n + 1) (set us n u) (set vs n v) (known_compared instance h s (from + n) u v k)
-seen_more instance h s from n u v us vs k held shared in_us in_vs seen i least below =
-    let now = known_compared instance h s (from + n) u v k in
-    elim (cases_eq i n) [
-      | inl e ↦
-          subst (λ j. IsSeen (from + j) (slice_index (set us n u) j) (slice_index (set vs n v) j) now) (sym e)
-          (subst (λ b. IsSeen (from + n) (slice_index (set us n u) n) b now) (sym (get_or-set_same vs n v 0 in_vs))
-          (subst (λ a. IsSeen (from + n) a v now) (sym (get_or-set_same us n u 0 in_us))
-          (seen_compared instance h s (from + n) u v k held shared)))
-      | inr ne ↦
-          subst (λ b. IsSeen (from + i) (slice_index (set us n u) i) b now) (sym (get_or-set_other vs n i v 0 ne))
-          (subst (λ a. IsSeen (from + i) a (slice_index vs i) now) (sym (get_or-set_other us n i u 0 ne))
-          (seen_later (λ j. j ≡ from + n) (from + i) (slice_index us i) (slice_index vs i) k now (λ e. ne (omega (arith, e))) (compared_load instance h s (from + n) u v k) (seen i least (omega (arith, below, ne)))))
-    ]

@@ -1,5 +1,5 @@
 -- What the loads of a run tell together.
-use Rattle.std.proofs.Common.{◌≡◌, ◌+◌, ◌<◌, ℕ, Bool, List, [], ◌∷◌, ◌++◌, length, set, slice_index, take, ap, sym, subst, ◌∙◌, arith, below_more, length-append}
+use Rattle.std.proofs.Common.{◌≡◌, ◌+◌, ◌<◌, ℕ, Bool, List, [], ◌∷◌, ◌++◌, length, set, slice_index, take, ap, sym, subst, ◌∙◌, arith, below_more, length-append, Result, Ok, Err, OnErr, OnOk}
 use Rattle.std.proofs.lemmas.List.{get_or_append_left, length-take-le, take_all, take_more_set}
 use Rattle.std.proofs.Math.Seq.{get_or-append_seam}
 use Rattle.cx_base.specs.Memory.{AreAt, Loaded, Reads}
@@ -27,9 +27,14 @@ module _ {O : Type 0} (r : Running O) (step : O → List ℕ → List ℕ → Li
   run_more words i v before mid after below run last fits =
       one_more_step _ _ _ (take i words) v mid (take_more_set words i v below) run (subst (λ k. Steps r step reads (kinds k) v mid after) (sym (length-take-le i words (omega arith))) last) fits
 
-  -- all the words are the first so many of them
-  pub run_whole : (words : List ℕ) (before after : Seated) → Runs r step reads lawful kinds words before after → (n : ℕ) × Runs r step reads lawful kinds (take n words) before after
-  run_whole words before after run = (length words, subst (λ ws. Runs r step reads lawful kinds ws before after) (sym (take_all (length words) words (omega arith))) run)
+-- whether all the words were loaded or not, some were
+pub some_of : {A E : Type 0} (result : Result A E) (P : List ℕ → Type 0) (words : List ℕ) → OnOk result (P words) → OnErr result ((n : ℕ) × P (take n words)) → (n : ℕ) × P (take n words)
+some_of (Ok x) P words made short = (length words, subst P (sym (take_all (length words) words (omega arith))) made)
+some_of (Err e) P words made short = short
+
+pub on_err : {A E : Type 0} (r : Result A E) (X : Type 0) → X → OnErr r X
+on_err (Ok a) X x = tt
+on_err (Err e) X x = x
 
 module _ (load : ℕ → ℕ → Seated → Seated → Type 0) (from : ℕ) where
   -- what each load keeps is kept

@@ -1,18 +1,16 @@
 -- A replica held shared that is copied over one held exclusively.
-use Rattle.std.specs.Prelude.{◌≡◌, ◌≢◌, ◌+◌, ◌%◌, ◌<◌, ◌≤◌, ◌⊎◌, ℕ, Bool, IsTrue, false, if◌then◌else◌, List, [], ◌∷◌, length, slice_index, Some, None, Result, Ok, Err}
+use Rattle.std.specs.Prelude.{◌≡◌, ◌≢◌, ◌+◌, ◌%◌, ◌<◌, ◌≤◌, ◌⊎◌, ℕ, if◌then◌else◌, List, [], ◌∷◌, length, slice_index, Some, None, Result, Ok, Err}
 use Rattle.std.specs.List.{Contains}
 use Rattle.std.specs.Option.{option_map}
 use Rattle.cx_base.specs.declared.object.Object.{Ghosts}
 use Rattle.cx_base.specs.Noted.{Note, NotesLead}
-use Rattle.cx_core.specs.declared.kinds.Kind.TheVariants.{LoadWord}
 use Rattle.cx_core.specs.Region.{region_words}
 use Rattle.cx_core.specs.Rights.{held_dirty}
-use Rattle.cx_core.specs.State.{Instance}
 use Rattle.cx_rule.specs.declared.rule.Known.{Known}
 use Rattle.cx_core.specs.declared.local.HeldShared.{HeldShared}
 use Rattle.cx_rule.specs.Fitting.{AgreeTo, AreEqual, loaded_of, loads_of, word_noted}
 use Rattle.cx_rule.specs.Running.{Running}
-use Rattle.cx_rule.specs.Seats.{Seated, known_after}
+use Rattle.cx_rule.specs.Seats.{Seated}
 use Rattle.cx_table.specs.Right.{Right}
 use Rattle.replica.specs.Held.{IsHeld, IsHeldShared, but_words}
 use Rattle.replica.specs.Replays.{IsReady, noted_place}
@@ -60,10 +58,6 @@ DirtiesDiffering region before after =
     (at : ℕ) → Contains (held_dirty after.local.exclusive) at →
     Contains (held_dirty before.local.exclusive) at
     ⊎ ((first was now read : List ℕ) → length read ≡ region → NotesLead before.accesses first was → NotesLead after.accesses first now → NotesLead (read_notes after) read read → slice_index was at ≢ slice_index read at)
-
--- what a caller knows after it loaded a word of the replica h, held exclusively, and then of the replica s, held shared
-abbrev pub known_compared : Instance → ℕ → ℕ → ℕ → ℕ → ℕ → Known → Known
-known_compared instance h s at u v k = known_after instance (LoadWord s at false) (known_after instance (LoadWord h at false) k u) v
 
 -- a word was loaded of both: it is u in the replica held exclusively and v in the one held shared
 pub record IsSeen (at u v : ℕ) (known : Known) : Type 0 where
@@ -138,13 +132,6 @@ StoresAsMany before after = stores_in after.accesses ≡ stores_in before.access
 abbrev pub EndsLoads : {A E : Type 0} → ℕ → Known → Known → Result A E → Type 0
 EndsLoads n before after (Ok x) = (after.local.steps ≤ before.local.steps + n) × StoresAsMany before after
 EndsLoads n before after (Err e) = (after.local.steps < before.local.steps + n) × StoresAsMany before after
-
--- The same of words that are loaded by one call each, where the limit leaves so many steps.
-pub record EndsRuns (from n : ℕ) (before after : Known) (made : Bool) : Type 0 where
-  pub copied : CopiesOn from from before after
-  pub stores : StoresAsMany before after
-  pub steps : IsTrue made → after.local.steps ≤ before.local.steps + n
-  pub short : made ≡ false → before.local.limit < before.local.steps + n
 
 -- some word of the region was loaded of both, and differs
 pub record SomeDiffers (region : ℕ) (known : Known) : Type 0 where

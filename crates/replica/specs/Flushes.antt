@@ -1,5 +1,5 @@
 -- A replica held exclusively whose stored words are persisted.
-use Rattle.std.specs.Prelude.{◌≡◌, ◌<◌, ℕ, [], length, Result, Ok, Err}
+use Rattle.std.specs.Prelude.{◌≡◌, ◌<◌, [], length, Result, Ok, Err}
 use Rattle.cx_base.specs.declared.object.Object.{Ghosts}
 use Rattle.cx_core.specs.Rights.{held_dirty}
 use Rattle.cx_rule.specs.Running.{Running}

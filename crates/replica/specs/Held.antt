@@ -1,8 +1,9 @@
 -- A replica that a caller holds: whose it is, and what an access of it changes.
-use Rattle.std.specs.Prelude.{false, ◌≡◌, ◌+◌, ◌-◌, ◌<◌, ◌≤◌, ◌==◌, if◌then◌else◌, nat_lt, ℕ, All, List, [], ◌∷◌, ◌++◌, length, Option, Some, None}
+use Rattle.std.specs.Prelude.{false, ◌≡◌, ◌+◌, ◌-◌, ◌<◌, ◌≤◌, ◌==◌, if◌then◌else◌, nat_lt, ℕ, All, List, [], ◌∷◌, ◌++◌, length, take, Option, Some, None}
 use Rattle.std.specs.Option.{option_map}
 use Rattle.cx_base.specs.declared.object.Object.{Ghosts}
 use Rattle.cx_base.specs.Noted.{Note}
+use Rattle.cx_core.specs.declared.kinds.Kind.{Kind}
 use Rattle.cx_core.specs.declared.local.HeldExclusive.{HeldExclusive}
 use Rattle.cx_core.specs.declared.local.HeldShared.{HeldShared}
 use Rattle.cx_core.specs.declared.local.Local.{Local}
@@ -14,6 +15,7 @@ use Rattle.cx_rule.specs.Fitting.{SomeFits, SomeReadFits, loaded_of}
 use Rattle.cx_rule.specs.Running.{IsSeatOf, Running}
 use Rattle.cx_rule.specs.Seats.{IsAtLimit, IsWithinLimit, Seated}
 use Rattle.cx_table.specs.Right.{Right}
+use Rattle.cx_table.specs.Runs.{Runs}
 use Rattle.cx_table.specs.Tokens.{IsExclusiveOf, IsSharedOf}
 
 -- the steps that the limit leaves, where 2^64 - 1 is none
@@ -96,6 +98,13 @@ pub record LoadsShared {O : Type 0} (lines : ℕ) (r : Running O) (lawful : List
 -- a load of a replica held exclusively, by the place and the word
 abbrev pub LoadsHeld : {O : Type 0} → ℕ → Running O → (List ℕ → Type 0) → Right → ℕ → ℕ → Seated → Seated → Type 0
 LoadsHeld lines r lawful held at word = Accesses lines r lawful held (false, at, word)
+
+-- The limit ended a run of loads: the first of these words were loaded.
+pub record EndsRun {O : Type 0} (o : Ghosts O) (r : Running O) (kinds : ℕ → Kind) (words : List ℕ) (before after : Seated) : Type 0 where
+  pub n : ℕ
+  pub fewer : n < length words
+  pub run : Runs r o.step o.only_reads (o.lawful r.object) kinds (take n words) before after
+  pub limit : IsAtLimit after.known.local
 
 -- words from a place on were loaded, in order, each as one load says of its place, its word, and the seat before and after it
 pub data LoadsRun (load : ℕ → ℕ → Seated → Seated → Type 0) (from : ℕ) : List ℕ → Seated → Seated → Type 0 where

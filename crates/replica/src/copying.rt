@@ -1,13 +1,14 @@
 //! A replica held shared is copied over one held exclusively.
 
-ghost use Rattle.std.specs.Prelude.{◌≡◌, ◌+◌, ◌*◌, ◌<◌, ◌≤◌, IfOk, IsTrue, OnErr, OnOk, length};
+ghost use Rattle.std.specs.Prelude.{◌≡◌, ◌+◌, ◌*◌, ◌<◌, ◌≤◌, IfOk, OnErr, OnOk, length};
 ghost use Rattle.cx_core.specs.declared.kinds.Kind.TheVariants.{StoreWord};
 ghost use Rattle.cx_core.specs.Region.{region_words};
 ghost use Rattle.cx_rule.specs.Running.{IsSeatOf, instance_at};
 ghost use Rattle.cx_rule.specs.Seats.{IsAtLimit, known_after};
 ghost use Rattle.cx_rule.specs.Steps.{Halts};
-ghost use Rattle.replica.specs.Copies.{AreLines, ArePiece, AreSeen, Copies, CopiesOn, CopiesPiece, EndsCopy, EndsLoads, EndsRuns, HoldsBoth, LeavesCopied, Renews, SeesLine, beside_copy, known_compared};
+ghost use Rattle.replica.specs.Copies.{AreLines, ArePiece, Copies, CopiesOn, CopiesPiece, EndsCopy, EndsLoads, HoldsBoth, LeavesCopied, Renews, SeesLine, beside_copy};
 
+use crate::words::load_run;
 use cx_base::{Halt, Object};
 use cx_core::{HEAD_LINES, LINE_WORDS};
 use cx_table::{CallerSeat, Exclusive, Shared, SharedHold};
@@ -135,7 +136,7 @@ fn copy_piece<O: Object>(
     Ok(())
 }
 
-/// Loads a piece of both replicas: each by one call, but for the line of the place, and where the limit does not leave both.
+/// Loads a piece of both replicas, each by one call where that may be.
 fn load_piece<O: Object>(
     shared: &Shared<O>,
     seat: &mut CallerSeat,
@@ -152,79 +153,9 @@ fn load_piece<O: Object>(
     ensures leaves { LeavesCopied O.Object shared.now held.now source.now seat.old seat.new }
     ensures halts { OnErr result (IsAtLimit seat.new.known.local) }
 {
-    if from > 0 && load_runs(shared, seat, held, source, from, held_words, source_words) {
-        return Ok(());
-    }
-    load_each(shared, seat, held, source, from, held_words, source_words)?;
-    // what the limit leaves is then less than both
-    let _steps = seat.steps();
+    load_run(shared, seat, held.replica() as u64, from, held_words)?;
+    load_run(shared, seat, source.replica() as u64, from, source_words)?;
     Ok(())
-}
-
-/// Loads a piece of both replicas, behind the place, each by one call. It answers whether the limit leaves both.
-fn load_runs<O: Object>(
-    shared: &Shared<O>,
-    seat: &mut CallerSeat,
-    held: &Exclusive,
-    source: &SharedHold,
-    from: u64,
-    held_words: &mut [u64],
-    source_words: &mut [u64],
-) -> bool
-    requires both { HoldsBoth (O.line_count shared.now.object) shared.now (O.lawful shared.now.object) seat.old held.now source.now }
-    requires piece { ArePiece (O.line_count shared.now.object) from held_words.old source_words.old }
-    requires behind { 0 < from }
-    ensures seen { IsTrue result → AreSeen from 0 (length held_words.old) held_words.new source_words.new seat.new.known }
-    ensures steps { EndsRuns from (2 * length held_words.old) seat.old.known seat.new.known result }
-    ensures leaves { LeavesCopied O.Object shared.now held.now source.now seat.old seat.new }
-{
-    shared.load_words(seat, held.replica() as u64, from, held_words)
-        && shared.load_words(seat, source.replica() as u64, from, source_words)
-}
-
-/// Loads a piece of both replicas word by word.
-fn load_each<O: Object>(
-    shared: &Shared<O>,
-    seat: &mut CallerSeat,
-    held: &Exclusive,
-    source: &SharedHold,
-    from: u64,
-    held_words: &mut [u64],
-    source_words: &mut [u64],
-) -> Result<(), Halt>
-    requires both { HoldsBoth (O.line_count shared.now.object) shared.now (O.lawful shared.now.object) seat.old held.now source.now }
-    requires piece { ArePiece (O.line_count shared.now.object) from held_words.old source_words.old }
-    ensures loaded { OnOk result (CopiesPiece from from from 0 held_words.new source_words.new seat.old.known seat.new.known) }
-    ensures steps { EndsLoads (2 * length held_words.old) seat.old.known seat.new.known result }
-    ensures leaves { LeavesCopied O.Object shared.now held.now source.now seat.old seat.new }
-    ensures halts { OnErr result (IsAtLimit seat.new.known.local) }
-{
-    for i in 0..held_words.len() {
-        let (old, new) = load_both(shared, seat, held, source, from + i as u64)?;
-        held_words[i] = old;
-        source_words[i] = new;
-    }
-    Ok(())
-}
-
-/// Loads a word of both replicas.
-fn load_both<O: Object>(
-    shared: &Shared<O>,
-    seat: &mut CallerSeat,
-    held: &Exclusive,
-    source: &SharedHold,
-    at: u64,
-) -> Result<(u64, u64), Halt>
-    requires both { HoldsBoth (O.line_count shared.now.object) shared.now (O.lawful shared.now.object) seat.old held.now source.now }
-    requires at { at < region_words (O.line_count shared.now.object) }
-    ensures known { IfOk result (λ words. seat.new.known ≡ known_compared (instance_at shared.now O.step O.only_reads) held.now.replica source.now.replica at words.0 words.1 seat.old.known) }
-    ensures steps { EndsLoads 2 seat.old.known seat.new.known result }
-    ensures leaves { LeavesCopied O.Object shared.now held.now source.now seat.old seat.new }
-    ensures halts { OnErr result (IsAtLimit seat.new.known.local) }
-{
-    let old = shared.load_word(seat, held.replica() as u64, at, false)?;
-    let new = shared.load_word(seat, source.replica() as u64, at, false)?;
-    Ok((old, new))
 }
 
 /// Stores the words that differ of the line that begins at one of the words of a piece, which were loaded.

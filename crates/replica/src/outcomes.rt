@@ -1,7 +1,7 @@
 //! What a region says: the place after which it is, and the number and the reply of each caller's last entry there.
 
-ghost use Rattle.std.specs.Prelude.{◌≡◌, ◌+◌, ◌<◌, ◌≤◌, Some, OnErr, IfOk, IsErr};
-ghost use Rattle.cx_base.specs.Memory.{Becomes, Framed, Reads, one_less};
+ghost use Rattle.std.specs.Prelude.{◌≡◌, ◌+◌, ◌<◌, ◌≤◌, Some, OnErr, IfOk};
+ghost use Rattle.cx_base.specs.Memory.{Becomes, Framed, Reads};
 ghost use Rattle.cx_core.specs.Region.{place_of};
 ghost use Rattle.replica.specs.Outcomes.{IsOutcome, ReplyFrom};
 

@@ -7,7 +7,7 @@ ghost use Rattle.cx_rule.specs.Running.{IsSeatOf, Running};
 ghost use Rattle.cx_rule.specs.Seats.{IsAtLimit};
 ghost use Rattle.cx_rule.specs.Steps.{Halts};
 ghost use Rattle.cx_table.specs.Runs.{Runs, loads_from};
-ghost use Rattle.replica.specs.Held.{Accesses, IsHeld, IsHeldShared, LoadsHeld, LoadsRun, LoadsShared};
+ghost use Rattle.replica.specs.Held.{Accesses, EndsRun, IsHeld, IsHeldShared, LoadsHeld, LoadsRun, LoadsShared};
 
 use cx_base::{Halt, Object};
 use cx_table::{CallerSeat, Exclusive, Shared, SharedHold};
@@ -136,7 +136,7 @@ impl<O: Object> HeldWords for Shared<O> {
 
 /// Loads words of a replica that the caller holds exclusively or shared, from a place on, by one call where that may be. `Halt` comes
 /// only where the seat's steps equal its limit, and then the first of the words were loaded.
-fn load_run<O: Object>(
+pub(crate) fn load_run<O: Object>(
     shared: &Shared<O>,
     seat: &mut CallerSeat,
     r: u64,
@@ -146,8 +146,7 @@ fn load_run<O: Object>(
     requires seat { IsSeatOf shared.now seat.old × (from + length into.old < 2 ^ 64) }
     requires guard { (i : ℕ) → i < length into.old → CanLoad shared.now.callers (length shared.now.base.words) r (from + i) seat.old.known.local }
     ensures made { OnOk result (Runs shared.now O.step O.only_reads (O.lawful shared.now.object) (loads_from r from) into.new seat.old seat.new) }
-    ensures some { (n : ℕ) × Runs shared.now O.step O.only_reads (O.lawful shared.now.object) (loads_from r from) (take n into.new) seat.old seat.new }
-    ensures halted { OnErr result (IsAtLimit seat.new.known.local) }
+    ensures halted { OnErr result (EndsRun O.Object shared.now (loads_from r from) into.new seat.old seat.new) }
     ensures length { length into.new ≡ length into.old }
 {
     // the place is noted by itself, and where fewer steps are left the first words are loaded all the same
@@ -168,8 +167,7 @@ fn load_each<O: Object>(
     requires seat { IsSeatOf shared.now seat.old × (from + length into.old < 2 ^ 64) }
     requires guard { (i : ℕ) → i < length into.old → CanLoad shared.now.callers (length shared.now.base.words) r (from + i) seat.old.known.local }
     ensures made { OnOk result (Runs shared.now O.step O.only_reads (O.lawful shared.now.object) (loads_from r from) into.new seat.old seat.new) }
-    ensures some { (n : ℕ) × Runs shared.now O.step O.only_reads (O.lawful shared.now.object) (loads_from r from) (take n into.new) seat.old seat.new }
-    ensures halted { OnErr result (IsAtLimit seat.new.known.local) }
+    ensures halted { OnErr result (EndsRun O.Object shared.now (loads_from r from) into.new seat.old seat.new) }
     ensures length { length into.new ≡ length into.old }
 {
     for i in 0..into.len() {

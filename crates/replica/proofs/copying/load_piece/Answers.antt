@@ -1,52 +1,192 @@
-use Rattle.std.proofs.Common.{false, ◌≡◌, ◌+◌, ◌*◌, ◌<◌, ◌≤◌, ℕ, List, length, ap, sym, subst, ◌∙◌, arith}
-use Rattle.cx_core.specs.Layout.{max_word}
-use Rattle.cx_rule.specs.Seats.{Seated}
-use Rattle.replica.specs.Copies.{CopiesOn, EndsLoads, EndsRuns, StoresAsMany, beside_copy}
-use Rattle.replica.proofs.CopySteps.{at_err, left_of_runs}
-use Rattle.replica.proofs.LineLoads.{Counts}
-use Rattle.replica.proofs.copying.load_piece.Goals.{else-from-gt0-via-then-from-gt0+else-load_runs, else-from-gt0-via-else-from-gt0}
+use Rattle.std.proofs.Common.{◌+◌, ◌*◌, length, take, refl, subst, ◌∙◌, arith}
+use Rattle.std.proofs.lemmas.List.{length-take-le}
+use Rattle.replica.specs.Copies.{EndsLoads}
+use Rattle.replica.proofs.Access.{load_guard, shared_guard}
+use Rattle.replica.proofs.CopySteps.{at_err, has_run}
+use Rattle.replica.proofs.LineCopies.{on_run}
+use Rattle.replica.proofs.LineLoads.{IsRunOf, seen_runs}
+use Rattle.replica.proofs.Runs.{on_err}
 use Rattle.replica.proofs.copying.load_piece.Goals as goal
 
-pub returns-clause-loaded : goal.returns-clause-loaded
-returns-clause-loaded g c =
+pub load_run-requires-clause-guard : goal.load_run-requires-clause-guard
+load_run-requires-clause-guard g c =
+    λ i below. load_guard _ c.args.shared.now _ c.args.held.now c.replica.result (c.args.from + i) c.args.seat.now c.replica.ensures c.requires.both.exclusive (omega (arith, below, c.requires.piece.within))
+
+pub load_run-requires-2-clause-seat : goal.load_run-requires-2-clause-seat
+load_run-requires-2-clause-seat g c =
+    let t = c.args.shared.now in
+    let lines = g.O.Object.line_count t.object in
+    let step = g.O.Object.step in
+    let reads = g.O.Object.only_reads in
+    let lawful = g.O.Object.lawful t.object in
+    let h = c.args.held.now in
+    let s = c.args.source.now in
     let from = c.args.from in
-    let before = c.args.seat.now.known in
-    let tried : CopiesOn from from before c.else-from-gt0.seat.known = elim c.else-from-gt0.branch [
-      | else-from-gt0-via-then-from-gt0+else-load_runs w ↦ subst (λ (s : Seated). CopiesOn from from before s.known) (sym w.seat-is) w.load_runs.ensures.steps.copied
-      | else-from-gt0-via-else-from-gt0 w ↦ subst (λ (s : Seated). CopiesOn from from before s.known) (sym w.seat-is) (λ region first below copied. copied)
-    ] in
-    record { seen = c.in_ok-load_each.ensures.loaded.seen; copied = λ region first below copied. c.in_ok-load_each.ensures.loaded.copied region first below (tried region first below copied) }
+    let first = c.args.seat.now in
+    let mid = c.load_run.new.seat in
+    let one = has_run lines t step reads lawful h s c.replica.result from c.load_run.new.into first mid c.requires.both c.in_ok-load_run.ensures.made in
+    let small = one.both.exclusive.sized.small in
+    (one.both.exclusive.of, omega (arith, c.requires.piece.within, c.requires.piece.lengths, small))
+
+pub load_run-requires-2-clause-guard : goal.load_run-requires-2-clause-guard
+load_run-requires-2-clause-guard g c =
+    let t = c.args.shared.now in
+    let lines = g.O.Object.line_count t.object in
+    let step = g.O.Object.step in
+    let reads = g.O.Object.only_reads in
+    let lawful = g.O.Object.lawful t.object in
+    let h = c.args.held.now in
+    let s = c.args.source.now in
+    let from = c.args.from in
+    let first = c.args.seat.now in
+    let mid = c.load_run.new.seat in
+    let one = has_run lines t step reads lawful h s c.replica.result from c.load_run.new.into first mid c.requires.both c.in_ok-load_run.ensures.made in
+    λ i below. shared_guard lines t lawful s c.replica-2.result (from + i) mid c.replica-2.ensures one.both.shared (omega (arith, below, c.requires.piece.within, c.requires.piece.lengths))
+
+-- ---- the first run was ended by the limit
+
+pub returns-in_err-load_run-clause-leaves : goal.returns-in_err-load_run-clause-leaves
+returns-in_err-load_run-clause-leaves g c =
+    let t = c.args.shared.now in
+    let lines = g.O.Object.line_count t.object in
+    let step = g.O.Object.step in
+    let reads = g.O.Object.only_reads in
+    let lawful = g.O.Object.lawful t.object in
+    let h = c.args.held.now in
+    let s = c.args.source.now in
+    let from = c.args.from in
+    let first = c.args.seat.now in
+    let mid = c.load_run.new.seat in
+    let halted = c.in_err-load_run.ensures.halted in
+    let one = has_run lines t step reads lawful h s c.replica.result from (take halted.n c.load_run.new.into) first mid c.requires.both halted.run in
+    record { both = one.both; rest = one.rest }
+
+pub returns-in_err-load_run-clause-steps : goal.returns-in_err-load_run-clause-steps
+returns-in_err-load_run-clause-steps g c =
+    let t = c.args.shared.now in
+    let lines = g.O.Object.line_count t.object in
+    let step = g.O.Object.step in
+    let reads = g.O.Object.only_reads in
+    let lawful = g.O.Object.lawful t.object in
+    let h = c.args.held.now in
+    let s = c.args.source.now in
+    let from = c.args.from in
+    let first = c.args.seat.now in
+    let mid = c.load_run.new.seat in
+    let halted = c.in_err-load_run.ensures.halted in
+    let fewer = halted.fewer in
+    let one = has_run lines t step reads lawful h s c.replica.result from (take halted.n c.load_run.new.into) first mid c.requires.both halted.run in
+    let count = one.run.count in
+    let most = count.0 in
+    at_err _ c.from_residual.result (EndsLoads (2 * length c.args.held_words.now) first.known mid.known) c.from_residual.ensures.1
+    (λ e. (omega (arith, most, fewer, length-take-le halted.n c.load_run.new.into (omega (arith, fewer)), c.load_run.ensures.length), count.1))
+
+pub returns-in_err-load_run-clause-halts : goal.returns-in_err-load_run-clause-halts
+returns-in_err-load_run-clause-halts g c = on_err c.from_residual.result _ c.in_err-load_run.ensures.halted.limit
+
+-- ---- the second was
+
+pub returns-in_err-load_run-2-clause-leaves : goal.returns-in_err-load_run-2-clause-leaves
+returns-in_err-load_run-2-clause-leaves g c =
+    let t = c.args.shared.now in
+    let lines = g.O.Object.line_count t.object in
+    let step = g.O.Object.step in
+    let reads = g.O.Object.only_reads in
+    let lawful = g.O.Object.lawful t.object in
+    let h = c.args.held.now in
+    let s = c.args.source.now in
+    let from = c.args.from in
+    let first = c.args.seat.now in
+    let mid = c.load_run.new.seat in
+    let one = has_run lines t step reads lawful h s c.replica.result from c.load_run.new.into first mid c.requires.both c.in_ok-load_run.ensures.made in
+    let halted = c.in_err-load_run-2.ensures.halted in
+    let two = has_run lines t step reads lawful h s c.replica-2.result from (take halted.n c.load_run-2.new.into) mid c.load_run-2.new.seat one.both halted.run in
+    record { both = two.both; rest = two.rest ∙ one.rest }
+
+pub returns-in_err-load_run-2-clause-steps : goal.returns-in_err-load_run-2-clause-steps
+returns-in_err-load_run-2-clause-steps g c =
+    let t = c.args.shared.now in
+    let lines = g.O.Object.line_count t.object in
+    let step = g.O.Object.step in
+    let reads = g.O.Object.only_reads in
+    let lawful = g.O.Object.lawful t.object in
+    let h = c.args.held.now in
+    let s = c.args.source.now in
+    let from = c.args.from in
+    let first = c.args.seat.now in
+    let mid = c.load_run.new.seat in
+    let one = has_run lines t step reads lawful h s c.replica.result from c.load_run.new.into first mid c.requires.both c.in_ok-load_run.ensures.made in
+    let halted = c.in_err-load_run-2.ensures.halted in
+    let fewer = halted.fewer in
+    let two = has_run lines t step reads lawful h s c.replica-2.result from (take halted.n c.load_run-2.new.into) mid c.load_run-2.new.seat one.both halted.run in
+    let counted = one.run.count in
+    let count = two.run.count in
+    let before = counted.0 in
+    let most = count.0 in
+    at_err _ c.from_residual-in_err-load_run-2.result (EndsLoads (2 * length c.args.held_words.now) first.known c.load_run-2.new.seat.known) c.from_residual-in_err-load_run-2.ensures.1
+    (λ e. (omega (arith, before, most, fewer, length-take-le halted.n c.load_run-2.new.into (omega (arith, fewer)), c.load_run.ensures.length, c.load_run-2.ensures.length, c.requires.piece.lengths), count.1 ∙ counted.1))
+
+pub returns-in_err-load_run-2-clause-halts : goal.returns-in_err-load_run-2-clause-halts
+returns-in_err-load_run-2-clause-halts g c = on_err c.from_residual-in_err-load_run-2.result _ c.in_err-load_run-2.ensures.halted.limit
+
+-- ---- both were made
+
+pub returns-clause-leaves : goal.returns-clause-leaves
+returns-clause-leaves g c =
+    let t = c.args.shared.now in
+    let lines = g.O.Object.line_count t.object in
+    let step = g.O.Object.step in
+    let reads = g.O.Object.only_reads in
+    let lawful = g.O.Object.lawful t.object in
+    let h = c.args.held.now in
+    let s = c.args.source.now in
+    let from = c.args.from in
+    let first = c.args.seat.now in
+    let mid = c.load_run.new.seat in
+    let one = has_run lines t step reads lawful h s c.replica.result from c.load_run.new.into first mid c.requires.both c.in_ok-load_run.ensures.made in
+    let two = has_run lines t step reads lawful h s c.replica-2.result from c.load_run-2.new.into mid c.load_run-2.new.seat one.both c.in_ok-load_run-2.ensures.made in
+    record { both = two.both; rest = two.rest ∙ one.rest }
 
 pub returns-clause-steps : goal.returns-clause-steps
 returns-clause-steps g c =
+    let t = c.args.shared.now in
+    let lines = g.O.Object.line_count t.object in
+    let step = g.O.Object.step in
+    let reads = g.O.Object.only_reads in
+    let lawful = g.O.Object.lawful t.object in
+    let h = c.args.held.now in
+    let s = c.args.source.now in
+    let from = c.args.from in
     let first = c.args.seat.now in
-    let last = c.load_each.new.seat in
-    let e = c.in_ok-load_each.ensures in
-    let n = 2 * length c.args.held_words.now in
-    let small : last.known.local.steps ≤ max_word = omega (arith, c.steps-steps.ensures.value) in
-    elim c.else-from-gt0.branch [
-      | else-from-gt0-via-then-from-gt0+else-load_runs w ↦ (
-          let runs : EndsRuns c.args.from n first.known w.load_runs.new.seat.known false = subst (EndsRuns c.args.from n first.known w.load_runs.new.seat.known) w.if-load_runs.false w.load_runs.ensures.steps in
-          let stores : StoresAsMany w.load_runs.new.seat.known last.known = subst (λ (s : Seated). StoresAsMany s.known last.known) w.seat-is e.steps.1 in
-          let fewer = left_of_runs c.args.from n first w.load_runs.new.seat last runs (e.leaves.rest ∙ ap beside_copy w.seat-is ∙ w.load_runs.ensures.leaves.rest) stores c.steps-steps.ensures.within small in
-          let few = fewer.0 in (omega (arith, few), fewer.1))
-      | else-from-gt0-via-else-from-gt0 w ↦ subst (λ (s : Seated). Counts n s.known last.known) w.seat-is (subst (λ m. Counts (2 * m) c.else-from-gt0.seat.known last.known) (ap (λ (ws : List ℕ). length ws) w.held_words-is) e.steps)
-    ]
+    let mid = c.load_run.new.seat in
+    let one = has_run lines t step reads lawful h s c.replica.result from c.load_run.new.into first mid c.requires.both c.in_ok-load_run.ensures.made in
+    let two = has_run lines t step reads lawful h s c.replica-2.result from c.load_run-2.new.into mid c.load_run-2.new.seat one.both c.in_ok-load_run-2.ensures.made in
+    let counted = one.run.count in
+    let count = two.run.count in
+    let before = counted.0 in
+    let most = count.0 in
+    (omega (arith, before, most, c.load_run.ensures.length, c.load_run-2.ensures.length, c.requires.piece.lengths), count.1 ∙ counted.1)
 
-pub returns-in_err-load_each-clause-steps : goal.returns-in_err-load_each-clause-steps
-returns-in_err-load_each-clause-steps g c =
+pub returns-clause-loaded : goal.returns-clause-loaded
+returns-clause-loaded g c =
+    let t = c.args.shared.now in
+    let lines = g.O.Object.line_count t.object in
+    let step = g.O.Object.step in
+    let reads = g.O.Object.only_reads in
+    let lawful = g.O.Object.lawful t.object in
+    let h = c.args.held.now in
+    let s = c.args.source.now in
+    let from = c.args.from in
     let first = c.args.seat.now in
-    let last = c.load_each.new.seat in
-    let e = c.in_err-load_each.ensures in
-    let n = 2 * length c.args.held_words.now in
-    let limit = e.halts in
-    let at = limit.0 in
-    let few = limit.1 in
-    at_err _ c.from_residual.result (EndsLoads n first.known last.known) c.from_residual.ensures.1
-    (λ err. elim c.else-from-gt0.branch [
-      | else-from-gt0-via-then-from-gt0+else-load_runs w ↦ (
-          let runs : EndsRuns c.args.from n first.known w.load_runs.new.seat.known false = subst (EndsRuns c.args.from n first.known w.load_runs.new.seat.known) w.if-load_runs.false w.load_runs.ensures.steps in
-          let stores : StoresAsMany w.load_runs.new.seat.known last.known = subst (λ (s : Seated). StoresAsMany s.known last.known) w.seat-is e.steps.1 in
-          left_of_runs c.args.from n first w.load_runs.new.seat last runs (e.leaves.rest ∙ ap beside_copy w.seat-is ∙ w.load_runs.ensures.leaves.rest) stores (λ below. omega (arith, at)) (omega (arith, at, few)))
-      | else-from-gt0-via-else-from-gt0 w ↦ subst (λ (s : Seated). (last.known.local.steps < s.known.local.steps + n) × StoresAsMany s.known last.known) w.seat-is (subst (λ m. (last.known.local.steps < c.else-from-gt0.seat.known.local.steps + 2 * m) × StoresAsMany c.else-from-gt0.seat.known last.known) (ap (λ (ws : List ℕ). length ws) w.held_words-is) e.steps)
-    ])
+    let mid = c.load_run.new.seat in
+    let one = has_run lines t step reads lawful h s c.replica.result from c.load_run.new.into first mid c.requires.both c.in_ok-load_run.ensures.made in
+    let last = c.load_run-2.new.seat in
+    let us = c.load_run.new.into in
+    let vs = c.load_run-2.new.into in
+    let two = has_run lines t step reads lawful h s c.replica-2.result from vs mid last one.both c.in_ok-load_run-2.ensures.made in
+    record {
+      seen = seen_runs h.replica s.replica from (length us) us vs first.known mid.known last.known refl (omega (arith, c.load_run.ensures.length, c.load_run-2.ensures.length, c.requires.piece.lengths))
+          c.requires.both.exclusive.right.holds c.requires.both.shared.right.holds
+          (subst (λ q. IsRunOf q from us first.known mid.known) c.replica.ensures one.run) (subst (λ q. IsRunOf q from vs mid.known last.known) c.replica-2.ensures two.run);
+      copied = λ region known below copied. on_run c.replica-2.result from vs mid.known last.known two.run region known below (on_run c.replica.result from us first.known mid.known one.run region known below copied);
+    }

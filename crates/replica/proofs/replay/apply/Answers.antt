@@ -1,4 +1,3 @@
-use Rattle.std.proofs.Common.{◌^◌}
 use Rattle.cx_core.proofs.HistoryLemmas.{ObjectLaws}
 use Rattle.replica.proofs.Replaying.{can_step, steps_ready}
 use Rattle.replica.proofs.replay.apply.Goals as goal

@@ -1,15 +1,27 @@
-use Rattle.std.proofs.Common.{◌+◌, ◌<◌, length, refl, sym, subst, arith}
+use Rattle.std.proofs.Common.{◌+◌, length, take, refl, sym, subst, arith}
 use Rattle.std.proofs.lemmas.List.{length-set}
 use Rattle.cx_core.specs.RegionEvents.{CanLoad}
 use Rattle.cx_rule.specs.Running.{instance_at}
-use Rattle.cx_rule.specs.Seats.{Seated}
+use Rattle.cx_rule.specs.Seats.{IsAtLimit, Seated}
 use Rattle.cx_table.proofs.Runs.{may_still}
-use Rattle.cx_table.specs.Runs.{loads_from, no_step}
-use Rattle.replica.proofs.Runs.{run_more}
+use Rattle.cx_table.specs.Runs.{Runs, loads_from, no_step}
+use Rattle.replica.proofs.Runs.{on_err, run_more}
 use Rattle.replica.proofs.words.load_each.Goals as goal
 
 pub loop-i-init : goal.loop-i-init
 loop-i-init g c = record { run = no_step _ _ _ refl refl; of = c.requires.seat.0; may = c.requires.guard }
+
+pub returns-in_err-into-clause-halted : goal.returns-in_err-into-clause-halted
+returns-in_err-into-clause-halted g c =
+    let t = c.args.shared.now in
+    let i = c.loop-i.i in
+    let halted = c.in_err-into.ensures.halted in
+    on_err c.from_residual.result _ (record {
+      n = i;
+      fewer = omega (arith, c.loop-i-test.true);
+      run = subst (Runs t g.O.Object.step g.O.Object.only_reads (g.O.Object.lawful t.object) (loads_from c.args.r c.args.from) (take i c.loop-i.into) c.args.seat.now) (sym halted.same) c.loop-i.invariant.run;
+      limit = subst (λ (s : Seated). IsAtLimit s.known.local) (sym halted.same) halted.limit;
+    })
 
 pub loop-i-preserved : goal.loop-i-preserved
 loop-i-preserved g c =

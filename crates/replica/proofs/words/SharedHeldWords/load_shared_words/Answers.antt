@@ -1,6 +1,8 @@
-use Rattle.std.proofs.Common.{List, arith, take}
-use Rattle.std.proofs.lemmas.Result.{on_ok_weaker}
+use Rattle.std.proofs.Common.{arith, take}
+use Rattle.std.proofs.lemmas.Result.{on_err_weaker, on_ok_weaker}
+use Rattle.replica.specs.Held.{LoadsRun, LoadsShared}
 use Rattle.replica.proofs.Access.{shared_guard, loads_of_run}
+use Rattle.replica.proofs.Runs.{some_of}
 use Rattle.replica.proofs.words.SharedHeldWords.load_shared_words.Goals as goal
 
 pub load_run-requires-clause-guard : goal.load_run-requires-clause-guard
@@ -14,5 +16,8 @@ returns-clause-made g c =
 pub returns-clause-some : goal.returns-clause-some
 returns-clause-some g c =
     let t = c.args.self.now in
-    let some = c.load_run.ensures.some in
-    (some.0, loads_of_run (g.O.Object.line_count t.object) t g.O.Object.step g.O.Object.only_reads (g.O.Object.lawful t.object) c.args.held.now c.replica.result c.args.from (take some.0 c.load_run.new.into) c.args.seat.now c.load_run.new.seat c.replica.ensures c.requires.held some.1)
+    some_of c.load_run.result (λ ws. LoadsRun (LoadsShared (g.O.Object.line_count t.object) t (g.O.Object.lawful t.object) c.args.held.now) c.args.from ws c.args.seat.now c.load_run.new.seat) c.load_run.new.into (returns-clause-made g c)
+    (on_err_weaker c.load_run.result (λ h. (h.n, loads_of_run (g.O.Object.line_count t.object) t g.O.Object.step g.O.Object.only_reads (g.O.Object.lawful t.object) c.args.held.now c.replica.result c.args.from (take h.n c.load_run.new.into) c.args.seat.now c.load_run.new.seat c.replica.ensures c.requires.held h.run)) c.load_run.ensures.halted)
+
+pub returns-clause-halted : goal.returns-clause-halted
+returns-clause-halted g c = on_err_weaker c.load_run.result (λ h. h.limit) c.load_run.ensures.halted
