@@ -1,5 +1,5 @@
 -- An answer of recovery is the one that the checks of the image ask for.
-use Rattle.std.proofs.Common.{◌≡◌, ◌≢◌, ℕ, List, Result, Ok, Err, MatchResult, refl, ap, ◌∙◌}
+use Rattle.std.proofs.Common.{◌≢◌, ℕ, List, Result, Ok, Err, MatchResult, refl, ap, ◌∙◌}
 use Rattle.cx_core.specs.declared.entry.Base.{Base}
 use Rattle.cx_core.specs.declared.entry.Image.{Image}
 use Rattle.recovery.specs.declared.recovering.ImageFault.{ImageFault}

@@ -1,13 +1,12 @@
 -- A full image tells of each caller its last entry below the place.
-use Rattle.std.proofs.Common.{◌≡◌, ◌≢◌, ◌+◌, ◌-◌, ◌^◌, ◌<◌, ◌≤◌, ◌⊎◌, inl, inr, ℕ, zero, suc, Bool, List, length, Option, Some, refl, ap, sym, subst, ◌∙◌, arith, if◌then◌else◌}
+use Rattle.std.proofs.Common.{◌≡◌, ◌≢◌, ◌+◌, ◌-◌, ◌^◌, ◌<◌, ◌≤◌, ◌⊎◌, inl, inr, ℕ, zero, suc, Bool, List, length, Some, refl, ap, sym, subst, ◌∙◌, arith, if◌then◌else◌}
 use Rattle.std.proofs.lemmas.Bool.{cases_eq, cases_order, ne_eqb}
 use Rattle.std.proofs.lemmas.Option.{same_Some}
-use Rattle.std.specs.List.{slice_get}
 use Rattle.std.specs.Option.{option_map}
 use Rattle.cx_core.specs.declared.entry.Base.{Base}
 use Rattle.cx_core.specs.declared.entry.Entry.{Entry}
 use Rattle.cx_core.specs.Base.{LawfulBase}
-use Rattle.cx_core.specs.History.{AreLawful, full_image, image_after, reply_at}
+use Rattle.cx_core.specs.History.{AreLawful, full_image, reply_at}
 use Rattle.cx_core.specs.Merge.{IsLinked}
 use Rattle.cx_core.specs.Region.{object_part, slot_number, slot_reply}
 use Rattle.cx_core.specs.RootEvents.{reply_after}
@@ -16,9 +15,8 @@ use Rattle.cx_core.proofs.HistoryLemmas.{ObjectLaws, begins, full_lawful, full_n
 use Rattle.cx_core.proofs.KeepLemmas as keep
 use Rattle.cx_core.proofs.Locals.{linked_below, linked_within}
 use Rattle.cx_rule.proofs.Replies.{reply_of_full}
-use Rattle.recovery.specs.declared.applied.Outcome.{Outcome}
 use Rattle.recovery.specs.declared.applied.Outcome.TheVariants.{Applied, Never}
-use Rattle.recovery.specs.Outcomes.{IsLastBelow, TellsOutcome, outcome_in, outcome_of}
+use Rattle.recovery.specs.Outcomes.{TellsOutcome, outcome_in, outcome_of}
 
 -- a slot with a number says that an entry was applied
 applied_in : (number : ℕ) (reply : List ℕ) → 0 < number → outcome_in number reply ≡ Applied number reply
