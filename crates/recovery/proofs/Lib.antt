@@ -1,5 +1,9 @@
+pub mod Copying
+pub mod Exact
+pub mod KeptLaws
+pub mod LastEntries
 pub mod Leaving
 pub mod Pairs
-pub mod KeptLaws
+pub mod ReopenedImages
 pub mod Shown
 pub mod Slots

@@ -1,4 +1,6 @@
 pub mod Crashes
 pub mod Images
 pub mod Kept
+pub mod Outcomes
 pub mod Recovery
+pub mod Reopened

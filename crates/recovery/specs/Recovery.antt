@@ -1,5 +1,5 @@
 -- What is recovered from an image, and the checks that it has to pass.
-use Rattle.std.specs.Prelude.{◌≡◌, ◌≢◌, ◌^◌, ◌<◌, ◌≤◌, ℕ, List, replicate, slice_index}
+use Rattle.std.specs.Prelude.{◌≡◌, ◌≢◌, ◌^◌, ◌<◌, ◌≤◌, ℕ, List, Result, Ok, Err, replicate, slice_index}
 use Rattle.cx_base.specs.Codes.{root_place_of}
 use Rattle.cx_core.specs.declared.entry.Base.{Base}
 use Rattle.cx_core.specs.declared.entry.Image.{Image}
@@ -73,3 +73,14 @@ IsFaultOf version lawful image fault =
 -- no number of a result slot is above the place, as in each base that a service leaves
 abbrev pub NumbersWithin : Base → Type 0
 NumbersWithin base = (caller : ℕ) → caller < 8 → slot_number caller base.words ≤ base.place
+
+-- each check that is the first to fail is answered by its refusal, and an image that passes all by the base
+pub record IsExactly (version : ℕ) (lawful : List ℕ → Type 0) (image : Image) (answer : Result Base ImageFault) : Type 0 where
+  pub size : ¬ HasSize image → answer ≡ Err (Size image.count)
+  pub root : HasSize image → ¬ HasRoot image → answer ≡ Err (Root image.root)
+  pub format : HasSize image → HasRoot image → version_of (region_of image) ≢ version → answer ≡ Err (Version (version_of (region_of image)))
+  pub at_place : HasSize image → HasRoot image → version_of (region_of image) ≡ version → place_of (region_of image) ≢ place_in_root image →
+      answer ≡ Err (Place (place_in_root image) (place_of (region_of image)))
+  pub body : HasSize image → HasRoot image → version_of (region_of image) ≡ version → place_of (region_of image) ≡ place_in_root image →
+      ¬ HasBody lawful (region_of image) → answer ≡ Err Body
+  pub accepted : IsAccepted version lawful image → answer ≡ Ok (recovered_from image)

@@ -1,15 +1,23 @@
 //! What a loss of power leaves of a closed table, and recovery from it.
 #![tactic(auto)]
 
+mod applied;
 mod crash;
+mod exactness;
 mod laws;
+mod outcomes;
 mod recovering;
 mod region;
+mod reopening;
 
+pub use applied::Outcome;
 pub use crash::crash_image;
 pub use cx_core::Image;
+pub use exactness::recovering_is_exact;
 pub use laws::{
     closed_tables_are_whole, closed_tables_recover, crash_images_are_accepted,
     crash_images_are_left,
 };
+pub use outcomes::{full_images_tell_outcomes, kept_bases_tell_outcomes, outcome};
 pub use recovering::{ImageFault, recover};
+pub use reopening::{reopen, reopen_image};

@@ -37,7 +37,7 @@ pub(crate) fn read_region(alloc: Global, image: &Image) -> Result<Vec<u64>, Allo
 }
 
 /// So many words from an address on, of pairs whose addresses rise.
-fn read_words(
+pub(crate) fn read_words(
     alloc: Global,
     pairs: &[(u64, u64)],
     from: u64,
@@ -65,7 +65,7 @@ pub(crate) fn object_words(words: &[u64]) -> &[u64]
 }
 
 /// The reply in the slot of a caller.
-fn reply_words(words: &[u64], caller: u32) -> &[u64]
+pub(crate) fn reply_words(words: &[u64], caller: u32) -> &[u64]
     requires size { 1168 ≤ length words.now }
     requires caller { caller < 8 }
     ensures reply { result.now ≡ slot_reply caller words.now }

@@ -1,0 +1,98 @@
+-- A full image tells of each caller its last entry below the place.
+use Rattle.std.proofs.Common.{◌≡◌, ◌≢◌, ◌+◌, ◌-◌, ◌^◌, ◌<◌, ◌≤◌, ◌⊎◌, inl, inr, ℕ, zero, suc, Bool, List, length, Some, refl, ap, sym, subst, ◌∙◌, arith, if◌then◌else◌}
+use Rattle.std.proofs.lemmas.Bool.{cases_eq, cases_order, ne_eqb}
+use Rattle.std.proofs.lemmas.Option.{same_Some}
+use Rattle.std.specs.Option.{option_map}
+use Rattle.cx_core.specs.declared.entry.Base.{Base}
+use Rattle.cx_core.specs.declared.entry.Entry.{Entry}
+use Rattle.cx_core.specs.Base.{LawfulBase}
+use Rattle.cx_core.specs.History.{AreLawful, full_image, reply_at}
+use Rattle.cx_core.specs.Merge.{IsLinked}
+use Rattle.cx_core.specs.Region.{object_part, slot_number, slot_reply}
+use Rattle.cx_core.specs.RootEvents.{reply_after}
+use Rattle.cx_core.specs.State.{Instance}
+use Rattle.cx_core.proofs.HistoryLemmas.{ObjectLaws, begins, full_lawful, full_next}
+use Rattle.cx_core.proofs.KeepLemmas as keep
+use Rattle.cx_core.proofs.Locals.{linked_below, linked_within}
+use Rattle.cx_rule.proofs.Replies.{reply_of_full}
+use Rattle.recovery.specs.declared.applied.Outcome.TheVariants.{Applied, Never}
+use Rattle.recovery.specs.Outcomes.{TellsOutcome, outcome_in, outcome_of}
+
+-- a slot with a number says that an entry was applied
+applied_in : (number : ℕ) (reply : List ℕ) → 0 < number → outcome_in number reply ≡ Applied number reply
+applied_in number reply some = ap (λ (b : Bool). if b then Never else Applied number reply) (ne_eqb number 0 (λ e. omega (arith, some, e)))
+
+module _ (lines : ℕ) (lawful : List ℕ → Type 0) (instance : Instance) (laws : ObjectLaws lines lawful instance.step) (base : LawfulBase lines lawful instance.base) (history : List Entry)
+    (small : instance.base.place + length history ≤ 2 ^ 40) (entries : AreLawful instance.base.place history) where
+  abbrev at_place : ℕ → Base
+  at_place place = record { place = place; words = full_image instance.step instance.base history place }
+
+  -- what the full step of a linked entry keeps
+  kept_at : (ticket : ℕ) (entry : Entry) → IsLinked instance.base.place history ticket entry → keep.Keeps lines lawful instance.step (at_place ticket) entry (at_place (ticket + 1))
+  kept_at ticket entry linked =
+      let from = linked.from in
+      let within = linked_within instance.base.place history ticket entry linked in
+      let before = full_lawful lines lawful instance laws history base entries small ticket from (omega (arith, within)) in
+      let back : instance.base.place + (ticket - instance.base.place) ≡ ticket = omega (arith, from) in
+      let is = entries (ticket - instance.base.place) entry linked.at in
+      let most = is.most in
+      let image = object_part (at_place ticket).words in
+      let image_lawful = laws.keeps image entry.op before.object is.op in
+      keep.keeps lines lawful instance.step (at_place ticket) entry (at_place (ticket + 1)) before (omega (arith, small, within)) is.caller is.some (omega (arith, most, back))
+      image_lawful (laws.shape (instance.step image entry.op).0 image_lawful) (laws.replies image entry.op before.object is.op) refl (full_next instance history ticket entry linked)
+
+  -- a ticket has one entry
+  one_entry : (ticket : ℕ) (a b : Entry) → IsLinked instance.base.place history ticket a → IsLinked instance.base.place history ticket b → a ≡ b
+  one_entry ticket a b la lb = same_Some a b (sym la.at ∙ lb.at)
+
+  -- an entry says its number, and the history's reply to it
+  told_by : (ticket : ℕ) (entry : Entry) (reply : List ℕ) → IsLinked instance.base.place history ticket entry →
+      reply_at instance.step instance.base.place (object_part instance.base.words) history ticket ≡ Some reply → outcome_of entry.caller (at_place (ticket + 1)) ≡ Applied entry.number reply
+  told_by ticket entry reply linked is =
+      let from = linked.from in
+      let within = linked_within instance.base.place history ticket entry linked in
+      let kept = kept_at ticket entry linked in
+      let answer = λ (e : Entry). reply_after instance history ticket e.op in
+      let replied : reply_after instance history ticket entry.op ≡ reply =
+      same_Some (reply_after instance history ticket entry.op) reply (ap (option_map answer) (sym linked.at) ∙ is) in
+      ap (λ n. outcome_in n (slot_reply entry.caller (at_place (ticket + 1)).words)) kept.number
+      ∙ ap (outcome_in entry.number) (kept.reply ∙ reply_of_full lines lawful instance laws base history small entries ticket entry.op from (omega (arith, within)) ∙ replied)
+      ∙ applied_in entry.number reply (entries (ticket - instance.base.place) entry linked.at).some
+
+  -- another's entry leaves what is said of a caller
+  left_by : (ticket : ℕ) (entry : Entry) (caller : ℕ) → caller < 8 → IsLinked instance.base.place history ticket entry → entry.caller ≢ caller → outcome_of caller (at_place (ticket + 1)) ≡ outcome_of caller (at_place ticket)
+  left_by ticket entry caller few linked differs =
+      let apart : (caller < entry.caller) ⊎ (entry.caller < caller) = elim (cases_order caller entry.caller) [ inl same ↦ absurd (differs (sym same)) | inr other ↦ other ] in
+      let stay = (kept_at ticket entry linked).others caller few apart in
+      ap (λ n. outcome_in n (slot_reply caller (at_place (ticket + 1)).words)) stay.0 ∙ ap (outcome_in (slot_number caller (at_place ticket).words)) stay.1
+
+  tells_on : (n place caller : ℕ) → place ≡ instance.base.place + n → n ≤ length history → caller < 8 → TellsOutcome instance.step instance.base history (at_place place) caller
+  tells_on zero place caller is within few = record {
+    applied = λ ticket entry reply last replied. (let from = last.linked.from in let below = last.below in absurd (omega (arith, from, below, is)));
+    stays = λ none. (
+        let here : place ≡ instance.base.place = omega (arith, is) in
+        let words : (at_place place).words ≡ instance.base.words = ap (full_image instance.step instance.base history) here ∙ begins instance.step instance.base history in
+        ap (λ (ws : List ℕ). outcome_in (slot_number caller ws) (slot_reply caller ws)) words);
+  }
+  tells_on (suc n) place caller is within few =
+      let before = instance.base.place + n in
+      let next : place ≡ before + 1 = omega (arith, is) in
+      let l = linked_below instance.base.place history before (omega arith) (omega (arith, within)) in
+      let told = tells_on n before caller refl (omega (arith, within)) few in
+      subst (λ p. TellsOutcome instance.step instance.base history (at_place p) caller) (sym next) (record {
+        applied = λ ticket entry reply last replied. elim (cases_eq ticket before) [
+          | inl here ↦ (
+              let linked = subst (λ t. IsLinked instance.base.place history t entry) here last.linked in
+              ap (λ c. outcome_of c (at_place (before + 1))) (sym last.mine)
+              ∙ told_by before entry reply linked (subst (λ t. reply_at instance.step instance.base.place (object_part instance.base.words) history t ≡ Some reply) here replied))
+          | inr apart ↦ (
+              let below = last.below in
+              let less : ticket < before = omega (arith, below, apart) in
+              left_by before l.0 caller few l.1 (last.last before l.0 l.1 less (omega arith))
+              ∙ told.applied ticket entry reply (record { linked = last.linked; below = less; mine = last.mine; last = λ later other linked after small. last.last later other linked after (omega (arith, small)) }) replied)
+        ];
+        stays = λ none. left_by before l.0 caller few l.1 (none before l.0 l.1 (omega arith)) ∙ told.stays (λ ticket entry linked small. none ticket entry linked (omega (arith, small)));
+      })
+
+  pub full_tells : (place caller : ℕ) → instance.base.place ≤ place → place ≤ instance.base.place + length history → caller < 8 → TellsOutcome instance.step instance.base history (at_place place) caller
+  full_tells place caller from to few = tells_on (place - instance.base.place) place caller (omega (arith, from)) (omega (arith, from, to)) few

@@ -1,0 +1,58 @@
+//! What a caller's last command came to, as a base says.
+
+ghost use Rattle.std.specs.Prelude.{◌≡◌, ◌+◌, ◌^◌, ◌<◌, ◌≤◌, ℕ, List, length};
+ghost use Rattle.cx_core.specs.Base.{LawfulBase};
+ghost use Rattle.cx_core.specs.History.{AreLawful, full_image};
+ghost use Rattle.cx_core.specs.Region.{slot_reply};
+ghost use Rattle.cx_rule.specs.Running.{Running, instance_at};
+ghost use Rattle.cx_rule.specs.Seats.{Seated};
+ghost use Rattle.cx_table.specs.Remains.{Leaves};
+ghost use Rattle.recovery.specs.Kept.{IsKeptBy, IsOpened};
+ghost use Rattle.recovery.specs.Outcomes.{TellsOutcome, outcome_of};
+
+use crate::applied::Outcome;
+use crate::region::reply_words;
+use cx_base::Object;
+use cx_core::{Base, slot_start};
+
+/// What a base says of a caller: whether an entry of its was ever applied, and which was the last, with its reply.
+pub fn outcome(base: &Base, caller: u32) -> Outcome
+    requires caller { caller < 8 }
+    requires words { 1168 ≤ length base.now.words }
+    ensures { result ≡ outcome_of caller base.now }
+{
+    let words = base.words.as_slice();
+    let number = words[slot_start(caller) as usize];
+    if number == 0 {
+        return Outcome::Never;
+    }
+    let reply = reply_of(words, caller);
+    Outcome::Applied { number, reply }
+}
+
+/// The reply in the slot of a caller.
+fn reply_of(words: &[u64], caller: u32) -> [u64; 144]
+    requires caller { caller < 8 }
+    requires words { 1168 ≤ length words.now }
+    ensures { result ≡ slot_reply caller words.now }
+{
+    let mut reply = [0; 144];
+    reply.copy_from_slice(reply_words(words, caller));
+    reply
+}
+
+/// The law that the full image after each place of a history from a lawful base on tells of each caller its last entry below the
+/// place and the history's reply to it, and what the base tells where it has none.
+pub fn full_images_tell_outcomes<O: Object>(object: &O, base: &Base)
+    requires { LawfulBase (O.line_count object.now) (O.lawful object.now) base.now }
+    ensures { (history : List _) (place caller : ℕ) → AreLawful base.now.place history → base.now.place + length history ≤ 2 ^ 40 →
+        base.now.place ≤ place → place ≤ base.now.place + length history → caller < 8 →
+        TellsOutcome (O.step object.now) base.now history (record { place = place; words = full_image (O.step object.now) base.now history place }) caller }
+{}
+
+/// So does what is recovered by choice after a loss of power of a closed table.
+pub fn kept_bases_tell_outcomes<O: Object>()
+    ensures { (table : Running O) (seats : List Seated) (r : _) (choice caller : ℕ) (base : _) → IsOpened O.line_count O.lawful table →
+        Leaves table (instance_at table O.step O.only_reads) seats r → IsKeptBy O.line_count O.lawful O.step table seats r choice base →
+        caller < 8 → TellsOutcome (O.step table.object) table.base r.trail.history base caller }
+{}
