@@ -27,8 +27,7 @@ kept_count bound counters (Add counter amount) =
     elim (has_counter counters counter && fits bound counters counter amount)
     as (λ b. length (cond b (slice_set counters counter (sum_at counters counter amount)) counters) ≡ length counters)
     [ true ↦ length-set counters counter (sum_at counters counter amount) | false ↦ refl ]
-kept_count bound counters (Read counter) = refl
-kept_count bound counters Other = refl
+kept_count bound counters _ = refl
 
 -- and each below the bound
 kept_bounded : (bound : ℕ) (counters : List ℕ) (op : Op) → All (λ count. count < bound) counters → All (λ count. count < bound) (counters_after bound counters op)
@@ -39,8 +38,7 @@ kept_bounded bound counters (Add counter amount) bounded =
       | true ↦ λ passes. All-set (λ count. count < bound) counters counter sum (leb-true (suc sum) bound (and_parts (has_counter counters counter) (fits bound counters counter amount) passes).1) bounded
       | false ↦ λ _. bounded
     ]) refl
-kept_bounded bound counters (Read counter) bounded = bounded
-kept_bounded bound counters Other bounded = bounded
+kept_bounded bound counters _ bounded = bounded
 
 -- a step of an image leaves an image
 pub keeps : (lines bound : ℕ) (image op : List ℕ) → IsCounters lines bound image → IsCounters lines bound (counters_step bound image op).0
@@ -79,9 +77,7 @@ words_with_fit kind first second k f s =
 -- a value that is told is below the bound
 abbrev IsBounded : ℕ → Reply → Type 0
 IsBounded bound (Value count) = count < bound
-IsBounded bound Full = Unit {0}
-IsBounded bound Missing = Unit {0}
-IsBounded bound NoOperation = Unit {0}
+IsBounded bound _ = Unit {0}
 
 told_bounded : (bound : ℕ) (counters : List ℕ) (op : Op) → All (λ count. count < bound) counters → IsBounded bound (counters_reply bound counters op)
 told_bounded bound counters (Add counter amount) bounded =
@@ -111,8 +107,7 @@ replies lines bound small image op i =
 -- an operation that only reads leaves the counters
 left_by_reading : (bound : ℕ) (counters : List ℕ) (op : Op) → IsTrue (is_reading op) → counters_after bound counters op ≡ counters
 left_by_reading bound counters (Add counter amount) reads = cc
-left_by_reading bound counters (Read counter) reads = refl
-left_by_reading bound counters Other reads = refl
+left_by_reading bound counters _ reads = refl
 
 -- and the image
 pub leaves : (lines bound : ℕ) (image op : List ℕ) → IsCounters lines bound image → IsTrue (counters_read_only op) → (counters_step bound image op).0 ≡ image

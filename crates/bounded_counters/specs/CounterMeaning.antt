@@ -1,5 +1,5 @@
 -- The counters as an object of operations and replies: what they mean over a list of counters, and how they stand in words.
-use Rattle.std.specs.Prelude.{◌≡◌, ◌-◌, ◌*◌, ◌^◌, ◌<◌, ◌≤◌, ℕ, List, ◌∷◌, drop, length, replicate, refl}
+use Rattle.std.specs.Prelude.{◌≡◌, ◌-◌, ◌*◌, ◌^◌, ◌<◌, ℕ, List, ◌∷◌, drop, length, replicate, refl}
 use Rattle.std.proofs.Common.{ap, ap₂, sym, ◌∙◌, lit<}
 use Rattle.bounded_counters.specs.Counters.{IsCounters, counters_after, counters_opening, counters_read_only, counters_reply, counters_step, is_reading}
 use Rattle.bounded_counters.specs.CounterLaws.{words_with_fit}
@@ -13,9 +13,8 @@ use Rattle.typed_object.specs.Meaning.{Encoding, HasMeaning, Meaning}
 
 -- additions and readings are the operations
 abbrev pub IsOp : Op → Type 0
-IsOp (Add counter amount) = Unit {0}
-IsOp (Read counter) = Unit {0}
 IsOp Other = ⊥
+IsOp _ = Unit {0}
 
 -- numbers of 64 bits
 abbrev pub IsOpValue : Op → Type 0
@@ -45,9 +44,8 @@ counter_meaning lines bound = record {
 -- operations and replies are read back from their words
 op_is_read : (op : Op) → IsOp op → op_in (op_words op) ≡ op
 unfolding words_with
-op_is_read (Add counter amount) is = refl
-op_is_read (Read counter) is = refl
 op_is_read Other is = absurd is
+op_is_read _ is = refl
 
 pub reply_is_read : (reply : Reply) → reply_in (reply_words reply) ≡ reply
 unfolding words_with

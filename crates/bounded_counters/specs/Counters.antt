@@ -33,8 +33,7 @@ counters_after bound counters (Add counter amount) =
     if has_counter counters counter && fits bound counters counter amount
     then slice_set counters counter (sum_at counters counter amount)
     else counters
-counters_after bound counters (Read counter) = counters
-counters_after bound counters Other = counters
+counters_after bound counters _ = counters
 
 -- an image of so many lines: the version, and behind it one word for each counter, which is below the bound
 pub record IsCounters (lines bound : ℕ) (image : List ℕ) : Type 0 where
@@ -59,9 +58,8 @@ pub record Counts (bound : ℕ) (op : Op) (reply : Reply) (before now : List ℕ
 
 -- whether an operation, or what words ask for, only reads
 abbrev pub is_reading : Op → Bool
-is_reading (Add counter amount) = false
 is_reading (Read counter) = true
-is_reading Other = false
+is_reading _ = false
 
 abbrev pub counters_read_only : List ℕ → Bool
 counters_read_only op = is_reading (op_in op)

@@ -3,10 +3,8 @@ use Rattle.std.proofs.Common.{◌≡◌, ◌⊎◌, inl, inr, sym, subst, refl, 
 use Rattle.std.proofs.lemmas.List.Elements.{All-cons, All-nil, All-weaker}
 use Rattle.bounded_counters.specs.CounterMeaning.{IsOp}
 use Rattle.bounded_counters.specs.declared.operations.Op.{Op}
-use Rattle.life_records.specs.Limits.{AreOfTwo, IsCommandOf, IsCutOf, IsLifeInLimits}
-use Rattle.life_records.specs.declared.script.Command.{Command}
-use Rattle.life_records.specs.declared.script.Cut.{Cut}
-use Rattle.life_records.specs.declared.script.Life.{Life}
+use Rattle.life_records.specs.Limits.{IsCommandOf, IsCutOf, IsLifeInLimits}
+use Rattle.life_records.specs.Records.{Command, Cut, Life}
 
 -- no cut, or one of the client
 abbrev pub IsCutAlone : List Cut → Type 0

@@ -8,39 +8,32 @@ use Rattle.cx_rule.specs.Ending.{Ending}
 use Rattle.life_laws.specs.Begins.{Begun, IsBaseOf, begun_after, nothing_begun}
 use Rattle.life_records.specs.Lives.{AreLivesFrom, IsLegalLife}
 use Rattle.life_records.specs.Scripts.{command_count}
-use Rattle.life_records.specs.declared.record.LifeRecord.{LifeRecord}
-use Rattle.life_records.specs.declared.script.Life.{Life}
+use Rattle.life_records.specs.Records.{Life, LifeRecord, Meaning}
 use Rattle.cx_lives.specs.Lives.{AreToldFrom, BeginsLife, HasLived, HaveEnded, HaveLived, IsNextBase, IsToldBy, begun_by}
 use Rattle.cx_lives.specs.declared.lives.Lived.{Lived}
-use Rattle.cx_lives.specs.declared.ran.Ran.{Ran}
+use Rattle.cx_lives.specs.declared.lives.Ran.{Ran}
 use Rattle.cx_lives.proofs.Taking.{take_next}
-use Rattle.typed_object.specs.Meaning.{Meaning}
 
 module _ {Op Reply Store : Type 0} (m : Meaning Op Reply Store) (life : Life Op) (told : LifeRecord Reply) where
   pub legal_then : (begun : Begun Store) (lives : List (Life Op)) (records : List (LifeRecord Reply)) → AreLivesFrom m begun.place begun.store lives records
       → IsLegalLife m (begun_by m begun lives records).place (begun_by m begun lives records).store life told
       → AreLivesFrom m begun.place begun.store (lives ++ life ∷ []) (records ++ told ∷ [])
   legal_then begun [] [] are is = (is, tt)
-  legal_then begun [] (first ∷ records) are is = absurd are
-  legal_then begun (one ∷ lives) [] are is = absurd are
   legal_then begun (one ∷ lives) (first ∷ records) are is = (are.0, legal_then (begun_after m begun one first.journal first.kept) lives records are.1 is)
+  legal_then begun _ _ are is = absurd are
 
   pub told_then : (trail : Ending) (begun : Begun Store) (lives : List (Life Op)) (records : List (LifeRecord Reply)) (trails : List Ending) → AreToldFrom m begun lives records trails
       → IsToldBy m.encoding life trail told → IsBaseOf m trail.base (begun_by m begun lives records) → AreToldFrom m begun (lives ++ life ∷ []) (records ++ told ∷ []) (trails ++ trail ∷ [])
   told_then trail begun [] [] [] are by is = (by, is, tt)
-  told_then trail begun [] [] (t ∷ trails) are by is = absurd are
-  told_then trail begun [] (first ∷ records) trails are by is = absurd are
-  told_then trail begun (one ∷ lives) [] trails are by is = absurd are
-  told_then trail begun (one ∷ lives) (first ∷ records) [] are by is = absurd are
   told_then trail begun (one ∷ lives) (first ∷ records) (t ∷ trails) are by is =
       (are.0, are.1, told_then trail (begun_after m begun one first.journal first.kept) lives records trails are.2 by is)
+  told_then trail begun _ _ trails are by is = absurd are
 
   pub begun_then : (begun : Begun Store) (lives : List (Life Op)) (records : List (LifeRecord Reply)) → AreLivesFrom m begun.place begun.store lives records
       → begun_by m begun (lives ++ life ∷ []) (records ++ told ∷ []) ≡ begun_after m (begun_by m begun lives records) life told.journal told.kept
   begun_then begun [] [] are = refl
-  begun_then begun [] (first ∷ records) are = absurd are
-  begun_then begun (one ∷ lives) [] are = absurd are
   begun_then begun (one ∷ lives) (first ∷ records) are = begun_then (begun_after m begun one first.journal first.kept) lives records are.1
+  begun_then begun _ _ are = absurd are
 
 module _ {Op : Type 0} where
   pub count_then : (lives : List (Life Op)) (life : Life Op) → command_count (lives ++ life ∷ []) ≡ command_count lives + length life.commands
@@ -49,12 +42,12 @@ module _ {Op : Type 0} where
       sum_by-append (λ (l : Life Op). length l.commands) lives (life ∷ []) ∙ ap (λ n. command_count lives + n) alone
 
 -- the base that a life more begins with
-abbrev pub IsLast : {Op Reply Store : Type 0} → Meaning Op Reply Store → ℕ → (List ℕ → Type 0) → Lived Reply → List (Life Op) → Base → Type 0
-IsLast m lines is_lawful lived lives base = BeginsLife m lines is_lawful (begun_by m (nothing_begun m) lives lived.records) base × (base.place ≤ command_count lives)
+abbrev pub IsLast : {Op Reply Store : Type 0} → Meaning Op Reply Store → ℕ → (List ℕ → Type 0) → List (LifeRecord Reply) → List (Life Op) → Base → Type 0
+IsLast m lines is_lawful records lives base = BeginsLife m lines is_lawful (begun_by m (nothing_begun m) lives records) base × (base.place ≤ command_count lives)
 
 -- the lives are lived with one more
 module _ {Op Reply Store : Type 0} where
-  pub lived_then : (m : Meaning Op Reply Store) (lines version : ℕ) (is_lawful : List ℕ → Type 0) (lives : List (Life Op)) (life : Life Op) (lived : Lived Reply) (base : Base) (ran : Ran Reply) → HaveLived m lines version is_lawful lives lived → IsLast m lines is_lawful lived lives base
+  pub lived_then : (m : Meaning Op Reply Store) (lines version : ℕ) (is_lawful : List ℕ → Type 0) (lives : List (Life Op)) (life : Life Op) (lived : Lived Reply) (base : Base) (ran : Ran Reply) → HaveLived m lines version is_lawful lives lived → IsLast m lines is_lawful lived.records lives base
       → HasLived m lines version is_lawful life (begun_by m (nothing_begun m) lives lived.records) base ran
       → HaveLived m lines version is_lawful (lives ++ life ∷ []) (record { records = lived.records ++ ran.told ∷ []; trails = lived.trails ++ ran.trail ∷ []; image = Some ran.image; base = Some ran.next })
   lived_then m lines version is_lawful lives life lived base ran have last has =
@@ -69,28 +62,15 @@ module _ {Op Reply Store : Type 0} where
         left = record { before = lives; life = life; lives_are = refl; trails_before = lived.trails; trail = ran.trail; trails_are = refl; leaves = has.left };
       }
 
--- what goes on where lives were lived
-pub last_some : {Op Reply Store : Type 0} → (m : Meaning Op Reply Store) (lines version : ℕ) (is_lawful : List ℕ → Type 0) (lives : List (Life Op)) (lived : Lived Reply) (base : Base) (image : Option Image) → lived.base ≡ Some base → lived.image ≡ image → HaveLived m lines version is_lawful lives lived → IsLast m lines is_lawful lived lives base
-last_some m lines version is_lawful lives lived base None base_is image_is have = absurd (subst (λ (o : Option Image). HaveEnded m lines version is_lawful (begun_by m (nothing_begun m) lives lived.records) lives o (Some base)) image_is
-    (subst (λ (o : Option Base). HaveEnded m lines version is_lawful (begun_by m (nothing_begun m) lives lived.records) lives lived.image o) base_is have.ends))
-last_some m lines version is_lawful lives lived base (Some image) base_is image_is have =
-    let ends = subst (λ (o : Option Image). HaveEnded m lines version is_lawful (begun_by m (nothing_begun m) lives lived.records) lives o (Some base)) image_is
-    (subst (λ (o : Option Base). HaveEnded m lines version is_lawful (begun_by m (nothing_begun m) lives lived.records) lives lived.image o) base_is have.ends) in (ends.2, ends.3)
-
--- and before the first life
+-- what goes on where lives were lived, and before the first life
 module _ {Op Reply Store : Type 0} where
-  pub last_none : (m : Meaning Op Reply Store) (lines version : ℕ) (is_lawful : List ℕ → Type 0) (lives : List (Life Op)) (lived : Lived Reply) (base : Base) (image : Option Image) → lived.base ≡ None → lived.image ≡ image → HaveLived m lines version is_lawful lives lived → BeginsLife m lines is_lawful (nothing_begun m) base → base.place ≡ 0 → IsLast m lines is_lawful lived lives base
-  last_none m lines version is_lawful lives lived base (Some image) base_is image_is have begins place = absurd (subst (λ (o : Option Image). HaveEnded m lines version is_lawful (begun_by m (nothing_begun m) lives lived.records) lives o None) image_is
-      (subst (λ (o : Option Base). HaveEnded m lines version is_lawful (begun_by m (nothing_begun m) lives lived.records) lives lived.image o) base_is have.ends))
-  last_none m lines version is_lawful lives lived base None base_is image_is have begins place =
-      let none : lives ≡ [] = subst (λ (o : Option Image). HaveEnded m lines version is_lawful (begun_by m (nothing_begun m) lives lived.records) lives o None) image_is
-      (subst (λ (o : Option Base). HaveEnded m lines version is_lawful (begun_by m (nothing_begun m) lives lived.records) lives lived.image o) base_is have.ends) in
-      (subst (λ (ls : List (Life Op)). BeginsLife m lines is_lawful (begun_by m (nothing_begun m) ls lived.records) base) (sym none) begins, omega (arith, place))
-
-pub last_base : {Op Reply Store : Type 0} → (m : Meaning Op Reply Store) (lines version : ℕ) (is_lawful : List ℕ → Type 0) (lives : List (Life Op)) (lived : Lived Reply) (o : Option Base) (base : Base) → lived.base ≡ o → IsNextBase m lines is_lawful o base → HaveLived m lines version is_lawful lives lived → IsLast m lines is_lawful lived lives base
-last_base m lines version is_lawful lives lived None base is next have = last_none m lines version is_lawful lives lived base lived.image is refl have next.0 next.1
-last_base m lines version is_lawful lives lived (Some before) base is next have =
-    subst (λ (b : Base). IsLast m lines is_lawful lived lives b) (sym next) (last_some m lines version is_lawful lives lived before lived.image is refl have)
+  pub last_base : (m : Meaning Op Reply Store) (lines version : ℕ) (is_lawful : List ℕ → Type 0) (lives : List (Life Op)) (records : List (LifeRecord Reply)) (image : Option Image) (before : Option Base) (base : Base)
+      → HaveEnded m lines version is_lawful (begun_by m (nothing_begun m) lives records) lives image before → IsNextBase m lines is_lawful before base → IsLast m lines is_lawful records lives base
+  last_base m lines version is_lawful lives records None None base ended next =
+      (subst (λ (ls : List (Life Op)). BeginsLife m lines is_lawful (begun_by m (nothing_begun m) ls records) base) (sym ended) next.0, omega (arith, next.1))
+  last_base m lines version is_lawful lives records (Some image) (Some before) base ended next =
+      subst (λ (b : Base). IsLast m lines is_lawful records lives b) (sym next) (ended.2, ended.3)
+  last_base m lines version is_lawful lives records _ _ base ended next = absurd ended
 
 -- the commands of the lives up to one are some of all
 module _ {Op : Type 0} where
@@ -101,8 +81,3 @@ module _ {Op : Type 0} where
       let all : command_count lives ≡ command_count (take (i + 1) lives ++ drop (i + 1) lives) = ap command_count (sym (take-append-drop (i + 1) lives)) in
       let here : command_count (take (i + 1) lives) ≡ command_count (take i lives) + length life.commands = ap command_count (take_next lives i life within is) ∙ count_then (take i lives) life in
       omega (arith, parts, all, here)
-
--- one life more of all
-module _ {Op Reply Store : Type 0} where
-  pub lived_next : (m : Meaning Op Reply Store) (lines version : ℕ) (is_lawful : List ℕ → Type 0) (lives : List (Life Op)) (i : ℕ) (life : Life Op) (lived : Lived Reply) → i < length lives → life ≡ get_or lives i life → HaveLived m lines version is_lawful (take i lives ++ life ∷ []) lived → HaveLived m lines version is_lawful (take (i + 1) lives) lived
-  lived_next m lines version is_lawful lives i life lived within is have = subst (λ (ls : List (Life Op)). HaveLived m lines version is_lawful ls lived) (sym (take_next lives i life within is)) have

@@ -1,11 +1,9 @@
 -- A client's commands among the first ones of a life.
-use Rattle.std.proofs.Common.{◌≡◌, ◌≢◌, ℕ, ◌+◌, ◌<◌, ◌≤◌, ◌==◌, cond, List, [], ◌∷◌, ◌++◌, length, get_or, take, drop, map, filter, slice_get, Some, sym, ap, subst, ◌∙◌, refl, arith, length-append, add-one}
+use Rattle.std.proofs.Common.{◌≡◌, ◌≢◌, ℕ, ◌+◌, ◌<◌, ◌≤◌, ◌==◌, cond, List, [], ◌∷◌, ◌++◌, length, get_or, take, drop, map, filter, slice_get, Some, sym, ap, ◌∙◌, refl, arith, length-append, add-one}
 use Rattle.std.proofs.lemmas.Bool.{eq-eqb, ne_eqb}
 use Rattle.std.proofs.lemmas.List.{map-append, take_all, take_more, take-append-drop}
 use Rattle.std.proofs.lemmas.List.Elements.{filter-append}
-use Rattle.life_records.specs.declared.script.Command.{Command}
-use Rattle.life_records.specs.declared.script.Life.{Life}
-use Rattle.life_records.specs.Limits.{IsLifeInLimits}
+use Rattle.life_records.specs.Records.{Command, Life}
 use Rattle.life_records.specs.Scripts.{named_op, own_ops}
 
 module _ {Op : Type 0} where
@@ -75,7 +73,3 @@ module _ {Op : Type 0} where
   pub count_all : (life : Life Op) (items : List (Command Op)) (i me number : ℕ) → items ≡ life.commands → length items ≤ i → number ≡ length (own_ops me (take i life.commands)) → number ≡ length (own_ops me life.commands)
   count_all life items i me number same over count =
       count ∙ ap (λ (cs : List (Command Op)). length (own_ops me cs)) (take_all i life.commands (omega (arith, over, ap length same)))
-
-  -- its operation is within the limits
-  pub next_is_op : (is_op : Op → Type 0) (life : Life Op) (i : ℕ) (command : Command Op) → IsLifeInLimits is_op 8 life → i < length life.commands → command ≡ get_or life.commands i command → is_op command.op
-  next_is_op is_op life i command limits within at = subst (λ (c : Command Op). is_op c.op) (sym at) ((limits.commands i command within).op)

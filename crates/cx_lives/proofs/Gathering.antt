@@ -6,7 +6,7 @@ use Rattle.std.specs.Option.{option_to_list}
 use Rattle.std.specs.declared.alloc.AllocError.{AllocError}
 use Rattle.std.proofs.lemmas.List.{length-map, map-append, length-append}
 use Rattle.std.proofs.lemmas.List.FromFn.{length-range_with_len}
-use Rattle.std.proofs.lemmas.List.Elements.{All-nil, All-push}
+use Rattle.std.proofs.lemmas.List.Elements.{All-push}
 use Rattle.cx_core.proofs.Locals.{slice_get-last, slice_get-push}
 use Rattle.cx_core.proofs.ListLemmas.{slice_get-append_left}
 use Rattle.cx_core.specs.declared.local.Local.{Local}
@@ -15,21 +15,16 @@ use Rattle.cx_rule.specs.Seats.{Seated}
 use Rattle.cx_service.specs.Closes.{seat_of, seats_of}
 use Rattle.cx_service.specs.declared.close.Handed.{Handed}
 use Rattle.cx_table.specs.Remains.{AreSeats, locals_of}
-use Rattle.journals.specs.Works.{AreWorks, IsWork}
-use Rattle.life_records.specs.declared.script.Life.{Life}
-use Rattle.life_records.specs.declared.record.FullLine.{FullLine}
-use Rattle.life_records.specs.declared.record.JournalLine.{JournalLine}
-use Rattle.life_records.specs.declared.record.ReadLine.{ReadLine}
-use Rattle.life_records.specs.declared.record.StopLine.{StopLine}
-use Rattle.cx_lives.specs.declared.desk.End.{End}
-use Rattle.cx_lives.specs.declared.desk.End.TheVariants.{Whole, Stopped, Full, Never}
-use Rattle.cx_lives.specs.declared.desk.Work.{Work}
+use Rattle.life_records.specs.Works.{AreWorks, IsWork}
+use Rattle.life_records.specs.Records.{FullLine, JournalLine, Life, Meaning, ReadLine, StopLine}
+use Rattle.cx_lives.specs.declared.progress.End.{End}
+use Rattle.cx_lives.specs.declared.progress.End.TheVariants.{Whole, Stopped, Full, Never}
+use Rattle.cx_lives.specs.declared.progress.Work.{Work}
 use Rattle.cx_lives.specs.declared.gather.Gathered.{Gathered}
 use Rattle.cx_lives.specs.Ends.{CannotBe, IsEndOf, IsWorkOf, full_in, stop_in}
 use Rattle.cx_lives.specs.Works.{AreNumbered, AreWorksOf, ServedOf}
 use Rattle.cx_lives.specs.declared.work.Served.{Served}
 use Rattle.cx_lives.specs.Gathering.{AddsWork, AreGathered, HasNever, IsLocalIn, is_never}
-use Rattle.typed_object.specs.Meaning.{Meaning}
 
 abbrev number : Seated → ℕ
 number s = s.known.local.number
@@ -92,9 +87,9 @@ gathered_more m life r before after work go_on g adds w =
     let longer : length after.handed.items ≡ suc n = omega (arith, ap length adds.handed, length-append hs (work.handed ∷ [])) in
     let last : number s ≡ 0 + n = w.caller.by ∙ omega arith in
     let own : IsLocalIn life n l = record { limit = w.caller.limit; few = w.caller.few } in
-    let at_long = subst (λ k. IsEndOf m life k l work.entries.items work.reads.items work.end) (sym long) w.ends in
-    let more = works_more m life ls l before.entries.items work.entries.items before.reads.items work.reads.items before.stops.items before.fulls.items
-    (λ stop full. go_on ls l before.entries.items work.entries.items before.reads.items work.reads.items before.stops.items stop before.fulls.items full) before.never work.end g.works at_long in
+    let at_long = subst (λ k. IsEndOf m life k l work.lines.entries.items work.lines.reads.items work.end) (sym long) w.ends in
+    let more = works_more m life ls l before.lines.entries.items work.lines.entries.items before.lines.reads.items work.lines.reads.items before.ends.stops.items before.ends.fulls.items
+    (λ stop full. go_on ls l before.lines.entries.items work.lines.entries.items before.lines.reads.items work.lines.reads.items before.ends.stops.items stop before.ends.fulls.items full) before.ends.never work.end g.works at_long in
     record {
       of = rw seats (All-push (IsSeatOf r) (seats_of hs) s g.of w.caller.of);
       numbers = ap (map number) seats ∙ map-append number (seats_of hs) (s ∷ []) ∙ ap (λ ks. ks ++ number s ∷ []) g.numbers ∙ ap (λ k. range_with_len 0 n ++ k ∷ []) last ∙ sym (range_more 0 n) ∙ ap (range_with_len 0) (sym longer);
@@ -105,25 +100,16 @@ gathered_more m life r before after work go_on g adds w =
       works = rw (locals, adds.entries, adds.reads, adds.stops, adds.fulls, adds.never) more;
     }
 
-pub gathered_none : {O Op Reply Store : Type 0} (m : Meaning Op Reply Store) (life : Life Op) (r : Running O) (g : Gathered Reply) → AreWorks m.encoding life [] [] [] [] [] → g.handed.items ≡ [] → g.entries.items ≡ [] → g.reads.items ≡ [] → g.stops.items ≡ [] → g.fulls.items ≡ [] → g.never ≡ false → AreGathered m life r g
-gathered_none m life r g begin handed entries reads stops fulls never = record {
-  of = rw handed (All-nil (IsSeatOf r));
-  numbers = rw handed refl;
-  each = rw handed (λ i x at. cc);
-  works = rw (never, handed, entries, reads, stops, fulls) begin;
-}
-
 -- the works of callers from one on, by the callers' numbers
 pub numbered : {O Op Reply Store : Type 0} (m : Meaning Op Reply Store) (life : Life Op) (r : Running O) (k : ℕ) (callers : List Seated) (works : List (Result (Served Reply) AllocError)) → length works ≡ length callers → map number callers ≡ range_with_len k (length callers)
     → AreWorksOf m life r callers works → AreNumbered m life r k works
 numbered m life r k [] [] long numbers each = tt
-numbered m life r k [] (w ∷ ws) long numbers each = absurd (omega (arith, long))
-numbered m life r k (s ∷ cs) [] long numbers each = absurd (omega (arith, long))
 numbered m life r k (s ∷ cs) (w ∷ ws) long numbers each =
     let first : number s ≡ k = ap (λ (xs : List ℕ). get_or xs 0 0) numbers in (
       subst (λ i. IfOk w (ServedOf m life r i)) first (each 0 w s (omega arith)),
       numbered m life r (k + 1) cs ws (omega (arith, long)) (ap (λ (xs : List ℕ). drop 1 xs) numbers) (λ i d e within. each (suc i) d e (omega (arith, within))),
     )
+numbered m life r k _ _ long numbers each = absurd (omega (arith, long))
 
 -- as many seats as callers
 pub seats_long : {O : Type 0} (r : Running O) (seats : List Seated) → AreSeats r seats → length seats ≡ r.callers

@@ -4,10 +4,9 @@ use Rattle.std.specs.Prelude.{All}
 use Rattle.std.specs.declared.alloc.AllocError.{AllocError}
 use Rattle.std.proofs.Math.Seq.{drop-cons}
 use Rattle.std.proofs.lemmas.List.{drop_all}
-use Rattle.std.proofs.lemmas.List.Elements.{All-append, All-cons, All-nil, All-weaker}
+use Rattle.std.proofs.lemmas.List.Elements.{All-append, All-weaker}
 use Rattle.life_records.specs.Lives.{is_stopped}
-use Rattle.life_records.specs.declared.record.FullLine.{FullLine}
-use Rattle.life_records.specs.declared.record.StopLine.{StopLine}
+use Rattle.life_records.specs.Records.{FullLine, StopLine}
 use Rattle.cx_lives.specs.Works.{stop_told, stops_left}
 use Rattle.cx_lives.specs.declared.work.Served.{Served}
 
@@ -70,11 +69,3 @@ holders_more before now told left fulls more f was new =
     (λ line e. stopped_more line.note.holder before told now left (f line.note.holder) e) fulls was)
     (All-weaker (λ (line : FullLine). is_stopped line.note.holder (before ++ left) ≡ true) (λ (line : FullLine). is_stopped line.note.holder ((before ++ now) ++ left) ≡ true)
     (λ line e. stopped_more line.note.holder before [] now left (λ none. cc) e) more new)
-
--- of no full line, and of one
-pub all_of_none : (stops : List StopLine) (fulls : List FullLine) → fulls ≡ [] → HoldersStopped stops fulls
-all_of_none stops fulls none = rw none (All-nil (λ (line : FullLine). is_stopped line.note.holder stops ≡ true))
-
-pub all_of_one : (stops : List StopLine) (fulls : List FullLine) (line : FullLine) → fulls ≡ line ∷ [] → is_stopped line.note.holder stops ≡ true → HoldersStopped stops fulls
-all_of_one stops fulls line one is =
-    rw one (All-cons (λ (l : FullLine). is_stopped l.note.holder stops ≡ true) line [] is (All-nil (λ (l : FullLine). is_stopped l.note.holder stops ≡ true)))

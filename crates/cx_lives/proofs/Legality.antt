@@ -16,22 +16,19 @@ use Rattle.cx_rule.specs.Running.{Running, instance_at}
 use Rattle.cx_rule.specs.Seats.{Seated}
 use Rattle.cx_table.specs.Remains.{Leaves}
 use Rattle.cx_table.specs.declared.remains.Remains.{Remains}
-use Rattle.journals.specs.Ended.{IsEnded}
-use Rattle.journals.specs.Told.{IsTold}
+use Rattle.life_records.specs.Ended.{IsEnded}
+use Rattle.life_records.specs.Told.{IsTold}
 use Rattle.life_laws.specs.Begins.{Begun, IsBaseOf, begun_after}
 use Rattle.life_laws.specs.Meanings.{object_instance}
 use Rattle.life_laws.specs.Recorded.{GoesOn, HasReplies, IsKeptIn, IsRecorded}
 use Rattle.life_records.specs.Lives.{IsKept, IsKeptStop, IsLegal}
-use Rattle.life_records.specs.declared.record.JournalLine.{JournalLine}
-use Rattle.life_records.specs.declared.record.LifeRecord.{LifeRecord}
-use Rattle.life_records.specs.declared.script.Life.{Life}
+use Rattle.life_records.specs.Records.{JournalLine, Life, LifeRecord, Meaning}
 use Rattle.recovery.specs.Crashes.{IsLeftOf, IsWhole}
 use Rattle.recovery.specs.Images.{IsReadable}
 use Rattle.recovery.specs.Kept.{IsKeptBy, IsOpened, crash_of}
 use Rattle.cx_lives.specs.Life.{HasRun}
 use Rattle.cx_lives.specs.Lives.{HasLived, HasLost, IsServiceOf, IsToldBy, LeavesImage}
 use Rattle.cx_lives.proofs.Entries.{few_entries}
-use Rattle.typed_object.specs.Meaning.{Meaning}
 
 -- a closed service of the store, and a base that was kept of it
 pub record Closed (instance : Instance) (remains : Remains) (next : Base) : Type 0 where

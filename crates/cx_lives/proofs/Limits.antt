@@ -12,11 +12,9 @@ use Rattle.cx_service.specs.Starts.{Starts}
 use Rattle.cx_table.specs.Remains.{opening_seat}
 use Rattle.life_records.specs.Limits.{IsLifeInLimits}
 use Rattle.life_records.specs.Scripts.{limit_in}
-use Rattle.life_records.specs.declared.script.Cut.{Cut}
-use Rattle.life_records.specs.declared.script.Life.{Life}
+use Rattle.life_records.specs.Records.{Cut, Life, Meaning}
 use Rattle.cx_lives.specs.Ends.{IsNewIn}
 use Rattle.cx_lives.specs.Life.{CanRun}
-use Rattle.typed_object.specs.Meaning.{Meaning}
 
 -- one cut more that is looked at
 cut_next : (client i : ℕ) (cuts : List Cut) (cut : Cut) → i < length cuts → cut ≡ get_or cuts i cut → drop i cuts ≡ cut ∷ drop (i + 1) cuts

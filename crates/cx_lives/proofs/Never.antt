@@ -16,12 +16,11 @@ use Rattle.cx_core.specs.Region.{object_part}
 use Rattle.cx_core.specs.Shown.{shown}
 use Rattle.cx_core.specs.State.{EachLocal, Instance}
 use Rattle.life_laws.proofs.TypedSteps.{TypedSteps}
-use Rattle.life_records.specs.declared.script.Life.{Life}
+use Rattle.life_records.specs.Records.{AreOfNoReply, IsOpOf, Life}
 use Rattle.life_records.specs.Scripts.{own_ops}
 use Rattle.cx_lives.specs.Ends.{CannotBe, IsBadAnswer, IsBadRead, IsWorn}
 use Rattle.cx_lives.specs.Gathering.{HasNever, IsLocalIn}
 use Rattle.cx_lives.proofs.Totals.{entries_fewer}
-use Rattle.typed_object.specs.Meaning.{AreOfNoReply, IsOpOf}
 
 item_of : {X : Type 0} (xs : List X) (x : X) → Contains xs x → (k : ℕ) × (slice_get xs k ≡ Some x)
 item_of {X} xs x c =
@@ -46,10 +45,9 @@ module _ {Op Reply Store : Type 0} (t : TypedSteps Op Reply Store) where
   image_lawful image (e ∷ es) i all = image_lawful (t.step image e.op).0 es (t.object.keeps image e.op i (all 0 e refl)) (λ k x at. all (suc k) x at)
 
 taken_at : {X : Type 0} (n : ℕ) (xs : List X) (i : ℕ) (x : X) → slice_get (take n xs) i ≡ Some x → slice_get xs i ≡ Some x
-taken_at zero xs i x at = cc
-taken_at (suc n) [] i x at = cc
 taken_at (suc n) (y ∷ ys) zero x at = at
 taken_at (suc n) (y ∷ ys) (suc i) x at = taken_at n ys i x at
+taken_at _ xs i x at = cc
 
 -- what a seat shows of a local state: all but the words of a replica held exclusively
 whole_at : (whole : List Local) (i : ℕ) (l : Local) → slice_get (map shown whole) i ≡ Some l → (w : Local) × (slice_get whole i ≡ Some w) × (shown w ≡ l)

@@ -16,17 +16,12 @@ use Rattle.cx_core.specs.declared.local.SeenRead.{SeenRead}
 use Rattle.cx_rule.specs.Seats.{IsAtLimit}
 use Rattle.cx_turns.specs.declared.lookup.Seen.{Seen}
 use Rattle.cx_turns.specs.Answering.{with_answer}
-use Rattle.journals.specs.Works.{HasWords, IsDoneEntry, IsEnd, IsEntryBefore, IsFullOf, IsLineOf, IsLineReply, IsReadLine, IsReplyAt, IsSeenBefore, IsStopOf, IsStoppedRead, IsUnderWay, IsWork, StandsBetween, lines_of, stops_in}
+use Rattle.life_records.specs.Works.{HasWords, IsDoneEntry, IsEnd, IsEntryBefore, IsFullOf, IsLineOf, IsLineReply, IsReadLine, IsReplyAt, IsSeenBefore, IsStopOf, IsStoppedRead, IsUnderWay, IsWork, StandsBetween, lines_of, stops_in}
 use Rattle.life_records.specs.Scripts.{limit_in, named_op, own_ops}
-use Rattle.life_records.specs.declared.script.Life.{Life}
-use Rattle.life_records.specs.declared.record.FullLine.{FullLine}
-use Rattle.life_records.specs.declared.record.JournalLine.{JournalLine}
-use Rattle.life_records.specs.declared.record.ReadLine.{ReadLine}
-use Rattle.life_records.specs.declared.record.StopLine.{StopLine}
+use Rattle.life_records.specs.Records.{FullLine, JournalLine, Life, Meaning, ReadLine, StopLine}
 use Rattle.cx_lives.specs.Calls.{LinksEntry, one_read}
 use Rattle.cx_lives.specs.Serving.{HasServed, IsAnsweredEntry, IsAnsweredLine}
 use Rattle.cx_lives.proofs.Lines.{all_at, count_no, count_none, count_yes, zip_also, zip_with}
-use Rattle.typed_object.specs.Meaning.{Meaning}
 
 -- a reply stays where it is while more is answered
 reply_stays : {Op Reply Store : Type 0} → (m : Meaning Op Reply Store) → (answered more : List Answer) (ticket : ℕ) (reply : Option Reply) → IsSome reply → IsReplyAt m.encoding answered ticket reply → IsReplyAt m.encoding (answered ++ more) ticket reply

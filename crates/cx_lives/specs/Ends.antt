@@ -10,21 +10,16 @@ use Rattle.cx_rule.specs.Seats.{Seated}
 use Rattle.cx_service.specs.Callers.{IsCallerOf}
 use Rattle.cx_service.specs.Closes.{seat_of}
 use Rattle.cx_service.specs.Submits.{NamesHolder}
-use Rattle.journals.specs.Works.{IsWork}
+use Rattle.life_records.specs.Works.{IsWork}
 use Rattle.life_records.specs.Scripts.{limit_in, own_ops}
-use Rattle.life_records.specs.declared.script.Life.{Life}
-use Rattle.life_records.specs.declared.record.FullLine.{FullLine}
-use Rattle.life_records.specs.declared.record.JournalLine.{JournalLine}
-use Rattle.life_records.specs.declared.record.ReadLine.{ReadLine}
-use Rattle.life_records.specs.declared.record.StopLine.{StopLine}
-use Rattle.cx_lives.specs.declared.desk.End.{End}
-use Rattle.cx_lives.specs.declared.desk.End.TheVariants.{Whole, Stopped, Full, Never}
-use Rattle.cx_lives.specs.declared.desk.Desk.{Desk}
-use Rattle.cx_lives.specs.declared.desk.Turn.{Turn}
-use Rattle.cx_lives.specs.declared.desk.Turn.TheVariants.{Next, Over, Full as FullTurn}
-use Rattle.cx_lives.specs.declared.desk.Work.{Work}
+use Rattle.life_records.specs.Records.{AreOfNoReply, FullLine, IsOpOf, JournalLine, Life, Meaning, ReadLine, StopLine}
+use Rattle.cx_lives.specs.declared.progress.End.{End}
+use Rattle.cx_lives.specs.declared.progress.End.TheVariants.{Whole, Stopped, Full, Never}
+use Rattle.cx_lives.specs.declared.progress.Progress.{Progress}
+use Rattle.cx_lives.specs.declared.progress.Turn.{Turn}
+use Rattle.cx_lives.specs.declared.progress.Turn.TheVariants.{Next, Over, Full as FullTurn}
+use Rattle.cx_lives.specs.declared.progress.Work.{Work}
 use Rattle.cx_lives.specs.Serving.{IsServed}
-use Rattle.typed_object.specs.Meaning.{Meaning, AreOfNoReply, IsOpOf}
 
 -- every ticket is linked, while the caller has fewer entries than its client has commands
 pub record IsWorn {Op : Type 0} (life : Life Op) (client : ℕ) (l : Local) : Type 0 where
@@ -71,31 +66,27 @@ pub record IsCallerIn {O Op : Type 0} (life : Life Op) (r : Running O) (client :
 -- what a worker hands in
 pub record IsWorkOf {O Op Reply Store : Type 0} (m : Meaning Op Reply Store) (life : Life Op) (r : Running O) (client : ℕ) (work : Work Reply) : Type 0 where
   pub caller : IsCallerIn life r client (seat_of work.handed)
-  pub ends : IsEndOf m life client (seat_of work.handed).known.local work.entries.items work.reads.items work.end
+  pub ends : IsEndOf m life client (seat_of work.handed).known.local work.lines.entries.items work.lines.reads.items work.end
 
 -- the stop line of an end, and its full line
 abbrev pub stop_in : End → List StopLine
-stop_in Whole = []
 stop_in (Stopped line) = line ∷ []
-stop_in (Full line) = []
-stop_in Never = []
+stop_in _ = []
 
 abbrev pub full_in : End → List FullLine
-full_in Whole = []
-full_in (Stopped line) = []
 full_in (Full line) = line ∷ []
-full_in Never = []
+full_in _ = []
 
 -- a client that was answered its first so many commands, and another caller keeps its cells
-pub record IsKeptOut {O Op Reply Store : Type 0} (m : Meaning Op Reply Store) (life : Life Op) (r : Running O) (client number : ℕ) (desk : Desk Reply) (note : FullNote) : Type 0 where
-  pub served : IsServed m life r client number desk
-  pub names : NamesHolder r.callers desk.caller.known.local note
+pub record IsKeptOut {O Op Reply Store : Type 0} (m : Meaning Op Reply Store) (life : Life Op) (r : Running O) (client number : ℕ) (progress : Progress Reply) (note : FullNote) : Type 0 where
+  pub served : IsServed m life r client number progress
+  pub names : NamesHolder r.callers progress.caller.known.local note
 
 -- what a command of this number comes to; no client gives up in it
 abbrev pub Turned : {O Op Reply Store : Type 0} → (m : Meaning Op Reply Store) → Life Op → Running O → ℕ → ℕ → Turn Reply → Type 0
-Turned m life r client number (Next desk) = IsServed m life r client number desk
+Turned m life r client number (Next progress) = IsServed m life r client number progress
 Turned m life r client number (Over work) = IsWorkOf m life r client work × (full_in work.end ≡ [])
-Turned m life r client number (FullTurn desk note) = IsKeptOut m life r client (number - 1) desk note
+Turned m life r client number (FullTurn progress note) = IsKeptOut m life r client (number - 1) progress note
 
 -- a caller of this service that made no call yet, with its client's limit
 pub record IsNewIn {O Op : Type 0} (life : Life Op) (r : Running O) (seat : Seated) : Type 0 where

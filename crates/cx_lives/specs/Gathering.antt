@@ -7,15 +7,14 @@ use Rattle.cx_rule.specs.Running.{IsSeatOf, Running}
 use Rattle.cx_rule.specs.Seats.{Seated}
 use Rattle.cx_service.specs.Closes.{seats_of}
 use Rattle.cx_table.specs.Remains.{locals_of}
-use Rattle.journals.specs.Works.{AreWorks}
+use Rattle.life_records.specs.Works.{AreWorks}
 use Rattle.life_records.specs.Scripts.{limit_in, own_ops}
-use Rattle.life_records.specs.declared.script.Life.{Life}
-use Rattle.cx_lives.specs.declared.desk.End.{End}
-use Rattle.cx_lives.specs.declared.desk.End.TheVariants.{Whole, Stopped, Full, Never}
-use Rattle.cx_lives.specs.declared.desk.Work.{Work}
+use Rattle.life_records.specs.Records.{Life, Meaning}
+use Rattle.cx_lives.specs.declared.progress.End.{End}
+use Rattle.cx_lives.specs.declared.progress.End.TheVariants.{Never}
+use Rattle.cx_lives.specs.declared.progress.Work.{Work}
 use Rattle.cx_lives.specs.declared.gather.Gathered.{Gathered}
 use Rattle.cx_lives.specs.Ends.{CannotBe, full_in, stop_in}
-use Rattle.typed_object.specs.Meaning.{Meaning}
 
 -- some caller has what none can have
 pub record HasNever {Op Reply Store : Type 0} (m : Meaning Op Reply Store) (life : Life Op) (locals : List Local) : Type 0 where
@@ -35,20 +34,18 @@ pub record AreGathered {O Op Reply Store : Type 0} (m : Meaning Op Reply Store) 
   pub of : All (IsSeatOf r) (seats_of g.handed.items)
   pub numbers : map (λ (s : Seated). s.known.local.number) (seats_of g.handed.items) ≡ range_with_len 0 (length g.handed.items)
   pub each : EachLocal (locals_of (seats_of g.handed.items)) (IsLocalIn life)
-  pub works : MatchBool g.never (HasNever m life (locals_of (seats_of g.handed.items)))
-      (AreWorks m.encoding life (locals_of (seats_of g.handed.items)) g.entries.items g.reads.items g.stops.items g.fulls.items)
+  pub works : MatchBool g.ends.never (HasNever m life (locals_of (seats_of g.handed.items)))
+      (AreWorks m.encoding life (locals_of (seats_of g.handed.items)) g.lines.entries.items g.lines.reads.items g.ends.stops.items g.ends.fulls.items)
 
 abbrev pub is_never : End → Bool
-is_never Whole = false
-is_never (Stopped line) = false
-is_never (Full line) = false
 is_never Never = true
+is_never _ = false
 
 -- one client's work more
 pub record AddsWork {Reply : Type 0} (before after : Gathered Reply) (work : Work Reply) : Type 0 where
   pub handed : after.handed.items ≡ before.handed.items ++ work.handed ∷ []
-  pub entries : after.entries.items ≡ before.entries.items ++ work.entries.items
-  pub reads : after.reads.items ≡ before.reads.items ++ work.reads.items
-  pub stops : after.stops.items ≡ before.stops.items ++ stop_in work.end
-  pub fulls : after.fulls.items ≡ before.fulls.items ++ full_in work.end
-  pub never : after.never ≡ (before.never || is_never work.end)
+  pub entries : after.lines.entries.items ≡ before.lines.entries.items ++ work.lines.entries.items
+  pub reads : after.lines.reads.items ≡ before.lines.reads.items ++ work.lines.reads.items
+  pub stops : after.ends.stops.items ≡ before.ends.stops.items ++ stop_in work.end
+  pub fulls : after.ends.fulls.items ≡ before.ends.fulls.items ++ full_in work.end
+  pub never : after.ends.never ≡ (before.ends.never || is_never work.end)

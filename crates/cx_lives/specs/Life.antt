@@ -4,13 +4,11 @@ use Rattle.cx_rule.specs.Running.{Running, instance_at}
 use Rattle.cx_rule.specs.Seats.{Seated}
 use Rattle.cx_table.specs.Remains.{AreSeats, Leaves}
 use Rattle.cx_table.specs.declared.remains.Remains.{Remains}
-use Rattle.journals.specs.Told.{IsTold}
-use Rattle.journals.specs.Works.{AreWorks}
+use Rattle.life_records.specs.Told.{IsTold}
+use Rattle.life_records.specs.Works.{AreWorks}
 use Rattle.life_records.specs.Limits.{IsLifeInLimits}
-use Rattle.life_records.specs.declared.script.Life.{Life}
-use Rattle.life_records.specs.declared.record.LifeRecord.{LifeRecord}
+use Rattle.life_records.specs.Records.{Life, LifeRecord, Meaning}
 use Rattle.cx_lives.specs.Ends.{IsNewIn}
-use Rattle.typed_object.specs.Meaning.{Meaning}
 
 -- A life that may be run on a service by these callers: item i is caller i, with client i's limit and no call made, and there are
 -- all; the life is within its limits, and so many tickets are left as it has commands.

@@ -1,5 +1,5 @@
 -- What one life comes to.
-use Rattle.std.specs.Prelude.{◌≡◌, ◌↔◌, ◌+◌, ◌-◌, ◌%◌, ◌<◌, ◌≤◌, ℕ, List, [], ◌∷◌, ◌++◌, length, slice_index, true, All, Option, None, Some}
+use Rattle.std.specs.Prelude.{◌≡◌, ◌+◌, ◌-◌, ◌%◌, ◌^◌, ◌<◌, ◌≤◌, ℕ, List, [], ◌∷◌, ◌++◌, length, slice_index, All, Option, None, Some}
 use Rattle.cx_base.specs.Codes.{root_place_of}
 use Rattle.cx_core.specs.Base.{LawfulBase}
 use Rattle.cx_core.specs.declared.entry.Base.{Base}
@@ -8,21 +8,19 @@ use Rattle.cx_core.specs.Region.{object_part}
 use Rattle.cx_rule.specs.Ending.{Ending}
 use Rattle.cx_rule.specs.Running.{Running}
 use Rattle.cx_table.specs.declared.remains.Remains.{Remains}
-use Rattle.journals.specs.Ended.{IsSameButKept}
-use Rattle.journals.specs.Told.{IsTold}
+use Rattle.life_records.specs.Ended.{IsFlagged, IsSameButKept}
+use Rattle.life_records.specs.Told.{IsTold}
 use Rattle.life_laws.specs.Begins.{Begun, IsBaseOf, begun_after, nothing_begun}
 use Rattle.life_laws.specs.Replies.{HasOpValues, HasReplyValues}
 use Rattle.life_records.specs.Limits.{IsLifeInLimits}
-use Rattle.life_records.specs.Lives.{AreLivesFrom, IsKeptStop, IsLegalLife}
+use Rattle.life_records.specs.Lives.{AreLivesFrom, IsLegalLife}
 use Rattle.life_records.specs.Scripts.{command_count}
-use Rattle.life_records.specs.declared.script.Life.{Life}
-use Rattle.life_records.specs.declared.record.LifeRecord.{LifeRecord}
+use Rattle.life_records.specs.Records.{Encoding, Life, LifeRecord, Meaning}
 use Rattle.recovery.specs.Crashes.{IsLeftOf, IsWhole}
 use Rattle.recovery.specs.Images.{IsReadable}
 use Rattle.recovery.specs.Recovery.{IsRecovered}
 use Rattle.cx_lives.specs.declared.lives.Lived.{Lived}
-use Rattle.cx_lives.specs.declared.ran.Ran.{Ran}
-use Rattle.typed_object.specs.Meaning.{Meaning, Encoding}
+use Rattle.cx_lives.specs.declared.lives.Ran.{Ran}
 
 -- A record of a life is told by the trail of its service. The life's choice takes the code whose place ends what was kept, from the
 -- codes with which the service ended, in rising order.
@@ -35,6 +33,14 @@ pub record BeginsLife {Op Reply Store : Type 0} (m : Meaning Op Reply Store) (li
   pub lawful : LawfulBase lines is_lawful base
   pub is : IsBaseOf m base begun
 
+-- a life that may be run by a service that opens from a base, of an object of so many lines, with so many tickets left as it has commands
+pub record CanBegin {Op Reply Store : Type 0} (m : Meaning Op Reply Store) (lines : ℕ) (is_lawful : List ℕ → Type 0) (life : Life Op) (base : Base) : Type 0 where
+  pub enough : 64 ≤ lines
+  pub few : lines ≤ 16384
+  pub limits : IsLifeInLimits m.is_op 8 life
+  pub lawful : LawfulBase lines is_lawful base
+  pub tickets : base.place + length life.commands ≤ 2 ^ 40
+
 -- the service of a life, which opened from this base
 pub record IsServiceOf {O Op : Type 0} (object : O) (lines : ℕ) (base : Base) (life : Life Op) (service : Running O) : Type 0 where
   pub callers : service.callers ≡ life.clients
@@ -44,9 +50,9 @@ pub record IsServiceOf {O Op : Type 0} (object : O) (lines : ℕ) (base : Base) 
 
 -- the record with these numbers of entries kept and of items, in which a stop line says kept exactly where its command has an
 -- entry that is kept
-pub record IsFlagged {Reply : Type 0} (told : LifeRecord Reply) (kept items : ℕ) (flagged : LifeRecord Reply) : Type 0 where
+pub record HasFlags {Reply : Type 0} (told : LifeRecord Reply) (kept items : ℕ) (flagged : LifeRecord Reply) : Type 0 where
   pub same : IsSameButKept told flagged
-  pub stops : All (λ line. (line.kept ≡ true) ↔ IsKeptStop told.from kept told.journal line) flagged.stops
+  pub stops : All (IsFlagged told.from kept told.journal) flagged.stops
   pub choice : flagged.choice ≡ told.choice
   pub kept_is : flagged.kept ≡ kept
   pub items_are : flagged.documents ≡ items
@@ -61,7 +67,7 @@ pub record HasLost {Op Reply Store : Type 0} (m : Meaning Op Reply Store) (lines
   pub left : IsLeftOf remains life.choice image
   pub recovered : IsRecovered version is_lawful image next
   pub items : ℕ
-  pub flags : IsFlagged told (next.place - told.from) items flagged
+  pub flags : HasFlags told (next.place - told.from) items flagged
   pub items_are : (store : Store) → m.stands (object_part next.words) store → items ≡ m.items store
   pub values : HasReplyValues m flagged
 
@@ -120,8 +126,7 @@ abbrev pub HaveEnded : {Op Reply Store : Type 0} → Meaning Op Reply Store → 
 HaveEnded m lines version is_lawful begun lives None None = lives ≡ []
 HaveEnded m lines version is_lawful begun lives (Some image) (Some base) =
     (0 < length lives) × IsRecovered version is_lawful image base × BeginsLife m lines is_lawful begun base × (base.place ≤ command_count lives)
-HaveEnded m lines version is_lawful begun lives None (Some base) = ⊥
-HaveEnded m lines version is_lawful begun lives (Some image) None = ⊥
+HaveEnded m lines version is_lawful begun lives _ _ = ⊥
 
 -- the loss of power that ended the last of these lives left the image, by the last of these trails
 pub record LastLeaves {Op : Type 0} (lines : ℕ) (lives : List (Life Op)) (trails : List Ending) (image : Image) : Type 0 where

@@ -7,13 +7,10 @@ use Rattle.cx_core.specs.declared.local.Local.{Local}
 use Rattle.cx_core.specs.declared.local.SeenRead.{SeenRead}
 use Rattle.cx_rule.specs.Running.{Running}
 use Rattle.cx_service.specs.Callers.{IsCallerOf}
-use Rattle.journals.specs.Works.{IsEntryBefore, IsLineOf, IsReadLine, IsSeenBefore, StandsBetween, lines_of}
+use Rattle.life_records.specs.Works.{IsEntryBefore, IsLineOf, IsReadLine, IsSeenBefore, StandsBetween, lines_of}
 use Rattle.life_records.specs.Scripts.{limit_in}
-use Rattle.life_records.specs.declared.script.Life.{Life}
-use Rattle.life_records.specs.declared.record.JournalLine.{JournalLine}
-use Rattle.life_records.specs.declared.record.ReadLine.{ReadLine}
-use Rattle.cx_lives.specs.declared.desk.Desk.{Desk}
-use Rattle.typed_object.specs.Meaning.{Meaning}
+use Rattle.life_records.specs.Records.{JournalLine, Life, Meaning, ReadLine}
+use Rattle.cx_lives.specs.declared.progress.Progress.{Progress}
 
 -- the line of an entry that was answered
 abbrev pub IsAnsweredLine : {Op Reply Store : Type 0} → (m : Meaning Op Reply Store) → Life Op → ℕ → List Answer → Linked → JournalLine Reply → Type 0
@@ -40,6 +37,6 @@ pub record HasServed {Op Reply Store : Type 0} (m : Meaning Op Reply Store) (lif
   pub count : length entries + length reads ≡ number
 
 -- the same of a worker whose caller is in no call
-pub record IsServed {O Op Reply Store : Type 0} (m : Meaning Op Reply Store) (life : Life Op) (r : Running O) (client number : ℕ) (desk : Desk Reply) : Type 0 where
-  pub caller : IsCallerOf r desk.caller
-  pub lists : HasServed m life client number desk.caller.known.local desk.entries.items desk.reads.items
+pub record IsServed {O Op Reply Store : Type 0} (m : Meaning Op Reply Store) (life : Life Op) (r : Running O) (client number : ℕ) (progress : Progress Reply) : Type 0 where
+  pub caller : IsCallerOf r progress.caller
+  pub lists : HasServed m life client number progress.caller.known.local progress.lines.entries.items progress.lines.reads.items

@@ -4,48 +4,46 @@ use Rattle.cx_core.specs.declared.local.Answer.{Answer}
 use Rattle.cx_service.specs.Callers.{StoppedSeat}
 use Rattle.cx_service.specs.declared.close.Handed.TheVariants.{Idle, Stopped as StoppedCaller}
 use Rattle.cx_turns.specs.declared.lookup.Seen.{Seen}
-use Rattle.life_records.specs.declared.record.JournalLine.{JournalLine}
-use Rattle.life_records.specs.declared.record.ReadLine.{ReadLine}
-use Rattle.life_records.specs.declared.record.StopLine.{StopLine}
-use Rattle.cx_lives.specs.declared.desk.Desk.{Desk}
-use Rattle.cx_lives.specs.declared.desk.End.TheVariants.{Stopped, Never}
-use Rattle.cx_lives.specs.declared.desk.Turn.{Turn}
-use Rattle.cx_lives.specs.declared.desk.Turn.TheVariants.{Next, Over, Full}
-use Rattle.cx_lives.specs.declared.desk.Work.{Work}
-use Rattle.typed_object.specs.Meaning.{Meaning, AreOfNoReply}
+use Rattle.life_records.specs.Records.{AreOfNoReply, JournalLine, Meaning, StopLine}
+use Rattle.cx_lives.specs.declared.progress.Progress.{Progress}
+use Rattle.cx_lives.specs.declared.progress.End.{End}
+use Rattle.cx_lives.specs.declared.progress.End.TheVariants.{Stopped, Never}
+use Rattle.cx_lives.specs.declared.progress.Lines.{Lines}
+use Rattle.cx_lives.specs.declared.progress.Turn.{Turn}
+use Rattle.cx_lives.specs.declared.progress.Turn.TheVariants.{Next, Over, Full}
+use Rattle.cx_lives.specs.declared.progress.Work.{Work}
 
 -- one entry's line more
-pub record AddsEntry {Op Reply Store : Type 0} (m : Meaning Op Reply Store) (client number : ℕ) (answer : Answer) (desk next : Desk Reply) : Type 0 where
-  pub caller : next.caller ≡ desk.caller
+pub record AddsEntry {Op Reply Store : Type 0} (m : Meaning Op Reply Store) (client number : ℕ) (answer : Answer) (progress next : Progress Reply) : Type 0 where
+  pub caller : next.caller ≡ progress.caller
   pub reply : Reply
   pub words : m.encoding.reply_words reply ≡ answer.reply
-  pub entries : next.entries.items ≡
-      desk.entries.items ++ record { ticket = answer.ticket; client = client; command = number; reply = Some reply } ∷ []
-  pub reads : next.reads.items ≡ desk.reads.items
+  pub entries : next.lines.entries.items ≡
+      progress.lines.entries.items ++ record { ticket = answer.ticket; client = client; command = number; reply = Some reply } ∷ []
+  pub reads : next.lines.reads.items ≡ progress.lines.reads.items
 
 -- one read's line more
-pub record AddsRead {Op Reply Store : Type 0} (m : Meaning Op Reply Store) (client number : ℕ) (seen : Seen) (desk next : Desk Reply) : Type 0 where
-  pub caller : next.caller ≡ desk.caller
+pub record AddsRead {Op Reply Store : Type 0} (m : Meaning Op Reply Store) (client number : ℕ) (seen : Seen) (progress next : Progress Reply) : Type 0 where
+  pub caller : next.caller ≡ progress.caller
   pub reply : Reply
   pub words : m.encoding.reply_words reply ≡ seen.reply
-  pub entries : next.entries.items ≡ desk.entries.items
-  pub reads : next.reads.items ≡ desk.reads.items ++ record { client = client; command = number; place = seen.place; reply = reply } ∷ []
+  pub entries : next.lines.entries.items ≡ progress.lines.entries.items
+  pub reads : next.lines.reads.items ≡ progress.lines.reads.items ++ record { client = client; command = number; place = seen.place; reply = reply } ∷ []
 
--- the client is at an end that cannot be, with the lines that it had
-pub record IsNever {Reply : Type 0} (desk : Desk Reply) (work : Work Reply) : Type 0 where
-  pub handed : work.handed ≡ Idle desk.caller
-  pub end_is : work.end ≡ Never
+-- the end of a client whose caller is in no call
+abbrev pub ended : {Reply : Type 0} → Progress Reply → End → Work Reply
+ended progress end_ = record { handed = Idle progress.caller; lines = progress.lines; end = end_ }
 
 -- what an answer comes to, by whether its words are a reply's
-abbrev pub EntryTurn : {Op Reply Store : Type 0} → (m : Meaning Op Reply Store) → ℕ → ℕ → Answer → Desk Reply → Turn Reply → Type 0
-EntryTurn m client number answer desk (Next next) = AddsEntry m client number answer desk next
-EntryTurn m client number answer desk (Over work) = IsNever desk work × AreOfNoReply m answer.reply
-EntryTurn m client number answer desk (Full next note) = ⊥
+abbrev pub EntryTurn : {Op Reply Store : Type 0} → (m : Meaning Op Reply Store) → ℕ → ℕ → Answer → Progress Reply → Turn Reply → Type 0
+EntryTurn m client number answer progress (Next next) = AddsEntry m client number answer progress next
+EntryTurn m client number answer progress (Over work) = (work ≡ ended progress Never) × AreOfNoReply m answer.reply
+EntryTurn m client number answer progress (Full next note) = ⊥
 
-abbrev pub ReadTurn : {Op Reply Store : Type 0} → (m : Meaning Op Reply Store) → ℕ → ℕ → Seen → Desk Reply → Turn Reply → Type 0
-ReadTurn m client number seen desk (Next next) = AddsRead m client number seen desk next
-ReadTurn m client number seen desk (Over work) = IsNever desk work × AreOfNoReply m seen.reply
-ReadTurn m client number seen desk (Full next note) = ⊥
+abbrev pub ReadTurn : {Op Reply Store : Type 0} → (m : Meaning Op Reply Store) → ℕ → ℕ → Seen → Progress Reply → Turn Reply → Type 0
+ReadTurn m client number seen progress (Next next) = AddsRead m client number seen progress next
+ReadTurn m client number seen progress (Over work) = (work ≡ ended progress Never) × AreOfNoReply m seen.reply
+ReadTurn m client number seen progress (Full next note) = ⊥
 
 -- the stop line of a client that is stopped in its command of this number
 abbrev pub stop_line : ℕ → ℕ → StoppedSeat → StopLine
@@ -58,8 +56,8 @@ with_linked client number (Some ticket) entries =
     entries ++ record { ticket = ticket; client = client; command = number; reply = None } ∷ []
 
 -- the client is stopped in its command of this number
-pub record StopsIn {Reply : Type 0} (client number : ℕ) (stopped : StoppedSeat) (entries : List (JournalLine Reply)) (reads : List (ReadLine Reply)) (work : Work Reply) : Type 0 where
+pub record StopsIn {Reply : Type 0} (client number : ℕ) (stopped : StoppedSeat) (lines : Lines Reply) (work : Work Reply) : Type 0 where
   pub handed : work.handed ≡ StoppedCaller stopped
   pub end_is : work.end ≡ Stopped (stop_line client number stopped)
-  pub entries_are : work.entries.items ≡ with_linked client number stopped.linked entries
-  pub reads_are : work.reads.items ≡ reads
+  pub entries_are : work.lines.entries.items ≡ with_linked client number stopped.linked lines.entries.items
+  pub reads_are : work.lines.reads.items ≡ lines.reads.items

@@ -1,30 +1,27 @@
 -- What workers come to: their clients are at their ends, or are left.
-use Rattle.std.specs.Prelude.{◌≡◌, ◌+◌, ◌<◌, ◌≤◌, ℕ, List, [], ◌∷◌, ◌++◌, length, take, IfOk, Result, Ok, Err, slice_index_or}
+use Rattle.std.specs.Prelude.{◌≡◌, ◌+◌, ◌<◌, ◌≤◌, ℕ, List, [], ◌∷◌, ◌++◌, length, take, IfOk, Result, Ok, slice_index_or}
 use Rattle.std.specs.declared.alloc.AllocError.{AllocError}
 use Rattle.cx_rule.specs.Running.{Running}
 use Rattle.cx_rule.specs.Seats.{Seated}
-use Rattle.journals.specs.Works.{IsFullOf}
+use Rattle.life_records.specs.Works.{IsFullOf}
 use Rattle.life_records.specs.Scripts.{own_ops}
-use Rattle.life_records.specs.declared.script.Life.{Life}
-use Rattle.life_records.specs.declared.record.FullLine.{FullLine}
-use Rattle.life_records.specs.declared.record.StopLine.{StopLine}
+use Rattle.life_records.specs.Records.{FullLine, Life, Meaning, StopLine}
 use Rattle.cx_lives.specs.Ends.{IsWorkOf, full_in, stop_in}
 use Rattle.cx_lives.specs.Serving.{IsServed}
 use Rattle.cx_lives.specs.declared.work.Left.{Left}
 use Rattle.cx_lives.specs.declared.work.Served.{Served}
 use Rattle.cx_lives.specs.declared.work.Served.TheVariants.{Done, Full}
-use Rattle.typed_object.specs.Meaning.{Meaning}
 
 -- a client that is left: it was answered its commands among the first so many of the script
 pub record IsLeftOf {O Op Reply Store : Type 0} (m : Meaning Op Reply Store) (life : Life Op) (r : Running O) (client : ℕ) (left : Left Reply) : Type 0 where
-  pub served : IsServed m life r client left.number left.desk
+  pub served : IsServed m life r client left.number left.progress
   pub count : left.number ≡ length (own_ops client (take left.at life.commands))
   pub few : left.number ≤ left.at
 
 -- one that would give up in its next command with this line
 pub record IsFullLeft {O Op Reply Store : Type 0} (m : Meaning Op Reply Store) (life : Life Op) (r : Running O) (client : ℕ) (left : Left Reply) (line : FullLine) : Type 0 where
   pub left_is : IsLeftOf m life r client left
-  pub full : IsFullOf life client left.number left.desk.caller.known.local line
+  pub full : IsFullOf life client left.number left.progress.caller.known.local line
 
 -- what a worker comes to, whose client gave up in no command yet
 abbrev pub ServedOf : {O Op Reply Store : Type 0} → (m : Meaning Op Reply Store) → Life Op → Running O → ℕ → Served Reply → Type 0
@@ -46,8 +43,7 @@ AreNumbered m life r client (work ∷ works) = IfOk work (ServedOf m life r clie
 -- the stop line that a worker tells, and those of all
 abbrev pub stop_told : {Reply : Type 0} → Result (Served Reply) AllocError → List StopLine
 stop_told (Ok (Done work)) = stop_in work.end
-stop_told (Ok (Full left line)) = []
-stop_told (Err e) = []
+stop_told _ = []
 
 abbrev pub stops_left : {Reply : Type 0} → List (Result (Served Reply) AllocError) → List StopLine
 stops_left [] = []

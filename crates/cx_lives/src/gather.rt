@@ -7,33 +7,30 @@ ghost use Rattle.cx_lives.specs.Ends.{IsWorkOf, full_in, stop_in};
 ghost use Rattle.cx_lives.specs.Gathering.{AddsWork, AreGathered, is_never};
 ghost use Rattle.cx_lives.specs.Works.{AreNumbered, ServedOf, stop_told, stops_left};
 
-use crate::desk::{End, Work};
+use crate::progress::{End, Lines, Work};
 use crate::work::{Served, go_on};
 use cx_base::Gate;
 use cx_service::{Handed, Service};
-use journals::laws::{works_begin, works_go_on};
-use life_records::{BorrowedLife, FullLine, JournalLine, ReadLine, StopLine};
+use life_records::laws::{works_begin, works_go_on};
+use life_records::{BorrowedLife, FullLine, StopLine};
 use std::alloc::{AllocError, Global};
 use std::sync::Wait;
 use typed_object::TypedObject;
 
-/// The callers as they ended, the lines of all, and whether some caller has what none can have.
+/// The callers as they ended, and the lines of all.
 #[derive(Drop)]
 pub(crate) struct Gathered<Reply> {
     pub(crate) handed: Vec<Handed>,
-    pub(crate) entries: Vec<JournalLine<Reply>>,
-    pub(crate) reads: Vec<ReadLine<Reply>>,
+    pub(crate) lines: Lines<Reply>,
+    pub(crate) ends: Ends,
+}
+
+/// The lines of clients that were stopped or gave up, and whether some caller has what none can have.
+#[derive(Drop)]
+pub(crate) struct Ends {
     pub(crate) stops: Vec<StopLine>,
     pub(crate) fulls: Vec<FullLine>,
     pub(crate) never: bool,
-}
-
-// The lines of clients that were stopped or gave up, and whether some caller has what none can have.
-#[derive(Drop)]
-struct Ends {
-    stops: Vec<StopLine>,
-    fulls: Vec<FullLine>,
-    never: bool,
 }
 
 impl<Reply: Drop> Gathered<Reply> {
@@ -43,63 +40,37 @@ impl<Reply: Drop> Gathered<Reply> {
     {
         let Gathered {
             mut handed,
-            entries,
-            reads,
-            stops,
-            fulls,
-            never,
+            lines,
+            ends,
         } = self;
-        let Work {
-            handed: caller,
-            entries: own_entries,
-            reads: own_reads,
-            end,
-        } = work;
-        handed.push(caller)?;
-        let entries = joined(entries, own_entries)?;
-        let reads = joined(reads, own_reads)?;
-        let Ends {
-            stops,
-            fulls,
-            never,
-        } = with_end(stops, fulls, never, end)?;
+        handed.push(work.handed)?;
         Ok(Gathered {
             handed,
-            entries,
-            reads,
-            stops,
-            fulls,
-            never,
+            lines: joined(lines, work.lines)?,
+            ends: with_end(ends, work.end)?,
         })
     }
 }
 
 // One client's lines behind those of the clients before it.
-fn joined<T: Drop>(before: Vec<T>, own: Vec<T>) -> Result<Vec<T>, AllocError>
-    ensures { IfOk result (λ lines. lines.items ≡ before.items ++ own.items) }
+fn joined<Reply: Drop>(before: Lines<Reply>, own: Lines<Reply>) -> Result<Lines<Reply>, AllocError>
+    ensures entries { IfOk result (λ lines. lines.entries.items ≡ before.entries.items ++ own.entries.items) }
+    ensures reads { IfOk result (λ lines. lines.reads.items ≡ before.reads.items ++ own.reads.items) }
 {
     let mut lines = before;
     let mut own = own;
-    lines.append(&mut own)?;
+    lines.entries.append(&mut own.entries)?;
+    lines.reads.append(&mut own.reads)?;
     Ok(lines)
 }
 
 // With one client's end more.
-fn with_end(
-    stops: Vec<StopLine>,
-    fulls: Vec<FullLine>,
-    never: bool,
-    end: End,
-) -> Result<Ends, AllocError>
-    ensures stops { IfOk result (λ r. r.stops.items ≡ stops.items ++ stop_in end) }
-    ensures fulls { IfOk result (λ r. r.fulls.items ≡ fulls.items ++ full_in end) }
-    ensures never { IfOk result (λ r. r.never ≡ (never || is_never end)) }
+fn with_end(before: Ends, end: End) -> Result<Ends, AllocError>
+    ensures stops { IfOk result (λ r. r.stops.items ≡ before.stops.items ++ stop_in end) }
+    ensures fulls { IfOk result (λ r. r.fulls.items ≡ before.fulls.items ++ full_in end) }
+    ensures never { IfOk result (λ r. r.never ≡ (before.never || is_never end)) }
 {
-    let mut ends = Ends {
-        stops,
-        fulls,
-        never,
-    };
+    let mut ends = before;
     match end {
         End::Whole => {}
         End::Stopped(line) => ends.stops.push(line)?,
@@ -122,23 +93,34 @@ pub(crate) fn gather<O: TypedObject, R: Wait, G: Gate>(
     requires works { AreNumbered (O.meaning service.now.object) life.now service.now 0 works.items }
     requires life { IsLifeInLimits (O.meaning service.now.object).is_op 8 life.now }
     ensures gathered { IfOk result (AreGathered (O.meaning service.now.object) life.now service.now) }
-    ensures stopped { IfOk result (λ g. All (λ line. is_stopped line.note.holder g.stops.items ≡ true) g.fulls.items) }
+    ensures stopped { IfOk result (λ g. All (λ line. is_stopped line.note.holder g.ends.stops.items ≡ true) g.ends.fulls.items) }
     ensures all { IfOk result (λ g. length g.handed.items ≡ vec_len works) }
 {
     works_begin::<O::Op, O::Reply>();
     works_go_on::<O::Op, O::Reply>();
-    let mut all = Gathered {
-        handed: Vec::new(alloc),
-        entries: Vec::new(alloc),
-        reads: Vec::new(alloc),
+    let ends = Ends {
         stops: Vec::new(alloc),
         fulls: Vec::new(alloc),
         never: false,
     };
+    let mut all = Gathered {
+        handed: Vec::new(alloc),
+        lines: Lines::new(alloc),
+        ends,
+    };
     let mut works = works;
     while !works.is_empty() {
         let served = first_of(&mut works)?;
-        let work = at_end(rt, alloc, service, life, gate, served, &all.stops, &works)?;
+        let work = at_end(
+            rt,
+            alloc,
+            service,
+            life,
+            gate,
+            served,
+            &all.ends.stops,
+            &works,
+        )?;
         all = all.with(work)?;
     }
     Ok(all)

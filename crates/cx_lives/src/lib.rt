@@ -4,12 +4,11 @@
 #![tactic(auto)]
 
 mod calls;
-mod desk;
 mod gather;
 mod life;
 mod lived_laws;
 mod lives;
-mod ran;
+mod progress;
 mod start;
 mod work;
 mod workers;

@@ -5,13 +5,14 @@ ghost use Rattle.cx_lives.specs.Life.{CanRun, HasRun};
 ghost use Rattle.life_laws.specs.Meanings.{AreLaws};
 ghost use Rattle.typed_object.specs.Meaning.{HasMeaning};
 
-use crate::gather::{Gathered, gather};
+use crate::gather::{Ends, Gathered, gather};
+use crate::progress::Lines;
 use crate::workers::run_workers;
 use cx_base::{Gate, Items};
 use cx_service::{Caller, Service};
 use cx_table::Remains;
-use journals::laws::journals_are_told;
 use life_laws::steps_are_meant;
+use life_records::laws::journals_are_told;
 use life_records::{BorrowedLife, LifeRecord};
 use std::alloc::{AllocError, Global};
 use std::sync::Wait;
@@ -49,12 +50,15 @@ pub fn run_life<O: TypedObject + Sync, R: Threads + Wait + Sync, G: Gate + Sync>
     let works = run_workers(rt, alloc, &service, callers, life, gate)?;
     let Gathered {
         handed,
-        mut entries,
-        reads,
+        lines,
+        ends,
+    } = gather(rt, alloc, &service, life, gate, works)?;
+    let Lines { mut entries, reads } = lines;
+    let Ends {
         stops,
         fulls,
         never,
-    } = gather(rt, alloc, &service, life, gate, works)?;
+    } = ends;
     entries.sort_unstable_by_key(|line| line.ticket);
     journals_are_told::<O::Op, O::Reply>();
     let _lines = service.lines();

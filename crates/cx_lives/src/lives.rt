@@ -1,31 +1,26 @@
 //! The lives of a script, one after another: each is run, loses its power and is recovered, and the next begins with what was
 //! recovered.
 
-ghost use Rattle.std.specs.Prelude.{◌≡◌, ◌↔◌, ◌+◌, ◌<◌, ◌≤◌, ◌^◌, List, [], ◌∷◌, ◌++◌, IfOk, None, length, true, All};
-ghost use Rattle.std.specs.List.{AllZip};
+ghost use Rattle.std.specs.Prelude.{◌≡◌, ◌+◌, ◌<◌, ◌≤◌, List, [], ◌∷◌, ◌++◌, IfOk, None, length, true};
 ghost use Rattle.cx_core.specs.Base.{LawfulBase};
 ghost use Rattle.cx_core.specs.Region.{object_part};
 ghost use Rattle.cx_rule.specs.Running.{Running};
-ghost use Rattle.journals.specs.Ended.{IsSameStop};
 ghost use Rattle.life_laws.specs.Begins.{Begun, IsBaseOf, nothing_begun};
 ghost use Rattle.life_records.specs.Limits.{IsLifeInLimits, KeepsLimits};
-ghost use Rattle.life_records.specs.Lives.{IsKeptStop};
 ghost use Rattle.life_records.specs.Scripts.{command_count};
 ghost use Rattle.life_records.specs.declared.script.Life.{Life};
 ghost use Rattle.recovery.specs.declared.recovering.ImageFault.TheVariants.{Memory};
 ghost use Rattle.cx_lives.specs.Life.{HasRun};
-ghost use Rattle.cx_lives.specs.Lives.{BeginsLife, HasLived, HaveLived, IsFlagged, IsNextBase, IsServiceOf};
+ghost use Rattle.cx_lives.specs.Lives.{BeginsLife, CanBegin, HasFlags, HasLived, HaveLived, IsNextBase, IsServiceOf};
 
 use crate::life::run_life;
 use crate::lived_laws::lives_that_ran_have_lived;
-use crate::ran::Ran;
 use crate::start::start_life;
 use cx_base::{Gate, Items};
 use cx_core::{Base, OBJECT_START};
 use cx_table::{Remains, Trail};
-use journals::is_kept;
 use life_laws::{fresh_bases_begin_with_nothing, operations_are_values, replies_are_values};
-use life_records::{BorrowedLife, JournalLine, LifeRecord, Script, StopLine};
+use life_records::{BorrowedLife, LifeRecord, Script, flag_stops};
 use recovery::{
     Image, ImageFault, closed_tables_are_whole, closed_tables_recover, crash_image, recover,
 };
@@ -45,6 +40,15 @@ pub struct Lived<Reply> {
     pub image: Option<Image>,
     /// The base that was recovered from that image, from which a further life would begin.
     pub base: Option<Base>,
+}
+
+/// What one life came to.
+#[derive(Drop)]
+pub(crate) struct Ran<Reply> {
+    pub(crate) told: LifeRecord<Reply>,
+    pub(crate) trail: Trail,
+    pub(crate) image: Image,
+    pub(crate) next: Base,
 }
 
 /// Runs the lives of a script one after another, the first from the empty store and each next one from what was recovered after the
@@ -164,11 +168,7 @@ fn run_one<O: TypedObject + Sync, R: Threads + Wait + Sync, G: Gate + Sync>(
     life: &BorrowedLife<'_, O::Op>,
     gate: &G,
 ) -> Result<Ran<O::Reply>, AllocError>
-    requires enough { 64 ≤ O.line_count object.now }
-    requires few { O.line_count object.now ≤ 16384 }
-    requires life { IsLifeInLimits (O.meaning object.now).is_op 8 life.now }
-    requires base { LawfulBase (O.line_count object.now) (O.lawful object.now) base.now }
-    requires tickets { base.now.place + length life.now.commands ≤ 2 ^ 40 }
+    requires { CanBegin (O.meaning object.now) (O.line_count object.now) (O.lawful object.now) life.now base.now }
     ensures { (begun : Begun O.Store) → IsBaseOf (O.meaning object.now) base.now begun → IfOk result (HasLived (O.meaning object.now) (O.line_count object.now) (O.version_number object.now) (O.lawful object.now) life.now begun base.now) }
 {
     let (service, callers) = start_life(alloc, object, life, base)?;
@@ -185,10 +185,7 @@ fn lose_power<O: TypedObject>(
     told: LifeRecord<O::Reply>,
     remains: Remains,
 ) -> Result<Ran<O::Reply>, AllocError>
-    requires enough { 64 ≤ O.line_count object.now }
-    requires few { O.line_count object.now ≤ 16384 }
-    requires life { IsLifeInLimits (O.meaning object.now).is_op 8 life.now }
-    requires base { LawfulBase (O.line_count object.now) (O.lawful object.now) base.now }
+    requires can { CanBegin (O.meaning object.now) (O.line_count object.now) (O.lawful object.now) life.now base.now }
     requires ran { (service : Running O) × IsServiceOf object.now (O.line_count object.now) base.now life.now service × HasRun (O.meaning object.now) O.step O.only_reads life.now service told remains }
     ensures { (begun : Begun O.Store) → IsBaseOf (O.meaning object.now) base.now begun → IfOk result (HasLived (O.meaning object.now) (O.line_count object.now) (O.version_number object.now) (O.lawful object.now) life.now begun base.now) }
 {
@@ -207,7 +204,7 @@ fn lose_power<O: TypedObject>(
     };
     let kept = next.place - base.place;
     let items = count_items(alloc, object, &next)?;
-    let told = with_kept(alloc, told, kept, items)?;
+    let told = with_kept(told, kept, items);
     operations_are_values(object, life);
     replies_are_values(object, &told);
     lives_that_ran_have_lived(object, base);
@@ -236,54 +233,15 @@ fn count_items<O: TypedObject>(alloc: Global, object: &O, base: &Base) -> Result
 }
 
 // The record with the numbers of entries kept and of items, and with the flags of its stop lines.
-fn with_kept<Reply: Drop>(
-    alloc: Global,
-    told: LifeRecord<Reply>,
-    kept: u64,
-    items: u64,
-) -> Result<LifeRecord<Reply>, AllocError>
-    ensures { IfOk result (IsFlagged told kept items) }
+fn with_kept<Reply: Drop>(told: LifeRecord<Reply>, kept: u64, items: u64) -> LifeRecord<Reply>
+    ensures { HasFlags told kept items result }
 {
-    let stops = with_flags(
-        alloc,
-        told.stops.as_slice(),
-        told.journal.as_slice(),
-        told.from,
-        kept,
-    )?;
-    Ok(LifeRecord {
-        stops,
+    let mut stops = told.stops.into_vec();
+    flag_stops(told.journal.as_slice(), told.from, kept, &mut stops);
+    LifeRecord {
+        stops: Items::of(stops),
         kept,
         documents: items,
         ..told
-    })
-}
-
-// The stop lines with their flags.
-fn with_flags<Reply>(
-    alloc: Global,
-    stops: &[StopLine],
-    journal: &[JournalLine<Reply>],
-    from: u64,
-    kept: u64,
-) -> Result<Items<StopLine>, AllocError>
-    ensures same { IfOk result (λ lines. AllZip IsSameStop stops.now lines) }
-    ensures kept { IfOk result (All (λ line. (line.kept ≡ true) ↔ IsKeptStop from kept journal.now line)) }
-{
-    let mut lines = Items::new(alloc);
-    for line in stops {
-        lines.push(flagged(journal, from, kept, line))?;
-    }
-    Ok(lines)
-}
-
-// A stop line with its flag.
-fn flagged<Reply>(journal: &[JournalLine<Reply>], from: u64, kept: u64, line: &StopLine) -> StopLine
-    ensures same { IsSameStop line.now result }
-    ensures kept { (result.kept ≡ true) ↔ IsKeptStop from kept journal.now result }
-{
-    StopLine {
-        kept: is_kept(journal, from, kept, line.client, line.command),
-        ..*line
     }
 }

@@ -1,12 +1,10 @@
 //! A service for a life.
 
-ghost use Rattle.std.specs.Prelude.{◌≡◌, ◌+◌, ◌^◌, ◌≤◌, IfOk, length, map};
+ghost use Rattle.std.specs.Prelude.{◌≡◌, IfOk, map};
 ghost use Rattle.std.specs.List.{range_with_len};
-ghost use Rattle.cx_core.specs.Base.{LawfulBase};
-ghost use Rattle.life_records.specs.Limits.{IsLifeInLimits};
 ghost use Rattle.life_records.specs.Scripts.{limit_in};
 ghost use Rattle.cx_lives.specs.Life.{CanRun};
-ghost use Rattle.cx_lives.specs.Lives.{IsServiceOf};
+ghost use Rattle.cx_lives.specs.Lives.{CanBegin, IsServiceOf};
 
 use cx_core::Base;
 use cx_service::{Caller, Service, StartFault};
@@ -22,11 +20,7 @@ pub(crate) fn start_life<O: TypedObject>(
     life: &BorrowedLife<'_, O::Op>,
     base: &Base,
 ) -> Result<(Service<O>, Vec<Caller>), AllocError>
-    requires enough { 64 ≤ O.line_count object.now }
-    requires few { O.line_count object.now ≤ 16384 }
-    requires life { IsLifeInLimits (O.meaning object.now).is_op 8 life.now }
-    requires base { LawfulBase (O.line_count object.now) (O.lawful object.now) base.now }
-    requires tickets { base.now.place + length life.now.commands ≤ 2 ^ 40 }
+    requires { CanBegin (O.meaning object.now) (O.line_count object.now) (O.lawful object.now) life.now base.now }
     ensures service { IfOk result (λ r. IsServiceOf object.now (O.line_count object.now) base.now life.now r.0) }
     ensures can_run { IfOk result (λ r. CanRun (O.meaning object.now) life.now r.0 r.1.items) }
 {

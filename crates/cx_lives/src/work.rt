@@ -1,14 +1,14 @@
 //! What one client's worker does.
 
-ghost use Rattle.std.specs.Prelude.{◌≡◌, ◌++◌, ◌<◌, All, IfOk, Some, length, slice_get, true};
-ghost use Rattle.cx_service.specs.declared.close.Handed.TheVariants.{Idle};
+ghost use Rattle.std.specs.Prelude.{◌≡◌, ◌++◌, ◌<◌, ◌==◌, All, IfOk, None, Some, if◌then◌else◌, length, slice_get, true};
 ghost use Rattle.life_records.specs.Limits.{IsLifeInLimits};
 ghost use Rattle.life_records.specs.Lives.{is_stopped};
-ghost use Rattle.cx_lives.specs.declared.desk.End.TheVariants.{Full};
+ghost use Rattle.cx_lives.specs.declared.progress.End.TheVariants.{Full};
 ghost use Rattle.cx_lives.specs.Ends.{IsNewIn, IsWorkOf, full_in};
+ghost use Rattle.cx_lives.specs.Turns.{ended};
 ghost use Rattle.cx_lives.specs.Works.{IsFullLeft, IsLeftOf, ServedOf, stop_told, stops_left};
 
-use crate::desk::{Desk, End, Turn, Work, make, over};
+use crate::progress::{End, Lines, Progress, Turn, Work, make, over};
 use cx_base::Gate;
 use cx_service::{Caller, Service};
 use life_records::{BorrowedLife, Command, FullLine, StopLine};
@@ -19,11 +19,11 @@ use typed_object::TypedObject;
 /// The Full answers to one command, one after another, after which a worker of a life with a cut line leaves its client.
 const FULLS: u64 = 1_000;
 
-/// A client that is not at its end: its desk, the place in the script from which its commands are made, how many it was answered, and
+/// A client that is not at its end: its progress, the place in the script from which its commands are made, how many it was answered, and
 /// whether it passed the gate before the next one already.
 #[derive(Drop)]
 pub(crate) struct Left<Reply> {
-    pub(crate) desk: Desk<Reply>,
+    pub(crate) progress: Progress<Reply>,
     pub(crate) at: usize,
     pub(crate) number: u64,
     pub(crate) begun: bool,
@@ -52,13 +52,9 @@ pub(crate) fn serve<O: TypedObject, R: Wait, G: Gate>(
     requires life { IsLifeInLimits (O.meaning service.now.object).is_op 8 life.now }
     ensures { IfOk result (ServedOf (O.meaning service.now.object) life.now service.now caller.known.local.number) }
 {
-    let desk = Desk {
-        caller,
-        entries: Vec::new(alloc),
-        reads: Vec::new(alloc),
-    };
+    let lines = Lines::new(alloc);
     let left = Left {
-        desk,
+        progress: Progress { caller, lines },
         at: 0,
         number: 0,
         begun: false,
@@ -67,7 +63,9 @@ pub(crate) fn serve<O: TypedObject, R: Wait, G: Gate>(
 }
 
 // The Full answers after which a worker leaves its client, where the life has a cut line.
-fn most_fulls<Op>(life: &BorrowedLife<'_, Op>) -> Option<u64> {
+fn most_fulls<Op>(life: &BorrowedLife<'_, Op>) -> Option<u64>
+    ensures { result ≡ (if length life.now.cuts == 0 then None else Some 1000) }
+{
     if life.cuts().is_empty() {
         None
     } else {
@@ -85,13 +83,13 @@ fn serve_on<O: TypedObject, R: Wait, G: Gate>(
     left: Left<O::Reply>,
     most: Option<u64>,
 ) -> Result<Served<O::Reply>, AllocError>
-    requires left { IsLeftOf (O.meaning service.now.object) life.now service.now left.desk.caller.known.local.number left }
+    requires left { IsLeftOf (O.meaning service.now.object) life.now service.now left.progress.caller.known.local.number left }
     requires life { IsLifeInLimits (O.meaning service.now.object).is_op 8 life.now }
-    ensures { IfOk result (ServedOf (O.meaning service.now.object) life.now service.now left.desk.caller.known.local.number) }
+    ensures { IfOk result (ServedOf (O.meaning service.now.object) life.now service.now left.progress.caller.known.local.number) }
 {
-    let client = left.desk.caller.number();
+    let client = left.progress.caller.number();
     let Left {
-        mut desk,
+        mut progress,
         at: first,
         mut number,
         mut begun,
@@ -102,11 +100,11 @@ fn serve_on<O: TypedObject, R: Wait, G: Gate>(
         if command.client == client {
             let next = number + 1;
             pass_before(gate, client, next, begun);
-            let turn = make(rt, alloc, service, life, desk, next, command, most)?;
+            let turn = make(rt, alloc, service, life, progress, next, command, most)?;
             pass_behind(gate, client, next, &turn);
             match turn {
                 Turn::Next(back) => {
-                    desk = back;
+                    progress = back;
                     number = next;
                     begun = false;
                 }
@@ -118,7 +116,7 @@ fn serve_on<O: TypedObject, R: Wait, G: Gate>(
                         note,
                     };
                     let left = Left {
-                        desk: back,
+                        progress: back,
                         at,
                         number,
                         begun: true,
@@ -128,7 +126,7 @@ fn serve_on<O: TypedObject, R: Wait, G: Gate>(
             }
         }
     }
-    Ok(Served::Done(over(desk, End::Whole)))
+    Ok(Served::Done(over(progress, End::Whole)))
 }
 
 // Passes the gate before a command, unless the client did so already.
@@ -158,9 +156,9 @@ pub(crate) fn go_on<O: TypedObject, R: Wait, G: Gate>(
     stops: &[StopLine],
     rest: &[Result<Served<O::Reply>, AllocError>],
 ) -> Result<Work<O::Reply>, AllocError>
-    requires left { IsLeftOf (O.meaning service.now.object) life.now service.now left.desk.caller.known.local.number left }
+    requires left { IsLeftOf (O.meaning service.now.object) life.now service.now left.progress.caller.known.local.number left }
     requires life { IsLifeInLimits (O.meaning service.now.object).is_op 8 life.now }
-    ensures work { IfOk result (IsWorkOf (O.meaning service.now.object) life.now service.now left.desk.caller.known.local.number) }
+    ensures work { IfOk result (IsWorkOf (O.meaning service.now.object) life.now service.now left.progress.caller.known.local.number) }
     ensures stopped { IfOk result (λ work. All (λ line. is_stopped line.note.holder (stops.now ++ stops_left rest.now) ≡ true) (full_in work.end)) }
 {
     let mut left = left;
@@ -180,13 +178,10 @@ pub(crate) fn go_on<O: TypedObject, R: Wait, G: Gate>(
 
 // The end of a client that gives up, behind its command.
 fn give_up<G: Gate, Reply: Drop>(gate: &G, left: Left<Reply>, line: FullLine) -> Work<Reply>
-    ensures handed { result.handed ≡ Idle left.desk.caller }
-    ensures entries { result.entries ≡ left.desk.entries }
-    ensures reads { result.reads ≡ left.desk.reads }
-    ensures end_is { result.end ≡ Full line }
+    ensures { result ≡ ended left.progress (Full line) }
 {
     gate.pass(line.client, line.command, true);
-    over(left.desk, End::Full(line))
+    over(left.progress, End::Full(line))
 }
 
 // Whether a client was stopped, as one of these lines says or the rest of the works.

@@ -1,40 +1,36 @@
 -- What every command keeps to: an input calls for one status, and for none of a fault.
-use Rattle.std.proofs.Common.{◌≡◌, refl, ◌∙◌, sym, subst, inl, inr, ℕ, ◌<◌, ◌≤◌, List, length, [], arith, Option, Some, None, true, false}
+use Rattle.std.proofs.Common.{◌≡◌, refl, ◌∙◌, sym, subst, inl, inr, ℕ, ◌<◌, ◌≤◌, List, length, [], arith, Option, Some, None, false}
 use Rattle.std.proofs.lemmas.Bool.{cases_Bool}
-use Rattle.cx_program.specs.Answer.{Calls, Owed, Owes, Read}
-use Rattle.cx_program.specs.Commands.{Command, command, command_of, load_command, run_calls, run_command, usage_command}
+use Rattle.cx_program.specs.Answer.{Calls, Owed, Read}
+use Rattle.cx_program.specs.Commands.{Command, command, command_of, load_command, run_calls, usage_command}
 use Rattle.cx_program.specs.Input.{IsInput}
 use Rattle.cx_program.specs.Texts.{too_long_text}
 use Rattle.cx_program.specs.declared.asked.Asked.{Asked}
 use Rattle.cx_program.specs.declared.asked.Asked.TheVariants.{Run, Load}
 use Rattle.cx_program.specs.declared.status.Status.{Status}
-use Rattle.cx_program.specs.declared.status.Status.TheVariants.{Fine, Usage, Refused, ReadFault, WriteFault, Memory, TooLong}
+use Rattle.cx_program.specs.declared.status.Status.TheVariants.{Fine, Usage, Refused, TooLong}
 use Rattle.cx_rule.specs.Ending.{Ending}
 
 -- a status that comes in place of the one that an input calls for
 abbrev pub GivesUp : Status → Type 0
-GivesUp ReadFault = Unit {0}
-GivesUp WriteFault = Unit {0}
-GivesUp Memory = Unit {0}
 GivesUp _ = ⊥
+GivesUp _ = Unit {0}
 
 pub record IsSound (command : Command) : Type 0 where
   pub one : (input : List ℕ) (a b : Status) → command.calls input a → command.calls input b → a ≡ b
   pub plain : (input : List ℕ) (status : Status) → command.calls input status → GivesUp status → ⊥
 
 run_one : (input : List ℕ) (a b : Status) → run_calls input a → run_calls input b → a ≡ b
-run_one input Fine Fine x y = refl
 run_one input Fine Refused x y = absurd (y x.0 x.1)
 run_one input Refused Fine x y = absurd (x y.0 y.1)
-run_one input Refused Refused x y = refl
 run_one input Fine b x y = absurd y
 run_one input Refused b x y = absurd y
 run_one input a b x y = absurd x
+run_one input a b x y = refl
 
 run_plain : (input : List ℕ) (status : Status) → run_calls input status → GivesUp status → ⊥
-run_plain input Fine calls gives = gives
-run_plain input Refused calls gives = gives
 run_plain input status calls gives = absurd calls
+run_plain input status calls gives = gives
 
 -- a command that always calls for one status
 always : (command : Command) (wanted : Status) → (GivesUp wanted → ⊥) → ((input : List ℕ) (status : Status) → command.calls input status → status ≡ wanted) → IsSound command
@@ -62,42 +58,29 @@ calls_plain command input status is (inr x) gives = is.plain input status x.1 gi
 pub owed_plain : (words : List (List ℕ)) (told : Option (List ℕ)) (status : Status) (trails : List Ending) (text : List ℕ) → Owed words told status trails text → GivesUp status → ⊥
 owed_plain words told status trails text owed = calls_plain (command_of owed.asked) owed.input status (sound owed.asked) owed.owes.calls
 
--- what is owed for an input within the limit
+-- what is owed for an input that calls for a status
+owed_as : (asked : Option Asked) (words : List (List ℕ)) (told : Option (List ℕ)) (input : List ℕ) (status : Status) (trails : List Ending) (text : List ℕ)
+    → (command_of asked).asked words → IsInput (command_of asked).reads told input → Calls (command_of asked) input status
+    → (16777216 < length input → text ≡ too_long_text) → (length input ≤ 16777216 → (command_of asked).writes input status trails text) → Owed words told status trails text
+owed_as asked words told input status trails text asks is wanted long short = record {
+  asked = asked;
+  asks = asks;
+  input = input;
+  is = is;
+  owes = record { calls = wanted; only = λ other called. calls_one (command_of asked) input other status (sound asked) called wanted; long = long; short = short };
+}
+
+-- of one within the limit, and of a longer one
 pub owed_short : (asked : Option Asked) (words : List (List ℕ)) (told : Option (List ℕ)) (input : List ℕ) (status : Status) (trails : List Ending) (text : List ℕ)
     → (command_of asked).asked words → IsInput (command_of asked).reads told input → length input ≤ 16777216
     → (command_of asked).calls input status → (command_of asked).writes input status trails text → Owed words told status trails text
 owed_short asked words told input status trails text asks is short calls writes =
-    let wanted : Calls (command_of asked) input status = inr (short, calls) in
-    record {
-      asked = asked;
-      asks = asks;
-      input = input;
-      is = is;
-      owes = record {
-        calls = wanted;
-        only = λ other called. calls_one (command_of asked) input other status (sound asked) called wanted;
-        long = λ past. absurd (omega (arith, past, short));
-        short = λ within. writes;
-      };
-    }
+    owed_as asked words told input status trails text asks is (inr (short, calls)) (λ past. absurd (omega (arith, past, short))) (λ within. writes)
 
--- and for a longer one
 pub owed_long : (asked : Option Asked) (words : List (List ℕ)) (told : Option (List ℕ)) (input : List ℕ)
     → (command_of asked).asked words → IsInput (command_of asked).reads told input → 16777216 < length input → Owed words told TooLong [] too_long_text
 owed_long asked words told input asks is past =
-    let wanted : Calls (command_of asked) input TooLong = inl (past, refl) in
-    record {
-      asked = asked;
-      asks = asks;
-      input = input;
-      is = is;
-      owes = record {
-        calls = wanted;
-        only = λ other called. calls_one (command_of asked) input other TooLong (sound asked) called wanted;
-        long = λ more. refl;
-        short = λ within. absurd (omega (arith, past, within));
-      };
-    }
+    owed_as asked words told input TooLong [] too_long_text asks is (inl (past, refl)) (λ more. refl) (λ within. absurd (omega (arith, past, within)))
 
 -- where no word asks for what reads, nothing is read for what they ask for
 pub none_read : (words : List (List ℕ)) (asked : Asked) → (command asked).asked words → (Read words → ⊥) → (command asked).reads ≡ false

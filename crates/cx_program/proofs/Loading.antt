@@ -12,8 +12,7 @@ use Rattle.doc_store.specs.DocumentMeaning.{document_meaning}
 use Rattle.doc_store.specs.ExactStep.{IsImage}
 use Rattle.life_laws.specs.Begins.{Begun}
 use Rattle.life_records.specs.Lives.{AreLivesFrom}
-use Rattle.life_records.specs.declared.record.LifeRecord.{LifeRecord}
-use Rattle.life_records.specs.declared.script.Life.{Life}
+use Rattle.life_records.specs.Records.{Life, LifeRecord}
 use Rattle.cx_program.specs.Words.{IsLoadOf}
 
 -- the words of a load write its numbers

@@ -1,15 +1,15 @@
 -- Which words the parser of the command line refuses.
-use Rattle.std.proofs.Common.{◌≡◌, ◌⊎◌, inl, inr, ◌∙◌, refl, sym, ap, subst, ℕ, false, List, [], ◌∷◌, ◌++◌, codes, arith, Option, Some, None, All, append_assoc, append-nil, fold, length, get_or, ◌<◌}
+use Rattle.std.proofs.Common.{◌≡◌, ◌⊎◌, inl, inr, ◌∙◌, refl, sym, ap, subst, ℕ, false, List, [], ◌∷◌, ◌++◌, codes, arith, Some, None, All, append_assoc, append-nil, fold, length, get_or, ◌<◌}
 use Rattle.std.specs.Bool.{Decides}
 use Rattle.std.specs.Str.{bytes_eq}
 use Rattle.std.proofs.lemmas.Bool.{cases_Bool}
 use Rattle.std.proofs.lemmas.List.Elements.{All-head, All-tail}
 use Rattle.std.proofs.lemmas.Slice.Eq.{bytes_eq-Decides}
-use Rattle.clap.specs.Faults.{fault_of, word_fault, walk_fault, entered_fault, level_fault}
+use Rattle.clap.specs.Faults.{fault_of, walk_fault, entered_fault, level_fault}
 use Rattle.clap.specs.Lexer.{long_of, short_of}
 use Rattle.clap.specs.Kinds.{Kinds, IsAmong, or_else}
 use Rattle.clap.specs.Simple.{Shape, built, built_leaf, inherited, names_of, new_shape}
-use Rattle.clap.specs.Walk.{Held, Names, Rule, Text, Walk, idle, value, word_met, walk, walked, walk_from, nothing_held}
+use Rattle.clap.specs.Walk.{Names, Rule, Text, Walk, walk, walked, walk_from, nothing_held}
 use Rattle.clap.specs.declared.error.kind.ErrorKind.{ErrorKind}
 use Rattle.clap.specs.declared.error.kind.ErrorKind.TheVariants.{InvalidSubcommand, MissingRequiredArgument, OutOfMemory, UnknownArgument}
 use Rattle.clap.proofs.OnLiterals.{clap_on_literals}
@@ -53,12 +53,6 @@ unfolding walked
 fold_stopped c names w name past [] = ap (λ (ps : List Text). record w { stopped = Some (name, ps) }) (sym (append-nil past))
 fold_stopped c names w name past (v ∷ rest) =
     fold_stopped c names w name (past ++ v ∷ []) rest ∙ ap (λ (ps : List Text). record w { stopped = Some (name, ps) }) (append_assoc past (v ∷ []) rest)
-
-plain_met : (c : List Rule) (position : ℕ) (w : List ℕ) (h : Held) → IsPlainWord w → word_met c [] false idle position w h ≡ (h, value)
-plain_met c position w h p = rw (p.dashes, p.long, p.short) refl
-
-plain_fault : (s : Shape) (w : List ℕ) (h : Held) → IsPlainWord w → word_fault s [] false idle w h ≡ []
-plain_fault s w h p = rw (p.dashes, p.long, p.short) refl
 
 none_first : (a b : Kinds) → or_else a b ≡ [] → a ≡ []
 none_first [] b e = refl

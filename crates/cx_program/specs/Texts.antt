@@ -7,9 +7,7 @@ use Rattle.cx_lives.specs.Lives.{AreTold}
 use Rattle.doc_model.specs.declared.operations.Op.{Op}
 use Rattle.doc_model.specs.declared.operations.Reply.{Reply}
 use Rattle.doc_store.specs.DocumentMeaning.{document_meaning}
-use Rattle.life_records.specs.declared.script.Life.{Life}
-use Rattle.life_records.specs.declared.script.Script.{Script}
-use Rattle.life_records.specs.declared.record.LifeRecord.{LifeRecord}
+use Rattle.life_records.specs.Records.{Life, LifeRecord, Script}
 use Rattle.life_records.specs.Lives.{AreLegalLives, store_at}
 use Rattle.doc_text.specs.Generated.{generated_life, generated_script}
 use Rattle.doc_text.specs.Grammar.{IsScript, IsFirstFault}

@@ -1,7 +1,7 @@
 //! A source whose reads are counted.
 
-ghost use Rattle.std.specs.Prelude.{◌≡◌, ◌+◌, ◌<◌, ◌≤◌, IfOk, OnErr, length};
-ghost use Rattle.cx_base.specs.Outside.{Rose, Gave};
+ghost use Rattle.std.specs.Prelude.{◌≡◌, ◌+◌, ◌<◌, length};
+ghost use Rattle.cx_program.specs.Input.{IsRead};
 
 use cx_base::{Failed, Source, Steps};
 use std::sync::ledger::Ledger;
@@ -27,11 +27,7 @@ impl<'a, S: Source, L: Ledger> CountedSource<'a, S, L> {
         requires { 0 < length into.old }
         ensures same_reference { self.new.source.ghost_name ≡ self.old.source.ghost_name }
         ensures counted { self.new.reads ≡ self.old.reads + 1 }
-        ensures ok { IfOk result (λ n. Gave n (S.left self.old.source.now) into.new (S.left self.new.source.now)) }
-        ensures within { IfOk result (λ n. n ≤ length into.old) }
-        ensures failed { OnErr result (Rose (S.faults self.old.source.now) (S.faults self.new.source.now)) }
-        ensures untouched { OnErr result (S.left self.new.source.now ≡ S.left self.old.source.now) }
-        ensures count { S.faults self.old.source.now ≤ S.faults self.new.source.now }
+        ensures read { IsRead (length into.old) result into.new (S.left self.old.source.now) (S.left self.new.source.now) (S.faults self.old.source.now) (S.faults self.new.source.now) }
     {
         self.reads.tick();
         self.source.read(into)

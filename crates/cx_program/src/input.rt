@@ -1,8 +1,7 @@
 //! The input, read to its end.
 
-ghost use Rattle.std.specs.Prelude.{◌≡◌, ◌+◌, ◌<◌, ◌≤◌, IfOk, OnErr, length, true, vec_len};
-ghost use Rattle.cx_base.specs.Outside.{Rose};
-ghost use Rattle.cx_program.specs.Input.{Shows, Moved, TookAtMost};
+ghost use Rattle.std.specs.Prelude.{◌≡◌, ◌+◌, ◌<◌, ◌≤◌, IfOk, length, true, vec_len};
+ghost use Rattle.cx_program.specs.Input.{IsPiece, Shows, TookAtMost};
 
 use crate::counted_source::CountedSource;
 use cx_base::{Failed, Source, Steps};
@@ -43,12 +42,7 @@ fn read_piece<S: Source, L: Ledger>(
     requires { 0 < length buffer.old }
     ensures same_reference { source.new.source.ghost_name ≡ source.old.source.ghost_name }
     ensures counted { source.new.reads ≡ source.old.reads + 1 }
-    ensures moved { IfOk result (λ read. IfOk read (λ n. Moved n (S.left source.old.source.now) bytes.old.items bytes.new.items (S.left source.new.source.now))) }
-    ensures added { IfOk result (λ read. IfOk read (λ n. (n ≤ length buffer.old) × (vec_len bytes.new ≡ vec_len bytes.old + n))) }
-    ensures failed { IfOk result (λ read. OnErr read (Rose (S.faults source.old.source.now) (S.faults source.new.source.now))) }
-    ensures untouched { IfOk result (λ read. OnErr read (S.left source.new.source.now ≡ S.left source.old.source.now)) }
-    ensures lost { OnErr result (TookAtMost (length buffer.old) (S.left source.old.source.now) (S.left source.new.source.now)) }
-    ensures count { S.faults source.old.source.now ≤ S.faults source.new.source.now }
+    ensures piece { IsPiece (length buffer.old) result bytes.old bytes.new (S.left source.old.source.now) (S.left source.new.source.now) (S.faults source.old.source.now) (S.faults source.new.source.now) }
 {
     let n = match source.read(buffer) {
         Ok(n) => n,

@@ -203,13 +203,10 @@ number_some (negative (negsuc n)) h = omega arith
 number_some (float x) h = absurd (true≢false h)
 
 text_some : (d : Data) → has_float d ≡ false → 1 ≤ length (compact_text d)
-text_some null h = omega arith
 text_some (boolean true) h = omega arith
 text_some (boolean false) h = omega arith
 text_some (number n) h = number_some n h
-text_some (string s) h = omega arith
-text_some (array ds) h = omega arith
-text_some (object ms) h = omega arith
+text_some d h = omega arith
 
 -- the text of a value, in a string
 pub is_document : (text : List ℕ) (d : Data) → IsUtf8 text → text ≡ compact_text d → has_float d ≡ false → length text ≤ 1024 → IsDocument text

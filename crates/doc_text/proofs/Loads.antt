@@ -11,8 +11,7 @@ use Rattle.cx_base.specs.Store.{IsKey}
 use Rattle.doc_model.specs.Meaning.{IsOp}
 use Rattle.doc_model.specs.declared.operations.Op.{Op}
 use Rattle.life_records.specs.Limits.{IsCommandOf, IsCutOf, IsLifeInLimits, KeepsLimits}
-use Rattle.life_records.specs.declared.script.Command.{Command}
-use Rattle.life_records.specs.declared.script.Life.{Life}
+use Rattle.life_records.specs.Records.{Command, Life}
 use Rattle.doc_text.specs.Generated.{IsLoad, generated_command, generated_commands, generated_life, generated_script}
 
 -- the commands of n clients are so many

@@ -190,19 +190,17 @@ measured-match Greater a b c a' b' c' below at above = above
 
 pub measured-put : (es : List Entry) (ms : Members) (k : String Global) (m : Measure) (d : Data) → IsMeasure m d → AreMeasured es ms → AreMeasured (insert_entry string_cmp es k m) (put (string_bytes k) d ms)
 measured-put [] no_members k m d is are = (refl, is, tt)
-measured-put [] (member l e ms) k m d is are = absurd are
-measured-put (x ∷ es) no_members k m d is are = absurd are
 measured-put (x ∷ es) (member l e ms) k m d is (key, first, more) =
     subst (λ (name : List ℕ). AreMeasured (insert_entry string_cmp (x ∷ es) k m) (match_ordering (slice_cmp nat_cmp (string_bytes k) name) (member (string_bytes k) d (member l e ms)) (member l d ms) (member l e (put (string_bytes k) d ms)))) key
     (measured-match (string_cmp k x.0) ((k, m) ∷ x ∷ es) ((x.0, m) ∷ es) (x ∷ insert_entry string_cmp es k m)
     (member (string_bytes k) d (member l e ms)) (member l d ms) (member l e (put (string_bytes k) d ms))
     (refl, is, (key, first, more)) (key, is, more) (key, first, measured-put es ms k m d is more))
+measured-put _ _ k m d is are = absurd are
 
 pub measured-length : (es : List Entry) (ms : Members) → AreMeasured es ms → length es ≡ member_count ms
 measured-length [] no_members are = refl
-measured-length [] (member l e ms) are = absurd are
-measured-length (x ∷ es) no_members are = absurd are
 measured-length (x ∷ es) (member l e ms) (key, first, more) = omega (arith, measured-length es ms more)
+measured-length _ _ are = absurd are
 
 pub or_false : (b : Bool) → (b || false) ≡ b
 or_false true = refl

@@ -1,7 +1,7 @@
 -- Commands on documents are read by their rules: what is read is asked for, what is asked for is read, and the reason told is the first that fits.
-use Rattle.std.specs.Prelude.{codes, is_some, ℤ, ◌⊎◌}
+use Rattle.std.specs.Prelude.{codes, is_some, ℤ}
 use Rattle.std.specs.Fmt.{signed_decimal}
-use Rattle.std.proofs.Common.{◌≡◌, ℕ, ◌≤◌, true, false, cond, leb, List, [], ◌∷◌, ◌++◌, length, Option, None, Some, Ok, Err, refl, sym, ap, subst, ◌∙◌, append_assoc, arith, inl, inr, Bool, ltb, Result}
+use Rattle.std.proofs.Common.{◌≡◌, ℕ, ◌≤◌, true, false, cond, leb, List, [], ◌∷◌, ◌++◌, length, Option, None, Some, Ok, Err, refl, sym, ap, subst, ◌∙◌, append_assoc, arith, inl, inr, ltb}
 use Rattle.std.proofs.lemmas.Bool.{leb-true, le-leb, lt-ltb, leb-false}
 use Rattle.cx_base.specs.Store.{IsKey}
 use Rattle.plain_text.specs.Number.{integer_of, is_i64}
@@ -106,27 +106,15 @@ add_is words (Some text) op rest e =
       number.1,
     )
 
-del_is : (words : List ℕ) (op : Op) → then_ok Del (only_key words) ≡ Ok op → Asks op (codes "del " ++ words)
-del_is words op e =
-    let key = then_some Del (only_key words) op e in
+keyed_is : (make : List ℕ → Op) (verb words : List ℕ) (op : Op) → ((key : List ℕ) → words ≡ key → IsKey key → Asks (make key) (verb ++ words)) → then_ok make (only_key words) ≡ Ok op → Asks op (verb ++ words)
+keyed_is make verb words op asks e =
+    let key = then_some make (only_key words) op e in
     let is = only_key_is words key.0 key.1 in
-    subst (λ (o : Op). Asks o (codes "del " ++ words)) key.2 (ap (λ (t : List ℕ). codes "del " ++ t) is.0, is.1)
-
-get_is : (words : List ℕ) (op : Op) → then_ok Get (only_key words) ≡ Ok op → Asks op (codes "get " ++ words)
-get_is words op e =
-    let key = then_some Get (only_key words) op e in
-    let is = only_key_is words key.0 key.1 in
-    subst (λ (o : Op). Asks o (codes "get " ++ words)) key.2 (ap (λ (t : List ℕ). codes "get " ++ t) is.0, is.1)
+    subst (λ (o : Op). Asks o (verb ++ words)) key.2 (asks key.0 is.0 is.1)
 
 asks_next : (words key : List ℕ) → words ≡ key → IsKey key → Asks (Next key) (codes "next " ++ words)
 asks_next words [] same k = let some : 1 ≤ 0 = k.some in absurd (omega arith)
 asks_next words (b ∷ key) same k = (ap (λ (t : List ℕ). codes "next " ++ t) same, k)
-
-next_is : (words : List ℕ) (op : Op) → then_ok Next (only_key words) ≡ Ok op → Asks op (codes "next " ++ words)
-next_is words op e =
-    let key = then_some Next (only_key words) op e in
-    let is = only_key_is words key.0 key.1 in
-    subst (λ (o : Op). Asks o (codes "next " ++ words)) key.2 (asks_next words key.0 is.0 is.1)
 
 -- the text by its verb and what stands behind it
 behind : (text words : List ℕ) (verb : Verb) → verb_of (first_word text) ≡ Some verb → rest_of text ≡ Some words → text ≡ verb_name verb ++ 32 ∷ words
@@ -137,23 +125,18 @@ alone text verb v rest = unspaced text rest ∙ verb_is (first_word text) verb v
 
 pub with_verb : (text : List ℕ) (verb : Option Verb) (words : Option (List ℕ)) (op : Op) → verb_of (first_word text) ≡ verb → rest_of text ≡ words
     → op_by_verb verb words ≡ Ok op → Asks op text
-with_verb text None words op v rest e = absurd cc
-with_verb text (Some verbs.Put) None op v rest e = absurd cc
 with_verb text (Some verbs.Put) (Some words) op v rest e = subst (Asks op) (sym (behind text words verbs.Put v rest)) (put_is words (rest_of words) op refl e)
-with_verb text (Some verbs.Del) None op v rest e = absurd cc
-with_verb text (Some verbs.Del) (Some words) op v rest e = subst (Asks op) (sym (behind text words verbs.Del v rest)) (del_is words op e)
-with_verb text (Some verbs.Add) None op v rest e = absurd cc
+with_verb text (Some verbs.Del) (Some words) op v rest e = subst (Asks op) (sym (behind text words verbs.Del v rest)) (keyed_is Del (codes "del ") words op (λ key same k. (ap (λ (t : List ℕ). codes "del " ++ t) same, k)) e)
 with_verb text (Some verbs.Add) (Some words) op v rest e = subst (Asks op) (sym (behind text words verbs.Add v rest)) (add_is words (rest_of words) op refl e)
-with_verb text (Some verbs.Get) None op v rest e = absurd cc
-with_verb text (Some verbs.Get) (Some words) op v rest e = subst (Asks op) (sym (behind text words verbs.Get v rest)) (get_is words op e)
+with_verb text (Some verbs.Get) (Some words) op v rest e = subst (Asks op) (sym (behind text words verbs.Get v rest)) (keyed_is Get (codes "get ") words op (λ key same k. (ap (λ (t : List ℕ). codes "get " ++ t) same, k)) e)
 with_verb text (Some verbs.Next) None op v rest e =
     let is : Next [] ≡ op = let h : Ok (Next []) ≡ Ok op = e in cc in
     subst (λ (o : Op). Asks o text) is (alone text verbs.Next v rest)
-with_verb text (Some verbs.Next) (Some words) op v rest e = subst (Asks op) (sym (behind text words verbs.Next v rest)) (next_is words op e)
+with_verb text (Some verbs.Next) (Some words) op v rest e = subst (Asks op) (sym (behind text words verbs.Next v rest)) (keyed_is Next (codes "next ") words op (asks_next words) e)
 with_verb text (Some verbs.Count) None op v rest e =
     let is : Count ≡ op = let h : Ok Count ≡ Ok op = e in cc in
     subst (λ (o : Op). Asks o text) is (alone text verbs.Count v rest)
-with_verb text (Some verbs.Count) (Some words) op v rest e = absurd cc
+with_verb text _ words op v rest e = absurd cc
 
 only_key_again : (key : List ℕ) → IsKey key → only_key key ≡ Ok key
 only_key_again key k = rw ((word_alone key (visible_unspaced key k.visible)).1, key_passes key k) refl
@@ -176,64 +159,28 @@ add_again key amount k fits =
     let one = word_alone (signed_decimal amount) (signed_unspaced amount fits) in
     rw (cut.0, cut.1, one.1, key_passes key k) (ap (add_amount key) (integer_of-signed_decimal amount fits))
 
-del_again : (key : List ℕ) → IsKey key → asked_op (Some (codes "del " ++ key)) ≡ Ok (Del key)
-unfolding verb_of
-del_again key k = ap (then_ok Del) (only_key_again key k)
-
-get_again : (key : List ℕ) → IsKey key → asked_op (Some (codes "get " ++ key)) ≡ Ok (Get key)
-unfolding verb_of
-get_again key k = ap (then_ok Get) (only_key_again key k)
-
-next_again : (key : List ℕ) → IsKey key → asked_op (Some (codes "next " ++ key)) ≡ Ok (Next key)
-unfolding verb_of
-next_again key k = ap (then_ok Next) (only_key_again key k)
-
 pub asked_again : (op : Op) (text : List ℕ) → Asks op text → asked_op (Some text) ≡ Ok op
 unfolding verb_of
 asked_again (Put key document) text (json, spelled, k, is) = rw (spelled, append_assoc key (codes " ") json) (put_again key json document k is)
-asked_again (Del key) text (spelled, k) = rw spelled (del_again key k)
+asked_again (Del key) text (spelled, k) = rw spelled (ap (then_ok Del) (only_key_again key k))
 asked_again (Add key amount) text (spelled, k, fits) = rw (spelled, append_assoc key (codes " ") (signed_decimal amount)) (add_again key amount k fits)
-asked_again (Get key) text (spelled, k) = rw spelled (get_again key k)
-asked_again (Next []) text spelled = rw spelled refl
-asked_again (Next (b ∷ above)) text (spelled, k) = rw spelled (next_again (b ∷ above) k)
-asked_again Count text spelled = rw spelled refl
+asked_again (Get key) text (spelled, k) = rw spelled (ap (then_ok Get) (only_key_again key k))
+asked_again (Next (b ∷ above)) text (spelled, k) = rw spelled (ap (then_ok Next) (only_key_again (b ∷ above) k))
+asked_again _ text spelled = rw spelled refl
 
 abbrev Fits : List (Row Reason) → Reason → Type 0
 Fits rows reason = first_that_fits rows ≡ Some reason
 
--- the one word left is no key, or there are more
-only_why : (words : List ℕ) (verb : Verb) (reason : Reason) → only_key words ≡ Err reason
-    → ((is_some (rest_of words) ≡ true) × (reasons.Command ≡ reason))
-    ⊎ ((is_some (rest_of words) ≡ false) × (is_key words ≡ false) × (reasons.Key ≡ reason))
-only_why words verb reason e =
-    elim (err_second (is_some (rest_of words)) reasons.Command (cond (is_key words) (Ok words) (Err reasons.Key)) reason e) [
-      | inl (more, same) ↦ inl (more, same)
+-- The one word left is no key, or there are more. The rows are the same for each verb with a key alone.
+key_why : (make : List ℕ → Op) (words : List ℕ) (reason : Reason) → then_ok make (only_key words) ≡ Err reason → Fits (word_rows (Some verbs.Del) (Some words)) reason
+key_why make words reason e =
+    elim (err_second (is_some (rest_of words)) reasons.Command (cond (is_key words) (Ok words) (Err reasons.Key)) reason (then_err make (only_key words) reason e)) [
+      | inl (more, same) ↦ rw (more, same) refl
       | inr (one, e2) ↦
           elim (err_first (is_key words) reasons.Key (Ok words) reason e2) [
-            | inl (bad, same) ↦ inr (one, bad, same)
+            | inl (bad, same) ↦ rw (one, whole_word words one, bad, same) refl
             | inr (_, h) ↦ absurd cc
           ]
-    ]
-
-del_why : (words : List ℕ) (reason : Reason) → then_ok Del (only_key words) ≡ Err reason → Fits (word_rows (Some verbs.Del) (Some words)) reason
-del_why words reason e =
-    elim (only_why words verbs.Del reason (then_err Del (only_key words) reason e)) [
-      | inl (more, same) ↦ rw (more, same) refl
-      | inr (one, bad, same) ↦ rw (one, whole_word words one, bad, same) refl
-    ]
-
-get_why : (words : List ℕ) (reason : Reason) → then_ok Get (only_key words) ≡ Err reason → Fits (word_rows (Some verbs.Get) (Some words)) reason
-get_why words reason e =
-    elim (only_why words verbs.Get reason (then_err Get (only_key words) reason e)) [
-      | inl (more, same) ↦ rw (more, same) refl
-      | inr (one, bad, same) ↦ rw (one, whole_word words one, bad, same) refl
-    ]
-
-next_why : (words : List ℕ) (reason : Reason) → then_ok Next (only_key words) ≡ Err reason → Fits (word_rows (Some verbs.Next) (Some words)) reason
-next_why words reason e =
-    elim (only_why words verbs.Next reason (then_err Next (only_key words) reason e)) [
-      | inl (more, same) ↦ rw (more, same) refl
-      | inr (one, bad, same) ↦ rw (one, whole_word words one, bad, same) refl
     ]
 
 amount_why : (key : List ℕ) (amount : Option ℤ) (reason : Reason) → add_amount key amount ≡ Err reason → (amount ≡ None) × (reasons.Number ≡ reason)
@@ -282,19 +229,14 @@ put_why words (Some json) reason rest e =
     ]
 
 pub verb_why : (verb : Option Verb) (words : Option (List ℕ)) (reason : Reason) → op_by_verb verb words ≡ Err reason → Fits (word_rows verb words) reason
-verb_why None words reason e = ap Some cc
-verb_why (Some verbs.Put) None reason e = ap Some cc
 verb_why (Some verbs.Put) (Some words) reason e = put_why words (rest_of words) reason refl e
-verb_why (Some verbs.Del) None reason e = ap Some cc
-verb_why (Some verbs.Del) (Some words) reason e = del_why words reason e
-verb_why (Some verbs.Add) None reason e = ap Some cc
+verb_why (Some verbs.Del) (Some words) reason e = key_why Del words reason e
 verb_why (Some verbs.Add) (Some words) reason e = add_why words (rest_of words) reason refl e
-verb_why (Some verbs.Get) None reason e = ap Some cc
-verb_why (Some verbs.Get) (Some words) reason e = get_why words reason e
+verb_why (Some verbs.Get) (Some words) reason e = key_why Get words reason e
+verb_why (Some verbs.Next) (Some words) reason e = key_why Next words reason e
 verb_why (Some verbs.Next) None reason e = absurd cc
-verb_why (Some verbs.Next) (Some words) reason e = next_why words reason e
 verb_why (Some verbs.Count) None reason e = absurd cc
-verb_why (Some verbs.Count) (Some words) reason e = ap Some cc
+verb_why verb words reason e = ap Some cc
 
 none_asked : (op : Op) → asked_op None ≡ Ok op → ⊥
 none_asked op e = absurd cc

@@ -21,11 +21,10 @@ is_one_word text = not (is_some (rest_of text))
 abbrev pub has_words : Option Verb → Option (List ℕ) → Bool
 has_words None words = false
 has_words (Some verbs.Put) words = is_some (option_and_then rest_of words)
-has_words (Some verbs.Del) words = option_map_or is_one_word words false
 has_words (Some verbs.Add) words = option_map_or is_one_word (option_and_then rest_of words) false
-has_words (Some verbs.Get) words = option_map_or is_one_word words false
 has_words (Some verbs.Next) words = option_map_or is_one_word words true
 has_words (Some verbs.Count) words = not (is_some words)
+has_words _ words = option_map_or is_one_word words false
 
 -- whether the word behind the verb is no key
 abbrev pub has_no_key : Option (List ℕ) → Bool

@@ -4,9 +4,7 @@ use Rattle.std.specs.List.{range_with_len}
 use Rattle.std.specs.Fmt.{decimal}
 use Rattle.doc_model.specs.declared.operations.Op.TheVariants.{Add}
 use Rattle.doc_model.specs.declared.operations.Op.{Op}
-use Rattle.life_records.specs.declared.script.Command.{Command}
-use Rattle.life_records.specs.declared.script.Life.{Life}
-use Rattle.life_records.specs.declared.script.Script.{Script}
+use Rattle.life_records.specs.Records.{Command, Life, Script}
 
 -- what a load may be: 1 to 8 clients, with 10,000 commands each at the most
 pub record IsLoad (from clients ops : ℕ) : Type 0 where

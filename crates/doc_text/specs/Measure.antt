@@ -56,9 +56,8 @@ member_count (member key d ms) = 1 + member_count ms
 -- each entry has the key of the member in its place, and the measure of its value
 abbrev pub AreMeasured : List (String Global × Measure) → Members → Type 0
 AreMeasured [] no_members = Unit {0}
-AreMeasured [] (member key d ms) = ⊥
-AreMeasured (e ∷ es) no_members = ⊥
 AreMeasured (e ∷ es) (member key d ms) = (string_bytes e.0 ≡ key) × IsMeasure e.1 d × AreMeasured es ms
+AreMeasured _ _ = ⊥
 
 -- what was noted of the members of an object
 pub record Describes (found : MeasuredMembers) (ms : Members) : Type 0 where

@@ -1,5 +1,5 @@
 -- What is told of a text that is no script.
-use Rattle.std.specs.Prelude.{ℕ, List, Result}
+use Rattle.std.specs.Prelude.{ℕ, List}
 use Rattle.plain_text.specs.LineGrammar as lines
 use Rattle.plain_text.specs.declared.reading.TextFault.{TextFault}
 use Rattle.doc_text.specs.Grammar.{document_grammar}

@@ -4,8 +4,7 @@ use Rattle.std.specs.Fmt.{decimal, signed_decimal}
 use Rattle.doc_model.specs.declared.operations.Op.{Op}
 use Rattle.doc_model.specs.declared.operations.Reply.{Reply}
 use Rattle.doc_model.specs.declared.operations.Reply.TheVariants.{New, Replaced, Deleted, Absent, Doc, Sum, NotNumber, Overflow, NoRoom, Key, Number}
-use Rattle.life_records.specs.declared.record.LifeRecord.{LifeRecord}
-use Rattle.life_records.specs.declared.script.Script.{Script}
+use Rattle.life_records.specs.Records.{LifeRecord, Script}
 use Rattle.script_text.specs.Report as reports
 use Rattle.script_text.specs.Report.{Wording}
 use Rattle.doc_text.specs.Grammar.{command_text}

@@ -8,7 +8,6 @@ ghost use Rattle.doc_model.specs.Meaning.{IsOp};
 ghost use Rattle.doc_text.specs.CommandLaws.{reads_commands};
 ghost use Rattle.doc_text.specs.Grammar.{document_commands};
 ghost use Rattle.doc_text.specs.Reading.{verb_of, only_key, put_with, add_with, op_by_verb, asked_op};
-ghost use Rattle.doc_text.specs.Reasons.{script_reason};
 ghost use Rattle.script_text.specs.Reading.{then_ok};
 
 use crate::document::read_document;

@@ -21,8 +21,7 @@ use Rattle.life_laws.proofs.Slots.{Numbered, goes_on}
 use Rattle.life_laws.proofs.Turns.{line_behind}
 use Rattle.life_laws.proofs.TypedSteps.{TypedSteps}
 use Rattle.life_records.specs.Lives.{Answer, answers_of, store_at}
-use Rattle.life_records.specs.declared.record.LifeRecord.{LifeRecord}
-use Rattle.life_records.specs.declared.script.Life.{Life}
+use Rattle.life_records.specs.Records.{Life, LifeRecord}
 
 full_is : {Op Reply Store : Type 0} → (t : TypedSteps Op Reply Store) (base : Base) (history : List Entry) (place : ℕ) → full_image t.step base history place ≡ image_from t.step base.words (take (place - base.place) history)
 unfolding full_image

@@ -22,7 +22,7 @@ use Rattle.cx_core.specs.declared.local.SeenRead.{SeenRead}
 use Rattle.cx_core.proofs.ListLemmas.{item_below, slice_get-append_left}
 use Rattle.core_answers.proofs.Places.{durable_within}
 use Rattle.core_runs.proofs.Keeps.{bounds_of}
-use Rattle.journals.specs.Works.{HasWords, IsLineOf, IsLineReply, IsReadLine, IsWork, by_entry, by_read, full_of, stop_of, stops_in}
+use Rattle.life_records.specs.Works.{HasWords, IsLineOf, IsLineReply, IsReadLine, IsWork, by_entry, by_read, full_of, stop_of, stops_in}
 use Rattle.life_laws.specs.Meanings.{AreLinesOf, MeanStores, object_instance}
 use Rattle.life_laws.specs.Recorded.{IsRecorded}
 use Rattle.life_laws.proofs.Lists.{All-item, Contains-item, filter_item, zip_item}
@@ -30,11 +30,7 @@ use Rattle.life_laws.proofs.Steps.{image_stands, mean_stores, op_is}
 use Rattle.life_laws.proofs.TypedSteps.{TypedSteps}
 use Rattle.life_records.specs.Lives.{HasReply, IsLegalRead, store_at}
 use Rattle.life_records.specs.Scripts.{named_op}
-use Rattle.life_records.specs.declared.record.JournalLine.{JournalLine}
-use Rattle.life_records.specs.declared.record.LifeRecord.{LifeRecord}
-use Rattle.life_records.specs.declared.record.ReadLine.{ReadLine}
-use Rattle.life_records.specs.declared.script.Life.{Life}
-use Rattle.typed_object.specs.Meaning.{Encoding, IsOpOf}
+use Rattle.life_records.specs.Records.{Encoding, IsOpOf, JournalLine, Life, LifeRecord, ReadLine}
 
 -- the words of a reading are those of an operation that only reads
 reading_is : {Op Reply Store : Type 0} → (t : TypedSteps Op Reply Store) (words : List ℕ) (op : Op) → IsOpOf t.meaning words op → t.reads words ≡ true → t.meaning.is_reading op ≡ true

@@ -12,7 +12,7 @@ use Rattle.cx_core.specs.declared.entry.Entry.{Entry}
 use Rattle.cx_core.specs.declared.local.Linked.{Linked}
 use Rattle.cx_core.proofs.KeepLemmas.{keeps}
 use Rattle.cx_core.proofs.MergeLemmas.{own_mine, own_other}
-use Rattle.journals.specs.Works.{HasWords}
+use Rattle.life_records.specs.Works.{HasWords}
 use Rattle.life_laws.specs.Begins.{Begun, IsBaseOf, begun_after, with_result, words_to}
 use Rattle.life_laws.specs.Meanings.{AreLinesOf}
 use Rattle.life_laws.specs.Replies.{HasOpValues}
@@ -21,9 +21,7 @@ use Rattle.life_laws.proofs.TypedSteps.{TypedSteps}
 use Rattle.life_records.specs.Limits.{IsLifeInLimits}
 use Rattle.life_records.specs.Lives.{ops_of, store_after_all}
 use Rattle.life_records.specs.Scripts.{named_op}
-use Rattle.life_records.specs.declared.record.JournalLine.{JournalLine}
-use Rattle.life_records.specs.declared.script.Life.{Life}
-use Rattle.typed_object.specs.Meaning.{Meaning}
+use Rattle.life_records.specs.Records.{JournalLine, Life, Meaning}
 
 -- the entries are of so many callers, and those of each are numbered on from its slot
 pub record Numbered (count ticket : ℕ) (history : List Entry) (region : List ℕ) : Type 0 where

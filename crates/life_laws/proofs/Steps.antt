@@ -10,7 +10,7 @@ use Rattle.cx_core.specs.Region.{object_part}
 use Rattle.cx_core.specs.declared.entry.Base.{Base}
 use Rattle.cx_core.specs.declared.entry.Entry.{Entry}
 use Rattle.cx_core.proofs.ListLemmas.{item_below}
-use Rattle.journals.specs.Works.{HasWords}
+use Rattle.life_records.specs.Works.{HasWords}
 use Rattle.life_laws.specs.Meanings.{AreLinesOf, MeanStores}
 use Rattle.life_laws.specs.Replies.{HasOpValues}
 use Rattle.life_laws.proofs.Lists.{All-item}
@@ -18,10 +18,7 @@ use Rattle.life_laws.proofs.TypedSteps.{TypedSteps}
 use Rattle.life_records.specs.Limits.{IsCommandOf, IsLifeInLimits}
 use Rattle.life_records.specs.Lives.{ops_of, store_after_all, store_at}
 use Rattle.life_records.specs.Scripts.{named_op, own_ops}
-use Rattle.life_records.specs.declared.record.JournalLine.{JournalLine}
-use Rattle.life_records.specs.declared.script.Command.{Command}
-use Rattle.life_records.specs.declared.script.Life.{Life}
-use Rattle.typed_object.specs.Meaning.{IsOpOf, Meaning}
+use Rattle.life_records.specs.Records.{Command, IsOpOf, JournalLine, Life, Meaning}
 
 -- what holds of each command's operation holds of one that is named
 module _ {Op : Type 0} where

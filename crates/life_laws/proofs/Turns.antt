@@ -10,17 +10,14 @@ use Rattle.cx_core.specs.State.{State}
 use Rattle.cx_core.specs.declared.entry.Base.{Base}
 use Rattle.cx_core.specs.declared.local.Linked.{Linked}
 use Rattle.core_answers.proofs.OwnLaws.{own_rises}
-use Rattle.journals.specs.Works.{IsEntryBefore, IsSeenBefore, IsWork, StandsBetween, by_entry, by_read, full_of, stop_of}
+use Rattle.life_records.specs.Works.{IsEntryBefore, IsSeenBefore, IsWork, StandsBetween, by_entry, by_read, full_of, stop_of}
 use Rattle.life_laws.specs.Meanings.{object_instance}
 use Rattle.life_laws.specs.Recorded.{IsRecorded}
 use Rattle.life_laws.proofs.Lists.{contained_in, filter_map_item, map_item, pair_items, some_made, zip_items}
 use Rattle.life_laws.proofs.Recording.{Own, Read, Seat, entry_client, own_of_line, read_client, read_of_line, work_of}
 use Rattle.life_laws.proofs.TypedSteps.{TypedSteps}
 use Rattle.life_records.specs.Lives.{Answer, answers_of, journal_answer, read_answer}
-use Rattle.life_records.specs.declared.record.JournalLine.{JournalLine}
-use Rattle.life_records.specs.declared.record.LifeRecord.{LifeRecord}
-use Rattle.life_records.specs.declared.record.ReadLine.{ReadLine}
-use Rattle.life_records.specs.declared.script.Life.{Life}
+use Rattle.life_records.specs.Records.{JournalLine, Life, LifeRecord, ReadLine}
 
 module _ {Op Reply Store : Type 0} (t : TypedSteps Op Reply Store) (callers : ℕ) (base : Base) (s : State) (store : Store) (life : Life Op) (told : LifeRecord Reply) (base_law : LawfulBase t.lines t.lawful base)
     (law : Lawful (object_instance t.step t.reads callers base) s) (is : IsRecorded t.meaning (object_instance t.step t.reads callers base) s law.history store life told) where

@@ -4,9 +4,7 @@ use Rattle.cx_core.specs.Region.{object_part, slot_number, slot_reply}
 use Rattle.cx_core.specs.declared.entry.Base.{Base}
 use Rattle.life_records.specs.Lives.{ops_of, store_after_all, store_at}
 use Rattle.life_records.specs.Scripts.{named_op}
-use Rattle.life_records.specs.declared.record.JournalLine.{JournalLine}
-use Rattle.life_records.specs.declared.script.Life.{Life}
-use Rattle.typed_object.specs.Meaning.{Meaning}
+use Rattle.life_records.specs.Records.{JournalLine, Life, Meaning}
 
 -- The number of entries that all lives so far kept, and the store after them. For each client the number of its entries among them, and
 -- the words of the reply that the one-thread store gives to the last of them; 0 and 144 zeros where there is none.

@@ -7,12 +7,10 @@ use Rattle.cx_core.specs.History.{image_after, reply_at}
 use Rattle.cx_core.specs.Region.{object_part}
 use Rattle.cx_core.specs.RootEvents.{reply_after}
 use Rattle.cx_core.specs.State.{Instance}
-use Rattle.journals.specs.Works.{HasWords}
+use Rattle.life_records.specs.Works.{HasWords}
 use Rattle.life_records.specs.Lives.{store_at}
 use Rattle.life_records.specs.Scripts.{named_op}
-use Rattle.life_records.specs.declared.record.JournalLine.{JournalLine}
-use Rattle.life_records.specs.declared.script.Life.{Life}
-use Rattle.typed_object.specs.Meaning.{Meaning, Encoding}
+use Rattle.life_records.specs.Records.{Encoding, JournalLine, Life, Meaning}
 
 -- the instance of the construction that runs an object with these steps
 abbrev pub object_instance : (List ℕ → List ℕ → List ℕ × List ℕ) → (List ℕ → Bool) → ℕ → Base → Instance

@@ -8,17 +8,13 @@ use Rattle.cx_core.specs.State.{Instance, State}
 use Rattle.cx_core.specs.declared.entry.Base.{Base}
 use Rattle.cx_core.specs.declared.entry.Entry.{Entry}
 use Rattle.cx_core.specs.declared.local.Local.{Local}
-use Rattle.journals.specs.Told.{IsTold}
-use Rattle.journals.specs.Works.{AreWorks}
+use Rattle.life_records.specs.Told.{IsTold}
+use Rattle.life_records.specs.Works.{AreWorks}
 use Rattle.life_laws.specs.Replies.{HasOpValues, HasReplyValues}
 use Rattle.life_records.specs.Limits.{IsLifeInLimits}
 use Rattle.life_records.specs.Lives.{Answer, HasReply, IsLegalRead, answers_of, store_at}
 use Rattle.life_records.specs.Scripts.{named_op}
-use Rattle.life_records.specs.declared.record.JournalLine.{JournalLine}
-use Rattle.life_records.specs.declared.record.LifeRecord.{LifeRecord}
-use Rattle.life_records.specs.declared.record.StopLine.{StopLine}
-use Rattle.life_records.specs.declared.script.Life.{Life}
-use Rattle.typed_object.specs.Meaning.{Meaning}
+use Rattle.life_records.specs.Records.{JournalLine, Life, LifeRecord, Meaning, StopLine}
 
 -- The record of a life is told by a state of the service with this history, whose base stands for a store. Its lines are those of the
 -- callers' lists, whichever stop lines these were made with: a stop line says later whether its entry was kept.

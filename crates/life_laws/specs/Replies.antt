@@ -1,8 +1,6 @@
 -- Operations and replies as each value of the types is.
 use Rattle.std.specs.Prelude.{All, IfSome}
-use Rattle.life_records.specs.declared.script.Life.{Life}
-use Rattle.life_records.specs.declared.record.LifeRecord.{LifeRecord}
-use Rattle.typed_object.specs.Meaning.{Meaning}
+use Rattle.life_records.specs.Records.{Life, LifeRecord, Meaning}
 
 -- the replies of a record are values of their type
 pub record HasReplyValues {Op Reply Store : Type 0} (m : Meaning Op Reply Store) (told : LifeRecord Reply) : Type 0 where

@@ -8,8 +8,7 @@ ghost use Rattle.cx_core.specs.declared.entry.Base as entry_base;
 ghost use Rattle.life_laws.specs.Begins.{Begun, IsBaseOf, begun_after, nothing_begun};
 ghost use Rattle.life_laws.specs.Meanings.{object_instance};
 ghost use Rattle.life_laws.specs.Recorded.{IsKeptIn, IsRecorded};
-ghost use Rattle.life_records.specs.declared.record.LifeRecord.{LifeRecord};
-ghost use Rattle.life_records.specs.declared.script.Life.{Life};
+ghost use Rattle.life_records.specs.Records.{Life, LifeRecord};
 
 use crate::meanings::steps_are_meant;
 use cx_core::Base;

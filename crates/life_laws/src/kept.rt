@@ -7,8 +7,7 @@ ghost use Rattle.cx_core.specs.State.{State};
 ghost use Rattle.cx_core.specs.declared.entry.Base as entry_base;
 ghost use Rattle.life_laws.specs.Meanings.{object_instance};
 ghost use Rattle.life_laws.specs.Recorded.{GoesOn, IsKeptIn, IsRecorded};
-ghost use Rattle.life_records.specs.declared.record.LifeRecord.{LifeRecord};
-ghost use Rattle.life_records.specs.declared.script.Life.{Life};
+ghost use Rattle.life_records.specs.Records.{Life, LifeRecord};
 
 use crate::meanings::steps_are_meant;
 use cx_core::Base;

@@ -7,9 +7,7 @@ ghost use Rattle.cx_core.specs.declared.entry.Entry.{Entry};
 ghost use Rattle.life_laws.specs.Meanings.{AreLaws, AreLinesOf, MeanStores};
 ghost use Rattle.life_laws.specs.Replies.{HasOpValues};
 ghost use Rattle.life_records.specs.Limits.{IsLifeInLimits};
-ghost use Rattle.life_records.specs.declared.record.JournalLine.{JournalLine};
-ghost use Rattle.life_records.specs.declared.script.Life.{Life};
-ghost use Rattle.typed_object.specs.Meaning.{HasMeaning};
+ghost use Rattle.life_records.specs.Records.{HasMeaning, JournalLine, Life};
 
 use cx_core::Base;
 use typed_object::TypedObject;

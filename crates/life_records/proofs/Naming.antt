@@ -2,16 +2,11 @@
 use Rattle.std.proofs.Common.{ℕ, ◌+◌, List, [], ◌∷◌}
 use Rattle.std.proofs.lemmas.List.Elements.{All-weaker}
 use Rattle.life_records.specs.Lives.{AreLivesFrom, IsLegalRead, NameCommands, Names, store_at}
-use Rattle.life_records.specs.declared.record.LifeRecord.{LifeRecord}
-use Rattle.life_records.specs.declared.record.ReadLine.{ReadLine}
-use Rattle.life_records.specs.declared.script.Life.{Life}
-use Rattle.typed_object.specs.Meaning.{Meaning}
+use Rattle.life_records.specs.Records.{Life, LifeRecord, Meaning, ReadLine}
 
 module _ {Op Reply Store : Type 0} where
   pub names_of_lives : (m : Meaning Op Reply Store) (place : ℕ) (store : Store) (lives : List (Life Op)) (records : List (LifeRecord Reply)) → AreLivesFrom m place store lives records → NameCommands lives records
   names_of_lives m place store [] [] are = tt
-  names_of_lives m place store [] (told ∷ records) are = absurd are
-  names_of_lives m place store (life ∷ lives) [] are = absurd are
   names_of_lives m place store (life ∷ lives) (told ∷ records) are = (
     record {
       journal = are.0.legal.interleaved.named;
@@ -20,3 +15,4 @@ module _ {Op Reply Store : Type 0} where
     },
     names_of_lives m (place + told.kept) (store_at m store life told.journal told.kept) lives records are.1,
   )
+  names_of_lives m place store _ _ are = absurd are

@@ -1,4 +1,9 @@
+pub mod Records
 pub mod Scripts
 pub mod Lives
 pub mod Limits
+pub mod Works
+pub mod Told
+pub mod Journal
+pub mod Ended
 pub use Rattle.typed_object.specs.Meaning

@@ -1,10 +1,7 @@
 -- The limits of a script that is run.
 use Rattle.std.specs.Prelude.{◌≡◌, ◌<◌, ◌≤◌, ◌^◌, ℕ, All, AllPairs, length}
 use Rattle.life_records.specs.Scripts.{command_count}
-use Rattle.life_records.specs.declared.script.Command.{Command}
-use Rattle.life_records.specs.declared.script.Cut.{Cut}
-use Rattle.life_records.specs.declared.script.Life.{Life}
-use Rattle.life_records.specs.declared.script.Script.{Script}
+use Rattle.life_records.specs.Records.{Command, Cut, Life, Script}
 
 -- a command of a client of the life, with an operation within the limits
 pub record IsCommandOf {Op : Type 0} (is_op : Op → Type 0) (life : Life Op) (c : Command Op) : Type 0 where

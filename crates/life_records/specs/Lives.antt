@@ -4,13 +4,7 @@ use Rattle.std.specs.List.{filter_map, list_any}
 use Rattle.std.specs.Option.{option_map}
 use Rattle.std.specs.List.Sorted.{IsStrictlyIncreasing}
 use Rattle.life_records.specs.Scripts.{limit_in, named_op, own_ops}
-use Rattle.life_records.specs.declared.script.Life.{Life}
-use Rattle.life_records.specs.declared.script.Script.{Script}
-use Rattle.life_records.specs.declared.record.FullLine.{FullLine}
-use Rattle.life_records.specs.declared.record.JournalLine.{JournalLine}
-use Rattle.life_records.specs.declared.record.ReadLine.{ReadLine}
-use Rattle.life_records.specs.declared.record.StopLine.{StopLine}
-use Rattle.typed_object.specs.Meaning.{Meaning}
+use Rattle.life_records.specs.Records.{FullLine, JournalLine, Life, Meaning, ReadLine, Script, StopLine}
 pub use Rattle.life_records.specs.declared.record.LifeRecord.{LifeRecord}
 
 -- the life has this command of this client
@@ -198,8 +192,7 @@ AreLivesFrom m place store [] [] = Unit {0}
 AreLivesFrom m place store (life ∷ lives) (told ∷ records) =
     IsLegalLife m place store life told
     × AreLivesFrom m (place + told.kept) (store_at m store life told.journal told.kept) lives records
-AreLivesFrom m place store [] (told ∷ records) = ⊥
-AreLivesFrom m place store (life ∷ lives) [] = ⊥
+AreLivesFrom m place store _ _ = ⊥
 
 -- the records are legal lives of the script, from place 0 and the empty store on
 abbrev pub AreLegalLives : {Op Reply Store : Type 0} → Meaning Op Reply Store → Script Op → List (LifeRecord Reply) → Type 0
@@ -214,8 +207,7 @@ pub record NamesCommands {Op Reply : Type 0} (life : Life Op) (told : LifeRecord
 abbrev pub NameCommands : {Op Reply : Type 0} → List (Life Op) → List (LifeRecord Reply) → Type 0
 NameCommands [] [] = Unit {0}
 NameCommands (life ∷ lives) (told ∷ records) = NamesCommands life told × NameCommands lives records
-NameCommands [] (told ∷ records) = ⊥
-NameCommands (life ∷ lives) [] = ⊥
+NameCommands _ _ = ⊥
 
 -- a number of 64 bits, as each is in a value of the type
 abbrev pub Fits : ℕ → Type 0

@@ -11,9 +11,7 @@ use Rattle.doc_model.specs.declared.operations.Reply.{Reply}
 use Rattle.doc_model.proofs.Stores.{IsStore-after}
 use Rattle.life_records.specs.Lives.{Names, store_at, HasReply}
 use Rattle.life_records.specs.Scripts.{own_ops, named_op}
-use Rattle.life_records.specs.declared.record.JournalLine.{JournalLine}
-use Rattle.life_records.specs.declared.script.Command.{Command}
-use Rattle.life_records.specs.declared.script.Life.{Life}
+use Rattle.life_records.specs.Records.{Command, JournalLine, Life}
 use Rattle.doc_text.specs.Grammar.{command_text}
 use Rattle.script_text.specs.Report.{journal_text}
 use Rattle.doc_store.specs.DocumentMeaning.{document_meaning}
@@ -118,15 +116,8 @@ same_op lines store life a b told other client command =
     let same = same_op_named life a b client command in
     cc
 
-abbrev made_line : ℕ → ℕ → ℕ → Option Reply → JournalLine Reply
-made_line ticket client command reply = record { ticket = ticket; client = client; command = command; reply = reply }
-
 same_line : (a b : JournalLine Reply) → a.ticket ≡ b.ticket → a.client ≡ b.client → a.command ≡ b.command → a.reply ≡ b.reply → a ≡ b
-same_line a b ticket client command reply =
-    ap (λ n. made_line n a.client a.command a.reply) ticket
-    ∙ ap (λ n. made_line b.ticket n a.command a.reply) client
-    ∙ ap (λ n. made_line b.ticket b.client n a.reply) command
-    ∙ ap (made_line b.ticket b.client b.command) reply
+same_line a b ticket client command reply = λ i. record { ticket = ticket i; client = client i; command = command i; reply = reply i }
 
 same_first : (lines : ℕ) (store : Store) (life : Life Op) (a b : JournalLine Reply) (x y : List ℕ)
     → IsTold lines store life a → IsTold lines store life b
@@ -196,8 +187,6 @@ pub same_replies : (lines : ℕ) (store : Store) (life : Life Op) (test : Journa
     → (a b : List (JournalLine Reply)) → AreTold lines store life a → AreTold lines store life b
     → All (IsAnsweredBy test) a → All (IsAnsweredBy test) b → map bare a ≡ map bare b → a ≡ b
 same_replies lines store life test blind [] [] told others answered also same = refl
-same_replies lines store life test blind [] (next ∷ b) told others answered also same = absurd cc
-same_replies lines store life test blind (line ∷ a) [] told others answered also same = absurd cc
 same_replies lines store life test blind (line ∷ a) (next ∷ b) told others answered also same =
     let first : bare line ≡ bare next = cc in
     let rest : map bare a ≡ map bare b = cc in
@@ -213,3 +202,4 @@ same_replies lines store life test blind (line ∷ a) (next ∷ b) told others a
     let tail : a ≡ b = same_replies lines (store_after lines store told.0.op) life test blind a b told.1 (subst P (sym op) others.1)
     (All-tail (IsAnsweredBy test) line a answered) (All-tail (IsAnsweredBy test) next b also) rest in
     cc
+same_replies lines store life test blind _ _ told others answered also same = absurd cc

@@ -1,5 +1,5 @@
 -- Lives are read off their report.
-use Rattle.std.proofs.Common.{◌≡◌, ◌≢◌, ℕ, zero, suc, ◌+◌, ◌-◌, ◌≤◌, Bool, true, false, not, eqb, List, [], ◌∷◌, ◌++◌, length, take, map, get_or, All, flat_map, codes, Option, None, Some, IsSome, is_some, sym, ap, ◌∙◌, subst, refl, inl, inr, arith, lit≤, append_assoc}
+use Rattle.std.proofs.Common.{◌≡◌, ◌≢◌, ℕ, suc, ◌+◌, ◌-◌, ◌≤◌, Bool, true, false, not, eqb, List, [], ◌∷◌, ◌++◌, length, take, map, get_or, All, flat_map, codes, Option, None, Some, IsSome, is_some, sym, ap, ◌∙◌, subst, refl, inl, inr, arith, lit≤, append_assoc}
 use Rattle.std.specs.Fmt.{decimal}
 use Rattle.std.specs.List.{cons_option}
 use Rattle.std.proofs.lemmas.Bool.{cases_Bool, eqb-true, ne_eqb}
@@ -14,14 +14,7 @@ use Rattle.doc_model.proofs.Stores.{IsStore-after}
 use Rattle.life_records.specs.Limits.{KeepsLimits}
 use Rattle.life_records.specs.Lives.{IsLegal, IsLegalLife, IsLegalRead, IsEndedEntry, HasReply, AreLivesFrom, AreLegalLives, HasNumbers, AreNumbers, has_stop, ops_of, store_after_all, store_at}
 use Rattle.life_records.specs.Scripts.{named_op}
-use Rattle.life_records.specs.declared.record.FullLine.{FullLine}
-use Rattle.life_records.specs.declared.record.JournalLine.{JournalLine}
-use Rattle.life_records.specs.declared.record.LifeRecord.{LifeRecord}
-use Rattle.life_records.specs.declared.record.ReadLine.{ReadLine}
-use Rattle.life_records.specs.declared.record.StopLine.{StopLine}
-use Rattle.life_records.specs.declared.script.Command.{Command}
-use Rattle.life_records.specs.declared.script.Life.{Life}
-use Rattle.life_records.specs.declared.script.Script.{Script}
+use Rattle.life_records.specs.Records.{Command, FullLine, JournalLine, Life, LifeRecord, ReadLine, Script, StopLine}
 use Rattle.script_text.specs.Report.{life_text, journal_text, read_text, stop_text, full_text, power_text, record_text, records_text}
 use Rattle.doc_store.specs.DocumentMeaning.{document_meaning}
 use Rattle.doc_text.specs.Report.{document_wording, report_of}
@@ -151,10 +144,8 @@ journal_answered lines place store life told legal k d below =
 -- ---- stores along a journal
 
 ops_of-bare : (life : Life Op) (journal : List (JournalLine Reply)) (n : ℕ) → ops_of life (take n (map bare journal)) ≡ ops_of life (take n journal)
-ops_of-bare life [] zero = refl
-ops_of-bare life [] (suc n) = refl
-ops_of-bare life (line ∷ journal) zero = refl
 ops_of-bare life (line ∷ journal) (suc n) = ap (cons_option (named_op life line.client line.command)) (ops_of-bare life journal n)
+ops_of-bare life _ _ = refl
 
 -- a read is legal beside a journal whatever the journal's replies are
 bare_read : (lines place : ℕ) (store : Store) (life : Life Op) (journal : List (JournalLine Reply)) (line : ReadLine Reply)
@@ -204,31 +195,10 @@ same_power a b x y fits others_fit e =
     (append_cancel_left (codes "documents ") (documents_end a x) (documents_end b y) entries.1) in
     (kept.0, documents.0, documents.1)
 
-abbrev made_record : ℕ → ℕ → List (JournalLine Reply) → List (ReadLine Reply) → List StopLine → List FullLine → ℕ → ℕ → ℕ → LifeRecord Reply
-made_record clients from journal reads stops fulls choice kept documents = record {
-  clients = clients;
-  from = from;
-  journal = journal;
-  reads = reads;
-  stops = stops;
-  fulls = fulls;
-  choice = choice;
-  kept = kept;
-  documents = documents;
-}
-
 same_parts : (a b : LifeRecord Reply) → a.clients ≡ b.clients → a.from ≡ b.from → a.journal ≡ b.journal → a.reads ≡ b.reads → a.stops ≡ b.stops → a.fulls ≡ b.fulls
     → a.choice ≡ b.choice → a.kept ≡ b.kept → a.documents ≡ b.documents → a ≡ b
 same_parts a b clients from journal reads stops fulls choice kept documents =
-    ap (λ n. made_record n a.from a.journal a.reads a.stops a.fulls a.choice a.kept a.documents) clients
-    ∙ ap (λ n. made_record b.clients n a.journal a.reads a.stops a.fulls a.choice a.kept a.documents) from
-    ∙ ap (λ l. made_record b.clients b.from l a.reads a.stops a.fulls a.choice a.kept a.documents) journal
-    ∙ ap (λ l. made_record b.clients b.from b.journal l a.stops a.fulls a.choice a.kept a.documents) reads
-    ∙ ap (λ l. made_record b.clients b.from b.journal b.reads l a.fulls a.choice a.kept a.documents) stops
-    ∙ ap (λ l. made_record b.clients b.from b.journal b.reads b.stops l a.choice a.kept a.documents) fulls
-    ∙ ap (λ n. made_record b.clients b.from b.journal b.reads b.stops b.fulls n a.kept a.documents) choice
-    ∙ ap (λ n. made_record b.clients b.from b.journal b.reads b.stops b.fulls b.choice n a.documents) kept
-    ∙ ap (made_record b.clients b.from b.journal b.reads b.stops b.fulls b.choice b.kept) documents
+    λ i. record { clients = clients i; from = from i; journal = journal i; reads = reads i; stops = stops i; fulls = fulls i; choice = choice i; kept = kept i; documents = documents i }
 
 -- records with the same text, legal at one place with one store, are the same, and so is what follows
 same_record : (number lines place : ℕ) (store : Store) (life : Life Op) (a b : LifeRecord Reply) (x y : List ℕ) → IsStore store → AreOps life
@@ -270,10 +240,8 @@ same_lives : (number lines place : ℕ) (store : Store) (lives : List (Life Op))
     → AreLivesFrom (document_meaning lines) place store lives a → AreLivesFrom (document_meaning lines) place store lives b → AreNumbers a → AreNumbers b
     → records_text document_wording number lives a ≡ records_text document_wording number lives b → a ≡ b
 same_lives number lines place store [] [] [] s ops legal others fits others_fit e = refl
-same_lives number lines place store [] [] (other ∷ b) s ops legal others fits others_fit e = absurd others
 same_lives number lines place store [] (told ∷ a) b s ops legal others fits others_fit e = absurd legal
 same_lives number lines place store (life ∷ lives) [] b s ops legal others fits others_fit e = absurd legal
-same_lives number lines place store (life ∷ lives) (told ∷ a) [] s ops legal others fits others_fit e = absurd others
 same_lives number lines place store (life ∷ lives) (told ∷ a) (other ∷ b) s ops legal others fits others_fit e =
     let own : AreOps life = All-head AreOps life lives ops in
     let found = same_record number lines place store life told other (records_text document_wording (number + 1) lives a) (records_text document_wording (number + 1) lives b) s own
@@ -286,6 +254,7 @@ same_lives number lines place store (life ∷ lives) (told ∷ a) (other ∷ b) 
     next (All-tail AreOps life lives ops)
     legal.1 (subst P (sym found.0) others.1) (All-tail HasNumbers told a fits) (All-tail HasNumbers other b others_fit) found.1 in
     cc
+same_lives number lines place store _ _ b s ops legal others fits others_fit e = absurd others
 
 -- the lives of a script are read off its report
 pub same_reports : (script : Script Op) (a b : List (LifeRecord Reply)) → KeepsLimits IsOp 8 script

@@ -1,6 +1,5 @@
 -- What a reply's text may be: no text of a document goes over the end of its line.
 use Rattle.std.proofs.Common.{◌≡◌, ℕ, ◌≤◌, ◌<◌, Bool, true, false, cond, eqb, List, [], ◌∷◌, ◌++◌, All, codes, Option, None, Some, is_some, ℤ, refl, sym, ◌∙◌, arith, ◌⊎◌, inl, inr}
-use Rattle.std.specs.Fmt.{decimal, signed_decimal}
 use Rattle.std.specs.List.{find}
 use Rattle.std.specs.Option.{option_map, option_map_or}
 use Rattle.std.specs.Ordering.{is_eq}
@@ -11,22 +10,13 @@ use Rattle.doc_model.specs.Meaning.{document_at, number_at, has_room, with_pair,
 use Rattle.doc_model.specs.declared.operations.Op.{Op}
 use Rattle.doc_model.specs.declared.operations.Op.TheVariants.{Put, Del, Add, Get, Next, Count}
 use Rattle.doc_model.specs.declared.operations.Reply.{Reply}
-use Rattle.doc_model.specs.declared.operations.Reply.TheVariants.{New, Replaced, Deleted, Absent, Doc, Sum, NotNumber, Overflow, NoRoom, Key, Number}
+use Rattle.doc_model.specs.declared.operations.Reply.TheVariants.{New, Replaced, Deleted, Absent, Doc, Sum, Overflow, NoRoom}
 use Rattle.doc_text.specs.Report.{reply_text}
 
 -- the document that a reply tells, if it tells one, is within the limits
 abbrev pub IsPlain : Reply → Type 0
-IsPlain New = Unit {0}
-IsPlain Replaced = Unit {0}
-IsPlain Deleted = Unit {0}
-IsPlain Absent = Unit {0}
 IsPlain (Doc document) = IsDocument document
-IsPlain (Sum sum) = Unit {0}
-IsPlain NotNumber = Unit {0}
-IsPlain Overflow = Unit {0}
-IsPlain NoRoom = Unit {0}
-IsPlain (Key key) = Unit {0}
-IsPlain (Number count) = Unit {0}
+IsPlain _ = Unit {0}
 
 either_plain : (b : Bool) (r q : Reply) → IsPlain r → IsPlain q → IsPlain (cond b r q)
 either_plain true r q first second = first
@@ -111,17 +101,8 @@ other_first (b ∷ text) x y other e = let same : 117 ≡ b = cc in true≢false
 
 -- what follows a line that tells no answer follows one of the same text that tells a reply
 unanswered_or : (r : Reply) (x y : List ℕ) → IsPlain r → unanswered ++ 10 ∷ x ≡ reply_text r ++ 10 ∷ y → x ≡ y
-unanswered_or New x y plain e = absurd (other_first (codes "new") (10 ∷ x) (10 ∷ y) refl e)
-unanswered_or Replaced x y plain e = absurd (other_first (codes "replaced") (10 ∷ x) (10 ∷ y) refl e)
-unanswered_or Deleted x y plain e = absurd (other_first (codes "deleted") (10 ∷ x) (10 ∷ y) refl e)
-unanswered_or Absent x y plain e = absurd (other_first (codes "none") (10 ∷ x) (10 ∷ y) refl e)
 unanswered_or (Doc document) x y plain e = (same_until 10 unanswered document x y unanswered_others (document_others document plain.plain) e).1
-unanswered_or (Sum sum) x y plain e = absurd (other_first (codes "sum " ++ signed_decimal sum) (10 ∷ x) (10 ∷ y) refl e)
-unanswered_or NotNumber x y plain e = absurd (other_first (codes "notnumber") (10 ∷ x) (10 ∷ y) refl e)
-unanswered_or Overflow x y plain e = absurd (other_first (codes "overflow") (10 ∷ x) (10 ∷ y) refl e)
-unanswered_or NoRoom x y plain e = absurd (other_first (codes "noroom") (10 ∷ x) (10 ∷ y) refl e)
-unanswered_or (Key key) x y plain e = absurd (other_first (codes "key " ++ key) (10 ∷ x) (10 ∷ y) refl e)
-unanswered_or (Number count) x y plain e = absurd (other_first (codes "count " ++ decimal count) (10 ∷ x) (10 ∷ y) refl e)
+unanswered_or r x y plain e = absurd (other_first (reply_text r) (10 ∷ x) (10 ∷ y) refl e)
 
 -- the answer of a line as text
 abbrev pub answer_text : Option Reply → List ℕ

@@ -6,14 +6,12 @@ use Rattle.cx_base.specs.Store.{Store}
 use Rattle.doc_model.specs.Meaning.{reply_to}
 use Rattle.doc_model.specs.declared.operations.Op.{Op}
 use Rattle.doc_model.specs.declared.operations.Reply.{Reply}
-use Rattle.life_records.specs.declared.script.Life.{Life}
+use Rattle.life_records.specs.Records.{JournalLine, Life, ReadLine}
 use Rattle.life_records.specs.Lives.{store_at, IsLegalRead}
 use Rattle.life_records.specs.Scripts.{named_op}
 use Rattle.script_text.specs.Report.{read_text, exchange_text}
 use Rattle.doc_store.specs.DocumentMeaning.{document_meaning}
 use Rattle.doc_text.specs.Report.{document_wording, reply_text}
-use Rattle.life_records.specs.declared.record.JournalLine.{JournalLine}
-use Rattle.life_records.specs.declared.record.ReadLine.{ReadLine}
 use Rattle.plain_text.proofs.Beginnings.{AreReadOff}
 use Rattle.plain_text.proofs.Decimals.{same_numbers}
 use Rattle.report_laws.proofs.JournalTexts.{value_of}
@@ -32,15 +30,8 @@ read_text-append : (life : Life Op) (line : ReadLine Reply) (x : List ℕ)
     ++ 32 ∷ 97 ∷ 116 ∷ 32 ∷ (decimal line.place ++ 32 ∷ (answer_text life line ++ x))))
 read_text-append life line x = simp append_assoc
 
-abbrev made_line : ℕ → ℕ → ℕ → Reply → ReadLine Reply
-made_line client command place reply = record { client = client; command = command; place = place; reply = reply }
-
 same_line : (a b : ReadLine Reply) → a.client ≡ b.client → a.command ≡ b.command → a.place ≡ b.place → a.reply ≡ b.reply → a ≡ b
-same_line a b client command place reply =
-    ap (λ n. made_line n a.command a.place a.reply) client
-    ∙ ap (λ n. made_line b.client n a.place a.reply) command
-    ∙ ap (λ n. made_line b.client b.command n a.reply) place
-    ∙ ap (made_line b.client b.command b.place) reply
+same_line a b client command place reply = λ i. record { client = client i; command = command i; place = place i; reply = reply i }
 
 -- the reply of a read is that of the store at its place
 has_reply : (lines place : ℕ) (store : Store) (life : Life Op) (journal : List (JournalLine Reply)) (line : ReadLine Reply)

@@ -7,8 +7,7 @@ ghost use Rattle.doc_model.specs.declared.operations.Reply.{Reply};
 ghost use Rattle.doc_store.specs.DocumentMeaning.{document_meaning};
 ghost use Rattle.life_records.specs.Limits.{KeepsLimits};
 ghost use Rattle.life_records.specs.Lives.{AreLegalLives, AreNumbers};
-ghost use Rattle.life_records.specs.declared.record.LifeRecord.{LifeRecord};
-ghost use Rattle.life_records.specs.declared.script.Script.{Script};
+ghost use Rattle.life_records.specs.Records.{LifeRecord, Script};
 ghost use Rattle.doc_text.specs.Report.{report_of};
 
 /// Two different lists of records that are legal lives of one script have different reports, so what happened is

@@ -2,8 +2,7 @@
 use Rattle.std.proofs.Common.{◌≡◌, ℕ, ◌^◌, ◌<◌, Bool, true, false, List, [], ◌∷◌, ◌++◌, cond, codes, sym, ap, ◌∙◌, refl, arith, lit≤, append_assoc}
 use Rattle.std.specs.Fmt.{decimal}
 use Rattle.std.proofs.lemmas.List.{append_cancel_left}
-use Rattle.life_records.specs.declared.record.FullLine.{FullLine}
-use Rattle.life_records.specs.declared.record.StopLine.{StopLine}
+use Rattle.life_records.specs.Records.{FullLine, StopLine}
 use Rattle.script_text.specs.Report.{stop_text, full_text}
 use Rattle.plain_text.proofs.Beginnings.{AreReadOff}
 use Rattle.plain_text.proofs.Decimals.{same_numbers}
@@ -39,13 +38,9 @@ first_byte [] = 0
 first_byte (b ∷ text) = b
 
 same_word : (a b : Bool) (x y : List ℕ) → kept_word a ++ x ≡ kept_word b ++ y → a ≡ b
-same_word true true x y e = refl
-same_word false false x y e = refl
 same_word true false x y e = let first : 107 ≡ 108 = ap first_byte e in absurd (omega (arith, first))
 same_word false true x y e = let first : 108 ≡ 107 = ap first_byte e in absurd (omega (arith, first))
-
-abbrev made_stop : ℕ → ℕ → ℕ → Bool → StopLine
-made_stop client command steps kept = record { client = client; command = command; steps = steps; kept = kept }
+same_word _ _ x y e = refl
 
 same_stop : (a b : StopLine) (x y : List ℕ) → HasStopNumbers a → HasStopNumbers b → stop_text a ++ x ≡ stop_text b ++ y → a ≡ b
 same_stop a b x y fits others_fit e =
@@ -63,10 +58,7 @@ same_stop a b x y fits others_fit e =
     let steps = same_numbers a.steps b.steps 32 (kept_word a.kept ++ x) (kept_word b.kept ++ y) fits.2 others_fit.2 (lit≤ tt)
     (append_cancel_left (codes "at ") (decimal a.steps ++ 32 ∷ (kept_word a.kept ++ x)) (decimal b.steps ++ 32 ∷ (kept_word b.kept ++ y)) command.1) in
     let kept = same_word a.kept b.kept x y steps.1 in
-    ap (λ n. made_stop n a.command a.steps a.kept) client.0
-    ∙ ap (λ n. made_stop b.client n a.steps a.kept) command.0
-    ∙ ap (λ n. made_stop b.client b.command n a.kept) steps.0
-    ∙ ap (made_stop b.client b.command b.steps) kept
+    λ i. record { client = client.0 i; command = command.0 i; steps = steps.0 i; kept = kept i }
 
 pub stops_read : AreReadOff stop_text 115 HasStopNumbers
 stops_read = record { begins = λ line. (_, refl); same = same_stop }
@@ -88,10 +80,6 @@ command_end line x = decimal line.command ++ 32 ∷ (codes "holder " ++ holder_e
 full_text-append : (line : FullLine) (x : List ℕ) → full_text line ++ x ≡ codes "full " ++ (decimal line.client ++ 46 ∷ command_end line x)
 full_text-append line x = simp append_assoc
 
-abbrev made_full : ℕ → ℕ → ℕ → ℕ → ℕ → FullLine
-made_full client command holder need ticket =
-    record { client = client; command = command; note = record { holder = holder; need = need; ticket = ticket } }
-
 same_full : (a b : FullLine) (x y : List ℕ) → HasFullNumbers a → HasFullNumbers b → full_text a ++ x ≡ full_text b ++ y → a ≡ b
 same_full a b x y fits others_fit e =
     let client = same_numbers a.client b.client 46 (command_end a x) (command_end b y) fits.0 others_fit.0 (lit≤ tt)
@@ -105,11 +93,7 @@ same_full a b x y fits others_fit e =
     (append_cancel_left (codes "need ") (need_end a x) (need_end b y) holder.1) in
     let ticket = same_numbers a.note.ticket b.note.ticket 10 x y fits.4 others_fit.4 (lit≤ tt)
     (append_cancel_left (codes "ticket ") (ticket_end a x) (ticket_end b y) need.1) in
-    ap (λ n. made_full n a.command a.note.holder a.note.need a.note.ticket) client.0
-    ∙ ap (λ n. made_full b.client n a.note.holder a.note.need a.note.ticket) command.0
-    ∙ ap (λ n. made_full b.client b.command n a.note.need a.note.ticket) holder.0
-    ∙ ap (λ n. made_full b.client b.command b.note.holder n a.note.ticket) need.0
-    ∙ ap (made_full b.client b.command b.note.holder b.note.need) ticket.0
+    λ i. record { client = client.0 i; command = command.0 i; note = record { holder = holder.0 i; need = need.0 i; ticket = ticket.0 i } }
 
 pub fulls_read : AreReadOff full_text 102 HasFullNumbers
 fulls_read = record { begins = λ line. (_, refl); same = same_full }

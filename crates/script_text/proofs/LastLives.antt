@@ -1,28 +1,20 @@
 -- The life that was begun last, and what changes it.
-use Rattle.std.proofs.Common.{◌≡◌, ℕ, suc, ◌+◌, ◌-◌, ◌<◌, ◌≤◌, List, [], ◌∷◌, ◌++◌, length, get_or, set, slice_get, None, Some, refl, sym, ap, ◌∙◌, arith}
+use Rattle.std.proofs.Common.{◌≡◌, ℕ, suc, ◌+◌, ◌-◌, ◌<◌, ◌≤◌, List, [], ◌∷◌, ◌++◌, length, get_or, set, slice_get, Some, refl, sym, ap, ◌∙◌, arith}
 use Rattle.std.specs.Prelude.{All}
 use Rattle.std.proofs.lemmas.List.{length-append}
 use Rattle.std.proofs.lemmas.List.Elements.{All-nil, All-cons, All-head, All-tail}
 use Rattle.std.proofs.lemmas.List.Sums.{sum_by-append, sum_by-cons}
 use Rattle.life_records.specs.Scripts.{command_count}
-use Rattle.life_records.specs.declared.script.Command.{Command}
-use Rattle.life_records.specs.declared.script.Cut.{Cut}
-use Rattle.life_records.specs.declared.script.Life.{Life}
+use Rattle.life_records.specs.Records.{Command, Cut, Life}
 use Rattle.script_text.specs.Grammar.{last_life, with_last, with_cut, with_command}
 
 module _ {Op : Type 0} where
   -- the last life is at the last place
   pub slice_get_last : (lives : List (Life Op)) → slice_get lives (length lives - 1) ≡ last_life lives
-  slice_get_last [] = refl
-  slice_get_last (life ∷ []) = refl
   slice_get_last (life ∷ next ∷ lives) =
       let later : length (life ∷ next ∷ lives) - 1 ≡ suc (length (next ∷ lives) - 1) = omega arith in
       ap (slice_get (life ∷ next ∷ lives)) later ∙ slice_get_last (next ∷ lives)
-
-  -- there is none where there is no life
-  pub last_life_none : (lives : List (Life Op)) → length lives ≡ 0 → last_life lives ≡ None
-  last_life_none [] none = refl
-  last_life_none (life ∷ lives) none = absurd (omega arith)
+  slice_get_last _ = refl
 
   -- a change to the last life is a change at the last place
   pub with_last-set : (change : Life Op → Life Op) (lives : List (Life Op)) (n : ℕ) (life : Life Op) → n ≡ length lives → 0 < n → life ≡ get_or lives (n - 1) life
@@ -39,9 +31,8 @@ module _ {Op : Type 0} where
       ∙ ap (λ (ls : List (Life Op)). one ∷ ls) (with_last-set change (next ∷ lives) (n - 1) life (omega (arith, long)) (omega (arith, long)) here)
 
   pub length-with_last : (change : Life Op → Life Op) (lives : List (Life Op)) → length (with_last change lives) ≡ length lives
-  length-with_last change [] = refl
-  length-with_last change (life ∷ []) = refl
   length-with_last change (life ∷ next ∷ lives) = ap suc (length-with_last change (next ∷ lives))
+  length-with_last change _ = refl
 
   -- what holds of all lives holds of them with the last one changed
   pub All-with_last : (P : Life Op → Type 0) (change : Life Op → Life Op) (lives : List (Life Op)) → ((life : Life Op) → last_life lives ≡ Some life → P life → P (change life))
@@ -74,11 +65,10 @@ module _ {Op : Type 0} where
 
   -- a cut adds none
   pub command_count-with_cut : (cut : Cut) (lives : List (Life Op)) → command_count (with_last (with_cut cut) lives) ≡ command_count lives
-  command_count-with_cut cut [] = refl
-  command_count-with_cut cut (life ∷ []) = refl
   command_count-with_cut cut (life ∷ next ∷ lives) =
       count-cons life (with_last (with_cut cut) (next ∷ lives)) ∙ ap (λ n. length life.commands + n) (command_count-with_cut cut (next ∷ lives))
       ∙ sym (count-cons life (next ∷ lives))
+  command_count-with_cut cut _ = refl
 
   -- nor does a life that begins
   pub command_count-begun : (lives : List (Life Op)) (begun : Life Op) → begun.commands ≡ [] → command_count (lives ++ begun ∷ []) ≡ command_count lives

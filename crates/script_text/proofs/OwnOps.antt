@@ -7,8 +7,7 @@ use Rattle.std.specs.Borrow.{Bor}
 use Rattle.std.proofs.lemmas.List.{map-append, append-nil, take_more}
 use Rattle.std.proofs.lemmas.List.Elements.{filter-append}
 use Rattle.std.proofs.lemmas.Option.{slice_get_within, slice_get_past, slice_get_read, slice_get-map}
-use Rattle.life_records.specs.declared.script.Command.{Command}
-use Rattle.life_records.specs.declared.script.Life.{Life}
+use Rattle.life_records.specs.Records.{Command, Life}
 use Rattle.life_records.specs.Scripts.{own_ops, named_op}
 use Rattle.script_text.specs.Index.{AreOwnOps}
 
@@ -17,10 +16,9 @@ slice_get-set : {X : Type 0} (xs : List X) (k i : ℕ) (v own : X) → slice_get
     → ((k ≡ i) × (own ≡ v)) ⊎ ((k ≢ i) × (slice_get xs i ≡ Some own))
 slice_get-set [] k i v own is = cc
 slice_get-set (x ∷ xs) zero zero v own is = inl (refl, cc)
-slice_get-set (x ∷ xs) zero (suc i) v own is = inr (λ e. omega (arith, e), is)
-slice_get-set (x ∷ xs) (suc k) zero v own is = inr (λ e. omega (arith, e), is)
 slice_get-set (x ∷ xs) (suc k) (suc i) v own is =
     ⊎_elim (λ same. inl (ap suc same.0, same.1)) (λ other. inr (λ e. other.0 (omega (arith, e)), other.1)) (slice_get-set xs k i v own is)
+slice_get-set (x ∷ xs) k i v own is = inr (λ e. omega (arith, e), is)
 
 -- what a slice's `get` answers
 pub got : {X : Type 0} (xs : List X) (i : ℕ) (r : Option (Bor X)) → IfSome r (λ x. x.now ≡ get_or xs i x.now)

@@ -1,9 +1,8 @@
 -- The text of records, one record after another.
 use Rattle.std.proofs.Common.{◌≡◌, ℕ, zero, suc, ◌+◌, ◌<◌, ◌≤◌, List, [], ◌∷◌, ◌++◌, length, get_or, take, sym, ap, ◌∙◌, refl, arith, append_assoc, add-zero, add-one}
 use Rattle.std.proofs.lemmas.List.{append-nil, take_all}
-use Rattle.life_records.specs.declared.script.Life.{Life}
+use Rattle.life_records.specs.Records.{Life, LifeRecord}
 use Rattle.life_records.specs.Lives.{NameCommands, NamesCommands}
-use Rattle.life_records.specs.declared.record.LifeRecord.{LifeRecord}
 use Rattle.script_text.specs.Report.{Wording, record_text, records_text}
 
 module _ {Op Reply : Type 0} where
@@ -11,8 +10,7 @@ module _ {Op Reply : Type 0} where
   pub length-lives : (lives : List (Life Op)) (records : List (LifeRecord Reply)) → NameCommands lives records → length lives ≡ length records
   length-lives [] [] named = refl
   length-lives (life ∷ lives) (told ∷ records) named = ap suc (length-lives lives records named.1)
-  length-lives [] (told ∷ records) named = absurd named
-  length-lives (life ∷ lives) [] named = absurd named
+  length-lives _ _ named = absurd named
 
   -- the lines of each record name commands of its life
   pub NamesCommands_at : (lives : List (Life Op)) (records : List (LifeRecord Reply)) (n : ℕ) (d : Life Op) (e : LifeRecord Reply)
@@ -20,8 +18,7 @@ module _ {Op Reply : Type 0} where
   NamesCommands_at [] [] n d e named below = absurd (omega arith)
   NamesCommands_at (life ∷ lives) (told ∷ records) zero d e named below = named.0
   NamesCommands_at (life ∷ lives) (told ∷ records) (suc n) d e named below = NamesCommands_at lives records n d e named.1 (omega arith)
-  NamesCommands_at [] (told ∷ records) n d e named below = absurd named
-  NamesCommands_at (life ∷ lives) [] n d e named below = absurd named
+  NamesCommands_at _ _ n d e named below = absurd named
 
   -- the text of one record more
   records_text-take_suc : (w : Wording Op Reply) (number : ℕ) (lives : List (Life Op)) (records : List (LifeRecord Reply)) (n : ℕ) (d : Life Op) (e : LifeRecord Reply)
@@ -37,8 +34,7 @@ module _ {Op Reply : Type 0} where
       ap (λ text. record_text w number life told ++ text) (records_text-take_suc w (number + 1) lives records n d e named.1 below')
       ∙ sym (append_assoc (record_text w number life told) (records_text w (number + 1) (take n lives) (take n records)) (record_text w (number + 1 + n) (get_or lives n d) (get_or records n e)))
       ∙ ap (λ m. record_text w number life told ++ records_text w (number + 1) (take n lives) (take n records) ++ record_text w m (get_or lives n d) (get_or records n e)) same
-  records_text-take_suc w number [] (told ∷ records) n d e named below = absurd named
-  records_text-take_suc w number (life ∷ lives) [] n d e named below = absurd named
+  records_text-take_suc w number _ _ n d e named below = absurd named
 
   pub records_text-more : (w : Wording Op Reply) (lives : List (Life Op)) (records : List (LifeRecord Reply)) (n : ℕ) (d : Life Op) (e : LifeRecord Reply)
       → NameCommands lives records → n < length records

@@ -8,10 +8,7 @@ use Rattle.std.proofs.lemmas.List.Folds.{list_any_at}
 use Rattle.std.proofs.lemmas.List.Quantifiers.{all_pairs_push}
 use Rattle.life_records.specs.Limits.{IsCutOf, AreOfTwo, KeepsLimits}
 use Rattle.life_records.specs.Scripts.{command_count, has_cut}
-use Rattle.life_records.specs.declared.script.Command.{Command}
-use Rattle.life_records.specs.declared.script.Cut.{Cut}
-use Rattle.life_records.specs.declared.script.Life.{Life}
-use Rattle.life_records.specs.declared.script.Script.{Script}
+use Rattle.life_records.specs.Records.{Command, Cut, Life, Script}
 use Rattle.script_text.specs.declared.lines.ScriptLine.{ScriptLine}
 use Rattle.script_text.specs.declared.lines.ScriptLine.TheVariants as forms
 use Rattle.plain_text.specs.LineGrammar.{AddsAll, IsTextOf}

@@ -3,8 +3,7 @@ use Rattle.std.specs.Prelude.{◌≡◌, ◌⊎◌, ◌^◌, ◌<◌, ◌≤◌,
 use Rattle.std.specs.Fmt.{decimal}
 use Rattle.std.specs.Str.{is_utf8}
 use Rattle.life_records.specs.Scripts.{command_count, has_cut}
-use Rattle.life_records.specs.declared.script.Command.{Command}
-use Rattle.life_records.specs.declared.script.Cut.{Cut}
+use Rattle.life_records.specs.Records.{Command, Cut}
 pub use Rattle.life_records.specs.declared.script.Life.{Life}
 pub use Rattle.life_records.specs.declared.script.Script.{Script}
 use Rattle.script_text.specs.declared.lines.ScriptLimits.{ScriptLimits}
@@ -72,10 +71,8 @@ module _ {Op : Type 0} where
 
   -- the operation asked for is within the limits
   abbrev pub AsksWithinLimits : (Op → Type 0) → ScriptLine Op → Type 0
-  AsksWithinLimits is_op (forms.Lines lines) = Unit {0}
-  AsksWithinLimits is_op (forms.Life clients choice) = Unit {0}
-  AsksWithinLimits is_op (forms.Cut cut) = Unit {0}
   AsksWithinLimits is_op (forms.Command command) = is_op command.op
+  AsksWithinLimits is_op _ = Unit {0}
 
   -- the script of no lines
   abbrev pub no_script : Script Op

@@ -3,8 +3,7 @@ use Rattle.std.specs.Prelude.{◌≡◌, ℕ, List, length, map, slice_get, Some
 use Rattle.std.specs.Global.{Vec}
 use Rattle.std.specs.Borrow.{Bor}
 use Rattle.life_records.specs.Scripts.{own_ops}
-use Rattle.life_records.specs.declared.script.Command.{Command}
-use Rattle.life_records.specs.declared.script.Life.{Life}
+use Rattle.life_records.specs.Records.{Command, Life}
 
 module _ {Op : Type 0} where
   -- the lists are those of the operations of clients 0, 1 and so on among commands

@@ -2,7 +2,7 @@
 use Rattle.std.specs.Prelude.{codes, ◌⊎◌, is_some}
 use Rattle.std.specs.Option.{option_map, ok_or}
 use Rattle.std.specs.Str.{is_utf8}
-use Rattle.std.proofs.Common.{◌≡◌, ℕ, Bool, true, false, eqb, leb, ltb, List, [], ◌∷◌, length, Option, None, Some, Result, Ok, Err, refl, arith, inl, inr, sym, ap}
+use Rattle.std.proofs.Common.{◌≡◌, ℕ, true, false, eqb, leb, ltb, List, [], ◌∷◌, length, Option, None, Some, Result, Ok, Err, refl, arith, inl, inr, sym, ap}
 use Rattle.std.proofs.lemmas.Bool.{le-leb, lt-leb, ltb-true, ltb-false, ne_eqb, cases_Bool}
 use Rattle.plain_text.specs.Words.{first_word, rest_of, is_word}
 use Rattle.plain_text.specs.LineGrammar.{ReadsLines}

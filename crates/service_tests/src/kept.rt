@@ -2,8 +2,7 @@
 
 use crate::holds::holds;
 use doc_model::Reply;
-use journals::{flag_stops, is_kept};
-use life_records::{JournalLine, StopLine};
+use life_records::{JournalLine, StopLine, flag_stops, is_kept};
 use std::alloc::{AllocError, Global};
 use std::test::Fail;
 

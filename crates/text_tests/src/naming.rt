@@ -1,48 +1,61 @@
 //! Whether records name commands of the lives that they are of.
 
-ghost use Rattle.std.specs.Prelude.{◌≡◌, ◌==◌, IsTrue, IsSome, All, count_by};
+ghost use Rattle.std.specs.Prelude.{◌≡◌, IsTrue, IfOk, All};
 ghost use Rattle.life_records.specs.Lives.{NameCommands, NamesCommands, Names};
-ghost use Rattle.life_records.specs.Scripts.{named_op};
 
-use doc_text::{Command, JournalLine, Life, LifeRecord, ReadLine};
+use doc_model::Op;
+use doc_text::{JournalLine, Life, LifeRecord, ReadLine};
+use script_text::IndexedLife;
+use std::alloc::{AllocError, Global};
 
-/// Whether there is one record for each life, whose lines name commands of the life.
-pub(crate) fn name_commands(lives: &[Life], records: &[LifeRecord]) -> bool
-    ensures { IsTrue result → NameCommands lives.now records.now }
+/// Whether there is one record for each life, whose lines name commands of the life. `Err` is want of memory.
+pub(crate) fn name_commands(
+    alloc: Global,
+    lives: &[Life],
+    records: &[LifeRecord],
+) -> Result<bool, AllocError>
+    ensures { IfOk result (λ name. IsTrue name → NameCommands lives.now records.now) }
 {
     if lives.len() != records.len() {
-        return false;
+        return Ok(false);
     }
     for (number, told) in records.iter().enumerate() {
-        if !names_commands(&lives[number], told) {
-            return false;
+        if !names_commands(alloc, &lives[number], told)? {
+            return Ok(false);
         }
     }
-    true
+    Ok(true)
 }
 
-fn names_commands(life: &Life, told: &LifeRecord) -> bool
-    ensures { IsTrue result → NamesCommands life.now told.now }
+fn names_commands(alloc: Global, life: &Life, told: &LifeRecord) -> Result<bool, AllocError>
+    ensures { IfOk result (λ name. IsTrue name → NamesCommands life.now told.now) }
 {
-    names_journal(life, told.journal.as_slice()) && names_reads(life, told.reads.as_slice())
+    let lent = life.lent();
+    let ops = IndexedLife::of(alloc, &lent)?;
+    Ok(
+        names_journal(life, &ops, told.journal.as_slice())
+            && names_reads(life, &ops, told.reads.as_slice()),
+    )
 }
 
-fn names_journal(life: &Life, journal: &[JournalLine]) -> bool
+fn names_journal(life: &Life, ops: &IndexedLife<'_, Op>, journal: &[JournalLine]) -> bool
+    requires { ops.now ≡ life.now }
     ensures { IsTrue result → All (λ line. Names life.now line.client line.command) journal.now }
 {
     for line in journal {
-        if !names(life, line.client, line.command) {
+        if !names(life, ops, line.client, line.command) {
             return false;
         }
     }
     true
 }
 
-fn names_reads(life: &Life, reads: &[ReadLine]) -> bool
+fn names_reads(life: &Life, ops: &IndexedLife<'_, Op>, reads: &[ReadLine]) -> bool
+    requires { ops.now ≡ life.now }
     ensures { IsTrue result → All (λ line. Names life.now line.client line.command) reads.now }
 {
     for line in reads {
-        if !names(life, line.client, line.command) {
+        if !names(life, ops, line.client, line.command) {
             return false;
         }
     }
@@ -50,36 +63,15 @@ fn names_reads(life: &Life, reads: &[ReadLine]) -> bool
 }
 
 /// Whether a life has this command of this client.
-fn names(life: &Life, client: u32, command: u64) -> bool
+fn names(life: &Life, ops: &IndexedLife<'_, Op>, client: u32, command: u64) -> bool
+    requires { ops.now ≡ life.now }
     ensures { IsTrue result → Names life.now client command }
 {
     if client >= life.clients {
         return false;
     }
-    has_command(life, client, command)
-}
-
-fn has_command(life: &Life, client: u32, command: u64) -> bool
-    ensures { IsTrue result → IsSome (named_op life.now client command) }
-{
-    if command == 0 {
-        return false;
+    match ops.op(client, command) {
+        Some(_) => true,
+        None => false,
     }
-    if command > own_count(life.commands.as_slice(), client) {
-        return false;
-    }
-    true
-}
-
-/// The number of a client's commands.
-fn own_count(commands: &[Command], client: u32) -> u64
-    ensures { result ≡ count_by (λ c. c.client == client) commands.now }
-{
-    let mut count = 0;
-    for command in commands {
-        if command.client == client {
-            count += 1;
-        }
-    }
-    count
 }

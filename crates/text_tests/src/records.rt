@@ -34,19 +34,15 @@ pub(crate) type StopRow = (u32, u64, u64, bool);
 /// Client, command, holder, need and ticket.
 pub(crate) type FullRow = (u32, u64, u32, u64, u64);
 
-/// A life: its history, the reads, the clients that were stopped, those that gave up, and the end.
-#[derive(Clone, Copy)]
-pub(crate) struct Lived {
-    pub(crate) clients: u32,
-    pub(crate) from: u64,
-    pub(crate) journal: &'static [JournalRow],
-    pub(crate) reads: &'static [ReadRow],
-    pub(crate) stops: &'static [StopRow],
-    pub(crate) fulls: &'static [FullRow],
-    pub(crate) choice: u64,
-    pub(crate) kept: u64,
-    pub(crate) documents: u64,
-}
+/// A life: its clients and where it begins; its history and the reads; the clients that were stopped and those that gave up; and the
+/// choice, the entries kept and the documents.
+pub(crate) type Lived = (
+    (u32, u64),
+    &'static [JournalRow],
+    &'static [ReadRow],
+    (&'static [StopRow], &'static [FullRow]),
+    (u64, u64, u64),
+);
 
 /// The records of lives. `Err` is want of memory.
 pub(crate) fn records_of(alloc: Global, lives: &[Lived]) -> Result<Vec<LifeRecord>, AllocError> {
@@ -58,16 +54,17 @@ pub(crate) fn records_of(alloc: Global, lives: &[Lived]) -> Result<Vec<LifeRecor
 }
 
 fn record_of(alloc: Global, life: &Lived) -> Result<LifeRecord, AllocError> {
+    let ((clients, from), _, _, _, (choice, kept, documents)) = *life;
     let mut told = LifeRecord {
-        clients: life.clients,
-        from: life.from,
+        clients,
+        from,
         journal: Items::new(alloc),
         reads: Items::new(alloc),
         stops: Items::new(alloc),
         fulls: Items::new(alloc),
-        choice: life.choice,
-        kept: life.kept,
-        documents: life.documents,
+        choice,
+        kept,
+        documents,
     };
     match add_lines(alloc, &mut told, life) {
         Ok(()) => Ok(told),
@@ -76,10 +73,11 @@ fn record_of(alloc: Global, life: &Lived) -> Result<LifeRecord, AllocError> {
 }
 
 fn add_lines(alloc: Global, told: &mut LifeRecord, life: &Lived) -> Result<(), AllocError> {
-    add_journal(alloc, &mut told.journal, life.journal)?;
-    add_reads(alloc, &mut told.reads, life.reads)?;
-    add_stops(&mut told.stops, life.stops)?;
-    add_fulls(&mut told.fulls, life.fulls)
+    let (_, journal, reads, (stops, fulls), _) = *life;
+    add_journal(alloc, &mut told.journal, journal)?;
+    add_reads(alloc, &mut told.reads, reads)?;
+    add_stops(&mut told.stops, stops)?;
+    add_fulls(&mut told.fulls, fulls)
 }
 
 fn add_journal(

@@ -30,17 +30,13 @@ life 1 power 0
 0 put a 2
 0 get a
 ",
-    lives: &[Lived {
-        clients: 1,
-        from: 0,
-        journal: &[(0, 0, 1, Some(Told::New)), (1, 0, 2, Some(Told::Replaced))],
-        reads: &[(3, 2, Told::Doc(b"2"))],
-        stops: &[],
-        fulls: &[],
-        choice: 0,
-        kept: 2,
-        documents: 1,
-    }],
+    lives: &[(
+        (1, 0),
+        &[(0, 0, 1, Some(Told::New)), (1, 0, 2, Some(Told::Replaced))],
+        &[(3, 2, Told::Doc(b"2"))],
+        (&[], &[]),
+        (0, 2, 1),
+    )],
     report: b"\
 life 0 clients 1 from 0
 0 0.1 put a 1 = new
@@ -56,17 +52,7 @@ lines 64
 life 1 power 0
 0 get a
 ",
-    lives: &[Lived {
-        clients: 1,
-        from: 0,
-        journal: &[],
-        reads: &[(1, 0, Told::Absent)],
-        stops: &[],
-        fulls: &[],
-        choice: 0,
-        kept: 0,
-        documents: 0,
-    }],
+    lives: &[((1, 0), &[], &[(1, 0, Told::Absent)], (&[], &[]), (0, 0, 0))],
     report: b"\
 life 0 clients 1 from 0
 read 0.1 at 0 get a = none
@@ -82,20 +68,16 @@ life 1 power 0
 0 add k 1
 0 get k
 ",
-    lives: &[Lived {
-        clients: 1,
-        from: 0,
-        journal: &[
+    lives: &[(
+        (1, 0),
+        &[
             (0, 0, 1, Some(Told::Sum(i64::MAX))),
             (1, 0, 2, Some(Told::Overflow)),
         ],
-        reads: &[(3, 2, Told::Doc(b"9223372036854775807"))],
-        stops: &[],
-        fulls: &[],
-        choice: 0,
-        kept: 2,
-        documents: 1,
-    }],
+        &[(3, 2, Told::Doc(b"9223372036854775807"))],
+        (&[], &[]),
+        (0, 2, 1),
+    )],
     report: b"\
 life 0 clients 1 from 0
 0 0.1 add k 9223372036854775807 = sum 9223372036854775807
@@ -115,22 +97,18 @@ life 1 power 0
 0 del a
 0 del a
 ",
-    lives: &[Lived {
-        clients: 1,
-        from: 0,
-        journal: &[
+    lives: &[(
+        (1, 0),
+        &[
             (0, 0, 1, Some(Told::New)),
             (1, 0, 3, Some(Told::NotNumber)),
             (2, 0, 4, Some(Told::Deleted)),
             (3, 0, 5, Some(Told::Absent)),
         ],
-        reads: &[(2, 1, Told::Doc(b"{\"a\":[],\"b\":1}"))],
-        stops: &[],
-        fulls: &[],
-        choice: 0,
-        kept: 4,
-        documents: 0,
-    }],
+        &[(2, 1, Told::Doc(b"{\"a\":[],\"b\":1}"))],
+        (&[], &[]),
+        (0, 4, 0),
+    )],
     report: b"\
 life 0 clients 1 from 0
 0 0.1 put a {\"a\":[],\"b\":1} = new
@@ -154,23 +132,19 @@ life 1 power 0
 0 next c
 0 count
 ",
-    lives: &[Lived {
-        clients: 1,
-        from: 0,
-        journal: &[(0, 0, 1, Some(Told::New)), (1, 0, 2, Some(Told::New))],
-        reads: &[
+    lives: &[(
+        (1, 0),
+        &[(0, 0, 1, Some(Told::New)), (1, 0, 2, Some(Told::New))],
+        &[
             (3, 2, Told::Key(b"a")),
             (4, 2, Told::Key(b"c")),
             (5, 2, Told::Key(b"c")),
             (6, 2, Told::Absent),
             (7, 2, Told::Number(2)),
         ],
-        stops: &[],
-        fulls: &[],
-        choice: 0,
-        kept: 2,
-        documents: 2,
-    }],
+        (&[], &[]),
+        (0, 2, 2),
+    )],
     report: b"\
 life 0 clients 1 from 0
 0 0.1 put a 1 = new
@@ -191,17 +165,13 @@ life 2 power 0
 0 add n 1
 1 add n 1
 ",
-    lives: &[Lived {
-        clients: 2,
-        from: 0,
-        journal: &[(0, 1, 1, Some(Told::Sum(1))), (1, 0, 1, Some(Told::Sum(2)))],
-        reads: &[],
-        stops: &[],
-        fulls: &[],
-        choice: 0,
-        kept: 2,
-        documents: 1,
-    }],
+    lives: &[(
+        (2, 0),
+        &[(0, 1, 1, Some(Told::Sum(1))), (1, 0, 1, Some(Told::Sum(2)))],
+        &[],
+        (&[], &[]),
+        (0, 2, 1),
+    )],
     report: b"\
 life 0 clients 2 from 0
 0 1.1 add n 1 = sum 1
@@ -224,37 +194,29 @@ life 1 power 0
 0 count
 ",
     lives: &[
-        Lived {
-            clients: 2,
-            from: 0,
-            journal: &[
+        (
+            (2, 0),
+            &[
                 (0, 0, 1, Some(Told::New)),
                 (1, 1, 1, Some(Told::New)),
                 (2, 0, 2, Some(Told::Sum(3))),
                 (3, 1, 2, Some(Told::Sum(7))),
             ],
-            reads: &[],
-            stops: &[],
-            fulls: &[],
-            choice: 1,
-            kept: 4,
-            documents: 3,
-        },
-        Lived {
-            clients: 1,
-            from: 4,
-            journal: &[],
-            reads: &[
+            &[],
+            (&[], &[]),
+            (1, 4, 3),
+        ),
+        (
+            (1, 4),
+            &[],
+            &[
                 (1, 4, Told::Key(b"stock:apple")),
                 (2, 4, Told::Doc(b"7")),
                 (3, 4, Told::Number(3)),
             ],
-            stops: &[],
-            fulls: &[],
-            choice: 0,
-            kept: 0,
-            documents: 3,
-        },
+            (&[], &[]),
+            (0, 0, 3),
+        ),
     ],
     report: b"\
 life 0 clients 2 from 0
@@ -281,17 +243,13 @@ life 2 power 0
 0 put a 1
 0 add a -1
 ",
-    lives: &[Lived {
-        clients: 1,
-        from: 0,
-        journal: &[(0, 0, 1, Some(Told::NoRoom)), (1, 0, 2, None)],
-        reads: &[],
-        stops: &[],
-        fulls: &[],
-        choice: 0,
-        kept: 2,
-        documents: 0,
-    }],
+    lives: &[(
+        (1, 0),
+        &[(0, 0, 1, Some(Told::NoRoom)), (1, 0, 2, None)],
+        &[],
+        (&[], &[]),
+        (0, 2, 0),
+    )],
     report: b"\
 life 0 clients 1 from 0
 0 0.1 put a 1 = noroom
@@ -313,28 +271,17 @@ life 2 power 0
 1 put a 1
 ",
     lives: &[
-        Lived {
-            clients: 3,
-            from: 0,
-            journal: &[(0, 0, 1, Some(Told::New)), (1, 1, 1, None), (2, 2, 1, None)],
-            reads: &[(2, 1, Told::Doc(b"1"))],
-            stops: &[(1, 1, 12, true), (2, 1, 18_446_744_073_709_551_614, false)],
-            fulls: &[],
-            choice: 2,
-            kept: 2,
-            documents: 1,
-        }, // One that was stopped before its first step.
-        Lived {
-            clients: 2,
-            from: 2,
-            journal: &[],
-            reads: &[],
-            stops: &[(1, 1, 0, false)],
-            fulls: &[],
-            choice: 0,
-            kept: 0,
-            documents: 1,
-        },
+        (
+            (3, 0),
+            &[(0, 0, 1, Some(Told::New)), (1, 1, 1, None), (2, 2, 1, None)],
+            &[(2, 1, Told::Doc(b"1"))],
+            (
+                &[(1, 1, 12, true), (2, 1, 18_446_744_073_709_551_614, false)],
+                &[],
+            ),
+            (2, 2, 1),
+        ), // One that was stopped before its first step.
+        ((2, 2), &[], &[], (&[(1, 1, 0, false)], &[]), (0, 0, 1)),
     ],
     report: b"\
 life 0 clients 3 from 0
@@ -358,17 +305,7 @@ lines 64
 life 2 power 0
 0 count
 ",
-    lives: &[Lived {
-        clients: 2,
-        from: 0,
-        journal: &[],
-        reads: &[],
-        stops: &[],
-        fulls: &[(0, 17, 1, 0, 1)],
-        choice: 0,
-        kept: 0,
-        documents: 0,
-    }],
+    lives: &[((2, 0), &[], &[], (&[], &[(0, 17, 1, 0, 1)]), (0, 0, 0))],
     report: b"\
 life 0 clients 2 from 0
 full 0.17 holder 1 need 0 ticket 1
@@ -383,17 +320,16 @@ lines 64
 life 3 power 1
 0 count
 ",
-    lives: &[Lived {
-        clients: 3,
-        from: 7,
-        journal: &[],
-        reads: &[(1, 7, Told::Number(0))],
-        stops: &[(1, 2, 40, false)],
-        fulls: &[(0, 2, 1, 7, 8), (2, 1, 1, 7, 18_446_744_073_709_551_615)],
-        choice: 1,
-        kept: 0,
-        documents: 0,
-    }],
+    lives: &[(
+        (3, 7),
+        &[],
+        &[(1, 7, Told::Number(0))],
+        (
+            &[(1, 2, 40, false)],
+            &[(0, 2, 1, 7, 8), (2, 1, 1, 7, 18_446_744_073_709_551_615)],
+        ),
+        (1, 0, 0),
+    )],
     report: b"\
 life 0 clients 3 from 7
 read 0.1 at 7 count = count 0
@@ -467,7 +403,7 @@ fn has_report(
     records: &[LifeRecord],
     text: &[u8],
 ) -> Result<bool, AllocError> {
-    if !name_commands(script.lives.as_slice(), records) {
+    if !name_commands(alloc, script.lives.as_slice(), records)? {
         return Ok(false);
     }
     let written = report(alloc, script, records)?;

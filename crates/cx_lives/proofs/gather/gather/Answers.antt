@@ -4,7 +4,7 @@ use Rattle.std.specs.declared.alloc.AllocError.{AllocError}
 use Rattle.std.proofs.lemmas.Bool.{eqb-true}
 use Rattle.std.proofs.lemmas.List.{append-nil, nil_from_length}
 use Rattle.life_records.specs.declared.record.StopLine.{StopLine}
-use Rattle.cx_lives.specs.declared.desk.Work.{Work}
+use Rattle.cx_lives.specs.declared.progress.Work.{Work}
 use Rattle.cx_lives.specs.declared.work.Served.{Served}
 use Rattle.cx_lives.specs.Ends.{IsWorkOf, full_in, stop_in}
 use Rattle.cx_lives.specs.Works.{AreNumbered, stop_told, stops_left}
@@ -44,19 +44,19 @@ loop-alloc-preserved g c =
     let work_is : IsWorkOf (g.O.TypedObject.meaning c.args.service.now.object) life r n work = subst (λ (w : Result (Work g.row.O-Reply.Denot) AllocError). IfOk w (IsWorkOf (g.O.TypedObject.meaning c.args.service.now.object) life r n)) c.in_ok-work.was (c.at_end.ensures.work n rest.0) in
     let more = c.in_ok-all.ensures in
     let longer : length c.in_ok-all.all.handed.items ≡ n + 1 = ap length more.handed ∙ length-append all.handed.items (work.handed ∷ []) in
-    let stops_now : c.deref.result.now ≡ all.stops.items = c.deref.ensures.value in
+    let stops_now : c.deref.result.now ≡ all.ends.stops.items = c.deref.ensures.value in
     let works_now : c.deref-in-loop-alloc.result.now ≡ left = c.deref-in-loop-alloc.ensures.value in
     let told = c.in_ok-work.ensures.told in
-    let before : HoldersStopped (all.stops.items ++ (stop_told (Ok served) ++ stops_left left)) all.fulls.items =
-    subst (λ (ws : List (Result (Served g.row.O-Reply.Denot) AllocError)). HoldersStopped (all.stops.items ++ stops_left ws) all.fulls.items) whole c.loop-alloc.invariant.stopped in
-    let own : HoldersStopped (all.stops.items ++ stops_left left) (full_in work.end) =
+    let before : HoldersStopped (all.ends.stops.items ++ (stop_told (Ok served) ++ stops_left left)) all.ends.fulls.items =
+    subst (λ (ws : List (Result (Served g.row.O-Reply.Denot) AllocError)). HoldersStopped (all.ends.stops.items ++ stops_left ws) all.ends.fulls.items) whole c.loop-alloc.invariant.stopped in
+    let own : HoldersStopped (all.ends.stops.items ++ stops_left left) (full_in work.end) =
     subst (λ (xs : List StopLine). HoldersStopped (xs ++ stops_left left) (full_in work.end)) stops_now
     (subst (λ (ws : List (Result (Served g.row.O-Reply.Denot) AllocError)). HoldersStopped (c.deref.result.now ++ stops_left ws) (full_in work.end)) works_now c.in_ok-work.ensures.stopped) in
     record {
       gathered = gathered_more (g.O.TypedObject.meaning c.args.service.now.object) life r all c.in_ok-all.all work (c.works_go_on.ensures (g.O.TypedObject.meaning c.args.service.now.object).encoding life) c.loop-alloc.invariant.gathered more work_is;
       rest = rw longer rest.1;
       count = omega (arith, longer, ap length whole, c.loop-alloc.invariant.count);
-      stopped = rw (more.stops, more.fulls) (holders_more all.stops.items (stop_in work.end) (stop_told (Ok served)) (stops_left left) all.fulls.items (full_in work.end) told before own);
+      stopped = rw (more.stops, more.fulls) (holders_more all.ends.stops.items (stop_in work.end) (stop_told (Ok served)) (stops_left left) all.ends.fulls.items (full_in work.end) told before own);
     }
 
 pub returns-clause-stopped : goal.returns-clause-stopped
@@ -65,5 +65,5 @@ returns-clause-stopped g c =
     let works = c.loop-alloc.works in
     let none : vec_len works ≡ 0 = eqb-true (vec_len works) 0 (sym c.is_empty.ensures ∙ c.loop-alloc-test.false) in
     let over : works.items ≡ [] = nil_from_length works.items (omega (arith, none, works.ok.0)) in
-    subst (λ (xs : List StopLine). HoldersStopped xs all.fulls.items) (append-nil all.stops.items)
-    (subst (λ (ws : List (Result (Served g.row.O-Reply.Denot) AllocError)). HoldersStopped (all.stops.items ++ stops_left ws) all.fulls.items) over c.loop-alloc.invariant.stopped)
+    subst (λ (xs : List StopLine). HoldersStopped xs all.ends.fulls.items) (append-nil all.ends.stops.items)
+    (subst (λ (ws : List (Result (Served g.row.O-Reply.Denot) AllocError)). HoldersStopped (all.ends.stops.items ++ stops_left ws) all.ends.fulls.items) over c.loop-alloc.invariant.stopped)

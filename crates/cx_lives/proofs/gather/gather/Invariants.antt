@@ -11,7 +11,7 @@ invariant-loop-alloc g l = record {
   gathered : AreGathered (g.O.TypedObject.meaning l.service.object) l.life l.service l.all;
   rest : AreNumbered (g.O.TypedObject.meaning l.service.object) l.life l.service (length l.all.handed.items) l.works.items;
   count : length l.all.handed.items + length l.works.items ≡ vec_len l.fn.works;
-  stopped : HoldersStopped (l.all.stops.items ++ stops_left l.works.items) l.all.fulls.items;
+  stopped : HoldersStopped (l.all.ends.stops.items ++ stops_left l.works.items) l.all.ends.fulls.items;
 }
 
 abbrev pub decreases-loop-alloc : goal.decreases-loop-alloc

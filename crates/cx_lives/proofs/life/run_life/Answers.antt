@@ -5,12 +5,11 @@ use Rattle.std.proofs.lemmas.List.Sorted.{IsNonDecreasingBy-from_sort_by_key}
 use Rattle.cx_core.specs.declared.local.Local.{Local}
 use Rattle.cx_rule.specs.Running.{instance_at}
 use Rattle.cx_service.specs.Closes.{seats_of}
-use Rattle.journals.specs.Journal.{IsByTicket, IsRecordOf}
-use Rattle.journals.specs.Told.{IsTold}
-use Rattle.journals.specs.Works.{AreWorks}
+use Rattle.life_records.specs.Journal.{IsByTicket, IsRecordOf}
+use Rattle.life_records.specs.Told.{IsTold}
+use Rattle.life_records.specs.Works.{AreWorks}
 use Rattle.life_laws.proofs.TypedSteps.{typed_steps}
-use Rattle.life_records.specs.declared.record.JournalLine.{JournalLine}
-use Rattle.life_records.specs.declared.record.LifeRecord.{LifeRecord}
+use Rattle.life_records.specs.Records.{JournalLine, LifeRecord}
 use Rattle.cx_lives.specs.Gathering.{HasNever}
 use Rattle.cx_lives.proofs.Gathering.{gathered_seats, locals_in, locals_long, numbered, seats_long}
 use Rattle.cx_core.specs.Base.{LawfulBase}
@@ -39,7 +38,7 @@ unreachable-requires g c =
     let gathered = c.in_ok-handed.ensures.gathered in
     let left = c.in-Ok.ensures.remains in
     let base = c.lines-lines.ensures.running.base in
-    let has : HasNever (g.O.TypedObject.meaning c.args.service.object) life ls = subst (λ b. MatchBool b (HasNever (g.O.TypedObject.meaning c.args.service.object) life ls) (AreWorks (g.O.TypedObject.meaning c.args.service.object).encoding life ls f.entries.items f.reads.items f.stops.items f.fulls.items)) c.if-never.true gathered.works in
+    let has : HasNever (g.O.TypedObject.meaning c.args.service.object) life ls = subst (λ b. MatchBool b (HasNever (g.O.TypedObject.meaning c.args.service.object) life ls) (AreWorks (g.O.TypedObject.meaning c.args.service.object).encoding life ls f.lines.entries.items f.lines.reads.items f.ends.stops.items f.ends.fulls.items)) c.if-never.true gathered.works in
     let o = r.object in
     let t = typed_steps _ _ (g.O.Object.opening o) _ (g.O.Object.only_reads o) (g.O.TypedObject.meaning o) c.object_is_meant.ensures.object c.object_is_meant.ensures.means in
     let at_lines = subst (λ n. LawfulBase n (g.O.Object.lawful o) r.base) c.lines-lines.ensures.running.lines base in
@@ -56,17 +55,17 @@ returns g c =
     let left = c.in-Ok.ensures.remains in
     let history = c.in-Ok.remains.trail.history in
     let journal = c.sort_unstable_by_key.new.self.items in
-    let works : AreWorks (g.O.TypedObject.meaning c.args.service.object).encoding life ls f.entries.items f.reads.items f.stops.items f.fulls.items =
-    subst (λ b. MatchBool b (HasNever (g.O.TypedObject.meaning c.args.service.object) life ls) (AreWorks (g.O.TypedObject.meaning c.args.service.object).encoding life ls f.entries.items f.reads.items f.stops.items f.fulls.items)) c.if-never.false gathered.works in
-    let sorted : IsByTicket f.entries.items journal = record {
+    let works : AreWorks (g.O.TypedObject.meaning c.args.service.object).encoding life ls f.lines.entries.items f.lines.reads.items f.ends.stops.items f.ends.fulls.items =
+    subst (λ b. MatchBool b (HasNever (g.O.TypedObject.meaning c.args.service.object) life ls) (AreWorks (g.O.TypedObject.meaning c.args.service.object).encoding life ls f.lines.entries.items f.lines.reads.items f.ends.stops.items f.ends.fulls.items)) c.if-never.false gathered.works in
+    let sorted : IsByTicket f.lines.entries.items journal = record {
       moved = c.sort_unstable_by_key.ensures.permutation;
       up = IsNonDecreasingBy-from_sort_by_key (λ (l : JournalLine g.row.O-Reply.Denot). l.ticket) journal c.sort_unstable_by_key.ensures.sorted (λ a r q k. search rules);
     } in
     let laws = c.journals_are_told.ensures in
-    let still = laws.works (g.O.TypedObject.meaning c.args.service.object).encoding life place history ls f.entries.items journal f.reads.items f.stops.items f.fulls.items works left.merged sorted in
+    let still = laws.works (g.O.TypedObject.meaning c.args.service.object).encoding life place history ls f.lines.entries.items journal f.lines.reads.items f.ends.stops.items f.ends.fulls.items works left.merged sorted in
     let clients : length ls ≡ c.clients-clients.result = omega (arith, c.clients-clients.ensures, locals_long handed, c.in_ok-handed.ensures.all, c.in_ok-works.ensures.len, c.args.callers.ok.0, c.requires.clients) in
     let made : LifeRecord g.row.O-Reply.Denot = record { clients = c.clients-clients.result; from = c.in-Ok.remains.first; journal = c.of.result; reads = c.of-2.result; stops = c.of-3.result; fulls = c.of-4.result; choice = c.choice-choice.result; kept = 0; documents = 0 } in
-    let is : IsRecordOf place ls journal f.reads.items f.stops.items f.fulls.items made = record {
+    let is : IsRecordOf place ls journal f.lines.reads.items f.ends.stops.items f.ends.fulls.items made = record {
       clients = sym clients;
       from = left.first;
       journal_is = c.of.ensures;
@@ -74,7 +73,7 @@ returns g c =
       stops_are = c.of-3.ensures;
       fulls_are = c.of-4.ensures;
     } in
-    let told = laws.told (g.O.TypedObject.meaning c.args.service.object).encoding life place history ls f.entries.items journal f.reads.items f.stops.items f.fulls.items works left.merged sorted c.in_ok-handed.ensures.stopped made is (clients ∙ c.clients-clients.ensures) (λ client l at. (gathered.each client l at).limit) in
+    let told = laws.told (g.O.TypedObject.meaning c.args.service.object).encoding life place history ls f.lines.entries.items journal f.lines.reads.items f.ends.stops.items f.ends.fulls.items works left.merged sorted c.in_ok-handed.ensures.stopped made is (clients ∙ c.clients-clients.ensures) (λ client l at. (gathered.each client l at).limit) in
     record {
       seats = seats_of handed;
       are = gathered_seats (g.O.TypedObject.meaning c.args.service.object) life c.args.service c.args.callers.items f c.requires.seats (omega (arith, c.in_ok-handed.ensures.all, c.args.callers.ok.0, c.in_ok-works.ensures.len)) gathered;

@@ -1,7 +1,7 @@
 use Rattle.std.proofs.Common.{sym, subst, Ok}
 use Rattle.cx_core.specs.declared.entry.Base.{Base}
 use Rattle.cx_rule.specs.Running.{instance_at}
-use Rattle.journals.specs.Ended.{IsEnded}
+use Rattle.life_records.specs.Ended.{IsEnded}
 use Rattle.recovery.specs.Images.{IsReadable}
 use Rattle.recovery.specs.Kept.{IsKeptBy, IsOpened, crash_of}
 use Rattle.recovery.specs.Recovery.{IsRecovered}

@@ -6,7 +6,7 @@ use Rattle.recovery.specs.Crashes.{IsLeftOf}
 use Rattle.recovery.specs.Kept.{IsKeptBy}
 use Rattle.recovery.specs.Recovery.{IsFaultOf, IsRecovered}
 use Rattle.recovery.specs.declared.recovering.ImageFault.TheVariants.{Memory}
-use Rattle.cx_lives.specs.Lives.{HasLost, IsFlagged}
+use Rattle.cx_lives.specs.Lives.{HasFlags, HasLost}
 use Rattle.cx_lives.proofs.Legality.{opened_of}
 use Rattle.cx_lives.proofs.lives.lose_power.Goals as goal
 
@@ -16,7 +16,7 @@ unreachable-requires g c =
     let is = c.requires.ran.1 in
     let ran = c.requires.ran.2 in
     let image = c.in_ok-image.image in
-    let opened = opened_of g.O.Object.line_count g.O.Object.lawful c.args.object.now c.args.base.now c.args.life.now service c.requires.enough c.requires.few c.requires.base is in
+    let opened = opened_of g.O.Object.line_count g.O.Object.lawful c.args.object.now c.args.base.now c.args.life.now service c.requires.can.enough c.requires.can.few c.requires.can.lawful is in
     let answers = subst (λ x. IsFaultOf (g.O.Object.version_number x) (g.O.Object.lawful x) image c.in-Err.fault) (sym is.same) c.in-Err.ensures.recovers in
     let memory : c.in-Err.fault ≡ Memory = c.closed_tables_recover.ensures service ran.seats c.args.remains c.args.life.now.choice image (Err c.in-Err.fault) opened ran.leaves (subst (λ n. IsLeftOf c.args.remains n image) c.choice.ensures c.in_ok-image.ensures) answers in
     let yes = c.is_memory-wanting.ensures memory in
@@ -28,7 +28,7 @@ overflow_sub-kept g c =
     let is = c.requires.ran.1 in
     let ran = c.requires.ran.2 in
     let image = c.in_ok-image.image in
-    let opened = opened_of g.O.Object.line_count g.O.Object.lawful c.args.object.now c.args.base.now c.args.life.now service c.requires.enough c.requires.few c.requires.base is in
+    let opened = opened_of g.O.Object.line_count g.O.Object.lawful c.args.object.now c.args.base.now c.args.life.now service c.requires.can.enough c.requires.can.few c.requires.can.lawful is in
     let answers = subst (λ x. IsRecovered (g.O.Object.version_number x) (g.O.Object.lawful x) image c.in-Ok.next) (sym is.same) c.in-Ok.ensures.recovers in
     let by : IsKeptBy g.O.Object.line_count g.O.Object.lawful g.O.Object.step service ran.seats c.args.remains c.args.life.now.choice c.in-Ok.next =
     c.closed_tables_recover.ensures service ran.seats c.args.remains c.args.life.now.choice image (Ok c.in-Ok.next) opened ran.leaves (subst (λ n. IsLeftOf c.args.remains n image) c.choice.ensures c.in_ok-image.ensures) answers in
@@ -40,7 +40,7 @@ count_items-requires-clause-lawful g c = λ κs lives.
     let is = c.requires.ran.1 in
     let ran = c.requires.ran.2 in
     let image = c.in_ok-image.image in
-    let opened = opened_of g.O.Object.line_count g.O.Object.lawful c.args.object.now c.args.base.now c.args.life.now service c.requires.enough c.requires.few c.requires.base is in
+    let opened = opened_of g.O.Object.line_count g.O.Object.lawful c.args.object.now c.args.base.now c.args.life.now service c.requires.can.enough c.requires.can.few c.requires.can.lawful is in
     let answers = subst (λ x. IsRecovered (g.O.Object.version_number x) (g.O.Object.lawful x) image c.in-Ok.next) (sym is.same) c.in-Ok.ensures.recovers in
     let by : IsKeptBy g.O.Object.line_count g.O.Object.lawful g.O.Object.step service ran.seats c.args.remains c.args.life.now.choice c.in-Ok.next =
     c.closed_tables_recover.ensures service ran.seats c.args.remains c.args.life.now.choice image (Ok c.in-Ok.next) opened ran.leaves (subst (λ n. IsLeftOf c.args.remains n image) c.choice.ensures c.in_ok-image.ensures) answers in
@@ -54,16 +54,16 @@ returns g c = λ begun based. (
     let is = c.requires.ran.1 in
     let ran = c.requires.ran.2 in
     let next : Base = c.in-Ok.next in
-    let flagged : LifeRecord g.row.O-Reply.Denot = c.in_ok-told.told in
+    let flagged : LifeRecord g.row.O-Reply.Denot = c.with_kept-told.result in
     let told : LifeRecord g.row.O-Reply.Denot = c.args.told in
     let from : told.from ≡ c.args.base.now.place = ran.is_told.from ∙ ap (λ (b : Base). b.place) is.from in
-    let flags : IsFlagged told (next.place - told.from) c.in_ok-items.items flagged =
-    subst (λ (k : ℕ). IsFlagged told k c.in_ok-items.items flagged) (ap (λ p. next.place - p) (sym from)) c.in_ok-told.ensures in
+    let flags : HasFlags told (next.place - told.from) c.in_ok-items.items flagged =
+    subst (λ (k : ℕ). HasFlags told k c.in_ok-items.items flagged) (ap (λ p. next.place - p) (sym from)) c.with_kept-told.ensures in
     let left = subst (λ n. IsLeftOf c.args.remains n c.in_ok-image.image) c.choice.ensures c.in_ok-image.ensures in
     let lost : HasLost m (g.O.Object.line_count o) (g.O.Object.version_number o) (g.O.Object.lawful o) c.args.life.now told c.args.remains c.in_ok-image.image next flagged = record {
-      enough = c.requires.enough;
-      few = c.requires.few;
-      limits = c.requires.life;
+      enough = c.requires.can.enough;
+      few = c.requires.can.few;
+      limits = c.requires.can.limits;
       op_values = c.operations_are_values.ensures;
       left = left;
       recovered = c.in-Ok.ensures.recovers;

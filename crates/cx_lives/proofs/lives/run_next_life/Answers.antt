@@ -1,4 +1,4 @@
-use Rattle.std.proofs.Common.{List, ◌++◌, ◌∷◌, [], sym, subst, refl, Some}
+use Rattle.std.proofs.Common.{List, ◌++◌, ◌∷◌, [], sym, subst, Some}
 use Rattle.cx_rule.specs.Ending.{Ending}
 use Rattle.life_laws.specs.Begins.{nothing_begun}
 use Rattle.life_records.specs.declared.record.LifeRecord.{LifeRecord}
@@ -13,7 +13,7 @@ returns g c = λ lives have. (
     let version = g.O.Object.version_number c.args.object.now in
     let is_lawful = g.O.Object.lawful c.args.object.now in
     let was = c.args.lived in
-    let last = last_base m lines version is_lawful lives was was.base c.in_ok-base.base refl c.in_ok-base.ensures have in
+    let last = last_base m lines version is_lawful lives was.records was.image was.base c.in_ok-base.base have.ends c.in_ok-base.ensures in
     let ran = c.in_ok-told.ensures (begun_by m (nothing_begun m) lives was.records) last.0.is in
     subst (λ (rs : List (LifeRecord g.row.O-Reply.Denot)). HaveLived m lines version is_lawful (lives ++ c.args.life.now ∷ []) (record { records = rs; trails = c.push-2.new.self; image = Some c.in_ok-told.field-0.image; base = Some c.in_ok-told.field-0.next })) (sym c.in_ok-push.ensures.ok)
     (subst (λ (ts : List Ending). HaveLived m lines version is_lawful (lives ++ c.args.life.now ∷ []) (record { records = was.records ++ c.in_ok-told.field-0.told ∷ []; trails = ts; image = Some c.in_ok-told.field-0.image; base = Some c.in_ok-told.field-0.next })) (sym c.in_ok-push-2.ensures.ok)

@@ -12,4 +12,4 @@ start-requires-clause-limits g c =
 pub returns-in-Ok-clause-can_run : goal.returns-in-Ok-clause-can_run
 returns-in-Ok-clause-can_run g c =
     can_run (g.O.TypedObject.meaning c.args.object.now) c.args.life.now c.deref.result.now c.args.base.now c.duplicate.result (g.O.Object.line_count c.duplicate.result) c.in-Ok.started.0 c.in-Ok.started.1.items (c.deref.ensures.value ∙ c.in_ok-limits.ensures)
-    (subst (λ n. Starts c.duplicate.result (g.O.Object.line_count c.duplicate.result) n c.deref.result.now c.args.base.now c.in-Ok.started.0 c.in-Ok.started.1.items) c.clients-clients.ensures c.in-Ok.ensures) c.requires.life c.requires.tickets
+    (subst (λ n. Starts c.duplicate.result (g.O.Object.line_count c.duplicate.result) n c.deref.result.now c.args.base.now c.in-Ok.started.0 c.in-Ok.started.1.items) c.clients-clients.ensures c.in-Ok.ensures) c.requires.limits c.requires.tickets

@@ -1,4 +1,5 @@
-use Rattle.std.proofs.Common.{ap, subst, sym}
+use Rattle.std.proofs.Common.{subst, sym}
+use Rattle.cx_lives.specs.Ends.{IsWorkOf}
 use Rattle.cx_lives.specs.Works.{IsFullLeft, IsLeftOf, ServedOf}
 use Rattle.cx_lives.proofs.Turning.{given_up_work}
 use Rattle.cx_lives.proofs.work.go_on.Goals as goal
@@ -10,10 +11,9 @@ pub returns-then-has_stopped-clause-work : goal.returns-then-has_stopped-clause-
 returns-then-has_stopped-clause-work g c =
     let life = c.args.life.now in
     let r = c.args.service.now in
-    let me = c.args.left.desk.caller.known.local.number in
+    let me = c.args.left.progress.caller.known.local.number in
     let back = c.in-Full.back in
     let line = c.in-Full.line in
-    let last : IsFullLeft (g.O.TypedObject.meaning c.args.service.now.object) life r c.loop.left.desk.caller.known.local.number back line = subst (ServedOf (g.O.TypedObject.meaning c.args.service.now.object) life r c.loop.left.desk.caller.known.local.number) c.in-Full.is c.in_ok-work.ensures in
+    let last : IsFullLeft (g.O.TypedObject.meaning c.args.service.now.object) life r c.loop.left.progress.caller.known.local.number back line = subst (ServedOf (g.O.TypedObject.meaning c.args.service.now.object) life r c.loop.left.progress.caller.known.local.number) c.in-Full.is c.in_ok-work.ensures in
     let mine : IsFullLeft (g.O.TypedObject.meaning c.args.service.now.object) life r me back line = subst (λ k. IsFullLeft (g.O.TypedObject.meaning c.args.service.now.object) life r k back line) c.loop.invariant.served.lists.by last in
-    let e = c.give_up.ensures in
-    given_up_work (g.O.TypedObject.meaning c.args.service.now.object) life r me back.number back.desk c.give_up.result line mine.left_is.served mine.full e.handed (ap (λ v. v.items) e.entries) (ap (λ v. v.items) e.reads) e.end_is
+    subst (IsWorkOf (g.O.TypedObject.meaning c.args.service.now.object) life r me) (sym c.give_up.ensures) (given_up_work (g.O.TypedObject.meaning c.args.service.now.object) life r me back.number back.progress line mine.left_is.served mine.full)

@@ -6,7 +6,7 @@ use Rattle.cx_lives.proofs.work.serve_on.Given as goal
 -- the client was answered its commands so far, and has no more among them
 abbrev pub invariant-loop-at : goal.invariant-loop-at
 invariant-loop-at g l = record {
-  served : IsServed (g.O.TypedObject.meaning l.service.object) l.life l.service l.client l.number l.desk;
+  served : IsServed (g.O.TypedObject.meaning l.service.object) l.life l.service l.client l.number l.progress;
   count : l.number ≡ length (own_ops l.client (take l.at l.life.commands));
   few : l.number ≤ l.at;
 }

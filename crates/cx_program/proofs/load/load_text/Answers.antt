@@ -6,9 +6,7 @@ use Rattle.doc_store.specs.DocumentMeaning.{document_meaning}
 use Rattle.doc_store.specs.ExactStep.{IsImage}
 use Rattle.doc_text.specs.Generated.{generated_life}
 use Rattle.life_records.specs.Lives.{AreLivesFrom}
-use Rattle.life_records.specs.declared.record.LifeRecord.{LifeRecord}
-use Rattle.life_records.specs.declared.script.Life.{Life}
-use Rattle.life_records.specs.declared.script.Script.{Script}
+use Rattle.life_records.specs.Records.{Life, LifeRecord, Script}
 use Rattle.cx_program.specs.Texts.{IsSummary}
 use Rattle.cx_program.specs.declared.status.Ended.{Ended}
 use Rattle.cx_program.proofs.Loading.{one_record}

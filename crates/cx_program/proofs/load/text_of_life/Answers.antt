@@ -12,8 +12,7 @@ use Rattle.doc_text.specs.Generated.{generated_life}
 use Rattle.doc_text.specs.Summary.{summary_text}
 use Rattle.index_checks.specs.Layout.{StandsFor}
 use Rattle.life_laws.specs.Begins.{Begun, nothing_begun}
-use Rattle.life_records.specs.declared.record.LifeRecord.{LifeRecord}
-use Rattle.life_records.specs.declared.script.Life.{Life}
+use Rattle.life_records.specs.Records.{Life, LifeRecord}
 use Rattle.cx_program.specs.Texts.{store_left}
 use Rattle.cx_program.proofs.Loading.{base_begins}
 use Rattle.cx_program.proofs.load.text_of_life.Goals as goal

@@ -1,4 +1,4 @@
-use Rattle.std.proofs.Common.{◌≡◌, ◌∙◌, sym, subst, Bool, IfOk, true, false}
+use Rattle.std.proofs.Common.{◌≡◌, ◌∙◌, sym, subst, Bool, IfOk, true}
 use Rattle.cx_program.specs.Commands.{command}
 use Rattle.cx_program.specs.Input.{Shows}
 use Rattle.cx_program.proofs.top_call.input_of.Goals as goal

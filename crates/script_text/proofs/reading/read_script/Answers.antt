@@ -1,5 +1,3 @@
-use Rattle.std.proofs.Common.{sym, subst, ◌∙◌}
-use Rattle.std.proofs.lemmas.Result.{err_from_is_err_and}
 use Rattle.script_text.proofs.WithinLimits.{limits-script}
 use Rattle.script_text.proofs.reading.read_script.Goals as goal
 

@@ -3,9 +3,8 @@ use Rattle.std.proofs.lemmas.Bool.{cases_lt}
 use Rattle.std.proofs.lemmas.List.{get_or_read}
 use Rattle.doc_model.specs.declared.operations.Op.{Op}
 use Rattle.doc_model.specs.declared.operations.Reply.{Reply}
-use Rattle.life_records.specs.declared.script.Life.{Life}
+use Rattle.life_records.specs.Records.{Life, LifeRecord}
 use Rattle.life_records.specs.Lives.{NameCommands, NamesCommands}
-use Rattle.life_records.specs.declared.record.LifeRecord.{LifeRecord}
 use Rattle.text_tests.proofs.naming.name_commands.Goals as goal
 
 -- what is so at each place is so of the lists

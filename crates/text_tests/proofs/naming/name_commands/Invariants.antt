@@ -1,9 +1,8 @@
 use Rattle.std.proofs.Common.{ℕ, ◌<◌, get_or}
 use Rattle.doc_model.specs.declared.operations.Op.{Op}
 use Rattle.doc_model.specs.declared.operations.Reply.{Reply}
-use Rattle.life_records.specs.declared.script.Life.{Life}
+use Rattle.life_records.specs.Records.{Life, LifeRecord}
 use Rattle.life_records.specs.Lives.{NamesCommands}
-use Rattle.life_records.specs.declared.record.LifeRecord.{LifeRecord}
 use Rattle.text_tests.proofs.naming.name_commands.Given as goal
 
 abbrev pub invariant-loop-number : goal.invariant-loop-number

@@ -1,6 +1,5 @@
 use Rattle.std.proofs.Common.{◌≡◌, ◌-◌, refl, set, ap, ◌∙◌, List, vec_len}
-use Rattle.life_records.specs.declared.script.Command.{Command}
-use Rattle.life_records.specs.declared.script.Life.{Life}
+use Rattle.life_records.specs.Records.{Command, Life}
 use Rattle.script_text.specs.Grammar.{Script, with_command, with_last}
 use Rattle.script_text.proofs.LastLives.{with_last-set}
 use Rattle.script_text.proofs.reading.Draft.add_command.Goals as goal

@@ -1,6 +1,5 @@
 use Rattle.std.proofs.Common.{◌≡◌, ◌-◌, refl, set, ap, ◌∙◌, List, vec_len}
-use Rattle.life_records.specs.declared.script.Cut.{Cut}
-use Rattle.life_records.specs.declared.script.Life.{Life}
+use Rattle.life_records.specs.Records.{Cut, Life}
 use Rattle.script_text.specs.Grammar.{Script, with_cut, with_last}
 use Rattle.script_text.proofs.LastLives.{with_last-set}
 use Rattle.script_text.proofs.reading.Draft.add_cut.Goals as goal

@@ -1,0 +1,42 @@
+-- What clients came to in a life, as far as it speaks of commands alone, and a record whose stop lines got their kept flags.
+use Rattle.std.specs.Prelude.{◌≡◌, ◌↔◌, ◌+◌, ◌<◌, ℕ, true, List, All, AllPairs, slice_get, Some}
+use Rattle.std.specs.List.{AllZip}
+use Rattle.life_records.specs.Records.{JournalLine, Life, LifeRecord, StopLine}
+use Rattle.life_records.specs.Lives.{HasEnded, Interleaves, IsFullBefore, IsKeptStop, IsLegalFull, IsLegalStop, IsReadBefore, IsStopBefore}
+
+-- What a legal life says of its clients' commands: one history, that interleaves them; lines in their order; each command answered
+-- once, up to its client's end; and clients that were stopped at their limits. Replies and places are not looked at, nor which
+-- stop lines are kept.
+pub record IsEnded {Op Reply : Type 0} (life : Life Op) (told : LifeRecord Reply) : Type 0 where
+  pub tickets : (i : ℕ) (line : JournalLine Reply) → slice_get told.journal i ≡ Some line → line.ticket ≡ told.from + i
+  pub interleaved : Interleaves life told.journal
+  pub reads_in_order : AllPairs IsReadBefore told.reads
+  pub stops_in_order : AllPairs IsStopBefore told.stops
+  pub fulls_in_order : AllPairs IsFullBefore told.fulls
+  pub ended : (client : ℕ) → client < life.clients → HasEnded life told client
+  pub stops : All (IsLegalStop life) told.stops
+  pub fulls : All (IsLegalFull life told) told.fulls
+
+-- the same stop, maybe with another kept flag
+pub record IsSameStop (a b : StopLine) : Type 0 where
+  pub client : b.client ≡ a.client
+  pub command : b.command ≡ a.command
+  pub steps : b.steps ≡ a.steps
+
+-- the same record, maybe with other kept flags, numbers of entries kept and of items, and another choice
+pub record IsSameButKept {Reply : Type 0} (told flagged : LifeRecord Reply) : Type 0 where
+  pub clients : flagged.clients ≡ told.clients
+  pub from : flagged.from ≡ told.from
+  pub journal : flagged.journal ≡ told.journal
+  pub reads : flagged.reads ≡ told.reads
+  pub stops : AllZip IsSameStop told.stops flagged.stops
+  pub fulls : flagged.fulls ≡ told.fulls
+
+-- the kept flag says whether the stopped command has an entry that is kept
+abbrev pub IsFlagged : {Reply : Type 0} → ℕ → ℕ → List (JournalLine Reply) → StopLine → Type 0
+IsFlagged place kept journal line = (line.kept ≡ true) ↔ IsKeptStop place kept journal line
+
+-- the same stops, each with its kept flag
+pub record AreFlagged {Reply : Type 0} (place kept : ℕ) (journal : List (JournalLine Reply)) (before after : List StopLine) : Type 0 where
+  pub same : AllZip IsSameStop before after
+  pub flags : All (IsFlagged place kept journal) after
