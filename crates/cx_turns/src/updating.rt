@@ -59,11 +59,7 @@ fn hand_over<O: Object>(
 }
 
 /// Answers the entry by the code that the caller won with, and gives the replica before up.
-fn settle_won<O: Object>(
-    shared: &Shared<O>,
-    seat: &mut CallerSeat,
-    won: Won,
-) -> Result<(), Halt>
+fn settle_won<O: Object>(shared: &Shared<O>, seat: &mut CallerSeat, won: Won) -> Result<(), Halt>
     requires seat { IsSeatOf shared.now seat.old }
     requires won { IsWonOf shared.now.callers seat.old won }
     requires published { (ticket : ℕ) × (reply : List ℕ) × IsPublishedFor O.Object shared.now won.code ticket reply seat.old }
