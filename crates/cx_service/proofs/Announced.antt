@@ -1,13 +1,13 @@
 -- What announcing an operation leaves of a caller that halts in it.
-use Rattle.std.proofs.Common.{◌≡◌, ◌≤◌, ℕ, Bool, List, [], ◌∷◌, length, drop, ap, inl, inr, arith, Result, Ok, Err, OnErr}
+use Rattle.std.proofs.Common.{◌≡◌, ◌+◌, ◌<◌, ◌≤◌, ℕ, Bool, List, [], ◌∷◌, length, drop, ap, inl, inr, arith, Result, Ok, Err, OnErr}
 use Rattle.std.proofs.lemmas.Bool.{cases_eq, eq-eqb, ne_eqb}
 use Rattle.std.proofs.Common.{cond}
-use Rattle.cx_core.specs.QueueEvents.{cell_of}
+use Rattle.cx_core.specs.QueueEvents.{cell_of, next_number}
 use Rattle.cx_rule.specs.Running.{Running}
 use Rattle.cx_rule.specs.Seats.{Seated}
-use Rattle.mutation_queue.specs.Cells.{HaltsIn, differing}
+use Rattle.mutation_queue.specs.Cells.{HaltsIn, differing, writes}
 use Rattle.cx_service.specs.Callers.{IsCallerOf, unlinked}
-use Rattle.cx_service.specs.Submits.{HaltsEntering}
+use Rattle.cx_service.specs.Submits.{IsWriting, SubmitHalted}
 use Rattle.cx_service.proofs.Entering.{beside_submit, halts, stale}
 
 -- two lists differ at no more places than there are
@@ -23,8 +23,8 @@ some_differ (x ∷ xs) (y ∷ ys) =
       | inr ne ↦ (let other = ap count (ne_eqb x y ne) in omega (arith, other, rest))
     ]
 
-pub halted_in : {O : Type 0} (r : Running O) (j most number : ℕ) (op : List ℕ) (s t : Seated) → IsCallerOf r (stale s) → 145 ≤ most → length op ≡ 144 → (tries : ℕ) → HaltsIn j (number ∷ op) s t → HaltsEntering r tries most (stale s) (unlinked t)
-halted_in r j most number op s t caller many long tries halted =
+pub halted_in : {O : Type 0} (r : Running O) (j most : ℕ) (op : List ℕ) (s t : Seated) → IsCallerOf r (stale s) → j < 16 → 145 ≤ most → length op ≡ 144 → HaltsIn j (next_number r.base s.known.local ∷ op) s t → SubmitHalted r most (stale s) (unlinked t) × IsWriting r op 0 (stale s) t
+halted_in r j most op s t caller room many long halted =
     let limit = ap (λ (x : Seated). x.known.local.limit) halted.rest in
     let few = some_differ (drop 1 (cell_of s.known.local j).words) op in
     let front = ap (λ (x : Seated). x.known.local.front) halted.rest in (
@@ -32,7 +32,7 @@ halted_in r j most number op s t caller many long tries halted =
           (omega (arith, limit, few, halted.limit.0, halted.short, many, long))
           (λ k within idle. record { free = ap (λ (x : Seated). x.known.local.seen_free) halted.rest; scans = ap (λ (x : Seated). x.known.local.scans) halted.rest })
           halted.limit,
-      inl (ap (λ (x : Seated). x.known.local.seen_slot) halted.rest),
+      record { cell = j; within = room; idle = halted.idle; short = (let short : s.known.local.limit < (stale s).known.local.steps + writes (stale s).known.local j (next_number r.base (stale s).known.local ∷ op) = halted.short in omega (arith, limit, short)); others = halted.others },
     )
 
 -- what holds in any case holds of an error

@@ -168,19 +168,18 @@ module _ {O : Type 0} (r : Running O) (j : ℕ) (op : List ℕ) (s t : Seated) (
     halts_linking most steps limit = halts r s v none_kept most caller none_own (omega (arith, none.front, same_front)) steps none_looked limit
 
   -- tries were made then
-  pub tries_of : (come_to : Seated → Seated → Type 0) (v : Seated) → min (s.known.local.steps + writes s.known.local j (next_number r.base s.known.local ∷ op)) max_word ≤ t.known.local.steps → come_to t v → TriesOf r come_to s v
+  pub tries_of : (come_to : Seated → Seated → Type 0) (v : Seated) → min (s.known.local.steps + writes s.known.local j (next_number r.base s.known.local ∷ op)) max_word ≤ t.known.local.steps → come_to t v → TriesOf r 0 come_to s v
   tries_of come_to v since made =
       let words : (cell_of t.known.local j).words ≡ next_number r.base s.known.local ∷ op = ap (λ (x : Cell). x.words) cell in record {
         cell = j;
         from = t;
         number = ap (λ ws. slice_index ws 0) words;
-        since = subst (λ ws. min (s.known.local.steps + writes s.known.local j ws) max_word ≤ t.known.local.steps) (sym words) since;
+        since = (let from = subst (λ ws. min (s.known.local.steps + writes s.known.local j ws) max_word ≤ t.known.local.steps) (sym words) since in omega (arith, from));
         made = made;
       }
 
-  pub again : (tries most : ℕ) (v : Seated) → LinksAgain r.callers tries t v → ¬ IsAtLimit s.known.local → v.known.local.steps ≤ s.known.local.steps + most →
-      min (s.known.local.steps + writes s.known.local j (next_number r.base s.known.local ∷ op)) max_word ≤ t.known.local.steps → SubmitAgain r tries most s v
-  again tries most v links allowed steps since = record {
+  pub again : (tries most : ℕ) (v : Seated) → LinksAgain r.callers tries t v → ¬ IsAtLimit s.known.local → v.known.local.steps ≤ s.known.local.steps + most → SubmitAgain r tries most s v
+  again tries most v links allowed steps = record {
     caller = none_caller v links.none;
     keeps = keeps r s v (none_kept v links.none) most (omega (arith, links.none.front, same_front)) steps (none_looked v links.none);
     allowed = allowed;
@@ -188,7 +187,6 @@ module _ {O : Type 0} (r : Running O) (j : ℕ) (op : List ℕ) (s t : Seated) (
     own = none_own v links.none;
     front = omega (arith, links.front, same_front);
     cur = (let e = ap (λ (x : Seated). root_place_of r.callers x.known.local.seen_cur) links.none.same in omega (arith, e, links.cur));
-    lost = tries_of (LosesTries r.callers tries) v since links.lost;
     left = links.left;
   }
 
@@ -280,7 +278,7 @@ module _ {O : Type 0} (r : Running O) (j : ℕ) (op : List ℕ) (s t : Seated) (
 
   -- what tries to link it come to
   pub entered : (tries most : ℕ) (v : Seated) (tried : LinkTried) → Tried r.callers j tries t v tried → ¬ IsAtLimit s.known.local → v.known.local.steps ≤ s.known.local.steps + most →
-      min (s.known.local.steps + writes s.known.local j (next_number r.base s.known.local ∷ op)) max_word ≤ t.known.local.steps → EntersIn most r op tries s v tried
+      min (s.known.local.steps + writes s.known.local j (next_number r.base s.known.local ∷ op)) max_word ≤ t.known.local.steps → EntersIn 0 most r op tries s v tried
   entered tries most v (LinkedAt ticket) links allowed steps since = linked_at ticket most v links allowed steps
-  entered tries most v Again links allowed steps since = again tries most v links allowed steps since
+  entered tries most v Again links allowed steps since = (again tries most v links allowed steps, tries_of (LosesTries r.callers tries) v since links.lost)
   entered tries most v Worn links allowed steps since = worn most v links allowed steps

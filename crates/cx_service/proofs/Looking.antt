@@ -13,19 +13,19 @@ use Rattle.cx_core.specs.State.{Instance, one_more}
 use Rattle.cx_rule.specs.declared.rule.Noted.{Noted}
 use Rattle.mutation_queue.specs.Cells.{IsInUse, IsInUseAt, writes}
 use Rattle.mutation_queue.specs.Links.{EndsBy, HaltsTry, LosesTries}
-use Rattle.mutation_queue.specs.Collecting.{Collects, but_collected}
+use Rattle.mutation_queue.specs.Collecting.{Collects, HaltsCollecting, but_collected}
 use Rattle.mutation_queue.specs.declared.collecting.Collected.{Collected}
 use Rattle.mutation_queue.specs.declared.linking.LinkTried.{LinkTried}
 use Rattle.mutation_queue.specs.declared.linking.LinkTried.TheVariants.{Again as TriedAgain, Linked as TriedLinked, Worn as TriedWorn}
-use Rattle.cx_core.specs.QueueEvents.{IsIdle, IsIdleAt, cell_of}
+use Rattle.cx_core.specs.QueueEvents.{IsIdle, IsIdleAt, cell_of, next_number}
 use Rattle.cx_rule.specs.Rule.{IsLawfulLocal}
 use Rattle.cx_rule.specs.Running.{Running}
 use Rattle.cx_rule.specs.Seats.{IsAtLimit, Seated, stepped}
 use Rattle.cx_core.specs.declared.local.FullNote.{FullNote}
 use Rattle.cx_service.specs.declared.submit.Submitted.{Submitted}
 use Rattle.cx_service.specs.declared.submit.Submitted.TheVariants.{Linked as LinkedIs, Again, Full, Worn, Halted}
-use Rattle.cx_service.specs.Callers.{IsCallerOf, unlinked}
-use Rattle.cx_service.specs.Submits.{AreInUse, AreTickets, EndsLooking, Enters, EntersIn, FindsCell, FindsNone, HaltsEntering, HaltsLooking, IsTrying, LooksForCell, LooksForNothing, NamesHolder, SubmitFull, SubmitKeeps, SubmitsIn, TriesOf, entry_at}
+use Rattle.cx_service.specs.Callers.{IsCallerOf, StoppedSeat, unlinked}
+use Rattle.cx_service.specs.Submits.{AreInUse, AreTickets, EndsLooking, Enters, EntersIn, FindsAgain, FindsCell, FindsIdle, FindsNone, HaltsEntering, HaltsLooking, IsLooking, IsWriting, LooksBy, LooksForCell, LooksForNothing, NamesHolder, SubmitAgain, SubmitFull, SubmitHalted, SubmitKeeps, SubmitLinked, SubmitWorn, SubmitsIn, TriesOf, entry_at}
 use Rattle.cx_service.proofs.Cells.{answered_below, many_own, own_kept, used_ticket}
 use Rattle.cx_service.proofs.Entering.{beside_submit, between, halts, keeps, stale}
 
@@ -37,8 +37,6 @@ pub record Precedes (more : ℕ) (s t : Seated) : Type 0 where
   pub front : s.known.local.front ≤ t.known.local.front
   pub scans : s.known.local.scans ≤ t.known.local.scans
   pub steps : t.known.local.steps ≤ s.known.local.steps + more
-  pub since : min s.known.local.steps max_word ≤ t.known.local.steps
-  pub slot : t.known.local.seen_slot ≡ s.known.local.seen_slot
   pub idle : (j : ℕ) → j < 16 → IsIdle s.known.local j → LooksForNothing s t
   pub stood : IsAtLimit s.known.local → t ≡ s
 
@@ -66,11 +64,15 @@ module _ (most : ℕ) (s t : Seated) (looked : LooksForCell most s t) where
   pub looked_front : t.known.local.front ≡ s.known.local.front
   looked_front = ap (λ (x : Seated). x.known.local.front) looked.same
 
-  looked_slot : t.known.local.seen_slot ≡ s.known.local.seen_slot
-  looked_slot = ap (λ (x : Seated). x.known.local.seen_slot) looked.same
-
   pub looked_first : EndsLooking s t → AreInUse s.known.local ⊎ (t ≡ s) → (IsAtLimit s.known.local → t ≡ s) → Precedes most s t
-  looked_first ends used stood = record { kept = looked_kept; own = looked_own; cells = looked_cells; front = omega (arith, looked_front); scans = ends.scans; steps = looked.steps; since = ends.since; slot = looked_slot; idle = looked_idle s t used; stood = stood }
+  looked_first ends used stood = record { kept = looked_kept; own = looked_own; cells = looked_cells; front = omega (arith, looked_front); scans = ends.scans; steps = looked.steps; idle = looked_idle s t used; stood = stood }
+
+-- a cell was looked for by so many steps, and no scan came after
+looks_on : (callers n : ℕ) (s t v : Seated) → v.known.local.scans ≡ t.known.local.scans → LooksBy callers n s t → LooksBy callers n s v
+looks_on callers n s t v same looked = elim looked [
+  | inl idle ↦ inl idle
+  | inr used ↦ elim used [ inl one ↦ inr (inl (one.0, one.1, same ∙ one.2)) | inr scan ↦ inr (inr (scan.0, scan.1, same ∙ scan.2)) ]
+]
 
 module _ {O : Type 0} (r : Running O) (more : ℕ) (s t : Seated) (first : Precedes more s t) where
   -- its caller is in no call
@@ -109,8 +111,8 @@ module _ {O : Type 0} (r : Running O) (more : ℕ) (s t : Seated) (first : Prece
       ∙ ap (λ own. entry_at r (record s.known.local { own = own }) op ticket) first.own
 
   -- tries from there are of the submit from the beginning
-  tries_then : (come_to : Seated → Seated → Type 0) (v : Seated) → TriesOf r come_to t v → TriesOf r come_to s v
-  tries_then come_to v tried =
+  pub tries_then : (n took : ℕ) (come_to : Seated → Seated → Type 0) (v : Seated) → min (s.known.local.steps + took) max_word ≤ t.known.local.steps → TriesOf r n come_to t v → TriesOf r (took + n) come_to s v
+  tries_then n took come_to v least tried =
       let words = (cell_of tried.from.known.local tried.cell).words in
       let same : writes s.known.local tried.cell words ≡ writes t.known.local tried.cell words = ap (λ (cells : List Cell). writes (record s.known.local { cells = cells }) tried.cell words) (sym first.cells) in record {
         cell = tried.cell;
@@ -118,17 +120,31 @@ module _ {O : Type 0} (r : Running O) (more : ℕ) (s t : Seated) (first : Prece
         number = tried.number
             ∙ ap (λ (n : ℕ). slot_number n r.base.words + length t.known.local.own + 1) (ap (λ (x : Seated). x.known.local.number) first.kept)
             ∙ ap (λ (own : List Linked). slot_number s.known.local.number r.base.words + length own + 1) first.own;
-        since = omega (arith, tried.since, first.since, same);
+        since = omega (arith, tried.since, least, same);
         made = tried.made;
       }
 
-  trying_then : (tries : ℕ) (v : Seated) → IsTrying r tries t v → IsTrying r tries s v
-  trying_then tries v (inl none) = inl (none ∙ first.slot)
-  trying_then tries v (inr some) = inr (tries_then (EndsBy r.callers tries (HaltsTry r.callers)) v some)
+  -- an entry that was being written from there
+  pub writing_then : (op : List ℕ) (n took : ℕ) (v : Seated) → t.known.local.steps ≤ s.known.local.steps + took → IsWriting r op n t v → IsWriting r op (took + n) s v
+  writing_then op n took v steps w =
+      let words = next_number r.base s.known.local ∷ op in
+      let number : next_number r.base t.known.local ≡ next_number r.base s.known.local = (
+      ap (λ (k : ℕ). slot_number k r.base.words + length t.known.local.own + 1) (ap (λ (x : Seated). x.known.local.number) first.kept)
+      ∙ ap (λ (own : List Linked). slot_number s.known.local.number r.base.words + length own + 1) first.own) in
+      let same : writes t.known.local w.cell (next_number r.base t.known.local ∷ op) ≡ writes s.known.local w.cell words = (
+      ap (λ k. writes t.known.local w.cell (k ∷ op)) number
+      ∙ ap (λ (cells : List Cell). writes (record s.known.local { cells = cells }) w.cell words) first.cells) in
+      let short = w.short in record {
+        cell = w.cell;
+        within = w.within;
+        idle = w.idle;
+        short = omega (arith, short, steps, same);
+        others = λ k ne. w.others k ne ∙ ap (λ (cells : List Cell). cell_of (record s.known.local { cells = cells }) k) first.cells;
+      }
 
   -- what an entry from there comes to is what a submit from the beginning does
-  pub submits_then : (op : List ℕ) (tries m n : ℕ) (result : Submitted) → m + more ≤ n → Enters m r op tries t result → SubmitsIn n r op tries s result
-  submits_then op tries m n (LinkedIs v) most after = record {
+  linked_then : (op : List ℕ) (m n : ℕ) (v : Seated) → m + more ≤ n → SubmitLinked r op m t v → SubmitLinked r op n s v
+  linked_then op m n v most after = record {
     caller = after.caller;
     keeps = keeps_then m n v most after.keeps;
     allowed = allowed after.allowed;
@@ -139,7 +155,9 @@ module _ {O : Type 0} (r : Running O) (more : ℕ) (s t : Seated) (first : Prece
     from = omega (arith, after.from, first.front);
     front = after.front;
   }
-  submits_then op tries m n (Again v) most after = record {
+
+  again_then : (tries m n : ℕ) (v : Seated) → m + more ≤ n → SubmitAgain r tries m t v → SubmitAgain r tries n s v
+  again_then tries m n v most after = record {
     caller = after.caller;
     keeps = keeps_then m n v most after.keeps;
     allowed = allowed after.allowed;
@@ -147,11 +165,11 @@ module _ {O : Type 0} (r : Running O) (more : ℕ) (s t : Seated) (first : Prece
     own = after.own ∙ first.own;
     front = omega (arith, after.front, first.front);
     cur = after.cur;
-    lost = tries_then (LosesTries r.callers tries) v after.lost;
     left = after.left;
   }
-  submits_then op tries m n (Full v note) most after = absurd after
-  submits_then op tries m n (Worn v) most after = record {
+
+  worn_then : (m n : ℕ) (v : Seated) → m + more ≤ n → SubmitWorn r m t v → SubmitWorn r n s v
+  worn_then m n v most after = record {
     caller = after.caller;
     keeps = keeps_then m n v most after.keeps;
     allowed = allowed after.allowed;
@@ -160,21 +178,43 @@ module _ {O : Type 0} (r : Running O) (more : ℕ) (s t : Seated) (first : Prece
     front = after.front;
     idle = after.idle;
   }
-  submits_then op tries m n (Halted v) most after = (let halted = after.0 in (
-    record {
-      caller = halted.caller;
-      linked = halted.linked;
-      keeps = keeps_then m n v.seat most halted.keeps;
-      own = halted.own ∙ first.own;
-      none = halted.none;
-    },
-    trying_then tries v.seat after.1,
-  ))
 
-  pub enters_then : (op : List ℕ) (tries m n : ℕ) (v : Seated) (tried : LinkTried) → m + more ≤ n → EntersIn m r op tries t v tried → EntersIn n r op tries s v tried
-  enters_then op tries m n v (TriedLinked ticket) most after = submits_then op tries m n (LinkedIs v) most after
-  enters_then op tries m n v TriedAgain most after = submits_then op tries m n (Again v) most after
-  enters_then op tries m n v TriedWorn most after = submits_then op tries m n (Worn v) most after
+  pub halted_then : (m n : ℕ) (v : StoppedSeat) → m + more ≤ n → SubmitHalted r m t v → SubmitHalted r n s v
+  halted_then m n v most halted = record {
+    caller = halted.caller;
+    linked = halted.linked;
+    keeps = keeps_then m n v.seat most halted.keeps;
+    own = halted.own ∙ first.own;
+    none = halted.none;
+  }
+
+  pub enters_then : (op : List ℕ) (k took tries m n : ℕ) (v : Seated) (tried : LinkTried) → m + more ≤ n → min (s.known.local.steps + took) max_word ≤ t.known.local.steps → EntersIn k m r op tries t v tried → EntersIn (took + k) n r op tries s v tried
+  enters_then op k took tries m n v (TriedLinked ticket) most least after = linked_then op m n v most after
+  enters_then op k took tries m n v TriedAgain most least after = (again_then tries m n v most after.0, tries_then k took (LosesTries r.callers tries) v least after.1)
+  enters_then op k took tries m n v TriedWorn most least after = worn_then m n v most after
+
+  -- and so is what one in an idle cell does that was found by so many steps
+  pub submits_then : (op : List ℕ) (tries m n : ℕ) (result : Submitted) → m + more ≤ n → (cell : ℕ) → FindsIdle r.callers s t cell → Enters m r op tries t result → SubmitsIn n r op tries s result
+  submits_then op tries m n (LinkedIs v) most cell finds after = linked_then op m n v most after
+  submits_then op tries m n (Again v) most cell finds after = (
+    again_then tries m n v most after.0,
+    finds.took,
+    looks_on r.callers finds.took s t v (after.0.keeps.idle cell finds.within finds.idle).scans finds.looked,
+    tries_then 1 finds.took (LosesTries r.callers tries) v finds.least after.1,
+  )
+  submits_then op tries m n (Full v note) most cell finds after = absurd after
+  submits_then op tries m n (Worn v) most cell finds after = worn_then m n v most after
+  submits_then op tries m n (Halted v) most cell finds after = (
+    halted_then m n v most after.0,
+    inr (
+      finds.took,
+      looks_on r.callers finds.took s t v.seat (after.0.keeps.idle cell finds.within finds.idle).scans finds.looked,
+      elim after.1 [
+        | inl writing ↦ inl (writing_then op 1 finds.took v.seat finds.most writing)
+        | inr tried ↦ inr (tries_then 1 finds.took (EndsBy r.callers tries (HaltsTry r.callers)) v.seat finds.least tried)
+      ],
+    ),
+  )
 
 -- CUR was loaded
 pub cur_loaded : (instance : Instance) (s t : Seated) (found : ℕ) → t ≡ stepped instance LoadCur s found → ¬ IsAtLimit s.known.local → Precedes 1 s (stale t)
@@ -188,8 +228,6 @@ cur_loaded instance s t found made allowed =
       front = omega (arith, front);
       scans = (let e = ap (λ (x : Seated). x.known.local.scans) made in omega (arith, e));
       steps = omega (arith, steps);
-      since = omega (arith, steps);
-      slot = ap (λ (x : Seated). x.known.local.seen_slot) made;
       idle = λ j within idle. record { free = ap (λ (x : Seated). x.known.local.seen_free) made; scans = ap (λ (x : Seated). x.known.local.scans) made };
       stood = λ at. absurd (allowed at);
     }
@@ -230,9 +268,39 @@ looked_then m n k s t v most a b = record { same = b.same ∙ a.same; steps = om
 pub ends_then : (s t v : Seated) → EndsLooking s t → EndsLooking t v → EndsLooking s v
 ends_then s t v a b = record { scan = b.scan; fresh = b.fresh; scans = omega (arith, a.scans, b.scans); since = omega (arith, a.since, b.since) }
 
-pub finds_then : (callers : ℕ) (s t v : Seated) (found : Result ℕ FullNote) → AreInUse s.known.local → ¬ IsAtLimit s.known.local → EndsLooking s t → t.known.local.scans ≡ s.known.local.scans → FindsCell callers t v found → FindsCell callers s v found
-finds_then callers s t v (Ok cell) used free ends scans finds = record { ends = ends_then s t v ends finds.ends; stood = inl used; within = finds.within; idle = finds.idle }
-finds_then callers s t v (Err note) used free ends scans finds = record { ends = ends_then s t v ends finds.ends; used = used; scans = finds.scans ∙ ap one_more scans; allowed = free; names = finds.names }
+-- an idle cell at first
+pub finds_at_once : {O : Type 0} (r : Running O) (s : Seated) (cell : ℕ) → IsCallerOf r s → cell < 16 → IsIdle s.known.local cell → FindsIdle r.callers s s cell
+finds_at_once r s cell caller within idle = record { ends = none_ends r s caller; stood = inr refl; within = within; idle = idle; took = 0; looked = inl (refl, (cell, within, idle)); least = omega arith; most = omega arith }
+
+pub finds_then : (callers : ℕ) (s t v : Seated) (found : Result ℕ FullNote) → AreInUse s.known.local → ¬ IsAtLimit s.known.local → EndsLooking s t → t.known.local.scans ≡ s.known.local.scans → t.known.local.steps ≡ one_more s.known.local.steps → LooksForCell (callers + 4) s v → FindsAgain callers t v found → FindsCell callers s v found
+finds_then callers s t v (Ok cell) used free ends scans one looked finds = record {
+  ends = ends_then s t v ends finds.ends;
+  stood = inl used;
+  within = finds.within;
+  idle = finds.idle;
+  took = callers + 4;
+  looked = inr (inr (refl, used, finds.scans ∙ ap one_more scans));
+  least = (let count = finds.count in omega (arith, one, count));
+  most = looked.steps;
+}
+finds_then callers s t v (Err note) used free ends scans one looked finds = record { ends = ends_then s t v ends finds.ends; used = used; scans = finds.scans ∙ ap one_more scans; allowed = free; names = finds.names }
+
+-- the limit was come to in looking, behind one step
+pub looking_then : (n m : ℕ) (s t v : Seated) → n + 1 ≡ m → t.known.local.scans ≡ s.known.local.scans → t.known.local.steps ≡ one_more s.known.local.steps → IsLooking n t v → IsLooking m s v
+looking_then n m s t v more scans one looking = elim looking [
+  | inl used ↦ inl (used.0, used.1 ∙ scans)
+  | inr ended ↦ (let count = ended.1 in inr (ended.0 ∙ ap one_more scans, omega (arith, more, one, count)))
+]
+
+-- and in a scan
+pub collect_halts : (callers target : ℕ) (s v : Seated) → AreInUse s.known.local → HaltsCollecting callers target s v → IsLooking (callers + 2) s v
+collect_halts callers target s v used halts = elim halts.left [
+  | inl some ↦ inl (elim some [
+    | inl same ↦ (subst (λ (x : Seated). AreInUse x.known.local) (sym same) used, ap (λ (x : Seated). x.known.local.scans) same)
+    | inr scans ↦ (subst (λ (x : Seated). AreInUse x.known.local) (sym scans.2.same) used, ap (λ (x : Seated). x.known.local.scans) scans.2.same)
+  ])
+  | inr opens ↦ (let count = opens.count in inr (opens.scans, omega (arith, count)))
+]
 
 -- a caller with all cells in use
 module _ {O : Type 0} (r : Running O) (s : Seated) (tickets : List ℕ) (caller : IsCallerOf r s) (are : AreTickets s.known.local tickets) where
@@ -297,10 +365,10 @@ pub collect_ends : (callers target : ℕ) (s v : Seated) (found : Collected) →
 collect_ends callers target s v found small collects = record { scan = collects.scan; fresh = collects.fresh; scans = (let e = collects.scans in omega (arith, small, e)); since = (let e = collects.count in omega (arith, e)) }
 
 -- the limit was come to
-pub halts_looking : {O : Type 0} (r : Running O) (most n : ℕ) (s t : Seated) → IsCallerOf r s → LooksForCell n s t → n ≤ most → (tries : ℕ) → HaltsLooking s t → HaltsEntering r tries most s (unlinked t)
-halts_looking r most n s t caller looked few tries halted =
+pub halts_looking : {O : Type 0} (r : Running O) (most n : ℕ) (s t : Seated) → IsCallerOf r s → LooksForCell n s t → n ≤ most → (op : List ℕ) (tries : ℕ) → HaltsLooking (r.callers + 3) s t → HaltsEntering r op tries most s (unlinked t)
+halts_looking r most n s t caller looked few op tries halted =
     let front = looked_front n s t looked in
-    (halts r s t (looked_kept n s t looked) most caller (looked_own n s t looked) (omega (arith, front)) (omega (arith, looked.steps, few)) (looked_idle s t (inl halted.used)) halted.limit, inl (ap (λ (x : Seated). x.known.local.seen_slot) looked.same))
+    (halts r s t (looked_kept n s t looked) most caller (looked_own n s t looked) (omega (arith, front)) (omega (arith, looked.steps, few)) (looked_idle s t (inl halted.used)) halted.limit, inl halted.looking)
 
 -- no cell is idle
 pub full_there : {O : Type 0} (r : Running O) (most n : ℕ) (s t : Seated) (note : FullNote) → LooksForCell n s t → IsCallerOf r s → FindsNone r.callers s t note → n ≤ most → SubmitFull r most s t note

@@ -14,10 +14,10 @@ use Rattle.cx_core.specs.State.{one_more}
 use Rattle.cx_rule.specs.Running.{IsSeatOf, Running}
 use Rattle.cx_rule.specs.Seats.{IsAtLimit, Seated, unanswered_ticket}
 use Rattle.cx_service.specs.Callers.{IsBetweenCalls, IsCallerOf, IsLinkedOf, StoppedSeat}
-use Rattle.cx_service.specs.Drives.{DriveDone, DriveHalted, DriveKeeps, DrivePending, MeetsAtMost, MeetsMore}
-use Rattle.cx_service.specs.Lookups.{MeetsFewer, ReadAnswered, ReadHalted, ReadKeeps, ReadPending}
+use Rattle.cx_service.specs.Drives.{DriveDone, DriveHalted, DriveKeeps, DriveDue, DrivePending, MeetsAtMost, MeetsFewer, MeetsMore}
+use Rattle.cx_service.specs.Lookups.{ReadAnswered, ReadDue, ReadHalted, ReadKeeps, ReadPending}
 use Rattle.cx_service.proofs.Cells.{own_kept}
-use Rattle.cx_turns.specs.Answering.{AnswersEntry, AnswersRead, HaltsFor, beside_lookup, beside_update, with_answer, with_read}
+use Rattle.cx_turns.specs.Answering.{AnswersEntry, AnswersRead, HaltsFor, HaltsLookup, beside_lookup, beside_update, with_answer, with_read}
 use Rattle.cx_turns.specs.declared.lookup.Seen.{Seen}
 use Rattle.cx_turns.specs.Turns.{IsAtRest, TurnRefused}
 
@@ -88,15 +88,21 @@ module _ {O : Type 0} (r : Running O) (s v : Seated) (linked : IsLinkedOf r s) (
     most = most_one s v refused.refusal.met;
   }
 
-  pub turn_halted : (ticket : ℕ) → unanswered_ticket s.known.local ≡ Some ticket → HaltsFor ticket s v → DriveHalted r s (record { seat = v; linked = Some ticket })
-  turn_halted ticket is halts = record {
-    caller = record { of = of; limit = halts.limit };
-    keeps = drive_keeps;
-    ticket = ticket;
-    is = is;
-    linked = refl;
-    answered = halts.answered;
-  }
+  pub turn_halted : (ticket : ℕ) → unanswered_ticket s.known.local ≡ Some ticket → HaltsFor r.callers ticket s v → (let h : StoppedSeat = record { seat = v; linked = Some ticket } in DriveHalted r s h × DriveDue r 1 s h)
+  turn_halted ticket is halts = (
+    record {
+      caller = record { of = of; limit = halts.limit };
+      keeps = drive_keeps;
+      ticket = ticket;
+      is = is;
+      linked = refl;
+      answered = halts.answered;
+    },
+    record {
+      most = halts.most;
+      due = λ none. elim (halts.due none) [ inl same ↦ inl (omega (arith, same)) | inr above ↦ inr (ticket, refl, above) ];
+    },
+  )
 
 -- turns after others, in each of which a refusal was met
 module _ {O : Type 0} (r : Running O) (n : ℕ) (s u : Seated) (before : DrivePending r n s u) where
@@ -176,8 +182,17 @@ module _ {O : Type 0} (r : Running O) (n : ℕ) (s u : Seated) (on : DrivesOn r 
   pub drives_done : (tries : ℕ) (v : Seated) (answer : Answer) → n < tries → DriveDone r u v answer × MeetsAtMost 1 u v → DriveDone r s v answer × MeetsAtMost tries s v
   drives_done tries v answer more d = (let few = d.1 in (done_on v answer d.0, omega (arith, drives_met, few, more)))
 
-  pub drives_halted : (v : StoppedSeat) → DriveHalted r u v → DriveHalted r s v
-  drives_halted v h = elim on.turns [ inl none ↦ subst (λ x. DriveHalted r x v) none.1 h | inr some ↦ halted_then r n s u some v h ]
+  halted_on : (v : StoppedSeat) → DriveHalted r u v → DriveHalted r s v
+  halted_on v h = elim on.turns [ inl none ↦ subst (λ x. DriveHalted r x v) none.1 h | inr some ↦ halted_then r n s u some v h ]
+
+  pub drives_halted : (tries : ℕ) (v : StoppedSeat) → n < tries → DriveHalted r u v × DriveDue r 1 u v → DriveHalted r s v × DriveDue r tries s v
+  drives_halted tries v more h = (
+    halted_on v h.0,
+    record {
+      most = (let few = h.1.most in omega (arith, drives_met, few, more));
+      due = λ none. elim (h.1.due none) [ inl few ↦ inl (omega (arith, drives_met, few, more)) | inr raise ↦ inr raise ];
+    },
+  )
 
 -- turns that are begun again
 pub record DrivesAgain {O : Type 0} (r : Running O) (s u : Seated) : Type 0 where
@@ -194,7 +209,7 @@ pub again_done : {O : Type 0} (r : Running O) (s u v : Seated) (answer : Answer)
 again_done r s u v answer again d = done_on r again.turns s u again.on v answer d
 
 pub again_halted : {O : Type 0} (r : Running O) (s u : Seated) (v : StoppedSeat) → DrivesAgain r s u → DriveHalted r u v → DriveHalted r s v
-again_halted r s u v again h = drives_halted r again.turns s u again.on v h
+again_halted r s u v again h = halted_on r again.turns s u again.on v h
 
 -- the same of turns for a read
 module _ {O : Type 0} (r : Running O) (op : List ℕ) (s v : Seated) (caller : IsCallerOf r s) (rest : beside_lookup v ≡ beside_lookup s) (front : s.known.local.front ≤ v.known.local.front) (of : IsSeatOf r v) where
@@ -232,6 +247,12 @@ module _ {O : Type 0} (r : Running O) (op : List ℕ) (s v : Seated) (caller : I
     met = meets_one s v refused.refusal.met;
     most = most_one s v refused.refusal.met;
   }
+
+  pub read_ended : HaltsLookup op s v → ReadHalted r op s (record { seat = v; linked = None }) × ReadDue 1 s v
+  read_ended h = (
+    record { caller = record { of = of; limit = h.halts.limit }; linked = refl; keeps = read_keeps; reads = h.reads },
+    record { most = h.halts.most; due = λ none. (let same = h.halts.due none in omega (arith, same)) },
+  )
 
 -- a caller without an unanswered entry
 pub all_answered : {O : Type 0} (r : Running O) (s : Seated) → IsCallerOf r s → unanswered_ticket s.known.local ≡ None
@@ -308,5 +329,15 @@ module _ {O : Type 0} (r : Running O) (op : List ℕ) (n : ℕ) (s u : Seated) (
         | inr some ↦ (let few = d.1 in (read_done_then r op n s u some v seen d.0, omega (arith, some.most, few, more)))
       ]
 
-  pub looks_halted : (v : StoppedSeat) → ReadHalted r op u v → ReadHalted r op s v
-  looks_halted v h = elim on.turns [ inl none ↦ subst (λ x. ReadHalted r op x v) none.1 h | inr some ↦ read_halted_then r op n s u some v h ]
+  -- at most as many refusals
+  looks_met : MeetsAtMost n s u
+  looks_met = elim on.turns [ inl none ↦ (let same = ap (λ (x : Seated). x.known.local.met) none.1 in omega (arith, same)) | inr some ↦ some.most ]
+
+  pub looks_halted : (tries : ℕ) (v : StoppedSeat) → n < tries → ReadHalted r op u v × ReadDue 1 u v.seat → ReadHalted r op s v × ReadDue tries s v.seat
+  looks_halted tries v more h = (
+    elim on.turns [ inl none ↦ subst (λ x. ReadHalted r op x v) none.1 h.0 | inr some ↦ read_halted_then r op n s u some v h.0 ],
+    record {
+      most = (let few = h.1.most in omega (arith, looks_met, few, more));
+      due = λ none. (let few = h.1.due none in omega (arith, looks_met, few, more));
+    },
+  )

@@ -122,6 +122,3 @@ queued r op s u (FullRead v note) refused entered = record { refused = u; pendin
 queued r op s u (WornRead v) refused entered = record { refused = u; pending = refused; entered = entered }
 queued r op s u (HaltedRead v) refused entered =
     record { caller = entered.caller; number = entered.number ∙ refused.keeps.number; lists = inr (record { refused = u; pending = refused; entered = entered }) }
-
-pub read_stops : {O : Type 0} (r : Running O) (op : List ℕ) (s : Seated) (v : StoppedSeat) → ReadHalted r op s v → ReadStops r op s v
-read_stops r op s v h = record { caller = h.caller; number = h.keeps.number; lists = inl h }

@@ -1,5 +1,6 @@
 -- What driving a linked entry comes to.
-use Rattle.std.specs.Prelude.{◌≡◌, ◌≢◌, ◌+◌, ◌≤◌, ◌⊎◌, ℕ, List, Some, None}
+use Rattle.std.specs.Prelude.{◌≡◌, ◌≢◌, ◌+◌, ◌<◌, ◌≤◌, ◌⊎◌, ℕ, List, Some, None}
+use Rattle.cx_base.specs.Codes.{root_place_of}
 use Rattle.cx_core.specs.declared.local.Answer.{Answer}
 use Rattle.cx_core.specs.Layout.{max_word}
 use Rattle.cx_rule.specs.Running.{Running}
@@ -8,6 +9,7 @@ use Rattle.cx_service.specs.declared.drive.Driven.{Driven}
 use Rattle.cx_service.specs.declared.drive.Driven.TheVariants.{Done, Pending, Halted}
 use Rattle.cx_service.specs.Callers.{IsCallerOf, IsLinkedOf, IsStoppedOf, StoppedSeat}
 use Rattle.cx_turns.specs.Answering.{with_answer}
+use Rattle.strong_trylock.specs.Held.{all_rights, no_rights}
 
 -- at least so many refusals were met, where the count is not at its end
 abbrev pub MeetsMore : ℕ → Seated → Seated → Type 0
@@ -16,6 +18,10 @@ MeetsMore tries before after = (before.known.local.met + tries ≤ after.known.l
 -- and at most so many
 abbrev pub MeetsAtMost : ℕ → Seated → Seated → Type 0
 MeetsAtMost most before after = after.known.local.met ≤ before.known.local.met + most
+
+-- fewer refusals than this were met
+abbrev pub MeetsFewer : ℕ → Seated → Seated → Type 0
+MeetsFewer tries before after = after.known.local.met < before.known.local.met + tries
 
 -- what each answer of a drive leaves as it was
 pub record DriveKeeps (before after : Seated) : Type 0 where
@@ -54,9 +60,15 @@ pub record DriveHalted {O : Type 0} (r : Running O) (before : Seated) (after : S
   pub answered : (after.seat.known.local.answered ≡ before.known.local.answered)
       ⊎ ((reply : List ℕ) × (after.seat.known.local.answered ≡ with_answer ticket reply before.known.local.answered) × (after.seat.known.local.won ≢ None))
 
+-- A further step is due to a drive in so many turns: fewer refusals were met, a right stands that is still to be given up, or a code is
+-- found in CUR whose place is above the entry's ticket, by which DUR is still to be raised. No turn meets more than one refusal.
+pub record DriveDue {O : Type 0} (r : Running O) (tries : ℕ) (before : Seated) (after : StoppedSeat) : Type 0 where
+  pub most : MeetsAtMost tries before after.seat
+  pub due : all_rights after.seat ≡ no_rights → MeetsFewer tries before after.seat ⊎ ((ticket : ℕ) × (after.linked ≡ Some ticket) × (ticket < root_place_of r.callers after.seat.known.local.seen_cur))
+
 -- What a drive of a linked entry in so many turns comes to. A turn meets at most one refusal, also the last one where a publication
 -- was lost in it.
 abbrev pub Drives : {O : Type 0} → Running O → ℕ → Seated → Driven → Type 0
 Drives r tries before (Done after answer) = DriveDone r before after answer × MeetsAtMost tries before after
 Drives r tries before (Pending after) = DrivePending r tries before after
-Drives r tries before (Halted after) = DriveHalted r before after
+Drives r tries before (Halted after) = DriveHalted r before after × DriveDue r tries before after

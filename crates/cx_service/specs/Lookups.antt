@@ -9,9 +9,10 @@ use Rattle.cx_service.specs.declared.lookup.Looked.TheVariants.{Ended, Found, Re
 use Rattle.cx_service.specs.declared.lookup.ReadTried.{ReadTried}
 use Rattle.cx_service.specs.declared.lookup.ReadTried.TheVariants.{Read, Pending, Halted}
 use Rattle.cx_service.specs.Callers.{IsCallerOf, IsStoppedOf, StoppedSeat}
-use Rattle.cx_service.specs.Drives.{MeetsAtMost, MeetsMore}
+use Rattle.cx_service.specs.Drives.{MeetsAtMost, MeetsFewer, MeetsMore}
 use Rattle.cx_turns.specs.declared.lookup.Seen.{Seen}
 use Rattle.cx_turns.specs.Answering.{with_read}
+use Rattle.strong_trylock.specs.Held.{all_rights, no_rights}
 
 -- what each answer of a read leaves as it was
 pub record ReadKeeps (before after : Seated) : Type 0 where
@@ -30,10 +31,6 @@ pub record ReadAnswered {O : Type 0} (r : Running O) (op : List ℕ) (before aft
   pub reads : after.known.local.seen_reads ≡ with_read seen.place op seen.reply (length before.known.local.answered) before.known.local.seen_reads
   pub above : (i : ℕ) (x : Answer) → slice_get before.known.local.answered i ≡ Some x → x.ticket < seen.place
   pub from : (i : ℕ) (x : SeenRead) → slice_get before.known.local.seen_reads i ≡ Some x → x.place ≤ seen.place
-
--- fewer refusals than this were met
-abbrev pub MeetsFewer : ℕ → Seated → Seated → Type 0
-MeetsFewer tries before after = after.known.local.met < before.known.local.met + tries
 
 -- In each of so many turns one refusal was met. The limit allowed a step.
 pub record ReadPending {O : Type 0} (r : Running O) (tries : ℕ) (before after : Seated) : Type 0 where
@@ -54,14 +51,20 @@ pub record ReadHalted {O : Type 0} (r : Running O) (op : List ℕ) (before : Sea
   pub reads : (after.seat.known.local.seen_reads ≡ before.known.local.seen_reads)
       ⊎ ((place : ℕ) × (reply : List ℕ) × (after.seat.known.local.seen_reads ≡ with_read place op reply (length before.known.local.answered) before.known.local.seen_reads) × (after.seat.known.local.shared ≢ None))
 
+-- A further step is due to a read in so many turns: fewer refusals were met, or a right stands that is still to be given up. No turn meets
+-- more than one.
+pub record ReadDue (tries : ℕ) (before after : Seated) : Type 0 where
+  pub most : MeetsAtMost tries before after
+  pub due : all_rights after ≡ no_rights → MeetsFewer tries before after
+
 -- What a read of this operation in so many turns comes to. The turn that answers it meets no refusal.
 abbrev pub Looks : {O : Type 0} → Running O → List ℕ → ℕ → Seated → ReadTried → Type 0
 Looks r op tries before (Read after seen) = ReadAnswered r op before after seen × MeetsFewer tries before after
 Looks r op tries before (Pending after) = ReadPending r tries before after
-Looks r op tries before (Halted after) = ReadHalted r op before after
+Looks r op tries before (Halted after) = ReadHalted r op before after × ReadDue tries before after.seat
 
 -- what one turn of it comes to, beside the reply
 abbrev pub LooksOnce : {O : Type 0} → Running O → List ℕ → List ℕ → Seated → Looked → Type 0
 LooksOnce r op reply before (Found after place) = ReadAnswered r op before after (record { place = place; reply = reply }) × MeetsFewer 1 before after
 LooksOnce r op reply before (Refused after) = ReadPending r 1 before after
-LooksOnce r op reply before (Ended after) = ReadHalted r op before after
+LooksOnce r op reply before (Ended after) = ReadHalted r op before after × ReadDue 1 before after.seat

@@ -18,6 +18,10 @@ use Rattle.mutation_queue.specs.declared.linking.LinkTried.{LinkTried}
 use Rattle.mutation_queue.specs.Links.{EndsBy, HaltsTry, LosesTries}
 use Rattle.mutation_queue.specs.declared.linking.LinkTried.TheVariants.{Linked as TriedLinked, Again as TriedAgain, Worn as TriedWorn}
 
+-- each cell holds a ticket at or above the greatest FREE found
+abbrev pub AreInUse : Local → Type 0
+AreInUse l = (j : ℕ) → j < 16 → IsInUse l j
+
 -- Nothing was looked for: no greater FREE was found, and no scan was made.
 pub record LooksForNothing (before after : Seated) : Type 0 where
   pub free : after.known.local.seen_free ≡ before.known.local.seen_free
@@ -51,16 +55,16 @@ pub record SubmitLinked {O : Type 0} (r : Running O) (op : List ℕ) (most : ℕ
   pub from : before.known.local.front ≤ ticket
   pub front : after.known.local.front ≡ ticket + 1
 
--- What tries to link an entry came to, one after another: it was written into a cell before, by a step for the first word and for each
--- other that differed.
-pub record TriesOf {O : Type 0} (r : Running O) (come_to : Seated → Seated → Type 0) (before after : Seated) : Type 0 where
+-- What tries to link an entry came to, one after another: it was written into a cell before, behind so many steps, by one for the first
+-- word and for each other that differed.
+pub record TriesOf {O : Type 0} (r : Running O) (n : ℕ) (come_to : Seated → Seated → Type 0) (before after : Seated) : Type 0 where
   pub cell : ℕ
   pub from : Seated
   pub number : slice_index (cell_of from.known.local cell).words 0 ≡ next_number r.base before.known.local
-  pub since : min (before.known.local.steps + writes before.known.local cell (cell_of from.known.local cell).words) max_word ≤ from.known.local.steps
+  pub since : min (before.known.local.steps + n + writes before.known.local cell (cell_of from.known.local cell).words) max_word ≤ from.known.local.steps
   pub made : come_to from after
 
--- Each of so many tries found another's link, and tickets are left.
+-- Nothing was linked, so many tries were lost, and tickets are left.
 pub record SubmitAgain {O : Type 0} (r : Running O) (tries most : ℕ) (before after : Seated) : Type 0 where
   pub caller : IsCallerOf r after
   pub keeps : SubmitKeeps most before after
@@ -69,7 +73,6 @@ pub record SubmitAgain {O : Type 0} (r : Running O) (tries most : ℕ) (before a
   pub own : after.known.local.own ≡ before.known.local.own
   pub front : before.known.local.front + tries ≤ after.known.local.front
   pub cur : root_place_of r.callers after.known.local.seen_cur + tries ≤ after.known.local.front
-  pub lost : TriesOf r (LosesTries r.callers tries) before after
   pub left : after.known.local.front < 2 ^ 40
 
 -- all 16 cells hold tickets, and this is the least
@@ -115,36 +118,70 @@ pub record SubmitHalted {O : Type 0} (r : Running O) (most : ℕ) (before : Seat
   pub own : after.seat.known.local.own ≡ before.known.local.own
   pub none : unanswered_ticket after.seat.known.local ≡ None
 
--- A further step is due to a submit: no try was begun, since no slot was looked at, or fewer were lost than so many and a ticket is left.
-abbrev pub IsTrying : {O : Type 0} → Running O → ℕ → Seated → Seated → Type 0
-IsTrying r tries before after =
-    (after.known.local.seen_slot ≡ before.known.local.seen_slot) ⊎ TriesOf r (EndsBy r.callers tries (HaltsTry r.callers)) before after
+-- A cell was looked for by so many steps: by none where one was idle, by one where FREE was loaded alone, and by the scan's too where one
+-- was made.
+abbrev pub LooksBy : ℕ → ℕ → Seated → Seated → Type 0
+LooksBy callers n before after =
+    ((n ≡ 0) × ((j : ℕ) × (j < 16) × IsIdle before.known.local j))
+    ⊎ (((n ≡ 1) × AreInUse before.known.local × (after.known.local.scans ≡ before.known.local.scans))
+    ⊎ ((n ≡ callers + 4) × AreInUse before.known.local × (after.known.local.scans ≡ one_more before.known.local.scans)))
+
+-- A step is due in looking for a cell, which so many steps do but the last: no cell is idle and no scan has ended, or one has, and FREE is
+-- still to be loaded.
+abbrev pub IsLooking : ℕ → Seated → Seated → Type 0
+IsLooking n before after =
+    (AreInUse after.known.local × (after.known.local.scans ≡ before.known.local.scans))
+    ⊎ ((after.known.local.scans ≡ one_more before.known.local.scans) × (after.known.local.steps ≡ min (before.known.local.steps + n) max_word))
+
+-- A step is due in entering an operation in an idle cell, behind so many others: CUR is to be loaded, or the entry to be written there, and
+-- the limit is less than what that needs. No other cell was written.
+pub record IsWriting {O : Type 0} (r : Running O) (op : List ℕ) (n : ℕ) (before after : Seated) : Type 0 where
+  pub cell : ℕ
+  pub within : cell < 16
+  pub idle : IsIdle after.known.local cell
+  pub short : after.known.local.limit < before.known.local.steps + n + writes before.known.local cell (next_number r.base before.known.local ∷ op)
+  pub others : (k : ℕ) → k ≢ cell → cell_of after.known.local k ≡ cell_of before.known.local k
+
+-- A step is due to a submit in trying to link: fewer tries were lost than so many, and a ticket is left.
+abbrev pub IsTrying : {O : Type 0} → Running O → ℕ → ℕ → Seated → Seated → Type 0
+IsTrying r tries n before after = TriesOf r n (EndsBy r.callers tries (HaltsTry r.callers)) before after
+
+-- the limit was come to in one of so many tries to link an operation in an idle cell, or before them
+abbrev pub HaltsInCell : {O : Type 0} → Running O → List ℕ → ℕ → ℕ → Seated → StoppedSeat → Type 0
+HaltsInCell r op tries most before after = SubmitHalted r most before after × (IsWriting r op 1 before after.seat ⊎ IsTrying r tries 1 before after.seat)
 
 -- the limit was come to in one of so many tries, or before them
-abbrev pub HaltsEntering : {O : Type 0} → Running O → ℕ → ℕ → Seated → StoppedSeat → Type 0
-HaltsEntering r tries most before after = SubmitHalted r most before after × IsTrying r tries before after.seat
+abbrev pub HaltsEntering : {O : Type 0} → Running O → List ℕ → ℕ → ℕ → Seated → StoppedSeat → Type 0
+HaltsEntering r op tries most before after =
+    SubmitHalted r most before after
+    × (IsLooking (r.callers + 3) before after.seat
+    ⊎ ((n : ℕ) × LooksBy r.callers n before after.seat × (IsWriting r op (n + 1) before after.seat ⊎ IsTrying r tries (n + 1) before after.seat)))
 
--- an operation that was announced and tried to be linked, in at most so many steps
-abbrev pub EntersIn : {O : Type 0} → ℕ → Running O → List ℕ → ℕ → Seated → Seated → LinkTried → Type 0
-EntersIn most r op tries before after (TriedLinked ticket) = SubmitLinked r op most before after
-EntersIn most r op tries before after TriedAgain = SubmitAgain r tries most before after
-EntersIn most r op tries before after TriedWorn = SubmitWorn r most before after
+-- each of so many tries, behind so many steps, found another's link
+abbrev pub FindsLinks : {O : Type 0} → Running O → ℕ → ℕ → Seated → Seated → Type 0
+FindsLinks r tries n before after = TriesOf r n (LosesTries r.callers tries) before after
+
+-- an operation that was announced, behind so many steps, and tried to be linked, in at most so many
+abbrev pub EntersIn : {O : Type 0} → ℕ → ℕ → Running O → List ℕ → ℕ → Seated → Seated → LinkTried → Type 0
+EntersIn n most r op tries before after (TriedLinked ticket) = SubmitLinked r op most before after
+EntersIn n most r op tries before after TriedAgain = SubmitAgain r tries most before after × FindsLinks r tries n before after
+EntersIn n most r op tries before after TriedWorn = SubmitWorn r most before after
 
 -- what entering an operation in an idle cell comes to, in at most so many steps
 abbrev pub Enters : {O : Type 0} → ℕ → Running O → List ℕ → ℕ → Seated → Submitted → Type 0
 Enters most r op tries before (Linked after) = SubmitLinked r op most before after
-Enters most r op tries before (Again after) = SubmitAgain r tries most before after
+Enters most r op tries before (Again after) = SubmitAgain r tries most before after × FindsLinks r tries 1 before after
 Enters most r op tries before (Full after note) = ⊥
 Enters most r op tries before (Worn after) = SubmitWorn r most before after
-Enters most r op tries before (Halted after) = HaltsEntering r tries most before after
+Enters most r op tries before (Halted after) = HaltsInCell r op tries most before after
 
 -- a submit that makes at most so many steps
 abbrev pub SubmitsIn : {O : Type 0} → ℕ → Running O → List ℕ → ℕ → Seated → Submitted → Type 0
 SubmitsIn most r op tries before (Linked after) = SubmitLinked r op most before after
-SubmitsIn most r op tries before (Again after) = SubmitAgain r tries most before after
+SubmitsIn most r op tries before (Again after) = SubmitAgain r tries most before after × (n : ℕ) × LooksBy r.callers n before after × FindsLinks r tries (n + 1) before after
 SubmitsIn most r op tries before (Full after note) = SubmitFull r most before after note
 SubmitsIn most r op tries before (Worn after) = SubmitWorn r most before after
-SubmitsIn most r op tries before (Halted after) = HaltsEntering r tries most before after
+SubmitsIn most r op tries before (Halted after) = HaltsEntering r op tries most before after
 
 -- what a submit of this operation by a caller comes to
 abbrev pub Submits : {O : Type 0} → Running O → List ℕ → ℕ → Seated → Submitted → Type 0
@@ -163,14 +200,11 @@ pub record EndsLooking (before after : Seated) : Type 0 where
   pub scans : before.known.local.scans ≤ after.known.local.scans
   pub since : min before.known.local.steps max_word ≤ after.known.local.steps
 
--- each cell holds a ticket at or above the greatest FREE found
-abbrev pub AreInUse : Local → Type 0
-AreInUse l = (j : ℕ) → j < 16 → IsInUse l j
-
--- the limit was come to, in looking for a cell where none was idle
-pub record HaltsLooking (before after : Seated) : Type 0 where
+-- the limit was come to, in looking for a cell where none was idle, which so many steps do but the last
+pub record HaltsLooking (n : ℕ) (before after : Seated) : Type 0 where
   pub limit : IsAtLimit after.known.local
   pub used : AreInUse before.known.local
+  pub looking : IsLooking n before after
 
 -- no cell is idle, though what no caller needs was given again
 pub record FindsNone (callers : ℕ) (before after : Seated) (note : FullNote) : Type 0 where
@@ -181,15 +215,32 @@ pub record FindsNone (callers : ℕ) (before after : Seated) (note : FullNote) :
   pub names : NamesHolder callers after.known.local note
 
 -- an idle cell, for which no step was made where one was idle at first
-pub record FindsIdle (before after : Seated) (cell : ℕ) : Type 0 where
+pub record FindsIdle (callers : ℕ) (before after : Seated) (cell : ℕ) : Type 0 where
   pub ends : EndsLooking before after
   pub stood : AreInUse before.known.local ⊎ (after ≡ before)
   pub within : cell < 16
   pub idle : IsIdle after.known.local cell
+  pub took : ℕ
+  pub looked : LooksBy callers took before after
+  pub least : min (before.known.local.steps + took) max_word ≤ after.known.local.steps
+  pub most : after.known.local.steps ≤ before.known.local.steps + took
+
+-- an idle cell, behind a scan
+pub record FindsFreed (callers : ℕ) (before after : Seated) (cell : ℕ) : Type 0 where
+  pub ends : EndsLooking before after
+  pub within : cell < 16
+  pub idle : IsIdle after.known.local cell
+  pub scans : after.known.local.scans ≡ one_more before.known.local.scans
+  pub count : after.known.local.steps ≡ min (before.known.local.steps + callers + 3) max_word
+
+-- what a scan comes to where all cells are in use
+abbrev pub FindsAgain : ℕ → Seated → Seated → Result ℕ FullNote → Type 0
+FindsAgain callers before after (Ok cell) = FindsFreed callers before after cell
+FindsAgain callers before after (Err note) = FindsNone callers before after note
 
 -- what looking for an idle cell comes to
 abbrev pub FindsCell : ℕ → Seated → Seated → Result ℕ FullNote → Type 0
-FindsCell callers before after (Ok cell) = FindsIdle before after cell
+FindsCell callers before after (Ok cell) = FindsIdle callers before after cell
 FindsCell callers before after (Err note) = FindsNone callers before after note
 
 -- the tickets of a caller's 16 cells, which all hold one, with the least first

@@ -11,8 +11,8 @@ use Rattle.cx_service.specs.declared.update.ReadDone.TheVariants.{Read, Queued, 
 use Rattle.cx_service.specs.declared.update.Updated.{Updated}
 use Rattle.cx_service.specs.declared.update.Updated.TheVariants.{Done, Full, Worn, Halted}
 use Rattle.cx_service.specs.Callers.{IsCallerOf, IsStoppedOf, StoppedSeat}
-use Rattle.cx_service.specs.Drives.{DriveDone, DriveHalted}
-use Rattle.cx_service.specs.Lookups.{MeetsFewer, ReadAnswered, ReadHalted, ReadPending}
+use Rattle.cx_service.specs.Drives.{DriveDone, DriveHalted, MeetsFewer}
+use Rattle.cx_service.specs.Lookups.{ReadAnswered, ReadDue, ReadHalted, ReadPending}
 use Rattle.cx_service.specs.Submits.{NamesHolder, entry_at}
 use Rattle.cx_turns.specs.Answering.{with_answer}
 
@@ -100,7 +100,7 @@ pub record ReadQueues {O : Type 0} (r : Running O) (op : List ℕ) (before : Sea
 pub record ReadStops {O : Type 0} (r : Running O) (op : List ℕ) (before : Seated) (after : StoppedSeat) : Type 0 where
   pub caller : IsStoppedOf r after.seat
   pub number : after.seat.known.local.number ≡ before.known.local.number
-  pub lists : ReadHalted r op before after ⊎ ReadQueues r op before (Halted after)
+  pub lists : (ReadHalted r op before after × ReadDue 8 before after.seat) ⊎ ReadQueues r op before (Halted after)
 
 -- what a read of this operation comes to
 abbrev pub ReadsInAll : {O : Type 0} → Running O → List ℕ → Seated → ReadDone → Type 0

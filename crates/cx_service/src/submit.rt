@@ -6,7 +6,7 @@ ghost use Rattle.cx_rule.specs.Rule.{IsLawfulLocal};
 ghost use Rattle.cx_rule.specs.Running.{instance_at};
 ghost use Rattle.cx_rule.specs.Seats.{IsAtLimit};
 ghost use Rattle.cx_service.specs.Callers.{IsCallerOf, unlinked};
-ghost use Rattle.cx_service.specs.Submits.{AreInUse, AreTickets, Enters, EntersIn, FindsCell, HaltsEntering, HaltsLooking, LooksForCell, Submits};
+ghost use Rattle.cx_service.specs.Submits.{AreInUse, AreTickets, Enters, EntersIn, FindsAgain, FindsCell, HaltsInCell, HaltsLooking, LooksForCell, Submits};
 
 use crate::callers::{Caller, Linked, Stopped};
 use crate::service::Service;
@@ -79,8 +79,8 @@ fn announce_and_link<O: Object>(
     requires caller { IsCallerOf shared.now seat.old }
     requires cell { (cell < 16) × IsIdle seat.old.known.local cell }
     requires tries { 1 ≤ tries }
-    ensures entered { IfOk result (EntersIn (146 + 2 * tries) shared.now op.now tries seat.old seat.new) }
-    ensures halted { OnErr result (HaltsEntering shared.now tries (146 + 2 * tries) seat.old (unlinked seat.new)) }
+    ensures entered { IfOk result (EntersIn 1 (146 + 2 * tries) shared.now op.now tries seat.old seat.new) }
+    ensures halted { OnErr result (HaltsInCell shared.now op.now tries (146 + 2 * tries) seat.old (unlinked seat.new)) }
 {
     let _cur = shared.load_cur(seat)?;
     announce(shared, seat, cell, op)?;
@@ -97,7 +97,7 @@ fn find_cell<O: Object>(
     ensures looked { LooksForCell (shared.now.callers + 4) seat.old seat.new }
     ensures stood { IsAtLimit seat.old.known.local → seat.new ≡ seat.old }
     ensures found { IfOk result (FindsCell shared.now.callers seat.old seat.new) }
-    ensures halted { OnErr result (HaltsLooking seat.old seat.new) }
+    ensures halted { OnErr result (HaltsLooking (shared.now.callers + 3) seat.old seat.new) }
 {
     // scans are counted in a word
     let _scans = seat.scans();
@@ -121,8 +121,8 @@ fn give_again<O: Object>(
     requires lawful { IsLawfulLocal (instance_at shared.now O.step O.only_reads) seat.old.known.local }
     requires used { AreInUse seat.old.known.local }
     ensures looked { LooksForCell (shared.now.callers + 3) seat.old seat.new }
-    ensures found { IfOk result (FindsCell shared.now.callers seat.old seat.new) }
-    ensures halted { OnErr result (HaltsLooking seat.old seat.new) }
+    ensures found { IfOk result (FindsAgain shared.now.callers seat.old seat.new) }
+    ensures halted { OnErr result (HaltsLooking (shared.now.callers + 2) seat.old seat.new) }
 {
     // scans are counted in a word
     let _scans = seat.scans();

@@ -1,9 +1,10 @@
 -- What publishing, raising and retiring leave of a turn's seat.
-use Rattle.std.proofs.Common.{◌≡◌, ◌+◌, ◌*◌, ◌<◌, ◌≤◌, inr, ℕ, Bool, false, List, [], ◌∷◌, append-nil, length, refl, ap, sym, subst, ◌∙◌, arith, Option, Some, None}
+use Rattle.std.proofs.Common.{◌≡◌, ◌+◌, ◌*◌, ◌<◌, ◌≤◌, inl, inr, ℕ, Bool, false, List, [], ◌∷◌, append-nil, length, refl, ap, sym, subst, ◌∙◌, arith, Option, Some, None, Result, Ok, Err, OnErr, OnOk}
 use Rattle.std.proofs.Math.Nat.{le-max_right}
 use Rattle.std.proofs.lemmas.Option.{none-some, same_Some}
 use Rattle.std.specs.Option.{option_map}
 use Rattle.cx_base.specs.Codes.{root_place_of}
+use Rattle.cx_base.specs.declared.object.Object.{Ghosts}
 use Rattle.cx_core.specs.declared.kinds.Kind.TheVariants.{Retire}
 use Rattle.cx_core.specs.declared.local.HeldDowngraded.{HeldDowngraded}
 use Rattle.cx_core.specs.declared.local.HeldShared.{HeldShared}
@@ -19,37 +20,27 @@ use Rattle.cx_rule.specs.Running.{Running}
 use Rattle.cx_rule.specs.Seats.{IsAtLimit, Seated, unanswered_ticket}
 use Rattle.cx_rule.specs.Steps.{Halts, Steps}
 use Rattle.cx_rule.proofs.Raising.{reply_still, tells_one}
-use Rattle.cx_turns.specs.Answering.{AnswersBy, AnswersEntry, AnswersReadBy, HaltsFor, HaltsLookup, IsPublishedFor, IsReadyFor, beside_update, with_answer, with_read}
-use Rattle.cx_turns.specs.Turns.{IsAtRest, beside_turn}
+use Rattle.cx_table.specs.Right.{WonRight}
+use Rattle.cx_table.specs.Tokens.{IsWonOf}
+use Rattle.cx_turns.specs.Answering.{AnswersBy, AnswersEntry, AnswersReadBy, HaltsFor, HaltsLookup, HaltsWon, IsPublishedFor, IsReadyFor, beside_update, with_answer, with_read}
+use Rattle.cx_turns.specs.declared.preparing.Prepared.{Prepared}
+use Rattle.cx_turns.specs.Preparing.{Prepares}
+use Rattle.cx_turns.specs.Turns.{IsAtRest, Turns, beside_turn}
 use Rattle.publish.proofs.Options.{none_of, some_of}
 use Rattle.publish.specs.Publishing.{PassedBy, beside_publish, place_in}
 use Rattle.replica.specs.Replays.{noted_place}
 use Rattle.strong_trylock.specs.Held.{AllRights, all_rights, no_rights}
-
--- a caller that is at rest beside what it saw of CUR, downgraded and won
-pub rests : (s : Seated) → IsAtRest (beside_publish s).known.local → s.known.local.downgraded ≡ None → s.known.local.won ≡ None → s.known.local.fresh ≡ false → IsAtRest s.known.local
-rests s rest ended none stale = record {
-  exclusive = rest.exclusive;
-  shared = rest.shared;
-  passer = rest.passer;
-  downgraded = ended;
-  won = none;
-  protection = rest.protection;
-  scan = rest.scan;
-  refused = rest.refused;
-  fresh = stale;
-}
 
 -- the place of a downgraded replica's code is the replica's
 downgraded_place : (callers : ℕ) (o : Option HeldDowngraded) (q : ℕ) → option_map (λ (h : HeldDowngraded). h.replica) o ≡ Some q → q < 2 * callers → root_place_of callers (code_in callers o) ≡ place_in o
 downgraded_place callers None q on few = absurd (none-some q on)
 downgraded_place callers (Some h) q on few = code_place callers h.place h.replica (subst (λ n. n < 2 * callers) (sym (same_Some h.replica q on)) few)
 
-module _ {O : Type 0} (r : Running O) (lawful : List ℕ → Type 0) (step : List ℕ → List ℕ → List ℕ × List ℕ) (ticket : ℕ) (reply : List ℕ) where
+module _ {O : Type 0} (o : Ghosts O) (r : Running O) (ticket : ℕ) (reply : List ℕ) where
   -- what stays as it is beside a publication
-  still_told : (before after : Seated) → beside_publish after ≡ beside_publish before → TellsReply r.lines lawful r.base step before.known ticket reply → TellsReply r.lines lawful r.base step after.known ticket reply
+  still_told : (before after : Seated) → beside_publish after ≡ beside_publish before → TellsReply r.lines (o.lawful r.object) r.base (o.step r.object) before.known ticket reply → TellsReply r.lines (o.lawful r.object) r.base (o.step r.object) after.known ticket reply
   still_told before after rest tells =
-      reply_still r.lines lawful r.base step before.known after.known ticket reply (ap (λ (s : Seated). s.known.noted) rest) (ap (λ (s : Seated). s.known.accesses) rest) (ap (λ (s : Seated). s.known.local.number) rest) tells
+      reply_still r.lines (o.lawful r.object) r.base (o.step r.object) before.known after.known ticket reply (ap (λ (s : Seated). s.known.noted) rest) (ap (λ (s : Seated). s.known.accesses) rest) (ap (λ (s : Seated). s.known.local.number) rest) tells
 
   still_last : (before after : Seated) → beside_publish after ≡ beside_publish before → unanswered_ticket before.known.local ≡ Some ticket → unanswered_ticket after.known.local ≡ Some ticket
   still_last before after rest last = ap (λ (s : Seated). unanswered_ticket s.known.local) rest ∙ last
@@ -58,8 +49,8 @@ module _ {O : Type 0} (r : Running O) (lawful : List ℕ → Type 0) (step : Lis
   still_rests before after rest at = subst (λ (s : Seated). IsAtRest s.known.local) (sym rest) at
 
   -- after a win the caller's code is published, and after it was passed by the code found
-  pub won_published : (code q : ℕ) (before after : Seated) → beside_publish after ≡ beside_publish before → IsReadyFor r lawful step ticket reply before → code ≡ code_in r.callers before.known.local.downgraded →
-      option_map (λ (h : HeldDowngraded). h.replica) before.known.local.downgraded ≡ Some q → q < 2 * r.callers → after.known.local.downgraded ≡ None → after.known.local.seen_cur ≡ code → IsPublishedFor r lawful step code ticket reply after
+  pub won_published : (code q : ℕ) (before after : Seated) → beside_publish after ≡ beside_publish before → IsReadyFor o r ticket reply before → code ≡ code_in r.callers before.known.local.downgraded →
+      option_map (λ (h : HeldDowngraded). h.replica) before.known.local.downgraded ≡ Some q → q < 2 * r.callers → after.known.local.downgraded ≡ None → after.known.local.seen_cur ≡ code → IsPublishedFor o r code ticket reply after
   won_published code q before after rest ready is on few ended seen = record {
     rest = still_rests before after rest ready.rest;
     ended = ended;
@@ -69,7 +60,7 @@ module _ {O : Type 0} (r : Running O) (lawful : List ℕ → Type 0) (step : Lis
     last = still_last before after rest ready.last;
   }
 
-  pub passed_published : (found : ℕ) (before after : Seated) → beside_publish after ≡ beside_publish before → IsReadyFor r lawful step ticket reply before → PassedBy r.callers found before after → IsPublishedFor r lawful step found ticket reply after
+  pub passed_published : (found : ℕ) (before after : Seated) → beside_publish after ≡ beside_publish before → IsReadyFor o r ticket reply before → PassedBy r.callers found before after → IsPublishedFor o r found ticket reply after
   passed_published found before after rest ready passed =
       let above = passed.above in
       let below = ready.above in
@@ -83,46 +74,66 @@ module _ {O : Type 0} (r : Running O) (lawful : List ℕ → Type 0) (step : Lis
       }
 
   -- so the raise is told what it answers
-  pub told_answers : (code : ℕ) (seat : Seated) → IsPublishedFor r lawful step code ticket reply seat → TellsAnswers r.lines lawful r.base step seat.known (root_place_of r.callers code) (record { ticket = ticket; reply = reply } ∷ [])
+  pub told_answers : (code : ℕ) (seat : Seated) → IsPublishedFor o r code ticket reply seat → TellsAnswers r.lines (o.lawful r.object) r.base (o.step r.object) seat.known (root_place_of r.callers code) (record { ticket = ticket; reply = reply } ∷ [])
   told_answers code seat p =
       let last = some_of (λ (x : Linked). x.ticket) (unanswered seat.known.local) ticket p.last in
       let x = last.0 in
       let is = last.2 in
-      subst (λ t. TellsAnswers r.lines lawful r.base step seat.known (root_place_of r.callers code) (record { ticket = t; reply = reply } ∷ [])) is
-      (tells_one r.lines lawful r.base step seat.known (root_place_of r.callers code) x reply last.1 (subst (λ t. t < root_place_of r.callers code) (sym is) p.above)
-      (subst (λ t. TellsReply r.lines lawful r.base step seat.known t reply) (sym is) p.tells))
+      subst (λ t. TellsAnswers r.lines (o.lawful r.object) r.base (o.step r.object) seat.known (root_place_of r.callers code) (record { ticket = t; reply = reply } ∷ [])) is
+      (tells_one r.lines (o.lawful r.object) r.base (o.step r.object) seat.known (root_place_of r.callers code) x reply last.1 (subst (λ t. t < root_place_of r.callers code) (sym is) p.above)
+      (subst (λ t. TellsReply r.lines (o.lawful r.object) r.base (o.step r.object) seat.known t reply) (sym is) p.tells))
 
-  -- what is ready once it is prepared
-  pub prepared_ready : (held : ℕ) (before after : Seated) → beside_turn after ≡ beside_turn before → IsAtRest before.known.local → unanswered_ticket before.known.local ≡ Some ticket → after.known.local.protection ≡ Unprotected →
-      after.known.local.downgraded ≡ Some (record { replica = held; place = noted_place after }) → ticket < noted_place after → all_rights after ≡ record no_rights { downgraded = Some held } → TellsReply r.lines lawful r.base step after.known ticket reply →
-      after.known.local.refused ≡ [] → IsReadyFor r lawful step ticket reply after
-  prepared_ready held before after same rest last unprotected on above rights tells refused = record {
-    rest = record {
-      exclusive = none_of _ after.known.local.exclusive (ap (λ (a : AllRights). a.exclusive) rights);
-      shared = none_of _ after.known.local.shared (ap (λ (a : AllRights). a.shared) rights);
-      passer = ap (λ (a : AllRights). a.passer) rights;
-      downgraded = refl;
-      won = refl;
-      protection = unprotected;
-      scan = ap (λ (s : Seated). s.known.local.scan) same ∙ rest.scan;
-      refused = refused;
-      fresh = refl;
-    };
-    none = ap (λ (a : AllRights). a.won) rights;
-    above = subst (λ o. ticket < place_in o) (sym on) above;
-    tells = tells;
-    last = ap (λ (s : Seated). unanswered_ticket s.known.local) same ∙ last;
+-- what is ready once it is prepared
+pub prepared_ready : {O : Type 0} (o : Ghosts O) (r : Running O) (ticket : ℕ) (before after : Seated) (prepared : Prepared) → beside_turn after ≡ beside_turn before → IsAtRest before.known.local → unanswered_ticket before.known.local ≡ Some ticket → Prepares o r ticket before after prepared → IsReadyFor o r ticket prepared.reply after
+prepared_ready o r ticket before after prepared same rest last p = record {
+  rest = record {
+    exclusive = none_of _ after.known.local.exclusive (ap (λ (a : AllRights). a.exclusive) p.rights);
+    shared = none_of _ after.known.local.shared (ap (λ (a : AllRights). a.shared) p.rights);
+    passer = ap (λ (a : AllRights). a.passer) p.rights;
+    downgraded = refl;
+    won = refl;
+    protection = p.protection;
+    scan = ap (λ (s : Seated). s.known.local.scan) same ∙ rest.scan;
+    refused = p.refused;
+    fresh = refl;
+  };
+  none = ap (λ (a : AllRights). a.won) p.rights;
+  above = subst (λ o. ticket < place_in o) (sym p.downgraded) p.place;
+  tells = record { replayed = p.replayed; above = p.place; slot = p.reply };
+  last = ap (λ (s : Seated). unanswered_ticket s.known.local) same ∙ last;
+}
+
+-- what the turn comes to after it, by which no refusal was met
+module _ (ticket : ℕ) (before mid after : Seated) (same : beside_turn mid ≡ beside_turn before) (met : mid.known.local.met ≡ before.known.local.met) where
+  pub answered_turn : (reply : List ℕ) → AnswersEntry 1 ticket reply mid after → AnswersEntry 1 ticket reply before after
+  answered_turn reply a = record {
+    rest = a.rest;
+    met = omega (arith, met, a.met);
+    most = omega (arith, met, a.most);
+    answered = a.answered ∙ ap (λ (s : Seated). with_answer ticket reply s.known.local.answered) same;
   }
 
-module _ {O : Type 0} (r : Running O) (step : O → List ℕ → List ℕ → List ℕ × List ℕ) (reads : O → List ℕ → Bool) (code ticket : ℕ) (reply : List ℕ) (before after : Seated) (by : AnswersBy r step reads code ticket reply before after) where
+  pub halted_turn : (callers : ℕ) → HaltsFor callers ticket mid after → HaltsFor callers ticket before after
+  halted_turn callers h = record {
+    limit = h.limit;
+    most = omega (arith, met, h.most);
+    due = λ none. elim (h.due none) [ inl e ↦ inl (e ∙ met) | inr above ↦ inr above ];
+    answered = elim h.answered [
+      | inl none ↦ inl (none ∙ ap (λ (s : Seated). s.known.local.answered) same)
+      | inr one ↦ inr (one.0, one.1 ∙ ap (λ (s : Seated). with_answer ticket one.0 s.known.local.answered) same, one.2)
+    ];
+  }
+
+module _ {O : Type 0} (o : Ghosts O) (r : Running O) (code ticket : ℕ) (reply : List ℕ) (before after : Seated) (by : AnswersBy o r code ticket reply before after) where
   pub raised_answered : after.known.local.answered ≡ with_answer ticket reply before.known.local.answered
   raised_answered = ap (λ (s : Seated). s.known.local.answered) by.made
 
-  pub raised_rest : beside_update after ≡ beside_update before
+  raised_rest : beside_update after ≡ beside_update before
   raised_rest = ap beside_update by.made ∙ ap (λ rs. (let b : Seated = record (beside_update before) { known = record (beside_update before).known { local = record (beside_update before).known.local { seen_reads = rs } } } in b)) (append-nil before.known.local.seen_reads)
 
-  pub raised_front : after.known.local.front ≡ before.known.local.front
-  raised_front = ap (λ (s : Seated). s.known.local.front) by.made
+  -- what it leaves of the seat
+  pub raised_turns : Turns r beside_update before after
+  raised_turns = record { seat = by.seat; rest = raised_rest; front = (let same = ap (λ (s : Seated). s.known.local.front) by.made in omega (arith, same)) }
 
   -- with no win to retire the caller is at rest
   pub raised_rests : IsAtRest (beside_publish before).known.local → before.known.local.downgraded ≡ None → before.known.local.won ≡ None → IsAtRest after.known.local
@@ -142,25 +153,28 @@ module _ {O : Type 0} (r : Running O) (step : O → List ℕ → List ℕ → Li
   pub raised_most : code ≤ after.known.local.raised
   raised_most = subst (λ (s : Seated). code ≤ s.known.local.raised) (sym by.made) (le-max_right before.known.local.raised code)
 
+  -- the win stands
+  pub still_won : (won : WonRight) → IsWonOf r.callers before won → IsWonOf r.callers after won
+  still_won won was = record { few = was.few; caller = was.caller ∙ sym (ap (λ (s : Seated). s.known.local.number) by.made); holds = ap (λ (s : Seated). s.known.local.won) by.made ∙ was.holds }
+
   -- the limit was come to before the win was retired
-  pub retired_halted : (won : WonCode) (last : Seated) → before.known.local.won ≡ Some won → Halts r after last → HaltsFor ticket before last
-  retired_halted won last holds h = record {
+  pub halted_turns : (last : Seated) → Halts r after last → Turns r beside_update before last
+  halted_turns last h = record { seat = h.seat; rest = ap beside_update h.same ∙ raised_rest; front = (let same = ap (λ (s : Seated). s.known.local.front) h.same in let rose = raised_turns.front in omega (arith, same, rose)) }
+
+  pub retired_halted : (last : Seated) → Halts r after last → HaltsWon ticket before last
+  retired_halted last h = record {
     limit = subst (λ (s : Seated). IsAtLimit s.known.local) (sym h.same) h.limit;
-    answered = inr (reply, ap (λ (s : Seated). s.known.local.answered) h.same ∙ raised_answered, λ none. none-some won (sym none ∙ ap (λ (s : Seated). s.known.local.won) (h.same ∙ by.made) ∙ holds));
+    met = ap (λ (s : Seated). s.known.local.met) (h.same ∙ by.made);
+    won = ap (λ (s : Seated). s.known.local.won) (h.same ∙ by.made);
+    answered = inr (reply, ap (λ (s : Seated). s.known.local.answered) h.same ∙ raised_answered);
   }
 
   -- the win is retired then
-  module _ (found : ℕ) (last : Seated) (s : Steps r step reads Retire found after last) where
-    pub retired_answered : last.known.local.answered ≡ with_answer ticket reply before.known.local.answered
-    retired_answered = ap (λ (t : Seated). t.known.local.answered) s.made ∙ raised_answered
+  module _ (found : ℕ) (last : Seated) (s : Steps r o.step o.only_reads Retire found after last) where
+    pub retired_turns : Turns r beside_update before last
+    retired_turns = record { seat = s.seat; rest = ap beside_update s.made ∙ raised_rest; front = (let same = ap (λ (t : Seated). t.known.local.front) s.made in let rose = raised_turns.front in omega (arith, same, rose)) }
 
-    pub retired_rest : beside_update last ≡ beside_update before
-    retired_rest = ap beside_update s.made ∙ raised_rest
-
-    pub retired_front : last.known.local.front ≡ before.known.local.front
-    retired_front = ap (λ (t : Seated). t.known.local.front) s.made ∙ raised_front
-
-    pub retired_rests : IsAtRest (beside_publish before).known.local → before.known.local.downgraded ≡ None → IsAtRest last.known.local
+    retired_rests : IsAtRest (beside_publish before).known.local → before.known.local.downgraded ≡ None → IsAtRest last.known.local
     retired_rests rest ended = subst (λ (t : Seated). IsAtRest t.known.local) (sym s.made) (subst (λ (t : Seated). IsAtRest (record t.known.local { won = None; steps = one_more t.known.local.steps })) (sym by.made) (record {
       exclusive = rest.exclusive;
       shared = rest.shared;
@@ -173,22 +187,62 @@ module _ {O : Type 0} (r : Running O) (step : O → List ℕ → List ℕ → Li
       fresh = refl;
     }))
 
--- an entry that is answered after its replica was published, by which at most one refusal was met
-pub answered_later : (ticket : ℕ) (reply : List ℕ) (before mid after : Seated) → beside_publish mid ≡ beside_publish before → before.known.local.met ≤ mid.known.local.met → mid.known.local.met ≤ before.known.local.met + 1 →
-    AnswersEntry 0 ticket reply mid after → AnswersEntry 1 ticket reply before after
-answered_later ticket reply before mid after rest low high a = record {
-  rest = a.rest;
-  met = omega (arith, low, a.met);
-  most = omega (arith, high, a.most);
-  answered = a.answered ∙ ap (λ (s : Seated). with_answer ticket reply s.known.local.answered) rest;
-}
+    pub retired_answers : IsAtRest (beside_publish before).known.local → before.known.local.downgraded ≡ None → AnswersEntry 0 ticket reply before last
+    retired_answers rest ended =
+        let met : last.known.local.met ≡ before.known.local.met = ap (λ (t : Seated). t.known.local.met) s.made ∙ ap (λ (t : Seated). t.known.local.met) by.made in
+        record { rest = retired_rests rest ended; met = omega (arith, met); most = omega (arith, met); answered = ap (λ (t : Seated). t.known.local.answered) s.made ∙ raised_answered }
+
+-- what comes after a publication, by which at most one refusal was met
+module _ (ticket : ℕ) (before mid after : Seated) (rest : beside_publish mid ≡ beside_publish before) (low : before.known.local.met ≤ mid.known.local.met) (high : mid.known.local.met ≤ before.known.local.met + 1) where
+  -- the entry is answered
+  pub answered_later : (reply : List ℕ) → AnswersEntry 0 ticket reply mid after → AnswersEntry 1 ticket reply before after
+  answered_later reply a = record {
+    rest = a.rest;
+    met = omega (arith, low, a.met);
+    most = omega (arith, high, a.most);
+    answered = a.answered ∙ ap (λ (s : Seated). with_answer ticket reply s.known.local.answered) rest;
+  }
+
+  -- the limit was come to while the win stood
+  pub won_halted : (callers : ℕ) (code : WonCode) → mid.known.local.won ≡ Some code → HaltsWon ticket mid after → HaltsFor callers ticket before after
+  won_halted callers code won h =
+      let stands : after.known.local.won ≡ Some code = h.won ∙ won in record {
+        limit = h.limit;
+        most = (let met = h.met in omega (arith, met, high));
+        due = λ none. absurd (none-some code (sym (ap (λ (a : AllRights). a.won) none) ∙ stands));
+        answered = elim h.answered [
+          | inl none ↦ inl (none ∙ ap (λ (s : Seated). s.known.local.answered) rest)
+          | inr one ↦ inr (one.0, one.1 ∙ ap (λ (s : Seated). with_answer ticket one.0 s.known.local.answered) rest, λ none. none-some code (sym none ∙ stands))
+        ];
+      }
+
+  -- the limit was come to before the raise by a code that was found
+  pub passed_halted : {O : Type 0} (o : Ghosts O) (r : Running O) (code : ℕ) (reply : List ℕ) → IsPublishedFor o r code ticket reply mid → Halts r mid after → HaltsFor r.callers ticket before after
+  passed_halted o r code reply p h = record {
+    limit = subst (λ (s : Seated). IsAtLimit s.known.local) (sym h.same) h.limit;
+    most = subst (λ (s : Seated). s.known.local.met ≤ before.known.local.met + 1) (sym h.same) high;
+    due = λ _. inr (subst (λ (s : Seated). ticket < root_place_of r.callers s.known.local.seen_cur) (sym h.same) (subst (λ n. ticket < root_place_of r.callers n) p.seen p.above));
+    answered = inl (ap (λ (s : Seated). s.known.local.answered) h.same ∙ ap (λ (s : Seated). s.known.local.answered) rest);
+  }
+
+  -- what the raise leaves of the seat, whether it was made or not
+  pub passed_turns : {O X E : Type 0} (o : Ghosts O) (r : Running O) (code : ℕ) (reply : List ℕ) (result : Result X E) → before.known.local.front ≤ mid.known.local.front → OnOk result (AnswersBy o r code ticket reply mid after) → OnErr result (Halts r mid after) → Turns r beside_update before after
+  passed_turns o r code reply (Ok x) rose by none = (let t = raised_turns o r code ticket reply mid after by in record { seat = t.seat; rest = t.rest ∙ ap beside_update rest; front = omega (arith, rose, t.front) })
+  passed_turns o r code reply (Err e) rose none h = record { seat = h.seat; rest = ap beside_update h.same ∙ ap beside_update rest; front = (let same = ap (λ (s : Seated). s.known.local.front) h.same in omega (arith, rose, same)) }
+
+  -- the raise by it answers the entry
+  pub passed_answers : {O : Type 0} (o : Ghosts O) (r : Running O) (code : ℕ) (reply : List ℕ) → IsPublishedFor o r code ticket reply mid → mid.known.local.won ≡ None → AnswersBy o r code ticket reply mid after → AnswersEntry 1 ticket reply before after
+  passed_answers o r code reply p none by =
+      let met : after.known.local.met ≡ mid.known.local.met = ap (λ (s : Seated). s.known.local.met) by.made in
+      answered_later reply (record { rest = raised_rests o r code ticket reply mid after by p.rest p.ended none; met = omega (arith, met); most = omega (arith, met); answered = raised_answered o r code ticket reply mid after by })
 
 -- the limit was come to before the shared right was given back under which a read was answered
-pub read_halted : {O : Type 0} (r : Running O) (step : O → List ℕ → List ℕ → List ℕ × List ℕ) (reads : O → List ℕ → Bool) (code q : ℕ) (op reply : List ℕ) (before after last : Seated) → shared_on before.known.local ≡ Some q →
-    AnswersReadBy r step reads code op reply before after → Halts r after last → HaltsLookup op before last
-read_halted r step reads code q op reply before after last holds by h =
-    let same = h.same ∙ by.made in record {
-      limit = subst (λ (s : Seated). IsAtLimit s.known.local) (sym h.same) h.limit;
+pub read_halted : {O : Type 0} (o : Ghosts O) (r : Running O) (code q : ℕ) (op reply : List ℕ) (before after last : Seated) → shared_on before.known.local ≡ Some q →
+    AnswersReadBy o r code op reply before after → Halts r after last → HaltsLookup op before last
+read_halted o r code q op reply before after last holds by h =
+    let same = h.same ∙ by.made in
+    let met : last.known.local.met ≡ before.known.local.met = ap (λ (s : Seated). s.known.local.met) same in record {
+      halts = record { limit = subst (λ (s : Seated). IsAtLimit s.known.local) (sym h.same) h.limit; most = omega (arith, met); due = λ _. met };
       reads = inr (
         root_place_of r.callers code,
         reply,
@@ -199,3 +253,8 @@ read_halted r step reads code q op reply before after last holds by h =
   where
     none_more : (n : ℕ) → n + 0 ≡ n
     none_more n = omega arith
+
+-- what holds in any case holds of an error
+pub if_any_err : {A E P : Type 0} (r : Result A E) → P → OnErr r P
+if_any_err (Ok a) p = tt
+if_any_err (Err e) p = p

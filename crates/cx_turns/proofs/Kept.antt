@@ -1,10 +1,12 @@
 -- What the steps leave by which a replica is kept.
 use Rattle.std.proofs.Common.{◌≡◌, ◌<◌, ◌≤◌, true, false, ℕ, Bool, All, List, [], append-nil, ap, sym, subst, ◌∙◌, arith, Option, Some, None}
 use Rattle.std.specs.Option.{option_map}
+use Rattle.cx_base.specs.declared.object.Object.{Ghosts}
 use Rattle.cx_base.specs.Codes.{root_place_of, root_replica_of}
 use Rattle.cx_core.specs.declared.kinds.Kind.TheVariants.{LoadCur}
 use Rattle.cx_core.specs.declared.local.HeldExclusive.{HeldExclusive}
 use Rattle.cx_core.specs.declared.local.HeldShared.{HeldShared}
+use Rattle.cx_core.specs.declared.local.Protection.TheVariants.{Unprotected}
 use Rattle.cx_core.specs.Region.{region_words}
 use Rattle.cx_core.specs.Rights.{held_dirty}
 use Rattle.cx_core.specs.State.{one_more}
@@ -13,7 +15,7 @@ use Rattle.cx_rule.specs.Running.{IsSeatOf, Running}
 use Rattle.cx_rule.specs.Seats.{Seated}
 use Rattle.cx_rule.specs.Steps.{Steps}
 use Rattle.cx_table.specs.Right.{Right}
-use Rattle.cx_turns.specs.Keeping.{Guards, IsAtImage, IsBehind, IsKept, Others, SeesCurrent, no_others, others}
+use Rattle.cx_turns.specs.Keeping.{Guards, HoldsCurrent, HoldsSource, IsAtImage, IsBehind, IsKept, Others, SeesCurrent, no_others, others}
 use Rattle.cx_turns.specs.Reads.{beside_read}
 use Rattle.cx_turns.specs.Turns.{IsAtRest, TurnRefused, beside_turn}
 use Rattle.mutation_queue.specs.Protections.{but_protected}
@@ -45,22 +47,22 @@ pub behind_current : (callers : ℕ) (before after : Seated) → IsBehind caller
     (after.known.local.met ≡ one_more before.known.local.met) × (after.known.local.fresh ≡ false)
 behind_current callers before after behind at fresh = behind.outdated (not_above (noted_place before) (root_place_of callers before.known.local.seen_cur) at, fresh)
 
-module _ {O : Type 0} (lines : ℕ) (r : Running O) (lawful : List ℕ → Type 0) (step : List ℕ → List ℕ → List ℕ × List ℕ) (before after : Seated) (held : Right) where
+module _ {O : Type 0} (o : Ghosts O) (r : Running O) (before after : Seated) (held : Right) where
   -- the replica held is the same, and so is what is noted of it
-  pub held_same : IsSeatOf r after → after.known.local.exclusive ≡ before.known.local.exclusive → after.known.local.number ≡ before.known.local.number → after.known.accesses ≡ before.known.accesses → IsHeld lines r lawful before held → IsHeld lines r lawful after held
+  pub held_same : IsSeatOf r after → after.known.local.exclusive ≡ before.known.local.exclusive → after.known.local.number ≡ before.known.local.number → after.known.accesses ≡ before.known.accesses → IsHeld (o.line_count r.object) r (o.lawful r.object) before held → IsHeld (o.line_count r.object) r (o.lawful r.object) after held
   held_same seat exclusive number accesses was = record {
     sized = was.sized;
     of = seat;
     right = record { few = was.right.few; caller = was.right.caller ∙ sym number; holds = ap (option_map (λ (h : HeldExclusive). h.replica)) exclusive ∙ was.right.holds };
-    some = subst (SomeFits lines lawful r.base) (sym accesses) was.some;
-    dirty = subst (λ (o : Option HeldExclusive). All (λ i. i < region_words lines) (held_dirty o)) (sym exclusive) was.dirty;
+    some = subst (SomeFits (o.line_count r.object) (o.lawful r.object) r.base) (sym accesses) was.some;
+    dirty = subst (λ (h : Option HeldExclusive). All (λ i. i < region_words (o.line_count r.object)) (held_dirty h)) (sym exclusive) was.dirty;
   }
 
-  pub image_same : after.known.accesses ≡ before.known.accesses → after.known.noted ≡ before.known.noted → IsImage lines lawful r.base step before.known → IsImage lines lawful r.base step after.known
-  image_same accesses noted image = image_more lines lawful r.base step before.known after.known [] accesses (noted ∙ sym (append-nil before.known.noted)) image
+  pub image_same : after.known.accesses ≡ before.known.accesses → after.known.noted ≡ before.known.noted → IsImage (o.line_count r.object) (o.lawful r.object) r.base (o.step r.object) before.known → IsImage (o.line_count r.object) (o.lawful r.object) r.base (o.step r.object) after.known
+  image_same accesses noted image = image_more (o.line_count r.object) (o.lawful r.object) r.base (o.step r.object) before.known after.known [] accesses (noted ∙ sym (append-nil before.known.noted)) image
 
   -- through protecting
-  pub protected_image : IsSeatOf r after → but_protected after ≡ but_protected before → IsAtImage lines r lawful step before held → IsAtImage lines r lawful step after held
+  pub protected_image : IsSeatOf r after → but_protected after ≡ but_protected before → IsAtImage o r before held → IsAtImage o r after held
   protected_image seat same was =
       let accesses = ap (λ (s : Seated). s.known.accesses) same in
       record {
@@ -70,7 +72,7 @@ module _ {O : Type 0} (lines : ℕ) (r : Running O) (lawful : List ℕ → Type 
       }
 
   -- through a try of the current replica that was refused
-  pub missed_image : IsSeatOf r after → beside_read after ≡ beside_read before → all_rights after ≡ all_rights before → IsAtImage lines r lawful step before held → IsAtImage lines r lawful step after held
+  pub missed_image : IsSeatOf r after → beside_read after ≡ beside_read before → all_rights after ≡ all_rights before → IsAtImage o r before held → IsAtImage o r after held
   missed_image seat same rights was =
       let with : AllRights → Seated → Others = λ a s. record { shared = a.shared; passer = a.passer; downgraded = a.downgraded; won = a.won; scan = s.known.local.scan; refused = s.known.local.refused } in
       let accesses = ap (λ (s : Seated). s.known.accesses) same in
@@ -81,18 +83,27 @@ module _ {O : Type 0} (lines : ℕ) (r : Running O) (lawful : List ℕ → Type 
       }
 
   -- and one that was not refused leaves both held
-  pub shared_beside : (source : Right) → IsSeatOf r after → beside_read after ≡ beside_read before → IsHeldShared lines r lawful after source → IsHeld lines r lawful before held → HoldsBoth lines r lawful after held source
-  shared_beside source seat same shared was = record {
-    exclusive = held_same seat (ap (λ (s : Seated). s.known.local.exclusive) same) (ap (λ (s : Seated). s.known.local.number) same) (ap (λ (s : Seated). s.known.accesses) same) was;
-    shared = shared;
-  }
+  pub holds_source : (source : Right) → IsSeatOf r after → beside_read after ≡ beside_read before → HoldsCurrent o r (all_rights before) before after source → IsAtImage o r before held → before.known.local.protection ≡ Unprotected → HoldsSource o r after held source
+  holds_source source seat same taken was none =
+      let with : AllRights → Seated → Others = λ a s. record { shared = a.shared; passer = a.passer; downgraded = a.downgraded; won = a.won; scan = s.known.local.scan; refused = s.known.local.refused } in
+      let shared : Others → Others = λ x. record x { shared = Some source.replica } in
+      record {
+        both = record {
+          exclusive = held_same seat (ap (λ (s : Seated). s.known.local.exclusive) same) (ap (λ (s : Seated). s.known.local.number) same) (ap (λ (s : Seated). s.known.accesses) same) was.is_held;
+          shared = taken.held;
+        };
+        alone = ap (λ (a : AllRights). with a after) taken.with ∙ ap (λ s. shared (with (all_rights before) s)) same ∙ ap shared was.alone;
+        none = ap (λ (s : Seated). s.known.local.protection) same ∙ none;
+        place = taken.place;
+        fresh = taken.fresh;
+      }
 
   -- a replica is kept once the entries are guarded
-  pub kept_at : (ticket : ℕ) (first : Seated) → Guards r.callers ticket before after true → before.known.local.met ≡ first.known.local.met → IsAtImage lines r lawful step after held → IsKept lines r lawful step ticket first after held
+  pub kept_at : (ticket : ℕ) (first : Seated) → Guards r.callers ticket before after true → before.known.local.met ≡ first.known.local.met → IsAtImage o r after held → IsKept o r ticket first after held
   kept_at ticket first guards met at = record { at_image = at; guarded = guards.0; met = guards.1.met ∙ met }
 
   -- through a copy, after which the shared right is given back
-  pub copied_image : (q : ℕ) → beside_copy after ≡ without_shared (beside_copy before) → others before.known.local ≡ record no_others { shared = Some q } → IsHeld lines r lawful after held → IsImage lines lawful r.base step after.known → IsAtImage lines r lawful step after held
+  pub copied_image : (q : ℕ) → beside_copy after ≡ without_shared (beside_copy before) → others before.known.local ≡ record no_others { shared = Some q } → IsHeld (o.line_count r.object) r (o.lawful r.object) after held → IsImage (o.line_count r.object) (o.lawful r.object) r.base (o.step r.object) after.known → IsAtImage o r after held
   copied_image q same was held image =
       let shared : after.known.local.shared ≡ None = none_of but_loads after.known.local.shared (ap (λ (s : Seated). s.known.local.shared) same) in
       let rest : Seated → Others = λ s. record (others s.known.local) { shared = None } in
@@ -104,16 +115,16 @@ module _ {O : Type 0} (lines : ℕ) (r : Running O) (lawful : List ℕ → Type 
             ∙ ap (λ (o : Others). (let x : Others = record o { shared = None } in x)) was;
       }
 
-module _ {O : Type 0} (lines : ℕ) (r : Running O) (step : O → List ℕ → List ℕ → List ℕ × List ℕ) (reads : O → List ℕ → Bool) (lawful : List ℕ → Type 0) (before after : Seated) (held : Right) where
+module _ {O : Type 0} (o : Ghosts O) (r : Running O) (before after : Seated) (held : Right) where
   -- what is known once CUR was loaded
-  pub seen_current : (found : ℕ) → Steps r step reads LoadCur found before after → IsAtImage lines r lawful (step r.object) before held → SeesCurrent lines r lawful (step r.object) before after held
+  pub seen_current : (found : ℕ) → Steps r o.step o.only_reads LoadCur found before after → IsAtImage o r before held → SeesCurrent o r before after held
   seen_current found s was =
       let accesses : after.known.accesses ≡ before.known.accesses = ap (λ (t : Seated). t.known.accesses) s.made in
       let cur : after.known.local.seen_cur ≡ found = ap (λ (t : Seated). t.known.local.seen_cur) s.made in
       record {
         at_image = record {
-          is_held = held_same lines r lawful (step r.object) before after held s.seat (ap (λ (t : Seated). t.known.local.exclusive) s.made) (ap (λ (t : Seated). t.known.local.number) s.made) accesses was.is_held;
-          image = image_same lines r lawful (step r.object) before after held accesses (ap (λ (t : Seated). t.known.noted) s.made ∙ append-nil before.known.noted) was.image;
+          is_held = held_same o r before after held s.seat (ap (λ (t : Seated). t.known.local.exclusive) s.made) (ap (λ (t : Seated). t.known.local.number) s.made) accesses was.is_held;
+          image = image_same o r before after held accesses (ap (λ (t : Seated). t.known.noted) s.made ∙ append-nil before.known.noted) was.image;
           alone = ap (λ (t : Seated). others t.known.local) s.made ∙ was.alone;
         };
         apart = λ e. s.told.apart (was.is_held.right.holds ∙ ap Some (e ∙ ap (root_replica_of r.callers) cur));

@@ -5,6 +5,7 @@ use Rattle.std.proofs.lemmas.List.Elements.{Contains-push}
 use Rattle.std.proofs.lemmas.Option.{none-some, same_Some}
 use Rattle.std.specs.List.{Contains}
 use Rattle.std.specs.Option.{option_map}
+use Rattle.cx_base.specs.declared.object.Object.{Ghosts}
 use Rattle.cx_base.specs.Codes.{root_place_of, root_replica_of}
 use Rattle.cx_core.specs.declared.kinds.Kind.TheVariants.{LoadWord}
 use Rattle.cx_core.specs.declared.local.HeldShared.{HeldShared}
@@ -15,7 +16,7 @@ use Rattle.cx_rule.specs.Seats.{Seated, is_outdated, marked_load}
 use Rattle.cx_rule.specs.Steps.{Steps}
 use Rattle.cx_table.specs.Right.{Right}
 use Rattle.cx_turns.specs.Keeping.{HoldsCurrent}
-use Rattle.cx_turns.specs.Reads.{IsRead}
+use Rattle.cx_turns.specs.Reads.{HoldsPlace, IsRead}
 use Rattle.cx_rule.specs.Raises.{TellsRead}
 use Rattle.replica.specs.Held.{IsHeldShared, LoadsShared, beside_shared}
 use Rattle.replica.proofs.Access.{load_shared_loads}
@@ -47,10 +48,10 @@ with_shared : Seated → Option ℕ → AllRights
 with_shared s shared = record (all_rights s) { shared = shared }
 
 -- where the place was loaded that the code names, the replica is held at it
-pub is_current : {O : Type 0} (lines : ℕ) (r : Running O) (lawful : List ℕ → Type 0) (hold : Right) (found : ℕ) (before after : Seated) → LoadsShared lines r lawful hold 0 found before after → hold.replica ≡ root_replica_of r.callers before.known.local.seen_cur →
-    found ≡ root_place_of r.callers before.known.local.seen_cur → before.known.local.fresh ≡ true → Contains (loaded_of after.known.local.shared) (0, found) → HoldsCurrent lines r lawful (record (all_rights before) { shared = None }) before after hold
+pub is_current : {O : Type 0} (o : Ghosts O) (r : Running O) (hold : Right) (found : ℕ) (before after : Seated) → LoadsShared (o.line_count r.object) r (o.lawful r.object) hold 0 found before after → hold.replica ≡ root_replica_of r.callers before.known.local.seen_cur →
+    found ≡ root_place_of r.callers before.known.local.seen_cur → before.known.local.fresh ≡ true → Contains (loaded_of after.known.local.shared) (0, found) → HoldsCurrent o r (record (all_rights before) { shared = None }) before after hold
 unfolding with_shared
-is_current lines r lawful hold found before after made here is fresh has =
+is_current o r hold found before after made here is fresh has =
     let cur : after.known.local.seen_cur ≡ before.known.local.seen_cur = ap (λ (s : Seated). s.known.local.seen_cur) made.rest in
     record {
       held = made.still;
@@ -61,24 +62,26 @@ is_current lines r lawful hold found before after made here is fresh has =
       met = ap (λ (s : Seated). s.known.local.met) made.rest;
     }
 
-module _ {O : Type 0} (lines : ℕ) (r : Running O) (step : List ℕ → List ℕ → List ℕ × List ℕ) (lawful : List ℕ → Type 0) (op : List ℕ) (hold : Right) (reply : List ℕ) (before after : Seated) where
-  -- a read of the replica that the code last loaded from CUR names, at that code's place
-  pub is_read : (place : ℕ) → beside_shared hold.replica after ≡ beside_shared hold.replica before → IsHeldShared lines r lawful after hold → hold.replica ≡ root_replica_of r.callers before.known.local.seen_cur → place ≡ root_place_of r.callers before.known.local.seen_cur →
-      all_rights before ≡ record no_rights { shared = Some hold.replica } → before.known.local.fresh ≡ true → Contains (loaded_of after.known.local.shared) (0, place) → TellsRead lines lawful r.base step after.known op reply →
-      IsRead lines r lawful step op reply before after hold
+module _ {O : Type 0} (o : Ghosts O) (r : Running O) (op : List ℕ) (hold : Right) (reply : List ℕ) (before after : Seated) where
+  -- a read of the replica that is held at the place of the code last loaded from CUR
+  pub is_read : (place : ℕ) → beside_shared hold.replica after ≡ beside_shared hold.replica before → HoldsCurrent o r no_rights before before hold → place ≡ root_place_of r.callers before.known.local.seen_cur →
+      HoldsPlace o r place after hold → TellsRead (o.line_count r.object) (o.lawful r.object) r.base (o.step r.object) after.known op reply → IsRead o r op reply before after hold
   unfolding with_shared
-  is_read place rest held here at rights fresh has tells =
+  is_read place rest was at has tells =
       let cur : after.known.local.seen_cur ≡ before.known.local.seen_cur = ap (λ (s : Seated). s.known.local.seen_cur) rest in
-      let there : place ≡ root_place_of r.callers after.known.local.seen_cur = at ∙ ap (root_place_of r.callers) (sym cur) in
-      let named : hold.replica ≡ root_replica_of r.callers after.known.local.seen_cur = here ∙ ap (root_replica_of r.callers) (sym cur) in
+      let here = was.here ∙ ap (root_replica_of r.callers) (sym cur) in
+      let there = subst (λ n. Contains (loaded_of after.known.local.shared) (0, n)) (at ∙ ap (root_place_of r.callers) (sym cur)) has.loaded in
       record {
-        held = held;
-        here = named;
-        rights = ap (with_shared after) held.right.holds
-            ∙ ap (λ (s : Seated). with_shared s (Some hold.replica)) rest
-            ∙ ap (λ (a : AllRights). (let b : AllRights = record a { shared = Some hold.replica } in b)) rights;
-        fresh = ap (λ (s : Seated). s.known.local.fresh) rest ∙ fresh;
-        shows = shows_place r.callers after.known.local.seen_cur hold.replica after.known.local.shared held.right.holds named (subst (λ n. Contains (loaded_of after.known.local.shared) (0, n)) there has);
+        current = record {
+          held = has.held;
+          here = here;
+          place = there;
+          with = ap (with_shared after) has.held.right.holds
+              ∙ ap (λ (s : Seated). with_shared s (Some hold.replica)) rest
+              ∙ ap (λ (a : AllRights). (let b : AllRights = record a { shared = Some hold.replica } in b)) was.with;
+          fresh = ap (λ (s : Seated). s.known.local.fresh) rest ∙ was.fresh;
+          met = ap (λ (s : Seated). s.known.local.met) rest;
+        };
+        shows = shows_place r.callers after.known.local.seen_cur hold.replica after.known.local.shared has.held.right.holds here there;
         tells = tells;
-        met = ap (λ (s : Seated). s.known.local.met) rest;
       }

@@ -1,5 +1,6 @@
 -- What a caller has that prepared a replica, and one to which each was refused.
 use Rattle.std.proofs.Common.{◌≡◌, ◌<◌, ℕ, Bool, List, ap, sym, subst, ◌∙◌, append-nil, Option, Some, None}
+use Rattle.cx_base.specs.declared.object.Object.{Ghosts}
 use Rattle.cx_core.specs.declared.local.HeldDowngraded.{HeldDowngraded}
 use Rattle.cx_core.specs.declared.local.Protection.TheVariants.{Unprotected}
 use Rattle.cx_core.specs.Rights.{exclusive_on}
@@ -7,9 +8,10 @@ use Rattle.cx_rule.specs.Fitting.{Fits, ReplayedTo, SomeFits}
 use Rattle.cx_rule.specs.Running.{Running}
 use Rattle.cx_rule.specs.Seats.{Seated}
 use Rattle.cx_table.specs.Right.{Right}
-use Rattle.cx_turns.specs.Keeping.{Others, no_others, others, unguarded}
+use Rattle.cx_turns.specs.Keeping.{Others, no_others, others}
 use Rattle.cx_turns.specs.Preparing.{Prepares}
-use Rattle.cx_turns.specs.Replaying.{IsBroughtUp, ShowsReply, beside_work}
+use Rattle.cx_turns.specs.Replaying.{IsBroughtUp, ShowsReply, beside_bringing}
+use Rattle.cx_turns.specs.Turns.{unguarded}
 use Rattle.cx_turns.proofs.Working.{rights_kept}
 use Rattle.replica.specs.Replays.{noted_place}
 use Rattle.strong_trylock.specs.Ends.{Downgrades}
@@ -19,11 +21,11 @@ use Rattle.strong_trylock.specs.Held.{AllRights, all_rights, no_rights}
 with_others : Option ℕ → Others → AllRights
 with_others exclusive o = record { exclusive = exclusive; shared = o.shared; passer = o.passer; downgraded = o.downgraded; won = o.won }
 
-pub finished : {O : Type 0} (lines : ℕ) (r : Running O) (lawful : List ℕ → Type 0) (step : O → List ℕ → List ℕ → List ℕ × List ℕ) (reads : O → List ℕ → Bool) (ticket : ℕ) (before mid after : Seated) (held token : Right) (reply : List ℕ) →
-    others before.known.local ≡ no_others → exclusive_on before.known.local ≡ Some held.replica → IsBroughtUp lines r lawful (step r.object) held ticket mid reply → mid.known.local.protection ≡ Unprotected → beside_work (unguarded mid) ≡ beside_work (unguarded before) → Downgrades r step reads held.replica mid after token →
-    Prepares r lawful (step r.object) ticket before after (record { held = token; reply = reply })
+pub finished : {O : Type 0} (o : Ghosts O) (r : Running O) (ticket : ℕ) (before mid after : Seated) (held token : Right) (reply : List ℕ) →
+    others before.known.local ≡ no_others → exclusive_on before.known.local ≡ Some held.replica → IsBroughtUp o r held ticket mid reply → beside_bringing mid ≡ beside_bringing before → Downgrades r o.step o.only_reads held.replica mid after token →
+    Prepares o r ticket before after (record { held = token; reply = reply })
 unfolding with_others
-finished lines r lawful step reads ticket before mid after held token reply alone holds brought none work d =
+finished o r ticket before mid after held token reply alone holds brought work d =
     let free : all_rights before ≡ record no_rights { exclusive = Some held.replica } =
     ap (λ (o : Option ℕ). with_others o (others before.known.local)) holds ∙ ap (with_others (Some held.replica)) alone in
     let made = d.made.made in
@@ -32,8 +34,8 @@ finished lines r lawful step reads ticket before mid after held token reply alon
     let place : noted_place after ≡ noted_place mid = ap noted_place made in
     let lines_are = brought.is_held.sized.lines_are in
     let number : after.known.local.number ≡ mid.known.local.number = ap (λ (s : Seated). s.known.local.number) made in
-    let there : (first now : List ℕ) → Fits r.lines lawful r.base after.known.accesses first now → Fits lines lawful r.base mid.known.accesses first now =
-    λ first now f. subst (λ n. Fits n lawful r.base mid.known.accesses first now) lines_are (subst (λ xs. Fits r.lines lawful r.base xs first now) accesses f) in
+    let there : (first now : List ℕ) → Fits r.lines (o.lawful r.object) r.base after.known.accesses first now → Fits (o.line_count r.object) (o.lawful r.object) r.base mid.known.accesses first now =
+    λ first now f. subst (λ n. Fits n (o.lawful r.object) r.base mid.known.accesses first now) lines_are (subst (λ xs. Fits r.lines (o.lawful r.object) r.base xs first now) accesses f) in
     record {
       token = d.token;
       downgraded = ap (λ (s : Seated). s.known.local.downgraded) made
@@ -43,11 +45,11 @@ finished lines r lawful step reads ticket before mid after held token reply alon
       rights = d.rights
           ∙ ap (λ (x : AllRights). (let y : AllRights = record x { exclusive = None; downgraded = Some held.replica } in y)) (rights_kept (unguarded before) (unguarded mid) work ∙ free)
           ∙ ap (λ q. (let y : AllRights = record no_rights { downgraded = Some q } in y)) (sym d.here);
-      replayed = λ first now f. subst (λ p. ReplayedTo (step r.object) after.known.noted first p now) (sym place)
-          (subst (λ ns. ReplayedTo (step r.object) ns first (noted_place mid) now) (sym noted) (brought.image.replayed first now (there first now f)));
-      reply = λ first now f. subst (λ n. ShowsReply lines lawful r.base mid.known.accesses n reply) (sym number) brought.reply_is first now (there first now f);
-      some = subst (λ xs. SomeFits r.lines lawful r.base xs) (sym accesses) (subst (λ n. SomeFits n lawful r.base mid.known.accesses) (sym lines_are) brought.is_held.some);
-      protection = ap (λ (s : Seated). s.known.local.protection) made ∙ none;
+      replayed = λ first now f. subst (λ p. ReplayedTo (o.step r.object) after.known.noted first p now) (sym place)
+          (subst (λ ns. ReplayedTo (o.step r.object) ns first (noted_place mid) now) (sym noted) (brought.image.replayed first now (there first now f)));
+      reply = λ first now f. subst (λ n. ShowsReply (o.line_count r.object) (o.lawful r.object) r.base mid.known.accesses n reply) (sym number) brought.reply_is first now (there first now f);
+      some = subst (λ xs. SomeFits r.lines (o.lawful r.object) r.base xs) (sym accesses) (subst (λ n. SomeFits n (o.lawful r.object) r.base mid.known.accesses) (sym lines_are) brought.is_held.some);
+      protection = ap (λ (s : Seated). s.known.local.protection) made ∙ brought.none;
       refused = ap (λ (s : Seated). s.known.local.refused) made ∙ ap (λ (s : Seated). s.known.local.refused) work ∙ ap (λ (o : Others). o.refused) alone;
       met = ap (λ (s : Seated). s.known.local.met) made ∙ ap (λ (s : Seated). s.known.local.met) work;
     }

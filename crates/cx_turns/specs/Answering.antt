@@ -1,19 +1,20 @@
 -- What a turn comes to that answers its caller's entry, and one that answers a read.
-use Rattle.std.specs.Prelude.{◌≡◌, ◌≢◌, ◌+◌, ◌<◌, ◌≤◌, ◌⊎◌, true, false, ℕ, Bool, List, [], ◌∷◌, ◌++◌, length, slice_get, Option, Some, None}
+use Rattle.std.specs.Prelude.{◌≡◌, ◌≢◌, ◌+◌, ◌<◌, ◌≤◌, ◌⊎◌, false, ℕ, List, [], ◌∷◌, ◌++◌, length, slice_get, Option, Some, None}
 use Rattle.std.specs.Option.{option_map}
 use Rattle.cx_base.specs.Codes.{root_place_of}
+use Rattle.cx_base.specs.declared.object.Object.{Ghosts}
 use Rattle.cx_core.specs.declared.local.Answer.{Answer}
 use Rattle.cx_core.specs.declared.local.SeenRead.{SeenRead}
-use Rattle.cx_core.specs.RootEvents.{ShowsPlace}
-use Rattle.cx_rule.specs.Raises.{TellsRead, TellsReply, known_answered}
+use Rattle.cx_rule.specs.Raises.{TellsReply, known_answered}
 use Rattle.cx_rule.specs.Rule.{IsLawfulLocal}
 use Rattle.cx_rule.specs.Running.{IsSeatOf, Running, instance_at}
 use Rattle.cx_rule.specs.Seats.{IsAtLimit, Seated, unanswered_ticket}
 use Rattle.cx_table.specs.Right.{Right}
 use Rattle.cx_turns.specs.declared.lookup.Seen.{Seen}
-use Rattle.cx_turns.specs.Turns.{IsAtRest, TurnRefused, beside_turn}
+use Rattle.cx_turns.specs.Reads.{IsRead}
+use Rattle.cx_turns.specs.Turns.{HaltsTurn, IsAtRest, TurnRefused, beside_turn}
 use Rattle.publish.specs.Publishing.{beside_publish, place_in}
-use Rattle.replica.specs.Held.{IsHeldShared}
+use Rattle.strong_trylock.specs.Held.{all_rights, no_rights}
 
 -- what no turn changes: what no step of one does before its raise, but the greatest code that DUR was raised by, and the floor
 abbrev pub beside_raise : Seated → Seated
@@ -33,25 +34,25 @@ with_answer ticket reply answers = answers ++ record { ticket = ticket; reply = 
 
 -- The replica that the caller has downgraded may be published for its entry with a ticket: its place is above the ticket, the reply
 -- is told, and beside it the caller is at rest.
-pub record IsReadyFor {O : Type 0} (r : Running O) (lawful : List ℕ → Type 0) (step : List ℕ → List ℕ → List ℕ × List ℕ) (ticket : ℕ) (reply : List ℕ) (seat : Seated) : Type 0 where
+pub record IsReadyFor {O : Type 0} (o : Ghosts O) (r : Running O) (ticket : ℕ) (reply : List ℕ) (seat : Seated) : Type 0 where
   pub rest : IsAtRest (beside_publish seat).known.local
   pub none : seat.known.local.won ≡ None
   pub above : ticket < place_in seat.known.local.downgraded
-  pub tells : TellsReply r.lines lawful r.base step seat.known ticket reply
+  pub tells : TellsReply r.lines (o.lawful r.object) r.base (o.step r.object) seat.known ticket reply
   pub last : unanswered_ticket seat.known.local ≡ Some ticket
 
 -- A code was published, by the caller or by another, at a place above the ticket.
-pub record IsPublishedFor {O : Type 0} (r : Running O) (lawful : List ℕ → Type 0) (step : List ℕ → List ℕ → List ℕ × List ℕ) (code ticket : ℕ) (reply : List ℕ) (seat : Seated) : Type 0 where
+pub record IsPublishedFor {O : Type 0} (o : Ghosts O) (r : Running O) (code ticket : ℕ) (reply : List ℕ) (seat : Seated) : Type 0 where
   pub rest : IsAtRest (beside_publish seat).known.local
   pub ended : seat.known.local.downgraded ≡ None
   pub seen : code ≡ seat.known.local.seen_cur
   pub above : ticket < root_place_of r.callers code
-  pub tells : TellsReply r.lines lawful r.base step seat.known ticket reply
+  pub tells : TellsReply r.lines (o.lawful r.object) r.base (o.step r.object) seat.known ticket reply
   pub last : unanswered_ticket seat.known.local ≡ Some ticket
 
 -- DUR was raised by the code, which answers the entry and nothing else.
-pub record AnswersBy {O : Type 0} (r : Running O) (step : O → List ℕ → List ℕ → List ℕ × List ℕ) (reads : O → List ℕ → Bool) (code ticket : ℕ) (reply : List ℕ) (before after : Seated) : Type 0 where
-  pub made : after ≡ record before { known = known_answered (instance_at r step reads) code (record { ticket = ticket; reply = reply } ∷ []) None before.known }
+pub record AnswersBy {O : Type 0} (o : Ghosts O) (r : Running O) (code ticket : ℕ) (reply : List ℕ) (before after : Seated) : Type 0 where
+  pub made : after ≡ record before { known = known_answered (instance_at r o.step o.only_reads) code (record { ticket = ticket; reply = reply } ∷ []) None before.known }
   pub seat : IsSeatOf r after
 
 -- The caller's unanswered entry is answered with this reply, at most so many refusals are met, and the caller is at rest.
@@ -66,9 +67,21 @@ abbrev pub TurnsFor : ℕ → Seated → Seated → Option (List ℕ) → Type 0
 TurnsFor ticket before after (Some reply) = AnswersEntry 1 ticket reply before after
 TurnsFor ticket before after None = TurnRefused before after
 
--- The limit was come to: before the raise nothing is answered, and behind it the entry is, and the win is still to be retired.
-pub record HaltsFor (ticket : ℕ) (before after : Seated) : Type 0 where
+-- The limit was come to before a won code's win was retired, with no refusal: before the raise nothing is answered, and behind it the
+-- entry is.
+pub record HaltsWon (ticket : ℕ) (before after : Seated) : Type 0 where
   pub limit : IsAtLimit after.known.local
+  pub met : after.known.local.met ≡ before.known.local.met
+  pub won : after.known.local.won ≡ before.known.local.won
+  pub answered : (after.known.local.answered ≡ before.known.local.answered) ⊎ ((reply : List ℕ) × (after.known.local.answered ≡ with_answer ticket reply before.known.local.answered))
+
+-- The limit was come to, and a further step was due: no refusal was met, a right stands, or a code is found in CUR whose place is above
+-- the ticket, by which DUR is still to be raised. Before that raise nothing is answered, and behind it the entry is, and the win is still
+-- to be retired. At most one refusal was met.
+pub record HaltsFor (callers ticket : ℕ) (before after : Seated) : Type 0 where
+  pub limit : IsAtLimit after.known.local
+  pub most : after.known.local.met ≤ before.known.local.met + 1
+  pub due : all_rights after ≡ no_rights → (after.known.local.met ≡ before.known.local.met) ⊎ (ticket < root_place_of callers after.known.local.seen_cur)
   pub answered : (after.known.local.answered ≡ before.known.local.answered)
       ⊎ ((reply : List ℕ) × (after.known.local.answered ≡ with_answer ticket reply before.known.local.answered) × (after.known.local.won ≢ None))
 
@@ -95,24 +108,28 @@ abbrev pub LooksUp : List ℕ → Seated → Seated → Option Seen → Type 0
 LooksUp op before after (Some found) = AnswersRead op found.place found.reply before after
 LooksUp op before after None = TurnRefused before after
 
--- The limit was come to: before the raise no read is answered, and behind it this one is, and the shared right is still to be given back.
+-- The limit was come to, and a further step was due. Before the raise no read is answered, and behind it this one is, and the shared
+-- right is still to be given back.
 pub record HaltsLookup (op : List ℕ) (before after : Seated) : Type 0 where
-  pub limit : IsAtLimit after.known.local
+  pub halts : HaltsTurn before after
   pub reads : (after.known.local.seen_reads ≡ before.known.local.seen_reads)
       ⊎ ((place : ℕ) × (reply : List ℕ) × (after.known.local.seen_reads ≡ with_read place op reply (length before.known.local.answered) before.known.local.seen_reads) × (after.known.local.shared ≢ None))
 
 -- DUR was raised by the code last loaded from CUR, which answers the read and nothing else.
-pub record AnswersReadBy {O : Type 0} (r : Running O) (step : O → List ℕ → List ℕ → List ℕ × List ℕ) (reads : O → List ℕ → Bool) (code : ℕ) (op reply : List ℕ) (before after : Seated) : Type 0 where
-  pub made : after ≡ record before { known = known_answered (instance_at r step reads) code [] (Some (op, reply)) before.known }
-  pub lawful : IsLawfulLocal (instance_at r step reads) before.known.local
+pub record AnswersReadBy {O : Type 0} (o : Ghosts O) (r : Running O) (code : ℕ) (op reply : List ℕ) (before after : Seated) : Type 0 where
+  pub made : after ≡ record before { known = known_answered (instance_at r o.step o.only_reads) code [] (Some (op, reply)) before.known }
+  pub lawful : IsLawfulLocal (instance_at r o.step o.only_reads) before.known.local
   pub seat : IsSeatOf r after
 
 -- A read was found on the replica that the code last loaded from CUR names, and beside the shared right on it the caller is at rest,
 -- with each of its entries answered.
-pub record IsLookedUp {O : Type 0} (lines : ℕ) (r : Running O) (lawful : List ℕ → Type 0) (step : List ℕ → List ℕ → List ℕ × List ℕ) (op reply : List ℕ) (seat : Seated) (hold : Right) : Type 0 where
-  pub held : IsHeldShared lines r lawful seat hold
+pub record IsLookedUp {O : Type 0} (o : Ghosts O) (r : Running O) (op reply : List ℕ) (seat : Seated) (hold : Right) : Type 0 where
+  pub read : IsRead o r op reply seat seat hold
   pub rest : IsAtRest (record seat.known.local { shared = None; fresh = false })
   pub answered : unanswered_ticket seat.known.local ≡ None
-  pub fresh : seat.known.local.fresh ≡ true
-  pub shows : ShowsPlace r.callers seat.known.local.seen_cur seat.known.local.shared
-  pub tells : TellsRead lines lawful r.base step seat.known op reply
+
+-- a caller in no call whose entries are all answered
+pub record MayLook {O : Type 0} (r : Running O) (seat : Seated) : Type 0 where
+  pub of : IsSeatOf r seat
+  pub rest : IsAtRest seat.known.local
+  pub answered : unanswered_ticket seat.known.local ≡ None

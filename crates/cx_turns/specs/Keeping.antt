@@ -3,6 +3,7 @@
 use Rattle.std.specs.Prelude.{◌≡◌, ◌≢◌, ◌<◌, ◌⊎◌, true, false, ℕ, Bool, List, [], Option, Some, None}
 use Rattle.std.specs.List.{Contains}
 use Rattle.cx_base.specs.Codes.{root_place_of, root_replica_of}
+use Rattle.cx_base.specs.declared.object.Object.{Ghosts}
 use Rattle.cx_core.specs.declared.local.Local.{Local}
 use Rattle.cx_core.specs.declared.local.Protection.TheVariants.{Confirmed, Unprotected}
 use Rattle.cx_core.specs.declared.local.Scan.{Scan}
@@ -15,6 +16,7 @@ use Rattle.cx_rule.specs.Seats.{Seated}
 use Rattle.cx_table.specs.Right.{Right}
 use Rattle.cx_turns.specs.Turns.{TurnRefused}
 use Rattle.mutation_queue.specs.Protections.{MeetsNone, ShowsOutdated}
+use Rattle.replica.specs.Copies.{HoldsBoth}
 use Rattle.replica.specs.Held.{IsHeld, IsHeldShared}
 use Rattle.replica.specs.Replays.{IsImage, noted_place}
 use Rattle.strong_trylock.specs.Held.{AllRights, all_rights}
@@ -37,9 +39,9 @@ no_others = record { shared = None; passer = None; downgraded = None; won = None
 
 -- a replica is held exclusively that is the image after its place, and beside it the caller has no right and no scan, and nothing is
 -- refused
-pub record IsAtImage {O : Type 0} (lines : ℕ) (r : Running O) (lawful : List ℕ → Type 0) (step : List ℕ → List ℕ → List ℕ × List ℕ) (seat : Seated) (held : Right) : Type 0 where
-  pub is_held : IsHeld lines r lawful seat held
-  pub image : IsImage lines lawful r.base step seat.known
+pub record IsAtImage {O : Type 0} (o : Ghosts O) (r : Running O) (seat : Seated) (held : Right) : Type 0 where
+  pub is_held : IsHeld (o.line_count r.object) r (o.lawful r.object) seat held
+  pub image : IsImage (o.line_count r.object) (o.lawful r.object) r.base (o.step r.object) seat.known
   pub alone : others seat.known.local ≡ no_others
 
 -- The entries from the replica's place up to a ticket may be read: there is none, and no protection stands, or the tickets from the place
@@ -49,15 +51,15 @@ IsGuarded ticket seat =
     ((ticket < noted_place seat) × (seat.known.local.protection ≡ Unprotected)) ⊎ (seat.known.local.protection ≡ Confirmed (noted_place seat))
 
 -- The replica held is one on which they are, and no refusal was met.
-pub record IsKept {O : Type 0} (lines : ℕ) (r : Running O) (lawful : List ℕ → Type 0) (step : List ℕ → List ℕ → List ℕ × List ℕ) (ticket : ℕ) (before after : Seated) (held : Right) : Type 0 where
-  pub at_image : IsAtImage lines r lawful step after held
+pub record IsKept {O : Type 0} (o : Ghosts O) (r : Running O) (ticket : ℕ) (before after : Seated) (held : Right) : Type 0 where
+  pub at_image : IsAtImage o r after held
   pub guarded : IsGuarded ticket after
   pub met : after.known.local.met ≡ before.known.local.met
 
 -- what keeping a replica comes to; it may end the turn, by one refusal
-abbrev pub TriesKeep : {O : Type 0} → ℕ → Running O → (List ℕ → Type 0) → (List ℕ → List ℕ → List ℕ × List ℕ) → ℕ → Seated → Seated → Option Right → Type 0
-TriesKeep lines r lawful step ticket before after (Some held) = IsKept lines r lawful step ticket before after held
-TriesKeep lines r lawful step ticket before after None = TurnRefused before after
+abbrev pub TriesKeep : {O : Type 0} → Ghosts O → Running O → ℕ → Seated → Seated → Option Right → Type 0
+TriesKeep o r ticket before after (Some held) = IsKept o r ticket before after held
+TriesKeep o r ticket before after None = TurnRefused before after
 
 -- The place is behind the ring: a LOW above it was found. Where that shows the code last loaded from CUR to be outdated, a refusal is met.
 pub record IsBehind (callers : ℕ) (before after : Seated) : Type 0 where
@@ -71,13 +73,9 @@ abbrev pub Guards : ℕ → ℕ → Seated → Seated → Bool → Type 0
 Guards callers ticket before after true = IsGuarded ticket after × MeetsNone before after
 Guards callers ticket before after false = IsBehind callers before after
 
--- a seat but for the protection and the steps
-abbrev pub unguarded : Seated → Seated
-unguarded s = record s { known = record s.known { local = record s.known.local { protection = Unprotected; steps = 0 } } }
-
 -- CUR was loaded: the replica that it names is not the one held exclusively
-pub record SeesCurrent {O : Type 0} (lines : ℕ) (r : Running O) (lawful : List ℕ → Type 0) (step : List ℕ → List ℕ → List ℕ × List ℕ) (before after : Seated) (held : Right) : Type 0 where
-  pub at_image : IsAtImage lines r lawful step after held
+pub record SeesCurrent {O : Type 0} (o : Ghosts O) (r : Running O) (before after : Seated) (held : Right) : Type 0 where
+  pub at_image : IsAtImage o r after held
   pub apart : held.replica ≢ root_replica_of r.callers after.known.local.seen_cur
   pub fresh : after.known.local.fresh ≡ true
   pub protection : after.known.local.protection ≡ before.known.local.protection
@@ -85,8 +83,8 @@ pub record SeesCurrent {O : Type 0} (lines : ℕ) (r : Running O) (lawful : List
 
 -- The replica that the code last loaded from CUR names is held shared beside these rights, at that code's place, and nothing ended that
 -- code's use.
-pub record HoldsCurrent {O : Type 0} (lines : ℕ) (r : Running O) (lawful : List ℕ → Type 0) (rights : AllRights) (before after : Seated) (hold : Right) : Type 0 where
-  pub held : IsHeldShared lines r lawful after hold
+pub record HoldsCurrent {O : Type 0} (o : Ghosts O) (r : Running O) (rights : AllRights) (before after : Seated) (hold : Right) : Type 0 where
+  pub held : IsHeldShared (o.line_count r.object) r (o.lawful r.object) after hold
   pub here : hold.replica ≡ root_replica_of r.callers after.known.local.seen_cur
   pub place : Contains (loaded_of after.known.local.shared) (0, root_place_of r.callers after.known.local.seen_cur)
   pub with : all_rights after ≡ record rights { shared = Some hold.replica }
@@ -100,6 +98,21 @@ pub record MissesCurrent (rights : AllRights) (before after : Seated) : Type 0 w
   pub met : after.known.local.met ≡ one_more before.known.local.met
 
 -- what taking it comes to
-abbrev pub TakesCurrent : {O : Type 0} → ℕ → Running O → (List ℕ → Type 0) → AllRights → Seated → Seated → Option Right → Type 0
-TakesCurrent lines r lawful rights before after (Some hold) = HoldsCurrent lines r lawful rights before after hold
-TakesCurrent lines r lawful rights before after None = MissesCurrent rights before after
+abbrev pub TakesCurrent : {O : Type 0} → Ghosts O → Running O → AllRights → Seated → Seated → Option Right → Type 0
+TakesCurrent o r rights before after (Some hold) = HoldsCurrent o r rights before after hold
+TakesCurrent o r rights before after None = MissesCurrent rights before after
+
+-- a replica is kept, or was just taken, before the entries up to a ticket are protected, which is linked
+pub record MayKeep (ticket : ℕ) (seat : Seated) : Type 0 where
+  pub none : seat.known.local.protection ≡ Unprotected
+  pub stale : seat.known.local.fresh ≡ false
+  pub linked : ticket < seat.known.local.front
+
+-- A replica held exclusively was found behind the ring, and the current one is held shared beside it, at the place of the code last
+-- loaded from CUR. Beside these the caller has no right, no protection and no scan, and nothing is refused.
+pub record HoldsSource {O : Type 0} (o : Ghosts O) (r : Running O) (seat : Seated) (held source : Right) : Type 0 where
+  pub both : HoldsBoth (o.line_count r.object) r (o.lawful r.object) seat held source
+  pub alone : others seat.known.local ≡ record no_others { shared = Some source.replica }
+  pub none : seat.known.local.protection ≡ Unprotected
+  pub place : Contains (loaded_of seat.known.local.shared) (0, root_place_of r.callers seat.known.local.seen_cur)
+  pub fresh : seat.known.local.fresh ≡ true

@@ -1,19 +1,24 @@
 -- A replica held exclusively that is brought up to a ticket.
 use Rattle.std.specs.Prelude.{◌≡◌, ◌<◌, ℕ, List, [], ◌∷◌, None}
 use Rattle.std.specs.Option.{option_map}
+use Rattle.cx_base.specs.Memory.{Becomes}
 use Rattle.cx_base.specs.Noted.{Note}
+use Rattle.cx_base.specs.declared.object.Object.{Ghosts}
 use Rattle.cx_core.specs.declared.entry.Base.{Base}
 use Rattle.cx_core.specs.declared.entry.Entry.{Entry}
 use Rattle.cx_core.specs.declared.local.HeldShared.{HeldShared}
+use Rattle.cx_core.specs.declared.local.Protection.TheVariants.{Unprotected}
 use Rattle.cx_core.specs.Region.{slot_reply}
 use Rattle.cx_rule.specs.Fitting.{Fits}
 use Rattle.cx_rule.specs.Running.{Running}
-use Rattle.cx_rule.specs.Seats.{Seated}
+use Rattle.cx_rule.specs.Seats.{IsWithinLimit, Seated}
 use Rattle.cx_table.specs.Right.{Right}
+use Rattle.cx_turns.specs.Turns.{unguarded}
 use Rattle.mutation_queue.specs.Entries.{IsNotedEntry, ReadsEntry}
 use Rattle.replica.specs.Flushes.{IsFlushed}
-use Rattle.replica.specs.Held.{IsHeld, but_words}
-use Rattle.replica.specs.Replays.{IsImage, noted_place}
+use Rattle.replica.specs.Held.{IsHeld, beside_held, but_words}
+use Rattle.replica.specs.Regions.{HasPlace}
+use Rattle.replica.specs.Replays.{IsImage, IsReady, noted_place}
 
 -- a replica held shared but for what is loaded of it
 abbrev pub but_loads : HeldShared → HeldShared
@@ -46,9 +51,33 @@ ShowsReply lines lawful base accesses number reply = (first now : List ℕ) → 
 
 -- A replica held exclusively is the image after a place above a ticket, no word of it is dirty, and the caller's last entry there
 -- has this reply.
-pub record IsBroughtUp {O : Type 0} (lines : ℕ) (r : Running O) (lawful : List ℕ → Type 0) (step : List ℕ → List ℕ → List ℕ × List ℕ) (held : Right) (ticket : ℕ) (seat : Seated) (reply : List ℕ) : Type 0 where
-  pub is_held : IsHeld lines r lawful seat held
-  pub image : IsImage lines lawful r.base step seat.known
+pub record IsBroughtUp {O : Type 0} (o : Ghosts O) (r : Running O) (held : Right) (ticket : ℕ) (seat : Seated) (reply : List ℕ) : Type 0 where
+  pub is_held : IsHeld (o.line_count r.object) r (o.lawful r.object) seat held
+  pub image : IsImage (o.line_count r.object) (o.lawful r.object) r.base (o.step r.object) seat.known
   pub clean : IsFlushed seat
   pub place : ticket < noted_place seat
-  pub reply_is : ShowsReply lines lawful r.base seat.known.accesses seat.known.local.number reply
+  pub reply_is : ShowsReply (o.line_count r.object) (o.lawful r.object) r.base seat.known.accesses seat.known.local.number reply
+  pub none : seat.known.local.protection ≡ Unprotected
+
+-- a replica held exclusively is the image after a place above a ticket
+pub record IsReplayed {O : Type 0} (o : Ghosts O) (r : Running O) (held : Right) (ticket : ℕ) (seat : Seated) : Type 0 where
+  pub ready : IsReady o r held (noted_place seat) seat
+  pub place : ticket < noted_place seat
+
+-- It is the image after the place that it had, no word of it is dirty, and the caller's last entry there has this reply.
+pub record IsSettled {O : Type 0} (o : Ghosts O) (r : Running O) (held : Right) (before after : Seated) (reply : List ℕ) : Type 0 where
+  pub ready : IsReady o r held (noted_place before) after
+  pub clean : IsFlushed after
+  pub reply_is : ShowsReply (o.line_count r.object) (o.lawful r.object) r.base after.known.accesses after.known.local.number reply
+
+-- Words of the replica held were loaded, and nothing else is changed.
+pub record LoadsOnly {O : Type 0} (o : Ghosts O) (r : Running O) (held : Right) (before after : Seated) : Type 0 where
+  pub still : IsHeld (o.line_count r.object) r (o.lawful r.object) after held
+  pub unchanged : Becomes (Fits (o.line_count r.object) (o.lawful r.object) r.base before.known.accesses) (Fits (o.line_count r.object) (o.lawful r.object) r.base after.known.accesses) ◌≡◌
+  pub begun : HasPlace after.known.accesses
+  pub within : IsWithinLimit after.known.local
+  pub rest : beside_held held.replica after ≡ beside_held held.replica before
+
+-- the seat beside work on the replica and the caller's protection
+abbrev pub beside_bringing : Seated → Seated
+beside_bringing s = beside_work (unguarded s)

@@ -1,9 +1,10 @@
 -- What a caller that takes a replica, whichever is free, comes to.
-use Rattle.std.specs.Prelude.{◌≡◌, if◌then◌else◌, ℕ, List, [], Option, Some, None}
+use Rattle.std.specs.Prelude.{◌≡◌, if◌then◌else◌, ℕ, [], Option, Some, None}
+use Rattle.cx_base.specs.declared.object.Object.{Ghosts}
 use Rattle.cx_core.specs.LockEvents.{has_all, with_number}
 use Rattle.cx_core.specs.State.{one_more}
-use Rattle.cx_rule.specs.Running.{Running}
-use Rattle.cx_rule.specs.Seats.{Seated}
+use Rattle.cx_rule.specs.Running.{IsSeatOf, Running}
+use Rattle.cx_rule.specs.Seats.{IsAtLimit, Seated}
 use Rattle.cx_table.specs.Right.{Right}
 use Rattle.replica.specs.Laws.{IsTaken}
 use Rattle.strong_trylock.specs.Held.{all_rights, no_rights}
@@ -19,15 +20,15 @@ beside_tries s = record s {
   };
 }
 
--- the front, and what was seen of CUR, are as before
-pub record KeepsSeen (before after : Seated) : Type 0 where
-  pub front : after.known.local.front ≡ before.known.local.front
-  pub cur : after.known.local.seen_cur ≡ before.known.local.seen_cur
-  pub fresh : after.known.local.fresh ≡ before.known.local.fresh
+-- a caller of this table without rights, to which no replica is refused yet
+pub record MayTake {O : Type 0} (r : Running O) (seat : Seated) : Type 0 where
+  pub of : IsSeatOf r seat
+  pub free : all_rights seat ≡ no_rights
+  pub refused : seat.known.local.refused ≡ []
 
 -- a replica was just taken, which is the caller's only right
-pub record TakesOne {O : Type 0} (lines : ℕ) (r : Running O) (lawful : List ℕ → Type 0) (before after : Seated) (held : Right) : Type 0 where
-  pub taken : IsTaken lines r lawful after held
+pub record TakesOne {O : Type 0} (o : Ghosts O) (r : Running O) (before after : Seated) (held : Right) : Type 0 where
+  pub taken : IsTaken (o.line_count r.object) r (o.lawful r.object) after held
   pub rights : all_rights after ≡ record no_rights { exclusive = Some held.replica }
   pub refused : after.known.local.refused ≡ []
   pub met : after.known.local.met ≡ before.known.local.met
@@ -44,10 +45,15 @@ pub record IsRefusedByAll (before after : Seated) : Type 0 where
   pub refused : after.known.local.refused ≡ []
   pub met : after.known.local.met ≡ one_more before.known.local.met
 
-abbrev pub TriesOne : {O : Type 0} → ℕ → Running O → (List ℕ → Type 0) → ℕ → Seated → Seated → Option Right → Type 0
-TriesOne lines r lawful replica before after (Some held) = TakesOne lines r lawful before after held
-TriesOne lines r lawful replica before after None = IsRefusedBy r.callers replica before after
+abbrev pub TriesOne : {O : Type 0} → Ghosts O → Running O → ℕ → Seated → Seated → Option Right → Type 0
+TriesOne o r replica before after (Some held) = TakesOne o r before after held
+TriesOne o r replica before after None = IsRefusedBy r.callers replica before after
 
-abbrev pub TakesAny : {O : Type 0} → ℕ → Running O → (List ℕ → Type 0) → Seated → Seated → Option Right → Type 0
-TakesAny lines r lawful before after (Some held) = TakesOne lines r lawful before after held
-TakesAny lines r lawful before after None = IsRefusedByAll before after
+abbrev pub TakesAny : {O : Type 0} → Ghosts O → Running O → Seated → Seated → Option Right → Type 0
+TakesAny o r before after (Some held) = TakesOne o r before after held
+TakesAny o r before after None = IsRefusedByAll before after
+
+-- the limit was come to before each replica had refused the caller
+pub record HaltsTaking (before after : Seated) : Type 0 where
+  pub limit : IsAtLimit after.known.local
+  pub met : after.known.local.met ≡ before.known.local.met

@@ -1,9 +1,11 @@
--- A caller between its calls, what a refusal leaves, and what no step of a turn changes before its raise.
-use Rattle.std.specs.Prelude.{◌≡◌, false, [], None}
+-- A caller between its calls, what a refusal and a halt leave, and what no step of a turn changes before its raise.
+use Rattle.std.specs.Prelude.{◌≡◌, ◌+◌, ◌<◌, ◌≤◌, false, ℕ, [], None, Some}
 use Rattle.cx_core.specs.declared.local.Local.{Local}
 use Rattle.cx_core.specs.declared.local.Protection.TheVariants.{Unprotected}
 use Rattle.cx_core.specs.State.{one_more}
-use Rattle.cx_rule.specs.Seats.{Seated}
+use Rattle.cx_core.specs.Rights.{exclusive_on}
+use Rattle.cx_rule.specs.Running.{IsSeatOf, Running}
+use Rattle.cx_rule.specs.Seats.{IsAtLimit, Seated}
 use Rattle.strong_trylock.specs.Held.{all_rights, no_rights}
 
 -- a caller that is in no call: it has no right, no protection and no scan, no replica is refused to it, and what it saw of CUR is
@@ -58,3 +60,42 @@ beside_turn s = record s {
     accesses = [];
   };
 }
+
+-- what a call leaves of a seat: it is one of the table, and what the call does not change, which this function gives, is as it was
+pub record Keeps {O : Type 0} (r : Running O) (beside : Seated → Seated) (before after : Seated) : Type 0 where
+  pub seat : IsSeatOf r after
+  pub rest : beside after ≡ beside before
+
+-- the same of a call that may raise the front
+pub record Turns {O : Type 0} (r : Running O) (beside : Seated → Seated) (before after : Seated) : Type 0 where
+  pub seat : IsSeatOf r after
+  pub rest : beside after ≡ beside before
+  pub front : before.known.local.front ≤ after.known.local.front
+
+-- The limit was come to, and a further step was due: no refusal was met, or a right stands that is still to be given up. At most one
+-- refusal was met.
+pub record HaltsTurn (before after : Seated) : Type 0 where
+  pub limit : IsAtLimit after.known.local
+  pub most : after.known.local.met ≤ before.known.local.met + 1
+  pub due : all_rights after ≡ no_rights → after.known.local.met ≡ before.known.local.met
+
+-- the same while a replica is held exclusively, which is still to be given up
+pub record HaltsHolding (replica : ℕ) (before after : Seated) : Type 0 where
+  pub limit : IsAtLimit after.known.local
+  pub most : after.known.local.met ≤ before.known.local.met + 1
+  pub holds : exclusive_on after.known.local ≡ Some replica
+
+-- a caller in no call that may begin a turn for its entry with a ticket, which is linked
+pub record MayTurn {O : Type 0} (r : Running O) (ticket : ℕ) (seat : Seated) : Type 0 where
+  pub of : IsSeatOf r seat
+  pub rest : IsAtRest seat.known.local
+  pub linked : ticket < seat.known.local.front
+
+-- the limit was come to, and at most one refusal was met
+pub record HaltsMeeting (before after : Seated) : Type 0 where
+  pub limit : IsAtLimit after.known.local
+  pub most : after.known.local.met ≤ before.known.local.met + 1
+
+-- a seat but for the protection and the steps
+abbrev pub unguarded : Seated → Seated
+unguarded s = record s { known = record s.known { local = record s.known.local { protection = Unprotected; steps = 0 } } }

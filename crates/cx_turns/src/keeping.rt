@@ -1,24 +1,21 @@
 //! A replica that was just taken is kept where the entries from its place on may be read, and else the current one is copied over it.
 //! `Halt` comes only where no access is left.
 
-ghost use Rattle.std.specs.Prelude.{◌≡◌, ◌<◌, ◌≤◌, true, false, IfOk, OnErr, OnOk};
-ghost use Rattle.std.specs.List.{Contains};
-ghost use Rattle.cx_base.specs.Codes.{root_place_of};
+ghost use Rattle.std.specs.Prelude.{◌<◌, ◌≡◌, MatchResult, false};
 ghost use Rattle.cx_core.specs.declared.local.Protection.TheVariants.{Unprotected};
-ghost use Rattle.cx_rule.specs.Fitting.{loaded_of};
 ghost use Rattle.cx_rule.specs.Running.{IsSeatOf};
 ghost use Rattle.cx_rule.specs.Seats.{IsAtLimit};
-ghost use Rattle.cx_turns.specs.Keeping.{Guards, IsAtImage, SeesCurrent, TriesKeep, no_others, others, unguarded};
-ghost use Rattle.cx_turns.specs.Turns.{IsAtRest, beside_turn};
+ghost use Rattle.cx_turns.specs.Keeping.{Guards, HoldsSource, IsAtImage, MayKeep, SeesCurrent, TriesKeep};
+ghost use Rattle.cx_turns.specs.Turns.{HaltsHolding, HaltsMeeting, IsAtRest, Keeps, Turns, beside_turn, unguarded};
 ghost use Rattle.mutation_queue.specs.Protections.{but_protected};
-ghost use Rattle.replica.specs.Copies.{HoldsBoth};
 ghost use Rattle.replica.specs.Replays.{noted_place};
+ghost use Rattle.cx_rule.specs.Steps.{Halts};
 
 use crate::reading::take_current;
 use cx_base::{Halt, Object};
 use cx_core::Protection;
 use cx_table::{CallerSeat, Exclusive, Shared, SharedHold};
-use mutation_queue::{Protected, protect, unprotect};
+use mutation_queue::{Protected, protect};
 use replica::{flush, renew_from};
 use strong_trylock::release;
 
@@ -32,15 +29,10 @@ pub fn keep<O: Object>(
     held: Exclusive,
     ticket: u64,
 ) -> Result<Option<Exclusive>, Halt>
-    requires held { IsAtImage (O.line_count shared.now.object) shared.now (O.lawful shared.now.object) (O.step shared.now.object) seat.old held }
-    requires none { seat.old.known.local.protection ≡ Unprotected }
-    requires stale { seat.old.known.local.fresh ≡ false }
-    requires linked { ticket < seat.old.known.local.front }
-    ensures kept { IfOk result (TriesKeep (O.line_count shared.now.object) shared.now (O.lawful shared.now.object) (O.step shared.now.object) ticket seat.old seat.new) }
-    ensures halted { OnErr result (IsAtLimit seat.new.known.local) }
-    ensures rest { beside_turn seat.new ≡ beside_turn seat.old }
-    ensures front { seat.old.known.local.front ≤ seat.new.known.local.front }
-    ensures seat { IsSeatOf shared.now seat.new }
+    requires held { IsAtImage O.Object shared.now seat.old held }
+    requires ready { MayKeep ticket seat.old }
+    ensures kept { MatchResult result (TriesKeep O.Object shared.now ticket seat.old seat.new) (λ _. HaltsHolding held.replica seat.old seat.new) }
+    ensures turns { Turns shared.now beside_turn seat.old seat.new }
 {
     if guard(shared, seat, ticket)? {
         return Ok(Some(held));
@@ -53,10 +45,8 @@ fn guard<O: Object>(shared: &Shared<O>, seat: &mut CallerSeat, ticket: u64) -> R
     requires seat { IsSeatOf shared.now seat.old }
     requires none { seat.old.known.local.protection ≡ Unprotected }
     requires linked { ticket < seat.old.known.local.front }
-    ensures guarded { IfOk result (Guards shared.now.callers ticket seat.old seat.new) }
-    ensures halted { OnErr result (IsAtLimit seat.new.known.local) }
-    ensures rest { but_protected seat.new ≡ but_protected seat.old }
-    ensures seat { IsSeatOf shared.now seat.new }
+    ensures guarded { MatchResult result (Guards shared.now.callers ticket seat.old seat.new) (λ _. HaltsMeeting seat.old seat.new) }
+    ensures keeps { Keeps shared.now but_protected seat.old seat.new }
 {
     // tickets are few
     let _front = seat.front();
@@ -77,15 +67,12 @@ fn copy_current<O: Object>(
     held: Exclusive,
     ticket: u64,
 ) -> Result<Option<Exclusive>, Halt>
-    requires held { IsAtImage (O.line_count shared.now.object) shared.now (O.lawful shared.now.object) (O.step shared.now.object) seat.old held }
+    requires held { IsAtImage O.Object shared.now seat.old held }
     requires none { seat.old.known.local.protection ≡ Unprotected }
     requires behind { noted_place seat.old < seat.old.known.local.seen_low }
     requires linked { ticket < seat.old.known.local.front }
-    ensures kept { IfOk result (TriesKeep (O.line_count shared.now.object) shared.now (O.lawful shared.now.object) (O.step shared.now.object) ticket seat.old seat.new) }
-    ensures halted { OnErr result (IsAtLimit seat.new.known.local) }
-    ensures rest { beside_turn seat.new ≡ beside_turn seat.old }
-    ensures front { seat.old.known.local.front ≤ seat.new.known.local.front }
-    ensures seat { IsSeatOf shared.now seat.new }
+    ensures kept { MatchResult result (TriesKeep O.Object shared.now ticket seat.old seat.new) (λ _. HaltsHolding held.replica seat.old seat.new) }
+    ensures turns { Turns shared.now beside_turn seat.old seat.new }
 {
     load_current(shared, seat, &held)?;
     match take_current(shared, seat)? {
@@ -103,12 +90,9 @@ fn load_current<O: Object>(
     seat: &mut CallerSeat,
     held: &Exclusive,
 ) -> Result<(), Halt>
-    requires held { IsAtImage (O.line_count shared.now.object) shared.now (O.lawful shared.now.object) (O.step shared.now.object) seat.old held.now }
-    ensures seen { OnOk result (SeesCurrent (O.line_count shared.now.object) shared.now (O.lawful shared.now.object) (O.step shared.now.object) seat.old seat.new held.now) }
-    ensures halted { OnErr result (IsAtLimit seat.new.known.local) }
-    ensures rest { beside_turn seat.new ≡ beside_turn seat.old }
-    ensures front { seat.old.known.local.front ≤ seat.new.known.local.front }
-    ensures seat { IsSeatOf shared.now seat.new }
+    requires held { IsAtImage O.Object shared.now seat.old held.now }
+    ensures seen { MatchResult result (λ _. SeesCurrent O.Object shared.now seat.old seat.new held.now) (λ _. Halts shared.now seat.old seat.new) }
+    ensures turns { Turns shared.now beside_turn seat.old seat.new }
 {
     let _ = held;
     shared.load_cur(seat)?;
@@ -124,17 +108,10 @@ fn copy_and_keep<O: Object>(
     source: SharedHold,
     ticket: u64,
 ) -> Result<Option<Exclusive>, Halt>
-    requires both { HoldsBoth (O.line_count shared.now.object) shared.now (O.lawful shared.now.object) seat.old held source }
-    requires alone { others seat.old.known.local ≡ record no_others { shared = Some source.replica } }
-    requires none { seat.old.known.local.protection ≡ Unprotected }
-    requires place { Contains (loaded_of seat.old.known.local.shared) (0, root_place_of shared.now.callers seat.old.known.local.seen_cur) }
-    requires fresh { seat.old.known.local.fresh ≡ true }
+    requires source { HoldsSource O.Object shared.now seat.old held source }
     requires linked { ticket < seat.old.known.local.front }
-    ensures kept { IfOk result (TriesKeep (O.line_count shared.now.object) shared.now (O.lawful shared.now.object) (O.step shared.now.object) ticket seat.old seat.new) }
-    ensures halted { OnErr result (IsAtLimit seat.new.known.local) }
-    ensures rest { beside_turn seat.new ≡ beside_turn seat.old }
-    ensures front { seat.new.known.local.front ≡ seat.old.known.local.front }
-    ensures seat { IsSeatOf shared.now seat.new }
+    ensures kept { MatchResult result (TriesKeep O.Object shared.now ticket seat.old seat.new) (λ _. HaltsHolding held.replica seat.old seat.new) }
+    ensures turns { Turns shared.now beside_turn seat.old seat.new }
 {
     renew_from(shared, seat, &held, source)?;
     if guard(shared, seat, ticket)? {
@@ -150,31 +127,26 @@ fn give_up<O: Object>(
     seat: &mut CallerSeat,
     held: Exclusive,
 ) -> Result<(), Halt>
-    requires held { IsAtImage (O.line_count shared.now.object) shared.now (O.lawful shared.now.object) (O.step shared.now.object) seat.old held }
+    requires held { IsAtImage O.Object shared.now seat.old held }
     requires none { seat.old.known.local.protection ≡ Unprotected }
     requires stale { seat.old.known.local.fresh ≡ false }
-    ensures ended { OnOk result (IsAtRest seat.new.known.local) }
-    ensures met { OnOk result (seat.new.known.local.met ≡ seat.old.known.local.met) }
-    ensures halted { OnErr result (IsAtLimit seat.new.known.local) }
-    ensures rest { beside_turn seat.new ≡ beside_turn seat.old }
-    ensures front { seat.new.known.local.front ≡ seat.old.known.local.front }
-    ensures seat { IsSeatOf shared.now seat.new }
+    ensures ended { MatchResult result (λ _. IsAtRest seat.new.known.local) (λ _. HaltsHolding held.replica seat.old seat.new) }
+    ensures met { seat.new.known.local.met ≡ seat.old.known.local.met }
+    ensures turns { Turns shared.now beside_turn seat.old seat.new }
 {
     flush(shared, seat, &held)?;
-    release(shared, seat, held)
+    release(shared, seat, held)?;
+    Ok(())
 }
 
 /// Removes the protection, where one stands.
 pub fn unguard<O: Object>(shared: &Shared<O>, seat: &mut CallerSeat) -> Result<(), Halt>
     requires seat { IsSeatOf shared.now seat.old }
-    ensures removed { OnOk result (unguarded seat.new ≡ unguarded seat.old) }
-    ensures none { OnOk result (seat.new.known.local.protection ≡ Unprotected) }
-    ensures halted { OnErr result (IsAtLimit seat.new.known.local) }
-    ensures rest { but_protected seat.new ≡ but_protected seat.old }
-    ensures seat { IsSeatOf shared.now seat.new }
+    ensures removed { MatchResult result (λ _. seat.new.known.local.protection ≡ Unprotected) (λ _. IsAtLimit seat.new.known.local) }
+    ensures keeps { Keeps shared.now unguarded seat.old seat.new }
 {
     match seat.protection() {
         Protection::Unprotected => Ok(()),
-        Protection::Stated(_) | Protection::Confirmed(_) => unprotect(shared, seat),
+        Protection::Stated(_) | Protection::Confirmed(_) => shared.unprotect(seat),
     }
 }

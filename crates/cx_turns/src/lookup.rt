@@ -1,14 +1,14 @@
 //! A turn for a read beside the queue: the current replica is read, and DUR is raised by its code, by which the read is answered.
 
-ghost use Rattle.std.specs.Prelude.{◌≡◌, ◌≤◌, IfOk, IsTrue, None, OnErr, OnOk, Some};
+ghost use Rattle.std.specs.Prelude.{◌≡◌, IfOk, IsTrue, MatchResult, None, OnErr, OnOk, Some};
 ghost use Rattle.cx_core.specs.RootEvents.{CanAnswer};
 ghost use Rattle.cx_rule.specs.Raises.{TellsRead};
 ghost use Rattle.cx_base.specs.Codes.{root_place_of};
 ghost use Rattle.cx_rule.specs.Running.{IsSeatOf, instance_at};
 ghost use Rattle.cx_rule.specs.Seats.{IsAtLimit, unanswered_ticket};
 ghost use Rattle.cx_rule.specs.Steps.{Halts};
-ghost use Rattle.cx_turns.specs.Answering.{AnswersRead, AnswersReadBy, HaltsLookup, IsLookedUp, LooksUp, beside_lookup, seen_at};
-ghost use Rattle.cx_turns.specs.Turns.{IsAtRest};
+ghost use Rattle.cx_turns.specs.Answering.{AnswersRead, AnswersReadBy, HaltsLookup, IsLookedUp, LooksUp, MayLook, beside_lookup, seen_at};
+ghost use Rattle.cx_turns.specs.Turns.{Turns};
 
 use crate::reading::read_current;
 use cx_base::{Halt, Object, root_place};
@@ -33,16 +33,12 @@ pub fn read_turn<O: Object>(
     op: &[u64; 144],
     reply: &mut [u64; 144],
 ) -> Result<Option<u64>, Halt>
-    requires seat { IsSeatOf shared.now seat.old }
-    requires rest { IsAtRest seat.old.known.local }
-    requires answered { unanswered_ticket seat.old.known.local ≡ None }
+    requires ready { MayLook shared.now seat.old }
     requires reads { IsTrue (O.only_reads shared.now.object op.now) }
     ensures allowed { OnOk result (¬ IsAtLimit seat.old.known.local) }
     ensures turned { IfOk result (λ place. LooksUp op.now seat.old seat.new (seen_at reply.new place)) }
     ensures halted { OnErr result (HaltsLookup op.now seat.old seat.new) }
-    ensures rest { beside_lookup seat.new ≡ beside_lookup seat.old }
-    ensures front { seat.old.known.local.front ≤ seat.new.known.local.front }
-    ensures seat { IsSeatOf shared.now seat.new }
+    ensures turns { Turns shared.now beside_lookup seat.old seat.new }
 {
     shared.load_cur(seat)?;
     let Some(hold) = read_current(shared, seat, op, reply)? else {
@@ -61,18 +57,16 @@ fn settle_read<O: Object>(
     op: &[u64; 144],
     reply: &[u64; 144],
 ) -> Result<(), Halt>
-    requires seat { IsSeatOf shared.now seat.old }
-    requires read { IsLookedUp (O.line_count shared.now.object) shared.now (O.lawful shared.now.object) (O.step shared.now.object) op.now reply.now seat.old hold }
+    requires read { IsLookedUp O.Object shared.now op.now reply.now seat.old hold }
     requires reads { IsTrue (O.only_reads shared.now.object op.now) }
     ensures answered { OnOk result (AnswersRead op.now (root_place_of shared.now.callers seat.old.known.local.seen_cur) reply.now seat.old seat.new) }
     ensures halted { OnErr result (HaltsLookup op.now seat.old seat.new) }
-    ensures rest { beside_lookup seat.new ≡ beside_lookup seat.old }
-    ensures front { seat.old.known.local.front ≤ seat.new.known.local.front }
-    ensures seat { IsSeatOf shared.now seat.new }
+    ensures turns { Turns shared.now beside_lookup seat.old seat.new }
 {
     let code = seat.seen_cur();
     answer_read(shared, seat, code, op, reply)?;
-    release_shared(shared, seat, hold)
+    release_shared(shared, seat, hold)?;
+    Ok(())
 }
 
 /// Raises DUR by the code last loaded from CUR, which answers the read.
@@ -88,8 +82,7 @@ fn answer_read<O: Object>(
     requires answered { unanswered_ticket seat.old.known.local ≡ None }
     requires guard { CanAnswer (instance_at shared.now O.step O.only_reads) code seat.old.known.local (Some op.now) }
     requires reply { TellsRead shared.now.lines (O.lawful shared.now.object) shared.now.base (O.step shared.now.object) seat.old.known op.now reply.now }
-    ensures answered { OnOk result (AnswersReadBy shared.now O.step O.only_reads code op.now reply.now seat.old seat.new) }
-    ensures halted { OnErr result (Halts shared.now seat.old seat.new) }
+    ensures answered { MatchResult result (λ _. AnswersReadBy O.Object shared.now code op.now reply.now seat.old seat.new) (λ _. Halts shared.now seat.old seat.new) }
 {
     make_durable(shared, seat, code, Some(AnsweredRead { op, reply }))
 }

@@ -1,12 +1,10 @@
 //! A replica is made ready to be published.
 
-ghost use Rattle.std.specs.Prelude.{◌≡◌, ◌<◌, ◌≤◌, false, IfOk, OnErr, OnOk};
-ghost use Rattle.cx_core.specs.declared.local.Protection.TheVariants.{Unprotected};
-ghost use Rattle.cx_rule.specs.Running.{IsSeatOf};
+ghost use Rattle.std.specs.Prelude.{◌<◌, ◌≡◌, IfOk, MatchResult, OnErr, OnOk};
 ghost use Rattle.cx_rule.specs.Seats.{IsAtLimit};
-ghost use Rattle.cx_turns.specs.Keeping.{IsKept, no_others, others};
+ghost use Rattle.cx_turns.specs.Keeping.{IsKept, MayKeep, no_others, others};
 ghost use Rattle.cx_turns.specs.Preparing.{Prepares, TriesPrepare};
-ghost use Rattle.cx_turns.specs.Turns.{IsAtRest, beside_turn};
+ghost use Rattle.cx_turns.specs.Turns.{HaltsTurn, MayTurn, Turns, beside_turn};
 ghost use Rattle.replica.specs.Laws.{IsTaken};
 
 use crate::keeping::keep;
@@ -35,15 +33,11 @@ pub fn prepare<O: Object>(
     seat: &mut CallerSeat,
     ticket: u64,
 ) -> Result<Option<Prepared>, Halt>
-    requires seat { IsSeatOf shared.now seat.old }
-    requires rest { IsAtRest seat.old.known.local }
-    requires linked { ticket < seat.old.known.local.front }
+    requires ready { MayTurn shared.now ticket seat.old }
     ensures allowed { OnOk result (¬ IsAtLimit seat.old.known.local) }
-    ensures prepared { IfOk result (TriesPrepare shared.now (O.lawful shared.now.object) (O.step shared.now.object) ticket seat.old seat.new) }
-    ensures halted { OnErr result (IsAtLimit seat.new.known.local) }
-    ensures rest { beside_turn seat.new ≡ beside_turn seat.old }
-    ensures front { seat.old.known.local.front ≤ seat.new.known.local.front }
-    ensures seat { IsSeatOf shared.now seat.new }
+    ensures prepared { IfOk result (TriesPrepare O.Object shared.now ticket seat.old seat.new) }
+    ensures halted { OnErr result (HaltsTurn seat.old seat.new) }
+    ensures turns { Turns shared.now beside_turn seat.old seat.new }
 {
     match take_any(shared, seat)? {
         Some(held) => renew(shared, seat, held, ticket),
@@ -60,14 +54,10 @@ fn renew<O: Object>(
 ) -> Result<Option<Prepared>, Halt>
     requires taken { IsTaken (O.line_count shared.now.object) shared.now (O.lawful shared.now.object) seat.old held }
     requires alone { others seat.old.known.local ≡ no_others }
-    requires none { seat.old.known.local.protection ≡ Unprotected }
-    requires stale { seat.old.known.local.fresh ≡ false }
-    requires linked { ticket < seat.old.known.local.front }
-    ensures prepared { IfOk result (TriesPrepare shared.now (O.lawful shared.now.object) (O.step shared.now.object) ticket seat.old seat.new) }
-    ensures halted { OnErr result (IsAtLimit seat.new.known.local) }
-    ensures rest { beside_turn seat.new ≡ beside_turn seat.old }
-    ensures front { seat.old.known.local.front ≤ seat.new.known.local.front }
-    ensures seat { IsSeatOf shared.now seat.new }
+    requires ready { MayKeep ticket seat.old }
+    ensures prepared { IfOk result (TriesPrepare O.Object shared.now ticket seat.old seat.new) }
+    ensures halted { OnErr result (HaltsTurn seat.old seat.new) }
+    ensures turns { Turns shared.now beside_turn seat.old seat.new }
 {
     begin(shared, seat, &held)?;
     match keep(shared, seat, held, ticket)? {
@@ -83,13 +73,10 @@ fn finish<O: Object>(
     held: Exclusive,
     ticket: u64,
 ) -> Result<Prepared, Halt>
-    requires kept { IsKept (O.line_count shared.now.object) shared.now (O.lawful shared.now.object) (O.step shared.now.object) ticket seat.old seat.old held }
+    requires kept { IsKept O.Object shared.now ticket seat.old seat.old held }
     requires linked { ticket < seat.old.known.local.front }
-    ensures prepared { IfOk result (Prepares shared.now (O.lawful shared.now.object) (O.step shared.now.object) ticket seat.old seat.new) }
-    ensures halted { OnErr result (IsAtLimit seat.new.known.local) }
-    ensures rest { beside_turn seat.new ≡ beside_turn seat.old }
-    ensures front { seat.new.known.local.front ≡ seat.old.known.local.front }
-    ensures seat { IsSeatOf shared.now seat.new }
+    ensures prepared { MatchResult result (Prepares O.Object shared.now ticket seat.old seat.new) (λ _. HaltsTurn seat.old seat.new) }
+    ensures turns { Turns shared.now beside_turn seat.old seat.new }
 {
     let reply = bring_up(shared, seat, &held, ticket)?;
     let held = downgrade(shared, seat, held)?;

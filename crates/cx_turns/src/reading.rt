@@ -1,19 +1,17 @@
 //! The current replica is read beside the queue. `Halt` comes only where no access is left.
 
-ghost use Rattle.std.specs.Prelude.{◌≡◌, ◌*◌, ◌^◌, ◌<◌, true, false, IfOk, IsTrue, None, OnErr, OnOk, Some};
-ghost use Rattle.std.specs.List.{Contains};
+ghost use Rattle.std.specs.Prelude.{◌*◌, ◌<◌, ◌^◌, ◌≡◌, IsTrue, MatchResult, None, OnErr, OnOk, Some, false, true};
 ghost use Rattle.cx_base.specs.Codes.{root_replica_of};
 ghost use Rattle.cx_base.specs.Memory.{Always, Becomes, Framed, Reads};
 ghost use Rattle.cx_core.specs.LockEvents.{CanTryShared};
 ghost use Rattle.cx_core.specs.Region.{object_part, region_words};
 ghost use Rattle.cx_core.specs.Rights.{exclusive_on, is_at};
-ghost use Rattle.cx_rule.specs.Fitting.{loaded_of};
 ghost use Rattle.cx_rule.specs.Running.{IsSeatOf};
 ghost use Rattle.cx_rule.specs.Seats.{IsAtLimit};
 ghost use Rattle.cx_rule.specs.Raises.{TellsRead};
 ghost use Rattle.cx_turns.specs.Keeping.{HoldsCurrent, TakesCurrent};
-ghost use Rattle.cx_turns.specs.Reads.{IsRead, ReadsCurrent, beside_read};
-ghost use Rattle.cx_turns.specs.Turns.{beside_turn};
+ghost use Rattle.cx_turns.specs.Reads.{HoldsPlace, IsRead, MayRead, ReadsCurrent, beside_read};
+ghost use Rattle.cx_turns.specs.Turns.{HaltsTurn, Keeps};
 ghost use Rattle.replica.specs.Held.{IsHeldShared, beside_shared};
 ghost use Rattle.strong_trylock.specs.Held.{all_rights, no_rights};
 
@@ -80,14 +78,11 @@ pub fn query_held<O: Object>(
     op: &[u64; 144],
     reply: &mut [u64; 144],
 ) -> Result<(), Halt>
-    requires held { IsHeldShared (O.line_count shared.now.object) shared.now (O.lawful shared.now.object) seat.old held.now }
-    requires place { Contains (loaded_of seat.old.known.local.shared) (0, place) }
+    requires placed { HoldsPlace O.Object shared.now place seat.old held.now }
     requires reads { IsTrue (O.only_reads shared.now.object op.now) }
-    ensures held { IsHeldShared (O.line_count shared.now.object) shared.now (O.lawful shared.now.object) seat.new held.now }
-    ensures place { Contains (loaded_of seat.new.known.local.shared) (0, place) }
-    ensures reply { OnOk result (TellsRead (O.line_count shared.now.object) (O.lawful shared.now.object) shared.now.base (O.step shared.now.object) seat.new.known op.now reply.new) }
+    ensures placed { HoldsPlace O.Object shared.now place seat.new held.now }
+    ensures reply { MatchResult result (λ _. TellsRead (O.line_count shared.now.object) (O.lawful shared.now.object) shared.now.base (O.step shared.now.object) seat.new.known op.now reply.new) (λ _. IsAtLimit seat.new.known.local) }
     ensures rest { beside_shared held.now.replica seat.new ≡ beside_shared held.now.replica seat.old }
-    ensures halts { OnErr result (IsAtLimit seat.new.known.local) }
 {
     let object = shared.object();
     query_part(
@@ -108,15 +103,10 @@ pub fn read_current<O: Object>(
     op: &[u64; 144],
     reply: &mut [u64; 144],
 ) -> Result<Option<SharedHold>, Halt>
-    requires seat { IsSeatOf shared.now seat.old }
-    requires free { all_rights seat.old ≡ no_rights }
-    requires fresh { seat.old.known.local.fresh ≡ true }
+    requires ready { MayRead shared.now seat.old }
     requires reads { IsTrue (O.only_reads shared.now.object op.now) }
-    ensures read { IfOk result (ReadsCurrent (O.line_count shared.now.object) shared.now (O.lawful shared.now.object) (O.step shared.now.object) op.now reply.new seat.old seat.new) }
-    ensures seat { IsSeatOf shared.now seat.new }
-    ensures rest { beside_turn seat.new ≡ beside_turn seat.old }
-    ensures unread { beside_read seat.new ≡ beside_read seat.old }
-    ensures halts { OnErr result (IsAtLimit seat.new.known.local) }
+    ensures read { MatchResult result (ReadsCurrent O.Object shared.now op.now reply.new seat.old seat.new) (λ _. HaltsTurn seat.old seat.new) }
+    ensures keeps { Keeps shared.now beside_read seat.old seat.new }
 {
     // callers are some
     let _callers = shared.callers();
@@ -134,12 +124,10 @@ fn read_taken<O: Object>(
     op: &[u64; 144],
     reply: &mut [u64; 144],
 ) -> Result<SharedHold, Halt>
-    requires current { HoldsCurrent (O.line_count shared.now.object) shared.now (O.lawful shared.now.object) no_rights seat.old seat.old hold }
+    requires current { HoldsCurrent O.Object shared.now no_rights seat.old seat.old hold }
     requires reads { IsTrue (O.only_reads shared.now.object op.now) }
-    ensures read { IfOk result (IsRead (O.line_count shared.now.object) shared.now (O.lawful shared.now.object) (O.step shared.now.object) op.now reply.new seat.old seat.new) }
-    ensures seat { IsSeatOf shared.now seat.new }
-    ensures unread { beside_read seat.new ≡ beside_read seat.old }
-    ensures halts { OnErr result (IsAtLimit seat.new.known.local) }
+    ensures read { MatchResult result (IsRead O.Object shared.now op.now reply.new seat.old seat.new) (λ _. HaltsTurn seat.old seat.new) }
+    ensures keeps { Keeps shared.now beside_read seat.old seat.new }
 {
     let place = root_place(shared.callers(), seat.seen_cur());
     query_held(shared, seat, &hold, place, op, reply)?;
@@ -156,11 +144,8 @@ pub(crate) fn take_current<O: Object>(
     requires seat { IsSeatOf shared.now seat.old }
     requires free { CanTryShared shared.now.callers (root_replica_of shared.now.callers seat.old.known.local.seen_cur) seat.old.known.local }
     requires fresh { seat.old.known.local.fresh ≡ true }
-    ensures taken { IfOk result (TakesCurrent (O.line_count shared.now.object) shared.now (O.lawful shared.now.object) (all_rights seat.old) seat.old seat.new) }
-    ensures seat { IsSeatOf shared.now seat.new }
-    ensures rest { beside_turn seat.new ≡ beside_turn seat.old }
-    ensures unread { beside_read seat.new ≡ beside_read seat.old }
-    ensures halts { OnErr result (IsAtLimit seat.new.known.local) }
+    ensures taken { MatchResult result (TakesCurrent O.Object shared.now (all_rights seat.old) seat.old seat.new) (λ _. HaltsTurn seat.old seat.new) }
+    ensures keeps { Keeps shared.now beside_read seat.old seat.new }
 {
     let _lines = shared.lines();
     let replica = root_replica(shared.callers(), seat.seen_cur());
@@ -181,10 +166,8 @@ fn test_place<O: Object>(
     requires here { hold.replica ≡ root_replica_of shared.now.callers seat.old.known.local.seen_cur }
     requires apart { is_at hold.replica (exclusive_on seat.old.known.local) ≡ false }
     requires fresh { seat.old.known.local.fresh ≡ true }
-    ensures taken { IfOk result (TakesCurrent (O.line_count shared.now.object) shared.now (O.lawful shared.now.object) (record (all_rights seat.old) { shared = None }) seat.old seat.new) }
-    ensures seat { IsSeatOf shared.now seat.new }
-    ensures unread { beside_read seat.new ≡ beside_read seat.old }
-    ensures halts { OnErr result (IsAtLimit seat.new.known.local) }
+    ensures taken { MatchResult result (TakesCurrent O.Object shared.now (record (all_rights seat.old) { shared = None }) seat.old seat.new) (λ _. HaltsTurn seat.old seat.new) }
+    ensures keeps { Keeps shared.now beside_read seat.old seat.new }
 {
     let place = root_place(shared.callers(), seat.seen_cur());
     let found = shared.load_word(seat, hold.replica() as u64, PLACE_AT, true)?;

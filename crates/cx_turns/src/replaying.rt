@@ -1,21 +1,18 @@
 //! A replica held exclusively is brought up to a ticket by the entries of the queue.
 
-ghost use Rattle.std.specs.Prelude.{◌≡◌, ◌+◌, ◌<◌, ◌≤◌, ◌∷◌, ℕ, OnErr, OnOk, IfOk, Some};
-ghost use Rattle.cx_base.specs.Memory.{Becomes, Reads};
-ghost use Rattle.cx_core.specs.declared.local.Protection.TheVariants.{Unprotected};
+ghost use Rattle.std.specs.Prelude.{◌+◌, ◌<◌, ◌∷◌, ◌≡◌, ◌≤◌, MatchResult, Some, ℕ};
+ghost use Rattle.cx_base.specs.Memory.{Reads};
 ghost use Rattle.cx_core.specs.Region.{slot_reply};
 ghost use Rattle.cx_core.specs.RingEvents.{Protects};
 ghost use Rattle.cx_rule.specs.Fitting.{Fits};
-ghost use Rattle.cx_rule.specs.Running.{IsSeatOf};
-ghost use Rattle.cx_rule.specs.Seats.{IsAtLimit, IsWithinLimit};
-ghost use Rattle.cx_turns.specs.Keeping.{IsAtImage, IsGuarded, unguarded};
-ghost use Rattle.cx_turns.specs.Replaying.{IsBroughtUp, ReadsNext, ShowsReply, beside_work};
-ghost use Rattle.cx_turns.specs.Turns.{beside_turn};
-ghost use Rattle.replica.specs.Flushes.{IsFlushed};
+ghost use Rattle.cx_rule.specs.Seats.{IsAtLimit};
+ghost use Rattle.cx_turns.specs.Keeping.{IsKept};
+ghost use Rattle.cx_turns.specs.Replaying.{IsBroughtUp, IsReplayed, IsSettled, LoadsOnly, ReadsNext, ShowsReply, beside_bringing, beside_work};
+ghost use Rattle.cx_turns.specs.Turns.{Keeps};
+ghost use Rattle.mutation_queue.specs.Entries.{MayRead};
 ghost use Rattle.replica.specs.Held.{IsHeld, beside_held, left_of};
 ghost use Rattle.replica.specs.Regions.{HasPlace};
-ghost use Rattle.replica.specs.Replays.{IsImage, noted_place};
-ghost use Rattle.replica.specs.Tests.{IsReady};
+ghost use Rattle.replica.specs.Replays.{IsReady, noted_place};
 
 use crate::keeping::unguard;
 use cx_base::{Halt, Object};
@@ -32,20 +29,14 @@ pub(crate) fn bring_up<O: Object>(
     held: &Exclusive,
     ticket: u64,
 ) -> Result<[u64; 144], Halt>
-    requires held { IsAtImage (O.line_count shared.now.object) shared.now (O.lawful shared.now.object) (O.step shared.now.object) seat.old held.now }
-    requires guarded { IsGuarded ticket seat.old }
+    requires kept { IsKept O.Object shared.now ticket seat.old seat.old held.now }
     requires linked { ticket < seat.old.known.local.front }
-    ensures brought { IfOk result (IsBroughtUp (O.line_count shared.now.object) shared.now (O.lawful shared.now.object) (O.step shared.now.object) held.now ticket seat.new) }
-    ensures none { OnOk result (seat.new.known.local.protection ≡ Unprotected) }
-    ensures halted { OnErr result (IsAtLimit seat.new.known.local) }
-    ensures work { OnOk result (beside_work (unguarded seat.new) ≡ beside_work (unguarded seat.old)) }
-    ensures rest { beside_turn seat.new ≡ beside_turn seat.old }
-    ensures front { seat.new.known.local.front ≡ seat.old.known.local.front }
-    ensures seat { IsSeatOf shared.now seat.new }
+    ensures brought { MatchResult result (IsBroughtUp O.Object shared.now held.now ticket seat.new) (λ _. IsAtLimit seat.new.known.local) }
+    ensures keeps { Keeps shared.now beside_bringing seat.old seat.new }
 {
     replay_to(shared, seat, held, ticket)?;
     unguard(shared, seat)?;
-    settle(shared, seat, held)
+    Ok(settle(shared, seat, held)?)
 }
 
 /// Reads the reply to the caller's last entry in a replica held exclusively that is the image after its place, and makes it durable.
@@ -54,16 +45,9 @@ fn settle<O: Object>(
     seat: &mut CallerSeat,
     held: &Exclusive,
 ) -> Result<[u64; 144], Halt>
-    requires held { IsHeld (O.line_count shared.now.object) shared.now (O.lawful shared.now.object) seat.old held.now }
-    requires image { IsImage (O.line_count shared.now.object) (O.lawful shared.now.object) shared.now.base (O.step shared.now.object) seat.old.known }
-    ensures held { OnOk result (IsHeld (O.line_count shared.now.object) shared.now (O.lawful shared.now.object) seat.new held.now) }
-    ensures image { OnOk result (IsImage (O.line_count shared.now.object) (O.lawful shared.now.object) shared.now.base (O.step shared.now.object) seat.new.known) }
-    ensures place { OnOk result (noted_place seat.new ≡ noted_place seat.old) }
-    ensures clean { OnOk result (IsFlushed seat.new) }
-    ensures reply { IfOk result (ShowsReply (O.line_count shared.now.object) (O.lawful shared.now.object) shared.now.base seat.new.known.accesses seat.new.known.local.number) }
-    ensures halted { OnErr result (IsAtLimit seat.new.known.local) }
-    ensures work { beside_work seat.new ≡ beside_work seat.old }
-    ensures seat { IsSeatOf shared.now seat.new }
+    requires ready { IsReady O.Object shared.now held.now (noted_place seat.old) seat.old }
+    ensures settled { MatchResult result (IsSettled O.Object shared.now held.now seat.old seat.new) (λ _. IsAtLimit seat.new.known.local) }
+    ensures keeps { Keeps shared.now beside_work seat.old seat.new }
 {
     let reply = own_outcome(shared, seat, held)?;
     flush(shared, seat, held)?;
@@ -79,16 +63,11 @@ pub fn replay_to<O: Object>(
     held: &Exclusive,
     ticket: u64,
 ) -> Result<(), Halt>
-    requires held { IsHeld (O.line_count shared.now.object) shared.now (O.lawful shared.now.object) seat.old held.now }
-    requires image { IsImage (O.line_count shared.now.object) (O.lawful shared.now.object) shared.now.base (O.step shared.now.object) seat.old.known }
+    requires ready { IsReady O.Object shared.now held.now (noted_place seat.old) seat.old }
     requires linked { ticket < seat.old.known.local.front }
     requires protected { (t : ℕ) → noted_place seat.old ≤ t → t ≤ ticket → Protects t seat.old.known.local.protection }
-    ensures held { OnOk result (IsHeld (O.line_count shared.now.object) shared.now (O.lawful shared.now.object) seat.new held.now) }
-    ensures image { OnOk result (IsImage (O.line_count shared.now.object) (O.lawful shared.now.object) shared.now.base (O.step shared.now.object) seat.new.known) }
-    ensures place { OnOk result (ticket < noted_place seat.new) }
-    ensures halted { OnErr result (IsAtLimit seat.new.known.local) }
-    ensures work { beside_work seat.new ≡ beside_work seat.old }
-    ensures seat { IsSeatOf shared.now seat.new }
+    ensures replayed { MatchResult result (λ _. IsReplayed O.Object shared.now held.now ticket seat.new) (λ _. IsAtLimit seat.new.known.local) }
+    ensures keeps { Keeps shared.now beside_work seat.old seat.new }
 {
     // tickets are few
     let _front = seat.front();
@@ -114,17 +93,15 @@ fn replay_next<O: Object>(
     words: &mut [u64; 145],
     next: &mut Entry,
 ) -> Result<(), Halt>
-    requires ready { IsReady (O.line_count shared.now.object) shared.now (O.lawful shared.now.object) (O.step shared.now.object) held.now at seat.old }
-    requires linked { at < seat.old.known.local.front }
+    requires ready { IsReady O.Object shared.now held.now at seat.old }
+    requires may { MayRead shared.now at seat.old }
     requires later { shared.now.base.place ≤ at }
-    requires protected { Protects at seat.old.known.local.protection }
-    ensures ready { OnOk result (IsReady (O.line_count shared.now.object) shared.now (O.lawful shared.now.object) (O.step shared.now.object) held.now (at + 1) seat.new) }
-    ensures halted { OnErr result (IsAtLimit seat.new.known.local) }
-    ensures work { beside_work seat.new ≡ beside_work seat.old }
-    ensures seat { IsSeatOf shared.now seat.new }
+    ensures ready { MatchResult result (λ _. IsReady O.Object shared.now held.now (at + 1) seat.new) (λ _. IsAtLimit seat.new.known.local) }
+    ensures keeps { Keeps shared.now beside_work seat.old seat.new }
 {
     read_next(shared, seat, at, words, next)?;
-    apply(shared, seat, held, next)
+    apply(shared, seat, held, next)?;
+    Ok(())
 }
 
 /// Reads the entry with a ticket, which is linked and protected.
@@ -135,14 +112,10 @@ fn read_next<O: Object>(
     words: &mut [u64; 145],
     next: &mut Entry,
 ) -> Result<(), Halt>
-    requires seat { IsSeatOf shared.now seat.old }
-    requires linked { ticket < seat.old.known.local.front }
+    requires may { MayRead shared.now ticket seat.old }
     requires later { shared.now.base.place ≤ ticket }
-    requires protected { Protects ticket seat.old.known.local.protection }
-    ensures read { OnOk result (ReadsNext ticket next.new seat.old seat.new) }
-    ensures halted { OnErr result (IsAtLimit seat.new.known.local) }
-    ensures work { beside_work seat.new ≡ beside_work seat.old }
-    ensures seat { IsSeatOf shared.now seat.new }
+    ensures read { MatchResult result (λ _. ReadsNext ticket next.new seat.old seat.new) (λ _. IsAtLimit seat.new.known.local) }
+    ensures keeps { Keeps shared.now beside_work seat.old seat.new }
 {
     let caller = entry(shared, seat, ticket, words)?;
     set_entry(next, caller, words);
@@ -166,13 +139,9 @@ pub fn own_outcome<O: Object>(
     seat: &mut CallerSeat,
     held: &Exclusive,
 ) -> Result<[u64; 144], Halt>
-    requires held { IsHeld (O.line_count shared.now.object) shared.now (O.lawful shared.now.object) seat.old held.now }
-    requires image { IsImage (O.line_count shared.now.object) (O.lawful shared.now.object) shared.now.base (O.step shared.now.object) seat.old.known }
-    ensures reply { IfOk result (ShowsReply (O.line_count shared.now.object) (O.lawful shared.now.object) shared.now.base seat.new.known.accesses seat.new.known.local.number) }
-    ensures held { IsHeld (O.line_count shared.now.object) shared.now (O.lawful shared.now.object) seat.new held.now }
-    ensures image { IsImage (O.line_count shared.now.object) (O.lawful shared.now.object) shared.now.base (O.step shared.now.object) seat.new.known }
-    ensures place { noted_place seat.new ≡ noted_place seat.old }
-    ensures halted { OnErr result (IsAtLimit seat.new.known.local) }
+    requires ready { IsReady O.Object shared.now held.now (noted_place seat.old) seat.old }
+    ensures reply { MatchResult result (ShowsReply (O.line_count shared.now.object) (O.lawful shared.now.object) shared.now.base seat.new.known.accesses seat.new.known.local.number) (λ _. IsAtLimit seat.new.known.local) }
+    ensures ready { IsReady O.Object shared.now held.now (noted_place seat.old) seat.new }
     ensures rest { beside_held held.now.replica seat.new ≡ beside_held held.now.replica seat.old }
 {
     load_own(shared, seat, held)
@@ -186,13 +155,8 @@ fn load_own<O: Object>(
 ) -> Result<[u64; 144], Halt>
     requires held { IsHeld (O.line_count shared.now.object) shared.now (O.lawful shared.now.object) seat.old held.now }
     requires begun { HasPlace seat.old.known.accesses }
-    ensures read { IfOk result (λ reply. Reads (Fits (O.line_count shared.now.object) (O.lawful shared.now.object) shared.now.base seat.old.known.accesses) (Fits (O.line_count shared.now.object) (O.lawful shared.now.object) shared.now.base seat.new.known.accesses) (λ region. slot_reply seat.old.known.local.number region ≡ reply)) }
-    ensures unchanged { Becomes (Fits (O.line_count shared.now.object) (O.lawful shared.now.object) shared.now.base seat.old.known.accesses) (Fits (O.line_count shared.now.object) (O.lawful shared.now.object) shared.now.base seat.new.known.accesses) ◌≡◌ }
-    ensures held { IsHeld (O.line_count shared.now.object) shared.now (O.lawful shared.now.object) seat.new held.now }
-    ensures begun { HasPlace seat.new.known.accesses }
-    ensures halts { OnErr result (left_of seat.new.known.local ≡ Some 0) }
-    ensures within { IsWithinLimit seat.new.known.local }
-    ensures rest { beside_held held.now.replica seat.new ≡ beside_held held.now.replica seat.old }
+    ensures read { MatchResult result (λ reply. Reads (Fits (O.line_count shared.now.object) (O.lawful shared.now.object) shared.now.base seat.old.known.accesses) (Fits (O.line_count shared.now.object) (O.lawful shared.now.object) shared.now.base seat.new.known.accesses) (λ region. slot_reply seat.old.known.local.number region ≡ reply)) (λ _. left_of seat.new.known.local ≡ Some 0) }
+    ensures loads { LoadsOnly O.Object shared.now held.now seat.old seat.new }
 {
     // callers are few
     let _callers = shared.callers();

@@ -1,11 +1,12 @@
 //! A caller takes a replica exclusively, whichever nobody holds.
 
-ghost use Rattle.std.specs.Prelude.{◌≡◌, ◌+◌, ◌*◌, ◌<◌, ◌≤◌, [], IfOk, OnErr, OnOk};
+ghost use Rattle.std.specs.Prelude.{◌*◌, ◌+◌, ◌<◌, ◌≡◌, ◌≤◌, MatchResult, OnOk};
 ghost use Rattle.cx_rule.specs.Running.{IsSeatOf};
 ghost use Rattle.cx_rule.specs.Seats.{IsAtLimit};
-ghost use Rattle.cx_turns.specs.Taking.{KeepsSeen, TakesAny, TriesOne, beside_tries};
-ghost use Rattle.cx_turns.specs.Turns.{beside_turn};
+ghost use Rattle.cx_turns.specs.Taking.{HaltsTaking, MayTake, TakesAny, TriesOne, beside_tries};
+ghost use Rattle.cx_turns.specs.Turns.{Keeps};
 ghost use Rattle.strong_trylock.specs.Held.{all_rights, no_rights};
+ghost use Rattle.cx_rule.specs.Steps.{Halts};
 
 use cx_base::{Halt, Object};
 use cx_table::{CallerSeat, Exclusive, Shared};
@@ -18,16 +19,10 @@ pub fn take_any<O: Object>(
     shared: &Shared<O>,
     seat: &mut CallerSeat,
 ) -> Result<Option<Exclusive>, Halt>
-    requires seat { IsSeatOf shared.now seat.old }
-    requires free { all_rights seat.old ≡ no_rights }
-    requires refused { seat.old.known.local.refused ≡ [] }
+    requires ready { MayTake shared.now seat.old }
     ensures allowed { OnOk result (¬ IsAtLimit seat.old.known.local) }
-    ensures taken { IfOk result (λ taken. TakesAny (O.line_count shared.now.object) shared.now (O.lawful shared.now.object) seat.old seat.new taken) }
-    ensures halted { OnErr result (IsAtLimit seat.new.known.local) }
-    ensures rest { beside_turn seat.new ≡ beside_turn seat.old }
-    ensures tries { beside_tries seat.new ≡ beside_tries seat.old }
-    ensures seen { KeepsSeen seat.old seat.new }
-    ensures seat { IsSeatOf shared.now seat.new }
+    ensures taken { MatchResult result (TakesAny O.Object shared.now seat.old seat.new) (λ _. HaltsTaking seat.old seat.new) }
+    ensures keeps { Keeps shared.now beside_tries seat.old seat.new }
 {
     let count = 2 * shared.callers();
     let first = 2 * seat.number();
@@ -59,10 +54,8 @@ fn try_one<O: Object>(
     requires free { all_rights seat.old ≡ no_rights }
     requires few { r < 2 * shared.now.callers }
     ensures allowed { OnOk result (¬ IsAtLimit seat.old.known.local) }
-    ensures tried { IfOk result (λ tried. TriesOne (O.line_count shared.now.object) shared.now (O.lawful shared.now.object) r seat.old seat.new tried) }
-    ensures halted { OnErr result (IsAtLimit seat.new.known.local) }
-    ensures rest { beside_tries seat.new ≡ beside_tries seat.old }
-    ensures seat { IsSeatOf shared.now seat.new }
+    ensures tried { MatchResult result (TriesOne O.Object shared.now r seat.old seat.new) (λ _. Halts shared.now seat.old seat.new) }
+    ensures keeps { Keeps shared.now beside_tries seat.old seat.new }
 {
     // a running table is within its limits
     let _lines = shared.lines();

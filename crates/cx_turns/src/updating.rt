@@ -1,12 +1,13 @@
 //! A turn for the caller's linked entry: a replica is prepared, published and made durable, by which the entry is answered.
 
-ghost use Rattle.std.specs.Prelude.{◌≡◌, ◌<◌, ◌≤◌, None, Some, IfOk, OnErr, OnOk};
+ghost use Rattle.std.specs.Prelude.{◌≡◌, IfOk, List, OnErr, OnOk, Some, ℕ};
 ghost use Rattle.cx_rule.specs.Running.{IsSeatOf};
 ghost use Rattle.cx_rule.specs.Seats.{IsAtLimit, unanswered_ticket};
 ghost use Rattle.cx_rule.specs.Steps.{Halts};
 ghost use Rattle.cx_table.specs.Tokens.{IsDowngradedOf, IsWonOf};
-ghost use Rattle.cx_turns.specs.Answering.{AnswersBy, AnswersEntry, HaltsFor, IsPublishedFor, IsReadyFor, TurnsFor, beside_update};
-ghost use Rattle.cx_turns.specs.Turns.{IsAtRest};
+ghost use Rattle.cx_turns.specs.Answering.{AnswersBy, AnswersEntry, HaltsFor, HaltsWon, IsPublishedFor, IsReadyFor, TurnsFor, beside_update};
+ghost use Rattle.cx_turns.specs.Turns.{MayTurn, Turns};
+ghost use Rattle.strong_trylock.specs.Held.{Has};
 
 use crate::preparing::{Prepared, prepare};
 use cx_base::{Halt, Object};
@@ -24,22 +25,18 @@ pub fn update_turn<O: Object>(
     seat: &mut CallerSeat,
     ticket: u64,
 ) -> Result<Option<[u64; 144]>, Halt>
-    requires seat { IsSeatOf shared.now seat.old }
-    requires rest { IsAtRest seat.old.known.local }
-    requires linked { ticket < seat.old.known.local.front }
+    requires ready { MayTurn shared.now ticket seat.old }
     requires last { unanswered_ticket seat.old.known.local ≡ Some ticket }
     ensures allowed { OnOk result (¬ IsAtLimit seat.old.known.local) }
     ensures turned { IfOk result (TurnsFor ticket seat.old seat.new) }
-    ensures halted { OnErr result (HaltsFor ticket seat.old seat.new) }
-    ensures rest { beside_update seat.new ≡ beside_update seat.old }
-    ensures front { seat.old.known.local.front ≤ seat.new.known.local.front }
-    ensures seat { IsSeatOf shared.now seat.new }
+    ensures halted { OnErr result (HaltsFor shared.now.callers ticket seat.old seat.new) }
+    ensures turns { Turns shared.now beside_update seat.old seat.new }
 {
     let Some(prepared) = prepare(shared, seat, ticket)? else {
         return Ok(None);
     };
     let Prepared { held, reply } = prepared;
-    hand_over(shared, seat, held, ticket, &reply)?;
+    hand_over(shared, seat, held)?;
     Ok(Some(reply))
 }
 
@@ -48,76 +45,38 @@ fn hand_over<O: Object>(
     shared: &Shared<O>,
     seat: &mut CallerSeat,
     held: Downgraded,
-    ticket: u64,
-    reply: &[u64; 144],
 ) -> Result<(), Halt>
-    requires seat { IsSeatOf shared.now seat.old }
-    requires held { IsDowngradedOf shared.now.callers seat.old held }
-    requires ready { IsReadyFor shared.now (O.lawful shared.now.object) (O.step shared.now.object) ticket reply.now seat.old }
-    ensures answered { OnOk result (AnswersEntry 1 ticket reply.now seat.old seat.new) }
-    ensures halted { OnErr result (HaltsFor ticket seat.old seat.new) }
-    ensures rest { beside_update seat.new ≡ beside_update seat.old }
-    ensures front { seat.old.known.local.front ≤ seat.new.known.local.front }
-    ensures seat { IsSeatOf shared.now seat.new }
+    requires held { Has IsDowngradedOf shared.now seat.old held }
+    requires ready { (ticket : ℕ) × (reply : List ℕ) × IsReadyFor O.Object shared.now ticket reply seat.old }
+    ensures answered { (ticket : ℕ) (reply : List ℕ) → IsReadyFor O.Object shared.now ticket reply seat.old → OnOk result (AnswersEntry 1 ticket reply seat.old seat.new) }
+    ensures halted { (ticket : ℕ) (reply : List ℕ) → IsReadyFor O.Object shared.now ticket reply seat.old → OnErr result (HaltsFor shared.now.callers ticket seat.old seat.new) }
+    ensures turns { Turns shared.now beside_update seat.old seat.new }
 {
     match publish(shared, seat, held)? {
-        Published::Won(won) => settle_won(shared, seat, won, ticket, reply),
-        Published::Passed { found } => settle_passed(shared, seat, found, ticket, reply),
+        Published::Won(won) => settle_won(shared, seat, won),
+        Published::Passed { found } => answer(shared, seat, found),
     }
 }
 
 /// Answers the entry by the code that the caller won with, and gives the replica before up.
-fn settle_won<O: Object>(
-    shared: &Shared<O>,
-    seat: &mut CallerSeat,
-    won: Won,
-    ticket: u64,
-    reply: &[u64; 144],
-) -> Result<(), Halt>
+fn settle_won<O: Object>(shared: &Shared<O>, seat: &mut CallerSeat, won: Won) -> Result<(), Halt>
     requires seat { IsSeatOf shared.now seat.old }
     requires won { IsWonOf shared.now.callers seat.old won }
-    requires published { IsPublishedFor shared.now (O.lawful shared.now.object) (O.step shared.now.object) won.code ticket reply.now seat.old }
-    ensures answered { OnOk result (AnswersEntry 0 ticket reply.now seat.old seat.new) }
-    ensures halted { OnErr result (HaltsFor ticket seat.old seat.new) }
-    ensures rest { beside_update seat.new ≡ beside_update seat.old }
-    ensures front { seat.old.known.local.front ≤ seat.new.known.local.front }
-    ensures seat { IsSeatOf shared.now seat.new }
+    requires published { (ticket : ℕ) × (reply : List ℕ) × IsPublishedFor O.Object shared.now won.code ticket reply seat.old }
+    ensures answered { (ticket : ℕ) (reply : List ℕ) → IsPublishedFor O.Object shared.now won.code ticket reply seat.old → OnOk result (AnswersEntry 0 ticket reply seat.old seat.new) }
+    ensures halted { (ticket : ℕ) (reply : List ℕ) → IsPublishedFor O.Object shared.now won.code ticket reply seat.old → OnErr result (HaltsWon ticket seat.old seat.new) }
+    ensures turns { Turns shared.now beside_update seat.old seat.new }
 {
-    answer(shared, seat, won.code(), ticket, reply)?;
-    retire(shared, seat, won)
-}
-
-/// Answers the entry by the code that was found in CUR.
-fn settle_passed<O: Object>(
-    shared: &Shared<O>,
-    seat: &mut CallerSeat,
-    found: u64,
-    ticket: u64,
-    reply: &[u64; 144],
-) -> Result<(), Halt>
-    requires seat { IsSeatOf shared.now seat.old }
-    requires none { seat.old.known.local.won ≡ None }
-    requires published { IsPublishedFor shared.now (O.lawful shared.now.object) (O.step shared.now.object) found ticket reply.now seat.old }
-    ensures answered { OnOk result (AnswersEntry 0 ticket reply.now seat.old seat.new) }
-    ensures halted { OnErr result (HaltsFor ticket seat.old seat.new) }
-    ensures rest { beside_update seat.new ≡ beside_update seat.old }
-    ensures front { seat.old.known.local.front ≤ seat.new.known.local.front }
-    ensures seat { IsSeatOf shared.now seat.new }
-{
-    answer(shared, seat, found, ticket, reply)
+    answer(shared, seat, won.code())?;
+    retire(shared, seat, won)?;
+    Ok(())
 }
 
 /// Raises DUR by a code whose place is above the entry's ticket, which answers it.
-fn answer<O: Object>(
-    shared: &Shared<O>,
-    seat: &mut CallerSeat,
-    code: u64,
-    _ticket: u64,
-    _reply: &[u64; 144],
-) -> Result<(), Halt>
+fn answer<O: Object>(shared: &Shared<O>, seat: &mut CallerSeat, code: u64) -> Result<(), Halt>
     requires seat { IsSeatOf shared.now seat.old }
-    requires published { IsPublishedFor shared.now (O.lawful shared.now.object) (O.step shared.now.object) code _ticket _reply.now seat.old }
-    ensures answered { OnOk result (AnswersBy shared.now O.step O.only_reads code _ticket _reply.now seat.old seat.new) }
+    requires published { (ticket : ℕ) × (reply : List ℕ) × IsPublishedFor O.Object shared.now code ticket reply seat.old }
+    ensures answered { (ticket : ℕ) (reply : List ℕ) → IsPublishedFor O.Object shared.now code ticket reply seat.old → OnOk result (AnswersBy O.Object shared.now code ticket reply seat.old seat.new) }
     ensures halted { OnErr result (Halts shared.now seat.old seat.new) }
 {
     make_durable(shared, seat, code, None)

@@ -1,15 +1,14 @@
 use Rattle.std.proofs.Common.{◌+◌, ◌*◌, ap, inl, inr, sym, subst, arith}
 use Rattle.std.proofs.lemmas.Result.{IfOk-weaker, on_err_weaker}
-use Rattle.cx_core.specs.QueueEvents.{IsIdle, next_number}
+use Rattle.cx_core.specs.QueueEvents.{IsIdle, cell_of}
 use Rattle.cx_rule.specs.Running.{instance_at}
 use Rattle.cx_rule.specs.Seats.{IsAtLimit, Seated}
 use Rattle.mutation_queue.specs.Links.{EndsBy, HaltsTry, Tried}
-use Rattle.cx_service.specs.declared.submit.Submitted.TheVariants.{Halted}
 use Rattle.cx_service.specs.Callers.{unlinked}
 use Rattle.cx_service.specs.Submits.{EntersIn}
 use Rattle.cx_service.proofs.Announced.{halted_in, if_any_err}
 use Rattle.cx_service.proofs.Entering.{answered_still, beside_submit, entered, halts, halts_linking, stale, tries_of}
-use Rattle.cx_service.proofs.Looking.{cur_caller, cur_loaded, enters_then, submits_then}
+use Rattle.cx_service.proofs.Looking.{cur_caller, cur_loaded, enters_then, halted_then, tries_then, writing_then}
 use Rattle.cx_service.proofs.submit.announce_and_link.Goals as goal
 
 pub returns-in_err-_cur-clause-halted : goal.returns-in_err-_cur-clause-halted
@@ -23,12 +22,19 @@ returns-in_err-_cur-clause-halted g c =
       (halts c.args.shared.now s t (ap beside_submit halted.same) (146 + 2 * c.args.tries) c.requires.caller (ap (λ (x : Seated). x.known.local.own) halted.same) (omega (arith, front)) (omega (arith, steps))
           (λ k within idle. record { free = ap (λ (x : Seated). x.known.local.seen_free) halted.same; scans = ap (λ (x : Seated). x.known.local.scans) halted.same })
           (subst (λ (x : Seated). IsAtLimit x.known.local) (sym halted.same) halted.limit)),
-      inl (ap (λ (x : Seated). x.known.local.seen_slot) halted.same),
+      inl (record {
+        cell = c.args.cell;
+        within = c.requires.cell.0;
+        idle = subst (λ (x : Seated). IsIdle x.known.local c.args.cell) (sym halted.same) c.requires.cell.1;
+        short = (let limit = halted.limit.0 in let same = ap (λ (x : Seated). x.known.local.limit) halted.same in omega (arith, limit, same));
+        others = λ k ne. ap (λ (x : Seated). cell_of x.known.local k) halted.same;
+      }),
     )
 
-pub announce-requires-clause-cell : goal.announce-requires-clause-cell
-announce-requires-clause-cell g c =
-    (c.requires.cell.0, subst (λ (x : Seated). IsIdle x.known.local c.args.cell) (sym c.in_ok-_cur.ensures.made.made) c.requires.cell.1)
+pub announce-requires : goal.announce-requires
+announce-requires g c =
+    let made = c.in_ok-_cur.ensures.made in
+    record { may = record { of = made.seat; few = c.requires.cell.0; idle = subst (λ (x : Seated). IsIdle x.known.local c.args.cell) (sym made.made) c.requires.cell.1 } }
 
 pub returns-in_err-announce-clause-halted : goal.returns-in_err-announce-clause-halted
 returns-in_err-announce-clause-halted g c =
@@ -39,18 +45,21 @@ returns-in_err-announce-clause-halted g c =
     let made = c.in_ok-_cur.ensures.made in
     let first = cur_loaded (instance_at r g.O.Object.step g.O.Object.only_reads) s at c.in_ok-_cur._cur made.made made.allowed in
     let caller = cur_caller r (instance_at r g.O.Object.step g.O.Object.only_reads) s at c.in_ok-_cur._cur made.made made.allowed c.requires.caller in
-    if_any_err c.from_residual-in_err-announce.result
-    (submits_then r 1 s (stale at) first c.args.op.now c.args.tries (145 + 2 * c.args.tries) (146 + 2 * c.args.tries) (Halted (unlinked t)) (omega arith)
-    (halted_in r c.args.cell (145 + 2 * c.args.tries) (next_number r.base at.known.local) c.args.op.now at t caller (omega arith) c.told-op c.args.tries c.in_err-announce.ensures.halted))
+    let halted = halted_in r c.args.cell (145 + 2 * c.args.tries) c.args.op.now at t caller c.requires.cell.0 (omega arith) c.told-op c.in_err-announce.ensures.halted in
+    if_any_err c.from_residual-in_err-announce.result (
+      halted_then r 1 s (stale at) first (145 + 2 * c.args.tries) (146 + 2 * c.args.tries) (unlinked t) (omega arith) halted.0,
+      inl (writing_then r 1 s (stale at) first c.args.op.now 0 1 t first.steps halted.1),
+    )
 
-pub link-requires-clause-answered : goal.link-requires-clause-answered
-link-requires-clause-answered g c =
+pub link-requires-clause-may : goal.link-requires-clause-may
+link-requires-clause-may g c =
     let r = c.args.shared.now in
     let s = c.args.seat.now in
     let at = c.load_cur.new.seat in
     let made = c.in_ok-_cur.ensures.made in
     let caller = cur_caller r (instance_at r g.O.Object.step g.O.Object.only_reads) s at c.in_ok-_cur._cur made.made made.allowed c.requires.caller in
-    answered_still (stale at) c.announce.new.seat c.in_ok-announce.ensures.announced.rest caller.count
+    let e = c.in_ok-announce.ensures in
+    record { of = e.seat; few = c.requires.cell.0; announced = e.ready; answered = answered_still (stale at) c.announce.new.seat e.announced.rest caller.count }
 
 pub returns-clause-entered : goal.returns-clause-entered
 returns-clause-entered g c =
@@ -65,9 +74,9 @@ returns-clause-entered g c =
     let first = cur_loaded (instance_at r g.O.Object.step g.O.Object.only_reads) s at c.in_ok-_cur._cur made.made made.allowed in
     let caller = cur_caller r (instance_at r g.O.Object.step g.O.Object.only_reads) s at c.in_ok-_cur._cur made.made made.allowed c.requires.caller in
     let done = c.in_ok-announce.ensures.announced in
-    IfOk-weaker c.link.result (Tried r.callers c.args.cell tries t v) (EntersIn (146 + 2 * tries) r op tries s v)
-    (λ tried links. enters_then r 1 s (stale at) first op tries (145 + 2 * tries) (146 + 2 * tries) v tried (omega arith)
-    (entered r c.args.cell op (stale at) t caller c.requires.cell.0 c.told-op done.cell done.others done.rest tries (145 + 2 * tries) v tried links done.allowed (omega (arith, done.most, c.link.ensures.steps)) (let count = done.count in omega (arith, count))))
+    IfOk-weaker c.link.result (Tried r.callers c.args.cell tries t v) (EntersIn 1 (146 + 2 * tries) r op tries s v)
+    (λ tried links. enters_then r 1 s (stale at) first op 0 1 tries (145 + 2 * tries) (146 + 2 * tries) v tried (omega arith) (let one = ap (λ (x : Seated). x.known.local.steps) made.made in omega (arith, one))
+    (entered r c.args.cell op (stale at) t caller c.requires.cell.0 c.told-op done.cell done.others done.rest tries (145 + 2 * tries) v tried links done.allowed (omega (arith, done.most, c.link.ensures.leaves.steps)) (let count = done.count in omega (arith, count))))
     c.link.ensures.tried
 
 pub returns-clause-halted : goal.returns-clause-halted
@@ -84,8 +93,10 @@ returns-clause-halted g c =
     let caller = cur_caller r (instance_at r g.O.Object.step g.O.Object.only_reads) s at c.in_ok-_cur._cur made.made made.allowed c.requires.caller in
     let done = c.in_ok-announce.ensures.announced in
     on_err_weaker c.link.result
-    (λ halted. submits_then r 1 s (stale at) first op tries (145 + 2 * tries) (146 + 2 * tries) (Halted (unlinked v)) (omega arith) (
-      halts_linking r c.args.cell op (stale at) t caller c.requires.cell.0 c.told-op done.cell done.others done.rest v halted.0 (145 + 2 * tries) (omega (arith, done.most, c.link.ensures.steps)) halted.1,
-      inr (tries_of r c.args.cell op (stale at) t caller c.requires.cell.0 c.told-op done.cell done.others done.rest (EndsBy r.callers tries (HaltsTry r.callers)) v (let count = done.count in omega (arith, count)) halted.2),
+    (λ halted. (
+      halted_then r 1 s (stale at) first (145 + 2 * tries) (146 + 2 * tries) (unlinked v) (omega arith)
+          (halts_linking r c.args.cell op (stale at) t caller c.requires.cell.0 c.told-op done.cell done.others done.rest v halted.0 (145 + 2 * tries) (omega (arith, done.most, c.link.ensures.leaves.steps)) halted.1),
+      inr (tries_then r 1 s (stale at) first 0 1 (EndsBy r.callers tries (HaltsTry r.callers)) v (let one = ap (λ (x : Seated). x.known.local.steps) made.made in omega (arith, one))
+          (tries_of r c.args.cell op (stale at) t caller c.requires.cell.0 c.told-op done.cell done.others done.rest (EndsBy r.callers tries (HaltsTry r.callers)) v (let count = done.count in omega (arith, count)) halted.2)),
     ))
     c.link.ensures.halted

@@ -10,31 +10,27 @@ use Rattle.cx_turns.proofs.keeping.copy_and_keep.Goals as goal
 pub returns-then-branch-clause-kept : goal.returns-then-branch-clause-kept
 returns-then-branch-clause-kept g c =
     let t = c.args.shared.now in
-    let lines = g.O.Object.line_count t.object in
-    let lawful = g.O.Object.lawful t.object in
-    let step = g.O.Object.step t.object in
+    let o = g.O.Object in
     let old = c.args.seat.now in
     let mid = c.renew_from.new.seat in
     let new = c.guard.new.seat in
     let r = c.in_ok-renew_from.ensures in
     let e = c.in_ok-guard.ensures in
-    let image = copied_image lines t lawful step old mid c.args.held c.args.source.replica r.rest c.requires.alone r.held r.image in
-    kept_at lines t lawful step mid new c.args.held c.args.ticket old (subst (Guards t.callers c.args.ticket mid new) c.if-branch.true e.guarded) (ap (λ (s : Seated). s.known.local.met) r.rest)
-    (protected_image lines t lawful step mid new c.args.held e.seat e.rest image)
+    let image = copied_image o t old mid c.args.held c.args.source.replica r.renewed.rest c.requires.source.alone r.renewed.ready.is_held r.renewed.ready.image in
+    kept_at o t mid new c.args.held c.args.ticket old (subst (Guards t.callers c.args.ticket mid new) c.if-branch.true e.guarded) (ap (λ (s : Seated). s.known.local.met) r.renewed.rest)
+    (protected_image o t mid new c.args.held e.keeps.seat e.keeps.rest image)
 
 pub give_up-requires-clause-held : goal.give_up-requires-clause-held
 give_up-requires-clause-held g c =
     let t = c.args.shared.now in
-    let lines = g.O.Object.line_count t.object in
-    let lawful = g.O.Object.lawful t.object in
-    let step = g.O.Object.step t.object in
+    let o = g.O.Object in
     let old = c.args.seat.now in
     let mid = c.renew_from.new.seat in
     let new = c.guard.new.seat in
     let r = c.in_ok-renew_from.ensures in
     let e = c.in_ok-guard.ensures in
-    let image = copied_image lines t lawful step old mid c.args.held c.args.source.replica r.rest c.requires.alone r.held r.image in
-    protected_image lines t lawful step mid new c.args.held e.seat e.rest image
+    let image = copied_image o t old mid c.args.held c.args.source.replica r.renewed.rest c.requires.source.alone r.renewed.ready.is_held r.renewed.ready.image in
+    protected_image o t mid new c.args.held e.keeps.seat e.keeps.rest image
 
 pub give_up-requires-clause-stale : goal.give_up-requires-clause-stale
 give_up-requires-clause-stale g c =
@@ -45,7 +41,7 @@ give_up-requires-clause-stale g c =
     let r = c.in_ok-renew_from.ensures in
     let e = c.in_ok-guard.ensures in
     let behind : IsBehind t.callers mid new = subst (Guards t.callers c.args.ticket mid new) c.if-branch.false e.guarded in
-    let ends = behind_current t.callers mid new behind (r.placed (root_place_of t.callers old.known.local.seen_cur) c.requires.place ∙ ap (λ (s : Seated). root_place_of t.callers s.known.local.seen_cur) (sym r.rest)) (ap (λ (s : Seated). s.known.local.fresh) r.rest ∙ c.requires.fresh) in
+    let ends = behind_current t.callers mid new behind (r.renewed.placed (root_place_of t.callers old.known.local.seen_cur) c.requires.source.place ∙ ap (λ (s : Seated). root_place_of t.callers s.known.local.seen_cur) (sym r.renewed.rest)) (ap (λ (s : Seated). s.known.local.fresh) r.renewed.rest ∙ c.requires.source.fresh) in
     ends.1
 
 pub returns-clause-kept : goal.returns-clause-kept
@@ -57,6 +53,6 @@ returns-clause-kept g c =
     let r = c.in_ok-renew_from.ensures in
     let e = c.in_ok-guard.ensures in
     let behind : IsBehind t.callers mid new = subst (Guards t.callers c.args.ticket mid new) c.if-branch.false e.guarded in
-    let ends = behind_current t.callers mid new behind (r.placed (root_place_of t.callers old.known.local.seen_cur) c.requires.place ∙ ap (λ (s : Seated). root_place_of t.callers s.known.local.seen_cur) (sym r.rest)) (ap (λ (s : Seated). s.known.local.fresh) r.rest ∙ c.requires.fresh) in
+    let ends = behind_current t.callers mid new behind (r.renewed.placed (root_place_of t.callers old.known.local.seen_cur) c.requires.source.place ∙ ap (λ (s : Seated). root_place_of t.callers s.known.local.seen_cur) (sym r.renewed.rest)) (ap (λ (s : Seated). s.known.local.fresh) r.renewed.rest ∙ c.requires.source.fresh) in
     let last = c.in_ok-give_up.ensures in
-    turn_refused old c.give_up.new.seat (last.rest ∙ ap beside_turn e.rest ∙ ap beside_turn r.rest) last.ended (last.met ∙ ends.0 ∙ ap one_more (ap (λ (s : Seated). s.known.local.met) r.rest))
+    turn_refused old c.give_up.new.seat (last.turns.rest ∙ ap beside_turn e.keeps.rest ∙ ap beside_turn r.renewed.rest) last.ended (last.met ∙ ends.0 ∙ ap one_more (ap (λ (s : Seated). s.known.local.met) r.renewed.rest))

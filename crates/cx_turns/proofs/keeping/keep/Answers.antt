@@ -6,20 +6,16 @@ use Rattle.cx_turns.proofs.keeping.keep.Goals as goal
 pub returns-then-branch-clause-kept : goal.returns-then-branch-clause-kept
 returns-then-branch-clause-kept g c =
     let t = c.args.shared.now in
-    let lines = g.O.Object.line_count t.object in
-    let lawful = g.O.Object.lawful t.object in
-    let step = g.O.Object.step t.object in
+    let o = g.O.Object in
     let e = c.in_ok-guard.ensures in
     let old = c.args.seat.now in
     let new = c.guard.new.seat in
-    kept_at lines t lawful step old new c.args.held c.args.ticket old (subst (Guards t.callers c.args.ticket old new) c.if-branch.true e.guarded) refl
-    (protected_image lines t lawful step old new c.args.held e.seat e.rest c.requires.held)
+    kept_at o t old new c.args.held c.args.ticket old (subst (Guards t.callers c.args.ticket old new) c.if-branch.true e.guarded) refl
+    (protected_image o t old new c.args.held e.keeps.seat e.keeps.rest c.requires.held)
 
 pub copy_current-requires-clause-held : goal.copy_current-requires-clause-held
 copy_current-requires-clause-held g c =
     let t = c.args.shared.now in
-    let lines = g.O.Object.line_count t.object in
-    let lawful = g.O.Object.lawful t.object in
-    let step = g.O.Object.step t.object in
+    let o = g.O.Object in
     let e = c.in_ok-guard.ensures in
-    protected_image lines t lawful step c.args.seat.now c.guard.new.seat c.args.held e.seat e.rest c.requires.held
+    protected_image o t c.args.seat.now c.guard.new.seat c.args.held e.keeps.seat e.keeps.rest c.requires.held

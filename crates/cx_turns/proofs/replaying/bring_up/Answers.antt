@@ -1,10 +1,18 @@
-use Rattle.std.proofs.Common.{ap}
+use Rattle.std.proofs.Common.{ap, refl}
 use Rattle.cx_rule.specs.Seats.{Seated}
-use Rattle.cx_turns.proofs.Kept.{held_same}
+use Rattle.cx_turns.proofs.Kept.{held_same, image_same}
 use Rattle.cx_turns.proofs.replaying.bring_up.Goals as goal
 
-pub settle-requires-clause-held : goal.settle-requires-clause-held
-settle-requires-clause-held g c =
+pub settle-requires : goal.settle-requires
+settle-requires g c =
     let t = c.args.shared.now in
-    let e = c.in_ok-unguard.ensures in
-    held_same (g.O.Object.line_count t.object) t (g.O.Object.lawful t.object) (g.O.Object.step t.object) c.replay_to.new.seat c.unguard.new.seat c.args.held.now e.seat (ap (λ (s : Seated). s.known.local.exclusive) e.removed) (ap (λ (s : Seated). s.known.local.number) e.removed) (ap (λ (s : Seated). s.known.accesses) e.removed) c.in_ok-replay_to.ensures.held
+    let e = c.in_ok-unguard.ensures.keeps in
+    let was = c.in_ok-replay_to.ensures.replayed.ready in
+    let accesses = ap (λ (s : Seated). s.known.accesses) e.rest in
+    record {
+      ready = record {
+        is_held = held_same g.O.Object t c.replay_to.new.seat c.unguard.new.seat c.args.held.now e.seat (ap (λ (s : Seated). s.known.local.exclusive) e.rest) (ap (λ (s : Seated). s.known.local.number) e.rest) accesses was.is_held;
+        image = image_same g.O.Object t c.replay_to.new.seat c.unguard.new.seat c.args.held.now accesses (ap (λ (s : Seated). s.known.noted) e.rest) was.image;
+        place = refl;
+      };
+    }

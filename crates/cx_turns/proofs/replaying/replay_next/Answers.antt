@@ -1,33 +1,24 @@
-use Rattle.std.proofs.Common.{◌∷◌, ◌∙◌, ap}
+use Rattle.std.proofs.Common.{◌+◌, ◌∷◌, ◌∙◌, ap, refl}
 use Rattle.replica.specs.Replays.{noted_place}
-use Rattle.replica.proofs.Updating.{ready_read}
-use Rattle.cx_turns.proofs.Working.{halted_after, ready_after, work_held}
+use Rattle.cx_turns.proofs.ReadEntries.{ready_read}
+use Rattle.cx_turns.proofs.Working.{work_held}
 use Rattle.cx_turns.proofs.replaying.replay_next.Goals as goal
 
-pub apply-requires-clause-held : goal.apply-requires-clause-held
-apply-requires-clause-held g c =
-    let shared = c.args.shared.now in
+pub apply-requires-clause-ready : goal.apply-requires-clause-ready
+apply-requires-clause-ready g c =
     let e = c.in_ok-read_next.ensures in
-    let q = c.requires.ready in
     let next = c.read_next.new.next in
-    (ready_read (g.O.Object.line_count shared.object) shared (g.O.Object.lawful shared.object) (g.O.Object.step shared.object) next.caller c.args.at (next.number ∷ next.op) c.args.seat.now c.read_next.new.seat c.args.held.now e.seat e.read.read q.is_held q.image q.place).is_held
+    let ready = ready_read g.O.Object c.args.shared.now next.caller c.args.at c.args.at (next.number ∷ next.op) c.args.seat.now c.read_next.new.seat c.args.held.now e.keeps.seat e.read.read c.requires.ready in
+    record { is_held = ready.is_held; image = ready.image; place = refl }
 
-pub apply-requires-clause-image : goal.apply-requires-clause-image
-apply-requires-clause-image g c =
-    let shared = c.args.shared.now in
-    let e = c.in_ok-read_next.ensures in
-    let q = c.requires.ready in
-    let next = c.read_next.new.next in
-    (ready_read (g.O.Object.line_count shared.object) shared (g.O.Object.lawful shared.object) (g.O.Object.step shared.object) next.caller c.args.at (next.number ∷ next.op) c.args.seat.now c.read_next.new.seat c.args.held.now e.seat e.read.read q.is_held q.image q.place).image
+pub returns-in_err-apply-clause-keeps : goal.returns-in_err-apply-clause-keeps
+returns-in_err-apply-clause-keeps g c =
+    let e = c.apply.ensures.leaves in
+    record { seat = e.still.of; rest = work_held c.args.held.now.replica c.read_next.new.seat c.apply.new.seat e.rest ∙ c.in_ok-read_next.ensures.keeps.rest }
 
-pub returns-clause-ready : goal.returns-clause-ready
-returns-clause-ready g c =
-    let shared = c.args.shared.now in
-    let e = c.apply.ensures in
-    ready_after (g.O.Object.line_count shared.object) shared (g.O.Object.lawful shared.object) (g.O.Object.step shared.object) c.args.held.now c.args.at c.read_next.new.seat c.apply.new.seat c.apply.result e.held e.image e.place (ap noted_place c.in_ok-read_next.ensures.read.read.seat ∙ c.requires.ready.place)
-
-pub returns-clause-halted : goal.returns-clause-halted
-returns-clause-halted g c = halted_after c.apply.new.seat.known.local c.apply.result c.apply.ensures.halts c.apply.ensures.within
-
-pub returns-clause-work : goal.returns-clause-work
-returns-clause-work g c = work_held c.args.held.now.replica c.read_next.new.seat c.apply.new.seat c.apply.ensures.rest ∙ c.in_ok-read_next.ensures.work
+pub returns : goal.returns
+returns g c =
+    let e = c.in_ok-apply.ensures in record {
+      ready = record { is_held = e.ready.is_held; image = e.ready.image; place = e.ready.place ∙ ap (λ n. n + 1) (ap noted_place c.in_ok-read_next.ensures.read.read.seat ∙ c.requires.ready.place) };
+      keeps = record { seat = e.leaves.still.of; rest = work_held c.args.held.now.replica c.read_next.new.seat c.apply.new.seat e.leaves.rest ∙ c.in_ok-read_next.ensures.keeps.rest };
+    }

@@ -1,10 +1,43 @@
-use Rattle.std.proofs.lemmas.Result.{on_err_weaker}
-use Rattle.cx_turns.proofs.Answered.{retired_halted}
+use Rattle.std.proofs.Common.{◌≤◌, subst, sym}
+use Rattle.cx_turns.specs.Answering.{IsPublishedFor}
+use Rattle.cx_turns.proofs.Answered.{halted_turns, if_any_err, raised_most, retired_answers, retired_halted, retired_turns, still_won}
 use Rattle.cx_turns.proofs.updating.settle_won.Goals as goal
 
-pub returns-clause-halted : goal.returns-clause-halted
-returns-clause-halted g c =
-    on_err_weaker c.retire.result
-    (retired_halted c.args.shared.now g.O.Object.step g.O.Object.only_reads c.code.result c.args.ticket c.args.reply.now c.args.seat.now c.answer.new.seat c.in_ok-answer.ensures.answered
-    (record { code = c.args.won.code; before = c.args.won.before }) c.retire.new.seat c.requires.won.holds)
-    c.retire.ensures.halted
+pub retire-requires : goal.retire-requires
+retire-requires g c =
+    let r = c.args.shared.now in
+    let (ticket, reply, published) = c.requires.published in
+    let by = c.in_ok-answer.ensures.answered ticket reply (subst (λ n. IsPublishedFor g.O.Object r n ticket reply c.args.seat.now) (sym c.code.ensures) published) in
+    record {
+      seat = by.seat;
+      won = still_won g.O.Object r c.code.result ticket reply c.args.seat.now c.answer.new.seat by c.args.won c.requires.won;
+      raised = subst (λ n. n ≤ c.answer.new.seat.known.local.raised) c.code.ensures (raised_most g.O.Object r c.code.result ticket reply c.args.seat.now c.answer.new.seat by);
+    }
+
+pub returns-in_err-retire-clause-halted : goal.returns-in_err-retire-clause-halted
+returns-in_err-retire-clause-halted g c ticket reply published =
+    let r = c.args.shared.now in
+    let by = c.in_ok-answer.ensures.answered ticket reply (subst (λ n. IsPublishedFor g.O.Object r n ticket reply c.args.seat.now) (sym c.code.ensures) published) in
+    if_any_err c.from_residual-in_err-retire.result (retired_halted g.O.Object r c.code.result ticket reply c.args.seat.now c.answer.new.seat by c.retire.new.seat c.in_err-retire.ensures.halted)
+
+pub returns-in_err-retire-clause-turns : goal.returns-in_err-retire-clause-turns
+returns-in_err-retire-clause-turns g c =
+    let r = c.args.shared.now in
+    let (ticket, reply, published) = c.requires.published in
+    let by = c.in_ok-answer.ensures.answered ticket reply (subst (λ n. IsPublishedFor g.O.Object r n ticket reply c.args.seat.now) (sym c.code.ensures) published) in
+    halted_turns g.O.Object r c.code.result ticket reply c.args.seat.now c.answer.new.seat by c.retire.new.seat c.in_err-retire.ensures.halted
+
+pub returns-clause-answered : goal.returns-clause-answered
+returns-clause-answered g c ticket reply published =
+    let r = c.args.shared.now in
+    let by = c.in_ok-answer.ensures.answered ticket reply (subst (λ n. IsPublishedFor g.O.Object r n ticket reply c.args.seat.now) (sym c.code.ensures) published) in
+    let made = c.in_ok-retire.ensures.retired in
+    retired_answers g.O.Object r c.code.result ticket reply c.args.seat.now c.answer.new.seat by made.found c.retire.new.seat made.made published.rest published.ended
+
+pub returns-clause-turns : goal.returns-clause-turns
+returns-clause-turns g c =
+    let r = c.args.shared.now in
+    let (ticket, reply, published) = c.requires.published in
+    let by = c.in_ok-answer.ensures.answered ticket reply (subst (λ n. IsPublishedFor g.O.Object r n ticket reply c.args.seat.now) (sym c.code.ensures) published) in
+    let made = c.in_ok-retire.ensures.retired in
+    retired_turns g.O.Object r c.code.result ticket reply c.args.seat.now c.answer.new.seat by made.found c.retire.new.seat made.made

@@ -2,10 +2,10 @@ use Rattle.std.proofs.Common.{◌≡◌, arith, subst, sym, Some, ◌∙◌}
 use Rattle.cx_core.specs.declared.local.Answer.{Answer}
 use Rattle.cx_rule.specs.Running.{IsSeatOf, Running}
 use Rattle.cx_rule.specs.Seats.{Seated, unanswered_ticket}
-use Rattle.cx_service.specs.Callers.{IsLinkedOf}
-use Rattle.cx_service.specs.Drives.{DriveDone, DrivePending, MeetsAtMost}
-use Rattle.cx_service.proofs.Turning.{turn_done, turn_refused}
-use Rattle.cx_turns.specs.Answering.{TurnsFor}
+use Rattle.cx_service.specs.Callers.{IsLinkedOf, StoppedSeat}
+use Rattle.cx_service.specs.Drives.{DriveDone, DriveDue, DriveHalted, DrivePending, MeetsAtMost}
+use Rattle.cx_service.proofs.Turning.{turn_done, turn_halted, turn_refused}
+use Rattle.cx_turns.specs.Answering.{HaltsFor, TurnsFor}
 use Rattle.cx_service.proofs.service.Service.drive_once.Goals as goal
 
 pub returns-in-Ok-Some : goal.returns-in-Ok-Some
@@ -17,7 +17,7 @@ returns-in-Ok-Some g c =
     let answer : Answer = record { ticket = ticket; reply = c.in-Ok-Some.reply } in
     let answers = subst (TurnsFor ticket s v) c.in-Ok-Some.field-0-is c.in-Ok-Some.ensures.turned in
     subst (λ (x : Seated). DriveDone c.args.self.now x v answer × MeetsAtMost 1 x v) is (
-      turn_done c.args.self.now s v (subst (IsLinkedOf c.args.self.now) (sym is) c.requires) c.update_turn.ensures.rest c.update_turn.ensures.front (subst (λ (t : Running _). IsSeatOf t v) c.self.view_is c.update_turn.ensures.seat)
+      turn_done c.args.self.now s v (subst (IsLinkedOf c.args.self.now) (sym is) c.requires) c.update_turn.ensures.turns.rest c.update_turn.ensures.turns.front (subst (λ (t : Running _). IsSeatOf t v) c.self.view_is c.update_turn.ensures.turns.seat)
           ticket c.in-Ok-Some.reply (subst (λ (x : Seated). unanswered_ticket x.known.local ≡ Some ticket) (sym is) c.ticket-ticket.ensures)
           c.in-Ok-Some.ensures.allowed answers,
       answers.most,
@@ -29,5 +29,16 @@ returns-in-Ok-None g c =
     let is = c.deref_mut-at.ensures.value ∙ c.linked.view_is in
     let v = c.update_turn.new.seat in
     subst (λ (x : Seated). DrivePending c.args.self.now 1 x v) is
-    (turn_refused c.args.self.now s v (subst (IsLinkedOf c.args.self.now) (sym is) c.requires) c.update_turn.ensures.rest c.update_turn.ensures.front (subst (λ (t : Running _). IsSeatOf t v) c.self.view_is c.update_turn.ensures.seat)
+    (turn_refused c.args.self.now s v (subst (IsLinkedOf c.args.self.now) (sym is) c.requires) c.update_turn.ensures.turns.rest c.update_turn.ensures.turns.front (subst (λ (t : Running _). IsSeatOf t v) c.self.view_is c.update_turn.ensures.turns.seat)
     c.in-Ok-None.ensures.allowed (omega (arith, c.met-met.ensures)) (subst (TurnsFor c.ticket-ticket.result s v) c.in-Ok-None.field-0-is c.in-Ok-None.ensures.turned))
+
+pub returns-in-Err : goal.returns-in-Err
+returns-in-Err g c =
+    let s = c.deref_mut-at.result.now in
+    let is = c.deref_mut-at.ensures.value ∙ c.linked.view_is in
+    let v = c.update_turn.new.seat in
+    let ticket = c.ticket-ticket.result in
+    let h : StoppedSeat = record { seat = v; linked = Some ticket } in
+    subst (λ (x : Seated). DriveHalted c.args.self.now x h × DriveDue c.args.self.now 1 x h) is
+    (turn_halted c.args.self.now s v (subst (IsLinkedOf c.args.self.now) (sym is) c.requires) c.update_turn.ensures.turns.rest c.update_turn.ensures.turns.front (subst (λ (t : Running _). IsSeatOf t v) c.self.view_is c.update_turn.ensures.turns.seat)
+    ticket (subst (λ (x : Seated). unanswered_ticket x.known.local ≡ Some ticket) (sym is) c.ticket-ticket.ensures) (subst (λ (t : Running _). HaltsFor t.callers ticket s v) c.self.view_is c.in-Err.ensures.halted))

@@ -10,7 +10,7 @@ returns-in-Done g c =
 
 pub returns-in-Halted : goal.returns-in-Halted
 returns-in-Halted g c =
-    again_halted c.args.self.now c.args.linked c.loop.linked c.in-Halted.stopped c.loop.invariant (subst (Drives c.args.self.now 16 c.loop.linked) c.in-Halted.is c.drive.ensures)
+    again_halted c.args.self.now c.args.linked c.loop.linked c.in-Halted.stopped c.loop.invariant (let h = subst (Drives c.args.self.now 16 c.loop.linked) c.in-Halted.is c.drive.ensures in h.0)
 
 pub loop-preserved : goal.loop-preserved
 loop-preserved g c =

@@ -1,9 +1,10 @@
-use Rattle.std.proofs.Common.{arith, subst, sym, ◌∙◌}
+use Rattle.std.proofs.Common.{arith, subst, sym, ◌∙◌, None}
 use Rattle.cx_rule.specs.Running.{IsSeatOf, Running}
 use Rattle.cx_rule.specs.Seats.{Seated}
 use Rattle.cx_service.specs.Callers.{IsCallerOf}
-use Rattle.cx_service.specs.Lookups.{MeetsFewer, ReadAnswered, ReadPending}
-use Rattle.cx_service.proofs.Turning.{all_answered, read_done, read_refused}
+use Rattle.cx_service.specs.Drives.{MeetsFewer}
+use Rattle.cx_service.specs.Lookups.{ReadAnswered, ReadDue, ReadHalted, ReadPending}
+use Rattle.cx_service.proofs.Turning.{all_answered, read_done, read_ended, read_refused}
 use Rattle.cx_turns.specs.declared.lookup.Seen.{Seen}
 use Rattle.cx_turns.specs.Answering.{LooksUp, seen_at}
 use Rattle.cx_service.proofs.service.Service.read_once.Goals as goal
@@ -17,7 +18,7 @@ returns-in-Ok-Some g c =
     let seen : Seen = record { place = c.in-Ok-Some.place; reply = reply } in
     let answers = subst (λ o. LooksUp c.args.op.now s v (seen_at reply o)) c.in-Ok-Some.field-0-is c.in-Ok-Some.ensures.turned in
     subst (λ (x : Seated). ReadAnswered c.args.self.now c.args.op.now x v seen × MeetsFewer 1 x v) is (
-      read_done c.args.self.now c.args.op.now s v (subst (IsCallerOf c.args.self.now) (sym is) c.requires.caller) c.read_turn.ensures.rest c.read_turn.ensures.front (subst (λ (t : Running _). IsSeatOf t v) c.self.view_is c.read_turn.ensures.seat)
+      read_done c.args.self.now c.args.op.now s v (subst (IsCallerOf c.args.self.now) (sym is) c.requires.caller) c.read_turn.ensures.turns.rest c.read_turn.ensures.turns.front (subst (λ (t : Running _). IsSeatOf t v) c.self.view_is c.read_turn.ensures.turns.seat)
           seen c.in-Ok-Some.ensures.allowed answers,
       (let same = answers.met in omega (arith, same)),
     )
@@ -28,10 +29,19 @@ returns-in-Ok-None g c =
     let is = c.deref_mut-at.ensures.value ∙ c.caller.view_is in
     let v = c.read_turn.new.seat in
     subst (λ (x : Seated). ReadPending c.args.self.now 1 x v) is
-    (read_refused c.args.self.now c.args.op.now s v (subst (IsCallerOf c.args.self.now) (sym is) c.requires.caller) c.read_turn.ensures.rest c.read_turn.ensures.front (subst (λ (t : Running _). IsSeatOf t v) c.self.view_is c.read_turn.ensures.seat)
+    (read_refused c.args.self.now c.args.op.now s v (subst (IsCallerOf c.args.self.now) (sym is) c.requires.caller) c.read_turn.ensures.turns.rest c.read_turn.ensures.turns.front (subst (λ (t : Running _). IsSeatOf t v) c.self.view_is c.read_turn.ensures.turns.seat)
     c.in-Ok-None.ensures.allowed (omega (arith, c.met-met.ensures)) (subst (λ o. LooksUp c.args.op.now s v (seen_at c.read_turn.new.reply o)) c.in-Ok-None.field-0-is c.in-Ok-None.ensures.turned))
 
-pub read_turn-requires-clause-answered : goal.read_turn-requires-clause-answered
-read_turn-requires-clause-answered g c =
+pub returns-in-Err : goal.returns-in-Err
+returns-in-Err g c =
+    let s = c.deref_mut-at.result.now in
     let is = c.deref_mut-at.ensures.value ∙ c.caller.view_is in
-    all_answered c.args.self.now c.deref_mut-at.result.now (subst (IsCallerOf c.args.self.now) (sym is) c.requires.caller)
+    let v = c.read_turn.new.seat in
+    subst (λ (x : Seated). ReadHalted c.args.self.now c.args.op.now x (record { seat = v; linked = None }) × ReadDue 1 x v) is
+    (read_ended c.args.self.now c.args.op.now s v (subst (IsCallerOf c.args.self.now) (sym is) c.requires.caller) c.read_turn.ensures.turns.rest c.read_turn.ensures.turns.front (subst (λ (t : Running _). IsSeatOf t v) c.self.view_is c.read_turn.ensures.turns.seat) c.in-Err.ensures.halted)
+
+pub read_turn-requires-clause-ready : goal.read_turn-requires-clause-ready
+read_turn-requires-clause-ready g c =
+    let is = c.deref_mut-at.ensures.value ∙ c.caller.view_is in
+    let caller = subst (IsCallerOf c.args.self.now) (sym is) c.requires.caller in
+    record { of = subst (λ (t : Running _). IsSeatOf t c.deref_mut-at.result.now) (sym c.self.view_is) caller.of; rest = caller.rest; answered = all_answered c.args.self.now c.deref_mut-at.result.now caller }
