@@ -1,0 +1,4 @@
+pub mod LastPairs
+pub mod LineParts
+pub mod MissingLines
+pub mod Written
