@@ -1,4 +1,9 @@
 //! What the guards of the core's events ask of a caller's local state, each question a function.
+//!
+//! - Each question that a guard asks of a caller's local state is its definition, in a file by the word that is stepped on. The must-fail edits show it
+//!   of a downgrade with a dirty word, a win retired before its own raise, a replica loaded after its right was given up, a set offered without
+//!   its test, a set read under an unconfirmed protection, and one read that is offered with another ticket; the rows of `event_tests` show it
+//!   of each guard failing for one reason.
 #![tactic(auto)]
 
 pub mod answers;

@@ -1,5 +1,20 @@
 //! The base of the construction: lists that contracts see item by item, the outside (sources, sinks and
 //! gates), and the definitions of a store and of the room that it takes.
+//!
+//! - A load and a store of a memory say how the pairs that stand change, and `Halt` comes exactly where no access is left, with nothing
+//!   changed: `Memory` (`stands`, `access`); met by `VecMemory`. Words are loaded from a place on: `load_words` (`read`, `unchanged`, `halts`).
+//! - Every call over a memory leaves it the same one: `framed` of `Loads`, `Stores`, `Finds` and `Changes`.
+//! - Words are put from a place on, of which those that differ are stored, and a word is loaded that is below a bound: `store_words`,
+//!   `store_word`, `load_below` (`done`, `below`).
+//! - An object's calls do its step, its format and its check, and its laws hold: `Object`; met by `Tally`, the object of the tests.
+//! - Root codes and link codes are their formulas, and code and parts give each other back: `root_code` and the others, `root_parts`,
+//!   `root_whole`, `link_parts`, `link_whole`.
+//! - Packing is its formula, and is undone by unpacking, both ways: `pack`, `unpack`, `packed_unpacks`, `unpacked_packs`.
+//! - A source gives its bytes in order and a sink takes a front of what it is handed; a refusal leaves them and raises their count: `Source`,
+//!   `Sink`; `SureSource` never fails, and `SureSink` exactly past its room:.
+//! - `Items` and `Bytes` are lists, made from a `Vec` and given back without taking memory.
+//!
+//! Tested (`word_tests`): worked codes and packed bytes; Tally over two memories, with each limit.
 #![tactic(auto)]
 
 mod accesses;

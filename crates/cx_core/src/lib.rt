@@ -1,5 +1,20 @@
 //! The core of the construction: entries, bases and regions, the full step of an entry, and the definitions of a core's state,
 //! of its events and of the lawful state.
+//!
+//! - A full step over any object and any writable memory of a region is the full step of its definition, for every pair that stands, and halts
+//!   only where no access is left: `full_step` (`done`, `halts`).
+//! - A part of a memory is a memory, and what stands around it is kept: `Memory for Part`.
+//! - The first base has place 0, no results and the object's opening image, and is lawful: `Base::fresh`.
+//! - The full image after a place is the base's words and then one full step after another: `full_image_begins`, `full_image_goes_on`.
+//! - A full step leaves a lawful base at the next place, with the number and the reply in its caller's slot and the other slots as they were:
+//!   `full_step_keeps`.
+//! - A longer history has the same full images up to the old end: `full_images_stay`. Where the base and the entries are lawful, the full image
+//!   of a place is a lawful base's words: `full_images_are_lawful`; and a region that is the full image after its place, with the next entries
+//!   applied, is the full image after them: `full_regions_go_on`.
+//! - Each word of the table, and each part of a region, stands where the layout says: `link_at`, `cell_at`, `lock_at`, `vol_at` and the others;
+//!   `slot_start`.
+//!
+//! Tested (`event_tests`): the first base, and full steps by hand, with a limit that refuses each access.
 #![tactic(auto)]
 
 mod base;

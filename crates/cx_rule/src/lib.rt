@@ -1,5 +1,33 @@
 //! The rule of the running table: the core's lawful state over the table's words and what its seats know. Each event of the
 //! core keeps it.
+//!
+//! - The rule holds between any two steps of any callers: the words, and local states of which the seats show all but the words of a replica
+//!   held exclusively, are a lawful state of the core; words of entries that a caller read are the history's: `CoreRule` (`RuleHolds`). What it
+//!   read of write sets is so: each word stands as long as its ticket is live, and each set that was read whole is a write set of its ticket
+//!   (`SetNotesHold`).
+//! - An event of any kind keeps the rule, where it is allowed in each state that its seat may stand before: `events_keep_the_rule`.
+//! - What is really there fits what a seat knows, and stays lawful through each entry and each write set that the seat has, which are those
+//!   that it read whole and its caller's own: `what_is_there_fits` (`FitsThere`).
+//! - A set in the cell of an own entry may be offered where whatever fits tells that it leads from the image at the entry's ticket to the next:
+//!   `told_sets_may_be_offered` (`TellsOffer`). No step call offers or reads a set yet.
+//! - Each step call is the event of its name, of its seat's caller, by one atomic instruction, and afterwards the seat knows what the event
+//!   teaches; it tells what the lawful state says of the caller by itself, before and after, and of the word found: `write_cell`, `link`,
+//!   `look`, `read_cell`, `load_free` (`made`: `Steps`); `try_exclusive`, `try_shared`, `back_off`, `downgrade`, `release_exclusive`;
+//!   `load_word`, `store_word`, `persist`; `load_cur`, `publish`, `retire`; `protect`, `confirm`, `unprotect`, `close_low`, `scan`,
+//!   `open_free`.
+//! - A raise of DUR is the event of that name. It answers the caller's entry below the code's place, and a read at it, and only with replies
+//!   that its caller noted: that of its last entry in a replica replayed above the entry's ticket, whatever fits what was noted of it, and the
+//!   object's to the read, whatever fits what was loaded of the current replica: `raise` (`guard`, `told`, `reads`, `made`: `Raises`). That
+//!   these are the history's follows from the rule.
+//! - Some pair of words fits what a caller noted of the replicas that it holds: words lawful as a base, at a place from the base's on, that
+//!   agree with the loads and lead by the stores to the words now: `fits` of `try_exclusive`, `try_shared`, `load_word` and `store_word`
+//!   (`Fitting`). The rule says that what is really there does.
+//! - An exclusive right is given up where whatever fits is the image after its place by noted entries: `replayed` of `downgrade` and
+//!   `release_exclusive` asks that, and the event's guard, that the words are a full image, then holds.
+//! - A word found in CUR, FREE or LOW is at least what the caller found there before, and the replica that CUR names is not held exclusively by
+//!   the caller. A word found by `look` and `link` names a ticket of its slot, at least as late as each of the slot below the front; one that
+//!   the caller's confirmed protection keeps stands there; a link that was lost found a later ticket; a caller that scans itself finds the need
+//!   that it stated: `told` of `made`.
 #![tactic(auto)]
 
 mod laws;

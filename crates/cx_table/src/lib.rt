@@ -1,5 +1,26 @@
 //! The running table: the words of the core as atomic words that threads share, with a seat for each caller. Each step
 //! call is one event of the core, made by one atomic instruction.
+//!
+//! - A run of loads is an event for each of its words, in order, each as its step call would tell it; it is refused only where the limit leaves
+//!   fewer steps than there are words, and then nothing changes: `load_words`, `read_words` (`made`, `short`, `none`: `Runs`).
+//! - A publication hands its win out exactly where it found the code last seen in CUR, and else gives the downgraded right back: `token` of
+//!   `publish`. A seat keeps a win that is not retired, also once it was halted: `CallerSeat::won`.
+//! - `Halt` comes exactly where the seat's steps equal its limit, and then nothing changes: `halted`, with `allowed` of `made`.
+//! - A try hands a token out exactly where the word found gives the right, and the token is of its seat, on that replica: `token` of
+//!   `try_exclusive` and `try_shared`; so does a downgrade: `token` of `downgrade`. Only a step call makes a token, and none can be copied.
+//! - A shared right whose words were all loaded, and are the words noted last of the replica held exclusively, is released so that the words
+//!   loaded are what is noted of that replica, with nothing stored since: `release_copied` (`StepsCopied`; `AgreeTo`).
+//! - What is persisted is the word last stored, with no load: `persist`. A seat tells whether a word is dirty and some word that is, if any is:
+//!   `CallerSeat::is_dirty`, `some_dirty`; and the words of its caller's cells: `cell_word`.
+//! - No seat makes more steps than its limit: `CallerSeat::steps` (`within`).
+//! - A seat lends the numbers of its caller's local state: `CallerSeat`.
+//! - A table is made with the opening words of a lawful base and one seat for each caller with its limit: `Shared::make` (`IsMade`: `table`,
+//!   `seats`, `all`).
+//! - A table that is closed leaves a lawful state whose history is the trail's, with each caller's own entries, each once and in order, the
+//!   words of the replicas, and of each whether it is dirty; of the callers' local states the seats show all but the words of replicas held
+//!   exclusively; the codes published are the chain from DUR to CUR, by the callers' wins; want of memory hands all back: `Shared::gather`
+//!   (`remains`, `kept`). The memory can be taken first: `room`, `gather_in`. Only closing a table makes a `Trail`.
+//! - A seat may go to another thread, and a table may be shared: `cross_threads`.
 #![tactic(auto)]
 
 mod events;

@@ -1,5 +1,17 @@
 //! The parts of a caller's turn over its seat: a replica is taken, brought up to the caller's own entry and made durable, or
 //! the current one is read beside the queue.
+//!
+//! - A caller tries each replica once; where all are refused one refusal is met and it has no right: `take_any` (`taken`). Which it tries first
+//!   is in no contract.
+//! - A replica is brought up by the queue's entries, read under a protection, to a place above the caller's ticket, and the reply to its last
+//!   entry read there, for whatever fits what was noted: `replay_to`, `own_outcome`; where cells from its place on are closed it is a copy of
+//!   the current one first:; made durable and downgraded: `prepare` (`prepared`).
+//! - A turn for a linked entry answers it with its reply, and meets at most one refusal, or one was met and nothing is answered, and the caller
+//!   is at rest again; where it halts the entry is not answered, or it is and the win stands that is still to be retired, and no refusal was
+//!   met, a right stands, or the raise is still to be made: `update_turn` (`turned`, `halted`, `turns`).
+//! - A turn for a read answers it at the place of a code loaded from CUR in this turn, whose replica is held shared at that place. The place is
+//!   above each ticket and not below any place that the caller was answered before; where it halts the read is not answered, or it is and the
+//!   shared right stands that is still to be given back: `read_turn` (`turned`, `halted`, `turns`), over `read_current`.
 #![tactic(auto)]
 
 mod keeping;

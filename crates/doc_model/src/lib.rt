@@ -1,5 +1,20 @@
 //! The operations of the document store, their replies, and what each operation means: the reply and the next
 //! store, as a table over a list of pairs.
+//!
+//! - The plain program gives the reply and the next store of the table of meanings for every operation, and an `Err` leaves the store as it
+//!   was: `Pairs::step` (`reply`, `next`, `err`).
+//! - An operation within the limits keeps a store a store, and one that only reads leaves it: `operations_keep_stores`,
+//!   `readings_leave_stores`.
+//! - The words of an operation and of a reply are their definitions: `op_words`, `reply_words`.
+//! - An operation, or a reply, is read from words exactly where they are words of one within the limits, and it is that one: `op_of`,
+//!   `reply_of` (`found`, `only`, `bad`), and without memory `is_op`.
+//! - Whether bytes are a key is told exactly: `is_key` (`rule`); replies of bytes that are packed already have the words of those replies:
+//!   `packed_document_reply`, `packed_key_reply`.
+//! - Two operations, or replies, with the same words are one: `op_words_are_one_to_one`, `reply_words_are_one_to_one`.
+//! - They are 144 words of 64 bits, with each part at its place, and the kind tells a reading: `words_are_words`, `parts_stand_in_words`,
+//!   `kinds_tell_readings`.
+//!
+//! Tested (`word_tests`): the words of worked operations and replies, laid out by hand; texts of every length; the table of replies.
 #![tactic(auto)]
 
 mod laws;

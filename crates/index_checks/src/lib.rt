@@ -1,6 +1,14 @@
 //! How the words of an index stand for a store, a check of words that may be anything, and the pairs that words stand
 //! for. Below them: whether words have the shape of a balanced tree, and a walk over its nodes in order. Neither
 //! recurses, so the stack that they take is the same whatever the words are.
+//!
+//! - Whatever the words are, it is told exactly whether a balanced tree of so many nodes stands below a line: `is_balanced`; a walk gives each
+//!   node of such a tree once, in order: `InOrder`.
+//! - Whatever the words are, true exactly where a tree stands in them for some store with this version, and then for one only, which is read
+//!   off them: `lawful`; `lawful_words_have_one_store`, `words_stand_for_one_store`, `words_tell_their_store`; `pairs_of` lists it.
+//!
+//! Tested (`word_tests`): a tree over a vector; 83 hostile images (heights, balance, rings, shared children, keys out of order at a distance, a
+//! line in two places) and 7 lawful ones.
 #![tactic(auto)]
 
 mod checking;

@@ -1,5 +1,33 @@
 //! Replicas that a caller holds as memories: any object runs on them, entries are replayed on them word by word, and what was
 //! stored is made durable before the right is given up.
+//!
+//! - A replica held exclusively is a memory, and one held shared is a memory for loads: `Region`, `ReadRegion` (`Memory`). Its pairs are those
+//!   that fit what the seat noted, so any object runs on it unchanged; a load and a store are one step each, and `Halt` comes exactly where the
+//!   seat's limit leaves none. Several words are loaded by one call, and each is noted as its own load would be; where the limit leaves fewer
+//!   steps the first of them are loaded: `load_held_words`, `load_shared_words` (`made`: `LoadsRun`; `some`, `halted`).
+//! - The place of a region, and the number and reply of a caller's last entry in it: `place`, `outcome` (`read`).
+//! - A replica into which nothing was stored is the image after its place: `begin` (`ready`: `IsReady`); the full step of the noted entry of
+//!   its place, which has to be a lawful one, makes it the image after the next: `apply`, and over a region `replay_one` (`ready`).
+//! - After a flush no word is dirty, and a region that was the image after its place still is; with `Halt` a word is dirty: `flush` (`clean`,
+//!   `image`, `persists`). So the conditions of a downgrade and of a release are met.
+//! - A copy makes the replica held exclusively equal to the one held shared, whatever fits what was noted, and gives their place: `copy_from`
+//!   (`copied`: `Copies`). Each word that became dirty had another value before than the source has, so it lies in a line that differed
+//!   (`DirtiesDiffering`). Beside one for each word stored it makes at most two steps for each word; with `Halt` it made fewer, or a word is
+//!   left to store that was loaded of both and differs (`steps`: `EndsCopy`), and both rights stand (`leaves`). Given the shared
+//!   right back, the words copied are those that the exclusive right began with: `renew_from` (`renewed`: `Renews`), at the place that was
+//!   loaded of the source, by `release_copied` (`made`: `StepsCopied`).
+//!
+//! Tested (`table_tests`): a caller takes a replica, replays its own linked entry, flushes and downgrades, and another caller reads place,
+//! number and reply there; each limit of steps from 0 to 454, the first that does not halt; each limit of steps of a run of loads, by the words
+//! that it leaves and the steps made; 1,000 entries of Tally on a region against a plain memory, word by word; a copy in the opening state,
+//! after which nothing is dirty; copies over a replica that differs in one word, in a line, in all, and flushes of as many words as a seat
+//! lists, one fewer, one more and twice as many, by the steps that they make.
+//!
+//! Also (`table_tests`): 1,000 mixed commands of the document store on a replica held exclusively, all words of which are those of a plain
+//! memory after each; a table closed at each limit of steps of an update's replay, flush and downgrade, whose marks and words in both memories
+//! are those of a plain model; flushes of 0 to 1,680 words, all of which the medium then has, and no others; a table closed after a copy at
+//! opening, in which no word is dirty; two threads that take replicas, replay on them, make them durable, downgrade and release, 10,000 turns
+//! each over 100 tables, after which all replicas have the words of the plain model.
 #![tactic(auto)]
 
 mod copying;

@@ -1,5 +1,19 @@
 //! An ordered index over the words of a memory: pairs of a key and a document, in a balanced tree of nodes and in
 //! lines of 8 words.
+//!
+//! A balanced tree of pairs. What is said holds for every pair that stands, over any memory.
+//!
+//! - `find`, `least_above`, `count` and `read_document` answer what the list of pairs answers, and leave the words: `done`, `kept`.
+//! - The words after `insert` and `remove` are a function of the words before them, and so is the answer: `changes`.
+//! - These words stand for the store with the pair, and NoRoom comes exactly where it would not have room, with nothing changed; for the store
+//!   without the key; and are as many words of 64 bits as before: `documents_are_put`, `keys_are_removed`.
+//! - After `format_index` they stand for the empty store, and are a function of those before: `changes`, `exact`.
+//! - Each of `find`, `least_above`, `insert` and `remove` visits so few nodes that 2^visits is at most 2(n + 1)^2 for n pairs before the call:
+//!   `visits` of the same calls, of the last two where they return; where they halt, for some words that may have been there: `walked`. Each
+//!   comparison of a key is a visit that is counted: `order_at` (`counted`).
+//! - Each call halts only where no access is left, and a memory without a limit has none afterwards: `halts`, `limited`.
+//!
+//! Tested (`word_tests`): keys put in, replaced by shorter and longer documents and taken out over a vector, to the last line.
 #![tactic(auto)]
 
 mod answers;
