@@ -6,6 +6,7 @@ pub mod Grammar
 pub mod Measure
 pub mod Reading
 pub mod Reasons
+pub mod Recovered
 pub mod Refusal
 pub mod Report
 pub mod Summary

@@ -1,5 +1,5 @@
 //! The texts of documents: the script that clients are told by, and the report of what happened. Beside them the script of a load,
-//! and what it came to.
+//! and what it came to, and what is recovered from an image.
 #![tactic(auto)]
 
 mod commands;
@@ -10,6 +10,7 @@ mod measure;
 mod measured_members;
 mod printing;
 mod reading;
+mod recovered;
 mod script_parts;
 
 pub use life_records::{Cut, FullLine, StopLine};
@@ -17,6 +18,7 @@ pub use load_script::generated;
 pub use load_summary::summary;
 pub use printing::report;
 pub use reading::read_script;
+pub use recovered::{Applied, Recovered, recovered_text};
 pub use script_parts::{
     Command, JournalLine, Life, LifeRecord, ReadLine, Reason, Script, ScriptLine, TextFault,
 };
