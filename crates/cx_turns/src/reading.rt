@@ -1,8 +1,9 @@
 //! The current replica is read beside the queue. `Halt` comes only where no access is left.
 
-ghost use Rattle.std.specs.Prelude.{◌*◌, ◌<◌, ◌^◌, ◌≡◌, IsTrue, MatchResult, None, OnErr, OnOk, Some, false, true};
+ghost use Rattle.std.specs.Prelude.{◌*◌, ◌<◌, ◌^◌, ◌≡◌, IsTrue, MatchResult, None, Some, false, true};
 ghost use Rattle.cx_base.specs.Codes.{root_replica_of};
-ghost use Rattle.cx_base.specs.Memory.{Always, Becomes, Framed, Reads};
+ghost use Rattle.cx_base.specs.Calls.{Finds};
+ghost use Rattle.cx_base.specs.Memory.{Always};
 ghost use Rattle.cx_core.specs.LockEvents.{CanTryShared};
 ghost use Rattle.cx_core.specs.Region.{object_part, region_words};
 ghost use Rattle.cx_core.specs.Rights.{exclusive_on, is_at};
@@ -35,10 +36,7 @@ pub fn query_part<O: Object, M: Memory>(
     requires small { region_words (O.line_count object.now) < 2 ^ 64 }
     requires lawful { Always (M.stands mem.old) (λ region. O.lawful object.now (object_part region)) }
     requires reads { IsTrue (O.only_reads object.now op.now) }
-    ensures read { OnOk result (Reads (M.stands mem.old) (M.stands mem.new) (λ region. (O.step object.now (object_part region) op.now).1 ≡ reply.new)) }
-    ensures unchanged { Becomes (M.stands mem.old) (M.stands mem.new) ◌≡◌ }
-    ensures halts { OnErr result (M.left mem.new ≡ Some 0) }
-    ensures framed { Framed M.size M.fixed M.writable M.left mem.old mem.new }
+    ensures { Finds M.Memory mem.old mem.new result (λ _ region. (O.step object.now (object_part region) op.now).1 ≡ reply.new) }
 {
     let len = LINE_WORDS * object.lines();
     let mut part = Part {
@@ -59,10 +57,7 @@ fn query_into<O: Object, M: Memory>(
     requires size { M.size mem.old ≡ 8 * O.line_count object.now }
     requires lawful { Always (M.stands mem.old) (O.lawful object.now) }
     requires reads { IsTrue (O.only_reads object.now op.now) }
-    ensures done { OnOk result (Always (M.stands mem.new) (λ now. O.step object.now now op.now ≡ (now, reply.new))) }
-    ensures unchanged { Becomes (M.stands mem.old) (M.stands mem.new) ◌≡◌ }
-    ensures halts { OnErr result (M.left mem.new ≡ Some 0) }
-    ensures framed { Framed M.size M.fixed M.writable M.left mem.old mem.new }
+    ensures { Finds M.Memory mem.old mem.new result (λ _ now. O.step object.now now op.now ≡ (now, reply.new)) }
 {
     *reply = object.query(mem, op)?;
     Ok(())
