@@ -5,7 +5,7 @@ use Rattle.std.proofs.lemmas.Option.{same_Some}
 use Rattle.std.specs.Option.{option_map}
 use Rattle.cx_core.specs.declared.entry.Base.{Base}
 use Rattle.cx_core.specs.declared.entry.Entry.{Entry}
-use Rattle.cx_core.specs.Base.{LawfulBase}
+use Rattle.cx_core.specs.Base.{Keeps, LawfulBase}
 use Rattle.cx_core.specs.History.{AreLawful, full_image, reply_at}
 use Rattle.cx_core.specs.Merge.{IsLinked}
 use Rattle.cx_core.specs.Region.{object_part, slot_number, slot_reply}
@@ -28,7 +28,7 @@ module _ (lines : ℕ) (lawful : List ℕ → Type 0) (instance : Instance) (law
   at_place place = record { place = place; words = full_image instance.step instance.base history place }
 
   -- what the full step of a linked entry keeps
-  kept_at : (ticket : ℕ) (entry : Entry) → IsLinked instance.base.place history ticket entry → keep.Keeps lines lawful instance.step (at_place ticket) entry (at_place (ticket + 1))
+  kept_at : (ticket : ℕ) (entry : Entry) → IsLinked instance.base.place history ticket entry → Keeps lines lawful instance.step (at_place ticket) entry (at_place (ticket + 1))
   kept_at ticket entry linked =
       let from = linked.from in
       let within = linked_within instance.base.place history ticket entry linked in
