@@ -8,29 +8,33 @@ use Rattle.cx_program.specs.Texts.{too_long_text}
 use Rattle.cx_program.specs.declared.asked.Asked.{Asked}
 use Rattle.cx_program.specs.declared.asked.Asked.TheVariants.{Run, Load}
 use Rattle.cx_program.specs.declared.status.Status.{Status}
-use Rattle.cx_program.specs.declared.status.Status.TheVariants.{Fine, Usage, Refused, TooLong}
+use Rattle.cx_program.specs.declared.status.Status.TheVariants.{Fine, Usage, Refused, ReadFault, WriteFault, Memory, TooLong}
 use Rattle.cx_rule.specs.Ending.{Ending}
 
 -- a status that comes in place of the one that an input calls for
 abbrev pub GivesUp : Status → Type 0
+GivesUp ReadFault = Unit {0}
+GivesUp WriteFault = Unit {0}
+GivesUp Memory = Unit {0}
 GivesUp _ = ⊥
-GivesUp _ = Unit {0}
 
 pub record IsSound (command : Command) : Type 0 where
   pub one : (input : List ℕ) (a b : Status) → command.calls input a → command.calls input b → a ≡ b
   pub plain : (input : List ℕ) (status : Status) → command.calls input status → GivesUp status → ⊥
 
 run_one : (input : List ℕ) (a b : Status) → run_calls input a → run_calls input b → a ≡ b
+run_one input Fine Fine x y = refl
 run_one input Fine Refused x y = absurd (y x.0 x.1)
 run_one input Refused Fine x y = absurd (x y.0 y.1)
+run_one input Refused Refused x y = refl
 run_one input Fine b x y = absurd y
 run_one input Refused b x y = absurd y
 run_one input a b x y = absurd x
-run_one input a b x y = refl
 
 run_plain : (input : List ℕ) (status : Status) → run_calls input status → GivesUp status → ⊥
+run_plain input Fine calls gives = gives
+run_plain input Refused calls gives = gives
 run_plain input status calls gives = absurd calls
-run_plain input status calls gives = gives
 
 -- a command that always calls for one status
 always : (command : Command) (wanted : Status) → (GivesUp wanted → ⊥) → ((input : List ℕ) (status : Status) → command.calls input status → status ≡ wanted) → IsSound command
