@@ -1,2 +1,3 @@
 mod PairsLookedThrough
+mod Replicas
 mod Working

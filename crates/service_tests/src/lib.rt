@@ -21,6 +21,8 @@ mod losing;
 #[cfg(test)]
 mod playing;
 #[cfg(test)]
+mod reopened;
+#[cfg(test)]
 mod rows;
 #[cfg(test)]
 mod starting;

@@ -1,0 +1,353 @@
+//! Media that are made ready for the next life, with a loss of power at each step, and what bases say of callers.
+
+ghost use Rattle.std.specs.Prelude.{◌≡◌, ◌<◌, ◌≤◌, IfOk, length};
+ghost use Rattle.cx_base.specs.Tally.{IsTally};
+ghost use Rattle.cx_core.specs.Base.{LawfulBase};
+ghost use Rattle.recovery.specs.Reopened.{HasReplicas};
+
+use crate::calls::UPDATE;
+use crate::closing::recovered;
+use crate::holds::holds;
+use crate::playing::{Part, played_from};
+use crate::starting::{NO_LIMIT, base_at};
+use crate::tasks::{Work, adds};
+use cx_core::Base;
+use pmem_model::Medium;
+use recovery::{Outcome, outcome, reopen};
+use std::alloc::{AllocError, Global};
+use std::test::Fail;
+
+// A medium of one caller and 64 lines: two regions of 210 lines, whose words are these, and 0 elsewhere.
+fn medium_of(alloc: Global, pairs: &[(u64, u64)]) -> Result<Medium, AllocError>
+    ensures { IfOk result (HasReplicas 1 64) }
+{
+    let mut words = vec![in alloc; 0; 3360]?;
+    for (at, word) in pairs {
+        if *at < 3360 {
+            words[*at as usize] = *word;
+        }
+    }
+    let medium = Medium::of(alloc, words)?;
+    Ok(medium)
+}
+
+// Whether both regions have the same words, none dirty, and no line of the second was stored to.
+fn is_level(medium: &Medium) -> bool
+    requires { HasReplicas 1 64 medium.now }
+{
+    for at in 0..1680 {
+        if medium.load(at) != medium.load(1680 + at)
+            || medium.is_dirty(at)
+            || medium.is_dirty(1680 + at)
+            || medium.stores(210 + at / 8) != 0
+        {
+            return false;
+        }
+    }
+    true
+}
+
+// The second region at place 1, whose store has the document 1 under the key a, beside an empty first one.
+const DOCUMENT: [(u64, u64); 14] = [
+    (1680, 1),
+    (1688, 1),
+    (1689, 1),
+    (2848, 1),
+    (2849, 1),
+    (2851, 4),
+    (2853, 1),
+    (2858, 1),
+    (2859, 2),
+    (2860, 1),
+    (2861, 3),
+    (2862, 1),
+    (2865, 97),
+    (2873, 49),
+];
+
+#[test]
+fn regions_become_the_roots(rt: HostRuntime) -> Result<(), Fail> {
+    let mut medium = medium_of(rt.alloc(), &DOCUMENT)?;
+    reopen_one(&mut medium, 3);
+    holds(&rt, is_level(&medium));
+    Ok(())
+}
+
+// Words of no meaning, of which the lines 0, 5, 10 .. of the first region are those of the second, and one word in three elsewhere.
+fn scattered(alloc: Global) -> Result<Medium, AllocError>
+    ensures { IfOk result (HasReplicas 1 64) }
+{
+    let mut words = vec![in alloc; 0; 3360]?;
+    for at in 0..3360usize {
+        let k = at as u64 % 1680;
+        let same = at >= 1680 || k / 8 % 5 == 0 || k % 3 == 0;
+        let of = if same { k } else { k + 5000 };
+        words[at] = (of + 1).wrapping_mul(0x9e37_79b9_7f4a_7c15);
+    }
+    let medium = Medium::of(alloc, words)?;
+    Ok(medium)
+}
+
+// Whether a loss of power leaves the second region as it is wanted, by three choices.
+fn stands(medium: &Medium, image: &mut [u64], want: &[u64]) -> bool
+    requires medium { HasReplicas 1 64 medium.now }
+    requires image { length image.old ≡ 3360 }
+    ensures { length image.new ≡ 3360 }
+{
+    for choice in 0..3 {
+        medium.image(choice, image);
+        if &image[1680..] != want {
+            return false;
+        }
+    }
+    true
+}
+
+fn store(medium: &mut Medium, at: u64, word: u64)
+    requires medium { HasReplicas 1 64 medium.old }
+    requires at { at < 3360 }
+    ensures { HasReplicas 1 64 medium.new }
+{
+    medium.store(at, word);
+}
+
+fn write_back(medium: &mut Medium, line: u64)
+    requires medium { HasReplicas 1 64 medium.old }
+    requires line { line < 420 }
+    ensures { HasReplicas 1 64 medium.new }
+{
+    medium.write_back(line);
+}
+
+fn fence(medium: &mut Medium)
+    requires { HasReplicas 1 64 medium.old }
+    ensures { HasReplicas 1 64 medium.new }
+{
+    medium.fence();
+}
+
+fn reopen_one(medium: &mut Medium, root: u64)
+    requires { HasReplicas 1 64 medium.old }
+    ensures { HasReplicas 1 64 medium.new }
+{
+    reopen(medium, 1, 64, root);
+}
+
+// Stores to a line what differs in that of the second region. Gives the number of stores, and nothing where after one of them a loss of
+// power would not leave the second region as it is wanted.
+fn line_stores(medium: &mut Medium, line: u64, image: &mut [u64], want: &[u64]) -> Option<u64>
+    requires medium { HasReplicas 1 64 medium.old }
+    requires line { line < 420 }
+    requires image { length image.old ≡ 3360 }
+    ensures medium { HasReplicas 1 64 medium.new }
+    ensures image { length image.new ≡ 3360 }
+{
+    let source = 210 + line % 210;
+    let mut stores = 0u64;
+    for i in 0..8 {
+        let word = medium.load(8 * source + i);
+        if medium.load(8 * line + i) != word {
+            store(medium, 8 * line + i, word);
+            if !stands(medium, image, want) {
+                return None;
+            }
+            stores = stores.wrapping_add(1);
+        }
+    }
+    Some(stores)
+}
+
+// Makes a line that of the second region, as `reopen` does. Gives the number of its steps.
+fn line_steps(medium: &mut Medium, line: u64, image: &mut [u64], want: &[u64]) -> Option<u64>
+    requires medium { HasReplicas 1 64 medium.old }
+    requires line { line < 420 }
+    requires image { length image.old ≡ 3360 }
+    ensures medium { HasReplicas 1 64 medium.new }
+    ensures image { length image.new ≡ 3360 }
+{
+    let stores = line_stores(medium, line, image, want)?;
+    if stores == 0 {
+        return Some(0);
+    }
+    write_back(medium, line);
+    if !stands(medium, image, want) {
+        return None;
+    }
+    Some(stores.wrapping_add(1))
+}
+
+// The same of all lines, and then a fence.
+fn all_steps(medium: &mut Medium, image: &mut [u64], want: &[u64]) -> Option<u64>
+    requires medium { HasReplicas 1 64 medium.old }
+    requires image { length image.old ≡ 3360 }
+    ensures { HasReplicas 1 64 medium.new }
+{
+    let mut steps = 0u64;
+    for line in 0..420 {
+        let more = line_steps(medium, line, image, want)?;
+        steps = steps.wrapping_add(more);
+    }
+    fence(medium);
+    if !stands(medium, image, want) {
+        return None;
+    }
+    Some(steps.wrapping_add(1))
+}
+
+// Whether two media have the same words and marks, and were as often stored to.
+fn are_same(a: &Medium, b: &Medium) -> bool
+    requires a { HasReplicas 1 64 a.now }
+    requires b { HasReplicas 1 64 b.now }
+{
+    for at in 0..3360 {
+        if a.load(at) != b.load(at)
+            || a.is_dirty(at) != b.is_dirty(at)
+            || a.stores(at / 8) != b.stores(at / 8)
+        {
+            return false;
+        }
+    }
+    true
+}
+
+// The words of the second region.
+fn root_words(alloc: Global, medium: &Medium, image: &mut [u64]) -> Result<Vec<u64>, AllocError>
+    requires medium { HasReplicas 1 64 medium.now }
+    requires image { length image.old ≡ 3360 }
+    ensures { length image.new ≡ 3360 }
+{
+    medium.image(0, image);
+    Vec::from_slice(alloc, &image[1680..])
+}
+
+// Whether a loss of power at each of so many steps leaves the root's region, and `reopen` makes what they make.
+fn stands_at_each_step(alloc: Global, image: &mut [u64], steps: u64) -> Result<bool, AllocError>
+    requires { length image.old ≡ 3360 }
+{
+    let mut walked = scattered(alloc)?;
+    let want = root_words(alloc, &walked, image)?;
+    if all_steps(&mut walked, image, &want) != Some(steps) {
+        return Ok(false);
+    }
+    let mut medium = scattered(alloc)?;
+    reopen_one(&mut medium, 1);
+    Ok(is_level(&medium) && are_same(&medium, &walked))
+}
+
+// The same with an image of its own.
+fn all_stands(alloc: Global, steps: u64) -> Result<bool, AllocError> {
+    let mut image = vec![in alloc; 0; 3360]?;
+    stands_at_each_step(alloc, &mut image, steps)
+}
+
+#[test]
+fn a_loss_of_power_at_each_step_leaves_the_roots_region(rt: HostRuntime) -> Result<(), Fail> {
+    // 896 words that differ, in 168 lines, and the fence
+    holds(&rt, all_stands(rt.alloc(), 1065)?);
+    Ok(())
+}
+
+// What a base says of a caller: the number and word 0 of the reply, and nothing where no entry was applied.
+type Said = Option<(u64, u64)>;
+
+// Whether a base says that.
+fn says(base: &Base, caller: u32, want: Said) -> bool
+    requires base { LawfulBase 64 IsTally base.now }
+    requires caller { caller < 8 }
+{
+    match outcome(base, caller) {
+        Outcome::Never => want.is_none(),
+        Outcome::Applied { number, reply } => match want {
+            Some((wanted, word)) => number == wanted && reply == adds(word),
+            None => false,
+        },
+    }
+}
+
+// The base after a part is played from one, and power lost.
+fn base_after(alloc: Global, base: &Base, part: Part) -> Result<Base, AllocError>
+    requires { LawfulBase 64 IsTally base.now }
+    ensures { IfOk result (LawfulBase 64 IsTally) }
+{
+    let played = played_from(alloc, base, &[NO_LIMIT, NO_LIMIT], &[part])?;
+    match recovered(alloc, &played.remains, 0) {
+        Ok(next) => Ok(next),
+        Err(_) => Err(AllocError),
+    }
+}
+
+// A life of one part from what is kept of the one before, and what the base after it says of callers 0 and 1.
+type Row = (Part, Said, Said);
+
+// Caller 0 adds 0 twice and is answered 0, then it has no entry in two lives.
+const LIVES: [Row; 4] = [
+    (
+        (
+            0,
+            Work::Adds {
+                amount: 0,
+                count: 2,
+            },
+            UPDATE,
+        ),
+        Some((2, 0)),
+        None,
+    ),
+    (
+        (
+            1,
+            Work::Adds {
+                amount: 5,
+                count: 1,
+            },
+            UPDATE,
+        ),
+        Some((2, 0)),
+        Some((1, 5)),
+    ),
+    (
+        (
+            1,
+            Work::Adds {
+                amount: 2,
+                count: 3,
+            },
+            UPDATE,
+        ),
+        Some((2, 0)),
+        Some((4, 11)),
+    ),
+    (
+        (
+            0,
+            Work::Adds {
+                amount: 7,
+                count: 1,
+            },
+            UPDATE,
+        ),
+        Some((3, 18)),
+        Some((4, 11)),
+    ),
+];
+
+// The first life after which a base says something else; of caller 7, which has no entry, each says that.
+fn first_wrong(alloc: Global, lives: &[Row]) -> Result<Option<usize>, AllocError> {
+    let mut base = base_at(alloc, 0)?;
+    if !says(&base, 0, None) || !says(&base, 1, None) {
+        return Ok(Some(lives.len()));
+    }
+    for (i, (part, first, second)) in lives.iter().enumerate() {
+        base = base_after(alloc, &base, *part)?;
+        if !says(&base, 0, *first) || !says(&base, 1, *second) || !says(&base, 7, None) {
+            return Ok(Some(i));
+        }
+    }
+    Ok(None)
+}
+
+#[test]
+fn bases_say_each_callers_last_entry(rt: HostRuntime) -> Result<(), Fail> {
+    holds(&rt, first_wrong(rt.alloc(), &LIVES)?.is_none());
+    Ok(())
+}
