@@ -1,17 +1,20 @@
 -- What was written with a status, from what was written of a text.
-use Rattle.std.proofs.Common.{sym, subst, inl, inr, ℕ, List, Option}
+use Rattle.std.proofs.Common.{◌≡◌, sym, subst, inl, inr, ℕ, List, Option}
 use Rattle.cx_program.specs.Answer.{Answers, HasCause, HasNone, Owed, Wrote}
 use Rattle.cx_program.specs.Output.{Appends}
 use Rattle.cx_program.specs.declared.status.Ended.{Ended}
 use Rattle.cx_program.specs.declared.status.Status.{Status}
+use Rattle.cx_program.specs.declared.status.Status.TheVariants.{ReadFault, WriteFault, Memory}
 use Rattle.cx_program.proofs.CommandLaws.{GivesUp, owed_plain}
 use Rattle.cx_rule.specs.Ending.{Ending}
 
 -- a text that is owed, once written whole
 whole : (words : List (List ℕ)) (told : Option (List ℕ)) (status : Status) (trails : List Ending) (text : List ℕ) (before after : Option (List ℕ))
     → (GivesUp status → ⊥) → Owed words told status trails text → Appends text before after → Answers words told status trails before after
+whole words told ReadFault trails text before after plain owed appends = absurd (plain tt)
+whole words told WriteFault trails text before after plain owed appends = absurd (plain tt)
+whole words told Memory trails text before after plain owed appends = absurd (plain tt)
 whole words told status trails text before after plain owed appends = (text, owed, appends)
-whole words told status trails text before after plain owed appends = absurd (plain tt)
 
 -- what stands written where a text was owed
 pub answers_written : (words : List (List ℕ)) (told : Option (List ℕ)) (text : List ℕ) (ended result : Ended) (before after : Option (List ℕ)) (faults faults' : ℕ)
@@ -24,8 +27,9 @@ answers_written words told text ended result before after faults faults' owed (i
 
 -- a status that an input calls for has no cause to tell
 no_cause : (status : Status) (reads reads' writes writes' : ℕ) → (GivesUp status → ⊥) → HasCause status reads reads' writes writes'
+no_cause ReadFault reads reads' writes writes' plain = absurd (plain tt)
+no_cause WriteFault reads reads' writes writes' plain = absurd (plain tt)
 no_cause status reads reads' writes writes' plain = tt
-no_cause status reads reads' writes writes' plain = absurd (plain tt)
 
 pub cause_written : (text : List ℕ) (ended result : Ended) (before after : Option (List ℕ)) (reads reads' faults faults' : ℕ)
     → (GivesUp ended.status → ⊥) → Wrote text ended result before after faults faults' → HasCause result.status reads reads' faults faults'

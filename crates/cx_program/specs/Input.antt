@@ -2,7 +2,7 @@
 use Rattle.std.specs.Prelude.{◌≡◌, ◌+◌, ◌<◌, ◌≤◌, ℕ, Bool, true, false, List, [], ◌++◌, length, take, drop, Option, Some, IfSome, IsTrue, Result, IfOk, OnErr, vec_len}
 use Rattle.std.specs.Global.{Vec}
 use Rattle.std.specs.declared.alloc.AllocError.{AllocError}
-use Rattle.cx_base.specs.Outside.{Gave, Rose}
+use Rattle.cx_base.specs.Outside.{Rose}
 use Rattle.cx_base.specs.declared.outside.Failed.{Failed as Failure}
 use Rattle.cx_program.specs.declared.input.Input.{Input}
 use Rattle.cx_program.specs.declared.input.Input.TheVariants.{Whole, TooLong, Failed}
@@ -28,15 +28,6 @@ pub record Moves (n : ℕ) (rest bytes longer : List ℕ) (after : Option (List 
 -- the same, where the source tells its bytes
 abbrev pub Moved : ℕ → Option (List ℕ) → List ℕ → List ℕ → Option (List ℕ) → Type 0
 Moved n before bytes longer after = IfSome before (λ rest. Moves n rest bytes longer after)
-
--- What one read of at most so many bytes comes to: the bytes come from the front of what was left, to the front of a buffer; or the source
--- failed, and nothing was taken.
-pub record IsRead (most : ℕ) (result : Result ℕ Failure) (buffer : List ℕ) (before after : Option (List ℕ)) (faults faults' : ℕ) : Type 0 where
-  pub ok : IfOk result (λ n. Gave n before buffer after)
-  pub within : IfOk result (λ n. n ≤ most)
-  pub failed : OnErr result (Rose faults faults')
-  pub untouched : OnErr result (after ≡ before)
-  pub count : faults ≤ faults'
 
 -- bytes were taken from the front, at most so many
 pub record Takes (most : ℕ) (all : List ℕ) (rest : Option (List ℕ)) : Type 0 where

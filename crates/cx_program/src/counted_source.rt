@@ -1,7 +1,7 @@
 //! A source whose reads are counted.
 
 ghost use Rattle.std.specs.Prelude.{◌≡◌, ◌+◌, ◌<◌, length};
-ghost use Rattle.cx_program.specs.Input.{IsRead};
+ghost use Rattle.cx_base.specs.Outside.{IsRead};
 
 use cx_base::{Failed, Source, Steps};
 use std::sync::ledger::Ledger;
