@@ -20,13 +20,15 @@ Gave n before buffer after = IfSome before (λ bytes. Gives n bytes buffer after
 abbrev pub Took : ℕ → List ℕ → Option (List ℕ) → Option (List ℕ) → Type 0
 Took n piece before after = IfSome before (λ written. after ≡ Some (written ++ take n piece))
 
--- A source was asked for at most so many bytes: those read came from the front of what was left, or it failed, and none was taken.
-pub record IsRead {E : Type 0} (most : ℕ) (result : Result ℕ E) (buffer : List ℕ) (before after : Option (List ℕ)) (faults faults' : ℕ) : Type 0 where
+-- A source was asked for at most so many bytes: those read came from the front of what was left, or it failed, and none was taken. It
+-- counts this as one read at the most.
+pub record IsRead {E : Type 0} (most : ℕ) (result : Result ℕ E) (buffer : List ℕ) (before after : Option (List ℕ)) (faults faults' reads reads' : ℕ) : Type 0 where
   pub ok : IfOk result (λ n. Gave n before buffer after)
   pub within : IfOk result (λ n. n ≤ most)
   pub failed : OnErr result (Rose faults faults')
   pub untouched : OnErr result (after ≡ before)
   pub count : faults ≤ faults'
+  pub once : reads' ≤ reads + 1
 
 -- A sink was handed a piece: some of its bytes were appended, or it failed, and none was.
 pub record IsWritten {E : Type 0} (piece : List ℕ) (result : Result ℕ E) (before after : Option (List ℕ)) (faults faults' : ℕ) : Type 0 where

@@ -38,9 +38,11 @@ impl Source for SureSource {
 
     ghost faults = { λ _. 0 };
 
+    ghost reads = { λ _. 0 };
+
     fn read(&mut self, into: &mut [u8]) -> Result<usize, Failed>
         requires { 0 < length into.old }
-        ensures read { IsRead (length into.old) result into.new (Some self.old) (Some self.new) 0 0 }
+        ensures read { IsRead (length into.old) result into.new (Some self.old) (Some self.new) 0 0 0 0 }
         // It never fails.
         ensures sure { IsOk result }
     {

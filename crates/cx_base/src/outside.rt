@@ -15,11 +15,14 @@ pub trait Source {
     /// How often it has failed. The count stands still at 2^64 - 1.
     ghost faults: { Self → ℕ };
 
+    /// How often it was read, as far as it counts its reads.
+    ghost reads: { Self → ℕ };
+
     /// Reads bytes to the front of `into`, at most as many as it holds, and answers how many. 0 is the end of
     /// the input. After `Failed` no byte was taken. What `into` holds behind the bytes read is open.
     fn read(&mut self, into: &mut [u8]) -> Result<usize, Failed>
         requires { 0 < length into.old }
-        ensures { IsRead (length into.old) result into.new (left self.old) (left self.new) (faults self.old) (faults self.new) };
+        ensures { IsRead (length into.old) result into.new (left self.old) (left self.new) (faults self.old) (faults self.new) (reads self.old) (reads self.new) };
 }
 
 /// Where bytes go to.

@@ -93,9 +93,11 @@ impl Source for VecSource {
 
     ghost faults = { λ s. s.faults };
 
+    ghost reads = { λ s. s.calls };
+
     fn read(&mut self, into: &mut [u8]) -> Result<usize, Failed>
         requires { 0 < length into.old }
-        ensures read { IsRead (length into.old) result into.new (Some self.old.bytes) (Some self.new.bytes) self.old.faults self.new.faults }
+        ensures read { IsRead (length into.old) result into.new (Some self.old.bytes) (Some self.new.bytes) self.old.faults self.new.faults self.old.calls self.new.calls }
         // It gives at most so many bytes, and fails exactly at the calls chosen.
         ensures chunk { IfOk result (λ n. n ≤ self.old.chunk) }
         ensures chosen { IsErr result ↔ Contains self.old.fails (next_call self.old.calls) }
