@@ -1,12 +1,15 @@
 #!/usr/bin/env python3
-"""Runs a script, and says in words why it is refused, where it is.
+"""Runs a script or recovers an image, and says in words why it is refused, where it is.
 
     explain.py [--program PATH] SCRIPT
+    explain.py [--program PATH] --image IMAGE_TEXT
+    explain.py --status NUMBER
 
 The program is the one given, or the one built under crates/cx_tool/out. What it refuses is shown with its line, the column, which
-counts characters from 1, and the row of the grammar of docs/FORMATS.md that it breaks.
+counts characters from 1, and the row of the grammar of docs/FORMATS.md that it breaks. Of an image that does not pass a check it is
+said at which word, what was found there, and what was wanted. The last form says what a status of the program means.
 
-Status 0 where the script is accepted, 1 where it is refused, 2 where the program could not be run or ended for another cause.
+Status 0 where the script or the image is accepted, 1 where it is refused, 2 where the program could not be run or ended for another cause.
 """
 import re
 import subprocess
@@ -14,12 +17,14 @@ import sys
 import unicodedata
 from pathlib import Path
 
+from image_text import BadImage, place_of, read_image, recovered
 from script_text import LARGEST_INPUT, Refusal, TooLong, raw_lines, read_script, words_of
 
 BUILT = Path(__file__).resolve().parent.parent / "crates" / "cx_tool" / "out" / "cx_tool"
 HOW_TO_BUILD = "build it: cd crates/cx_tool && rt run -- run < ../../examples/first.script"
 SHOWN = 72
 REFUSAL = re.compile(rb"refused line ([1-9][0-9]{0,8}): ([a-z0-9]+)\n")
+REFUSED_IMAGE = re.compile(rb"image refused: ([a-z]+[ 0-9]*)\n")
 
 LINES_ROW = "lines L            L is 64 to 16384; the first line that is not passed over, and nowhere else"
 LIFE_ROW = "life N power C     N is 1 to 8, C at most 2^64 - 1; begins a life, after the lines line"
@@ -38,6 +43,9 @@ COMMANDS_RULE = "a script           has at most 1,000 lives and 100,000 commands
 JSON_RULE = "JSON               a value as JSON has it, nested at most 127 deep"
 NUMBER_RULE = "JSON               each number in it is an integer of 64 bits, with a sign or without; -0 is none"
 LENGTH_RULE = "JSON               its compact text, without spaces between its parts, has at most 1,024 bytes"
+IMAGE_ROW = "image N L W        N is 1 to 8, L is 64 to 16384, W at most 2^64 - 1; the first line"
+ROOT_ROW = "root CODE          at most 2^64 - 1; the second line"
+WORD_ROW = "AT V               AT is below W and above the AT of the line before, V is 1 to 2^64 - 1; each further line"
 
 SENTENCES = {
     "utf8": "The line is not UTF-8: the marked byte cannot stand there. Only empty lines and comments may have any bytes.",
@@ -53,14 +61,25 @@ SENTENCES = {
     "json": "The document is no JSON from the marked place on.",
     "fraction": "A number of the document is no integer within 64 bits. Fractions, exponents and -0 are not taken.",
     "long": "The document's compact text has more than 1,024 bytes.",
+    "image": "An image text begins with its image line, and this line is none.",
+    "root": "The second line of an image text is its root line, and this is none.",
+    "word": "This is no line of a word that is not 0. There are no comments, no empty lines, and addresses rise.",
+}
+CHECKS = {
+    "size": "The image has another number of words than 2N regions.",
+    "root": "The root names a place beyond the last one.",
+    "version": "The object part of the region that the root names has another version, or is none.",
+    "place": "The region that the root names is at another place than the root says.",
+    "body": "The region that the root names holds no lawful results, or no lawful store.",
 }
 UNKNOWN = "docs/FORMATS.md, as this tool knows it, has no such reason."
 OTHER_ENDS = {
-    2: "the program knows no word `run`: it is another one",
+    2: "the program knows no such word: it is another one",
     4: "the program could not read its input",
     5: "the program could not write its report",
     6: "the program had too little memory",
-    8: f"refused: the script has more than {LARGEST_INPUT:,} bytes",
+    7: "the image is refused",
+    8: f"refused: the input has more than {LARGEST_INPUT:,} bytes",
 }
 
 
@@ -83,17 +102,20 @@ def rows_of(reason, line):
         "json": command + [JSON_RULE],
         "fraction": command + [NUMBER_RULE],
         "long": command + [LENGTH_RULE],
+        "image": [IMAGE_ROW],
+        "root": [ROOT_ROW],
+        "word": [WORD_ROW],
     }.get(reason, [])
 
 
-def explanation(path, data, number, reason):
-    """What is said of a script that was refused at this line for this reason."""
-    raw = raw_lines(data)[number - 1]
-    start, end, agreed = place_of_fault(data, number, reason)
+def explanation(path, data, number, reason, read=read_script):
+    """What is said of a script, or an image text, that was refused at this line for this reason."""
+    raw = (raw_lines(data) + [b""])[number - 1]
+    start, end, agreed = place_of_fault(data, number, reason, read)
     line, start, end = shown_line(raw, reason, start, end)
     place = f"{path}, line {number}, column {start + 1}: {reason}"
     parts = [place, "", *with_caret(line, number, start, end), "", SENTENCES.get(reason, UNKNOWN), ""]
-    parts.append("By the grammar (docs/FORMATS.md, The script):")
+    parts.append(f"By the grammar (docs/FORMATS.md, {'The script' if read is read_script else 'The image text'}):")
     parts.extend("  " + row for row in rows_of(reason, raw.decode("utf-8", "replace")))
     if not agreed:
         parts.append("")
@@ -101,11 +123,11 @@ def explanation(path, data, number, reason):
     return "\n".join(parts)
 
 
-def place_of_fault(data, number, reason):
+def place_of_fault(data, number, reason, read):
     """Where in the line the fault shows, and whether this reader finds the same fault as the program."""
-    whole = len(raw_lines(data)[number - 1].decode("utf-8", "replace"))
+    whole = len((raw_lines(data) + [b""])[number - 1].decode("utf-8", "replace"))
     try:
-        read_script(data)
+        read(data)
     except Refusal as refusal:
         if (refusal.line, refusal.reason) == (number, reason):
             return refusal.start, refusal.end, True
@@ -157,23 +179,65 @@ def explained(path, data, status, output):
     return f"{path}: {OTHER_ENDS.get(status, f'the program ended with status {status}')}", 1 if status == 8 else 2
 
 
+def explained_image(path, data, status, output):
+    """The same of an image text that was to be recovered."""
+    if status == 0:
+        return f"{path}: accepted, {output.count(bytes([10]))} lines", 0
+    refused, fault = REFUSAL.fullmatch(output), REFUSED_IMAGE.fullmatch(output)
+    if status == 3 and refused and 1 <= int(refused[1]) <= len(raw_lines(data)) + 1:
+        return explanation(path, data, int(refused[1]), refused[2].decode(), read_image), 1
+    if status == 7 and fault:
+        return why_bad(path, data, fault[1].decode()), 1
+    return explained(path, data, status, b"")
+
+
+def why_bad(path, data, fault):
+    """What is said of an image that was refused for this fault: which word, what was found, and what was wanted."""
+    parts = [f"{path}: {fault}", "", CHECKS.get(fault.split(" ")[0], UNKNOWN)]
+    try:
+        image = read_image(data)
+        recovered(image)
+    except BadImage as bad:
+        if bad.fault == fault:
+            where = "" if bad.at is None else f"At {place_of(image, bad.at)}:\n"
+            return "\n".join([*parts, "", f"{where}found {bad.found}\nwanted {bad.wanted}"])
+    except (Refusal, TooLong):
+        pass
+    return "\n".join([*parts, "", "Read by docs/FORMATS.md alone, the image has another first fault, or none."])
+
+
+def meaning(status):
+    """What a status means with which the program ended, or a shell told of it."""
+    if status in OTHER_ENDS:
+        return f"status {status}: {OTHER_ENDS[status]}"
+    if status > 128:
+        return f"status {status}: the program was ended by signal {status - 128}"
+    return f"status {status}: docs/FORMATS.md has none such" if status not in (0, 3) else f"status {status}: what was written says all"
+
+
 def main(words):
+    if words[:1] == ["--status"] and len(words) == 2 and words[1].isascii() and words[1].isdigit():
+        print(meaning(int(words[1])))
+        return 0
     program = BUILT
     if words[:1] == ["--program"] and len(words) > 1:
         program, words = Path(words[1]), words[2:]
+    of_image = words[:1] == ["--image"]
+    words = words[1:] if of_image else words
     if len(words) != 1:
-        print("usage: explain.py [--program PATH] SCRIPT")
+        print("usage: explain.py [--program PATH] [--image] FILE")
         return 2
     if not program.exists():
         print(f"no program at {program}; {HOW_TO_BUILD}")
         return 2
     try:
         data = Path(words[0]).read_bytes()
-        ended = subprocess.run([program.resolve(), "run"], input=data, capture_output=True, check=False)
+        word = "recover" if of_image else "run"
+        ended = subprocess.run([program.resolve(), word], input=data, capture_output=True, check=False)
     except OSError as error:
         print(f"{error.filename}: {error.strerror}")
         return 2
-    said, status = explained(words[0], data, ended.returncode, ended.stdout)
+    said, status = (explained_image if of_image else explained)(words[0], data, ended.returncode, ended.stdout)
     print(said)
     return status
 

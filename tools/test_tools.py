@@ -36,6 +36,7 @@ import gate_minutes
 import plain_judge
 import random_faults
 import random_lives
+from image_tests import ImageExplanations, ProgramOnImages, ReadImages
 from report_text import Fault, read_report, split_reply
 from script_text import Refusal, TooLong, read_script
 from wrong_reports import WRONG
@@ -427,7 +428,7 @@ class Scripts(unittest.TestCase):
 
 class Explanations(unittest.TestCase):
     def test_each_reason(self):
-        self.assertEqual(set(explain.SENTENCES), set(REFUSED))
+        self.assertEqual(set(explain.SENTENCES), {*REFUSED, "image", "root", "word"})
         for reason, (script, line, marked) in REFUSED.items():
             with self.subTest(reason):
                 said, status = explain.explained("a.script", script, 3, f"refused line {line}: {reason}\n".encode())

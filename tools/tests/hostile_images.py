@@ -1,0 +1,400 @@
+"""Images that no run leaves: every word of a good one changed, trees and texts with one thing wrong, and texts that are none of an image.
+
+    hostile_images.py [PROGRAM]
+
+gives each to the program and compares status and text with the reading of image_text.py.
+"""
+import subprocess
+import sys
+from concurrent.futures import ThreadPoolExecutor
+from dataclasses import dataclass, field
+from pathlib import Path
+
+TOOLS = Path(__file__).resolve().parent.parent
+sys.path[:0] = [str(TOOLS)]
+
+from image_text import PART, SLOT_WORDS, BadImage, Image, image_text, read_image, recovered, recovered_text
+from script_text import Refusal
+
+PROGRAM = TOOLS.parent / "crates" / "cx_tool" / "out" / "cx_tool"
+MOST_SECONDS = 20
+VALUES = (0, 1, 2**63, 2**64 - 1)
+PAIRS = [(b"apple", b"7"), (b"k" * 57, b"[" + b"1," * 64 + b"2]"), (b"plum", b'"' + b"\xc3\xa9" * 30 + b'"')]
+SEVEN = [(key, b"%d" % at) for at, key in enumerate((b"a", b"b", b"c", b"d", b"e", b"f", b"g"))]
+
+
+@dataclass
+class Layout:
+    """An image under way: its words by address, and the lines of the nodes by key."""
+
+    image: Image
+    next_line: int = 1
+    nodes: dict = field(default_factory=dict)
+
+    def put(self, index, value):
+        """Sets a word of the object part of the region that the root names."""
+        at = self.image.start + PART + index
+        self.image.words.pop(at, None)
+        if value:
+            self.image.words[at] = value
+
+    def get(self, index):
+        return self.image.words.get(self.image.start + PART + index, 0)
+
+    def put_slot(self, caller, words):
+        for index, value in enumerate(words):
+            self.image.words[self.image.start + 8 + SLOT_WORDS * caller + index] = value
+
+    def take(self):
+        self.next_line += 1
+        return self.next_line - 1
+
+    def put_text(self, index, text):
+        """Puts a text in lines of its own, with its first line and its length at `index` and behind it."""
+        self.put(index + 1, len(text))
+        for start in range(0, len(text), 56):
+            line = self.take()
+            self.put(index, line)
+            for word in range(7):
+                self.put(8 * line + 1 + word, int.from_bytes(text[start + 8 * word :][:8][: 56 - 8 * word], "little"))
+            index = 8 * line
+
+    def put_tree(self, index, pairs):
+        """Puts a tree of pairs whose root's line stands at `index`, and gives its height."""
+        if not pairs:
+            return 0
+        line, middle = self.take(), len(pairs) // 2
+        self.put(index, line)
+        self.nodes[pairs[middle][0]] = line
+        heights = [self.put_tree(8 * line, pairs[:middle]), self.put_tree(8 * line + 1, pairs[middle + 1 :])]
+        self.put(8 * line + 2, 1 + max(heights))
+        self.put_text(8 * line + 3, pairs[middle][0])
+        self.put_text(8 * line + 5, pairs[middle][1])
+        return 1 + max(heights)
+
+    def give_back(self, count):
+        """Takes lines and gives them back."""
+        for _ in range(count):
+            line = self.take()
+            self.put(8 * line, self.get(2))
+            self.put(2, line)
+        self.put(4, count)
+
+    def close(self, pairs):
+        self.put(0, 1)
+        self.put(3, self.next_line)
+        self.put(5, len(pairs))
+
+
+def layout_of(pairs, given_back=2):
+    """A good image: of one caller at place 9, with replies in the slots of callers 0 and 7."""
+    made = Layout(Image(callers=1, lines=64, count=2 * 8 * 210, root=9 * 2 + 1))
+    made.image.words[made.image.start] = 9
+    made.put_slot(0, [4, 10, 5, 0, 0, 0, 0, 0, 0, int.from_bytes(b"apple", "little")])
+    made.put_slot(7, [2**64 - 1, 6, 0, 0, 2**64 - 3])
+    made.put_tree(1, pairs)
+    made.give_back(given_back)
+    made.close(pairs)
+    return made
+
+
+def good_image():
+    return layout_of(PAIRS).image
+
+
+def with_word(image, at, value):
+    words = dict(image.words)
+    words.pop(at, None)
+    if value:
+        words[at] = value
+    return Image(image.callers, image.lines, image.count, image.root, words)
+
+
+def changed_words():
+    """The good image with each of its words set in turn to each value that it does not have, with a name: 10,217 images."""
+    good = good_image()
+    for at in range(good.count):
+        value = good.words.get(at, 0)
+        for other in sorted({*VALUES, (value + 1) % 2**64} - {value}):
+            yield f"word {at} is {other}", with_word(good, at, other)
+
+
+def node(key, word):
+    """The word of a node of the seven."""
+    return lambda made: 8 * made.nodes[key] + word
+
+
+def block(key, word, text):
+    """A word of the first block of the node's key, text 3, or of its document, text 5."""
+    return lambda made: 8 * made.get(8 * made.nodes[key] + text) + word
+
+
+def line_of(key):
+    return lambda made: made.nodes[key]
+
+
+def at_word(index, more=0):
+    """What stands at a word of the object part, and so much more."""
+    return lambda made: made.get(index(made) if callable(index) else index) + more
+
+
+# one thing wrong with the seven, or nothing: words of the object part with what they are set to
+TREES = {
+    "cycle to the root": ([(node(b"a", 0), line_of(b"d"))], False),
+    "cycle of a node with itself": ([(node(b"a", 1), line_of(b"a"))], False),
+    "cycle between two nodes": ([(node(b"a", 0), line_of(b"b"))], False),
+    "shared node": ([(node(b"d", 1), line_of(b"b"))], False),
+    "shared leaf": ([(node(b"f", 0), line_of(b"a"))], False),
+    "two heights too great": ([(node(b"d", 2), 4)], False),
+    "height of a leaf is 0": ([(node(b"a", 2), 0)], False),
+    "height of a leaf is 2": ([(node(b"g", 2), 2)], False),
+    "height that wraps": ([(node(b"a", 2), 2**64 - 1), (node(b"b", 2), 0)], False),
+    "key above its parent's": ([(block(b"a", 1, 3), ord("z"))], False),
+    "key below its parent's": ([(block(b"g", 1, 3), ord("0"))], False),
+    "key of the root again": ([(block(b"e", 1, 3), ord("d"))], False),
+    "key on the other side of the root": ([(block(b"c", 1, 3), ord("e"))], False),
+    "key that is another's front": ([(block(b"b", 1, 3), ord("a") + (1 << 8)), (node(b"b", 4), 2)], False),
+    "children exchanged": ([(node(b"d", 0), line_of(b"f")), (node(b"d", 1), line_of(b"b"))], False),
+    "leaf lost": ([(node(b"f", 1), 0)], False),
+    "root lost": ([(1, 0)], False),
+    "root beyond": ([(1, at_word(3))], False),
+    "root that wraps": ([(1, at_word(1, 2**61))], False),
+    "root of all ones": ([(1, 2**64 - 1)], False),
+    "root in the header": ([(1, 2**61)], False),
+    "child that wraps": ([(node(b"d", 0), at_word(node(b"d", 0), 2**61))], False),
+    "key in the document's block": ([(node(b"a", 3), at_word(node(b"a", 5)))], False),
+    "document in another's block": ([(node(b"a", 5), at_word(node(b"c", 5)))], False),
+    "document in a node": ([(node(b"a", 5), line_of(b"c"))], False),
+    "document in a line given back": ([(node(b"a", 5), at_word(2))], False),
+    "document beyond": ([(node(b"a", 5), at_word(3))], False),
+    "document at the part's end": ([(node(b"a", 5), 64)], False),
+    "document that wraps": ([(node(b"a", 5), at_word(node(b"a", 5), 2**61))], False),
+    "document without a block": ([(node(b"a", 5), 0)], False),
+    "chain of a block with itself": ([(block(b"a", 0, 5), at_word(node(b"a", 5))), (node(b"a", 6), 57)], False),
+    "chain longer than its document": ([(block(b"a", 0, 5), at_word(2))], False),
+    "chain shorter than its document": ([(node(b"a", 6), 57)], False),
+    "chain of a block beyond": ([(block(b"a", 0, 5), at_word(3)), (node(b"a", 6), 57)], False),
+    "key of no bytes": ([(node(b"a", 4), 0)], False),
+    "key of 65 bytes": ([(node(b"a", 4), 65)], False),
+    "key of all bytes": ([(node(b"a", 4), 2**64 - 1)], False),
+    "key of one byte more": ([(node(b"a", 4), 2)], False),
+    "document of no bytes": ([(node(b"a", 6), 0)], False),
+    "document of 1025 bytes": ([(node(b"a", 6), 1025)], False),
+    "document of all bytes": ([(node(b"a", 6), 2**64 - 1)], False),
+    "space in a key": ([(block(b"a", 1, 3), 0x20)], False),
+    "delete in a key": ([(block(b"g", 1, 3), 0x7F)], False),
+    "tilde in a key": ([(block(b"g", 1, 3), 0x7E)], True),
+    "control byte in a document": ([(block(b"a", 1, 5), 0x1F)], False),
+    "greatest byte in a document": ([(block(b"a", 1, 5), 0xFF)], True),
+    "byte behind a key": ([(block(b"a", 1, 3), 0x0161)], False),
+    "byte behind a document": ([(block(b"a", 7, 5), 1 << 63)], False),
+    "no line was ever given": ([(3, 0)], False),
+    "first line never given in the header": ([(3, 1)], False),
+    "first line never given is a block": ([(3, at_word(3, -1))], False),
+    "line that is nothing": ([(3, at_word(3, 1))], False),
+    "all lines were given": ([(3, 64)], False),
+    "more lines were given than there are": ([(3, 65)], False),
+    "all numbers of lines were given": ([(3, 2**64 - 1)], False),
+    "one line given back too many": ([(4, 3)], False),
+    "one line given back too few": ([(4, 1)], False),
+    "no line given back": ([(2, 0)], False),
+    "lines given back in a cycle": ([(lambda made: 8 * made.get(8 * made.get(2)), at_word(2))], False),
+    "line given back twice": ([(lambda made: 8 * made.get(2), at_word(2))], False),
+    "node given back": ([(lambda made: 8 * made.get(8 * made.get(2)), line_of(b"a"))], False),
+    "line given back beyond": ([(2, at_word(3))], False),
+    "one pair too many": ([(5, 8)], False),
+    "one pair too few": ([(5, 6)], False),
+    "word 6 of the header": ([(6, 1)], False),
+    "word 7 of the header": ([(7, 1)], False),
+    "word 7 of a node": ([(node(b"e", 7), 1)], False),
+    "words of a line given back": ([(lambda made, word=word: 8 * made.get(2) + word, 2**64 - 1) for word in range(1, 8)], True),
+    "words of lines never given": ([(lambda made, word=word: 8 * made.get(3) + word, 2**64 - 1) for word in range(8)], True),
+}
+
+
+def leaning(side):
+    """Three nodes in a row, with right heights."""
+    made = Layout(layout_of([], 0).image)
+    made.image.words = {at: value for at, value in made.image.words.items() if at < made.image.start + PART}
+    index, pairs = 1, SEVEN[:3] if side else SEVEN[2::-1]
+    for height, (key, document) in zip((3, 2, 1), pairs):
+        line = made.take()
+        made.put(index, line)
+        made.put(8 * line + 2, height)
+        made.put_text(8 * line + 3, key)
+        made.put_text(8 * line + 5, document)
+        index = 8 * line + side
+    made.close(pairs)
+    return made.image
+
+
+def trees():
+    """Each tree with its name, its text, and whether it is a good one."""
+    yield "seven", image_text(layout_of(SEVEN).image), True
+    yield "leans to the left", image_text(leaning(0)), False
+    yield "leans to the right", image_text(leaning(1)), False
+    for name, (changes, good) in TREES.items():
+        made = layout_of(SEVEN)
+        done = [(index(made) if callable(index) else index, value(made) if callable(value) else value) for index, value in changes]
+        for index, value in done:
+            made.put(index, value)
+        yield name, image_text(made.image), good
+
+
+# the words of a slot, with the reply that they are or None
+SLOTS = {
+    "number without a reply": ([1], None),
+    "reply without a number": ([0, 1], None),
+    "kind 12": ([1, 12], None),
+    "kind of all ones": ([1, 2**64 - 1], None),
+    "new": ([1, 1], "new"),
+    "new with a number": ([1, 1, 0, 0, 1], None),
+    "new with a key's length": ([1, 1, 1], None),
+    "new with word 4": ([1, 1, 0, 0, 0, 1], None),
+    "document without a length": ([1, 5], None),
+    "document of one byte": ([1, 5, 0, 1] + [0] * 13 + [ord("7")], "7"),
+    "document of one byte and one behind": ([1, 5, 0, 1] + [0] * 13 + [0x3737], None),
+    "document with a byte too small": ([1, 5, 0, 2] + [0] * 13 + [0x0A31], None),
+    "document with bytes in the key": ([1, 5, 0, 1] + [0] * 5 + [1] + [0] * 7 + [ord("7")], None),
+    "document of 1024 bytes": ([1, 5, 0, 1024] + [0] * 13 + [0x3131313131313131] * 128, "1" * 1024),
+    "document of 1025 bytes": ([1, 5, 0, 1025] + [0] * 13 + [0x3131313131313131] * 128, None),
+    "sum": ([1, 6, 0, 0, 2**63], "sum -9223372036854775808"),
+    "key": ([1, 10, 1, 0, 0, 0, 0, 0, 0, ord("k")], "key k"),
+    "key of no bytes": ([1, 10], None),
+    "key with a space": ([1, 10, 1, 0, 0, 0, 0, 0, 0, 0x20], None),
+    "key of 64 bytes": ([1, 10, 64, 0, 0, 0, 0, 0, 0] + [0x6B6B6B6B6B6B6B6B] * 8, "key " + "k" * 64),
+    "key of 65 bytes": ([1, 10, 65, 0, 0, 0, 0, 0, 0] + [0x6B6B6B6B6B6B6B6B] * 8, None),
+    "count": ([2**64 - 1, 11, 0, 0, 2**64 - 1], "count 18446744073709551615"),
+}
+
+
+def slots():
+    """Each slot, as caller 3's, with its name, its text, and the reply that is recovered."""
+    for name, (words, reply) in SLOTS.items():
+        made = layout_of(PAIRS)
+        made.put_slot(3, words)
+        yield name, image_text(made.image), reply
+
+
+IMAGE, ROOT = b"image 1 64 3360\n", b"root 3\n"
+EMPTY = IMAGE + b"root 0\n1168 1\n1171 1\n"
+# texts that are refused, with the line and the reason, or with None those that are read
+TEXTS = {
+    b"": (1, "image"),
+    b"\n": (1, "image"),
+    b"\n" + IMAGE: (1, "image"),
+    b"# an image\n" + IMAGE: (1, "image"),
+    IMAGE: (2, "root"),
+    IMAGE[:-1]: (2, "root"),
+    IMAGE + b"\n": (2, "root"),
+    IMAGE + IMAGE: (2, "root"),
+    ROOT + IMAGE: (1, "image"),
+    b"image 1 64\n" + ROOT: (1, "image"),
+    b"image 1 64 3360 0\n" + ROOT: (1, "image"),
+    b"image 1 64 3360 \n" + ROOT: (1, "image"),
+    b"image  1 64 3360\n" + ROOT: (1, "image"),
+    b" image 1 64 3360\n" + ROOT: (1, "image"),
+    b"Image 1 64 3360\n" + ROOT: (1, "image"),
+    b"image 0 64 0\n" + ROOT: (1, "image"),
+    b"image 9 64 3360\n" + ROOT: (1, "image"),
+    b"image 01 64 3360\n" + ROOT: (1, "image"),
+    b"image +1 64 3360\n" + ROOT: (1, "image"),
+    b"image 1 63 3360\n" + ROOT: (1, "image"),
+    b"image 1 16385 3360\n" + ROOT: (1, "image"),
+    b"image 1 64 18446744073709551616\n" + ROOT: (1, "image"),
+    b"image 1 64 " + b"9" * 400 + b"\n" + ROOT: (1, "image"),
+    b"image 1 64 0x10\n" + ROOT: (1, "image"),
+    b"image 1 64 -1\n" + ROOT: (1, "image"),
+    b"image 18446744073709551617 64 3360\n" + ROOT: (1, "image"),
+    b"\xff" + IMAGE + ROOT: (1, "image"),
+    IMAGE[:-1] + b"\xff\n" + ROOT: (1, "image"),
+    b"\xef\xbb\xbf" + IMAGE + ROOT: (1, "image"),
+    IMAGE[:-1] + b"\r\r\n" + ROOT: (1, "image"),
+    IMAGE + b"root\n": (2, "root"),
+    IMAGE + b"root 03\n": (2, "root"),
+    IMAGE + b"root 3 4\n": (2, "root"),
+    IMAGE + b"root 18446744073709551616\n": (2, "root"),
+    IMAGE + b"root -1\n": (2, "root"),
+    IMAGE + b"root 3\r": (2, "root"),
+    IMAGE + b"1168 1\n" + ROOT: (2, "root"),
+    EMPTY + b"\n": (5, "word"),
+    EMPTY + b"# end\n": (5, "word"),
+    EMPTY + b"1171 1\n": (5, "word"),
+    EMPTY + b"1170 1\n": (5, "word"),
+    EMPTY + b"1172 0\n": (5, "word"),
+    EMPTY + b"1172 00\n": (5, "word"),
+    EMPTY + b"1172 01\n": (5, "word"),
+    EMPTY + b"01172 1\n": (5, "word"),
+    EMPTY + b"1172 18446744073709551616\n": (5, "word"),
+    EMPTY + b"1172 " + b"1" * 5_000 + b"\n": (5, "word"),
+    EMPTY + b"18446744073709551615 1\n": (5, "word"),
+    EMPTY + b"18446744073709551616 1\n": (5, "word"),
+    EMPTY + b"3360 1\n": (5, "word"),
+    EMPTY + b"3360": (5, "word"),
+    EMPTY + b"1172  1\n": (5, "word"),
+    EMPTY + b"1172\t1\n": (5, "word"),
+    EMPTY + b"1172 1 \n": (5, "word"),
+    EMPTY + b"1172 1\r": (5, "word"),
+    EMPTY + b"\r\n": (5, "word"),
+    EMPTY + b"\xff\n": (5, "word"),
+    EMPTY + b"root 0\n": (5, "word"),
+    EMPTY + b"1172 1\n1172 2\n": (6, "word"),
+    EMPTY + b"3359 1\n0 1\n": (6, "word"),
+    b"image 1 64 0\nroot 0\n0 1\n": (3, "word"),
+    EMPTY: None,
+    EMPTY[:-1]: None,
+    EMPTY.replace(b"\n", b"\r\n"): None,
+    EMPTY + b"3359 18446744073709551615\n": None,
+    EMPTY + b"3359 1": None,
+    IMAGE + b"root 0": None,
+    b"image 1 64 0\nroot 18446744073709551615\n": None,
+    b"image 8 16384 18446744073709551615\nroot 0\n18446744073709551614 18446744073709551615\n": None,
+    b"image 8 16384 2115840\nroot 0\n": None,
+}
+
+
+def answer_to(image):
+    """The status and the text that `recover` owes an image, by the reading of image_text.py."""
+    try:
+        return 0, recovered_text(recovered(image))
+    except BadImage as bad:
+        return 7, f"image refused: {bad.fault}\n".encode()
+
+
+def answer_of(data):
+    """The same of bytes."""
+    try:
+        return answer_to(read_image(data))
+    except Refusal as refusal:
+        return 3, f"refused line {refusal.line}: {refusal.reason}\n".encode()
+
+
+def every_image():
+    """Each image with a name, its text, and what is owed: the whole table."""
+    yield from ((name, image_text(image), answer_to(image)) for name, image in changed_words())
+    yield from ((name, data, answer_of(data)) for name, data, _ in [*trees(), *slots()])
+    yield from ((repr(data[:60]), data, answer_of(data)) for data in TEXTS)
+
+
+def first_wrong(program, images, at_once=4):
+    """The first image that the program answers otherwise than the reading does, with both answers, or None; and how many there are."""
+
+    def wrong(image):
+        name, data, owed = image
+        ended = subprocess.run([program, "recover"], input=data, capture_output=True, check=False, timeout=MOST_SECONDS)
+        said = ended.returncode, ended.stdout
+        return None if said == owed else (name, said, owed)
+
+    images = list(images)
+    with ThreadPoolExecutor(at_once) as pool:
+        return next(filter(None, pool.map(wrong, images)), None), len(images)
+
+
+def main(words):
+    wrong, count = first_wrong(Path(words[0]) if words else PROGRAM, every_image())
+    print(wrong or f"{count} images answered as docs/FORMATS.md has it")
+    return 1 if wrong else 0
+
+
+if __name__ == "__main__":
+    sys.exit(main(sys.argv[1:]))

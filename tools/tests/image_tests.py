@@ -1,0 +1,175 @@
+"""Tests of the reading of images, of what is said of a refused one, and of the program on images that no run leaves."""
+import json
+import subprocess
+import tempfile
+import unittest
+from pathlib import Path
+
+import explain
+import hostile_images
+import random_lives
+from hostile_images import SLOTS, TEXTS, TREES, answer_of, answer_to, good_image, image_text
+from image_text import BadImage, read_image, recovered
+from plain_store import Store
+from script_text import Refusal, TooLong, read_script
+
+ROWS = Path(__file__).resolve().parent / "rows"
+
+
+def image_rows():
+    """Texts with what `recover` answers: the status and the text."""
+    return json.loads((ROWS / "images.json").read_text("utf-8"))
+
+
+def line_refused(data):
+    try:
+        read_image(data)
+    except Refusal as refusal:
+        return refusal.line, refusal.reason
+    return None
+
+
+class ReadImages(unittest.TestCase):
+    def test_rows(self):
+        self.assertGreaterEqual(len(image_rows()), 12)
+        for name, text, status, written in image_rows():
+            with self.subTest(name):
+                self.assertEqual((status, written.encode()), answer_of(text.encode()))
+
+    def test_texts(self):
+        for data, refused in TEXTS.items():
+            with self.subTest(data[:80]):
+                self.assertEqual(refused, line_refused(data))
+
+    def test_too_long(self):
+        with self.assertRaises(TooLong):
+            read_image(b"\n" * 16_777_217)
+
+    def test_what_is_read_is_written_so(self):
+        data = image_text(good_image())
+        self.assertEqual(data, image_text(read_image(data)))
+
+    def test_trees(self):
+        for name, data, good in hostile_images.trees():
+            with self.subTest(name):
+                status, written = answer_of(data)
+                self.assertEqual((0, b"recovered") if good else (7, b"image refused: body\n"), (status, written[:9] if good else written))
+
+    def test_slots(self):
+        for name, data, reply in hostile_images.slots():
+            with self.subTest(name):
+                status, written = answer_of(data)
+                if reply is None:
+                    self.assertEqual((7, b"image refused: body\n"), (status, written))
+                else:
+                    self.assertIn(f"client 3 applied {SLOTS[name][0][0]} = {reply}\n", written.decode())
+
+    def test_changed_words(self):
+        """Words of the region that the root does not name change nothing, and the checks come in their order."""
+        images = list(hostile_images.changed_words())
+        self.assertEqual(10_217, len(images))
+        good, words = answer_to(good_image()), good_image().region_words
+        for name, image in images[:: 97]:
+            if any(at < words for at in image.words):
+                self.assertEqual(good, answer_to(image), name)
+        for word, value, fault in ((0, 1, "place 9 1"), (1168, 2, "version 2"), (1168 + 3, 0, "body"), (7, 1, "body")):
+            image = hostile_images.with_word(good_image(), words + word, value)
+            self.assertEqual((7, f"image refused: {fault}\n".encode()), answer_to(image))
+
+    def test_a_fault_names_its_word(self):
+        for name, data, good in hostile_images.trees():
+            with self.subTest(name):
+                if not good:
+                    with self.assertRaises(BadImage) as caught:
+                        recovered(read_image(data))
+                    self.assertIn("of region 1", explain.place_of(read_image(data), caught.exception.at))
+
+
+class ImageExplanations(unittest.TestCase):
+    def test_refused_images(self):
+        tree = hostile_images.layout_of(hostile_images.SEVEN)
+        tree.put(8 * tree.nodes[b"a"] + 2, 3)
+        cases = [
+            (b"image 1 64 3359\nroot 0\n", "size 3359", "found 3359\nwanted 3360, the words of 2N regions"),
+            (b"image 1 64 3360\nroot 0\n", "version 0", "word 1168, which is word 0 of the header of the object part of region 0"),
+            (b"image 2 64 6720\nroot 31\n5040 6\n6208 1\n", "place 7 6", "the place of region 3:\nfound 6\nwanted 7"),
+            (image_text(tree.image), "body", f"word 2 of line {tree.nodes[b'a']} of the object part of region 1:\nfound 3\nwanted 1, the height"),
+        ]
+        for data, fault, part in cases:
+            with self.subTest(fault):
+                said, status = explain.explained_image("a.image", data, 7, f"image refused: {fault}\n".encode())
+                self.assertEqual((f"a.image: {fault}", 1), (said.split("\n")[0], status))
+                self.assertIn(part, said)
+
+    def test_refused_lines(self):
+        for data, line, reason, last in (
+            (b"", 1, "image", explain.IMAGE_ROW),
+            (b"image 1 64 3360\n", 2, "root", explain.ROOT_ROW),
+            (b"image 1 64 3360\nroot 0\n5 0\n", 3, "word", explain.WORD_ROW),
+        ):
+            said, status = explain.explained_image("a.image", data, 3, f"refused line {line}: {reason}\n".encode())
+            self.assertEqual((1, "  " + last), (status, said.split("\n")[-1]))
+            self.assertTrue(said.startswith(f"a.image, line {line}, column "), said)
+            self.assertNotIn("guess", said)
+
+    def test_other_ends(self):
+        said = explain.explained_image("a", b"image 1 64 3360\nroot 0\n", 7, b"image refused: body\n")[0]
+        self.assertIn("has another first fault, or none", said)
+        self.assertEqual(("a: accepted, 2 lines", 0), explain.explained_image("a", b"", 0, b"recovered\nclient\n"))
+        self.assertEqual(("a: the program had too little memory", 2), explain.explained_image("a", b"", 6, b""))
+        self.assertEqual("status 5: the program could not write its report", explain.meaning(5))
+        self.assertEqual("status 139: the program was ended by signal 11", explain.meaning(139))
+
+
+class ProgramOnImages(unittest.TestCase):
+    """The built program on images; where it has no word `recover`, nothing."""
+
+    def setUp(self):
+        if not random_lives.PROGRAM.exists() or self.ran("recover", b"")[0] == 2:
+            self.skipTest("the program is not built, or has no word for images")
+
+    def ran(self, word, data):
+        with tempfile.TemporaryFile() as file:
+            file.write(data)
+            file.seek(0)
+            ended = subprocess.run(
+                [random_lives.PROGRAM, word], stdin=file, capture_output=True, check=False, timeout=random_lives.MOST_SECONDS
+            )
+            return ended.returncode, ended.stdout
+
+    def test_rows(self):
+        for name, text, status, written in image_rows():
+            with self.subTest(name):
+                self.assertEqual((status, written.encode()), self.ran("recover", text.encode()))
+
+    def test_hostile_images(self):
+        wrong, count = hostile_images.first_wrong(random_lives.PROGRAM, hostile_images.every_image())
+        self.assertIsNone(wrong)
+        self.assertGreaterEqual(count, 10_380)
+
+    def test_image_then_recover(self):
+        """What a run of one client leaves is read as what a dictionary keeps of its commands, and recovered so."""
+        for path in sorted(ROWS.glob("*.script")):
+            data = path.read_bytes()
+            status, text = self.ran("image", data)
+            if path.with_suffix(".refusal").exists():
+                self.assertEqual((3, path.with_suffix(".refusal").read_bytes()), (status, text))
+                continue
+            self.assertEqual(0, status)
+            script = read_script(data)
+            if not script.lives:
+                self.assertEqual(b"", text)
+                continue
+            with self.subTest(path.stem):
+                found = recovered(read_image(text))
+                self.assertEqual(text, image_text(read_image(text)))
+                self.assertEqual(answer_of(text), self.ran("recover", text))
+                if all(life.clients == 1 and not life.cuts for life in script.lives):
+                    store, applied = Store(script.lines), 0
+                    for command in (command for life in script.lives for command in life.commands):
+                        reply = store.answer(command)
+                        applied += not command.reads
+                        last = reply if not command.reads else last
+                    self.assertEqual({key.encode(): text.encode() for key, text in store.documents.items()}, dict(found.documents))
+                    self.assertEqual(applied, found.place)
+                    self.assertEqual([(0, applied, last.encode())] if applied else [], found.outcomes)
