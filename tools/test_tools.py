@@ -36,6 +36,7 @@ import gate_minutes
 import plain_judge
 import random_faults
 import random_lives
+from end_tests import Ends
 from image_tests import ImageExplanations, ProgramOnImages, ReadImages
 from report_text import Fault, read_report, split_reply
 from script_text import Refusal, TooLong, read_script

@@ -1,0 +1,128 @@
+#!/usr/bin/env python3
+"""Refuses each allocation of the program in turn, and each start of a thread, and judges how it ends.
+
+    refused_memory.py [PROGRAM]
+
+Where memory is refused the program ends with status 6 and has written nothing, or with status 0 and a legal text; where a thread is
+refused it ends with status 0 and a legal text. It never hangs, and never ends by a signal. A C compiler, `cc`, makes the library that
+refuses (refuse.c); without one there is nothing to run.
+"""
+import os
+import shutil
+import subprocess
+import sys
+import tempfile
+from pathlib import Path
+
+TESTS = Path(__file__).resolve().parent
+sys.path[:0] = [str(TESTS.parent), str(TESTS)]
+
+import check_report
+import hostile_images
+from image_text import read_image, recovered
+from report_text import Fault, read_report
+from script_text import read_script
+
+PROGRAM = TESTS.parent.parent / "crates" / "cx_tool" / "out" / "cx_tool"
+MOST_SECONDS = 20
+TWO_SHOPS = (TESTS / "rows" / "ordinary_use.script").read_bytes()
+LOADED = b"clients 2\nupdates 6\ndocuments 6\nsum 105\n"
+
+
+def is_report(script, written):
+    try:
+        return bool(check_report.judge(read_script(script), read_report(written)))
+    except Fault:
+        return False
+
+
+def is_image(script, written):
+    """Whether the image of the last life holds the three documents of the two shops."""
+    return [key for key, _ in recovered(read_image(written)).documents] == [b"sold", b"stock:apple", b"stock:pear"]
+
+
+# words, an input, and what a text written with status 0 is held to
+RUNS = {
+    "run": (["run"], TWO_SHOPS, is_report),
+    "load": (["load", "0", "2", "3"], b"", lambda _, written: written == LOADED),
+    "image": (["image"], TWO_SHOPS, is_image),
+    "recover": (["recover"], hostile_images.image_text(hostile_images.good_image()), lambda data, written: (0, written) == hostile_images.answer_of(data)),
+}
+
+
+class Wrong(Exception):
+    """A run that ended as none may."""
+
+
+def compiled(folder):
+    """The library that refuses, or None where there is no compiler."""
+    if shutil.which("cc") is None:
+        return None
+    made = Path(folder) / "refuse.so"
+    subprocess.run(["cc", "-O1", "-shared", "-fPIC", "-o", made, TESTS / "refuse.c", "-ldl"], check=True)
+    return made
+
+
+def ended(program, library, words, data, refusals):
+    """The status, what was written, and whether something was refused."""
+    seen, tells = os.pipe()
+    try:
+        env = {"LD_PRELOAD": str(library), "REFUSE_TELLS": str(tells), **refusals}
+        ran = subprocess.run(
+            [program, *words], input=data, capture_output=True, env=env, pass_fds=[tells], timeout=MOST_SECONDS, check=False
+        )
+        os.close(tells)
+        tells = None
+        return ran.returncode, ran.stdout, os.read(seen, 1) != b""
+    finally:
+        os.close(seen)
+        if tells is not None:
+            os.close(tells)
+
+
+def refused_in_turn(program, library, words, data, is_legal, kind, on):
+    """Refuses the first, the second and so on until nothing is refused any more: how many were, and how many of the runs ended with 6."""
+    wanting = 0
+    for which in range(1, 100_000):
+        status, written, refused = ended(program, library, words, data, {kind: str(which), **({"REFUSE_ON": "1"} if on else {})})
+        if status == 6 and refused and not written and kind == "REFUSE_ALLOCATION":
+            wanting += 1
+        elif status != 0 or not is_legal(data, written):
+            raise Wrong(f"{' '.join(words)} with {kind}={which}{' and all after it' if on else ''}: status {status}, {written[:200]}")
+        if not refused:
+            return which - 1, wanting
+    raise Wrong(f"{' '.join(words)}: no end")
+
+
+def all_refused(program, library, names):
+    """For each command by name: the allocations refused one by one, those with all after them, and the threads, with the runs that ended with 6."""
+    for name in names:
+        words, data, is_legal = RUNS[name]
+        run = program, library, words, data, is_legal
+        one, on = (refused_in_turn(*run, "REFUSE_ALLOCATION", on) for on in (False, True))
+        threads, _ = (refused_in_turn(*run, "REFUSE_THREAD", on)[0] for on in (False, True))
+        yield name, one, on, threads
+
+
+def known(program):
+    """The names of the commands that the program knows."""
+    return [name for name, (words, _, _) in RUNS.items() if subprocess.run([program, *words], input=b"", capture_output=True, check=False).returncode != 2]
+
+
+def main(words):
+    program = Path(words[0]).resolve() if words else PROGRAM
+    with tempfile.TemporaryDirectory() as folder:
+        library = compiled(folder)
+        if library is None:
+            print("there is no cc: nothing is refused")
+            return 0
+        for name, (one, one_wanting), (on, on_wanting), threads in all_refused(program, library, known(program)):
+            print(
+                f"{name}: {one} allocations refused, {one_wanting} with status 6; {on} with all after them, {on_wanting} with status 6;"
+                f" {threads} starts of threads"
+            )
+    return 0
+
+
+if __name__ == "__main__":
+    sys.exit(main(sys.argv[1:]))
