@@ -37,7 +37,7 @@ import plain_judge
 import random_faults
 import random_lives
 from end_tests import Ends
-from image_tests import ImageExplanations, ProgramOnImages, ReadImages
+from image_tests import ImageExplanations, ProgramOnImages, ReadImages, usage
 from report_text import Fault, read_report, split_reply
 from script_text import Refusal, TooLong, read_script
 from wrong_reports import WRONG
@@ -520,7 +520,7 @@ class Program(unittest.TestCase):
         self.assertGreaterEqual(len(refused), 38)
         for words in refused:
             with self.subTest(words):
-                self.assertEqual((2, b"usage: cx_tool run | load FROM CLIENTS OPS\n", 0), self.ran(words, HEAD))
+                self.assertEqual((2, usage().encode(), 0), self.ran(words, HEAD))
 
     def test_a_load_writes_four_lines_and_reads_nothing(self):
         loads = json.loads((ROWS / "words.json").read_text("utf-8"))["loads"]

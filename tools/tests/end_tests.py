@@ -11,11 +11,8 @@ import refused_memory
 TOOLS = Path(__file__).resolve().parent.parent
 
 
+@unittest.skipUnless(random_lives.PROGRAM.exists(), "the program is not built")
 class Ends(unittest.TestCase):
-    def setUp(self):
-        if not random_lives.PROGRAM.exists():
-            self.skipTest("the program is not built")
-
     def test_real_ends(self):
         names = []
         for name, wrong in real_ends.each_case(random_lives.PROGRAM):

@@ -1,5 +1,6 @@
 """Tests of the reading of images, of what is said of a refused one, and of the program on images that no run leaves."""
 import json
+import re
 import subprocess
 import tempfile
 import unittest
@@ -14,6 +15,12 @@ from plain_store import Store
 from script_text import Refusal, TooLong, read_script
 
 ROWS = Path(__file__).resolve().parent / "rows"
+FORMATS = ROWS.parents[2] / "docs" / "FORMATS.md"
+
+
+def usage():
+    """The usage line, as docs/FORMATS.md has it."""
+    return re.search("`(usage: [^`]*)`", FORMATS.read_text("utf-8"))[1].replace("\\|", "|") + "\n"
 
 
 def image_rows():
@@ -121,12 +128,10 @@ class ImageExplanations(unittest.TestCase):
         self.assertEqual("status 139: the program was ended by signal 11", explain.meaning(139))
 
 
+@unittest.skipUnless(random_lives.PROGRAM.exists(), "the program is not built")
+@unittest.skipUnless("recover" in usage(), "docs/FORMATS.md has no word for images")
 class ProgramOnImages(unittest.TestCase):
-    """The built program on images; where it has no word `recover`, nothing."""
-
-    def setUp(self):
-        if not random_lives.PROGRAM.exists() or self.ran("recover", b"")[0] == 2:
-            self.skipTest("the program is not built, or has no word for images")
+    """The built program on images."""
 
     def ran(self, word, data):
         with tempfile.TemporaryFile() as file:
