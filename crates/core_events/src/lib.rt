@@ -1,6 +1,6 @@
 //! The core as a state machine, executable: its state, and one step of a caller on one word.
 //!
-//! - `CoreState::opening` is the opening state.
+//! - `CoreState::opening` is the opening state, and `opening_words` its words alone.
 //! - `apply` answers Ok(true) exactly with the event of its definition made, and Ok(false) exactly where the guard fails, with the state as it
 //!   was, for the five kinds of the queue, the eight on locks and regions, the four on the root, the six of the ring, in which cells come round
 //!   again, and the four on write sets. Whether the words offered are a write set of the entry's ticket is decided by the full image at the
@@ -29,4 +29,4 @@ mod sets;
 mod state;
 
 pub use events::apply;
-pub use state::CoreState;
+pub use state::{CoreState, opening_words};

@@ -59,7 +59,7 @@ impl CoreState {
                 place: base.place,
                 words: Items::of(Vec::from_slice(alloc, base.words.as_slice())?),
             },
-            words: opening_table(alloc, callers, base)?,
+            words: opening_words(alloc, callers, base)?,
             locals: opening_callers(alloc, callers, base.place)?,
         })
     }
@@ -200,15 +200,15 @@ impl CoreState {
     }
 }
 
-/// The words with which a table opens.
-fn opening_table(alloc: Global, callers: u32, base: &Base) -> Result<Vec<u64>, AllocError>
+/// The words with which a table of so many callers opens from a base. `Err` is want of memory.
+pub fn opening_words(alloc: Global, callers: u32, base: &Base) -> Result<Vec<u64>, AllocError>
     requires callers { AreCallers callers }
     requires place { base.now.place ≤ 2 ^ 40 }
     ensures { IfOk result (λ words. words.items ≡ opening_words callers base.now) }
 {
     let code = root_code(callers, base.place, 0);
     let n = u64::from(callers);
-    let mut words = Vec::new(alloc);
+    let mut words = Vec::with_capacity(alloc, room_for(callers, base.words.as_slice().len()))?;
     words.push(code)?;
     words.push(code)?;
     words.push(base.place)?;
@@ -219,6 +219,16 @@ fn opening_table(alloc: Global, callers: u32, base: &Base) -> Result<Vec<u64>, A
     push_many(&mut words, QUEUE_WORDS * n, 0)?;
     push_copies(&mut words, 4 * n, base.words.as_slice())?;
     Ok(words)
+}
+
+// The number of words of a table whose regions have so many: as many as are pushed below, so that none is moved to make room.
+fn room_for(callers: u32, region: usize) -> usize {
+    let n = callers as usize;
+    region
+        .saturating_mul(4)
+        .saturating_add(QUEUE_WORDS as usize + 3)
+        .saturating_mul(n)
+        .saturating_add(4)
 }
 
 /// Adds a word so many times.

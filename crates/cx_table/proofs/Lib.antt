@@ -1,4 +1,5 @@
+mod Closing
 mod Handing
 mod Marking
-mod Closing
+mod Opening
 pub mod Runs

@@ -11,7 +11,7 @@ ghost use Rattle.cx_rule.specs.Seats.{opening_view};
 use crate::seat::CallerSeat;
 use crate::shared::Shared;
 use atomic_table::{Seat, Split, Table};
-use core_events::CoreState;
+use core_events::opening_words;
 use cx_base::{Items, Object};
 use cx_core::{Base, slot_start};
 use cx_rule::{Key, View};
@@ -33,6 +33,7 @@ impl Split<View> for CutFirst {
 impl<O: Object> Shared<O> {
     /// Makes the table of 1 to 8 callers that opens from a base, and the callers' seats, of caller 0 first. The limit of
     /// caller `c` is item `c` of `limits`; 2^64 - 1 is no limit. `Err` is want of memory, and drops the object.
+    #[tactic(auto, using(crate::proofs::Opening::long_opening))]
     pub fn make(
         alloc: Global,
         object: O,
@@ -51,14 +52,14 @@ impl<O: Object> Shared<O> {
             place: base.place,
             words: Items::of(Vec::from_slice(alloc, base.words.as_slice())?),
         };
-        let opening = CoreState::opening(alloc, &object, callers, base)?;
+        let opening = opening_words(alloc, callers, base)?;
         let key = Key {
             callers,
             limits: Items::of(Vec::from_slice(alloc, limits)?),
             base: Snapshot::of(&own),
             object: Snapshot::of(&object),
         };
-        let (table, first) = Table::of_words(alloc, opening.words(), &key)?;
+        let (table, first) = Table::of_words(alloc, &opening, &key)?;
         let shared = Shared {
             table,
             callers,

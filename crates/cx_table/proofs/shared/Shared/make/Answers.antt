@@ -17,7 +17,7 @@ of_words-requires g c =
     let base = c.of-3.result.value in
     let e : base ≡ c.args.base.now = c.of-3.ensures ∙ ap (base_of c.args.base.now.place) (c.of.ensures ∙ c.in_ok-from_slice.ensures.items ∙ c.as_slice.ensures) in
     let place : base.place ≤ 2 ^ 40 = omega (arith, ap (λ b. b.place) e, c.requires.base.place_within) in
-    let words : c.words.result.now ≡ opening_words c.args.callers base = c.words.ensures.value ∙ ap (λ core. core.state.words) c.in_ok-opening.ensures ∙ ap (opening_words c.args.callers) (sym e) in
+    let words : c.deref.result.now ≡ opening_words c.args.callers base = c.deref.ensures.value ∙ c.in_ok-opening.ensures ∙ ap (opening_words c.args.callers) (sym e) in
     let instance : Instance = record { callers = c.args.callers; base = base; step = g.O.Object.step c.of-4.result.value; reads = g.O.Object.only_reads c.of-4.result.value } in
     subst (λ (ws : List ℕ). RuleHolds instance (atomic.opening ws [] (opening_view c.args.callers base.place c.of-2.result))) (sym words)
     (opening_held instance c.of-2.result c.requires.callers.some c.requires.callers.few place (subst (λ (b : Base). place_at b.words ≡ b.place) (sym e) c.requires.base.at_place)
