@@ -20,8 +20,7 @@ use Rattle.cx_lives.specs.declared.progress.Lines.{Lines}
 use Rattle.cx_lives.specs.declared.progress.Turn.{Turn}
 use Rattle.cx_lives.specs.declared.progress.Turn.TheVariants.{Next, Over, Full as FullTurn}
 use Rattle.cx_lives.specs.declared.progress.Work.{Work}
-use Rattle.cx_lives.specs.declared.calls.Asked.TheVariants.{Halted}
-use Rattle.cx_lives.specs.Calls.{Asks, AsksDone, AsksFull, AsksRead, AsksWorn, Halts, LinksEntry}
+use Rattle.cx_lives.specs.Calls.{AsksDone, AsksFull, AsksRead, AsksWorn, Halts, LinksEntry}
 use Rattle.cx_lives.specs.Ends.{CannotBe, IsCallerIn, IsKeptOut, IsNewIn, IsWorkOf, Turned, full_in}
 use Rattle.cx_lives.specs.Serving.{HasServed, IsServed}
 use Rattle.cx_lives.specs.Turns.{EntryTurn, ReadTurn, StopsIn, ended, stop_line, with_linked}
@@ -99,8 +98,8 @@ module _ {O Op Reply Store : Type 0} (m : Meaning Op Reply Store) (life : Life O
       never_turned after work (still_in after a.caller.of a.keeps.number a.keeps.limit a.keeps.own) (inl (record { front = a.front; fewer = omega (arith, ap length a.keeps.own, few_before, within) })) is
 
   -- another caller keeps the cells, and nothing was answered
-  pub full_turned : (after : Seated) (note : FullNote) → AsksFull r before after note → Turned m life r client number (FullTurn (record { caller = after; lines = lines }) note)
-  full_turned after note a =
+  pub full_turned : (most : Option ℕ) (after : Seated) (note : FullNote) → AsksFull r most before after note → Turned m life r client number (FullTurn (record { caller = after; lines = lines }) note)
+  full_turned most after note a =
       let same : n ≡ number - 1 = omega arith in
       record {
         served = record {
@@ -111,7 +110,7 @@ module _ {O Op Reply Store : Type 0} (m : Meaning Op Reply Store) (life : Life O
       }
 
   -- the client is stopped
-  pub stop_turned : length l.own ≡ length l.answered → (stopped : StoppedSeat) (work : Work Reply) → Asks r ws before (Halted stopped) → StopsIn client number stopped lines work → Turned m life r client number (Over work)
+  pub stop_turned : length l.own ≡ length l.answered → (stopped : StoppedSeat) (work : Work Reply) → Halts r ws before stopped.seat stopped.linked → StopsIn client number stopped lines work → Turned m life r client number (Over work)
   stop_turned even stopped work a w = (
     record {
       caller = rw w.handed (caller stopped.linked a);

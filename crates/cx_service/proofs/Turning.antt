@@ -19,7 +19,7 @@ use Rattle.cx_service.specs.Lookups.{ReadAnswered, ReadDue, ReadHalted, ReadKeep
 use Rattle.cx_service.proofs.Cells.{own_kept}
 use Rattle.cx_turns.specs.Answering.{AnswersEntry, AnswersRead, HaltsFor, HaltsLookup, beside_lookup, beside_update, with_answer, with_read}
 use Rattle.cx_turns.specs.declared.lookup.Seen.{Seen}
-use Rattle.cx_turns.specs.Turns.{IsAtRest, TurnRefused}
+use Rattle.cx_turns.specs.Turns.{IsAtRest, StepsAtMost, TurnRefused}
 
 -- a refusal more, and refusals in turn after turn
 pub meets_one : (s v : Seated) → v.known.local.met ≡ one_more s.known.local.met → MeetsMore 1 s v
@@ -219,6 +219,7 @@ module _ {O : Type 0} (r : Running O) (op : List ℕ) (s v : Seated) (caller : I
     limit = ap (λ (x : Seated). x.known.local.limit) rest;
     own = ap (λ (x : Seated). x.known.local.own) rest;
     answered = ap (λ (x : Seated). x.known.local.answered) rest;
+    scans = ap (λ (x : Seated). x.known.local.scans) rest;
   }
 
   still : IsAtRest v.known.local → IsCallerOf r v
@@ -237,8 +238,8 @@ module _ {O : Type 0} (r : Running O) (op : List ℕ) (s v : Seated) (caller : I
     from = answers.from;
   }
 
-  pub read_refused : ¬ IsAtLimit s.known.local → s.known.local.met ≤ max_word → TurnRefused s v → ReadPending r 1 s v
-  read_refused allowed small refused = record {
+  pub read_refused : ¬ IsAtLimit s.known.local → s.known.local.met ≤ max_word → TurnRefused s v × StepsAtMost 4 s v → ReadPending r 1 s v
+  read_refused allowed small (refused, steps) = record {
     caller = still refused.rest;
     keeps = read_keeps;
     allowed = allowed;
@@ -246,6 +247,7 @@ module _ {O : Type 0} (r : Running O) (op : List ℕ) (s v : Seated) (caller : I
     reads = refused.refusal.reads;
     met = meets_one s v refused.refusal.met;
     most = most_one s v refused.refusal.met;
+    steps = steps;
   }
 
   pub read_ended : HaltsLookup op s v → ReadHalted r op s (record { seat = v; linked = None }) × ReadDue 1 s v
@@ -260,7 +262,7 @@ all_answered r s caller = ap (option_map (λ (x : Linked). x.ticket)) (slice_get
 
 module _ {O : Type 0} (r : Running O) (op : List ℕ) (n : ℕ) (s u : Seated) (before : ReadPending r n s u) where
   read_keeps_then : (v : Seated) → ReadKeeps u v → ReadKeeps s v
-  read_keeps_then v k = record { number = k.number ∙ before.keeps.number; limit = k.limit ∙ before.keeps.limit; own = k.own ∙ before.keeps.own; answered = k.answered ∙ before.keeps.answered }
+  read_keeps_then v k = record { number = k.number ∙ before.keeps.number; limit = k.limit ∙ before.keeps.limit; own = k.own ∙ before.keeps.own; answered = k.answered ∙ before.keeps.answered; scans = k.scans ∙ before.keeps.scans }
 
   -- reads with one more, in terms of the first seat
   more_reads : (place : ℕ) (reply : List ℕ) → with_read place op reply (length u.known.local.answered) u.known.local.seen_reads ≡ with_read place op reply (length s.known.local.answered) s.known.local.seen_reads
@@ -277,6 +279,7 @@ module _ {O : Type 0} (r : Running O) (op : List ℕ) (n : ℕ) (s u : Seated) (
     reads = p.reads ∙ before.reads;
     met = meets_then n 1 s u v before.met p.met;
     most = omega (arith, before.most, p.most);
+    steps = omega (arith, before.steps, p.steps);
   }
 
   read_done_then : (v : Seated) (seen : Seen) → ReadAnswered r op u v seen → ReadAnswered r op s v seen

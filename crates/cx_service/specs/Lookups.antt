@@ -1,5 +1,5 @@
 -- What a read beside the queue comes to.
-use Rattle.std.specs.Prelude.{◌≡◌, ◌≢◌, ◌+◌, ◌<◌, ◌≤◌, ◌⊎◌, ℕ, List, length, slice_get, Some, None}
+use Rattle.std.specs.Prelude.{◌≡◌, ◌≢◌, ◌+◌, ◌*◌, ◌<◌, ◌≤◌, ◌⊎◌, ℕ, List, length, slice_get, Some, None}
 use Rattle.cx_core.specs.declared.local.Answer.{Answer}
 use Rattle.cx_core.specs.declared.local.SeenRead.{SeenRead}
 use Rattle.cx_rule.specs.Running.{Running}
@@ -12,6 +12,7 @@ use Rattle.cx_service.specs.Callers.{IsCallerOf, IsStoppedOf, StoppedSeat}
 use Rattle.cx_service.specs.Drives.{MeetsAtMost, MeetsFewer, MeetsMore}
 use Rattle.cx_turns.specs.declared.lookup.Seen.{Seen}
 use Rattle.cx_turns.specs.Answering.{with_read}
+use Rattle.cx_turns.specs.Turns.{StepsAtMost}
 use Rattle.strong_trylock.specs.Held.{all_rights, no_rights}
 
 -- what each answer of a read leaves as it was
@@ -20,6 +21,7 @@ pub record ReadKeeps (before after : Seated) : Type 0 where
   pub limit : after.known.local.limit ≡ before.known.local.limit
   pub own : after.known.local.own ≡ before.known.local.own
   pub answered : after.known.local.answered ≡ before.known.local.answered
+  pub scans : after.known.local.scans ≡ before.known.local.scans
 
 -- The read is answered, and nothing else: the caller has one read more, of this operation. Its place is above each ticket and not below
 -- any place that the caller was answered before. The limit allowed a step.
@@ -32,7 +34,7 @@ pub record ReadAnswered {O : Type 0} (r : Running O) (op : List ℕ) (before aft
   pub above : (i : ℕ) (x : Answer) → slice_get before.known.local.answered i ≡ Some x → x.ticket < seen.place
   pub from : (i : ℕ) (x : SeenRead) → slice_get before.known.local.seen_reads i ≡ Some x → x.place ≤ seen.place
 
--- In each of so many turns one refusal was met. The limit allowed a step.
+-- In each of so many turns one refusal was met, by at most four steps. The limit allowed a step.
 pub record ReadPending {O : Type 0} (r : Running O) (tries : ℕ) (before after : Seated) : Type 0 where
   pub caller : IsCallerOf r after
   pub keeps : ReadKeeps before after
@@ -41,6 +43,7 @@ pub record ReadPending {O : Type 0} (r : Running O) (tries : ℕ) (before after 
   pub reads : after.known.local.seen_reads ≡ before.known.local.seen_reads
   pub met : MeetsMore tries before after
   pub most : MeetsAtMost tries before after
+  pub steps : StepsAtMost (4 * tries) before after
 
 -- A further step was to be made and the steps equal the limit. No read was answered, or this one was, and its shared right is still to
 -- be given back. No entry is linked that no call has answered.

@@ -1,5 +1,5 @@
 -- What publishing, raising and retiring leave of a turn's seat.
-use Rattle.std.proofs.Common.{◌≡◌, ◌+◌, ◌*◌, ◌<◌, ◌≤◌, inl, inr, ℕ, Bool, false, List, [], ◌∷◌, append-nil, length, refl, ap, sym, subst, ◌∙◌, arith, Option, Some, None, Result, Ok, Err, OnErr, OnOk}
+use Rattle.std.proofs.Common.{◌≡◌, ◌+◌, ◌*◌, ◌<◌, ◌≤◌, inl, inr, ℕ, List, [], ◌∷◌, append-nil, length, refl, ap, sym, subst, ◌∙◌, arith, Option, Some, None, Result, Ok, Err, OnErr, OnOk}
 use Rattle.std.proofs.Math.Nat.{le-max_right}
 use Rattle.std.proofs.lemmas.Option.{none-some, same_Some}
 use Rattle.std.specs.Option.{option_map}
@@ -9,7 +9,6 @@ use Rattle.cx_core.specs.declared.kinds.Kind.TheVariants.{Retire}
 use Rattle.cx_core.specs.declared.local.HeldDowngraded.{HeldDowngraded}
 use Rattle.cx_core.specs.declared.local.HeldShared.{HeldShared}
 use Rattle.cx_core.specs.declared.local.Linked.{Linked}
-use Rattle.cx_core.specs.declared.local.Protection.TheVariants.{Unprotected}
 use Rattle.cx_core.specs.declared.local.WonCode.{WonCode}
 use Rattle.cx_core.specs.Rights.{shared_on}
 use Rattle.cx_core.specs.RootEvents.{code_in, unanswered}
@@ -22,14 +21,14 @@ use Rattle.cx_rule.specs.Steps.{Halts, Steps}
 use Rattle.cx_rule.proofs.Raising.{reply_still, tells_one}
 use Rattle.cx_table.specs.Right.{WonRight}
 use Rattle.cx_table.specs.Tokens.{IsWonOf}
-use Rattle.cx_turns.specs.Answering.{AnswersBy, AnswersEntry, AnswersReadBy, HaltsFor, HaltsLookup, HaltsWon, IsPublishedFor, IsReadyFor, beside_update, with_answer, with_read}
+use Rattle.cx_turns.specs.Answering.{AnswersBy, AnswersEntry, AnswersReadBy, HaltsFor, HaltsLookup, HaltsWon, IsPublishedFor, IsReadyFor, beside_settling, beside_update, with_answer, with_read}
 use Rattle.cx_turns.specs.declared.preparing.Prepared.{Prepared}
 use Rattle.cx_turns.specs.Preparing.{Prepares}
-use Rattle.cx_turns.specs.Turns.{IsAtRest, Turns, beside_turn}
+use Rattle.cx_turns.specs.Turns.{IsAtRest, TurnsIn, beside_turn, cur_rises}
+use Rattle.mutation_queue.specs.Leaves.{Leaves}
 use Rattle.publish.proofs.Options.{none_of, some_of}
-use Rattle.publish.specs.Publishing.{PassedBy, beside_publish, place_in}
-use Rattle.replica.specs.Replays.{noted_place}
-use Rattle.strong_trylock.specs.Held.{AllRights, all_rights, no_rights}
+use Rattle.publish.specs.Publishing.{LeavesRest, PassedBy, beside_publish, place_in}
+use Rattle.strong_trylock.specs.Held.{AllRights}
 
 -- the place of a downgraded replica's code is the replica's
 downgraded_place : (callers : ℕ) (o : Option HeldDowngraded) (q : ℕ) → option_map (λ (h : HeldDowngraded). h.replica) o ≡ Some q → q < 2 * callers → root_place_of callers (code_in callers o) ≡ place_in o
@@ -128,12 +127,12 @@ module _ {O : Type 0} (o : Ghosts O) (r : Running O) (code ticket : ℕ) (reply 
   pub raised_answered : after.known.local.answered ≡ with_answer ticket reply before.known.local.answered
   raised_answered = ap (λ (s : Seated). s.known.local.answered) by.made
 
-  raised_rest : beside_update after ≡ beside_update before
-  raised_rest = ap beside_update by.made ∙ ap (λ rs. (let b : Seated = record (beside_update before) { known = record (beside_update before).known { local = record (beside_update before).known.local { seen_reads = rs } } } in b)) (append-nil before.known.local.seen_reads)
+  raised_rest : beside_settling after ≡ beside_settling before
+  raised_rest = ap beside_settling by.made ∙ ap (λ rs. (let b : Seated = record (beside_settling before) { known = record (beside_settling before).known { local = record (beside_settling before).known.local { seen_reads = rs } } } in b)) (append-nil before.known.local.seen_reads)
 
   -- what it leaves of the seat
-  pub raised_turns : Turns r beside_update before after
-  raised_turns = record { seat = by.seat; rest = raised_rest; front = (let same = ap (λ (s : Seated). s.known.local.front) by.made in omega (arith, same)) }
+  pub raised_leaves : Leaves r beside_settling 1 before after
+  raised_leaves = record { of = by.seat; rest = raised_rest; steps = (let one = ap (λ (s : Seated). s.known.local.steps) by.made in omega (arith, one)) }
 
   -- with no win to retire the caller is at rest
   pub raised_rests : IsAtRest (beside_publish before).known.local → before.known.local.downgraded ≡ None → before.known.local.won ≡ None → IsAtRest after.known.local
@@ -158,8 +157,12 @@ module _ {O : Type 0} (o : Ghosts O) (r : Running O) (code ticket : ℕ) (reply 
   still_won won was = record { few = was.few; caller = was.caller ∙ sym (ap (λ (s : Seated). s.known.local.number) by.made); holds = ap (λ (s : Seated). s.known.local.won) by.made ∙ was.holds }
 
   -- the limit was come to before the win was retired
-  pub halted_turns : (last : Seated) → Halts r after last → Turns r beside_update before last
-  halted_turns last h = record { seat = h.seat; rest = ap beside_update h.same ∙ raised_rest; front = (let same = ap (λ (s : Seated). s.known.local.front) h.same in let rose = raised_turns.front in omega (arith, same, rose)) }
+  pub halted_leaves : (last : Seated) → Halts r after last → Leaves r beside_settling 2 before last
+  halted_leaves last h = record {
+    of = h.seat;
+    rest = ap beside_settling h.same ∙ raised_rest;
+    steps = (let same = ap (λ (s : Seated). s.known.local.steps) h.same in let one = raised_leaves.steps in omega (arith, same, one));
+  }
 
   pub retired_halted : (last : Seated) → Halts r after last → HaltsWon ticket before last
   retired_halted last h = record {
@@ -171,8 +174,14 @@ module _ {O : Type 0} (o : Ghosts O) (r : Running O) (code ticket : ℕ) (reply 
 
   -- the win is retired then
   module _ (found : ℕ) (last : Seated) (s : Steps r o.step o.only_reads Retire found after last) where
-    pub retired_turns : Turns r beside_update before last
-    retired_turns = record { seat = s.seat; rest = ap beside_update s.made ∙ raised_rest; front = (let same = ap (λ (t : Seated). t.known.local.front) s.made in let rose = raised_turns.front in omega (arith, same, rose)) }
+    pub retired_leaves : Leaves r beside_settling 2 before last
+    retired_leaves = record {
+      of = s.seat;
+      rest = ap beside_settling s.made
+          ∙ ap (λ ns. (let b : Seated = record (beside_settling after) { known = record (beside_settling after).known { noted = ns } } in b)) (append-nil after.known.noted)
+          ∙ raised_rest;
+      steps = (let more = ap (λ (t : Seated). t.known.local.steps) s.made in let one = raised_leaves.steps in omega (arith, more, one));
+    }
 
     retired_rests : IsAtRest (beside_publish before).known.local → before.known.local.downgraded ≡ None → IsAtRest last.known.local
     retired_rests rest ended = subst (λ (t : Seated). IsAtRest t.known.local) (sym s.made) (subst (λ (t : Seated). IsAtRest (record t.known.local { won = None; steps = one_more t.known.local.steps })) (sym by.made) (record {
@@ -191,6 +200,18 @@ module _ {O : Type 0} (o : Ghosts O) (r : Running O) (code ticket : ℕ) (reply 
     retired_answers rest ended =
         let met : last.known.local.met ≡ before.known.local.met = ap (λ (t : Seated). t.known.local.met) s.made ∙ ap (λ (t : Seated). t.known.local.met) by.made in
         record { rest = retired_rests rest ended; met = omega (arith, met); most = omega (arith, met); answered = ap (λ (t : Seated). t.known.local.answered) s.made ∙ raised_answered }
+
+-- what a publication and the few steps behind it leave of the seat
+pub settled_turns : {O : Type 0} (r : Running O) (n : ℕ) (before mid after : Seated) → n ≤ 2 → LeavesRest r 1 before mid → Leaves r beside_settling n mid after → TurnsIn r beside_update (3 + cur_rises before after) before after
+settled_turns r n before mid after few leaves last =
+    let cur : after.known.local.seen_cur ≡ mid.known.local.seen_cur = ap (λ (s : Seated). s.known.local.seen_cur) last.rest in
+    let front : after.known.local.front ≡ mid.known.local.front = ap (λ (s : Seated). s.known.local.front) last.rest in
+    record {
+      seat = last.of;
+      rest = ap beside_update last.rest ∙ ap beside_update leaves.rest;
+      front = (let rose = leaves.front in omega (arith, rose, front));
+      steps = (let most = leaves.steps in let more = last.steps in omega (arith, most, more, cur, few));
+    }
 
 -- what comes after a publication, by which at most one refusal was met
 module _ (ticket : ℕ) (before mid after : Seated) (rest : beside_publish mid ≡ beside_publish before) (low : before.known.local.met ≤ mid.known.local.met) (high : mid.known.local.met ≤ before.known.local.met + 1) where
@@ -226,9 +247,10 @@ module _ (ticket : ℕ) (before mid after : Seated) (rest : beside_publish mid �
   }
 
   -- what the raise leaves of the seat, whether it was made or not
-  pub passed_turns : {O X E : Type 0} (o : Ghosts O) (r : Running O) (code : ℕ) (reply : List ℕ) (result : Result X E) → before.known.local.front ≤ mid.known.local.front → OnOk result (AnswersBy o r code ticket reply mid after) → OnErr result (Halts r mid after) → Turns r beside_update before after
-  passed_turns o r code reply (Ok x) rose by none = (let t = raised_turns o r code ticket reply mid after by in record { seat = t.seat; rest = t.rest ∙ ap beside_update rest; front = omega (arith, rose, t.front) })
-  passed_turns o r code reply (Err e) rose none h = record { seat = h.seat; rest = ap beside_update h.same ∙ ap beside_update rest; front = (let same = ap (λ (s : Seated). s.known.local.front) h.same in omega (arith, rose, same)) }
+  pub passed_turns : {O X E : Type 0} (o : Ghosts O) (r : Running O) (code : ℕ) (reply : List ℕ) (result : Result X E) → LeavesRest r 1 before mid → OnOk result (AnswersBy o r code ticket reply mid after) → OnErr result (Halts r mid after) → TurnsIn r beside_update (3 + cur_rises before after) before after
+  passed_turns o r code reply (Ok x) leaves by none = settled_turns r 1 before mid after (omega arith) leaves (raised_leaves o r code ticket reply mid after by)
+  passed_turns o r code reply (Err e) leaves none h =
+      settled_turns r 0 before mid after (omega arith) leaves (record { of = h.seat; rest = ap beside_settling h.same; steps = (let same = ap (λ (s : Seated). s.known.local.steps) h.same in omega (arith, same)) })
 
   -- the raise by it answers the entry
   pub passed_answers : {O : Type 0} (o : Ghosts O) (r : Running O) (code : ℕ) (reply : List ℕ) → IsPublishedFor o r code ticket reply mid → mid.known.local.won ≡ None → AnswersBy o r code ticket reply mid after → AnswersEntry 1 ticket reply before after

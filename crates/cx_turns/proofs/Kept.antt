@@ -1,5 +1,5 @@
 -- What the steps leave by which a replica is kept.
-use Rattle.std.proofs.Common.{◌≡◌, ◌<◌, ◌≤◌, true, false, ℕ, Bool, All, List, [], append-nil, ap, sym, subst, ◌∙◌, arith, Option, Some, None}
+use Rattle.std.proofs.Common.{◌≡◌, ◌<◌, ◌≤◌, true, false, ℕ, All, [], append-nil, ap, sym, subst, ◌∙◌, arith, Option, Some, None}
 use Rattle.std.specs.Option.{option_map}
 use Rattle.cx_base.specs.declared.object.Object.{Ghosts}
 use Rattle.cx_base.specs.Codes.{root_place_of, root_replica_of}
@@ -20,8 +20,8 @@ use Rattle.cx_turns.specs.Reads.{beside_read}
 use Rattle.cx_turns.specs.Turns.{IsAtRest, TurnRefused, beside_turn}
 use Rattle.mutation_queue.specs.Protections.{but_protected}
 use Rattle.publish.proofs.Options.{none_of}
-use Rattle.replica.specs.Copies.{HoldsBoth, beside_copy, but_loads, without_shared}
-use Rattle.replica.specs.Held.{IsHeld, IsHeldShared}
+use Rattle.replica.specs.Copies.{beside_copy, but_loads, without_shared}
+use Rattle.replica.specs.Held.{IsHeld}
 use Rattle.replica.specs.Laws.{image_more}
 use Rattle.replica.specs.Replays.{IsImage, noted_place}
 use Rattle.strong_trylock.specs.Held.{AllRights, all_rights}

@@ -1,8 +1,7 @@
 -- What a caller has that prepared a replica, and one to which each was refused.
-use Rattle.std.proofs.Common.{◌≡◌, ◌<◌, ℕ, Bool, List, ap, sym, subst, ◌∙◌, append-nil, Option, Some, None}
+use Rattle.std.proofs.Common.{◌≡◌, ◌<◌, ℕ, List, ap, sym, subst, ◌∙◌, append-nil, Option, Some, None}
 use Rattle.cx_base.specs.declared.object.Object.{Ghosts}
 use Rattle.cx_core.specs.declared.local.HeldDowngraded.{HeldDowngraded}
-use Rattle.cx_core.specs.declared.local.Protection.TheVariants.{Unprotected}
 use Rattle.cx_core.specs.Rights.{exclusive_on}
 use Rattle.cx_rule.specs.Fitting.{Fits, ReplayedTo, SomeFits}
 use Rattle.cx_rule.specs.Running.{Running}

@@ -12,7 +12,7 @@ use Rattle.cx_rule.specs.Seats.{IsAtLimit, Seated, unanswered_ticket}
 use Rattle.cx_table.specs.Right.{Right}
 use Rattle.cx_turns.specs.declared.lookup.Seen.{Seen}
 use Rattle.cx_turns.specs.Reads.{IsRead}
-use Rattle.cx_turns.specs.Turns.{HaltsTurn, IsAtRest, TurnRefused, beside_turn}
+use Rattle.cx_turns.specs.Turns.{HaltsTurn, IsAtRest, StepsAtMost, TurnRefused, beside_turn}
 use Rattle.publish.specs.Publishing.{beside_publish, place_in}
 use Rattle.strong_trylock.specs.Held.{all_rights, no_rights}
 
@@ -23,6 +23,10 @@ beside_raise s = (let b = beside_turn s in record b { known = record b.known { l
 -- what a turn for an entry leaves as it was: all of that but the answered entries
 abbrev pub beside_update : Seated → Seated
 beside_update s = (let b = beside_raise s in record b { known = record b.known { local = record b.known.local { answered = [] } } })
+
+-- what a raise that answers an entry, and the retiring of a win behind it, leave as it was
+abbrev pub beside_settling : Seated → Seated
+beside_settling s = record s { known = record s.known { local = record s.known.local { answered = []; raised = 0; floor = 0; fresh = false; won = None; steps = 0 } } }
 
 -- what a turn for a read leaves as it was: all of it but the answered reads
 abbrev pub beside_lookup : Seated → Seated
@@ -103,10 +107,10 @@ pub record AnswersRead (op : List ℕ) (place : ℕ) (reply : List ℕ) (before 
 abbrev pub seen_at : List ℕ → Option ℕ → Option Seen
 seen_at reply place = option_map (λ p. record { place = p; reply = reply }) place
 
--- what a turn for a read comes to
+-- what a turn for a read comes to; one that is refused makes at most four steps
 abbrev pub LooksUp : List ℕ → Seated → Seated → Option Seen → Type 0
 LooksUp op before after (Some found) = AnswersRead op found.place found.reply before after
-LooksUp op before after None = TurnRefused before after
+LooksUp op before after None = TurnRefused before after × StepsAtMost 4 before after
 
 -- The limit was come to, and a further step was due. Before the raise no read is answered, and behind it this one is, and the shared
 -- right is still to be given back.

@@ -1,5 +1,5 @@
 -- A caller between its calls, what a refusal and a halt leave, and what no step of a turn changes before its raise.
-use Rattle.std.specs.Prelude.{◌≡◌, ◌+◌, ◌<◌, ◌≤◌, false, ℕ, [], None, Some}
+use Rattle.std.specs.Prelude.{◌≡◌, ◌+◌, ◌-◌, ◌<◌, ◌≤◌, false, ℕ, [], None, Some}
 use Rattle.cx_core.specs.declared.local.Local.{Local}
 use Rattle.cx_core.specs.declared.local.Protection.TheVariants.{Unprotected}
 use Rattle.cx_core.specs.State.{one_more}
@@ -71,6 +71,21 @@ pub record Turns {O : Type 0} (r : Running O) (beside : Seated → Seated) (befo
   pub seat : IsSeatOf r after
   pub rest : beside after ≡ beside before
   pub front : before.known.local.front ≤ after.known.local.front
+
+-- at most so many steps were made
+abbrev pub StepsAtMost : ℕ → Seated → Seated → Type 0
+StepsAtMost n before after = after.known.local.steps ≤ before.known.local.steps + n
+
+-- the same of a call that may raise the front, by at most so many steps
+pub record TurnsIn {O : Type 0} (r : Running O) (beside : Seated → Seated) (n : ℕ) (before after : Seated) : Type 0 where
+  pub seat : IsSeatOf r after
+  pub rest : beside after ≡ beside before
+  pub front : before.known.local.front ≤ after.known.local.front
+  pub steps : StepsAtMost n before after
+
+-- by how much what was seen of CUR rose: at least by one for each exchange that was lost
+abbrev pub cur_rises : Seated → Seated → ℕ
+cur_rises before after = after.known.local.seen_cur - before.known.local.seen_cur
 
 -- The limit was come to, and a further step was due: no refusal was met, or a right stands that is still to be given up. At most one
 -- refusal was met.

@@ -6,7 +6,8 @@ ghost use Rattle.cx_core.specs.declared.local.Protection.TheVariants.{Unprotecte
 ghost use Rattle.cx_rule.specs.Running.{IsSeatOf};
 ghost use Rattle.cx_rule.specs.Seats.{IsAtLimit};
 ghost use Rattle.cx_turns.specs.Keeping.{Guards, HoldsSource, IsAtImage, MayKeep, SeesCurrent, TriesKeep};
-ghost use Rattle.cx_turns.specs.Turns.{HaltsHolding, HaltsMeeting, IsAtRest, Keeps, Turns, beside_turn, unguarded};
+ghost use Rattle.cx_turns.specs.Turns.{HaltsHolding, HaltsMeeting, IsAtRest, Turns, TurnsIn, beside_turn, unguarded};
+ghost use Rattle.mutation_queue.specs.Leaves.{Leaves};
 ghost use Rattle.mutation_queue.specs.Protections.{but_protected};
 ghost use Rattle.replica.specs.Replays.{noted_place};
 ghost use Rattle.cx_rule.specs.Steps.{Halts};
@@ -46,7 +47,7 @@ fn guard<O: Object>(shared: &Shared<O>, seat: &mut CallerSeat, ticket: u64) -> R
     requires none { seat.old.known.local.protection ≡ Unprotected }
     requires linked { ticket < seat.old.known.local.front }
     ensures guarded { MatchResult result (Guards shared.now.callers ticket seat.old seat.new) (λ _. HaltsMeeting seat.old seat.new) }
-    ensures keeps { Keeps shared.now but_protected seat.old seat.new }
+    ensures leaves { Leaves shared.now but_protected 3 seat.old seat.new }
 {
     // tickets are few
     let _front = seat.front();
@@ -92,7 +93,7 @@ fn load_current<O: Object>(
 ) -> Result<(), Halt>
     requires held { IsAtImage O.Object shared.now seat.old held.now }
     ensures seen { MatchResult result (λ _. SeesCurrent O.Object shared.now seat.old seat.new held.now) (λ _. Halts shared.now seat.old seat.new) }
-    ensures turns { Turns shared.now beside_turn seat.old seat.new }
+    ensures turns { TurnsIn shared.now beside_turn 1 seat.old seat.new }
 {
     let _ = held;
     shared.load_cur(seat)?;
@@ -143,7 +144,7 @@ fn give_up<O: Object>(
 pub fn unguard<O: Object>(shared: &Shared<O>, seat: &mut CallerSeat) -> Result<(), Halt>
     requires seat { IsSeatOf shared.now seat.old }
     ensures removed { MatchResult result (λ _. seat.new.known.local.protection ≡ Unprotected) (λ _. IsAtLimit seat.new.known.local) }
-    ensures keeps { Keeps shared.now unguarded seat.old seat.new }
+    ensures leaves { Leaves shared.now unguarded 1 seat.old seat.new }
 {
     match seat.protection() {
         Protection::Unprotected => Ok(()),

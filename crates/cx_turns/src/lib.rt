@@ -12,6 +12,9 @@
 //! - A turn for a read answers it at the place of a code loaded from CUR in this turn, whose replica is held shared at that place. The place is
 //!   above each ticket and not below any place that the caller was answered before; where it halts the read is not answered, or it is and the
 //!   shared right stands that is still to be given back: `read_turn` (`turned`, `halted`, `turns`), over `read_current`.
+//! - A turn for a read that is refused makes at most 4 steps: `read_turn` (`turned`: `LooksUp`). Of a turn for an entry each part outside replay,
+//!   copy and flush has a bound: `take_any` makes at most two tries for each caller (`leaves`), and what publishes, answers and retires makes 3
+//!   steps and one for each later code that was found (`hand_over`). What an object loads and stores is not counted.
 #![tactic(auto)]
 
 mod keeping;

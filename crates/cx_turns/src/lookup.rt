@@ -8,7 +8,7 @@ ghost use Rattle.cx_rule.specs.Running.{IsSeatOf, instance_at};
 ghost use Rattle.cx_rule.specs.Seats.{IsAtLimit, unanswered_ticket};
 ghost use Rattle.cx_rule.specs.Steps.{Halts};
 ghost use Rattle.cx_turns.specs.Answering.{AnswersRead, AnswersReadBy, HaltsLookup, IsLookedUp, LooksUp, MayLook, beside_lookup, seen_at};
-ghost use Rattle.cx_turns.specs.Turns.{Turns};
+ghost use Rattle.cx_turns.specs.Turns.{Turns, TurnsIn};
 
 use crate::reading::read_current;
 use cx_base::{Halt, Object, root_place};
@@ -61,7 +61,7 @@ fn settle_read<O: Object>(
     requires reads { IsTrue (O.only_reads shared.now.object op.now) }
     ensures answered { OnOk result (AnswersRead op.now (root_place_of shared.now.callers seat.old.known.local.seen_cur) reply.now seat.old seat.new) }
     ensures halted { OnErr result (HaltsLookup op.now seat.old seat.new) }
-    ensures turns { Turns shared.now beside_lookup seat.old seat.new }
+    ensures turns { TurnsIn shared.now beside_lookup 2 seat.old seat.new }
 {
     let code = seat.seen_cur();
     answer_read(shared, seat, code, op, reply)?;

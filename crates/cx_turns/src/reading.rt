@@ -13,6 +13,7 @@ ghost use Rattle.cx_rule.specs.Raises.{TellsRead};
 ghost use Rattle.cx_turns.specs.Keeping.{HoldsCurrent, TakesCurrent};
 ghost use Rattle.cx_turns.specs.Reads.{HoldsPlace, IsRead, MayRead, ReadsCurrent, beside_read};
 ghost use Rattle.cx_turns.specs.Turns.{HaltsTurn, Keeps};
+ghost use Rattle.mutation_queue.specs.Leaves.{Leaves};
 ghost use Rattle.replica.specs.Held.{IsHeldShared, beside_shared};
 ghost use Rattle.strong_trylock.specs.Held.{all_rights, no_rights};
 
@@ -140,7 +141,7 @@ pub(crate) fn take_current<O: Object>(
     requires free { CanTryShared shared.now.callers (root_replica_of shared.now.callers seat.old.known.local.seen_cur) seat.old.known.local }
     requires fresh { seat.old.known.local.fresh ≡ true }
     ensures taken { MatchResult result (TakesCurrent O.Object shared.now (all_rights seat.old) seat.old seat.new) (λ _. HaltsTurn seat.old seat.new) }
-    ensures keeps { Keeps shared.now beside_read seat.old seat.new }
+    ensures leaves { Leaves shared.now beside_read 3 seat.old seat.new }
 {
     let _lines = shared.lines();
     let replica = root_replica(shared.callers(), seat.seen_cur());
@@ -162,7 +163,7 @@ fn test_place<O: Object>(
     requires apart { is_at hold.replica (exclusive_on seat.old.known.local) ≡ false }
     requires fresh { seat.old.known.local.fresh ≡ true }
     ensures taken { MatchResult result (TakesCurrent O.Object shared.now (record (all_rights seat.old) { shared = None }) seat.old seat.new) (λ _. HaltsTurn seat.old seat.new) }
-    ensures keeps { Keeps shared.now beside_read seat.old seat.new }
+    ensures leaves { Leaves shared.now beside_read 2 seat.old seat.new }
 {
     let place = root_place(shared.callers(), seat.seen_cur());
     let found = shared.load_word(seat, hold.replica() as u64, PLACE_AT, true)?;

@@ -1,12 +1,13 @@
 //! A turn for the caller's linked entry: a replica is prepared, published and made durable, by which the entry is answered.
 
-ghost use Rattle.std.specs.Prelude.{◌≡◌, IfOk, List, OnErr, OnOk, Some, ℕ};
+ghost use Rattle.std.specs.Prelude.{◌+◌, ◌≡◌, IfOk, List, OnErr, OnOk, Some, ℕ};
 ghost use Rattle.cx_rule.specs.Running.{IsSeatOf};
 ghost use Rattle.cx_rule.specs.Seats.{IsAtLimit, unanswered_ticket};
 ghost use Rattle.cx_rule.specs.Steps.{Halts};
 ghost use Rattle.cx_table.specs.Tokens.{IsDowngradedOf, IsWonOf};
-ghost use Rattle.cx_turns.specs.Answering.{AnswersBy, AnswersEntry, HaltsFor, HaltsWon, IsPublishedFor, IsReadyFor, TurnsFor, beside_update};
-ghost use Rattle.cx_turns.specs.Turns.{MayTurn, Turns};
+ghost use Rattle.cx_turns.specs.Answering.{AnswersBy, AnswersEntry, HaltsFor, HaltsWon, IsPublishedFor, IsReadyFor, TurnsFor, beside_settling, beside_update};
+ghost use Rattle.cx_turns.specs.Turns.{MayTurn, Turns, TurnsIn, cur_rises};
+ghost use Rattle.mutation_queue.specs.Leaves.{Leaves};
 ghost use Rattle.strong_trylock.specs.Held.{Has};
 
 use crate::preparing::{Prepared, prepare};
@@ -50,7 +51,7 @@ fn hand_over<O: Object>(
     requires ready { (ticket : ℕ) × (reply : List ℕ) × IsReadyFor O.Object shared.now ticket reply seat.old }
     ensures answered { (ticket : ℕ) (reply : List ℕ) → IsReadyFor O.Object shared.now ticket reply seat.old → OnOk result (AnswersEntry 1 ticket reply seat.old seat.new) }
     ensures halted { (ticket : ℕ) (reply : List ℕ) → IsReadyFor O.Object shared.now ticket reply seat.old → OnErr result (HaltsFor shared.now.callers ticket seat.old seat.new) }
-    ensures turns { Turns shared.now beside_update seat.old seat.new }
+    ensures turns { TurnsIn shared.now beside_update (3 + cur_rises seat.old seat.new) seat.old seat.new }
 {
     match publish(shared, seat, held)? {
         Published::Won(won) => settle_won(shared, seat, won),
@@ -65,7 +66,7 @@ fn settle_won<O: Object>(shared: &Shared<O>, seat: &mut CallerSeat, won: Won) ->
     requires published { (ticket : ℕ) × (reply : List ℕ) × IsPublishedFor O.Object shared.now won.code ticket reply seat.old }
     ensures answered { (ticket : ℕ) (reply : List ℕ) → IsPublishedFor O.Object shared.now won.code ticket reply seat.old → OnOk result (AnswersEntry 0 ticket reply seat.old seat.new) }
     ensures halted { (ticket : ℕ) (reply : List ℕ) → IsPublishedFor O.Object shared.now won.code ticket reply seat.old → OnErr result (HaltsWon ticket seat.old seat.new) }
-    ensures turns { Turns shared.now beside_update seat.old seat.new }
+    ensures leaves { Leaves shared.now beside_settling 2 seat.old seat.new }
 {
     answer(shared, seat, won.code())?;
     retire(shared, seat, won)?;

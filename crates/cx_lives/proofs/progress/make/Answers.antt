@@ -33,7 +33,7 @@ returns-in-Full g c =
     let m = g.O.TypedObject.meaning r.object in
     let n = c.args.number in
     full_turned m c.args.life.now r c.args.command.now.client (n - 1) n c.args.progress.caller c.args.progress.lines c.requires.served.lists (omega (arith, c.requires.number)) c.args.command.now.op c.words_of-op.result
-    c.words_of-op.ensures c.requires.named c.requires.op c.op_is_a_value.ensures c.in-Full.caller c.in-Full.note c.in-Full.ensures
+    c.words_of-op.ensures c.requires.named c.requires.op c.op_is_a_value.ensures c.args.most c.in-Full.caller c.in-Full.note c.in-Full.ensures
 
 pub returns-in-Worn : goal.returns-in-Worn
 returns-in-Worn g c =

@@ -13,7 +13,7 @@ copy_and_keep-requires-clause-source g c =
     let mid = c.load_current.new.seat in
     let new = c.take_current.new.seat in
     let taken : HoldsCurrent o t (all_rights mid) mid new c.in-Some.source = subst (TakesCurrent o t (all_rights mid) mid new) c.in-Some.is e.taken in
-    holds_source o t mid new c.args.held c.in-Some.source e.keeps.seat e.keeps.rest taken seen.at_image (seen.protection ∙ c.requires.none)
+    holds_source o t mid new c.args.held c.in-Some.source e.leaves.of e.leaves.rest taken seen.at_image (seen.protection ∙ c.requires.none)
 
 pub give_up-requires-clause-held : goal.give_up-requires-clause-held
 give_up-requires-clause-held g c =
@@ -23,4 +23,4 @@ give_up-requires-clause-held g c =
     let mid = c.load_current.new.seat in
     let new = c.take_current.new.seat in
     let missed : MissesCurrent (all_rights mid) mid new = subst (TakesCurrent o t (all_rights mid) mid new) c.in-None.is e.taken in
-    missed_image o t mid new c.args.held e.keeps.seat e.keeps.rest missed.left c.in_ok-load_current.ensures.seen.at_image
+    missed_image o t mid new c.args.held e.leaves.of e.leaves.rest missed.left c.in_ok-load_current.ensures.seen.at_image

@@ -11,11 +11,11 @@ returns-then-branch-clause-kept g c =
     let old = c.args.seat.now in
     let new = c.guard.new.seat in
     kept_at o t old new c.args.held c.args.ticket old (subst (Guards t.callers c.args.ticket old new) c.if-branch.true e.guarded) refl
-    (protected_image o t old new c.args.held e.keeps.seat e.keeps.rest c.requires.held)
+    (protected_image o t old new c.args.held e.leaves.of e.leaves.rest c.requires.held)
 
 pub copy_current-requires-clause-held : goal.copy_current-requires-clause-held
 copy_current-requires-clause-held g c =
     let t = c.args.shared.now in
     let o = g.O.Object in
     let e = c.in_ok-guard.ensures in
-    protected_image o t c.args.seat.now c.guard.new.seat c.args.held e.keeps.seat e.keeps.rest c.requires.held
+    protected_image o t c.args.seat.now c.guard.new.seat c.args.held e.leaves.of e.leaves.rest c.requires.held

@@ -1,7 +1,7 @@
-use Rattle.std.proofs.Common.{subst}
+use Rattle.std.proofs.Common.{arith, subst}
 use Rattle.std.proofs.lemmas.Result.{on_err_weaker, on_ok_weaker}
 use Rattle.publish.specs.Publishing.{PassedBy, Publishes, WinsCur}
-use Rattle.cx_turns.proofs.Answered.{answered_later, passed_answers, passed_halted, passed_published, passed_turns, won_halted, won_published}
+use Rattle.cx_turns.proofs.Answered.{answered_later, passed_answers, passed_halted, passed_published, passed_turns, settled_turns, won_halted, won_published}
 use Rattle.cx_turns.proofs.updating.hand_over.Goals as goal
 
 pub publish-requires : goal.publish-requires
@@ -41,6 +41,10 @@ returns-in-Won-clause-halted g c ticket reply ready =
     let published = won_published g.O.Object r ticket reply c.in-Won.won.code c.args.held.replica c.args.seat.now mid e.rest ready p.code c.requires.held.token.holds c.requires.held.token.few p.ended p.seen in
     on_err_weaker c.settle_won.result (won_halted ticket c.args.seat.now mid c.settle_won.new.seat e.rest e.counted e.most r.callers _ p.token.holds) (c.settle_won.ensures.halted ticket reply published)
 
+pub returns-in-Won-clause-turns : goal.returns-in-Won-clause-turns
+returns-in-Won-clause-turns g c =
+    settled_turns c.args.shared.now 2 c.args.seat.now c.publish.new.seat c.settle_won.new.seat (omega arith) c.publish.ensures.leaves c.settle_won.ensures.leaves
+
 pub returns-in-Passed-clause-answered : goal.returns-in-Passed-clause-answered
 returns-in-Passed-clause-answered g c ticket reply ready =
     let r = c.args.shared.now in
@@ -67,4 +71,4 @@ returns-in-Passed-clause-turns g c =
     let e = c.publish.ensures.leaves in
     let p : PassedBy r.callers c.in-Passed.found c.args.seat.now mid = subst (Publishes r.callers c.args.seat.now mid) c.in-Passed.is c.in_ok-won.ensures.published in
     let published = passed_published g.O.Object r ticket reply c.in-Passed.found c.args.seat.now mid e.rest ready p in
-    passed_turns ticket c.args.seat.now mid c.answer.new.seat e.rest e.counted e.most g.O.Object r c.in-Passed.found reply c.answer.result e.front (c.answer.ensures.answered ticket reply published) c.answer.ensures.halted
+    passed_turns ticket c.args.seat.now mid c.answer.new.seat e.rest e.counted e.most g.O.Object r c.in-Passed.found reply c.answer.result e (c.answer.ensures.answered ticket reply published) c.answer.ensures.halted

@@ -1,6 +1,6 @@
 use Rattle.std.proofs.Common.{◌≤◌, subst, sym}
 use Rattle.cx_turns.specs.Answering.{IsPublishedFor}
-use Rattle.cx_turns.proofs.Answered.{halted_turns, if_any_err, raised_most, retired_answers, retired_halted, retired_turns, still_won}
+use Rattle.cx_turns.proofs.Answered.{halted_leaves, if_any_err, raised_most, retired_answers, retired_halted, retired_leaves, still_won}
 use Rattle.cx_turns.proofs.updating.settle_won.Goals as goal
 
 pub retire-requires : goal.retire-requires
@@ -20,12 +20,12 @@ returns-in_err-retire-clause-halted g c ticket reply published =
     let by = c.in_ok-answer.ensures.answered ticket reply (subst (λ n. IsPublishedFor g.O.Object r n ticket reply c.args.seat.now) (sym c.code.ensures) published) in
     if_any_err c.from_residual-in_err-retire.result (retired_halted g.O.Object r c.code.result ticket reply c.args.seat.now c.answer.new.seat by c.retire.new.seat c.in_err-retire.ensures.halted)
 
-pub returns-in_err-retire-clause-turns : goal.returns-in_err-retire-clause-turns
-returns-in_err-retire-clause-turns g c =
+pub returns-in_err-retire-clause-leaves : goal.returns-in_err-retire-clause-leaves
+returns-in_err-retire-clause-leaves g c =
     let r = c.args.shared.now in
     let (ticket, reply, published) = c.requires.published in
     let by = c.in_ok-answer.ensures.answered ticket reply (subst (λ n. IsPublishedFor g.O.Object r n ticket reply c.args.seat.now) (sym c.code.ensures) published) in
-    halted_turns g.O.Object r c.code.result ticket reply c.args.seat.now c.answer.new.seat by c.retire.new.seat c.in_err-retire.ensures.halted
+    halted_leaves g.O.Object r c.code.result ticket reply c.args.seat.now c.answer.new.seat by c.retire.new.seat c.in_err-retire.ensures.halted
 
 pub returns-clause-answered : goal.returns-clause-answered
 returns-clause-answered g c ticket reply published =
@@ -34,10 +34,10 @@ returns-clause-answered g c ticket reply published =
     let made = c.in_ok-retire.ensures.retired in
     retired_answers g.O.Object r c.code.result ticket reply c.args.seat.now c.answer.new.seat by made.found c.retire.new.seat made.made published.rest published.ended
 
-pub returns-clause-turns : goal.returns-clause-turns
-returns-clause-turns g c =
+pub returns-clause-leaves : goal.returns-clause-leaves
+returns-clause-leaves g c =
     let r = c.args.shared.now in
     let (ticket, reply, published) = c.requires.published in
     let by = c.in_ok-answer.ensures.answered ticket reply (subst (λ n. IsPublishedFor g.O.Object r n ticket reply c.args.seat.now) (sym c.code.ensures) published) in
     let made = c.in_ok-retire.ensures.retired in
-    retired_turns g.O.Object r c.code.result ticket reply c.args.seat.now c.answer.new.seat by made.found c.retire.new.seat made.made
+    retired_leaves g.O.Object r c.code.result ticket reply c.args.seat.now c.answer.new.seat by made.found c.retire.new.seat made.made
