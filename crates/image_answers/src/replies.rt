@@ -1,7 +1,6 @@
 //! The clients' last commands, read from their slots.
 
-ghost use Rattle.std.specs.Prelude.{◌≡◌, ◌<◌, ◌≤◌, IfOk, MatchResult, length};
-ghost use Rattle.doc_model.specs.Words.{AreOfNoReply};
+ghost use Rattle.std.specs.Prelude.{◌<◌, ◌≤◌, IfOk, MatchResult, length};
 ghost use Rattle.image_answers.specs.Outcomes.{AreOutcomes, HoldsReplies, IsOutcomesFault, IsReplyFault, IsReplyOf, IsSlotFault, TellsSlot};
 
 use cx_base::Items;
