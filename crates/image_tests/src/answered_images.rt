@@ -25,6 +25,12 @@ const ANSWERS: &[Row] = &[
         ImageEnd::Fine,
         b"recovered place 1099511627776 documents 0\n",
     ),
+    // clients and keys in rising order
+    (
+        b"image 2 64 6720\nroot 23\n5040 5\n5048 3\n5049 6\n5052 7\n5193 2\n5194 3\n6208 1\n6209 4\n6211 10\n6213 3\n6218 1\n6219 2\n6220 1\n6221 3\n6222 1\n6225 97\n6233 49\n6240 1\n6241 7\n6242 2\n6243 5\n6244 1\n6245 6\n6246 3\n6249 98\n6257 2258978\n6266 1\n6267 8\n6268 1\n6269 9\n6270 8\n6273 99\n6281 9033476732818760315\n",
+        ImageEnd::Fine,
+        b"recovered place 5 documents 3\nclient 0 applied 3 = sum 7\nclient 1 applied 2 = deleted\ndocument a 1\ndocument b \"x\"\ndocument c {\"k\":[]}\n",
+    ),
     (
         b"image 1 64 3359\nroot 0\n",
         ImageEnd::BadImage,
@@ -70,6 +76,55 @@ const ANSWERS: &[Row] = &[
         b"image 1 64 3360\nroot 0\n0 5\n8 1\n1168 1\n",
         ImageEnd::BadImage,
         b"image refused: place 0 5\n",
+    ),
+    // words of three pairs that stand for no store
+    // a node below itself
+    (
+        b"image 2 64 6720\nroot 23\n5040 5\n5048 3\n5049 6\n5052 7\n5193 2\n5194 3\n6208 1\n6209 4\n6211 10\n6213 3\n6218 1\n6219 2\n6220 1\n6221 3\n6222 1\n6225 97\n6233 49\n6240 1\n6241 7\n6242 2\n6243 5\n6244 1\n6245 6\n6246 3\n6249 98\n6257 2258978\n6264 4\n6266 1\n6267 8\n6268 1\n6269 9\n6270 8\n6273 99\n6281 9033476732818760315\n",
+        ImageEnd::BadImage,
+        b"image refused: body\n",
+    ),
+    // a node twice
+    (
+        b"image 2 64 6720\nroot 23\n5040 5\n5048 3\n5049 6\n5052 7\n5193 2\n5194 3\n6208 1\n6209 4\n6211 10\n6213 3\n6218 1\n6219 2\n6220 1\n6221 3\n6222 1\n6225 97\n6233 49\n6240 1\n6241 1\n6242 2\n6243 5\n6244 1\n6245 6\n6246 3\n6249 98\n6257 2258978\n6266 1\n6267 8\n6268 1\n6269 9\n6270 8\n6273 99\n6281 9033476732818760315\n",
+        ImageEnd::BadImage,
+        b"image refused: body\n",
+    ),
+    // another height
+    (
+        b"image 2 64 6720\nroot 23\n5040 5\n5048 3\n5049 6\n5052 7\n5193 2\n5194 3\n6208 1\n6209 4\n6211 10\n6213 3\n6218 1\n6219 2\n6220 1\n6221 3\n6222 1\n6225 97\n6233 49\n6240 1\n6241 7\n6242 3\n6243 5\n6244 1\n6245 6\n6246 3\n6249 98\n6257 2258978\n6266 1\n6267 8\n6268 1\n6269 9\n6270 8\n6273 99\n6281 9033476732818760315\n",
+        ImageEnd::BadImage,
+        b"image refused: body\n",
+    ),
+    // keys that do not rise
+    (
+        b"image 2 64 6720\nroot 23\n5040 5\n5048 3\n5049 6\n5052 7\n5193 2\n5194 3\n6208 1\n6209 4\n6211 10\n6213 3\n6218 1\n6219 2\n6220 1\n6221 3\n6222 1\n6225 98\n6233 49\n6240 1\n6241 7\n6242 2\n6243 5\n6244 1\n6245 6\n6246 3\n6249 98\n6257 2258978\n6266 1\n6267 8\n6268 1\n6269 9\n6270 8\n6273 99\n6281 9033476732818760315\n",
+        ImageEnd::BadImage,
+        b"image refused: body\n",
+    ),
+    // a chain in two pairs
+    (
+        b"image 2 64 6720\nroot 23\n5040 5\n5048 3\n5049 6\n5052 7\n5193 2\n5194 3\n6208 1\n6209 4\n6211 10\n6213 3\n6218 1\n6219 2\n6220 1\n6221 3\n6222 1\n6225 97\n6233 49\n6240 1\n6241 7\n6242 2\n6243 2\n6244 1\n6245 6\n6246 3\n6249 98\n6257 2258978\n6266 1\n6267 8\n6268 1\n6269 9\n6270 8\n6273 99\n6281 9033476732818760315\n",
+        ImageEnd::BadImage,
+        b"image refused: body\n",
+    ),
+    // a chain that leaves the part
+    (
+        b"image 2 64 6720\nroot 23\n5040 5\n5048 3\n5049 6\n5052 7\n5193 2\n5194 3\n6208 1\n6209 4\n6211 10\n6213 3\n6218 1\n6219 2\n6220 1\n6221 3\n6222 1\n6225 97\n6233 49\n6240 1\n6241 7\n6242 2\n6243 64\n6244 1\n6245 6\n6246 3\n6249 98\n6257 2258978\n6266 1\n6267 8\n6268 1\n6269 9\n6270 8\n6273 99\n6281 9033476732818760315\n",
+        ImageEnd::BadImage,
+        b"image refused: body\n",
+    ),
+    // a line that is in no pair
+    (
+        b"image 2 64 6720\nroot 23\n5040 5\n5048 3\n5049 6\n5052 7\n5193 2\n5194 3\n6208 1\n6209 4\n6211 11\n6213 3\n6218 1\n6219 2\n6220 1\n6221 3\n6222 1\n6225 97\n6233 49\n6240 1\n6241 7\n6242 2\n6243 5\n6244 1\n6245 6\n6246 3\n6249 98\n6257 2258978\n6266 1\n6267 8\n6268 1\n6269 9\n6270 8\n6273 99\n6281 9033476732818760315\n",
+        ImageEnd::BadImage,
+        b"image refused: body\n",
+    ),
+    // another number of pairs
+    (
+        b"image 2 64 6720\nroot 23\n5040 5\n5048 3\n5049 6\n5052 7\n5193 2\n5194 3\n6208 1\n6209 4\n6211 10\n6213 2\n6218 1\n6219 2\n6220 1\n6221 3\n6222 1\n6225 97\n6233 49\n6240 1\n6241 7\n6242 2\n6243 5\n6244 1\n6245 6\n6246 3\n6249 98\n6257 2258978\n6266 1\n6267 8\n6268 1\n6269 9\n6270 8\n6273 99\n6281 9033476732818760315\n",
+        ImageEnd::BadImage,
+        b"image refused: body\n",
     ),
     (b"", ImageEnd::Refused, b"refused line 1: image\n"),
     (
