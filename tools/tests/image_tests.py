@@ -1,5 +1,6 @@
 """Tests of the reading of images, of what is said of a refused one, and of the program on images that no run leaves."""
 import json
+import random
 import re
 import subprocess
 import tempfile
@@ -153,28 +154,43 @@ class ProgramOnImages(unittest.TestCase):
         self.assertGreaterEqual(count, 10_380)
 
     def test_image_then_recover(self):
-        """What a run of one client leaves is read as what a dictionary keeps of its commands, and recovered so."""
+        """What a run leaves is read as what a dictionary keeps of its commands, where one client runs them, and recovered so."""
         for path in sorted(ROWS.glob("*.script")):
-            data = path.read_bytes()
-            status, text = self.ran("image", data)
-            if path.with_suffix(".refusal").exists():
-                self.assertEqual((3, path.with_suffix(".refusal").read_bytes()), (status, text))
-                continue
-            self.assertEqual(0, status)
-            script = read_script(data)
-            if not script.lives:
-                self.assertEqual(b"", text)
-                continue
             with self.subTest(path.stem):
-                found = recovered(read_image(text))
-                self.assertEqual(text, image_text(read_image(text)))
-                self.assertEqual(answer_of(text), self.ran("recover", text))
-                if all(life.clients == 1 and not life.cuts for life in script.lives):
-                    store, applied = Store(script.lines), 0
-                    for command in (command for life in script.lives for command in life.commands):
-                        reply = store.answer(command)
-                        applied += not command.reads
-                        last = reply if not command.reads else last
-                    self.assertEqual({key.encode(): text.encode() for key, text in store.documents.items()}, dict(found.documents))
-                    self.assertEqual(applied, found.place)
-                    self.assertEqual([(0, applied, last.encode())] if applied else [], found.outcomes)
+                refusal = path.with_suffix(".refusal")
+                if refusal.exists():
+                    self.assertEqual((3, refusal.read_bytes()), self.ran("image", path.read_bytes()))
+                else:
+                    self.compare(path.read_bytes())
+
+    def test_random_images(self):
+        for seed in range(60):
+            choice = random.Random(seed)
+            clients, lives = choice.choice([1, 1, 1, 2, 8]), choice.choice([1, 2, 3])
+            with self.subTest(seed):
+                self.compare(random_lives.script_text(choice, clients, lives, choice.randint(0, 60), cuts=clients > 1))
+
+    def compare(self, data):
+        """Compares the image of a script's last life, and what is recovered from it, with the reading of images and the store."""
+        script = read_script(data)
+        status, text = self.ran("image", data)
+        self.assertEqual(0, status)
+        if not script.lives:
+            self.assertEqual(b"", text)
+            return
+        image = read_image(text)
+        found = recovered(image)
+        self.assertEqual((script.lives[-1].clients, script.lines, text), (image.callers, image.lines, image_text(image)))
+        self.assertEqual(answer_of(text), self.ran("recover", text))
+        if all(life.clients == 1 and not life.cuts for life in script.lives):
+            self.assertEqual(kept_alone(script), (found.place, found.outcomes, dict(found.documents)))
+
+
+def kept_alone(script):
+    """The place, the outcome and the documents that one client's commands leave, which all are answered."""
+    store = Store(script.lines)
+    commands = [command for life in script.lives for command in life.commands]
+    replies = [(command, store.answer(command)) for command in commands]
+    answers = [reply.encode() for command, reply in replies if not command.reads]
+    outcomes = [(0, len(answers), answers[-1])] if answers else []
+    return len(answers), outcomes, {key.encode(): document.encode() for key, document in store.documents.items()}
