@@ -1,9 +1,11 @@
-"""Images that no run leaves: every word of a good one changed, trees and texts with one thing wrong, and texts that are none of an image.
+"""Images that no run leaves: every word of a good one changed, several things wrong, trees and texts with one thing wrong, and texts that
+are none of an image.
 
     hostile_images.py [PROGRAM]
 
 gives each to the program and compares status and text with the reading of image_text.py.
 """
+import random
 import subprocess
 import sys
 from concurrent.futures import ThreadPoolExecutor
@@ -369,9 +371,27 @@ def answer_of(data):
         return 3, f"refused line {refusal.line}: {refusal.reason}\n".encode()
 
 
+def mixed(count=400):
+    """Images with several things wrong, or none, so that the first check that fails is looked for, with a name."""
+    good = good_image()
+    region, roots = good.region_words, (good.root, good.root - 1, 2**41 + 1, 2**41 + 3, 2**64 - 1, 0)
+    for seed in range(count):
+        choice = random.Random(seed)
+        image = Image(choice.choice([1, 1, 1, 2]), 64, good.count, choice.choice(roots[:1] * 4 + roots), dict(good.words))
+        image.count = choice.choice([image.all_words] * 5 + [good.count, 0, 2**64 - 1])
+        if choice.random() < 0.5:
+            image.root = image.place * 2 * image.callers + 1
+        spots = [0, 1, 7, 8, 9, 152, 153, PART, PART + 1, PART + 3, PART + 5, PART + 8 * choice.randrange(12) + choice.randrange(8)]
+        for _ in range(choice.randrange(4)):
+            value = choice.choice([0, 1, 2, 9, 10, 2**40, choice.randrange(2**64)])
+            image = with_word(image, choice.choice(spots) + region * choice.randrange(2), value)
+        image.words = {at: value for at, value in image.words.items() if at < image.count}
+        yield f"mixed {seed}", image
+
+
 def every_image():
     """Each image with a name, its text, and what is owed: the whole table."""
-    yield from ((name, image_text(image), answer_to(image)) for name, image in changed_words())
+    yield from ((name, image_text(image), answer_to(image)) for name, image in [*changed_words(), *mixed()])
     yield from ((name, data, answer_of(data)) for name, data, _ in [*trees(), *slots()])
     yield from ((repr(data[:60]), data, answer_of(data)) for data in TEXTS)
 

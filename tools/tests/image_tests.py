@@ -84,6 +84,11 @@ class ReadImages(unittest.TestCase):
             image = hostile_images.with_word(good_image(), words + word, value)
             self.assertEqual((7, f"image refused: {fault}\n".encode()), answer_to(image))
 
+    def test_mixed_images_come_to_each_end(self):
+        ends = [answer_to(image)[1].split(b" ")[2 if answer_to(image)[0] else 0].split(b"\n")[0] for _, image in hostile_images.mixed()]
+        for end in (b"size", b"root", b"version", b"place", b"body", b"recovered"):
+            self.assertGreaterEqual(ends.count(end), 10, end)
+
     def test_a_fault_names_its_word(self):
         for name, data, good in hostile_images.trees():
             with self.subTest(name):
@@ -151,7 +156,7 @@ class ProgramOnImages(unittest.TestCase):
     def test_hostile_images(self):
         wrong, count = hostile_images.first_wrong(random_lives.PROGRAM, hostile_images.every_image())
         self.assertIsNone(wrong)
-        self.assertGreaterEqual(count, 10_380)
+        self.assertGreaterEqual(count, 10_780)
 
     def test_image_then_recover(self):
         """What a run leaves is read as what a dictionary keeps of its commands, where one client runs them, and recovered so."""
