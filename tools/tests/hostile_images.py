@@ -104,6 +104,21 @@ def good_image():
     return layout_of(PAIRS).image
 
 
+def dense_image(callers=8, lines=1_024):
+    """An image of a full store whose regions are all alike, and whose texts have no zero byte but at their ends."""
+    region = 8 * (146 + lines)
+    made = Layout(Image(callers, lines, 2 * callers * region, root=9 * 2 * callers + 2 * callers - 1))
+    made.image.words[made.image.start] = 9
+    for caller in range(8):
+        made.put_slot(caller, [10 + caller, 5, 0, 1_024, 0, 0, 0, 0] + [0] * 9 + [0x7E7E7E7E7E7E7E7E] * 128)
+    pairs = [(b"%03d" % at + b"~" * 61, b"~" * 1_024) for at in range((lines - 1) // 22)]
+    made.put_tree(1, pairs)
+    made.close(pairs)
+    words = {at - made.image.start: value for at, value in made.image.words.items()}
+    made.image.words = {region * replica + at: value for replica in range(2 * callers) for at, value in words.items()}
+    return made.image
+
+
 def with_word(image, at, value):
     words = dict(image.words)
     words.pop(at, None)

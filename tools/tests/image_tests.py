@@ -1,5 +1,6 @@
 """Tests of the reading of images, of what is said of a refused one, and of the program on images that no run leaves."""
 import json
+import os
 import random
 import re
 import subprocess
@@ -174,6 +175,40 @@ class ProgramOnImages(unittest.TestCase):
             clients, lives = choice.choice([1, 1, 1, 2, 8]), choice.choice([1, 2, 3])
             with self.subTest(seed):
                 self.compare(random_lives.script_text(choice, clients, lives, choice.randint(0, 60), cuts=clients > 1))
+
+    def test_dense_image(self):
+        """A text of 3 MB is answered within a second of a processor and 64 MiB."""
+        image = hostile_images.dense_image()
+        text = image_text(image)
+        self.assertGreater(len(text), 3_200_000)
+        with tempfile.TemporaryFile() as file, tempfile.TemporaryFile() as written:
+            file.write(text)
+            file.seek(0)
+            ran = subprocess.Popen([random_lives.PROGRAM, "recover"], stdin=file, stdout=written)
+            _, status, used = os.wait4(ran.pid, 0)
+            ran.returncode = os.waitstatus_to_exitcode(status)
+            written.seek(0)
+            self.assertEqual(answer_to(image), (ran.returncode, written.read()))
+        self.assertLess(used.ru_utime + used.ru_stime, 1)
+        self.assertLess(used.ru_maxrss, 64 * 1_024)
+
+    def test_most_documents(self):
+        """The image of as many pairs as 16,384 lines have room for."""
+        count = 16_383 // 3
+        script = b"lines 16384\nlife 1 power 0\n" + b"".join(b"0 put k%d %d\n" % (at, at) for at in range(count))
+        self.compare(script)
+        written = self.ran("recover", self.ran("image", script)[1])[1]
+        self.assertTrue(written.startswith(b"recovered place %d documents %d\n" % (count, count)))
+
+    def test_largest_text(self):
+        lines = b"".join(b"%d 18446744073709551615\n" % at for at in range(620_000))
+        text = b"image 8 16384 2115840\nroot 0\n" + lines
+        rows = [
+            (16_777_216, 7, b"image refused: version 18446744073709551615\n"),
+            (16_777_217, 8, b"refused: input over 16777216 bytes\n"),
+        ]
+        for size, status, written in rows:
+            self.assertEqual((status, written), self.ran("recover", text[: size - 1] + b"\n"))
 
     def compare(self, data):
         """Compares the image of a script's last life, and what is recovered from it, with the reading of images and the store."""
