@@ -4,7 +4,6 @@
 mod arguments;
 mod asked;
 mod command_line;
-mod counted_source;
 mod input;
 mod load;
 mod output;

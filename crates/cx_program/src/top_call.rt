@@ -1,22 +1,20 @@
 //! The top call: words and input in, status and text out.
 
-ghost use Rattle.std.specs.Prelude.{◌≡◌, ◌≤◌, ℕ, List, Option, map, string_bytes, length, false, IfOk, Some};
+ghost use Rattle.std.specs.Prelude.{◌≡◌, ◌+◌, ◌≤◌, ℕ, List, Option, map, string_bytes, length, false, IfOk, Some};
 ghost use Rattle.cx_program.specs.Answer.{Answers, HasCause, HasNone, Read, Wrote};
 ghost use Rattle.cx_program.specs.Commands.{command};
 ghost use Rattle.cx_program.specs.Input.{IsInput, Shows, TookAtMost};
 
 use crate::asked::Asked;
 use crate::command_line::read_words;
-use crate::input::{Input, read_uncounted};
+use crate::input::{Input, read_input};
 use crate::load::load_text;
 use crate::output::write_text;
 use crate::run::run_text;
 use crate::status::{Ended, Status};
 use cx_base::{Gate, Sink, Source};
 use std::alloc::{AllocError, Global};
-use std::marker::Brand;
 use std::sync::Wait;
-use std::sync::ledger::Blank;
 use std::thread::Threads;
 
 /// What is written where the words are no command.
@@ -41,7 +39,8 @@ pub fn cx_run<R: Threads + Wait + Sync, S: Source, K: Sink, G: Gate + Sync>(
     // A fault is told only where the object that was handed in counted one.
     ensures cause { HasCause result.status (S.faults source.old) (S.faults source.new) (K.faults sink.old) (K.faults sink.new) }
     ensures taken { TookAtMost 16777217 (S.left source.old) (S.left source.new) }
-    ensures unread { (Read (map string_bytes words.now) → ⊥) → S.left source.new ≡ S.left source.old }
+    ensures reads { S.reads source.new ≤ S.reads source.old + 16777217 }
+    ensures unread { (Read (map string_bytes words.now) → ⊥) → source.new ≡ source.old }
 {
     match read_words(alloc, words) {
         Ok(Some(asked)) => run_asked(rt, alloc, &asked, source, sink, gate),
@@ -76,7 +75,8 @@ fn run_asked<R: Threads + Wait + Sync, S: Source, K: Sink, G: Gate + Sync>(
     ensures none { HasNone result }
     ensures cause { HasCause result.status (S.faults source.old) (S.faults source.new) (K.faults sink.old) (K.faults sink.new) }
     ensures taken { TookAtMost 16777217 (S.left source.old) (S.left source.new) }
-    ensures unread { (command asked.now).reads ≡ false → S.left source.new ≡ S.left source.old }
+    ensures reads { S.reads source.new ≤ S.reads source.old + 16777217 }
+    ensures unread { (command asked.now).reads ≡ false → source.new ≡ source.old }
 {
     match input_of(alloc, asked, source) {
         Err(_) => Ended::without_lives(alloc, Status::Memory),
@@ -103,10 +103,11 @@ fn reads(asked: &Asked) -> bool
 fn input_of<S: Source>(alloc: Global, asked: &Asked, source: &mut S) -> Result<Input, AllocError>
     ensures input { IfOk result (Shows (command asked.now).reads (S.left source.old) (S.faults source.old) (S.faults source.new)) }
     ensures taken { TookAtMost 16777217 (S.left source.old) (S.left source.new) }
-    ensures unread { (command asked.now).reads ≡ false → S.left source.new ≡ S.left source.old }
+    ensures reads { S.reads source.new ≤ S.reads source.old + 16777217 }
+    ensures unread { (command asked.now).reads ≡ false → source.new ≡ source.old }
 {
     if reads(asked) {
-        read_uncounted::<S, Brand>(alloc, source, Blank::new(1))
+        read_input(alloc, source)
     } else {
         Ok(Input::Whole(Vec::new(alloc)))
     }
