@@ -518,7 +518,7 @@ class Program(unittest.TestCase):
         self.assertGreaterEqual(len(refused), 38)
         for words in refused:
             with self.subTest(words):
-                self.assertEqual((2, b"usage: cx_tool run | load FROM CLIENTS OPS\n", 0), self.ran(words, HEAD))
+                self.assertEqual((2, b"usage: cx_tool run | image | recover | load FROM CLIENTS OPS\n", 0), self.ran(words, HEAD))
 
     def test_a_load_writes_four_lines_and_reads_nothing(self):
         loads = json.loads((ROWS / "words.json").read_text("utf-8"))["loads"]

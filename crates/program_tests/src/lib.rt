@@ -1,4 +1,4 @@
-//! Tests of the program behind its `main`: its words, its gate, its standard ends and their faults. It has tests alone.
+//! Tests of the program behind its `main`: its words, its gate, its images, its standard ends and their faults. It has tests alone.
 #![tactic(auto)]
 
 #[cfg(test)]
@@ -9,6 +9,8 @@ mod gates;
 mod given_words;
 #[cfg(test)]
 mod holds;
+#[cfg(test)]
+mod images;
 #[cfg(test)]
 mod program_runs;
 #[cfg(test)]
