@@ -1,6 +1,8 @@
-//! Tests of images as text: texts that are read, refused and written. It has tests alone.
+//! Tests of images as text: texts that are read, refused and written, and what is told of the documents in an image. It has tests alone.
 #![tactic(auto)]
 
+#[cfg(test)]
+mod answered_images;
 #[cfg(test)]
 mod holds;
 #[cfg(test)]

@@ -1,0 +1,133 @@
+-- There is one answer for each image.
+use Rattle.std.proofs.Common.{◌≡◌, ◌≢◌, ℕ, All, List, [], ◌∷◌, map, Result, Ok, Err, IfOk, MatchResult, refl, ap, sym, subst, ◌∙◌, inl, inr, ◌⊎◌}
+use Rattle.std.proofs.lemmas.List.Elements.{All-head, All-tail}
+use Rattle.cx_base.specs.Store.{Store}
+use Rattle.cx_core.specs.Region.{object_part, slot_number, slot_reply}
+use Rattle.cx_core.specs.declared.entry.Base.{Base}
+use Rattle.cx_core.specs.declared.entry.Image.{Image}
+use Rattle.doc_model.proofs.ReplyKinds.{replies_same}
+use Rattle.doc_model.specs.declared.operations.Reply.{Reply}
+use Rattle.doc_store.specs.ExactStep.{IsImage}
+use Rattle.doc_text.specs.declared.recovered.Applied.{Applied}
+use Rattle.doc_text.specs.declared.recovered.Recovered.{Recovered}
+use Rattle.index_checks.proofs.LawfulWords.{store_is}
+use Rattle.recovery.specs.Images.{region_of}
+use Rattle.recovery.proofs.Exact.{exactly}
+use Rattle.recovery.specs.Recovery.{IsAccepted, IsFaultOf, IsRecovered, recovered_from}
+use Rattle.recovery.specs.declared.recovering.ImageFault.{ImageFault}
+use Rattle.recovery.specs.declared.recovering.ImageFault.TheVariants.{Size, Root, Version, Place, Body, Memory}
+use Rattle.image_answers.specs.Documents.{IsAnswerTo, IsDocumentFault, IsStoreImage, IsToldBy, TellsDocuments}
+use Rattle.image_answers.specs.Outcomes.{HoldsReplies, IsLastCommand, IsOutcomesFault, IsReplyOf}
+
+-- ---- what is recovered
+
+replies_one : (words : List ℕ) (one other : Reply) → IsReplyOf words one → IsReplyOf words other → one ≡ other
+replies_one words one other x y = replies_same one other x.whole.limits x.whole.number y.whole.limits y.whole.number (x.has ∙ sym y.has)
+
+commands_one : (region : List ℕ) (one other : Applied) → one.client ≡ other.client → IsLastCommand region one → IsLastCommand region other → one ≡ other
+commands_one region one other same x y =
+    let made : ℕ → ℕ → Reply → Applied = λ client number reply. record { client = client; number = number; reply = reply } in
+    let number : one.number ≡ other.number = x.number ∙ ap (λ c. slot_number c region) same ∙ sym y.number in
+    let reply : one.reply ≡ other.reply =
+    replies_one (slot_reply other.client region) one.reply other.reply (subst (λ c. IsReplyOf (slot_reply c region) one.reply) same x.reply) y.reply in
+    ap (λ c. made c one.number one.reply) same ∙ ap (λ n. made other.client n one.reply) number ∙ ap (made other.client other.number) reply
+
+all_commands_one : (region : List ℕ) (one other : List Applied) → map (λ (a : Applied). a.client) one ≡ map (λ (a : Applied). a.client) other
+    → All (IsLastCommand region) one → All (IsLastCommand region) other → one ≡ other
+all_commands_one region [] [] same xs ys = refl
+all_commands_one region [] (b ∷ other) same xs ys = absurd cc
+all_commands_one region (a ∷ one) [] same xs ys = absurd cc
+all_commands_one region (a ∷ one) (b ∷ other) same xs ys =
+    let first : a.client ≡ b.client = cc in
+    let later : map (λ (a : Applied). a.client) one ≡ map (λ (a : Applied). a.client) other = cc in
+    let head : a ≡ b = commands_one region a b first (All-head (IsLastCommand region) a one xs) (All-head (IsLastCommand region) b other ys) in
+    let tail : one ≡ other = all_commands_one region one other later (All-tail (IsLastCommand region) a one xs) (All-tail (IsLastCommand region) b other ys) in
+    rw (head, tail) refl
+
+told_one : (base : Base) (one other : Recovered) → IsToldBy base one → IsToldBy base other → one ≡ other
+told_one base one other x y =
+    let made : ℕ → List Applied → Store → Recovered = λ place outcomes documents. record { place = place; outcomes = outcomes; documents = documents } in
+    let place : one.place ≡ other.place = x.place ∙ sym y.place in
+    let outcomes : one.outcomes ≡ other.outcomes =
+    all_commands_one base.words one.outcomes other.outcomes (x.outcomes.clients ∙ sym y.outcomes.clients) x.outcomes.commands y.outcomes.commands in
+    let documents : one.documents ≡ other.documents =
+    sym (store_is (object_part base.words) 1 one.documents x.documents) ∙ store_is (object_part base.words) 1 other.documents y.documents in
+    ap (λ p. made p one.outcomes one.documents) place ∙ ap (λ o. made other.place o one.documents) outcomes ∙ ap (made other.place other.outcomes) documents
+
+-- ---- faults
+
+the_fault : {A : Type 0} (f g : ImageFault) → ◌≡◌ {A = Result A ImageFault} (Err f) (Err g) → f ≡ g
+the_fault f g same = cc
+
+-- the faults of recovery
+module _ (version : ℕ) (lawful : List ℕ → Type 0) (image : Image) where
+  fault_one : (f g : ImageFault) → IsFaultOf version lawful image f → f ≢ Memory → IsFaultOf version lawful image g → g ≢ Memory → f ≡ g
+  fault_one f (Size found) is some (same, fails) more =
+      the_fault f (Size found) ((exactly version lawful image (Err f) is (λ e. some (the_fault f Memory e))).size fails ∙ ap (λ n. Err (Size n)) (sym same))
+  fault_one f (Root found) is some (same, size, fails) more =
+      the_fault f (Root found) ((exactly version lawful image (Err f) is (λ e. some (the_fault f Memory e))).root size fails ∙ ap (λ n. Err (Root n)) (sym same))
+  fault_one f (Version found) is some (size, root, (same, fails)) more =
+      the_fault f (Version found) ((exactly version lawful image (Err f) is (λ e. some (the_fault f Memory e))).format size root fails ∙ ap (λ n. Err (Version n)) (sym same))
+  fault_one f (Place place found) is some (size, root, (same, at, format, fails)) more =
+      the_fault f (Place place found) ((exactly version lawful image (Err f) is (λ e. some (the_fault f Memory e))).at_place size root format fails ∙ rw (same, at) refl)
+  fault_one f Body is some (size, root, (format, at, fails)) more =
+      the_fault f Body ((exactly version lawful image (Err f) is (λ e. some (the_fault f Memory e))).body size root format at fails)
+  fault_one f Memory is some other more = absurd (more refl)
+
+  refused_is_not_accepted : (f : ImageFault) → IsFaultOf version lawful image f → f ≢ Memory → ¬ IsAccepted version lawful image
+  refused_is_not_accepted f is some accepted =
+      let wrong : ◌≡◌ {A = Result Base ImageFault} (Err f) (Ok (recovered_from image)) =
+      (exactly version lawful image (Err f) is (λ e. some (the_fault f Memory e))).accepted accepted in
+      absurd cc
+
+-- the same with the look at the slots
+kinds : (image : Image) (fault : ImageFault) → IsDocumentFault image fault
+    → IsFaultOf 1 (IsImage image.lines) image fault ⊎ ((fault ≡ Body) × IsStoreImage image × (¬ HoldsReplies (region_of image)))
+kinds image (Size found) is = inl is
+kinds image (Root found) is = inl is
+kinds image (Version found) is = inl is
+kinds image (Place root found) is = inl is
+kinds image Body (inl is) = inl is
+kinds image Body (inr is) = inr (refl, is.0, is.1)
+kinds image Memory is = inl is
+
+pub tells_nothing : (image : Image) (fault : ImageFault) → IsDocumentFault image fault → fault ≢ Memory → ¬ TellsDocuments image
+tells_nothing image fault is some tells =
+    elim (kinds image fault is) [
+      | inl plain ↦ refused_is_not_accepted 1 (IsImage image.lines) image fault plain some tells.accepted
+      | inr slots ↦ slots.2 tells.replies
+    ]
+
+document_fault_one : (image : Image) (f g : ImageFault) → IsDocumentFault image f → f ≢ Memory → IsDocumentFault image g → g ≢ Memory → f ≡ g
+document_fault_one image f g x some y more =
+    elim (kinds image f x) [
+      | inl f_plain ↦ elim (kinds image g y) [
+        | inl g_plain ↦ fault_one 1 (IsImage image.lines) image f g f_plain some g_plain more
+        | inr g_slots ↦ absurd (refused_is_not_accepted 1 (IsImage image.lines) image f f_plain some g_slots.1)
+      ]
+      | inr f_slots ↦ elim (kinds image g y) [
+        | inl g_plain ↦ absurd (refused_is_not_accepted 1 (IsImage image.lines) image g g_plain more f_slots.1)
+        | inr g_slots ↦ f_slots.0 ∙ sym g_slots.0
+      ]
+    ]
+
+-- ---- answers
+
+pub answers_one : (image : Image) (one other : Result Recovered ImageFault) → IsAnswerTo image one → IsAnswerTo image other
+    → one ≢ Err Memory → other ≢ Err Memory → one ≡ other
+answers_one image (Ok a) (Ok b) x y some more = ap Ok (told_one (recovered_from image) a b x.told y.told)
+answers_one image (Ok a) (Err g) x y some more = absurd (tells_nothing image g y (λ e. more (ap Err e)) x.tells)
+answers_one image (Err f) (Ok b) x y some more = absurd (tells_nothing image f x (λ e. some (ap Err e)) y.tells)
+answers_one image (Err f) (Err g) x y some more =
+    ap Err (document_fault_one image f g x (λ e. some (ap Err e)) y (λ e. more (ap Err e)))
+
+-- what is told by what recovery gives
+pub answered : (image : Image) (base : Base) (answer : Result Recovered ImageFault) → IsRecovered 1 (IsImage image.lines) image base
+    → MatchResult answer (IsToldBy base) (IsOutcomesFault base.words) → IfOk answer (λ _. HoldsReplies base.words) → IsAnswerTo image answer
+answered image base (Ok found) is told replies = record {
+  tells = record { accepted = is.accepted; replies = subst (λ (b : Base). HoldsReplies b.words) is.is replies };
+  told = subst (λ b. IsToldBy b found) is.is told;
+}
+answered image base (Err Body) is told replies = inr (is.accepted, subst (λ (b : Base). ¬ HoldsReplies b.words) is.is told)
+answered image base (Err Memory) is told replies = tt
+answered image base (Err fault) is told replies = absurd told

@@ -1,0 +1,63 @@
+//! What is recovered of documents from an image.
+
+ghost use Rattle.std.specs.Prelude.{◌≡◌, ◌≢◌, ◌≤◌, ℕ, Result, Err, IfOk, MatchResult, length};
+ghost use Rattle.cx_core.specs.Region.{object_part};
+ghost use Rattle.doc_store.specs.ExactStep.{IsImage};
+ghost use Rattle.index_checks.specs.Layout.{StandsFor};
+ghost use Rattle.recovery.specs.Images.{IsReadable};
+ghost use Rattle.recovery.specs.declared.recovering.ImageFault.TheVariants.{Memory};
+ghost use Rattle.image_answers.specs.Documents.{IsAnswerTo, IsToldBy};
+ghost use Rattle.image_answers.specs.Outcomes.{HoldsReplies, IsOutcomesFault};
+
+use crate::replies::outcomes_of;
+use cx_base::Items;
+use cx_core::{Base, Image, OBJECT_START};
+use doc_model::Pair;
+use doc_store::{DocStore, documents};
+use doc_text::Recovered;
+use recovery::{ImageFault, recover};
+use std::alloc::{AllocError, Global};
+
+/// What is recovered of documents from an image: the place of the root, the last command of each client with a number, and the
+/// pairs of the store. A refusal names the first check that the image does not pass, in the order of `ImageFault`, and `Body` also where a slot with
+/// a number holds no reply of documents.
+pub fn recovered(alloc: Global, image: &Image) -> Result<Recovered, ImageFault>
+    requires { IsReadable image.now.lines image.now }
+    ensures { IsAnswerTo image.now result }
+{
+    let base = recover(alloc, &DocStore::of(image.lines), image)?;
+    told_by(alloc, &base)
+}
+
+/// What a base tells of documents.
+fn told_by(alloc: Global, base: &Base) -> Result<Recovered, ImageFault>
+    requires words { 1168 ≤ length base.now.words }
+    requires lawful { (lines : ℕ) × IsImage lines (object_part base.now.words) }
+    ensures told { MatchResult result (IsToldBy base.now) (IsOutcomesFault base.now.words) }
+    ensures replies { IfOk result (λ _. HoldsReplies base.now.words) }
+{
+    let outcomes = outcomes_of(alloc, base)?;
+    let Ok(pairs) = pairs_of(alloc, base) else {
+        return Err(ImageFault::Memory);
+    };
+    Ok(Recovered {
+        place: base.place,
+        outcomes,
+        documents: Items::of(pairs),
+    })
+}
+
+/// The pairs of the store that a base stands for, in the order of their keys. `Err` is want of memory.
+fn pairs_of(alloc: Global, base: &Base) -> Result<Vec<Pair>, AllocError>
+    requires words { 1168 ≤ length base.now.words }
+    requires lawful { (lines : ℕ) × IsImage lines (object_part base.now.words) }
+    ensures { IfOk result (λ pairs. StandsFor (object_part base.now.words) 1 pairs.items) }
+{
+    let (_, part) = base.words.as_slice().split_at(OBJECT_START as usize);
+    documents(alloc, part)
+}
+
+/// The law that there is one answer for each image, want of memory aside.
+pub fn answers_are_one()
+    ensures { (image : Image) (one other : Result Recovered ImageFault) → IsAnswerTo image one → IsAnswerTo image other → one ≢ Err Memory → other ≢ Err Memory → one ≡ other }
+{}
