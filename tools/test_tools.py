@@ -36,6 +36,7 @@ import gate_minutes
 import plain_judge
 import random_faults
 import random_lives
+import stopped_clients
 from report_text import Fault, read_report, split_reply
 from script_text import Refusal, TooLong, read_script
 from wrong_reports import WRONG
@@ -529,6 +530,11 @@ class Program(unittest.TestCase):
 
     def test_random_scripts(self):
         self.assertIsNone(random_lives.compare(100, random_lives.Seen()))
+
+    def test_stopped_clients(self):
+        tables = stopped_clients.run_tables()
+        self.assertEqual([[], []], [table.wrong for table in tables])
+        self.assertEqual([], [table for table in tables if table.stopped() < 100])
 
     def test_examples(self):
         for example in EXAMPLES.glob("*.script"):
