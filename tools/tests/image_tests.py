@@ -177,20 +177,19 @@ class ProgramOnImages(unittest.TestCase):
                 self.compare(random_lives.script_text(choice, clients, lives, choice.randint(0, 60), cuts=clients > 1))
 
     def test_dense_image(self):
-        """A text of 3 MB is answered within a second of a processor and 64 MiB."""
+        """A text of 3 MB is answered within a second of a processor, in 64 MiB of addresses."""
         image = hostile_images.dense_image()
         text = image_text(image)
         self.assertGreater(len(text), 3_200_000)
         with tempfile.TemporaryFile() as file, tempfile.TemporaryFile() as written:
             file.write(text)
             file.seek(0)
-            ran = subprocess.Popen([random_lives.PROGRAM, "recover"], stdin=file, stdout=written)
+            ran = subprocess.Popen(["sh", "-c", 'ulimit -v 65536; exec "$0" recover', random_lives.PROGRAM], stdin=file, stdout=written)
             _, status, used = os.wait4(ran.pid, 0)
             ran.returncode = os.waitstatus_to_exitcode(status)
             written.seek(0)
             self.assertEqual(answer_to(image), (ran.returncode, written.read()))
         self.assertLess(used.ru_utime + used.ru_stime, 1)
-        self.assertLess(used.ru_maxrss, 64 * 1_024)
 
     def test_most_documents(self):
         """The image of as many pairs as 16,384 lines have room for."""
