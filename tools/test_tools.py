@@ -33,9 +33,11 @@ import clauses
 import draw_life
 import explain
 import gate_minutes
+import held_reader
 import plain_judge
 import random_faults
 import random_lives
+import stopped_clients
 from end_tests import Ends
 from image_tests import ImageExplanations, ProgramOnImages, ReadImages, usage
 from report_text import Fault, read_report, split_reply
@@ -531,6 +533,17 @@ class Program(unittest.TestCase):
 
     def test_random_scripts(self):
         self.assertIsNone(random_lives.compare(100, random_lives.Seen()))
+
+    def test_a_held_reader_enters_the_queue(self):
+        try:
+            self.assertTrue(any(held_reader.queued_reads() for _ in range(5)))
+        except held_reader.NotHeld as why:
+            self.skipTest(why)
+
+    def test_stopped_clients(self):
+        tables = stopped_clients.run_tables()
+        self.assertEqual([[], []], [table.wrong for table in tables])
+        self.assertEqual([], [table for table in tables if table.stopped() < 100])
 
     def test_examples(self):
         for example in EXAMPLES.glob("*.script"):

@@ -1,9 +1,11 @@
-"""Images that no run leaves: every word of a good one changed, trees and texts with one thing wrong, and texts that are none of an image.
+"""Images that no run leaves: every word of a good one changed, several things wrong, trees and texts with one thing wrong, and texts that
+are none of an image.
 
     hostile_images.py [PROGRAM]
 
 gives each to the program and compares status and text with the reading of image_text.py.
 """
+import random
 import subprocess
 import sys
 from concurrent.futures import ThreadPoolExecutor
@@ -100,6 +102,21 @@ def layout_of(pairs, given_back=2):
 
 def good_image():
     return layout_of(PAIRS).image
+
+
+def dense_image(callers=8, lines=1_024):
+    """An image of a full store whose regions are all alike, and whose texts have no zero byte but at their ends."""
+    region = 8 * (146 + lines)
+    made = Layout(Image(callers, lines, 2 * callers * region, root=9 * 2 * callers + 2 * callers - 1))
+    made.image.words[made.image.start] = 9
+    for caller in range(8):
+        made.put_slot(caller, [10 + caller, 5, 0, 1_024, 0, 0, 0, 0] + [0] * 9 + [0x7E7E7E7E7E7E7E7E] * 128)
+    pairs = [(b"%03d" % at + b"~" * 61, b"~" * 1_024) for at in range((lines - 1) // 22)]
+    made.put_tree(1, pairs)
+    made.close(pairs)
+    words = {at - made.image.start: value for at, value in made.image.words.items()}
+    made.image.words = {region * replica + at: value for replica in range(2 * callers) for at, value in words.items()}
+    return made.image
 
 
 def with_word(image, at, value):
@@ -369,9 +386,27 @@ def answer_of(data):
         return 3, f"refused line {refusal.line}: {refusal.reason}\n".encode()
 
 
+def mixed(count=400):
+    """Images with several things wrong, or none, so that the first check that fails is looked for, with a name."""
+    good = good_image()
+    region, roots = good.region_words, (good.root, good.root - 1, 2**41 + 1, 2**41 + 3, 2**64 - 1, 0)
+    for seed in range(count):
+        choice = random.Random(seed)
+        image = Image(choice.choice([1, 1, 1, 2]), 64, good.count, choice.choice(roots[:1] * 4 + roots), dict(good.words))
+        image.count = choice.choice([image.all_words] * 5 + [good.count, 0, 2**64 - 1])
+        if choice.random() < 0.5:
+            image.root = image.place * 2 * image.callers + 1
+        spots = [0, 1, 7, 8, 9, 152, 153, PART, PART + 1, PART + 3, PART + 5, PART + 8 * choice.randrange(12) + choice.randrange(8)]
+        for _ in range(choice.randrange(4)):
+            value = choice.choice([0, 1, 2, 9, 10, 2**40, choice.randrange(2**64)])
+            image = with_word(image, choice.choice(spots) + region * choice.randrange(2), value)
+        image.words = {at: value for at, value in image.words.items() if at < image.count}
+        yield f"mixed {seed}", image
+
+
 def every_image():
     """Each image with a name, its text, and what is owed: the whole table."""
-    yield from ((name, image_text(image), answer_to(image)) for name, image in changed_words())
+    yield from ((name, image_text(image), answer_to(image)) for name, image in [*changed_words(), *mixed()])
     yield from ((name, data, answer_of(data)) for name, data, _ in [*trees(), *slots()])
     yield from ((repr(data[:60]), data, answer_of(data)) for data in TEXTS)
 

@@ -1,5 +1,7 @@
 """Tests of the reading of images, of what is said of a refused one, and of the program on images that no run leaves."""
 import json
+import os
+import random
 import re
 import subprocess
 import tempfile
@@ -83,6 +85,11 @@ class ReadImages(unittest.TestCase):
             image = hostile_images.with_word(good_image(), words + word, value)
             self.assertEqual((7, f"image refused: {fault}\n".encode()), answer_to(image))
 
+    def test_mixed_images_come_to_each_end(self):
+        ends = [answer_to(image)[1].split(b" ")[2 if answer_to(image)[0] else 0].split(b"\n")[0] for _, image in hostile_images.mixed()]
+        for end in (b"size", b"root", b"version", b"place", b"body", b"recovered"):
+            self.assertGreaterEqual(ends.count(end), 10, end)
+
     def test_a_fault_names_its_word(self):
         for name, data, good in hostile_images.trees():
             with self.subTest(name):
@@ -150,31 +157,79 @@ class ProgramOnImages(unittest.TestCase):
     def test_hostile_images(self):
         wrong, count = hostile_images.first_wrong(random_lives.PROGRAM, hostile_images.every_image())
         self.assertIsNone(wrong)
-        self.assertGreaterEqual(count, 10_380)
+        self.assertGreaterEqual(count, 10_780)
 
     def test_image_then_recover(self):
-        """What a run of one client leaves is read as what a dictionary keeps of its commands, and recovered so."""
+        """What a run leaves is read as what a dictionary keeps of its commands, where one client runs them, and recovered so."""
         for path in sorted(ROWS.glob("*.script")):
-            data = path.read_bytes()
-            status, text = self.ran("image", data)
-            if path.with_suffix(".refusal").exists():
-                self.assertEqual((3, path.with_suffix(".refusal").read_bytes()), (status, text))
-                continue
-            self.assertEqual(0, status)
-            script = read_script(data)
-            if not script.lives:
-                self.assertEqual(b"", text)
-                continue
             with self.subTest(path.stem):
-                found = recovered(read_image(text))
-                self.assertEqual(text, image_text(read_image(text)))
-                self.assertEqual(answer_of(text), self.ran("recover", text))
-                if all(life.clients == 1 and not life.cuts for life in script.lives):
-                    store, applied = Store(script.lines), 0
-                    for command in (command for life in script.lives for command in life.commands):
-                        reply = store.answer(command)
-                        applied += not command.reads
-                        last = reply if not command.reads else last
-                    self.assertEqual({key.encode(): text.encode() for key, text in store.documents.items()}, dict(found.documents))
-                    self.assertEqual(applied, found.place)
-                    self.assertEqual([(0, applied, last.encode())] if applied else [], found.outcomes)
+                refusal = path.with_suffix(".refusal")
+                if refusal.exists():
+                    self.assertEqual((3, refusal.read_bytes()), self.ran("image", path.read_bytes()))
+                else:
+                    self.compare(path.read_bytes())
+
+    def test_random_images(self):
+        for seed in range(60):
+            choice = random.Random(seed)
+            clients, lives = choice.choice([1, 1, 1, 2, 8]), choice.choice([1, 2, 3])
+            with self.subTest(seed):
+                self.compare(random_lives.script_text(choice, clients, lives, choice.randint(0, 60), cuts=clients > 1))
+
+    def test_dense_image(self):
+        """A text of 3 MB is answered within a second of a processor, in 64 MiB of addresses."""
+        image = hostile_images.dense_image()
+        text = image_text(image)
+        self.assertGreater(len(text), 3_200_000)
+        with tempfile.TemporaryFile() as file, tempfile.TemporaryFile() as written:
+            file.write(text)
+            file.seek(0)
+            ran = subprocess.Popen(["sh", "-c", 'ulimit -v 65536; exec "$0" recover', random_lives.PROGRAM], stdin=file, stdout=written)
+            _, status, used = os.wait4(ran.pid, 0)
+            ran.returncode = os.waitstatus_to_exitcode(status)
+            written.seek(0)
+            self.assertEqual(answer_to(image), (ran.returncode, written.read()))
+        self.assertLess(used.ru_utime + used.ru_stime, 1)
+
+    def test_most_documents(self):
+        """The image of as many pairs as 16,384 lines have room for."""
+        count = 16_383 // 3
+        script = b"lines 16384\nlife 1 power 0\n" + b"".join(b"0 put k%d %d\n" % (at, at) for at in range(count))
+        self.compare(script)
+        written = self.ran("recover", self.ran("image", script)[1])[1]
+        self.assertTrue(written.startswith(b"recovered place %d documents %d\n" % (count, count)))
+
+    def test_largest_text(self):
+        lines = b"".join(b"%d 18446744073709551615\n" % at for at in range(620_000))
+        text = b"image 8 16384 2115840\nroot 0\n" + lines
+        rows = [
+            (16_777_216, 7, b"image refused: version 18446744073709551615\n"),
+            (16_777_217, 8, b"refused: input over 16777216 bytes\n"),
+        ]
+        for size, status, written in rows:
+            self.assertEqual((status, written), self.ran("recover", text[: size - 1] + b"\n"))
+
+    def compare(self, data):
+        """Compares the image of a script's last life, and what is recovered from it, with the reading of images and the store."""
+        script = read_script(data)
+        status, text = self.ran("image", data)
+        self.assertEqual(0, status)
+        if not script.lives:
+            self.assertEqual(b"", text)
+            return
+        image = read_image(text)
+        found = recovered(image)
+        self.assertEqual((script.lives[-1].clients, script.lines, text), (image.callers, image.lines, image_text(image)))
+        self.assertEqual(answer_of(text), self.ran("recover", text))
+        if all(life.clients == 1 and not life.cuts for life in script.lives):
+            self.assertEqual(kept_alone(script), (found.place, found.outcomes, dict(found.documents)))
+
+
+def kept_alone(script):
+    """The place, the outcome and the documents that one client's commands leave, which all are answered."""
+    store = Store(script.lines)
+    commands = [command for life in script.lives for command in life.commands]
+    replies = [(command, store.answer(command)) for command in commands]
+    answers = [reply.encode() for command, reply in replies if not command.reads]
+    outcomes = [(0, len(answers), answers[-1])] if answers else []
+    return len(answers), outcomes, {key.encode(): document.encode() for key, document in store.documents.items()}

@@ -37,6 +37,7 @@ SHELL = {
     "input open for writing alone": ('"$0" run 0>/dev/null', 4, b""),
     "input and output closed": ('"$0" run <&- >&-', 4, b""),
     "all closed": ('"$0" run <&- >&- 2>&-', 4, b""),
+    "stack of 512 KiB": ('ulimit -s 512 && "$0" run <"$1"', 0, REPORT),
     "input without an end": ('"$0" run </dev/zero', 8, TOO_LONG),
     "input without an end, output full": ('"$0" run </dev/zero >/dev/full', 5, b""),
 }

@@ -23,6 +23,7 @@ use life_laws::{fresh_bases_begin_with_nothing, operations_are_values, replies_a
 use life_records::{BorrowedLife, LifeRecord, Script, flag_stops};
 use recovery::{
     Image, ImageFault, closed_tables_are_whole, closed_tables_recover, crash_image, recover,
+    reopen_image,
 };
 use std::alloc::{AllocError, Global};
 use std::sync::Wait;
@@ -54,7 +55,8 @@ pub(crate) struct Ran<Reply> {
 /// Runs the lives of a script one after another, the first from the empty store and each next one from what was recovered after the
 /// loss of power that ended the one before. Each life is run as `run_life` runs it, with the same gate. Its service ended with a chain
 /// of codes; the life's choice, modulo their number, takes the one whose place ends what is kept. The record's stop lines say which
-/// stopped commands are among what was kept.
+/// stopped commands are among what was kept. The memory that the loss of power left is reopened (`reopen_image` of `recovery`): each
+/// replica is made the one that was recovered, and those are the words with which every replica of the next life begins.
 ///
 /// `Err` is want of memory, and gives nothing back, whichever lives were run before. The call waits for its workers, and does not return
 /// where a life does not end: see `run_life`.
@@ -91,7 +93,7 @@ impl<Reply> Lived<Reply> {
     }
 }
 
-/// Runs one life more, as `run_lives` does, from what the last one left.
+/// Runs one life more, as `run_lives` does, from what the last one left, and reopens the memory that this one leaves.
 ///
 /// `Err` is want of memory, and gives nothing back. The call waits for its workers, and does not return where the life does not end.
 pub fn run_next_life<O: TypedObject + Sync, R: Threads + Wait + Sync, G: Gate + Sync>(
@@ -176,7 +178,7 @@ fn run_one<O: TypedObject + Sync, R: Threads + Wait + Sync, G: Gate + Sync>(
     lose_power(alloc, object, base, life, told, remains)
 }
 
-// What a life leaves where it loses its power by the life's choice, and what is recovered.
+// What a life leaves where it loses its power by the life's choice, and what is recovered, with its memory reopened.
 fn lose_power<O: TypedObject>(
     alloc: Global,
     object: &O,
@@ -202,6 +204,7 @@ fn lose_power<O: TypedObject>(
             unreachable!()
         }
     };
+    let _memory = reopen_image(alloc, &image)?;
     let kept = next.place - base.place;
     let items = count_items(alloc, object, &next)?;
     let told = with_kept(told, kept, items);

@@ -8,11 +8,11 @@ use Rattle.std.proofs.lemmas.Bool.{ne_eqb}
 use Rattle.std.proofs.lemmas.List.{length-map}
 use Rattle.std.proofs.lemmas.Fmt.{decimal_is_IsNumeral}
 use Rattle.std.proofs.lemmas.List.Elements.{All-cons, All-nil}
-use Rattle.cx_program.specs.CommandLine.{HasForm, begins_with_hyphen}
+use Rattle.cx_program.specs.CommandLine.{HasForm, IsLone, begins_with_hyphen}
 use Rattle.cx_program.specs.Commands.{command}
-use Rattle.cx_program.specs.Words.{IsLoadOf, IsRun}
+use Rattle.cx_program.specs.Words.{IsAlone, IsLoadOf}
 use Rattle.cx_program.specs.declared.asked.Asked.{Asked}
-use Rattle.cx_program.specs.declared.asked.Asked.TheVariants.{Run, Load}
+use Rattle.cx_program.specs.declared.asked.Asked.TheVariants.{Run, Image, Recover, Load}
 
 abbrev IsPlain : List ℕ → Type 0
 IsPlain word = begins_with_hyphen word ≡ false
@@ -24,8 +24,8 @@ digits_plain (d ∷ ds) digits = ne_eqb d 45 (λ e. let bad : digit_value 45 < 1
 decimal_plain : (n : ℕ) → n < 2 ^ 64 → IsPlain (decimal n)
 decimal_plain n fits = digits_plain (decimal n) (decimal_is_IsNumeral n fits).0.1
 
-run_has_form : (words : List (List ℕ)) → IsRun words → HasForm words
-run_has_form words is = subst HasForm (sym is) (record { plain = All-cons IsPlain (codes "run") [] refl (All-nil IsPlain); form = inl refl })
+lone_has_form : (word : List ℕ) (words : List (List ℕ)) → IsLone word → IsPlain word → IsAlone word words → HasForm words
+lone_has_form word words lone plain is = subst HasForm (sym is) (record { plain = All-cons IsPlain word [] plain (All-nil IsPlain); form = inl (word, lone, refl) })
 
 load_has_form : (from clients ops : ℕ) (words : List (List ℕ)) → IsLoadOf from clients ops words → HasForm words
 load_has_form from clients ops words is =
@@ -38,22 +38,54 @@ load_has_form from clients ops words is =
       form = inr (decimal from, decimal clients, decimal ops, refl);
     })
 
+same_word : (word other : List ℕ) → word ∷ [] ≡ other ∷ [] → word ≡ other
+same_word word other is = cc
+
 -- words that ask for a command have its form
 pub has_form : (words : List (List ℕ)) (asked : Asked) → (command asked).asked words → HasForm words
-has_form words Run is = run_has_form words is
+has_form words Run is = lone_has_form (codes "run") words (inl refl) refl is
+has_form words Image is = lone_has_form (codes "image") words (inr (inl refl)) refl is
+has_form words Recover is = lone_has_form (codes "recover") words (inr (inr refl)) refl is
 has_form words (Load load) is = load_has_form load.from load.clients load.ops words is
 
--- words that are those of no command ask for none
-pub none_asked : (words : List (List ℕ)) → (IsRun words → ⊥) → ((from clients ops : ℕ) → IsLoadOf from clients ops words → ⊥)
-    → (asked : Asked) → (command asked).asked words → ⊥
-none_asked words no_run no_load Run is = no_run is
-none_asked words no_run no_load (Load load) is = no_load load.from load.clients load.ops is
+-- four words that are those of no load ask for nothing
+pub none_of_load : (words : List (List ℕ)) (first second third : List ℕ) → words ≡ codes "load" ∷ first ∷ second ∷ third ∷ []
+    → ((from clients ops : ℕ) → IsLoadOf from clients ops words → ⊥) → (asked : Asked) → (command asked).asked words → ⊥
+none_of_load words first second third are no_load Run is =
+    let bad : codes "load" ∷ first ∷ second ∷ third ∷ [] ≡ codes "run" ∷ [] = sym are ∙ is in cc
+none_of_load words first second third are no_load Image is =
+    let bad : codes "load" ∷ first ∷ second ∷ third ∷ [] ≡ codes "image" ∷ [] = sym are ∙ is in cc
+none_of_load words first second third are no_load Recover is =
+    let bad : codes "load" ∷ first ∷ second ∷ third ∷ [] ≡ codes "recover" ∷ [] = sym are ∙ is in cc
+none_of_load words first second third are no_load (Load load) is = no_load load.from load.clients load.ops is
+
+-- a word that is none of these asks for nothing alone
+pub none_alone : (word : List ℕ) → (word ≡ codes "run" → ⊥) → (word ≡ codes "image" → ⊥) → (word ≡ codes "recover" → ⊥)
+    → (asked : Asked) → (command asked).asked (word ∷ []) → ⊥
+none_alone word no_run no_image no_recover Run is = no_run (same_word word (codes "run") is)
+none_alone word no_run no_image no_recover Image is = no_image (same_word word (codes "image") is)
+none_alone word no_run no_image no_recover Recover is = no_recover (same_word word (codes "recover") is)
+none_alone word no_run no_image no_recover (Load load) is =
+    let bad : word ∷ [] ≡ codes "load" ∷ decimal load.from ∷ decimal load.clients ∷ decimal load.ops ∷ [] = is.are in cc
+
+-- words of the form are one or four
+pub one_or_four : (words : List (String Global)) → HasForm (map string_bytes words) → (length words ≡ 1 → ⊥) → (length words ≡ 4 → ⊥) → ⊥
+one_or_four words has not_one not_four = elim has.form [
+  | inl lone ↦ not_one (sym (length-map words string_bytes) ∙ ap length lone.2)
+  | inr load ↦ not_four (sym (length-map words string_bytes) ∙ ap length load.3)
+]
+
+-- the bytes of one word
+pub one_word : (words : List (String Global)) (word : String Global) → length words ≡ 1 → word ≡ get_or words 0 word → map string_bytes words ≡ string_bytes word ∷ []
+one_word [] word one is = absurd (omega (arith, one))
+one_word (w ∷ []) word one is = cc
+one_word (w ∷ v ∷ words) word one is = absurd (omega (arith, one))
 
 -- four words of the form are those of a load
 load_words : (words : List (List ℕ)) (first second third : List ℕ) → HasForm words → 4 ≤ length words
     → words ≡ codes "load" ∷ get_or words 1 first ∷ get_or words 2 second ∷ get_or words 3 third ∷ []
 load_words words first second third has four = elim has.form [
-  | inl run ↦ absurd (omega (arith, four, ap length run))
+  | inl lone ↦ absurd (omega (arith, four, ap length lone.2))
   | inr load ↦ subst (λ (ws : List (List ℕ)). ws ≡ codes "load" ∷ get_or ws 1 first ∷ get_or ws 2 second ∷ get_or ws 3 third ∷ []) (sym load.3) refl
 ]
 

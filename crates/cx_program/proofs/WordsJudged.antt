@@ -1,5 +1,5 @@
 -- Which words the parser of the command line refuses.
-use Rattle.std.proofs.Common.{◌≡◌, ◌⊎◌, inl, inr, ◌∙◌, refl, sym, ap, subst, ℕ, false, List, [], ◌∷◌, ◌++◌, codes, arith, Some, None, All, append_assoc, append-nil, fold, length, get_or, ◌<◌}
+use Rattle.std.proofs.Common.{◌≡◌, ◌⊎◌, inl, inr, ◌∙◌, refl, sym, ap, subst, ℕ, true, false, List, [], ◌∷◌, ◌++◌, codes, arith, Some, None, All, append_assoc, append-nil, fold, length, get_or, ◌<◌}
 use Rattle.std.specs.Bool.{Decides}
 use Rattle.std.specs.Str.{bytes_eq}
 use Rattle.std.proofs.lemmas.Bool.{cases_Bool}
@@ -13,17 +13,25 @@ use Rattle.clap.specs.Walk.{Names, Rule, Text, Walk, walk, walked, walk_from, no
 use Rattle.clap.specs.declared.error.kind.ErrorKind.{ErrorKind}
 use Rattle.clap.specs.declared.error.kind.ErrorKind.TheVariants.{InvalidSubcommand, MissingRequiredArgument, OutOfMemory, UnknownArgument}
 use Rattle.clap.proofs.OnLiterals.{clap_on_literals}
-use Rattle.cx_program.specs.CommandLine.{HasForm, begins_with_hyphen, load_app, program}
+use Rattle.cx_program.specs.CommandLine.{HasForm, IsForm, IsLone, begins_with_hyphen, load_app, program}
 
 -- without a command the words are refused
 pub none_missing : fault_of program [] ≡ [] → ⊥
 unfolding clap_on_literals
 none_missing e = cc
 
--- the command `run` is taken
-pub run_taken : fault_of program (codes "run" ∷ []) ≡ []
+-- the commands that are one word are taken
+run_taken : fault_of program (codes "run" ∷ []) ≡ []
 unfolding clap_on_literals
 run_taken = refl
+
+image_taken : fault_of program (codes "image" ∷ []) ≡ []
+unfolding clap_on_literals
+image_taken = refl
+
+recover_taken : fault_of program (codes "recover" ∷ []) ≡ []
+unfolding clap_on_literals
+recover_taken = refl
 
 -- a word that does not begin with a hyphen, and one that is no flag
 abbrev IsPlain : List ℕ → Type 0
@@ -69,21 +77,21 @@ abbrev labels : Names
 labels = names_of (built program)
 
 -- the subcommands, as they are built
-abbrev run_level : Shape
-run_level = built_leaf (inherited top (new_shape (codes "run")))
+abbrev lone_level : List ℕ → Shape
+lone_level name = built_leaf (inherited top (new_shape name))
 
 abbrev load_level : Shape
 load_level = built_leaf (inherited top load_app.top)
 
--- no argument follows `run`
-run_strays : (v : List ℕ) (more : List (List ℕ)) → IsPlainWord v → level_fault run_level [] nothing_held (v ∷ more) false [] ≡ UnknownArgument ∷ []
+-- no argument follows a command that is one word
+lone_strays : (name v : List ℕ) (more : List (List ℕ)) → IsPlainWord v → level_fault (lone_level name) [] nothing_held (v ∷ more) false [] ≡ UnknownArgument ∷ []
 unfolding clap_on_literals
-run_strays v more p = rw (p.dashes, p.long, p.short) refl
+lone_strays name v more p = rw (p.dashes, p.long, p.short) refl
 
-run_alone : (rest : List (List ℕ)) → All IsPlain rest → level_fault run_level [] nothing_held rest false [] ≡ [] → rest ≡ []
-run_alone [] plain e = refl
-run_alone (v ∷ more) plain e =
-    let strays : UnknownArgument ∷ [] ≡ [] = sym (run_strays v more (nth_plain (v ∷ more) plain 0 (omega arith))) ∙ e in cc
+lone_alone : (name : List ℕ) (rest : List (List ℕ)) → All IsPlain rest → level_fault (lone_level name) [] nothing_held rest false [] ≡ [] → rest ≡ []
+lone_alone name [] plain e = refl
+lone_alone name (v ∷ more) plain e =
+    let strays : UnknownArgument ∷ [] ≡ [] = sym (lone_strays name v more (nth_plain (v ∷ more) plain 0 (omega arith))) ∙ e in cc
 
 -- three numbers follow `load`
 load_needs_from : level_fault load_level [] nothing_held [] false [] ≡ MissingRequiredArgument ∷ []
@@ -128,26 +136,41 @@ after name level rest stops enters e =
     ap (λ (w : Walk). fold (walked top.rules labels) w rest) stops ∙ fold_stopped top.rules labels (walk_from nothing_held) name [] rest in
     sym (enters rest) ∙ subst (λ (w : Walk). entered_fault (built program) w.stopped ≡ []) stopped below
 
-after_run : (rest : List (List ℕ)) → fault_of program (codes "run" ∷ rest) ≡ [] → level_fault run_level [] nothing_held rest false [] ≡ []
+after_run : (rest : List (List ℕ)) → fault_of program (codes "run" ∷ rest) ≡ [] → level_fault (lone_level (codes "run")) [] nothing_held rest false [] ≡ []
 unfolding walked
-after_run rest e = after (codes "run") run_level rest refl (λ past. refl) e
+after_run rest e = after (codes "run") (lone_level (codes "run")) rest refl (λ past. refl) e
+
+after_image : (rest : List (List ℕ)) → fault_of program (codes "image" ∷ rest) ≡ [] → level_fault (lone_level (codes "image")) [] nothing_held rest false [] ≡ []
+unfolding walked
+after_image rest e = after (codes "image") (lone_level (codes "image")) rest refl (λ past. refl) e
+
+after_recover : (rest : List (List ℕ)) → fault_of program (codes "recover" ∷ rest) ≡ [] → level_fault (lone_level (codes "recover")) [] nothing_held rest false [] ≡ []
+unfolding walked
+after_recover rest e = after (codes "recover") (lone_level (codes "recover")) rest refl (λ past. refl) e
 
 after_load : (rest : List (List ℕ)) → fault_of program (codes "load" ∷ rest) ≡ [] → level_fault load_level [] nothing_held rest false [] ≡ []
 unfolding walked
 after_load rest e = after (codes "load") load_level rest refl (λ past. refl) e
 
 -- a first word that names no command is refused
-strays : (w : List ℕ) (rest : List (List ℕ)) → IsPlainWord w → bytes_eq (codes "run") w ≡ false → bytes_eq (codes "load") w ≡ false → fault_of program (w ∷ rest) ≡ UnknownArgument ∷ InvalidSubcommand ∷ []
+record IsOther (w : List ℕ) : Type 0 where
+  run : bytes_eq (codes "run") w ≡ false
+  image : bytes_eq (codes "image") w ≡ false
+  recover : bytes_eq (codes "recover") w ≡ false
+  load : bytes_eq (codes "load") w ≡ false
+
+strays : (w : List ℕ) (rest : List (List ℕ)) → IsPlainWord w → IsOther w → fault_of program (w ∷ rest) ≡ UnknownArgument ∷ InvalidSubcommand ∷ []
 unfolding clap_on_literals
-strays w rest p no_run no_load = rw (no_run, no_load, p.dashes, p.long, p.short) refl
+strays w rest p other = rw (other.run, other.image, other.recover, other.load, p.dashes, p.long, p.short) refl
 
-other_refused : (w : List ℕ) (rest : List (List ℕ)) → IsPlainWord w → bytes_eq (codes "run") w ≡ false → bytes_eq (codes "load") w ≡ false → fault_of program (w ∷ rest) ≡ [] → ⊥
-other_refused w rest p no_run no_load e =
-    let bad : UnknownArgument ∷ InvalidSubcommand ∷ [] ≡ [] = sym (strays w rest p no_run no_load) ∙ e in cc
+other_refused : (w : List ℕ) (rest : List (List ℕ)) → IsPlainWord w → IsOther w → fault_of program (w ∷ rest) ≡ [] → ⊥
+other_refused w rest p other e =
+    let bad : UnknownArgument ∷ InvalidSubcommand ∷ [] ≡ [] = sym (strays w rest p other) ∙ e in cc
 
-named_run : (w : List ℕ) (rest : List (List ℕ)) → All IsPlain rest → codes "run" ≡ w → fault_of program (w ∷ rest) ≡ [] → w ∷ rest ≡ codes "run" ∷ []
-named_run w rest plain is e =
-    let alone : rest ≡ [] = run_alone rest plain (after_run rest (subst (λ (v : List ℕ). fault_of program (v ∷ rest) ≡ []) (sym is) e)) in cc
+named_lone : (name w : List ℕ) (rest : List (List ℕ)) → All IsPlain rest → name ≡ w
+    → (fault_of program (name ∷ rest) ≡ [] → level_fault (lone_level name) [] nothing_held rest false [] ≡ []) → fault_of program (w ∷ rest) ≡ [] → w ∷ rest ≡ name ∷ []
+named_lone name w rest plain is after_name e =
+    let alone : rest ≡ [] = lone_alone name rest plain (after_name (subst (λ (v : List ℕ). fault_of program (v ∷ rest) ≡ []) (sym is) e)) in cc
 
 named_load : (w : List ℕ) (rest : List (List ℕ)) → All IsPlain rest → codes "load" ≡ w → fault_of program (w ∷ rest) ≡ [] → (a b c : List ℕ) × (w ∷ rest ≡ codes "load" ∷ a ∷ b ∷ c ∷ [])
 named_load w rest plain is e =
@@ -155,23 +178,35 @@ named_load w rest plain is e =
     (three.0, three.1, three.2, cc)
 
 -- words that pass are those of a command
-pub passes_only_forms : (words : List (List ℕ)) → All IsPlain words → fault_of program words ≡ [] → (words ≡ codes "run" ∷ []) ⊎ ((a b c : List ℕ) × (words ≡ codes "load" ∷ a ∷ b ∷ c ∷ []))
+pub passes_only_forms : (words : List (List ℕ)) → All IsPlain words → fault_of program words ≡ [] → IsForm words
 passes_only_forms [] no_hyphen e = absurd (none_missing e)
 passes_only_forms (w ∷ rest) no_hyphen e =
     let others : All IsPlain rest = All-tail IsPlain w rest no_hyphen in
-    let is_run : Decides (bytes_eq (codes "run") w) (codes "run" ≡ w) = bytes_eq-Decides (codes "run") w in
-    let is_load : Decides (bytes_eq (codes "load") w) (codes "load" ≡ w) = bytes_eq-Decides (codes "load") w in
+    let is : (name : List ℕ) → bytes_eq name w ≡ true → name ≡ w = λ name same. (bytes_eq-Decides name w).0 same in
     elim (cases_Bool (bytes_eq (codes "run") w)) [
-      | inl run ↦ inl (named_run w rest others (is_run.0 run) e)
-      | inr no_run ↦ elim (cases_Bool (bytes_eq (codes "load") w)) [
-        | inl load ↦ inr (named_load w rest others (is_load.0 load) e)
-        | inr no_load ↦ absurd (other_refused w rest (plain w (All-head IsPlain w rest no_hyphen)) no_run no_load e)
+      | inl run ↦ inl (codes "run", inl refl, named_lone (codes "run") w rest others (is (codes "run") run) (after_run rest) e)
+      | inr no_run ↦ elim (cases_Bool (bytes_eq (codes "image") w)) [
+        | inl image ↦ inl (codes "image", inr (inl refl), named_lone (codes "image") w rest others (is (codes "image") image) (after_image rest) e)
+        | inr no_image ↦ elim (cases_Bool (bytes_eq (codes "recover") w)) [
+          | inl recover ↦ inl (codes "recover", inr (inr refl), named_lone (codes "recover") w rest others (is (codes "recover") recover) (after_recover rest) e)
+          | inr no_recover ↦ elim (cases_Bool (bytes_eq (codes "load") w)) [
+            | inl load ↦ inr (named_load w rest others (is (codes "load") load) e)
+            | inr no_load ↦
+                let other : IsOther w = record { run = no_run; image = no_image; recover = no_recover; load = no_load } in
+                absurd (other_refused w rest (plain w (All-head IsPlain w rest no_hyphen)) other e)
+          ]
+        ]
       ]
     ]
 
 -- and those of a command pass
-pub forms_pass : (words : List (List ℕ)) → All IsPlain words → (words ≡ codes "run" ∷ []) ⊎ ((a b c : List ℕ) × (words ≡ codes "load" ∷ a ∷ b ∷ c ∷ [])) → fault_of program words ≡ []
-forms_pass words no_hyphen (inl run) = subst (λ (ws : List (List ℕ)). fault_of program ws ≡ []) (sym run) run_taken
+lone_taken : (word : List ℕ) → IsLone word → fault_of program (word ∷ []) ≡ []
+lone_taken word (inl run) = subst (λ (w : List ℕ). fault_of program (w ∷ []) ≡ []) (sym run) run_taken
+lone_taken word (inr (inl image)) = subst (λ (w : List ℕ). fault_of program (w ∷ []) ≡ []) (sym image) image_taken
+lone_taken word (inr (inr recover)) = subst (λ (w : List ℕ). fault_of program (w ∷ []) ≡ []) (sym recover) recover_taken
+
+pub forms_pass : (words : List (List ℕ)) → All IsPlain words → IsForm words → fault_of program words ≡ []
+forms_pass words no_hyphen (inl lone) = subst (λ (ws : List (List ℕ)). fault_of program ws ≡ []) (sym lone.2) (lone_taken lone.0 lone.1)
 forms_pass words no_hyphen (inr load) =
     let ws : List (List ℕ) = codes "load" ∷ load.0 ∷ load.1 ∷ load.2 ∷ [] in
     let here : All IsPlain ws = subst (λ (ws : List (List ℕ)). All IsPlain ws) load.3 no_hyphen in

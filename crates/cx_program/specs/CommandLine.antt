@@ -29,13 +29,21 @@ program = record {
     disable_help_subcommand = true;
     subcommand_required = true;
   };
-  subs = new_shape (codes "run") ∷ load_app.top ∷ [];
+  subs = new_shape (codes "run") ∷ new_shape (codes "image") ∷ new_shape (codes "recover") ∷ load_app.top ∷ [];
 }
+
+-- a word that is a command by itself
+abbrev pub IsLone : List ℕ → Type 0
+IsLone word = (word ≡ codes "run") ⊎ ((word ≡ codes "image") ⊎ (word ≡ codes "recover"))
+
+-- one such word alone, or `load` and three more
+abbrev pub IsForm : List (List ℕ) → Type 0
+IsForm words = ((word : List ℕ) × IsLone word × (words ≡ word ∷ [])) ⊎ ((a b c : List ℕ) × (words ≡ codes "load" ∷ a ∷ b ∷ c ∷ []))
 
 -- The words have the form of a command, and none begins with a hyphen.
 pub record HasForm (words : List (List ℕ)) : Type 0 where
   pub plain : All (λ word. begins_with_hyphen word ≡ false) words
-  pub form : (words ≡ codes "run" ∷ []) ⊎ ((a b c : List ℕ) × (words ≡ codes "load" ∷ a ∷ b ∷ c ∷ []))
+  pub form : IsForm words
 
 -- the words pass, where no kind of fault does; a fault has one of the kinds, or memory ran out
 abbrev pub IsJudged : Kinds → Result Unit ErrorKind → Type 0

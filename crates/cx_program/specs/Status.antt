@@ -1,5 +1,7 @@
--- The exit codes.
+-- The exit codes, and the status with which a text about an image is written.
 use Rattle.std.specs.Prelude.{ℕ}
+use Rattle.image_answers.specs.declared.answering.ImageEnd.{ImageEnd}
+use Rattle.image_answers.specs.declared.answering.ImageEnd.TheVariants as ends
 use Rattle.cx_program.specs.declared.status.Status.{Status}
 use Rattle.cx_program.specs.declared.status.Status.TheVariants.{Fine, Usage, Refused, ReadFault, WriteFault, Memory, BadImage, TooLong}
 
@@ -12,3 +14,8 @@ code_of WriteFault = 5
 code_of Memory = 6
 code_of BadImage = 7
 code_of TooLong = 8
+
+abbrev pub status_of : ImageEnd → Status
+status_of ends.Fine = Fine
+status_of ends.Refused = Refused
+status_of ends.BadImage = BadImage

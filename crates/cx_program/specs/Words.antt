@@ -3,9 +3,9 @@ use Rattle.std.specs.Prelude.{◌≡◌, ℕ, List, [], ◌∷◌, codes}
 use Rattle.std.specs.Fmt.{decimal}
 use Rattle.doc_text.specs.Generated.{IsLoad}
 
--- the words are the command `run`
-abbrev pub IsRun : List (List ℕ) → Type 0
-IsRun words = words ≡ codes "run" ∷ []
+-- the words are this one alone
+abbrev pub IsAlone : List ℕ → List (List ℕ) → Type 0
+IsAlone word words = words ≡ word ∷ []
 
 -- the words are the command `load` with these numbers, which are within its limits
 pub record IsLoadOf (from clients ops : ℕ) (words : List (List ℕ)) : Type 0 where

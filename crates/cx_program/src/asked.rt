@@ -45,8 +45,12 @@ impl Load {
 /// A command that words ask for.
 #[derive(Drop)]
 pub(crate) enum Asked {
-    /// That a script is run.
+    /// That a script is run, and reported.
     Run,
+    /// That a script is run, and what the last loss of power left is written.
+    Image,
+    /// That it is told what is recovered from an image.
+    Recover,
     /// That a script is made and run.
     Load(Load),
 }

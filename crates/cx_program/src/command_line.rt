@@ -1,6 +1,6 @@
 //! What the words behind the program's name are, as the command line's parser reads them.
 
-ghost use Rattle.std.specs.Prelude.{◌≡◌, ◌↔◌, map, string_bytes, All, Any, IfOk, IsTrue, true, false};
+ghost use Rattle.std.specs.Prelude.{◌≡◌, ◌↔◌, [], ◌∷◌, map, string_bytes, All, Any, IfOk, IsTrue, true, false};
 ghost use Rattle.clap.specs.Faults.{fault_of};
 ghost use Rattle.clap.specs.Kinds.{FailsBy};
 ghost use Rattle.clap.specs.Words.{app_of, rule_of};
@@ -24,7 +24,7 @@ pub(crate) fn read_words(alloc: Global, words: &[String]) -> Result<Option<Asked
     }
 }
 
-// What words ask for that have the form of a command: `run` alone, or `load` and three more.
+// What words ask for that have the form of a command: one word alone, or `load` and three more.
 fn asked_by(words: &[String]) -> Option<Asked>
     requires { HasForm (map string_bytes words.now) }
     ensures { (command_of result).asked (map string_bytes words.now) }
@@ -34,7 +34,20 @@ fn asked_by(words: &[String]) -> Option<Asked>
             Some(load) => Some(Asked::Load(load)),
             None => None,
         },
-        _ => Some(Asked::Run),
+        [word] => asked_alone(word.as_str()),
+        _ => None,
+    }
+}
+
+// What a word alone asks for, if anything.
+fn asked_alone(word: &str) -> Option<Asked>
+    ensures { (command_of result).asked (word.now ∷ []) }
+{
+    match word {
+        "run" => Some(Asked::Run),
+        "image" => Some(Asked::Image),
+        "recover" => Some(Asked::Recover),
+        _ => None,
     }
 }
 
@@ -110,6 +123,8 @@ fn matches<'a>(alloc: Global, words: &'a [String]) -> Result<ArgMatches<'a>, Err
     ensures { FailsBy (fault_of program (map string_bytes words.entry.now)) result }
 {
     let run = Command::new(alloc, "run");
+    let image = Command::new(alloc, "image");
+    let recover = Command::new(alloc, "recover");
     let load = load_command(alloc)?;
     Command::new(alloc, "cx_tool")
         .no_binary_name(true)
@@ -117,6 +132,8 @@ fn matches<'a>(alloc: Global, words: &'a [String]) -> Result<ArgMatches<'a>, Err
         .disable_help_subcommand(true)
         .subcommand_required(true)
         .subcommand(run)?
+        .subcommand(image)?
+        .subcommand(recover)?
         .subcommand(load)?
         .try_get_matches_from(words)
 }

@@ -3,10 +3,8 @@
 ghost use Rattle.std.specs.Prelude.{◌≡◌, ◌+◌, ◌<◌, ◌≤◌, IfOk, length, true, vec_len};
 ghost use Rattle.cx_program.specs.Input.{IsPiece, Shows, TookAtMost};
 
-use crate::counted_source::CountedSource;
-use cx_base::{Failed, Source, Steps};
+use cx_base::{Failed, Source};
 use std::alloc::{AllocError, Global};
-use std::sync::ledger::{Blank, Ledger};
 
 /// The bytes that an input may have.
 pub(crate) const LIMIT: usize = 16_777_216;
@@ -34,15 +32,14 @@ fn zeros(alloc: Global, len: usize) -> Result<Vec<u8>, AllocError>
 
 // Reads one piece, at most as long as the buffer, and puts it behind the bytes read so far. The outer `Err` is want of
 // memory: then the piece is lost.
-fn read_piece<S: Source, L: Ledger>(
-    source: &mut CountedSource<'_, S, L>,
+fn read_piece<S: Source>(
+    source: &mut S,
     bytes: &mut Vec<u8>,
     buffer: &mut [u8],
 ) -> Result<Result<usize, Failed>, AllocError>
     requires { 0 < length buffer.old }
-    ensures same_reference { source.new.source.ghost_name ≡ source.old.source.ghost_name }
-    ensures counted { source.new.reads ≡ source.old.reads + 1 }
-    ensures piece { IsPiece (length buffer.old) result bytes.old bytes.new (S.left source.old.source.now) (S.left source.new.source.now) (S.faults source.old.source.now) (S.faults source.new.source.now) }
+    ensures once { S.reads source.new ≤ S.reads source.old + 1 }
+    ensures piece { IsPiece (length buffer.old) result bytes.old bytes.new (S.left source.old) (S.left source.new) (S.faults source.old) (S.faults source.new) }
 {
     let n = match source.read(buffer) {
         Ok(n) => n,
@@ -53,16 +50,12 @@ fn read_piece<S: Source, L: Ledger>(
     Ok(Ok(n))
 }
 
-/// Reads a source to its end, or to one byte behind the limit. `Err` is want of memory.
-pub(crate) fn read_input<S: Source, L: Ledger>(
-    alloc: Global,
-    source: &mut CountedSource<'_, S, L>,
-) -> Result<Input, AllocError>
-    ensures same_reference { source.new.source.ghost_name ≡ source.old.source.ghost_name }
-    ensures reads { source.new.reads ≤ source.old.reads + 16777217 }
-    ensures input { IfOk result (Shows true (S.left source.old.source.now) (S.faults source.old.source.now) (S.faults source.new.source.now)) }
-    ensures taken { TookAtMost 16777217 (S.left source.old.source.now) (S.left source.new.source.now) }
-    ensures count { S.faults source.old.source.now ≤ S.faults source.new.source.now }
+/// Reads a source to its end, or to one byte behind the limit. Each read but the last brings a byte. `Err` is want of memory.
+pub(crate) fn read_input<S: Source>(alloc: Global, source: &mut S) -> Result<Input, AllocError>
+    ensures input { IfOk result (Shows true (S.left source.old) (S.faults source.old) (S.faults source.new)) }
+    ensures taken { TookAtMost 16777217 (S.left source.old) (S.left source.new) }
+    ensures reads { S.reads source.new ≤ S.reads source.old + 16777217 }
+    ensures count { S.faults source.old ≤ S.faults source.new }
 {
     let mut bytes = Vec::new(alloc);
     let mut buffer = zeros(alloc, PIECE)?;
@@ -75,23 +68,4 @@ pub(crate) fn read_input<S: Source, L: Ledger>(
         }
     }
     Ok(Input::TooLong)
-}
-
-/// The same from a source whose reads nobody counts further, on a new ledger.
-pub(crate) fn read_uncounted<S: Source, L: Ledger>(
-    alloc: Global,
-    source: &mut S,
-    blank: Blank,
-) -> Result<Input, AllocError>
-    requires name { blank.name ≡ L.name }
-    requires parts { blank.parts ≡ L.parts }
-    requires some { 0 < L.parts }
-    ensures input { IfOk result (Shows true (S.left source.old) (S.faults source.old) (S.faults source.new)) }
-    ensures taken { TookAtMost 16777217 (S.left source.old) (S.left source.new) }
-    ensures count { S.faults source.old ≤ S.faults source.new }
-{
-    let mut counted = CountedSource::new(source, Steps::<L>::open(blank));
-    let input = read_input(alloc, &mut counted);
-    let _ = counted.finish();
-    input
 }

@@ -4,10 +4,11 @@
 mod arguments;
 mod asked;
 mod command_line;
-mod counted_source;
+mod image;
 mod input;
 mod load;
 mod output;
+mod recover;
 mod run;
 mod standard;
 mod status;

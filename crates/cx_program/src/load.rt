@@ -1,29 +1,14 @@
 //! The command `load`: a script that is made and run, and told of in four lines.
 
-ghost use Rattle.std.specs.Prelude.{◌≡◌, [], ◌∷◌, IfOk};
-ghost use Rattle.cx_base.specs.Store.{Store};
-ghost use Rattle.cx_core.specs.Base.{LawfulBase};
-ghost use Rattle.cx_core.specs.Region.{object_part};
-ghost use Rattle.cx_lives.specs.Lives.{HaveLived};
-ghost use Rattle.doc_store.specs.DocumentMeaning.{document_meaning};
-ghost use Rattle.doc_store.specs.ExactStep.{IsImage};
-ghost use Rattle.doc_text.specs.Generated.{generated_life};
-ghost use Rattle.doc_text.specs.Summary.{summary_text};
-ghost use Rattle.index_checks.specs.Layout.{StandsFor};
-ghost use Rattle.life_records.specs.declared.record.LifeRecord as record_life;
+ghost use Rattle.std.specs.Prelude.{◌≡◌, IfOk};
+ghost use Rattle.script_answers.specs.Texts.{IsSummary};
 ghost use Rattle.cx_program.specs.Answer.{HasNone};
-ghost use Rattle.cx_program.specs.Texts.{IsSummary, store_left};
 ghost use Rattle.cx_program.specs.declared.status.Status.TheVariants.{Fine};
 
 use crate::asked::Load;
 use crate::status::{Ended, Status};
 use cx_base::Gate;
-use cx_core::{Base, OBJECT_START};
-use cx_lives::Lived;
-use doc_lives::run_lives;
-use doc_model::{Pair, Reply};
-use doc_store::documents;
-use doc_text::{generated, summary};
+use script_answers::summary_of_load;
 use std::alloc::{AllocError, Global};
 use std::sync::Wait;
 use std::thread::Threads;
@@ -39,33 +24,6 @@ pub(crate) fn load_text<R: Threads + Wait + Sync, G: Gate + Sync>(
     ensures writes { IfOk result (λ made. IsSummary load.now.from load.now.clients load.now.ops made.1.trails made.0.items) }
     ensures none { IfOk result (λ made. HasNone made.1) }
 {
-    let script = generated(alloc, load.from, load.clients, load.ops)?;
-    let lived = run_lives(rt, alloc, &script, gate)?;
-    let text = text_of_life(alloc, load, &lived)?;
-    Ok((text, Ended::new(Status::Fine, lived.trails)))
-}
-
-// The lines on the life of a load.
-fn text_of_life(alloc: Global, load: &Load, lived: &Lived<Reply>) -> Result<Vec<u8>, AllocError>
-    requires { HaveLived (document_meaning 1024) 1024 1 (IsImage 1024) (generated_life load.now.from load.now.clients load.now.ops ∷ []) lived.now }
-    ensures { (told : record_life.LifeRecord Reply) → lived.now.records ≡ told ∷ [] → IfOk result (λ text. text.items ≡ summary_text told (store_left 1024 (generated_life load.now.from load.now.clients load.now.ops) told)) }
-{
-    let _ = load;
-    let [told] = lived.records.as_slice() else {
-        unreachable!()
-    };
-    let Some(base) = &lived.base else {
-        unreachable!()
-    };
-    let pairs = pairs_of(alloc, base)?;
-    summary(alloc, told, &pairs)
-}
-
-// The pairs of the store that a base stands for.
-fn pairs_of(alloc: Global, base: &Base) -> Result<Vec<Pair>, AllocError>
-    requires { LawfulBase 1024 (IsImage 1024) base.now }
-    ensures { (store : Store) → StandsFor (object_part base.now.words) 1 store → IfOk result (λ pairs. pairs.items ≡ store) }
-{
-    let (_, part) = base.words.as_slice().split_at(OBJECT_START as usize);
-    documents(alloc, part)
+    let (text, trails) = summary_of_load(rt, alloc, load.from, load.clients, load.ops, gate)?;
+    Ok((text, Ended::new(Status::Fine, trails)))
 }

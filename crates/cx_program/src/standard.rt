@@ -11,14 +11,20 @@ pub struct StdSource<R: Read + Drop> {
     pub reader: R,
     /// How many of its reads failed.
     pub faults: u64,
+    /// How often it was read. The count stands still at 2^64 - 1.
+    pub reads: u64,
 }
 
 impl<R: Read + Drop> StdSource<R> {
-    /// A source that has not failed yet.
+    /// A source that was not read yet.
     pub fn new(reader: R) -> Self
-        ensures { result ≡ record { reader = reader; faults = 0 } }
+        ensures { result ≡ record { reader = reader; faults = 0; reads = 0 } }
     {
-        StdSource { reader, faults: 0 }
+        StdSource {
+            reader,
+            faults: 0,
+            reads: 0,
+        }
     }
 }
 
@@ -27,7 +33,10 @@ impl<R: Read + Drop> Source for StdSource<R> {
 
     ghost faults = { λ s. s.faults };
 
+    ghost reads = { λ s. s.reads };
+
     fn read(&mut self, into: &mut [u8]) -> Result<usize, Failed> {
+        self.reads = self.reads.saturating_add(1);
         match self.reader.read(into) {
             Ok(n) => Ok(n),
             Err(_) => {

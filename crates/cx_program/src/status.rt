@@ -14,7 +14,7 @@ pub enum Status {
     Fine,
     /// The words are none of the commands.
     Usage,
-    /// The input is no script.
+    /// The input is no script, or no image text where one is read.
     Refused,
     /// The source failed.
     ReadFault,

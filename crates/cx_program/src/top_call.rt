@@ -1,30 +1,31 @@
 //! The top call: words and input in, status and text out.
 
-ghost use Rattle.std.specs.Prelude.{◌≡◌, ◌≤◌, ℕ, List, Option, map, string_bytes, length, false, IfOk, Some};
+ghost use Rattle.std.specs.Prelude.{◌≡◌, ◌+◌, ◌≤◌, ℕ, List, Option, map, string_bytes, length, false, IfOk, Some};
 ghost use Rattle.cx_program.specs.Answer.{Answers, HasCause, HasNone, Read, Wrote};
 ghost use Rattle.cx_program.specs.Commands.{command};
 ghost use Rattle.cx_program.specs.Input.{IsInput, Shows, TookAtMost};
 
 use crate::asked::Asked;
 use crate::command_line::read_words;
-use crate::input::{Input, read_uncounted};
+use crate::image::image_text;
+use crate::input::{Input, read_input};
 use crate::load::load_text;
 use crate::output::write_text;
+use crate::recover::recover_text;
 use crate::run::run_text;
 use crate::status::{Ended, Status};
 use cx_base::{Gate, Sink, Source};
 use std::alloc::{AllocError, Global};
-use std::marker::Brand;
 use std::sync::Wait;
-use std::sync::ledger::Blank;
 use std::thread::Threads;
 
 /// What is written where the words are no command.
-const USAGE: &[u8] = b"usage: cx_tool run | load FROM CLIENTS OPS\n";
+const USAGE: &[u8] = b"usage: cx_tool run | image | recover | load FROM CLIENTS OPS\n";
 
 /// Runs the command that the words name. With `run` it reads a script from the source, runs its lives and writes the
-/// report; with `load` and three numbers it makes a script, runs it and tells of it in four lines, and nothing is read. A
-/// text that stands for no report is written in its place where the words or the input are refused. The whole text is
+/// report, with `image` the image that the last loss of power left; with `recover` it reads such an image, and tells what is recovered
+/// from it; with `load` and three numbers it makes a script, runs it and tells of it in four lines, and nothing is read. A
+/// text that says why is written in its place where the words or the input are refused. The whole text is
 /// made before its first byte is written. Every outcome is a status. It may wait.
 pub fn cx_run<R: Threads + Wait + Sync, S: Source, K: Sink, G: Gate + Sync>(
     rt: &R,
@@ -35,13 +36,15 @@ pub fn cx_run<R: Threads + Wait + Sync, S: Source, K: Sink, G: Gate + Sync>(
     gate: &G,
 ) -> Ended
     // What was written is what the command that the words ask for owes, with the one status that its input calls for. For `run` and
-    // `Fine` it is the report of legal lives of the script that the input is, each told by the trail of the service that ran it.
+    // `Fine` it is the report of legal lives of the script that the input is, each told by the trail of the service that ran it; for
+    // `image` the image from which the base is recovered that such lives end with; for `recover` what is recovered from the input.
     ensures answer { Answers (map string_bytes words.now) (S.left source.old) result.status result.trails (K.written sink.old) (K.written sink.new) }
     ensures none { HasNone result }
     // A fault is told only where the object that was handed in counted one.
     ensures cause { HasCause result.status (S.faults source.old) (S.faults source.new) (K.faults sink.old) (K.faults sink.new) }
     ensures taken { TookAtMost 16777217 (S.left source.old) (S.left source.new) }
-    ensures unread { (Read (map string_bytes words.now) → ⊥) → S.left source.new ≡ S.left source.old }
+    ensures reads { S.reads source.new ≤ S.reads source.old + 16777217 }
+    ensures unread { (Read (map string_bytes words.now) → ⊥) → source.new ≡ source.old }
 {
     match read_words(alloc, words) {
         Ok(Some(asked)) => run_asked(rt, alloc, &asked, source, sink, gate),
@@ -76,7 +79,8 @@ fn run_asked<R: Threads + Wait + Sync, S: Source, K: Sink, G: Gate + Sync>(
     ensures none { HasNone result }
     ensures cause { HasCause result.status (S.faults source.old) (S.faults source.new) (K.faults sink.old) (K.faults sink.new) }
     ensures taken { TookAtMost 16777217 (S.left source.old) (S.left source.new) }
-    ensures unread { (command asked.now).reads ≡ false → S.left source.new ≡ S.left source.old }
+    ensures reads { S.reads source.new ≤ S.reads source.old + 16777217 }
+    ensures unread { (command asked.now).reads ≡ false → source.new ≡ source.old }
 {
     match input_of(alloc, asked, source) {
         Err(_) => Ended::without_lives(alloc, Status::Memory),
@@ -95,6 +99,8 @@ fn reads(asked: &Asked) -> bool
 {
     match asked {
         Asked::Run => true,
+        Asked::Image => true,
+        Asked::Recover => true,
         Asked::Load(_) => false,
     }
 }
@@ -103,10 +109,11 @@ fn reads(asked: &Asked) -> bool
 fn input_of<S: Source>(alloc: Global, asked: &Asked, source: &mut S) -> Result<Input, AllocError>
     ensures input { IfOk result (Shows (command asked.now).reads (S.left source.old) (S.faults source.old) (S.faults source.new)) }
     ensures taken { TookAtMost 16777217 (S.left source.old) (S.left source.new) }
-    ensures unread { (command asked.now).reads ≡ false → S.left source.new ≡ S.left source.old }
+    ensures reads { S.reads source.new ≤ S.reads source.old + 16777217 }
+    ensures unread { (command asked.now).reads ≡ false → source.new ≡ source.old }
 {
     if reads(asked) {
-        read_uncounted::<S, Brand>(alloc, source, Blank::new(1))
+        read_input(alloc, source)
     } else {
         Ok(Input::Whole(Vec::new(alloc)))
     }
@@ -147,6 +154,8 @@ fn text_of<R: Threads + Wait + Sync, G: Gate + Sync>(
 {
     match asked {
         Asked::Run => run_text(rt, alloc, bytes, gate),
+        Asked::Image => image_text(rt, alloc, bytes, gate),
+        Asked::Recover => recover_text(alloc, bytes),
         Asked::Load(load) => load_text(rt, alloc, load, gate),
     }
 }

@@ -19,6 +19,10 @@ mod laws;
 #[cfg(test)]
 mod losing;
 #[cfg(test)]
+mod meeting;
+#[cfg(test)]
+mod no_memory;
+#[cfg(test)]
 mod playing;
 #[cfg(test)]
 mod reopened;

@@ -31,15 +31,51 @@ fn medium_of(alloc: Global, pairs: &[(u64, u64)]) -> Result<Medium, AllocError>
     Ok(medium)
 }
 
-// Whether both regions have the same words, none dirty, and no line of the second was stored to.
-fn is_level(medium: &Medium) -> bool
+// The region that the root names.
+#[derive(Clone, Copy)]
+enum Root {
+    First,
+    Second,
+}
+
+impl Root {
+    fn first_line(self) -> u64
+        ensures { result ≤ 210 }
+    {
+        match self {
+            Root::First => 0,
+            Root::Second => 210,
+        }
+    }
+
+    // A code that names it.
+    fn code(self) -> u64 {
+        match self {
+            Root::First => 0,
+            Root::Second => 1,
+        }
+    }
+
+    // Its words in an image.
+    fn of(self, image: &[u64]) -> &[u64] {
+        let words = match self {
+            Root::First => image.get(..1680),
+            Root::Second => image.get(1680..),
+        };
+        words.unwrap_or(&[])
+    }
+}
+
+// Whether both regions have the same words, none dirty, and no line of the root's was stored to.
+fn is_level(medium: &Medium, root: Root) -> bool
     requires { HasReplicas 1 64 medium.now }
 {
+    let own = root.first_line();
     for at in 0..1680 {
         if medium.load(at) != medium.load(1680 + at)
             || medium.is_dirty(at)
             || medium.is_dirty(1680 + at)
-            || medium.stores(210 + at / 8) != 0
+            || medium.stores(own + at / 8) != 0
         {
             return false;
         }
@@ -69,7 +105,7 @@ const DOCUMENT: [(u64, u64); 14] = [
 fn regions_become_the_roots(rt: HostRuntime) -> Result<(), Fail> {
     let mut medium = medium_of(rt.alloc(), &DOCUMENT)?;
     reopen_one(&mut medium, 3);
-    holds(&rt, is_level(&medium));
+    holds(&rt, is_level(&medium, Root::Second));
     Ok(())
 }
 
@@ -88,15 +124,15 @@ fn scattered(alloc: Global) -> Result<Medium, AllocError>
     Ok(medium)
 }
 
-// Whether a loss of power leaves the second region as it is wanted, by three choices.
-fn stands(medium: &Medium, image: &mut [u64], want: &[u64]) -> bool
+// Whether a loss of power leaves the root's region as it is wanted, by four choices.
+fn stands(medium: &Medium, root: Root, image: &mut [u64], want: &[u64]) -> bool
     requires medium { HasReplicas 1 64 medium.now }
     requires image { length image.old ≡ 3360 }
     ensures { length image.new ≡ 3360 }
 {
-    for choice in 0..3 {
+    for choice in 0..4 {
         medium.image(choice, image);
-        if &image[1680..] != want {
+        if root.of(image) != want {
             return false;
         }
     }
@@ -133,22 +169,28 @@ fn reopen_one(medium: &mut Medium, root: u64)
     reopen(medium, 1, 64, root);
 }
 
-// Stores to a line what differs in that of the second region. Gives the number of stores, and nothing where after one of them a loss of
-// power would not leave the second region as it is wanted.
-fn line_stores(medium: &mut Medium, line: u64, image: &mut [u64], want: &[u64]) -> Option<u64>
+// Stores to a line what differs in that of the root's region. Gives the number of stores, and nothing where after one of them a loss of
+// power would not leave the root's region as it is wanted.
+fn line_stores(
+    medium: &mut Medium,
+    root: Root,
+    line: u64,
+    image: &mut [u64],
+    want: &[u64],
+) -> Option<u64>
     requires medium { HasReplicas 1 64 medium.old }
     requires line { line < 420 }
     requires image { length image.old ≡ 3360 }
     ensures medium { HasReplicas 1 64 medium.new }
     ensures image { length image.new ≡ 3360 }
 {
-    let source = 210 + line % 210;
+    let source = root.first_line() + line % 210;
     let mut stores = 0u64;
     for i in 0..8 {
         let word = medium.load(8 * source + i);
         if medium.load(8 * line + i) != word {
             store(medium, 8 * line + i, word);
-            if !stands(medium, image, want) {
+            if !stands(medium, root, image, want) {
                 return None;
             }
             stores = stores.wrapping_add(1);
@@ -157,38 +199,44 @@ fn line_stores(medium: &mut Medium, line: u64, image: &mut [u64], want: &[u64]) 
     Some(stores)
 }
 
-// Makes a line that of the second region, as `reopen` does. Gives the number of its steps.
-fn line_steps(medium: &mut Medium, line: u64, image: &mut [u64], want: &[u64]) -> Option<u64>
+// Makes a line that of the root's region, as `reopen` does. Gives the number of its steps.
+fn line_steps(
+    medium: &mut Medium,
+    root: Root,
+    line: u64,
+    image: &mut [u64],
+    want: &[u64],
+) -> Option<u64>
     requires medium { HasReplicas 1 64 medium.old }
     requires line { line < 420 }
     requires image { length image.old ≡ 3360 }
     ensures medium { HasReplicas 1 64 medium.new }
     ensures image { length image.new ≡ 3360 }
 {
-    let stores = line_stores(medium, line, image, want)?;
+    let stores = line_stores(medium, root, line, image, want)?;
     if stores == 0 {
         return Some(0);
     }
     write_back(medium, line);
-    if !stands(medium, image, want) {
+    if !stands(medium, root, image, want) {
         return None;
     }
     Some(stores.wrapping_add(1))
 }
 
 // The same of all lines, and then a fence.
-fn all_steps(medium: &mut Medium, image: &mut [u64], want: &[u64]) -> Option<u64>
+fn all_steps(medium: &mut Medium, root: Root, image: &mut [u64], want: &[u64]) -> Option<u64>
     requires medium { HasReplicas 1 64 medium.old }
     requires image { length image.old ≡ 3360 }
     ensures { HasReplicas 1 64 medium.new }
 {
     let mut steps = 0u64;
     for line in 0..420 {
-        let more = line_steps(medium, line, image, want)?;
+        let more = line_steps(medium, root, line, image, want)?;
         steps = steps.wrapping_add(more);
     }
     fence(medium);
-    if !stands(medium, image, want) {
+    if !stands(medium, root, image, want) {
         return None;
     }
     Some(steps.wrapping_add(1))
@@ -210,40 +258,52 @@ fn are_same(a: &Medium, b: &Medium) -> bool
     true
 }
 
-// The words of the second region.
-fn root_words(alloc: Global, medium: &Medium, image: &mut [u64]) -> Result<Vec<u64>, AllocError>
+// The words of the root's region.
+fn root_words(
+    alloc: Global,
+    medium: &Medium,
+    root: Root,
+    image: &mut [u64],
+) -> Result<Vec<u64>, AllocError>
     requires medium { HasReplicas 1 64 medium.now }
     requires image { length image.old ≡ 3360 }
     ensures { length image.new ≡ 3360 }
 {
     medium.image(0, image);
-    Vec::from_slice(alloc, &image[1680..])
+    Vec::from_slice(alloc, root.of(image))
 }
 
 // Whether a loss of power at each of so many steps leaves the root's region, and `reopen` makes what they make.
-fn stands_at_each_step(alloc: Global, image: &mut [u64], steps: u64) -> Result<bool, AllocError>
+fn stands_at_each_step(
+    alloc: Global,
+    root: Root,
+    image: &mut [u64],
+    steps: u64,
+) -> Result<bool, AllocError>
     requires { length image.old ≡ 3360 }
 {
     let mut walked = scattered(alloc)?;
-    let want = root_words(alloc, &walked, image)?;
-    if all_steps(&mut walked, image, &want) != Some(steps) {
+    let want = root_words(alloc, &walked, root, image)?;
+    if all_steps(&mut walked, root, image, &want) != Some(steps) {
         return Ok(false);
     }
     let mut medium = scattered(alloc)?;
-    reopen_one(&mut medium, 1);
-    Ok(is_level(&medium) && are_same(&medium, &walked))
+    reopen_one(&mut medium, root.code());
+    Ok(is_level(&medium, root) && are_same(&medium, &walked))
 }
 
 // The same with an image of its own.
-fn all_stands(alloc: Global, steps: u64) -> Result<bool, AllocError> {
+fn all_stands(alloc: Global, root: Root, steps: u64) -> Result<bool, AllocError> {
     let mut image = vec![in alloc; 0; 3360]?;
-    stands_at_each_step(alloc, &mut image, steps)
+    stands_at_each_step(alloc, root, &mut image, steps)
 }
 
 #[test]
 fn a_loss_of_power_at_each_step_leaves_the_roots_region(rt: HostRuntime) -> Result<(), Fail> {
     // 896 words that differ, in 168 lines, and the fence
-    holds(&rt, all_stands(rt.alloc(), 1065)?);
+    for root in [Root::First, Root::Second] {
+        holds(&rt, all_stands(rt.alloc(), root, 1065)?);
+    }
     Ok(())
 }
 

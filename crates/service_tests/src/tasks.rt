@@ -1,5 +1,11 @@
 //! What the callers ask for.
 
+/// The number that an update adds whose step may be held.
+pub(crate) const HELD: u64 = 1_000_000;
+
+/// The number that an update adds which comes late.
+pub(crate) const LATE: u64 = 10;
+
 /// Operations of one kind.
 #[derive(Clone, Copy)]
 pub(crate) enum Work {
@@ -17,6 +23,10 @@ pub(crate) enum Work {
     Documents,
     /// Of Tally: 24 updates and 6 reads of callers 0 and 1, and 30 reads of each other.
     Apart,
+    /// Of Tally: so many updates of each caller whose steps may be held.
+    Held { count: u64 },
+    /// Of Tally: 8 updates of each caller and a read. The step of caller 0's fifth may be held, and the others' updates come late.
+    HeldInFifth,
     /// Of a document store: 20,000 updates of each caller over 60 keys, and a read behind each 50 of them.
     Long,
 }
@@ -25,9 +35,10 @@ impl Work {
     /// How many operations each caller has.
     pub(crate) fn count(self) -> u64 {
         match self {
-            Work::Adds { amount: _, count } | Work::Rising(count) => count,
+            Work::Adds { amount: _, count } | Work::Rising(count) | Work::Held { count } => count,
             Work::Filled(_) | Work::Sum => 1,
             Work::Sums | Work::Documents | Work::Apart => 30,
+            Work::HeldInFifth => 9,
             Work::Long => 20_400,
         }
     }
@@ -36,6 +47,11 @@ impl Work {
     pub(crate) fn task(self, caller: u64, k: u64) -> [u64; 144] {
         match self {
             Work::Adds { amount, count: _ } => adds(amount),
+            Work::Held { count: _ } => adds(HELD),
+            Work::HeldInFifth if k == 8 => sum(),
+            Work::HeldInFifth if caller > 0 => adds(LATE),
+            Work::HeldInFifth if k == 4 => adds(HELD),
+            Work::HeldInFifth => adds(1),
             Work::Filled(word) => [word; 144],
             Work::Rising(_) => [k; 144],
             Work::Sum => sum(),

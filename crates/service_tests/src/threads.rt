@@ -100,15 +100,15 @@ fn parted(
     Ok(callers)
 }
 
-// What callers were told on threads of their own, and what their service left when it was closed.
+/// What callers were told on threads of their own, and what their service left when it was closed.
 #[derive(Drop)]
-struct Ran {
-    logs: Vec<Vec<Told>>,
-    remains: Remains,
+pub(crate) struct Ran {
+    pub(crate) logs: Vec<Vec<Told>>,
+    pub(crate) remains: Remains,
 }
 
-// All the callers of a service ask for operations on threads of their own, and what each was told is put at the end of a list.
-fn all_worked<O: Object + Send + Sync, R: Threads + Sync>(
+/// All the callers of a service ask for operations on threads of their own, and what each was told is put at the end of a list.
+pub(crate) fn all_worked<O: Object + Send + Sync, R: Threads + Sync>(
     rt: &R,
     alloc: Global,
     service: &Service<O>,
@@ -124,8 +124,8 @@ fn all_worked<O: Object + Send + Sync, R: Threads + Sync>(
     parted(alloc, all, logs)
 }
 
-// Callers of a service ask for operations on threads of their own, and the service is closed.
-fn run_on_threads<O: Object + Send + Sync, R: Threads + Sync>(
+/// Callers of a service ask for operations on threads of their own, and the service is closed.
+pub(crate) fn run_on_threads<O: Object + Send + Sync, R: Threads + Sync>(
     rt: &R,
     alloc: Global,
     object: O,
@@ -143,8 +143,8 @@ fn run_on_threads<O: Object + Send + Sync, R: Threads + Sync>(
     }
 }
 
-// The number of callers, what they ask for, and how many updates and reads that is in all.
-type Row = (u32, Work, u64, u64);
+/// The number of callers, what they ask for, and how many updates and reads that is in all.
+pub(crate) type Row = (u32, Work, u64, u64);
 
 // How many reads were answered beside the queue.
 fn reads(logs: &[Vec<Told>]) -> u64 {
@@ -165,8 +165,8 @@ fn reads_in(log: &[Told]) -> u64 {
     count
 }
 
-// Whether the object alone replies the same, the region published last is the object's after the updates, and the published codes rise.
-fn is_as_alone<O: Object>(
+/// Whether the object alone replies the same, the region published last is the object's after the updates, and the published codes rise.
+pub(crate) fn is_as_alone<O: Object>(
     alloc: Global,
     ran: &Ran,
     object: &O,

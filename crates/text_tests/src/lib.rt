@@ -1,4 +1,4 @@
-//! Tests of scripts and reports, of the program behind its `main`, and of whole lives against the one-thread store. It has tests alone.
+//! Tests of scripts and reports, and of whole lives against the one-thread store. It has tests alone.
 #![tactic(auto)]
 
 #[cfg(test)]
@@ -13,12 +13,6 @@ mod cut_holders;
 mod cut_updates;
 #[cfg(test)]
 mod documents;
-#[cfg(test)]
-mod faults_of_ends;
-#[cfg(test)]
-mod gates;
-#[cfg(test)]
-mod given_words;
 #[cfg(test)]
 mod holds;
 #[cfg(test)]
@@ -36,8 +30,6 @@ mod numbers;
 #[cfg(test)]
 mod outcome;
 #[cfg(test)]
-mod program_runs;
-#[cfg(test)]
 mod records;
 #[cfg(test)]
 mod reports;
@@ -47,8 +39,6 @@ mod runs;
 mod scripts;
 #[cfg(test)]
 mod spread;
-#[cfg(test)]
-mod standard_ends;
 #[cfg(test)]
 mod summaries;
 #[cfg(test)]

@@ -3,6 +3,7 @@ use Rattle.cx_core.specs.Base.{LawfulBase}
 use Rattle.cx_core.specs.declared.entry.Base.{Base}
 use Rattle.life_records.specs.declared.record.LifeRecord.{LifeRecord}
 use Rattle.recovery.specs.Crashes.{IsLeftOf}
+use Rattle.recovery.specs.Images.{IsReadable}
 use Rattle.recovery.specs.Kept.{IsKeptBy}
 use Rattle.recovery.specs.Recovery.{IsFaultOf, IsRecovered}
 use Rattle.recovery.specs.declared.recovering.ImageFault.TheVariants.{Memory}
@@ -21,6 +22,20 @@ unreachable-requires g c =
     let memory : c.in-Err.fault ≡ Memory = c.closed_tables_recover.ensures service ran.seats c.args.remains c.args.life.now.choice image (Err c.in-Err.fault) opened ran.leaves (subst (λ n. IsLeftOf c.args.remains n image) c.choice.ensures c.in_ok-image.ensures) answers in
     let yes = c.is_memory-wanting.ensures memory in
     true≢false (sym yes ∙ c.if-wanting.false)
+
+pub reopen_image-requires-clause-readable : goal.reopen_image-requires-clause-readable
+reopen_image-requires-clause-readable g c =
+    let service = c.requires.ran.0 in
+    let is = c.requires.ran.1 in
+    let ran = c.requires.ran.2 in
+    let image = c.in_ok-image.image in
+    let opened = opened_of g.O.Object.line_count g.O.Object.lawful c.args.object.now c.args.base.now c.args.life.now service c.requires.can.enough c.requires.can.few c.requires.can.lawful is in
+    let readable : IsReadable (g.O.Object.line_count service.object) image =
+    c.closed_tables_are_whole.ensures.readable service ran.seats c.args.remains c.args.life.now.choice image opened ran.leaves (subst (λ n. IsLeftOf c.args.remains n image) c.choice.ensures c.in_ok-image.ensures) in
+    subst (λ n. IsReadable n image) (sym readable.of) readable
+
+pub reopen_image-requires-clause-size : goal.reopen_image-requires-clause-size
+reopen_image-requires-clause-size g c = c.in-Ok.ensures.recovers.accepted.size
 
 pub overflow_sub-kept : goal.overflow_sub-kept
 overflow_sub-kept g c =

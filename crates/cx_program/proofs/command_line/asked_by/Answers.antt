@@ -1,6 +1,7 @@
-use Rattle.std.proofs.Common.{◌≡◌, ◌∙◌, sym, subst, map, string_bytes, codes, ℕ, List, [], ◌∷◌}
+use Rattle.std.proofs.Common.{◌≡◌, ◌∙◌, sym, ap, subst, map, string_bytes, codes, ℕ, List, [], ◌∷◌, arith}
+use Rattle.cx_program.specs.Commands.{command_of}
 use Rattle.cx_program.specs.Words.{IsLoadOf}
-use Rattle.cx_program.proofs.Forms.{are_of_load, none_asked}
+use Rattle.cx_program.proofs.Forms.{are_of_load, none_of_load, one_or_four, one_word}
 use Rattle.cx_program.proofs.command_line.asked_by.Goals as goal
 
 pub returns-in-None : goal.returns-in-None
@@ -8,5 +9,12 @@ returns-in-None c =
     let words : List (List ℕ) = map string_bytes c.args.words.now in
     let are = are_of_load c.args.words.now c.from-item.result c.clients-item.result c.ops-item.result c.requires c.in-len4.len_at_least c.from-item.is c.clients-item.is c.ops-item.is in
     let read : map string_bytes c.args.words.now ≡ codes "load" ∷ c.deref.result.now ∷ c.deref-in-len4.result.now ∷ c.deref-in-len4-2.result.now ∷ [] = cc (are) in
-    none_asked words (λ run. let bad : codes "load" ∷ c.deref.result.now ∷ c.deref-in-len4.result.now ∷ c.deref-in-len4-2.result.now ∷ [] ≡ codes "run" ∷ [] = sym read ∙ run in cc)
-    (λ a b d is. c.in-None.ensures.none a b d (subst (IsLoadOf a b d) read is))
+    none_of_load words c.deref.result.now c.deref-in-len4.result.now c.deref-in-len4-2.result.now read (λ a b d is. c.in-None.ensures.none a b d (subst (IsLoadOf a b d) read is))
+
+pub returns-in-len1 : goal.returns-in-len1
+returns-in-len1 c =
+    let are : map string_bytes c.args.words.now ≡ string_bytes c.word-item.result ∷ [] = one_word c.args.words.now c.word-item.result (omega (arith, c.in-len1.len_at_least, c.in-len1.len_below)) c.word-item.is in
+    subst (λ (words : List (List ℕ)). (command_of c.asked_alone.result).asked words) (ap (λ (word : List ℕ). word ∷ []) c.as_str.ensures.value ∙ sym are) c.asked_alone.ensures
+
+pub returns-in_default : goal.returns-in_default
+returns-in_default c asked asks = absurd (one_or_four c.args.words.now c.requires (λ one. omega (arith, one)) (λ four. omega (arith, four)))

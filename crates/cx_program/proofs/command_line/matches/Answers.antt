@@ -2,7 +2,7 @@ use Rattle.std.proofs.Common.{◌≡◌, ◌∙◌, refl, ap, ap₂, map, string
 use Rattle.clap.specs.Faults.{fault_of, is_simple_and_free}
 use Rattle.clap.specs.Kinds.{FailsBy}
 use Rattle.clap.specs.Words.{app_of}
-use Rattle.clap.specs.Simple.{App, app_of_fields, new_app, with_subcommand}
+use Rattle.clap.specs.Simple.{App, app_of_fields, new_app, new_shape, with_subcommand}
 use Rattle.clap.specs.declared.builder.command.Command.{Command}
 use Rattle.clap.specs.declared.builder.command.Command.TheOpen.{Command-F}
 use Rattle.clap.proofs.OnLiterals.{clap_on_literals}
@@ -27,7 +27,12 @@ returns c =
     ∙ ap (λ (f : Command-F Command). app_of_fields (record f { disable_help_subcommand = true; subcommand_required = true })) c.disable_help_flag.ensures
     ∙ ap (λ (f : Command-F Command). app_of_fields (record f { disable_help_flag = true; disable_help_subcommand = true; subcommand_required = true })) c.no_binary_name.ensures
     ∙ ap with_settings c.new.ensures.app in
-    let app_is : app_of c.in_ok-subcommand-2.field-0 ≡ program =
-    c.in_ok-subcommand-2.ensures.shape c.in_ok-load.ensures.local
-    ∙ ap₂ with_subcommand (c.in_ok-subcommand.ensures.shape c.new-run.ensures.local ∙ ap₂ with_subcommand bare_is (ap (λ (a : App). a.top) c.new-run.ensures.app)) (ap (λ (a : App). a.top) c.in_ok-load.ensures.app) in
+    let with_run : app_of c.in_ok-subcommand.field-0 ≡ with_subcommand bare (new_shape (codes "run")) =
+    c.in_ok-subcommand.ensures.shape c.new-run.ensures.local ∙ ap₂ with_subcommand bare_is (ap (λ (a : App). a.top) c.new-run.ensures.app) in
+    let with_image : app_of c.in_ok-subcommand-2.field-0 ≡ with_subcommand (with_subcommand bare (new_shape (codes "run"))) (new_shape (codes "image")) =
+    c.in_ok-subcommand-2.ensures.shape c.new-image.ensures.local ∙ ap₂ with_subcommand with_run (ap (λ (a : App). a.top) c.new-image.ensures.app) in
+    let with_recover : app_of c.in_ok-subcommand-3.field-0 ≡ with_subcommand (with_subcommand (with_subcommand bare (new_shape (codes "run"))) (new_shape (codes "image"))) (new_shape (codes "recover")) =
+    c.in_ok-subcommand-3.ensures.shape c.new-recover.ensures.local ∙ ap₂ with_subcommand with_image (ap (λ (a : App). a.top) c.new-recover.ensures.app) in
+    let app_is : app_of c.in_ok-subcommand-4.field-0 ≡ program =
+    c.in_ok-subcommand-4.ensures.shape c.in_ok-load.ensures.local ∙ ap₂ with_subcommand with_recover (ap (λ (a : App). a.top) c.in_ok-load.ensures.app) in
     subst (λ (a : App). FailsBy (fault_of a (map string_bytes c.args.words.now)) c.try_get_matches_from.result) app_is (c.try_get_matches_from.ensures.kinds (ap is_simple_and_free app_is ∙ is_simple_program))

@@ -6,5 +6,5 @@ use Rattle.cx_program.proofs.top_call.input_of.Goals as goal
 pub returns-then-reads-clause-input : goal.returns-then-reads-clause-input
 returns-then-reads-clause-input g c =
     let reads : true ≡ (command c.args.asked.now).reads = sym c.if-reads.true ∙ c.reads.ensures in
-    subst (λ (b : Bool). IfOk c.read_uncounted.result (Shows b (g.S.Source.left c.args.source.now) (g.S.Source.faults c.args.source.now) (g.S.Source.faults c.read_uncounted.new.source))) reads
-    c.read_uncounted.ensures.input
+    subst (λ (b : Bool). IfOk c.read_input.result (Shows b (g.S.Source.left c.args.source.now) (g.S.Source.faults c.args.source.now) (g.S.Source.faults c.read_input.new.source))) reads
+    c.read_input.ensures.input

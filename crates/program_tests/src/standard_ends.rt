@@ -101,7 +101,7 @@ const READS: [Does; 6] = [
     Does::Fails(ErrorKind::UnexpectedEof),
 ];
 
-/// What each of those reads gives, where it does not fail, and the faults behind it; and one read more.
+/// What each of those reads gives, where it does not fail, and the faults behind it; and one read more. Each is counted.
 const GIVEN: [(Option<&[u8]>, u64); 7] = [
     (Some(b"lin"), 0),
     (None, 1),
@@ -127,7 +127,8 @@ fn first_wrong_read(does: &[Does], rows: &[(Option<&[u8]>, u64)]) -> Option<usiz
     for (i, (want, faults)) in rows.iter().enumerate() {
         let mut buffer = [0; 4];
         let read = source.read(&mut buffer);
-        if !is_given(read, &buffer, *want) || source.faults != *faults {
+        let is_counted = source.faults == *faults && source.reads == i as u64 + 1;
+        if !is_given(read, &buffer, *want) || !is_counted {
             return Some(i);
         }
     }
@@ -170,15 +171,17 @@ fn first_wrong_write(
 
 const FAILING: [Does; 2] = [Does::Fails(ErrorKind::Other), Does::Fails(ErrorKind::Other)];
 
-/// Whether a count of faults that stands below its end rises to it, and stands still there.
+/// Whether a count that stands below its end rises to it, and stands still there.
 fn count_ends(alloc: Global) -> bool {
     let mut source = source(&FAILING);
     source.faults = u64::MAX - 1;
+    source.reads = u64::MAX - 1;
     let mut sink = sink(alloc, &FAILING);
     sink.faults = u64::MAX - 1;
     for _ in 0..2 {
         let has_failed = source.read(&mut [0; 4]).is_err() && sink.write(b"a").is_err();
-        if !has_failed || source.faults != u64::MAX || sink.faults != u64::MAX {
+        let has_ended = source.faults == u64::MAX && source.reads == u64::MAX;
+        if !has_failed || !has_ended || sink.faults != u64::MAX {
             return false;
         }
     }

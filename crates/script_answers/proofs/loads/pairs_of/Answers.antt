@@ -4,7 +4,7 @@ use Rattle.cx_core.specs.Region.{object_part}
 use Rattle.doc_store.specs.ExactStep.{IsImage}
 use Rattle.index_checks.specs.Reading.{store_in}
 use Rattle.index_checks.proofs.LawfulWords.{store_is}
-use Rattle.cx_program.proofs.load.pairs_of.Goals as goal
+use Rattle.script_answers.proofs.loads.pairs_of.Goals as goal
 
 pub documents-requires : goal.documents-requires
 unfolding object_part

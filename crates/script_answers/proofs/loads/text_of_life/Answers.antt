@@ -13,13 +13,13 @@ use Rattle.doc_text.specs.Summary.{summary_text}
 use Rattle.index_checks.specs.Layout.{StandsFor}
 use Rattle.life_laws.specs.Begins.{Begun, nothing_begun}
 use Rattle.life_records.specs.Records.{Life, LifeRecord}
-use Rattle.cx_program.specs.Texts.{store_left}
-use Rattle.cx_program.proofs.Loading.{base_begins}
-use Rattle.cx_program.proofs.load.text_of_life.Goals as goal
+use Rattle.script_answers.specs.Texts.{store_left}
+use Rattle.script_answers.proofs.Loading.{base_begins}
+use Rattle.script_answers.proofs.loads.text_of_life.Goals as goal
 
 pub returns : goal.returns
 returns c told are =
-    let life : Life Op = generated_life c.args.load.now.from c.args.load.now.clients c.args.load.now.ops in
+    let life : Life Op = generated_life c.args.from c.args.clients c.args.ops in
     let begun : Begun Store = begun_by (document_meaning 1024) (nothing_begun (document_meaning 1024)) (life ∷ []) c.args.lived.now.records in
     let begins : BeginsLife (document_meaning 1024) 1024 (IsImage 1024) begun c.in-Some.base =
     base_begins 1024 begun (life ∷ []) c.args.lived.now.image c.in-Some.base (subst (λ (base : Option Base). HaveEnded (document_meaning 1024) 1024 1 (IsImage 1024) begun (life ∷ []) c.args.lived.now.image base) c.in-Some.is c.requires.ends) in

@@ -1,0 +1,17 @@
+//! Tests of the program behind its `main`: its words, its gate, its images, its standard ends and their faults. It has tests alone.
+#![tactic(auto)]
+
+#[cfg(test)]
+mod faults_of_ends;
+#[cfg(test)]
+mod gates;
+#[cfg(test)]
+mod given_words;
+#[cfg(test)]
+mod holds;
+#[cfg(test)]
+mod images;
+#[cfg(test)]
+mod program_runs;
+#[cfg(test)]
+mod standard_ends;

@@ -1,0 +1,190 @@
+#!/usr/bin/env python3
+"""Reads that enter the queue: one client of eight is held again and again in the middle of its reads, beside seven at full speed.
+
+    held_reader.py [PROGRAM]     runs such a life, and prints how many reads were entered into the queue
+
+A read is entered where it was refused eight times, each time because the current replica was another between two steps of the reader. At
+full speed that does not come. Here the parent of the program holds its first thread, which works for the reader, before each instruction
+that changes a shared word, as a debugger does it (Linux on x86-64), so that the others publish between two steps of the reader.
+"""
+import ctypes
+import os
+import platform
+import re
+import subprocess
+import sys
+import tempfile
+import time
+from pathlib import Path
+
+TESTS = Path(__file__).resolve().parent
+sys.path[:0] = [str(TESTS), str(TESTS.parent)]
+
+import check_report
+from random_lives import PROGRAM
+from report_text import Fault, read_report
+from script_text import read_script
+
+CLIENTS = 8
+# of each client that adds, and of the reader, which reads until the others go and it is held
+ADDITIONS = 10_000
+READS = 25_000
+MOST_SECONDS = 20
+# how long the reader is held before an instruction with a lock prefix
+HELD_SECONDS = 0.02
+# the refusals after which a read is entered
+REFUSALS = 8
+# the instructions that are stepped at most to find those, of which so many are watched
+MOST_STEPS = 40_000
+WATCHED = 4
+PEEK_TEXT, PEEK_USER, POKE_USER, CONTINUE, SINGLE_STEP, DETACH, SEIZE, INTERRUPT = 1, 3, 6, 7, 9, 17, 0x4206, 0x4207
+ANY_THREAD = 0x40000000
+# the places of the instruction's address and of the debug registers
+ADDRESS_AT = 16 * 8
+DEBUG_AT = 848
+LOCK_PREFIX = 0xF0
+# of the C library
+LIBRARY = ctypes.CDLL(None, use_errno=True)
+LIBRARY.ptrace.restype = ctypes.c_long
+LIBRARY.ptrace.argtypes = [ctypes.c_long, ctypes.c_long, ctypes.c_void_p, ctypes.c_void_p]
+QUEUED = re.compile(rb"^\d+ \d\.\d+ get n = ", re.MULTILINE)
+
+
+class NotHeld(Exception):
+    """The system does not allow that a program is held so."""
+
+
+def ptrace(request, thread, address=None, word=None):
+    ctypes.set_errno(0)
+    word = LIBRARY.ptrace(request, thread, address, word)
+    if word == -1 and ctypes.get_errno():
+        raise NotHeld(os.strerror(ctypes.get_errno()))
+    return word
+
+
+def script():
+    """The last client, which the first thread works for, reads, and each other adds."""
+    lines = ["lines 64", f"life {CLIENTS} power 0"]
+    for _ in range(ADDITIONS):
+        lines.extend(f"{client} add n 1" for client in range(CLIENTS - 1))
+    lines.extend(f"{CLIENTS - 1} get n" for _ in range(READS))
+    return ("\n".join(lines) + "\n").encode()
+
+
+def run_held(program, text):
+    """The status and the output of a run whose first thread is held from when its clients go, and how often it was."""
+    with tempfile.TemporaryFile() as given, tempfile.TemporaryFile() as written:
+        given.write(text)
+        given.seek(0)
+        ended = subprocess.Popen([program, "run"], stdin=given, stdout=written)
+        try:
+            status, times = hold(ended.pid)
+        except NotHeld:
+            ended.kill()
+            raise
+        finally:
+            ended.poll()
+        written.seek(0)
+        return status, written.read(), times
+
+
+def hold(process):
+    """Holds the first thread of a process as long as it has others. Gives the status with which the process ends, and how often."""
+    times = 0
+    while threads(process) < CLIENTS:
+        ended, status = os.waitpid(process, os.WNOHANG)
+        if ended:
+            return os.waitstatus_to_exitcode(status), times
+    ptrace(SEIZE, process)
+    ptrace(INTERRUPT, process)
+    try:
+        stopped(process)
+        watch(process, locked_instructions(process))
+        last = time.monotonic() + MOST_SECONDS
+        while threads(process) > CLIENTS / 2 and time.monotonic() < last:
+            ptrace(CONTINUE, process)
+            stopped(process)
+            times += 1
+            time.sleep(HELD_SECONDS)
+            pass_by(process)
+        watch(process, [])
+    except Ended as ended:
+        return ended.status, times
+    ptrace(DETACH, process)
+    return os.waitstatus_to_exitcode(os.waitpid(process, 0)[1]), times
+
+
+class Ended(Exception):
+    """The process ended with this status."""
+
+    def __init__(self, status):
+        super().__init__(status)
+        self.status = status
+
+
+def stopped(process):
+    """Waits until the thread is stopped."""
+    _, status = os.waitpid(process, ANY_THREAD)
+    if not os.WIFSTOPPED(status):
+        raise Ended(os.waitstatus_to_exitcode(status))
+
+
+def single_step(process):
+    ptrace(SINGLE_STEP, process)
+    stopped(process)
+
+
+def locked_instructions(process):
+    """The addresses of the first instructions that change a shared word, up to the first of them again."""
+    found = []
+    for _ in range(MOST_STEPS):
+        address = ptrace(PEEK_USER, process, ADDRESS_AT)
+        if ptrace(PEEK_TEXT, process, address) & 0xFF == LOCK_PREFIX:
+            if address in found or len(found) == WATCHED:
+                break
+            found.append(address)
+        single_step(process)
+    return found
+
+
+def watch(process, addresses):
+    """Stops the thread before the instructions at these addresses."""
+    ptrace(POKE_USER, process, DEBUG_AT + 7 * 8, 0)
+    for i, address in enumerate(addresses):
+        ptrace(POKE_USER, process, DEBUG_AT + i * 8, address)
+    ptrace(POKE_USER, process, DEBUG_AT + 7 * 8, sum(1 << 2 * i for i in range(len(addresses))))
+
+
+def pass_by(process):
+    """Makes the one instruction before which the thread is stopped."""
+    watching = ptrace(PEEK_USER, process, DEBUG_AT + 7 * 8)
+    ptrace(POKE_USER, process, DEBUG_AT + 7 * 8, 0)
+    single_step(process)
+    ptrace(POKE_USER, process, DEBUG_AT + 7 * 8, watching & 0xFF)
+
+
+def threads(process):
+    return len(os.listdir(f"/proc/{process}/task"))
+
+
+def queued_reads(program=PROGRAM):
+    """How many reads of a run were entered into the queue. Its report is legal, or a Fault is raised."""
+    if sys.platform != "linux" or platform.machine() != "x86_64":
+        raise NotHeld("no Linux on x86-64")
+    text = script()
+    status, report, times = run_held(program, text)
+    if status != 0:
+        raise Fault(0, f"status {status}")
+    check_report.judge(read_script(text), read_report(report))
+    if times < REFUSALS:
+        raise NotHeld(f"stopped {times} times")
+    return len(QUEUED.findall(report))
+
+
+def main(words):
+    print(f"{queued_reads(*words)} reads entered into the queue")
+    return 0
+
+
+if __name__ == "__main__":
+    sys.exit(main(sys.argv[1:]))
