@@ -276,8 +276,11 @@ def wrong(lines, seed, count):
     chosen = random.Random(seed + 1)
     lines = list(lines)
     for _ in range(count):
+        crashes = [at for at, line in enumerate(lines) if line.startswith("crash")]
         at = chosen.randrange(len(lines))
-        way = chosen.randrange(4)
+        way = chosen.randrange(5)
+        if way == 4 and crashes:
+            at = chosen.choice(crashes)
         if way == 0:
             del lines[at]
         elif way == 1:
