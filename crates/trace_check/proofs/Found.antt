@@ -9,7 +9,7 @@ use Rattle.trace_check.specs.declared.check.Verdict.{Verdict}
 use Rattle.trace_check.specs.declared.check.Verdict.TheVariants.{Yes, Guard, Place}
 use Rattle.trace_text.specs.declared.trace.TraceLine.{TraceLine}
 use Rattle.trace_check.specs.Lines.{IsVerdict}
-use Rattle.trace_check.specs.Verdicts.{IsFound, OnYes}
+use Rattle.trace_check.specs.Verdicts.{IsFound, IsOnlyFound, OnYes}
 use Rattle.trace_check.specs.GoodTraces.{IsSafeTrace}
 use Rattle.trace_check.proofs.Exact.{good_lawful, verdict_one}
 use Rattle.trace_check.proofs.Runs.{good_of, left_recovered, recovers_left, safe_of, trace_of}
@@ -66,9 +66,8 @@ module _ (lines version : ℕ) (lawful : List ℕ → Type 0) (instance : Instan
   found_one : (v w : Verdict) → IsFound lines version lawful instance from xs v → IsFound lines version lawful instance from xs w → v ≡ w
   found_one v w first second = verdict_one instance from xs law v w (verdict_of v first) (verdict_of w second)
 
-  pub if_only : (r : Result Verdict AllocError) → IfOk r (IsFound lines version lawful instance from xs) →
-      IfOk r (λ v. (other : Verdict) → IsFound lines version lawful instance from xs other → other ≡ v)
-  if_only (Ok v) is = λ other found. found_one other v found is
+  pub if_only : (r : Result Verdict AllocError) → IfOk r (IsFound lines version lawful instance from xs) → IfOk r (IsOnlyFound lines version lawful instance from xs)
+  if_only (Ok v) is = record { found = is; only = λ other found. found_one other v found is }
   if_only (Err e) is = is
 
   safe_yes : (v : Verdict) → IsFound lines version lawful instance from xs v → OnYes v (IsSafeTrace lines lawful instance from xs)

@@ -27,6 +27,11 @@ IsFound lines version lawful instance from xs (Place line found) =
     (x : TraceLine) × (state : State) × IsBehindGood lines version lawful instance from xs line x state
     × (choice : ℕ) × (place : ℕ) × (x.what ≡ Crash choice place) × Recovers lines version lawful instance state choice found × (found ≢ place)
 
+-- a verdict is of a trace, and no other is
+pub record IsOnlyFound (lines version : ℕ) (lawful : List ℕ → Type 0) (instance : Instance) (from : State) (xs : List TraceLine) (verdict : Verdict) : Type 0 where
+  pub found : IsFound lines version lawful instance from xs verdict
+  pub only : (other : Verdict) → IsFound lines version lawful instance from xs other → other ≡ verdict
+
 -- a trace that is told good has this
 abbrev pub OnYes : Verdict → Type 0 → Type 0
 OnYes (Yes events crashes) P = P

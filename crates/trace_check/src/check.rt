@@ -1,11 +1,12 @@
 //! The check of a trace.
 
-ghost use Rattle.std.specs.Prelude.{◌≡◌, ◌≤◌, IfOk};
+ghost use Rattle.std.specs.Prelude.{◌≤◌, IfOk};
+ghost use Rattle.cx_base.specs.Callers.{AreCallers};
 ghost use Rattle.cx_core.specs.Base.{LawfulBase};
 ghost use Rattle.cx_core.specs.State.{Instance, opening_state};
 ghost use Rattle.trace_check.specs.GoodTraces.{IsSafeTrace};
 ghost use Rattle.trace_check.specs.Lines.{IsVerdict};
-ghost use Rattle.trace_check.specs.Verdicts.{IsFound, OnYes};
+ghost use Rattle.trace_check.specs.Verdicts.{IsOnlyFound, OnYes};
 
 use crate::left::place_left;
 use core_events::{CoreState, apply};
@@ -33,17 +34,13 @@ pub fn check_trace<O: Object>(
     base: &Base,
     trace: &Trace,
 ) -> Result<Verdict, AllocError>
-    requires some { 1 ≤ trace.now.callers }
-    requires few { trace.now.callers ≤ 8 }
+    requires callers { AreCallers trace.now.callers }
     requires enough { 64 ≤ O.line_count object.now }
     requires small { O.line_count object.now ≤ 16384 }
     requires base { LawfulBase (O.line_count object.now) (O.lawful object.now) base.now }
-    // The verdict is of the first line that fails, or that there is none.
+    // The verdict is of the first line that fails, or that there is none, and no other is: so it is `Yes` exactly where the trace is good.
     ensures found { let instance : Instance = record { callers = trace.now.callers; base = base.now; step = O.step object.now; reads = O.only_reads object.now } in
-        IfOk result (IsFound (O.line_count object.now) (O.version_number object.now) (O.lawful object.now) instance (opening_state trace.now.callers base.now) trace.now.steps) }
-    // No other verdict is of the trace: so it is `Yes` exactly where the trace is good.
-    ensures only { let instance : Instance = record { callers = trace.now.callers; base = base.now; step = O.step object.now; reads = O.only_reads object.now } in
-        IfOk result (λ verdict. (other : Verdict) → IsFound (O.line_count object.now) (O.version_number object.now) (O.lawful object.now) instance (opening_state trace.now.callers base.now) trace.now.steps other → other ≡ verdict) }
+        IfOk result (IsOnlyFound (O.line_count object.now) (O.version_number object.now) (O.lawful object.now) instance (opening_state trace.now.callers base.now) trace.now.steps) }
     // Where there is none, each state is lawful, and nothing answered is lost.
     ensures safe { let instance : Instance = record { callers = trace.now.callers; base = base.now; step = O.step object.now; reads = O.only_reads object.now } in
         IfOk result (λ verdict. OnYes verdict (IsSafeTrace (O.line_count object.now) (O.lawful object.now) instance (opening_state trace.now.callers base.now) trace.now.steps)) }
@@ -58,8 +55,7 @@ fn walk_trace<O: Object>(
     base: &Base,
     trace: &Trace,
 ) -> Result<Verdict, AllocError>
-    requires some { 1 ≤ trace.now.callers }
-    requires few { trace.now.callers ≤ 8 }
+    requires callers { AreCallers trace.now.callers }
     requires enough { 64 ≤ O.line_count object.now }
     requires small { O.line_count object.now ≤ 16384 }
     requires base { LawfulBase (O.line_count object.now) (O.lawful object.now) base.now }

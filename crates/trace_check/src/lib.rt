@@ -2,7 +2,7 @@
 //!
 //! - A trace is told good exactly where its events are a run and what each loss of power leaves is accepted by recovery with the place that
 //!   is named; else the first line is named that fails, an event whose guard fails or a loss of power with the place that is recovered:
-//!   `check_trace` (`found`), and no other verdict is of the trace (`only`).
+//!   `check_trace` (`found`). No other verdict is of the trace.
 //! - Where it is good each state passed is lawful, and what each loss of power leaves is recovered as the full image after the place named, at
 //!   or above that of the durable root: `check_trace` (`safe`).
 //! - A loss of power costs a walk over the callers, and no image: which place is recovered is told by the codes from the durable root on to
