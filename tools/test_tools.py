@@ -37,9 +37,11 @@ import held_reader
 import plain_judge
 import random_faults
 import random_lives
+import record_trace
 import stopped_clients
 from end_tests import Ends
 from image_tests import ImageExplanations, ProgramOnImages, ReadImages, usage
+from plain_core import Core
 from report_text import Fault, read_report, split_reply
 from script_text import Refusal, TooLong, read_script
 from wrong_reports import WRONG
@@ -776,6 +778,35 @@ class GateMinutesTest(unittest.TestCase):
         with contextlib.redirect_stderr(io.StringIO()) as told:
             self.assertEqual(gate_minutes.main([sys.executable, "-c", "raise SystemExit(3)"]), 3)
         self.assertIn("processor minutes", told.getvalue())
+
+
+class TracesTest(unittest.TestCase):
+    """Traces as the plain model of the core judges them."""
+
+    WORKED = ["trace 1 64", "0 write_cell 0 0 1", "0 look 0", "0 link 0", "0 try_exclusive 1", "0 store_word 1 8 1", "0 store_word 1 0 1",
+              "0 persist 1 8", "0 persist 1 0", "0 downgrade 1", "0 load_cur", "0 publish", "crash 0 place 0", "crash 1 place 1",
+              "0 raise 3", "crash 0 place 1", "0 retire"]
+
+    def found(self, lines):
+        return record_trace.found_in("\n".join(lines).encode())
+
+    def test_the_worked_trace(self):
+        self.assertEqual(self.found(self.WORKED), "yes events 13 crashes 3")
+        self.assertEqual(self.found([line for line in self.WORKED if line != "0 persist 1 0"]), "no line 9: guard")
+
+    def test_the_first_line_that_fails_is_named(self):
+        self.assertEqual(self.found(["trace 1 64", "0 retire"]), "no line 2: guard")
+        self.assertEqual(self.found(["trace 1 64", "crash 0 place 1"]), "no line 2: place 0")
+        self.assertEqual(self.found(["trace 1 64", "0 retire 1"]), "refused line 2: event")
+        self.assertEqual(self.found([""]), "refused line 1: trace")
+
+    def test_what_is_recorded_is_good_and_has_each_kind(self):
+        kinds = set()
+        for seed in range(24):
+            lines = record_trace.Recorder(Core(1 + seed % 4, 64), seed).record(120)
+            kinds.update(line.split(" ")[0 if line.startswith("crash") else 1] for line in lines)
+            self.assertTrue(self.found([f"trace {1 + seed % 4} 64"] + lines).startswith("yes "), seed)
+        self.assertEqual(kinds, set(record_trace.NUMBERS) | {"crash"})
 
 
 if __name__ == "__main__":

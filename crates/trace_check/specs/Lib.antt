@@ -1,0 +1,4 @@
+pub mod GoodTraces
+pub mod Images
+pub mod Lines
+pub mod Verdicts

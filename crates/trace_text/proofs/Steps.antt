@@ -1,0 +1,57 @@
+-- Each step has the number of its line.
+use Rattle.std.proofs.Common.{◌≡◌, ◌+◌, ◌<◌, ◌⊎◌, inl, inr, ℕ, zero, suc, List, [], ◌∷◌, ◌++◌, length, Some, refl, sym, ap, subst, ◌∙◌, arith}
+use Rattle.std.proofs.lemmas.Option.{none-some, same_Some}
+use Rattle.std.specs.List.{slice_get}
+use Rattle.plain_text.specs.LineGrammar.{AddsAll, AreLinesOf}
+use Rattle.trace_text.specs.Judging.{head_is}
+use Rattle.trace_text.specs.Reading.{head_of, with_head, with_step}
+use Rattle.trace_text.specs.Traces.{IsKept, trace_grammar}
+use Rattle.trace_text.specs.declared.trace.Trace.{Trace}
+use Rattle.trace_text.specs.declared.trace.TraceLine.{TraceLine}
+use Rattle.trace_text.specs.declared.trace.TraceLines.{TraceLines}
+use Rattle.trace_text.specs.declared.trace.TraceLines.TheVariants.{Nothing, Begun}
+use Rattle.trace_text.specs.declared.trace.TraceWhat.{TraceWhat}
+
+pub head_kept : (line : List ℕ) (head : ℕ × ℕ) → head_of line ≡ Some head → IsKept (with_head head)
+head_kept line head e =
+    let is = head_is line head e in
+    record { some = is.some; few = is.few; enough = is.enough; small = is.small; short = omega arith; numbered = λ n x at. absurd (none-some x at) }
+
+-- an item of a list with one more is one of the list, or the last
+one_of : {X : Type 0} (xs : List X) (y : X) (n : ℕ) (x : X) → slice_get (xs ++ y ∷ []) n ≡ Some x → (slice_get xs n ≡ Some x) ⊎ ((n ≡ length xs) × (x ≡ y))
+one_of [] y zero x at = inr (refl, sym (same_Some y x at))
+one_of [] y (suc n) x at = absurd (none-some x at)
+one_of (z ∷ zs) y zero x at = inl at
+one_of (z ∷ zs) y (suc n) x at = elim (one_of zs y n x at) [ inl there ↦ inl there | inr (last, same) ↦ inr (omega (arith, last), same) ]
+
+length-more : {X : Type 0} (xs : List X) (y : X) → length (xs ++ y ∷ []) ≡ length xs + 1
+length-more [] y = refl
+length-more (x ∷ xs) y = (let rest = length-more xs y in omega arith)
+
+pub step_kept : (trace : Trace) (what : TraceWhat) → length trace.steps < 10000 → IsKept trace → IsKept (with_step trace what)
+step_kept trace what few kept =
+    let last : TraceLine = record { line = length trace.steps + 2; what = what } in
+    record {
+      some = kept.some;
+      few = kept.few;
+      enough = kept.enough;
+      small = kept.small;
+      short = omega (arith, few, length-more trace.steps last);
+      numbered = λ n x at. elim (one_of trace.steps last n x at) [
+        | inl there ↦ kept.numbered n x there
+        | inr (at_end, same) ↦ ap (λ (y : TraceLine). y.line) same ∙ ap (λ k. k + 2) (sym at_end)
+      ];
+    }
+
+begun_stays : (trace : Trace) (lines : List (List ℕ)) (after : TraceLines) → AddsAll trace_grammar (Begun trace) lines after → (found : Trace) × (after ≡ Begun found)
+begun_stays trace [] after same = (trace, same)
+begun_stays trace (line ∷ lines) after (between, (what, is, few, same), more) =
+    begun_stays (with_step trace what) lines after (subst (λ (s : TraceLines). AddsAll trace_grammar s lines after) same more)
+
+-- nothing is said by no lines
+pub no_line : (lines : List (List ℕ)) → AreLinesOf trace_grammar lines Nothing → lines ≡ []
+no_line [] same = refl
+no_line (line ∷ lines) (between, (head, is, same), more) =
+    let found = begun_stays (with_head head) lines Nothing (subst (λ (s : TraceLines). AddsAll trace_grammar s lines Nothing) same more) in
+    let e : Nothing ≡ Begun found.0 = found.1 in
+    absurd cc

@@ -1,0 +1,67 @@
+//! The commands that only read.
+
+ghost use Rattle.std.specs.Prelude.{◌≡◌, IfOk, IfSome};
+ghost use Rattle.std.specs.Option.{option_copied};
+ghost use Rattle.doc_model.specs.Meaning.{IsOp};
+ghost use Rattle.trace_text.specs.Commands.{get_of, next_of, reading_by, reading_of};
+
+use cx_base::Bytes;
+use doc_model::{Op, is_key};
+use plain_text::{is_word, split_word};
+use std::alloc::{AllocError, Global};
+
+/// The operation that a command asks for and that only reads. `Err` is want of memory.
+#[tactic(auto, unfolding(crate::specs::Commands::reading_of))]
+pub(crate) fn read_reading(alloc: Global, text: &[u8]) -> Result<Option<Op>, AllocError>
+    ensures value { IfOk result (λ op. op ≡ reading_of text.now) }
+    ensures limits { IfOk result (λ op. IfSome op IsOp) }
+{
+    let (verb, rest) = split_word(text);
+    read_by_verb(alloc, verb, rest)
+}
+
+/// The same, by its verb and what stands behind it.
+#[tactic(auto, unfolding(crate::specs::Commands::reading_by))]
+fn read_by_verb(alloc: Global, verb: &[u8], rest: Option<&[u8]>) -> Result<Option<Op>, AllocError>
+    ensures value { IfOk result (λ op. op ≡ reading_by verb.now (option_copied rest.entry)) }
+    ensures limits { IfOk result (λ op. IfSome op IsOp) }
+{
+    if is_word(b"get", verb) {
+        return read_get(alloc, rest);
+    }
+    if is_word(b"next", verb) {
+        return read_next(alloc, rest);
+    }
+    if is_word(b"count", verb) && rest.is_none() {
+        return Ok(Some(Op::Count));
+    }
+    Ok(None)
+}
+
+fn read_get(alloc: Global, key: Option<&[u8]>) -> Result<Option<Op>, AllocError>
+    ensures value { IfOk result (λ op. op ≡ get_of (option_copied key.entry)) }
+    ensures limits { IfOk result (λ op. IfSome op IsOp) }
+{
+    match key {
+        Some(key) if is_key(key) => Ok(Some(Op::Get {
+            key: Bytes::of(alloc, key)?,
+        })),
+        _ => Ok(None),
+    }
+}
+
+/// Without a key, the operation asks for the least key of all.
+fn read_next(alloc: Global, key: Option<&[u8]>) -> Result<Option<Op>, AllocError>
+    ensures value { IfOk result (λ op. op ≡ next_of (option_copied key.entry)) }
+    ensures limits { IfOk result (λ op. IfSome op IsOp) }
+{
+    match key {
+        None => Ok(Some(Op::Next {
+            above: Bytes::of(alloc, b"")?,
+        })),
+        Some(key) if is_key(key) => Ok(Some(Op::Next {
+            above: Bytes::of(alloc, key)?,
+        })),
+        _ => Ok(None),
+    }
+}
