@@ -1,0 +1,2 @@
+pub mod FifoLives
+pub mod Leaving

@@ -1,0 +1,83 @@
+-- A bounded queue of texts in a ring of lines: the images that stand for one, and the step as a function of words. Line 0 has the
+-- version, the head and the count; place s is line s + 1, and the items stand at places head, head + 1 and so on, in turn.
+use Rattle.std.specs.Prelude.{◌≡◌, ◌==◌, ◌||◌, ◌+◌, ◌-◌, ◌*◌, ◌%◌, ◌<◌, ◌≤◌, nat_le, ℕ, Bool, true, List, ◌∷◌, map, replicate, slice_index, slice_set, if◌then◌else◌}
+use Rattle.std.specs.List.{range_with_len}
+use Rattle.cx_base.specs.Memory.{Words, overwritten}
+use Rattle.fifo_model.specs.Words.{is_item, item_in, kind_in, reply_words, words_of}
+use Rattle.fifo_model.specs.declared.operations.FifoReply.TheVariants.{Empty, Full, Length, Pushed}
+
+-- the header's words
+abbrev pub head_in : List ℕ → ℕ
+head_in image = slice_index image 1
+
+abbrev pub count_in : List ℕ → ℕ
+count_in image = slice_index image 2
+
+-- the place of an item, counted from the head
+abbrev pub place_of : ℕ → List ℕ → ℕ → ℕ
+place_of lines image i = (head_in image + i) % (lines - 1)
+
+-- the eight words of a place
+abbrev pub item_at : List ℕ → ℕ → List ℕ
+item_at image place = map (λ k. slice_index image (8 * (place + 1) + k)) (range_with_len 0 8)
+
+-- a header: the version, a head that is a place, at most as many items as places, and zeros
+pub record IsHeader (lines : ℕ) (image : List ℕ) : Type 0 where
+  pub version : slice_index image 0 ≡ 16
+  pub head : head_in image < lines - 1
+  pub count : count_in image ≤ lines - 1
+  pub zeros : (slice_index image 3 ≡ 0) × (slice_index image 4 ≡ 0) × (slice_index image 5 ≡ 0) × (slice_index image 6 ≡ 0) × (slice_index image 7 ≡ 0)
+
+-- what stands at the places of the items are texts
+abbrev pub HasItems : ℕ → List ℕ → Type 0
+HasItems lines image = (i : ℕ) → i < count_in image → is_item (item_at image (place_of lines image i)) ≡ true
+
+-- A lawful image of so many lines. What stands at other places is not looked at.
+pub record IsFifo (lines : ℕ) (image : List ℕ) : Type 0 where
+  pub words : Words (8 * lines) image
+  pub header : IsHeader lines image
+  pub items : HasItems lines image
+
+-- the image of the empty queue
+abbrev pub fifo_opening : ℕ → List ℕ
+fifo_opening lines = 16 ∷ replicate (8 * lines - 1) 0
+
+-- the image after an item is put behind the last, and after the one at the front is taken
+unfoldable pub pushed : ℕ → List ℕ → List ℕ → List ℕ
+pushed lines item image = slice_set (overwritten (8 * (place_of lines image (count_in image) + 1)) item image) 2 (count_in image + 1)
+
+unfoldable pub popped : ℕ → List ℕ → List ℕ
+popped lines image = slice_set (slice_set image 1 (place_of lines image 1)) 2 (count_in image - 1)
+
+-- the reply that is the item at the front
+unfoldable pub front_words : List ℕ → List ℕ
+front_words image = if count_in image == 0 then reply_words Empty else words_of 3 (item_at image (head_in image))
+
+-- the image after each operation, and the words of its reply
+unfoldable pub push_step : ℕ → List ℕ → List ℕ → List ℕ × List ℕ
+push_step lines item image =
+    if nat_le (lines - 1) (count_in image) then (image, reply_words Full) else (pushed lines item image, reply_words Pushed)
+
+unfoldable pub pop_step : ℕ → List ℕ → List ℕ × List ℕ
+pop_step lines image = if count_in image == 0 then (image, reply_words Empty) else (popped lines image, words_of 3 (item_at image (head_in image)))
+
+abbrev pub peek_step : List ℕ → List ℕ × List ℕ
+peek_step image = (image, front_words image)
+
+abbrev pub len_step : List ℕ → List ℕ × List ℕ
+len_step image = (image, reply_words (Length (count_in image)))
+
+-- The step, by the kind of operation that has the words. Words of no operation leave the image, and are answered by zeros.
+abbrev pub step_by : ℕ → ℕ → List ℕ → List ℕ → List ℕ × List ℕ
+step_by kind lines item image =
+    if kind == 1 then push_step lines item image
+    else (if kind == 2 then pop_step lines image
+    else (if kind == 3 then peek_step image
+    else (if kind == 4 then len_step image else (image, replicate 144 0))))
+
+unfoldable pub fifo_step : ℕ → List ℕ → List ℕ → List ℕ × List ℕ
+fifo_step lines image op = step_by (kind_in op) lines (item_in op) image
+
+-- whether these are the words of an operation that only reads
+unfoldable pub fifo_reads : List ℕ → Bool
+fifo_reads op = kind_in op == 3 || kind_in op == 4

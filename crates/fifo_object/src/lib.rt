@@ -1,0 +1,14 @@
+//! A durable bounded queue of texts, as an object: a ring of lines.
+//!
+//! - It is an object: its calls do its step, its format and its check over any memory, and its laws hold: `Fifo` (`impl Object`). A push and a
+//!   pop touch the header's line and one more.
+//! - Its images stand for lists of texts, and its steps are what the operations mean over them: `Fifo` (`impl TypedObject`, `has_meaning`).
+#![tactic(auto)]
+
+mod fifo;
+mod typed_fifo;
+
+pub use fifo::Fifo;
+pub use fifo_model::{
+    FifoFault, FifoOp, FifoReply, fifo_of, fifo_reply_of, fifo_reply_words, fifo_words,
+};
