@@ -8,6 +8,7 @@ mod image;
 mod input;
 mod load;
 mod output;
+mod patient;
 mod recover;
 mod run;
 mod standard;
@@ -15,6 +16,7 @@ mod status;
 mod top_call;
 
 pub use arguments::words;
+pub use patient::Patient;
 pub use standard::{StdSink, StdSource};
 pub use status::{Ended, Status};
 pub use top_call::cx_run;

@@ -2,15 +2,21 @@
 #![tactic(auto)]
 
 use cx_base::OpenGate;
-use cx_program::{Status, StdSink, StdSource, cx_run, words};
+use cx_program::{Patient, Status, StdSink, StdSource, cx_run, words};
 use std::alloc::AllocError;
 use std::process::ExitCode;
 
 fn main(rt: HostRuntime) -> ExitCode {
     let status = match words(&rt) {
         Ok(words) => {
-            let mut source = StdSource::new(rt.stdin());
-            let mut sink = StdSink::new(rt.stdout());
+            let mut source = StdSource::new(Patient {
+                end: rt.stdin(),
+                clock: &rt,
+            });
+            let mut sink = StdSink::new(Patient {
+                end: rt.stdout(),
+                clock: &rt,
+            });
             cx_run(&rt, rt.alloc(), &words, &mut source, &mut sink, &OpenGate).status
         }
         Err(AllocError) => Status::Memory,
