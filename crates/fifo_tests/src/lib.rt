@@ -1,8 +1,10 @@
-//! Tests of the queue: its operations and replies in words, and the ring of places. It has tests alone.
+//! Tests of the queue: its operations and replies in words, the ring of places, and its lives. It has tests alone.
 #![tactic(auto)]
 
 #[cfg(test)]
 mod holds;
+#[cfg(test)]
+mod lives;
 #[cfg(test)]
 mod ring;
 #[cfg(test)]
