@@ -2,6 +2,8 @@
 #![tactic(auto)]
 
 #[cfg(test)]
+mod each_call;
+#[cfg(test)]
 mod faults_of_ends;
 #[cfg(test)]
 mod gates;
@@ -11,5 +13,7 @@ mod given_words;
 mod holds;
 #[cfg(test)]
 mod program_runs;
+#[cfg(test)]
+mod rounds;
 #[cfg(test)]
 mod standard_ends;
