@@ -39,6 +39,21 @@ impl Gate for ComparingGate {
     }
 }
 
+/// What a run of the script past a gate writes, of at most so many bytes. `None` where it ends with another status than 0.
+pub(crate) fn written_past<R: Threads + Wait + Sync + AllocGlobal, G: Gate + Sync>(
+    rt: &R,
+    script: &str,
+    gate: &G,
+    room: usize,
+) -> Result<Option<SureSink>, AllocError> {
+    let alloc = rt.alloc();
+    let words = words_of(alloc, &["run"])?;
+    let mut sink = SureSink::new(Vec::with_capacity(alloc, room)?);
+    let mut source = SureSource::new(Vec::from_slice(alloc, script.as_bytes())?);
+    let (code, _) = run_over(rt, &words, &mut source, &mut sink, gate);
+    Ok(if code == 0 { Some(sink) } else { None })
+}
+
 /// Whether a run of the script past a gate ends with status 0, having written this.
 fn writes<R: Threads + Wait + Sync + AllocGlobal, G: Gate + Sync>(
     rt: &R,
@@ -46,12 +61,10 @@ fn writes<R: Threads + Wait + Sync + AllocGlobal, G: Gate + Sync>(
     gate: &G,
     text: &str,
 ) -> Result<bool, AllocError> {
-    let alloc = rt.alloc();
-    let words = words_of(alloc, &["run"])?;
-    let mut sink = SureSink::new(Vec::with_capacity(alloc, 256)?);
-    let mut source = SureSource::new(Vec::from_slice(alloc, script.as_bytes())?);
-    let (code, _) = run_over(rt, &words, &mut source, &mut sink, gate);
-    Ok(code == 0 && sink.written() == text.as_bytes())
+    Ok(match written_past(rt, script, gate, 256)? {
+        Some(sink) => sink.written() == text.as_bytes(),
+        None => false,
+    })
 }
 
 #[test]

@@ -2,6 +2,8 @@
 #![tactic(auto)]
 
 #[cfg(test)]
+mod each_call;
+#[cfg(test)]
 mod faults_of_ends;
 #[cfg(test)]
 mod gates;
@@ -13,5 +15,7 @@ mod holds;
 mod images;
 #[cfg(test)]
 mod program_runs;
+#[cfg(test)]
+mod rounds;
 #[cfg(test)]
 mod standard_ends;
