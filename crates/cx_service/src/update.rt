@@ -13,6 +13,7 @@ use cx_base::Object;
 use cx_core::{Answer, FullNote};
 use cx_turns::Seen;
 use std::sync::Wait;
+use std::thread;
 
 /// The tries of one submit, and the turns of one drive, before they are begun again.
 const TRIES: u64 = 16;
@@ -60,7 +61,10 @@ impl<O: Object> Service<O> {
         for _ in rt.forever() {
             match self.submit(caller, op, TRIES) {
                 Submitted::Linked(linked) => return self.finish(rt, linked),
-                Submitted::Again(back) => caller = back,
+                Submitted::Again(back) => {
+                    thread::yield_now();
+                    caller = back;
+                }
                 Submitted::Full(back, note) => return Updated::Full(back, note),
                 Submitted::Worn(back) => return Updated::Worn(back),
                 Submitted::Halted(stopped) => return Updated::Halted(stopped),
@@ -78,7 +82,10 @@ impl<O: Object> Service<O> {
         for _ in rt.forever() {
             match self.drive(linked, TRIES) {
                 Driven::Done(caller, answer) => return Updated::Done(caller, answer),
-                Driven::Pending(back) => linked = back,
+                Driven::Pending(back) => {
+                    thread::yield_now();
+                    linked = back;
+                }
                 Driven::Halted(stopped) => return Updated::Halted(stopped),
             }
         }
