@@ -4,7 +4,7 @@ ghost use Rattle.std.specs.Prelude.{◌≡◌, ◌+◌, ◌-◌, ◌*◌, ◌^�
 ghost use Rattle.cx_base.specs.Calls.{Changes, Finds};
 ghost use Rattle.cx_base.specs.Memory.{Always};
 ghost use Rattle.fifo_model.specs.Words as spec;
-ghost use Rattle.fifo_object.specs.Fifo.{HasItems, IsFifo, IsHeader, count_in, fifo_opening, fifo_reads, fifo_step, front_words, head_in, item_at, len_step, peek_step, pop_step, push_step};
+ghost use Rattle.fifo_object.specs.Fifo.{HasItems, IsFifo, IsHeader, count_in, fifo_opening, fifo_reads, fifo_step, front_words, head_in, item_at, pop_step, push_step};
 ghost use Rattle.fifo_object.specs.FifoLaws as laws;
 
 use cx_base::{Halt, Memory, Object, store_words};
