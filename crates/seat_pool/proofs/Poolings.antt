@@ -1,5 +1,5 @@
 -- Each move keeps the rule.
-use Rattle.std.proofs.Common.{◌≡◌, ◌≢◌, ◌<◌, ◌≤◌, ◌+◌, ◌-◌, ℕ, zero, suc, List, [], ◌∷◌, ◌++◌, drop, length, set, sym, refl, ap, ◌∙◌, subst, inl, inr, ⊎_elim, arith}
+use Rattle.std.proofs.Common.{◌≡◌, ◌<◌, ◌≤◌, ◌+◌, ℕ, zero, suc, List, [], ◌∷◌, ◌++◌, drop, length, set, sym, refl, ap, ◌∙◌, subst, inl, inr, ⊎_elim, arith}
 use Rattle.std.specs.Prelude.{All, MatchOption, Option, Some, None}
 use Rattle.std.proofs.lemmas.List.{length-append}
 use Rattle.std.proofs.lemmas.List.Elements.{All-head, All-nil, All-push, All-tail}
@@ -12,7 +12,7 @@ use Rattle.cx_core.specs.Region.{slot_number}
 use Rattle.cx_rule.specs.Running.{Running}
 use Rattle.cx_rule.specs.Seats.{Seated}
 use Rattle.cx_service.specs.Callers.{IsCallerOf}
-use Rattle.seat_pool.specs.Pooling.{FitsHand, FitsHome, IsCallerAt, IsFirstOf, IsHomeOf, IsIdle, IsSame, IsTaken, IsWhole, Keeps, Pools, Shown, Tells, all_parts, both, callers_at, calls_of, calls_weigh, cut_left, cut_right, fresh, given_from, hand, nothing, numbers_weigh, opened, shown_by, total, with_given, with_placed, with_taken}
+use Rattle.seat_pool.specs.Pooling.{FitsHand, FitsHome, IsCallerAt, IsFirstOf, IsHomeOf, IsSame, IsTaken, Keeps, Pools, Shown, Tells, all_parts, both, callers_at, calls_of, calls_weigh, cut_left, cut_right, fresh, given_from, nothing, numbers_weigh, opened, shown_by, total, with_given, with_placed, with_taken}
 use Rattle.seat_pool.specs.declared.hand.Hand.{Hand}
 use Rattle.seat_pool.specs.declared.hand.Home.{Home}
 use Rattle.seat_pool.specs.declared.hand.Told.{Told}
@@ -63,7 +63,7 @@ module _ {A : Type 0} (f : A → ℕ) where
       part_of p (y ∷ ys) zero v at = (let same : p y ≡ p v = ap p (some-injective y v at) in omega (arith, same))
       part_of p (y ∷ ys) (suc i) v at = (let rest = part_of p ys i v at in omega (arith, rest))
 
-units : (A : Type 0) (xs : List A) → total {A = A} (λ _. 1) xs ≡ length xs
+pub units : (A : Type 0) (xs : List A) → total {A = A} (λ _. 1) xs ≡ length xs
 units A [] = refl
 units A (x ∷ xs) = omega (arith, units A xs)
 
@@ -180,6 +180,14 @@ same_room views pass v w n at placed room =
 pub begins : Pools [] (fresh ∷ [])
 begins = inl (refl, refl)
 
+-- there are no more callers in the queue than the pass leaves
+has_room : {O : Type 0} (r : Running O) (v : Hand) (items : List Seated) (views : List Hand) (pass : ℕ) → Keeps items views → IsHomeOf r v.home → get_elem? views pass ≡ some v → length v.held + length items ≤ callers_at v.home
+has_room r v items views pass k of at =
+    let count = count_fits r k.service v.parts v.home of (k.views_are pass v at).home in
+    let placed : total (λ (u : Hand). total (λ _. 1) u.placed) views ≡ total (λ (u : Hand). length u.placed) views = each_same (λ (u : Hand). total (λ _. 1) u.placed) (λ (u : Hand). length u.placed) (λ u. units ℕ u.placed) views in
+    let mine = total_has (λ (u : Hand). numbers_weigh (λ _. 1) u.held) views pass v at in
+    omega (arith, placed, mine, units Seated v.held, units Seated items, k.callers (λ _. 1), k.room, count)
+
 module _ {O : Type 0} where
   pub pops : (pass : ℕ) (r : Running O) (v : Hand) → IsHomeOf r v.home → 0 < v.parts → Pops Pools pass v (IsTaken v)
   pops pass r v of some_part x items views (inl new) at = absurd (is_not_new r v views pass of new.1 at)
@@ -192,7 +200,7 @@ module _ {O : Type 0} where
           callers = λ h. omega arith;
           calls = λ h. omega arith;
         })),
-        (from_service r k.service v.parts v.home x of fits (All-head (IsCallerOf k.service) x items k.items_are), refl),
+        (from_service r k.service v.parts v.home x of fits (All-head (IsCallerOf k.service) x items k.items_are), refl, (let most = has_room r v (x ∷ items) views pass k of at in omega (arith, most))),
       )
 
   -- a caller without answered calls is placed, by a pass with every part
@@ -295,12 +303,8 @@ module _ {O : Type 0} where
   pub learns : (pass : ℕ) (r : Running O) (v : Hand) → IsHomeOf r v.home → Learns Pools pass v (Tells v)
   learns pass r v of items views (inl new) at = absurd (is_not_new r v views pass of new.1 at)
   learns pass r v of items views (inr k) at =
-      let fits = (k.views_are pass v at).home in
-      let count = count_fits r k.service v.parts v.home of fits in
-      let placed : total (λ (u : Hand). total (λ _. 1) u.placed) views ≡ total (λ (u : Hand). length u.placed) views = each_same (λ (u : Hand). total (λ _. 1) u.placed) (λ (u : Hand). length u.placed) (λ u. units ℕ u.placed) views in
-      let mine = total_has (λ (u : Hand). numbers_weigh (λ _. 1) u.held) views pass v at in
       record {
-        room = omega (arith, placed, mine, units Seated v.held, units Seated items, k.callers (λ _. 1), k.room, count);
+        room = has_room r v items views pass k of at;
         whole = λ parts. record {
           callers = λ h. (
               let placed' = total_whole (λ (u : Hand). total h u.placed) (λ (u : Hand). u.parts) views pass v (λ j u e z. ap (total h) ((k.views_are j u e).idle z).placed) at (k.parts ∙ sym parts) in
@@ -345,6 +349,11 @@ pub is_short : (v : Hand) (cap n : ℕ) → v.parts ≡ all_parts → length v.p
 is_short v cap n parts room fits (items, long, tells) = (let most = not_full v items tells parts in absurd (omega (arith, most, long, fits, room)))
 
 -- what was taken out is a caller of the service
-pub taken : {O : Type 0} (r : Running O) (v w : Hand) (found : Option Seated) (none : Type 0) → IsHomeOf r v.home → MatchOption found none (λ x. IsTaken v x w) → MatchOption found none (λ x. IsCallerOf r x × (w ≡ with_taken v x))
+pub taken : {O : Type 0} (r : Running O) (v w : Hand) (found : Option Seated) (none : Type 0) → IsHomeOf r v.home → MatchOption found none (λ x. IsTaken v x w)
+    → MatchOption found none (λ x. IsCallerOf r x × (w ≡ with_taken v x) × (length v.held < r.callers))
 taken r v w None none of told = told
-taken r v w (Some x) none of told = (from_home r v.home x of told.0, told.1)
+taken r v w (Some x) none of told = (from_home r v.home x of told.0, told.1, (let count = home_callers r v.home of in let most = told.2 in omega (arith, count, most)))
+
+-- a pass holds no more callers than there are
+pub within : {O : Type 0} (r : Running O) (v : Hand) (items : List Seated) → IsHomeOf r v.home → Tells v items → length v.held ≤ r.callers
+within r v items of tells = (let count = home_callers r v.home of in let room = tells.room in omega (arith, count, room))

@@ -132,17 +132,19 @@ abbrev pub IsHomeOf : {O : Type 0} → Running O → Option Home → Type 0
 IsHomeOf r None = ⊥
 IsHomeOf r (Some home) = IsSame (shown_by home) r
 
--- what came out is a caller of the service that the pass knows
+-- how many callers the service has that the pass knows
+abbrev pub callers_at : Option Home → ℕ
+callers_at None = 0
+callers_at (Some home) = home.callers
+
+-- it is a caller of the service that the pass knows
 abbrev pub IsCallerAt : Option Home → Seated → Type 0
 IsCallerAt None x = ⊥
 IsCallerAt (Some home) x = IsCallerOf (shown_by home) x
 
+-- what came out is such a caller, and the pass held fewer than there are
 abbrev pub IsTaken : Hand → Seated → Hand → Type 0
-IsTaken v x w = IsCallerAt v.home x × (w ≡ with_taken v x)
-
-abbrev pub callers_at : Option Home → ℕ
-callers_at None = 0
-callers_at (Some home) = home.callers
+IsTaken v x w = IsCallerAt v.home x × (w ≡ with_taken v x) × (length v.held < callers_at v.home)
 
 -- All that was placed is with this pass or in the queue, and the calls told to it are theirs.
 pub record IsWhole (v : Hand) (items : List Seated) : Type 0 where

@@ -1,6 +1,6 @@
 //! What a pass does with the queue.
 
-ghost use Rattle.std.specs.Prelude.{◌≡◌, ◌<◌, [], IfOk, MatchOption, length};
+ghost use Rattle.std.specs.Prelude.{◌≡◌, ◌<◌, ◌≤◌, [], IfOk, MatchOption, length};
 ghost use Rattle.crossbeam_queue.specs.Fifo.{Held};
 ghost use Rattle.crossbeam_queue.specs.Passes.{view, IsPassOf, ruled_capacity};
 ghost use Rattle.cx_service.specs.Callers.{IsCallerOf};
@@ -71,7 +71,7 @@ pub fn take<O: Object, R: Wait>(
 ) -> Option<Caller>
     requires { IsPassOf line.now pass.old × IsHomeOf service.now (view pass.old).home × (0 < (view pass.old).parts) }
     ensures pass { IsPassOf line.now pass.new }
-    ensures caller { MatchOption result ((view pass.new ≡ view pass.old) × Held 0 (Tells (view pass.old))) (λ x. IsCallerOf service.now x × (view pass.new ≡ with_taken (view pass.old) x)) }
+    ensures caller { MatchOption result ((view pass.new ≡ view pass.old) × Held 0 (Tells (view pass.old))) (λ x. IsCallerOf service.now x × (view pass.new ≡ with_taken (view pass.old) x) × (length (view pass.old).held < service.now.callers)) }
 {
     let _ = service;
     line.pop_as::<Takes, R>(rt, pass)
@@ -124,4 +124,14 @@ pub fn merge<O: Object>(
 {
     let _ = service;
     line.absorb::<Parted>(pass, other);
+}
+
+/// What the pass knows of the queue at one moment of the call.
+pub fn learn<O: Object>(service: &Service<O>, line: &Line, pass: &mut Pass<Caller, Hand>)
+    requires { IsPassOf line.now pass.old × IsHomeOf service.now (view pass.old).home }
+    ensures same { IsPassOf line.now pass.new × (view pass.new ≡ view pass.old) }
+    ensures room { length (view pass.old).held ≤ service.now.callers }
+{
+    let _ = service;
+    line.learn_as::<Takes>(pass);
 }
