@@ -163,3 +163,10 @@ pub record IsOpened {O : Type 0} (r : Running O) (v : Hand) : Type 0 where
   pub placed : v.placed ≡ []
   pub held : v.held ≡ []
   pub told : v.told ≡ []
+
+-- the calls that a pass was told, once it gave this caller back
+abbrev pub hand_told : Hand → Seated → List Told
+hand_told v x = (with_given v x).told
+
+abbrev pub told_with : ℕ → Linked → Answer → Told
+told_with n entry answer = record { caller = n; entry = entry; answer = answer }

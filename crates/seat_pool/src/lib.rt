@@ -7,7 +7,7 @@
 //!
 //! - `open`, `place`: a queue for a service, and its callers in it.
 //! - `take` gives a caller of the service. `give` gives the pass's last caller back, and what it was answered since is told to the pass in the same push; it
-//!   never fails, so no caller is lost.
+//!   never fails, so no caller is lost. `answers_are_told`: after an update those are the update's entry with its answer.
 //! - `share` makes a further pass, and `merge` puts what another pass knows and holds to this one.
 //! - `close`: with all that was lent, the queue is emptied and the service closed. All callers are handed in, each once and of caller 0 first (also those that
 //!   are stopped), and the calls that the callers show as answered are those that were told, each once, but for at most one of each stopped caller (`AreTold`).
@@ -16,12 +16,14 @@
 mod closing;
 mod gather;
 mod hand;
+mod laws;
 mod lent;
 mod queue;
 mod rule;
 
 pub use closing::close;
 pub use hand::{Hand, Home, Told};
+pub use laws::answers_are_told;
 pub use lent::Lent;
 pub use queue::{give, learn, merge, open, place, share, take};
 pub use rule::{Lends, Line};
