@@ -1,0 +1,151 @@
+-- Callers that are gathered.
+use Rattle.std.proofs.Common.{◌≡◌, ◌<◌, ◌≤◌, ◌+◌, ℕ, List, [], ◌∷◌, ◌++◌, length, sym, refl, ap, ◌∙◌, subst, arith}
+use Rattle.std.specs.Prelude.{All, Option, Some, None}
+use Rattle.std.proofs.lemmas.List.{append-nil, length-append}
+use Rattle.std.proofs.lemmas.List.Elements.{All-append, All-nil, All-pop, All-push}
+use Rattle.cx_rule.specs.Running.{IsSeatOf, Running}
+use Rattle.cx_rule.specs.Seats.{Seated}
+use Rattle.cx_service.specs.Callers.{IsCallerOf}
+use Rattle.cx_service.specs.Closes.{seat_of}
+use Rattle.cx_service.specs.declared.close.Handed.{Handed}
+use Rattle.cx_service.specs.declared.close.Handed.TheVariants.{Idle}
+use Rattle.crossbeam_queue.specs.Fifo.{Held}
+use Rattle.crossbeam_queue.specs.Passes.{view}
+use Rattle.atomic_table.specs.Seated.{TableId}
+use Rattle.std.specs.List.{range_with_len}
+use Rattle.std.specs.Option.{option_to_list}
+use Rattle.seat_pool.specs.declared.lent.Lent.{Lent}
+use Rattle.seat_pool.specs.Gathering.{AreSame, AreTold, Gathers, IsGathering, IsLentOf, IsRestOf, IsTakingIn, lent_told, handed_calls, if_stopped, kept_list, number_of}
+use Rattle.seat_pool.specs.Pooling.{IsWhole, Tells, all_parts, both, calls_of, total, with_taken}
+use Rattle.seat_pool.specs.declared.hand.Hand.{Hand}
+use Rattle.seat_pool.specs.declared.hand.Told.{Told}
+use Rattle.seat_pool.proofs.Poolings.{total_both, units}
+
+module _ {O : Type 0} (r : Running O) where
+  -- as many are gathered as are held
+  pub as_many : (held : List Seated) (xs : List Handed) → Gathers r held xs → length xs ≡ length held
+  as_many held xs g = omega (arith, units Handed xs, units Seated held, g.numbers (λ _. 1))
+
+  pub gathers_both : (a b : List Seated) (xs ys : List Handed) → Gathers r a xs → Gathers r b ys → Gathers r (a ++ b) (xs ++ ys)
+  gathers_both a b xs ys g k = record {
+    of = All-append (λ (x : Handed). IsSeatOf r (seat_of x)) xs ys g.of k.of;
+    numbers = λ h. omega (arith, g.numbers h, k.numbers h, total_both (λ (x : Handed). h (number_of x)) xs ys, total_both (λ (x : Seated). h x.known.local.number) a b);
+    untold = g.untold ++ k.untold;
+    calls = λ h. omega (arith, g.calls h, k.calls h, total_both (handed_calls h) xs ys, total_both (λ (x : Seated). total h (calls_of x)) a b, total_both h g.untold k.untold);
+    few = λ h. omega (arith, g.few h, k.few h, total_both (if_stopped h) xs ys, total_both (λ (t : Told). h t.caller) g.untold k.untold);
+  }
+
+  -- a caller comes out of the queue
+  pub gathers_taken : (v : Hand) (xs : List Handed) (x : Seated) → Gathers r v.held xs → IsCallerOf r x → Gathers r (with_taken v x).held (xs ++ Idle x ∷ [])
+  gathers_taken v xs x g is = record {
+    of = All-push (λ (y : Handed). IsSeatOf r (seat_of y)) xs (Idle x) g.of is.of;
+    numbers = λ h. omega (arith, g.numbers h, total_both (λ (y : Handed). h (number_of y)) xs (Idle x ∷ []));
+    untold = g.untold;
+    calls = λ h. omega (arith, g.calls h, total_both (handed_calls h) xs (Idle x ∷ []));
+    few = λ h. omega (arith, g.few h, total_both (if_stopped h) xs (Idle x ∷ []));
+  }
+
+  -- a client's part, which keeps nobody
+  pub gathers_no_more : (v w : Hand) (xs : List Handed) (kept : Option Handed) → kept ≡ None → Gathers r v.held xs → Gathers r w.held (kept_list kept) → Gathers r (both v w).held xs
+  gathers_no_more v w xs kept none g k =
+      let l = subst (λ (o : Option Handed). Gathers r w.held (kept_list o)) none k in
+      subst (λ ys. Gathers r (v.held ++ w.held) ys) (append_none xs) (gathers_both v.held w.held xs [] g l)
+    where
+      append_none : (ys : List Handed) → ys ++ [] ≡ ys
+      append_none [] = refl
+      append_none (y ∷ ys) = ap (λ zs. y ∷ zs) (append_none ys)
+
+  -- or a caller
+  pub gathers_kept : (v w : Hand) (xs : List Handed) (kept : Option Handed) (x : Handed) → kept ≡ Some x → Gathers r v.held xs → Gathers r w.held (kept_list kept) → Gathers r (both v w).held (xs ++ x ∷ [])
+  gathers_kept v w xs kept x some g k = gathers_both v.held w.held xs (x ∷ []) g (subst (λ (o : Option Handed). Gathers r w.held (kept_list o)) some k)
+
+  -- there is room for it
+  pub kept_fits : (v w : Hand) (xs : List Handed) (kept : Option Handed) (x : Handed) → kept ≡ Some x → Gathers r v.held xs → Gathers r w.held (kept_list kept) → length (both v w).held ≤ r.callers → length xs < r.callers
+  kept_fits v w xs kept x some g k most =
+      let l = subst (λ (o : Option Handed). Gathers r w.held (kept_list o)) some k in
+      omega (arith, as_many v.held xs g, as_many w.held (x ∷ []) l, length-append v.held w.held, most)
+
+  pub still_gathering : (before v w : Hand) (xs : List Handed) (x : Seated) → IsGathering r before v xs → IsCallerOf r x → w ≡ with_taken v x → IsGathering r before w (xs ++ Idle x ∷ [])
+  still_gathering before v w xs x g is taken = subst (λ (u : Hand). IsGathering r before u (xs ++ Idle x ∷ [])) (sym taken) (record {
+    home = g.home;
+    parts = g.parts;
+    placed = g.placed;
+    told = g.told;
+    gathers = gathers_taken v xs x g.gathers is;
+  })
+
+-- where the queue is empty, the pass with every part knows that it holds all
+pub drained : (v w : Hand) → v.parts ≡ all_parts → w ≡ v → Held 0 (Tells v) → IsWhole w []
+drained v w parts same ([], long, tells) = subst (λ (u : Hand). IsWhole u []) (sym same) (tells.whole parts)
+drained v w parts same (x ∷ items, long, tells) = absurd (omega (arith, long))
+
+-- the same, said of what a pass knows
+pub as_held : {O : Type 0} (r : Running O) (v w : Hand) (xs ys : List Handed) → w ≡ v → ys ≡ xs → Gathers r v.held xs → Gathers r w.held ys
+as_held r v w xs ys same list g = subst (λ (u : Hand). Gathers r u.held ys) (sym same) (subst (λ zs. Gathers r v.held zs) (sym list) g)
+
+pub none_of : {A : Type 0} (xs : List A) → length xs ≡ 0 → xs ≡ []
+none_of [] none = refl
+none_of (x ∷ xs) none = absurd (omega (arith, none))
+
+no_weight : {A : Type 0} (f : A → ℕ) (xs : List A) → xs ≡ [] → total f xs ≡ 0
+no_weight f xs none = ap (total f) none
+
+module _ {O : Type 0} (r : Running O) (table : TableId) where
+  pub gathers_none : (held : List Seated) (xs : List Handed) → held ≡ [] → xs ≡ [] → Gathers r held xs
+  gathers_none held xs none empty = subst (λ l. Gathers r l xs) (sym none) (subst (λ l. Gathers r [] l) (sym empty) (record {
+    of = All-nil (λ (g : Handed). IsSeatOf r (seat_of g));
+    numbers = λ h. refl;
+    untold = [];
+    calls = λ h. refl;
+    few = λ h. omega arith;
+  }))
+
+  pub takes_in : (all : List Lent) (v : Hand) (xs : List Handed) → IsRestOf r v (length all) → All (IsLentOf r table) all → xs ≡ [] → IsTakingIn r table all v all xs
+  takes_in all v xs rest lents empty = record {
+    home = rest.home;
+    some = rest.some;
+    parts = rest.parts;
+    placed = rest.placed;
+    told = λ h. omega (arith, no_weight h v.told rest.told);
+    lents = lents;
+    gathers = gathers_none v.held xs rest.held empty;
+  }
+
+  -- the last one that is left
+  pub last_of : (all : List Lent) (v : Hand) (rest after : List Lent) (found : Option Lent) (x : Lent) (xs : List Handed) → IsTakingIn r table all v rest xs → rest ≡ after ++ option_to_list found → found ≡ Some x → IsLentOf r table x
+  last_of all v rest after found x xs k popped some = (All-pop (IsLentOf r table) rest after (Some x) (popped ∙ ap (λ (o : Option Lent). after ++ option_to_list o) some) k.lents).1
+
+  pub takes_more : (all : List Lent) (v w : Hand) (rest after : List Lent) (found : Option Lent) (x : Lent) (xs ys : List Handed) → IsTakingIn r table all v rest xs → rest ≡ after ++ option_to_list found → found ≡ Some x
+      → w ≡ both v (view x.pass) → Gathers r w.held ys → IsTakingIn r table all w after ys
+  takes_more all v w rest after found x xs ys k popped some same gathers =
+      let is = last_of all v rest after found x xs k popped some in
+      let u = both v (view x.pass) in
+      let left : rest ≡ after ++ x ∷ [] = popped ∙ ap (λ (o : Option Lent). after ++ option_to_list o) some in
+      let long : length rest ≡ length after + 1 = ap length left ∙ length-append after (x ∷ []) in
+      subst (λ (t : Hand). IsTakingIn r table all t after ys) (sym same) (record {
+        home = k.home;
+        some = (let some_ = k.some in omega (arith, some_));
+        parts = omega (arith, k.parts, is.parts, long);
+        placed = ap (λ l. v.placed ++ l) is.placed ∙ append-nil v.placed ∙ k.placed;
+        told = λ h. (
+            let was : total (lent_told h) rest ≡ total (lent_told h) (after ++ x ∷ []) = ap (total (lent_told h)) left in
+            omega (arith, was, k.told h, total_both (lent_told h) after (x ∷ []), total_both h v.told (view x.pass).told));
+        lents = (All-pop (IsLentOf r table) rest after (Some x) left k.lents).0;
+        gathers = subst (λ (t : Hand). Gathers r t.held ys) same gathers;
+      })
+
+  -- all are gathered, by number
+  pub all_numbers : (all : List Lent) (v w : Hand) (xs ys : List Handed) → IsTakingIn r table all v [] xs → w.placed ≡ v.placed → IsWhole w [] → Gathers r w.held ys → (h : ℕ → ℕ) → total (λ (g : Handed). h (number_of g)) ys ≡ total h (range_with_len 0 r.callers)
+  all_numbers all v w xs ys k same whole gathers h =
+      let placed : total h w.placed ≡ total h (range_with_len 0 r.callers) = ap (total h) (same ∙ k.placed) in
+      omega (arith, placed, whole.callers h, gathers.numbers h)
+
+  -- and their calls are those that were told
+  pub all_told : (all : List Lent) (v w : Hand) (xs ys zs : List Handed) → IsTakingIn r table all v [] xs → w.told ≡ v.told → IsWhole w [] → Gathers r w.held ys → AreSame zs ys → AreTold all zs
+  all_told all v w xs ys zs k same whole gathers order = record {
+    untold = gathers.untold;
+    calls = λ h. (
+        let told : total h w.told ≡ total h v.told = ap (total h) same in
+        omega (arith, told, whole.calls h, gathers.calls h, order (handed_calls h), k.told h));
+    few = λ h. omega (arith, gathers.few h, order (if_stopped h));
+  }

@@ -1,0 +1,4 @@
+pub mod Gatherings
+pub mod Orderings
+pub mod Poolings
+pub mod Telling

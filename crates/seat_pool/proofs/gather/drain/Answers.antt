@@ -1,0 +1,50 @@
+use Rattle.std.proofs.Common.{◌∙◌, ap, arith, refl, subst, sym}
+use Rattle.crossbeam_queue.specs.Passes.{view}
+use Rattle.seat_pool.specs.Gathering.{IsGathering}
+use Rattle.seat_pool.specs.declared.hand.Hand.{Hand}
+use Rattle.seat_pool.proofs.Gatherings.{as_held, as_many, drained, still_gathering}
+use Rattle.seat_pool.proofs.gather.drain.Goals as goal
+
+pub loop-init : goal.loop-init
+loop-init g c = record {
+  pass = c.requires.pass.0;
+  gathering = record { home = c.requires.pass.1; parts = c.requires.pass.2; placed = refl; told = refl; gathers = c.requires.gathered.0 };
+  room = c.requires.gathered.1;
+}
+
+pub take-requires : goal.take-requires
+take-requires g c = (c.loop.invariant.pass, c.loop.invariant.gathering.home, (let parts = c.loop.invariant.gathering.parts in omega (arith, parts)))
+
+pub push_reserved-requires : goal.push_reserved-requires
+push_reserved-requires g c =
+    let many = as_many c.args.service.now (view c.loop.pass).held c.loop.gathered.items c.loop.invariant.gathering.gathers in
+    let most = c.in-Some-take.ensures.caller.2 in
+    let room = c.loop.invariant.room in
+    omega (arith, many, most, room, c.loop.gathered.ok)
+
+pub loop-preserved : goal.loop-preserved
+loop-preserved g c =
+    let r = c.args.service.now in
+    let before = view c.args.pass.now in
+    let v = view c.loop.pass in
+    let w = view c.take.new.pass in
+    let x = c.in-Some-take.caller in
+    let told = c.in-Some-take.ensures.caller in
+    let room = c.loop.invariant.room in
+    let same = c.push_reserved.ensures.capacity in record {
+      pass = c.take.ensures.pass;
+      gathering = subst (λ ys. IsGathering r before w ys) (sym c.push_reserved.ensures.items) (still_gathering r before v w c.loop.gathered.items x c.loop.invariant.gathering told.0 told.1);
+      room = omega (arith, room, same);
+    }
+
+pub returns-in-None-take-clause-gathered : goal.returns-in-None-take-clause-gathered
+returns-in-None-take-clause-gathered g c = as_held c.args.service.now (view c.loop.pass) (view c.take.new.pass) _ _ c.in-None-take.ensures.caller.0 refl c.loop.invariant.gathering.gathers
+
+pub returns-in-None-take-clause-whole : goal.returns-in-None-take-clause-whole
+returns-in-None-take-clause-whole g c = drained (view c.loop.pass) (view c.take.new.pass) c.loop.invariant.gathering.parts c.in-None-take.ensures.caller.0 c.in-None-take.ensures.caller.1
+
+pub returns-in-None-take-clause-same : goal.returns-in-None-take-clause-same
+returns-in-None-take-clause-same g c =
+    let same = c.in-None-take.ensures.caller.0 in
+    let kept = c.loop.invariant.gathering in
+    (ap (λ (u : Hand). u.placed) same ∙ kept.placed, ap (λ (u : Hand). u.told) same ∙ kept.told)

@@ -1,0 +1,172 @@
+-- The rule of a queue that lends the callers of one service: where each caller is, and to whom its calls were told.
+use Rattle.std.specs.Prelude.{◌≡◌, ◌+◌, ◌-◌, ◌<◌, ◌≤◌, ◌⊎◌, ℕ, List, [], ◌∷◌, ◌++◌, All, Option, Some, None, drop, length}
+use mathlib.Core.Option.{some}
+use lib.ListN.{get_elem?}
+use Rattle.cx_core.specs.declared.local.Answer.{Answer}
+use Rattle.cx_core.specs.declared.local.Linked.{Linked}
+use Rattle.cx_rule.specs.Running.{Running}
+use Rattle.cx_rule.specs.Seats.{Seated}
+use Rattle.cx_service.specs.Callers.{IsCallerOf}
+use Rattle.seat_pool.specs.declared.hand.Hand.{Hand}
+use Rattle.seat_pool.specs.declared.hand.Home.{Home}
+use Rattle.seat_pool.specs.declared.hand.Told.{Told}
+
+-- a service as far as its callers show it: its table, its number of callers and its base, whatever its object
+abbrev pub Shown : Type 0
+Shown = Running (Unit {0})
+
+abbrev pub shown_by : Home → Shown
+shown_by home = record { table = home.first.table; callers = home.callers; lines = 0; base = home.base; object = tt }
+
+-- the same table, number of callers and base
+pub record IsSame {O P : Type 0} (q : Running O) (r : Running P) : Type 0 where
+  pub table : q.table ≡ r.table
+  pub callers : q.callers ≡ r.callers
+  pub base : q.base ≡ r.base
+
+-- the sum of a weight of each
+abbrev pub total : {A : Type 0} → (A → ℕ) → List A → ℕ
+total f [] = 0
+total f (x ∷ xs) = f x + total f xs
+
+-- the calls of a caller that are answered: its entries, in order, with their answers
+abbrev pub calls_from : ℕ → List Linked → List Answer → List Told
+calls_from n [] answers = []
+calls_from n (x ∷ own) [] = []
+calls_from n (x ∷ own) (a ∷ answers) = record { caller = n; entry = x; answer = a } ∷ calls_from n own answers
+
+abbrev pub calls_of : Seated → List Told
+calls_of x = calls_from x.known.local.number x.known.local.own x.known.local.answered
+
+-- the weight of callers, by their numbers
+abbrev pub numbers_weigh : (ℕ → ℕ) → List Seated → ℕ
+numbers_weigh h xs = total (λ (x : Seated). h x.known.local.number) xs
+
+-- the weight of the answered calls of callers
+abbrev pub calls_weigh : (Told → ℕ) → List Seated → ℕ
+calls_weigh h xs = total (λ (x : Seated). total h (calls_of x)) xs
+
+abbrev pub hand : Option Home → ℕ → List ℕ → List Seated → List Told → Hand
+hand home parts placed held told = record { home = home; parts = parts; placed = placed; held = held; told = told }
+
+-- the parts of the right to know the whole
+abbrev pub all_parts : ℕ
+all_parts = 1024
+
+-- a pass with no part has done nothing
+abbrev pub nothing : Hand
+nothing = hand None 0 [] [] []
+
+-- the pass of a queue that is new
+abbrev pub fresh : Hand
+fresh = hand None all_parts [] [] []
+
+-- it knows the service, once
+abbrev pub opened : Home → Hand
+opened home = hand (Some home) all_parts [] [] []
+
+-- a caller was put into the queue for the first time
+abbrev pub with_placed : Hand → Seated → Hand
+with_placed v x = hand v.home v.parts (v.placed ++ x.known.local.number ∷ []) v.held v.told
+
+-- a caller was taken out: it is held, as it was then
+abbrev pub with_taken : Hand → Seated → Hand
+with_taken v x = hand v.home v.parts v.placed (x ∷ v.held) v.told
+
+-- the first of those held was given back, and the calls that it has more are told
+abbrev pub given_from : Hand → List Seated → Seated → Hand
+given_from v [] x = v
+given_from v (y ∷ rest) x = hand v.home v.parts v.placed rest (v.told ++ drop (length (calls_of y)) (calls_of x))
+
+abbrev pub with_given : Hand → Seated → Hand
+with_given v x = given_from v v.held x
+
+-- it is the first of those held, with further calls behind those that it had
+abbrev pub IsFirstOf : List Seated → Seated → Type 0
+IsFirstOf [] x = ⊥
+IsFirstOf (y ∷ rest) x = (x.known.local.number ≡ y.known.local.number) × (calls_of x ≡ calls_of y ++ drop (length (calls_of y)) (calls_of x))
+
+-- a pass without one part, and a pass with that part alone
+abbrev pub cut_left : Hand → Hand
+cut_left v = hand v.home (v.parts - 1) v.placed v.held v.told
+
+abbrev pub cut_right : Hand → Hand
+cut_right v = hand v.home 1 [] [] []
+
+-- what two passes know and hold, in one
+abbrev pub both : Hand → Hand → Hand
+both v w = hand v.home (v.parts + w.parts) (v.placed ++ w.placed) (v.held ++ w.held) (v.told ++ w.told)
+
+-- it knows this service, or it has no part
+abbrev pub FitsHome : Shown → ℕ → Option Home → Type 0
+FitsHome r parts None = parts ≡ 0
+FitsHome r parts (Some home) = shown_by home ≡ r
+
+pub record IsIdle (v : Hand) : Type 0 where
+  pub placed : v.placed ≡ []
+  pub held : v.held ≡ []
+  pub told : v.told ≡ []
+
+pub record FitsHand (r : Shown) (v : Hand) : Type 0 where
+  pub home : FitsHome r v.parts v.home
+  pub idle : v.parts ≡ 0 → IsIdle v
+
+-- The queue holds callers of one service, which each pass with a part knows. However callers are weighed, those that were placed are those that
+-- passes hold and those in the queue. However calls are weighed, those that were told are the answered calls of the callers, held (as they
+-- were when they were taken) or in the queue.
+pub record Keeps (items : List Seated) (views : List Hand) : Type 0 where
+  pub service : Shown
+  pub items_are : All (IsCallerOf service) items
+  pub views_are : (pass : ℕ) (v : Hand) → get_elem? views pass ≡ some v → FitsHand service v
+  pub parts : total (λ (v : Hand). v.parts) views ≡ all_parts
+  pub room : total (λ (v : Hand). length v.placed) views ≤ service.callers
+  pub callers : (h : ℕ → ℕ) → total (λ (v : Hand). total h v.placed) views ≡ total (λ (v : Hand). numbers_weigh h v.held) views + numbers_weigh h items
+  pub calls : (h : Told → ℕ) → total (λ (v : Hand). total h v.told) views ≡ total (λ (v : Hand). calls_weigh h v.held) views + calls_weigh h items
+
+-- so it is, or the queue is new
+abbrev pub Pools : List Seated → List Hand → Type 0
+Pools items views = ((items ≡ []) × (views ≡ fresh ∷ [])) ⊎ Keeps items views
+
+-- the pass knows that it is of this service's queue
+abbrev pub IsHomeOf : {O : Type 0} → Running O → Option Home → Type 0
+IsHomeOf r None = ⊥
+IsHomeOf r (Some home) = IsSame (shown_by home) r
+
+-- how many callers the service has that the pass knows
+abbrev pub callers_at : Option Home → ℕ
+callers_at None = 0
+callers_at (Some home) = home.callers
+
+-- it is a caller of the service that the pass knows
+abbrev pub IsCallerAt : Option Home → Seated → Type 0
+IsCallerAt None x = ⊥
+IsCallerAt (Some home) x = IsCallerOf (shown_by home) x
+
+-- what came out is such a caller, and the pass held fewer than there are
+abbrev pub IsTaken : Hand → Seated → Hand → Type 0
+IsTaken v x w = IsCallerAt v.home x × (w ≡ with_taken v x) × (length v.held < callers_at v.home)
+
+-- All that was placed is with this pass or in the queue, and the calls told to it are theirs.
+pub record IsWhole (v : Hand) (items : List Seated) : Type 0 where
+  pub callers : (h : ℕ → ℕ) → total h v.placed ≡ numbers_weigh h v.held + numbers_weigh h items
+  pub calls : (h : Told → ℕ) → total h v.told ≡ calls_weigh h v.held + calls_weigh h items
+
+-- what a pass learns of the queue: there is room in it for what the pass holds, and a pass with every part learns the whole
+pub record Tells (v : Hand) (items : List Seated) : Type 0 where
+  pub room : length v.held + length items ≤ callers_at v.home
+  pub whole : v.parts ≡ all_parts → IsWhole v items
+
+-- what the first pass knows before any caller is placed
+pub record IsOpened {O : Type 0} (r : Running O) (v : Hand) : Type 0 where
+  pub home : IsHomeOf r v.home
+  pub parts : v.parts ≡ all_parts
+  pub placed : v.placed ≡ []
+  pub held : v.held ≡ []
+  pub told : v.told ≡ []
+
+-- the calls that a pass was told, once it gave this caller back
+abbrev pub hand_told : Hand → Seated → List Told
+hand_told v x = (with_given v x).told
+
+abbrev pub told_with : ℕ → Linked → Answer → Told
+told_with n entry answer = record { caller = n; entry = entry; answer = answer }

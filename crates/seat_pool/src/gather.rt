@@ -1,0 +1,142 @@
+//! All callers are gathered: those that clients keep and those in the queue.
+
+ghost use Rattle.std.specs.Prelude.{◌≡◌, ◌+◌, ◌<◌, ◌≤◌, ℕ, [], All, map, length, vec_capacity, vec_len};
+ghost use Rattle.std.specs.List.{range_with_len};
+ghost use Rattle.crossbeam_queue.specs.Passes.{view, IsPassOf};
+ghost use Rattle.cx_rule.specs.Running.{IsSeatOf};
+ghost use Rattle.cx_service.specs.Closes.{seat_of, seats_of};
+ghost use Rattle.cx_table.specs.Remains.{AreSeats};
+ghost use Rattle.seat_pool.specs.Gathering.{AreSame, AreTold, Gathers, IsAt, IsLentOf, IsRestOf, number_of, one_at};
+ghost use Rattle.seat_pool.specs.Pooling.{IsHomeOf, IsWhole, all_parts, both, total};
+
+use crate::hand::Hand;
+use crate::lent::Lent;
+use crate::queue::{learn, merge, take};
+use crate::rule::Line;
+use crossbeam_queue::Pass;
+use cx_base::Object;
+use cx_service::{Caller, Handed, Service};
+use std::sync::Wait;
+
+/// Takes in what was lent to a client.
+pub(crate) fn take_in<O: Object>(
+    service: &Service<O>,
+    line: &Line,
+    pass: &mut Pass<Caller, Hand>,
+    mut gathered: Vec<Handed>,
+    lent: Lent,
+) -> Vec<Handed>
+    requires pass { IsPassOf line.now pass.old × IsHomeOf service.now (view pass.old).home × (0 < (view pass.old).parts) }
+    requires gathered { Gathers service.now (view pass.old).held gathered.items × (service.now.callers ≤ vec_capacity gathered) }
+    requires lent { IsLentOf service.now line.now.table.shared.table_id lent }
+    ensures pass { IsPassOf line.now pass.new × (view pass.new ≡ both (view pass.old) (view lent.pass)) }
+    ensures gathered { Gathers service.now (view pass.new).held result.items × (vec_capacity result ≡ vec_capacity gathered) }
+{
+    let Lent { pass: other, kept } = lent;
+    merge(service, line, pass, other);
+    learn(service, line, pass);
+    if let Some(handed) = kept {
+        gathered.push_reserved(handed);
+    }
+    gathered
+}
+
+/// Takes all callers out of the queue that no client holds a part of.
+pub(crate) fn drain<O: Object, R: Wait>(
+    rt: &R,
+    service: &Service<O>,
+    line: &Line,
+    pass: &mut Pass<Caller, Hand>,
+    gathered: Vec<Handed>,
+) -> Vec<Handed>
+    requires pass { IsPassOf line.now pass.old × IsHomeOf service.now (view pass.old).home × ((view pass.old).parts ≡ all_parts) }
+    requires gathered { Gathers service.now (view pass.old).held gathered.items × (service.now.callers ≤ vec_capacity gathered) }
+    ensures gathered { Gathers service.now (view pass.new).held result.items }
+    ensures whole { IsWhole (view pass.new) [] }
+    ensures same { ((view pass.new).placed ≡ (view pass.old).placed) × ((view pass.new).told ≡ (view pass.old).told) }
+{
+    let mut gathered = gathered;
+    for _ in rt.forever() {
+        match take(rt, service, line, pass) {
+            Some(caller) => gathered.push_reserved(Handed::Idle(caller)),
+            None => return gathered,
+        }
+    }
+    unreachable!()
+}
+
+/// The number of a caller, in whatever state it is.
+fn number(handed: &Handed) -> u32
+    ensures { result ≡ number_of handed.now }
+{
+    match handed {
+        Handed::Idle(caller) => caller.number(),
+        Handed::Linked(linked) => linked.number(),
+        Handed::Stopped(stopped) => stopped.number(),
+    }
+}
+
+/// The place of the caller of this number.
+fn find(gathered: &Vec<Handed>, wanted: usize) -> usize
+    requires { 0 < total (λ g. one_at wanted (number_of g)) gathered.now.items }
+    ensures { IsAt gathered.now.items result wanted }
+{
+    let mut place = 0;
+    for handed in gathered {
+        if number(handed) as usize == wanted {
+            return place;
+        }
+        place += 1;
+    }
+    unreachable!()
+}
+
+/// The gathered callers, of caller 0 first.
+pub(crate) fn in_order<O: Object>(
+    service: &Service<O>,
+    gathered: Vec<Handed>,
+    out: Vec<Handed>,
+) -> Vec<Handed>
+    requires all { All (λ g. IsSeatOf service.now (seat_of g)) gathered.items }
+    requires numbers { (h : ℕ → ℕ) → total (λ g. h (number_of g)) gathered.items ≡ total h (range_with_len 0 service.now.callers) }
+    requires out { (out.items ≡ []) × (service.now.callers ≤ vec_capacity out) }
+    ensures all { AreSeats service.now (seats_of result.items) }
+    ensures same { AreSame result.items gathered.items }
+{
+    let _ = service;
+    let mut gathered = gathered;
+    let mut out = out;
+    while !gathered.is_empty() {
+        let place = find(&gathered, out.len());
+        out.push_reserved(gathered.remove(place));
+    }
+    out
+}
+
+/// All callers of the service, of caller 0 first, where `lents` are all that was lent of the queue. The calls that were told are the callers' answered
+/// calls, but for at most one of each stopped caller, which was told to nobody.
+pub(crate) fn gather<O: Object, R: Wait>(
+    rt: &R,
+    service: &Service<O>,
+    line: &Line,
+    pass: Pass<Caller, Hand>,
+    lents: Vec<Lent>,
+    gathered: Vec<Handed>,
+    out: Vec<Handed>,
+) -> Vec<Handed>
+    requires pass { IsPassOf line.now pass × IsRestOf service.now (view pass) (length lents.items) }
+    requires lents { All (IsLentOf service.now line.now.table.shared.table_id) lents.items }
+    requires gathered { (gathered.items ≡ []) × (service.now.callers ≤ vec_capacity gathered) }
+    requires out { (out.items ≡ []) × (service.now.callers ≤ vec_capacity out) }
+    ensures seats { AreSeats service.now (seats_of result.items) }
+    ensures told { AreTold lents.items result.items }
+{
+    let mut pass = pass;
+    let mut lents = lents;
+    let mut gathered = gathered;
+    while let Some(lent) = lents.pop() {
+        gathered = take_in(service, line, &mut pass, gathered, lent);
+    }
+    let gathered = drain(rt, service, line, &mut pass, gathered);
+    in_order(service, gathered, out)
+}

@@ -1,0 +1,29 @@
+//! A queue that lends the callers of one service to any number of passes, and the account of their calls. Clients that take callers by it are no
+//! part of this crate.
+//!
+//! What holds at every moment is the rule `Lends` (`Pools` and `Keeps` in `specs/Pooling.antt`): the queue holds callers of one service, in no call; each
+//! caller that was placed is in the queue or held by one pass; and the calls that passes were told are the answered calls of the callers (an entry with its
+//! answer), each once, where a held caller counts with those that it had when it was taken out. Its kinds of step are a push and a pop.
+//!
+//! - `open`, `place`: a queue for a service, and its callers in it.
+//! - `take` gives a caller of the service. `give` gives the pass's last caller back, and what it was answered since is told to the pass in the same push; it
+//!   never fails, so no caller is lost. `answers_are_told`: after an update those are the update's entry with its answer.
+//! - `share` makes a further pass, and `merge` puts what another pass knows and holds to this one.
+//! - `close`: with all that was lent, the queue is emptied and the service closed. All callers are handed in, each once and of caller 0 first (also those that
+//!   are stopped), and the calls that the callers show as answered are those that were told, each once, but for at most one of each stopped caller (`AreTold`).
+#![tactic(auto)]
+
+mod closing;
+mod gather;
+mod hand;
+mod laws;
+mod lent;
+mod queue;
+mod rule;
+
+pub use closing::close;
+pub use hand::{Hand, Home, Told};
+pub use laws::answers_are_told;
+pub use lent::Lent;
+pub use queue::{give, learn, merge, open, place, share, take};
+pub use rule::{Lends, Line};

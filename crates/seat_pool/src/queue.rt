@@ -1,0 +1,137 @@
+//! What a pass does with the queue.
+
+ghost use Rattle.std.specs.Prelude.{◌≡◌, ◌<◌, ◌≤◌, [], IfOk, MatchOption, length};
+ghost use Rattle.crossbeam_queue.specs.Fifo.{Held};
+ghost use Rattle.crossbeam_queue.specs.Passes.{view, IsPassOf, ruled_capacity};
+ghost use Rattle.cx_service.specs.Callers.{IsCallerOf};
+ghost use Rattle.seat_pool.specs.Pooling.{IsFirstOf, IsHomeOf, IsOpened, IsSame, Tells, all_parts, both, calls_of, cut_left, cut_right, opened, shown_by, with_given, with_placed, with_taken};
+
+use crate::hand::Hand;
+use crate::rule::{Gives, Known, Line, Opens, Parted, Places, Takes};
+use crossbeam_queue::Pass;
+use cx_base::Object;
+use cx_service::{Caller, Service};
+use std::alloc::{AllocError, Global};
+use std::marker::Brand;
+use std::sync::Wait;
+
+/// A queue with room for so many callers of this service, and its first pass, which has every part.
+pub fn open<O: Object>(
+    alloc: Global,
+    service: &Service<O>,
+    room: usize,
+) -> Result<(Line, Pass<Caller, Hand>), AllocError>
+    requires { 0 < room }
+    ensures { IfOk result (λ q. IsPassOf q.0 q.1 × (ruled_capacity q.0 ≡ room) × IsOpened service.now (view q.1)) }
+{
+    open_for::<O, Brand>(alloc, service, room)
+}
+
+fn open_for<O: Object, K: Known>(
+    alloc: Global,
+    service: &Service<O>,
+    room: usize,
+) -> Result<(Line, Pass<Caller, Hand>), AllocError>
+    requires room { 0 < room }
+    requires home { IsSame (shown_by K.home) service.now }
+    ensures { IfOk result (λ q. IsPassOf q.0 q.1 × (ruled_capacity q.0 ≡ room) × (view q.1 ≡ opened K.home)) }
+{
+    let _ = service;
+    let (line, mut pass) = Line::ruled(alloc, room)?;
+    let _spent = line.another::<Opens<K>>(&mut pass);
+    Ok((line, pass))
+}
+
+/// Places a caller whose calls were told to nobody in the queue, which has room for all callers of the service.
+pub fn place<O: Object, R: Wait>(
+    rt: &R,
+    service: &Service<O>,
+    line: &Line,
+    pass: &mut Pass<Caller, Hand>,
+    caller: Caller,
+)
+    requires pass { IsPassOf line.now pass.old × IsHomeOf service.now (view pass.old).home × ((view pass.old).parts ≡ all_parts) }
+    requires room { (length (view pass.old).placed < service.now.callers) × (ruled_capacity line.now ≡ service.now.callers) }
+    requires caller { IsCallerOf service.now caller × (calls_of caller ≡ []) }
+    ensures { IsPassOf line.now pass.new × (view pass.new ≡ with_placed (view pass.old) caller) }
+{
+    let _ = service;
+    match line.push_as::<Places, R>(rt, pass, caller) {
+        Ok(()) => (),
+        Err(_) => unreachable!(),
+    }
+}
+
+/// Takes a caller out of the queue. `None` only if the queue was empty at one moment of the call.
+pub fn take<O: Object, R: Wait>(
+    rt: &R,
+    service: &Service<O>,
+    line: &Line,
+    pass: &mut Pass<Caller, Hand>,
+) -> Option<Caller>
+    requires { IsPassOf line.now pass.old × IsHomeOf service.now (view pass.old).home × (0 < (view pass.old).parts) }
+    ensures pass { IsPassOf line.now pass.new }
+    ensures caller { MatchOption result ((view pass.new ≡ view pass.old) × Held 0 (Tells (view pass.old))) (λ x. IsCallerOf service.now x × (view pass.new ≡ with_taken (view pass.old) x) × (length (view pass.old).held < service.now.callers)) }
+{
+    let _ = service;
+    line.pop_as::<Takes, R>(rt, pass)
+}
+
+/// Gives back the caller that the pass took last. The calls that it has more since are told to the pass in the same step.
+pub fn give<O: Object, R: Wait>(
+    rt: &R,
+    service: &Service<O>,
+    line: &Line,
+    pass: &mut Pass<Caller, Hand>,
+    caller: Caller,
+)
+    requires pass { IsPassOf line.now pass.old × IsHomeOf service.now (view pass.old).home × (0 < (view pass.old).parts) }
+    requires room { ruled_capacity line.now ≡ service.now.callers }
+    requires caller { IsCallerOf service.now caller × IsFirstOf (view pass.old).held caller }
+    ensures { IsPassOf line.now pass.new × (view pass.new ≡ with_given (view pass.old) caller) }
+{
+    let _ = service;
+    match line.push_as::<Gives, R>(rt, pass, caller) {
+        Ok(()) => (),
+        Err(_) => unreachable!(),
+    }
+}
+
+/// A further pass, with one part.
+pub fn share<O: Object>(
+    service: &Service<O>,
+    line: &Line,
+    pass: &mut Pass<Caller, Hand>,
+) -> Pass<Caller, Hand>
+    requires { IsPassOf line.now pass.old × IsHomeOf service.now (view pass.old).home × (1 < (view pass.old).parts) }
+    ensures old { IsPassOf line.now pass.new × (view pass.new ≡ cut_left (view pass.old)) }
+    ensures new { IsPassOf line.now result × (view result ≡ cut_right (view pass.old)) }
+{
+    let _ = service;
+    line.another::<Parted>(pass)
+}
+
+/// Puts what another pass knows and holds to this one.
+pub fn merge<O: Object>(
+    service: &Service<O>,
+    line: &Line,
+    pass: &mut Pass<Caller, Hand>,
+    other: Pass<Caller, Hand>,
+)
+    requires pass { IsPassOf line.now pass.old × IsHomeOf service.now (view pass.old).home × (0 < (view pass.old).parts) }
+    requires other { IsPassOf line.now other }
+    ensures { IsPassOf line.now pass.new × (view pass.new ≡ both (view pass.old) (view other)) }
+{
+    let _ = service;
+    line.absorb::<Parted>(pass, other);
+}
+
+/// What the pass knows of the queue at one moment of the call.
+pub fn learn<O: Object>(service: &Service<O>, line: &Line, pass: &mut Pass<Caller, Hand>)
+    requires { IsPassOf line.now pass.old × IsHomeOf service.now (view pass.old).home }
+    ensures same { IsPassOf line.now pass.new × (view pass.new ≡ view pass.old) }
+    ensures room { length (view pass.old).held ≤ service.now.callers }
+{
+    let _ = service;
+    line.learn_as::<Takes>(pass);
+}

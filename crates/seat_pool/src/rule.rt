@@ -1,0 +1,124 @@
+//! The rule of the queue, and what its steps tell.
+
+use crate::hand::Hand;
+use crossbeam_queue::RuledArrayQueue;
+use crossbeam_queue::protocol::{Join, Lesson, Outcome, Protocol, Split};
+use cx_service::Caller;
+use std::marker::{Brand, PhantomData};
+
+/// The rule: the queue holds callers of one service, each caller that was placed is in the queue or held by one pass, and the calls that passes
+/// were told are the answered calls of the callers, each once.
+pub struct Lends;
+
+impl Protocol<Caller, Hand> for Lends {
+    ghost use Rattle.seat_pool.specs.Pooling.{Pools, fresh};
+
+    ghost holds = { Pools };
+
+    ghost first = { fresh };
+}
+
+/// A queue that lends callers.
+pub type Line = RuledArrayQueue<Caller, Hand, Lends>;
+
+/// Which service the callers of a queue are of. A call picks it.
+pub trait Known {
+    ghost use Rattle.seat_pool.specs.declared.hand.Home as hand_home;
+
+    ghost home: { hand_home.Home };
+}
+
+impl Known for Brand {
+    ghost use Rattle.std.specs.Prelude.{[]};
+    ghost use Rattle.cx_rule.specs.Seats.{nobody};
+
+    ghost home = { record {
+      base = record { place = 0; words = [] };
+      callers = 0;
+      first = record {
+        table = record { words = 0; slots = 0; views_name = 0; atom = 0; block = 0; offset = 0; slot_names = [] };
+        before = 0;
+        region = 0;
+        known = nobody;
+      };
+    } };
+}
+
+/// The first pass learns the service.
+pub(crate) struct Opens<K> {
+    by: PhantomData<K>,
+}
+
+impl<K: Known> Split<Hand> for Opens<K> {
+    ghost use Rattle.seat_pool.specs.Pooling.{nothing, opened};
+
+    ghost left = { λ v. opened K.home };
+
+    ghost right = { λ v. nothing };
+}
+
+/// A pass with one part is made of another, and what two passes know and hold is put together.
+pub(crate) struct Parted;
+
+impl Split<Hand> for Parted {
+    ghost use Rattle.seat_pool.specs.Pooling.{cut_left, cut_right};
+
+    ghost left = { λ v. cut_left v };
+
+    ghost right = { λ v. cut_right v };
+}
+
+impl Join<Hand> for Parted {
+    ghost use Rattle.seat_pool.specs.Pooling.{both, nothing};
+
+    ghost both = { λ v w. both v w };
+
+    ghost spent = { nothing };
+}
+
+/// A caller is placed in the queue.
+pub(crate) struct Places;
+
+impl Outcome<Caller, Hand> for Places {
+    ghost use Rattle.std.specs.Prelude.{◌≡◌};
+    ghost use Rattle.seat_pool.specs.Pooling.{with_placed};
+
+    ghost then = { λ v x w. w ≡ with_placed v x };
+}
+
+impl Lesson<Caller, Hand> for Places {
+    ghost use Rattle.seat_pool.specs.Pooling.{Tells};
+
+    ghost fact = { λ v items. Tells v items };
+}
+
+/// A caller is taken out.
+pub(crate) struct Takes;
+
+impl Outcome<Caller, Hand> for Takes {
+    ghost use Rattle.seat_pool.specs.Pooling.{IsTaken};
+
+    ghost then = { λ v x w. IsTaken v x w };
+}
+
+impl Lesson<Caller, Hand> for Takes {
+    ghost use Rattle.seat_pool.specs.Pooling.{Tells};
+
+    ghost fact = { λ v items. Tells v items };
+}
+
+/// A caller is given back, and its new calls are told in the same step.
+pub(crate) struct Gives;
+
+impl Outcome<Caller, Hand> for Gives {
+    ghost use Rattle.std.specs.Prelude.{◌≡◌};
+    ghost use Rattle.seat_pool.specs.Pooling.{with_given};
+
+    ghost then = { λ v x w. w ≡ with_given v x };
+}
+
+impl Lesson<Caller, Hand> for Gives {
+    ghost use Rattle.seat_pool.specs.Pooling.{Tells};
+
+    ghost fact = { λ v items. Tells v items };
+}
