@@ -23,7 +23,7 @@ mod rule;
 
 pub use closing::close;
 pub use hand::{Hand, Home, Told};
-pub use laws::answers_are_told;
+pub use laws::{answers_are_told, stopped_are_kept};
 pub use lent::Lent;
 pub use queue::{give, learn, merge, open, place, share, take};
 pub use rule::{Lends, Line};
