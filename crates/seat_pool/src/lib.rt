@@ -11,6 +11,7 @@
 //! - `share` makes a further pass, and `merge` puts what another pass knows and holds to this one.
 //! - `close`: with all that was lent, the queue is emptied and the service closed. All callers are handed in, each once and of caller 0 first (also those that
 //!   are stopped), and the calls that the callers show as answered are those that were told, each once, but for at most one of each stopped caller (`AreTold`).
+//!   `stopped_are_kept`: a caller that an update stopped is one that its client may keep until then.
 #![tactic(auto)]
 
 mod closing;
@@ -23,7 +24,7 @@ mod rule;
 
 pub use closing::close;
 pub use hand::{Hand, Home, Told};
-pub use laws::answers_are_told;
+pub use laws::{answers_are_told, stopped_are_kept};
 pub use lent::Lent;
 pub use queue::{give, learn, merge, open, place, share, take};
 pub use rule::{Lends, Line};
