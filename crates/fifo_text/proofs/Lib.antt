@@ -1,0 +1,2 @@
+pub mod NoCuts
+pub mod Records

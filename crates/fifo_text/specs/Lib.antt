@@ -1,0 +1,7 @@
+pub mod CommandLaws
+pub mod CommandReasons
+pub mod Grammar
+pub mod Reading
+pub mod Reasons
+pub mod Report
+pub mod Uncut
