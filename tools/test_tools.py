@@ -533,6 +533,13 @@ class Program(unittest.TestCase):
             with self.subTest(words):
                 self.assertEqual((0, text.encode(), 0), self.ran(words, HEAD))
 
+    def test_scripts_of_a_queue(self):
+        queues = json.loads((ROWS / "queues.json").read_text("utf-8"))
+        self.assertGreaterEqual(len(queues), 20)
+        for script, status, text in queues:
+            with self.subTest(script):
+                self.assertEqual((status, text.encode(), len(script.encode())), self.ran(["fifo"], script.encode()))
+
     def test_random_scripts(self):
         self.assertIsNone(random_lives.compare(100, random_lives.Seen()))
 

@@ -4,13 +4,15 @@ use Rattle.std.proofs.lemmas.Bool.{cases_Bool}
 use Rattle.image_answers.specs.declared.answering.ImageEnd.{ImageEnd}
 use Rattle.image_answers.specs.declared.answering.ImageEnd.TheVariants as ends
 use Rattle.image_answers.proofs.Ends.{one_end}
+use Rattle.doc_text.specs.Grammar.{IsScript}
+use Rattle.fifo_text.specs.Grammar.{IsFifoScript}
 use Rattle.cx_program.specs.Answer.{Calls, Owed, Read}
 use Rattle.cx_program.specs.Commands.{Command, command, command_of, load_command, recover_command, script_calls, usage_command}
 use Rattle.cx_program.specs.Input.{IsInput}
 use Rattle.cx_program.specs.Status.{status_of}
 use Rattle.cx_program.specs.Texts.{too_long_text}
 use Rattle.cx_program.specs.declared.asked.Asked.{Asked}
-use Rattle.cx_program.specs.declared.asked.Asked.TheVariants.{Run, Image, Recover, Load}
+use Rattle.cx_program.specs.declared.asked.Asked.TheVariants.{Run, Image, Recover, Fifo, Load}
 use Rattle.cx_program.specs.declared.status.Status.{Status}
 use Rattle.cx_program.specs.declared.status.Status.TheVariants.{Fine, Usage, Refused, ReadFault, WriteFault, Memory, TooLong}
 use Rattle.cx_rule.specs.Ending.{Ending}
@@ -26,19 +28,20 @@ pub record IsSound (command : Command) : Type 0 where
   pub one : (input : List ℕ) (a b : Status) → command.calls input a → command.calls input b → a ≡ b
   pub plain : (input : List ℕ) (status : Status) → command.calls input status → GivesUp status → ⊥
 
-script_one : (input : List ℕ) (a b : Status) → script_calls input a → script_calls input b → a ≡ b
-script_one input Fine Fine x y = refl
-script_one input Fine Refused x y = absurd (y x.0 x.1)
-script_one input Refused Fine x y = absurd (x y.0 y.1)
-script_one input Refused Refused x y = refl
-script_one input Fine b x y = absurd y
-script_one input Refused b x y = absurd y
-script_one input a b x y = absurd x
+module _ {Script : Type 0} (Is : List ℕ → Script → Type 0) where
+  script_one : (input : List ℕ) (a b : Status) → script_calls Is input a → script_calls Is input b → a ≡ b
+  script_one input Fine Fine x y = refl
+  script_one input Fine Refused x y = absurd (y x.0 x.1)
+  script_one input Refused Fine x y = absurd (x y.0 y.1)
+  script_one input Refused Refused x y = refl
+  script_one input Fine b x y = absurd y
+  script_one input Refused b x y = absurd y
+  script_one input a b x y = absurd x
 
-script_plain : (input : List ℕ) (status : Status) → script_calls input status → GivesUp status → ⊥
-script_plain input Fine calls gives = gives
-script_plain input Refused calls gives = gives
-script_plain input status calls gives = absurd calls
+  script_plain : (input : List ℕ) (status : Status) → script_calls Is input status → GivesUp status → ⊥
+  script_plain input Fine calls gives = gives
+  script_plain input Refused calls gives = gives
+  script_plain input status calls gives = absurd calls
 
 ends_tell : (end : ImageEnd) → GivesUp (status_of end) → ⊥
 ends_tell ends.Fine gives = gives
@@ -59,9 +62,10 @@ always command wanted tells is = record {
 }
 
 pub sound : (asked : Option Asked) → IsSound (command_of asked)
-sound (Some Run) = record { one = script_one; plain = script_plain }
-sound (Some Image) = record { one = script_one; plain = script_plain }
+sound (Some Run) = record { one = script_one IsScript; plain = script_plain IsScript }
+sound (Some Image) = record { one = script_one IsScript; plain = script_plain IsScript }
 sound (Some Recover) = recover_sound
+sound (Some Fifo) = record { one = script_one IsFifoScript; plain = script_plain IsFifoScript }
 sound (Some (Load load)) = always (load_command load.from load.clients load.ops) Fine (λ gives. gives) (λ input status calls. calls)
 sound None = always usage_command Usage (λ gives. gives) (λ input status calls. calls)
 

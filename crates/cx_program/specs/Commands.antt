@@ -1,17 +1,19 @@
 -- The commands: for each the words that ask for it, whether it reads an input, and what it owes for one.
 use Rattle.std.specs.Prelude.{◌≡◌, ℕ, Bool, true, false, List, [], Option, Some, None, codes}
 use Rattle.cx_rule.specs.Ending.{Ending}
-use Rattle.doc_model.specs.declared.operations.Op.{Op}
 use Rattle.image_answers.specs.Texts.{Ends, Writes}
 use Rattle.image_answers.specs.declared.answering.ImageEnd.{ImageEnd}
-use Rattle.life_records.specs.declared.script.Script.{Script}
-use Rattle.doc_text.specs.Grammar.{IsScript}
+use Rattle.doc_text.specs.Grammar.{IsScript, document_grammar}
+use Rattle.doc_text.specs.Reasons.{reason_text}
+use Rattle.fifo_answers.specs.Texts.{IsFifoReport}
+use Rattle.fifo_text.specs.Grammar.{IsFifoScript, queue_grammar}
+use Rattle.fifo_text.specs.Reasons as queue_reasons
 use Rattle.script_answers.specs.Texts.{IsLastImage, IsReport, IsSummary}
 use Rattle.cx_program.specs.Status.{status_of}
 use Rattle.cx_program.specs.Texts.{IsRefusal, usage_text}
 use Rattle.cx_program.specs.Words.{IsAlone, IsLoadOf}
 use Rattle.cx_program.specs.declared.asked.Asked.{Asked}
-use Rattle.cx_program.specs.declared.asked.Asked.TheVariants.{Run, Image, Recover, Load}
+use Rattle.cx_program.specs.declared.asked.Asked.TheVariants.{Run, Image, Recover, Fifo, Load}
 use Rattle.cx_program.specs.declared.status.Status.{Status}
 use Rattle.cx_program.specs.declared.status.Status.TheVariants.{Fine, Usage, Refused}
 
@@ -22,25 +24,45 @@ pub record Command : Type 1 where
   pub calls : List ℕ → Status → Type 0
   pub writes : List ℕ → Status → List Ending → List ℕ → Type 0
 
--- a script is run, and what is none is refused
-abbrev pub script_calls : List ℕ → Status → Type 0
-script_calls input Fine = (script : Script Op) × IsScript input script
-script_calls input Refused = (script : Script Op) → IsScript input script → ⊥
-script_calls input _ = ⊥
+module _ {Script : Type 0} (Is : List ℕ → Script → Type 0) where
+  -- a script is run, and what is none is refused
+  abbrev pub script_calls : List ℕ → Status → Type 0
+  script_calls input Fine = (script : Script) × Is input script
+  script_calls input Refused = (script : Script) → Is input script → ⊥
+  script_calls input _ = ⊥
 
--- the text tells this of the script that the input is, whose lives left these trails
-abbrev pub script_writes : (Script Op → List Ending → List ℕ → Type 0) → List ℕ → Status → List Ending → List ℕ → Type 0
-script_writes Tells input Fine trails text = (script : Script Op) × IsScript input script × Tells script trails text
-script_writes Tells input Refused trails text = IsRefusal input text
-script_writes Tells input _ trails text = ⊥
+  -- the text tells this of the script that the input is, whose lives left these trails, or it refuses what is none
+  abbrev pub script_writes : (List ℕ → List ℕ → Type 0) → (Script → List Ending → List ℕ → Type 0) → List ℕ → Status → List Ending → List ℕ → Type 0
+  script_writes Refuses Tells input Fine trails text = (script : Script) × Is input script × Tells script trails text
+  script_writes Refuses Tells input Refused trails text = Refuses input text
+  script_writes Refuses Tells input _ trails text = ⊥
 
 -- `run` tells of all lives in a report
 abbrev pub run_command : Command
-run_command = record { asked = IsAlone (codes "run"); reads = true; calls = script_calls; writes = script_writes IsReport }
+run_command = record {
+  asked = IsAlone (codes "run");
+  reads = true;
+  calls = script_calls IsScript;
+  writes = script_writes IsScript (IsRefusal document_grammar reason_text) IsReport;
+}
 
 -- `image` writes the image that the last life left
 abbrev pub image_command : Command
-image_command = record { asked = IsAlone (codes "image"); reads = true; calls = script_calls; writes = script_writes IsLastImage }
+image_command = record {
+  asked = IsAlone (codes "image");
+  reads = true;
+  calls = script_calls IsScript;
+  writes = script_writes IsScript (IsRefusal document_grammar reason_text) IsLastImage;
+}
+
+-- `fifo` tells of all lives of a queue in a report
+abbrev pub fifo_command : Command
+fifo_command = record {
+  asked = IsAlone (codes "fifo");
+  reads = true;
+  calls = script_calls IsFifoScript;
+  writes = script_writes IsFifoScript (IsRefusal queue_grammar queue_reasons.reason_text) IsFifoReport;
+}
 
 -- `recover` tells what is recovered from an image, or refuses the image, or what is none; no life is run
 abbrev pub recover_command : Command
@@ -64,6 +86,7 @@ abbrev pub command : Asked → Command
 command Run = run_command
 command Image = image_command
 command Recover = recover_command
+command Fifo = fifo_command
 command (Load load) = load_command load.from load.clients load.ops
 
 -- words that ask for none of these are told which there are

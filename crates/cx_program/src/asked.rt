@@ -51,6 +51,8 @@ pub(crate) enum Asked {
     Image,
     /// That it is told what is recovered from an image.
     Recover,
+    /// That a script of a queue is run, and reported.
+    Fifo,
     /// That a script is made and run.
     Load(Load),
 }

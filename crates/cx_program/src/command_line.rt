@@ -47,6 +47,7 @@ fn asked_alone(word: &str) -> Option<Asked>
         "run" => Some(Asked::Run),
         "image" => Some(Asked::Image),
         "recover" => Some(Asked::Recover),
+        "fifo" => Some(Asked::Fifo),
         _ => None,
     }
 }
@@ -125,6 +126,7 @@ fn matches<'a>(alloc: Global, words: &'a [String]) -> Result<ArgMatches<'a>, Err
     let run = Command::new(alloc, "run");
     let image = Command::new(alloc, "image");
     let recover = Command::new(alloc, "recover");
+    let fifo = Command::new(alloc, "fifo");
     let load = load_command(alloc)?;
     Command::new(alloc, "cx_tool")
         .no_binary_name(true)
@@ -134,6 +136,7 @@ fn matches<'a>(alloc: Global, words: &'a [String]) -> Result<ArgMatches<'a>, Err
         .subcommand(run)?
         .subcommand(image)?
         .subcommand(recover)?
+        .subcommand(fifo)?
         .subcommand(load)?
         .try_get_matches_from(words)
 }

@@ -4,7 +4,7 @@ ghost use Rattle.std.specs.Prelude.{◌≤◌, length, IfOk};
 ghost use Rattle.cx_program.specs.Answer.{HasNone};
 ghost use Rattle.cx_program.specs.Commands.{image_command};
 
-use crate::run::refusal;
+use crate::refusal::refusal;
 use crate::status::{Ended, Status};
 use cx_base::Gate;
 use doc_text::{TextFault, read_script};
@@ -31,7 +31,7 @@ pub(crate) fn image_text<R: Threads + Wait + Sync, G: Gate + Sync>(
             Ok((text, Ended::new(Status::Fine, trails)))
         }
         Err(TextFault::Refused { line, reason }) => {
-            let text = refusal(alloc, line, reason)?;
+            let text = refusal(alloc, line, reason.word())?;
             Ok((text, Ended::without_lives(alloc, Status::Refused)))
         }
         Err(TextFault::Memory) => Err(AllocError),

@@ -4,12 +4,14 @@
 mod arguments;
 mod asked;
 mod command_line;
+mod fifo;
 mod image;
 mod input;
 mod load;
 mod output;
 mod patient;
 mod recover;
+mod refusal;
 mod run;
 mod standard;
 mod status;

@@ -7,6 +7,7 @@ ghost use Rattle.cx_program.specs.Input.{IsInput, Shows, TookAtMost};
 
 use crate::asked::Asked;
 use crate::command_line::read_words;
+use crate::fifo::queue_text;
 use crate::image::image_text;
 use crate::input::{Input, read_input};
 use crate::load::load_text;
@@ -20,12 +21,12 @@ use std::sync::Wait;
 use std::thread::Threads;
 
 /// What is written where the words are no command.
-const USAGE: &[u8] = b"usage: cx_tool run | image | recover | load FROM CLIENTS OPS\n";
+const USAGE: &[u8] = b"usage: cx_tool run | image | recover | load FROM CLIENTS OPS | fifo\n";
 
 /// Runs the command that the words name. With `run` it reads a script from the source, runs its lives and writes the
 /// report, with `image` the image that the last loss of power left; with `recover` it reads such an image, and tells what is recovered
-/// from it; with `load` and three numbers it makes a script, runs it and tells of it in four lines, and nothing is read. A
-/// text that says why is written in its place where the words or the input are refused. The whole text is
+/// from it; with `fifo` it reads a script of a queue, runs its lives and writes their report; with `load` and three numbers it makes
+/// a script, runs it and tells of it in four lines, and nothing is read. A text that says why is written in its place where the words or the input are refused. The whole text is
 /// made before its first byte is written. Every outcome is a status. It may wait.
 pub fn cx_run<R: Threads + Wait + Sync, S: Source, K: Sink, G: Gate + Sync>(
     rt: &R,
@@ -37,7 +38,8 @@ pub fn cx_run<R: Threads + Wait + Sync, S: Source, K: Sink, G: Gate + Sync>(
 ) -> Ended
     // What was written is what the command that the words ask for owes, with the one status that its input calls for. For `run` and
     // `Fine` it is the report of legal lives of the script that the input is, each told by the trail of the service that ran it; for
-    // `image` the image from which the base is recovered that such lives end with; for `recover` what is recovered from the input.
+    // `image` the image from which the base is recovered that such lives end with; for `recover` what is recovered from the input; for
+    // `fifo` the report of legal lives of a queue, each told by such a trail.
     ensures answer { Answers (map string_bytes words.now) (S.left source.old) result.status result.trails (K.written sink.old) (K.written sink.new) }
     ensures none { HasNone result }
     // A fault is told only where the object that was handed in counted one.
@@ -101,6 +103,7 @@ fn reads(asked: &Asked) -> bool
         Asked::Run => true,
         Asked::Image => true,
         Asked::Recover => true,
+        Asked::Fifo => true,
         Asked::Load(_) => false,
     }
 }
@@ -156,6 +159,7 @@ fn text_of<R: Threads + Wait + Sync, G: Gate + Sync>(
         Asked::Run => run_text(rt, alloc, bytes, gate),
         Asked::Image => image_text(rt, alloc, bytes, gate),
         Asked::Recover => recover_text(alloc, bytes),
+        Asked::Fifo => queue_text(rt, alloc, bytes, gate),
         Asked::Load(load) => load_text(rt, alloc, load, gate),
     }
 }

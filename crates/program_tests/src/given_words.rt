@@ -81,7 +81,7 @@ fn is_refused<R: Threads + Wait + Sync + AllocGlobal>(
 ) -> Result<bool, AllocError> {
     let alloc = rt.alloc();
     let given = words(&(Arguments { all }, alloc))?;
-    let mut sink = SureSink::new(Vec::with_capacity(alloc, 64)?);
+    let mut sink = SureSink::new(Vec::with_capacity(alloc, 128)?);
     let mut source = SureSource::new(Vec::from_slice(alloc, b"lines 64\n")?);
     let (code, _) = run_over(rt, &given, &mut source, &mut sink, &OpenGate);
     Ok(code == 2 && sink.written() == USAGE.as_bytes())

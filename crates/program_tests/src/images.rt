@@ -9,7 +9,7 @@ use std::test::Fail;
 use std::thread::Threads;
 
 /// A run: its word, its input, its exit code, how many trails it leaves, and what it writes.
-type Row = (&'static str, &'static str, u8, usize, &'static str);
+pub(crate) type Row = (&'static str, &'static str, u8, usize, &'static str);
 
 const ROWS: [Row; 14] = [
     ("image", "", 0, 0, ""),
@@ -110,7 +110,7 @@ fn ran<R: Threads + Wait + Sync + AllocGlobal>(
 }
 
 /// The first run that comes to something else.
-fn first_wrong<R: Threads + Wait + Sync + AllocGlobal>(
+pub(crate) fn first_wrong<R: Threads + Wait + Sync + AllocGlobal>(
     rt: &R,
     rows: &[Row],
 ) -> Result<Option<usize>, AllocError> {

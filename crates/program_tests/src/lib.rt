@@ -1,4 +1,4 @@
-//! Tests of the program behind its `main`: its words, its gate, its images, its standard ends and their faults. It has tests alone.
+//! Tests of the program behind its `main`: its words, its gate, its images, its queue, its standard ends and their faults. It has tests alone.
 #![tactic(auto)]
 
 #[cfg(test)]
@@ -15,6 +15,8 @@ mod holds;
 mod images;
 #[cfg(test)]
 mod program_runs;
+#[cfg(test)]
+mod queues;
 #[cfg(test)]
 mod rounds;
 #[cfg(test)]

@@ -1,0 +1,38 @@
+//! The command `fifo`: a script of a queue that is read and run, and its report.
+
+ghost use Rattle.std.specs.Prelude.{IfOk};
+ghost use Rattle.cx_program.specs.Answer.{HasNone};
+ghost use Rattle.cx_program.specs.Commands.{fifo_command};
+
+use crate::refusal::refusal;
+use crate::status::{Ended, Status};
+use cx_base::Gate;
+use fifo_answers::report_of_queue;
+use fifo_text::{FifoTextFault, read_fifo_script};
+use std::alloc::{AllocError, Global};
+use std::sync::Wait;
+use std::thread::Threads;
+
+/// The text that an input calls for, and how the run ends. `Err` is want of memory. It may wait.
+pub(crate) fn queue_text<R: Threads + Wait + Sync, G: Gate + Sync>(
+    rt: &R,
+    alloc: Global,
+    bytes: &[u8],
+    gate: &G,
+) -> Result<(Vec<u8>, Ended), AllocError>
+    ensures calls { IfOk result (λ made. fifo_command.calls bytes.now made.1.status) }
+    ensures writes { IfOk result (λ made. fifo_command.writes bytes.now made.1.status made.1.trails made.0.items) }
+    ensures none { IfOk result (λ made. HasNone made.1) }
+{
+    match read_fifo_script(alloc, bytes) {
+        Ok(script) => {
+            let (text, trails) = report_of_queue(rt, alloc, &script, gate)?;
+            Ok((text, Ended::new(Status::Fine, trails)))
+        }
+        Err(FifoTextFault::Refused { line, reason }) => {
+            let text = refusal(alloc, line, reason.word())?;
+            Ok((text, Ended::without_lives(alloc, Status::Refused)))
+        }
+        Err(FifoTextFault::Memory) => Err(AllocError),
+    }
+}
