@@ -1,5 +1,5 @@
 -- The limits of a script of a queue are those of the same script with no cuts.
-use Rattle.std.proofs.Common.{ℕ, length, map, subst, arith}
+use Rattle.std.proofs.Common.{subst, arith}
 use Rattle.std.proofs.lemmas.List.{get_or-map, length-map}
 use Rattle.life_records.specs.Limits.{IsLifeInLimits, KeepsLimits}
 use Rattle.life_records.specs.Records.{Life}
