@@ -176,6 +176,12 @@ def first_refusal(script):
     return None
 
 
+def shown_in_documents():
+    """The runs that the documents show: those of documents, and those of a queue."""
+    shown = [run for page in [ROOT / "README.md", *ROOT.glob("docs/*.md")] for run in shown_runs(page.read_text("utf-8"))]
+    return [[run for run in shown if (b" items " in run[1]) is of_queue] for of_queue in (False, True)]
+
+
 def shown_runs(page):
     """The runs that a document shows: a block with a report beside its script, or one with the report of the example named last."""
     for found in re.finditer(r"(?m)^(?: {4}.*\n)+", page):
@@ -221,7 +227,7 @@ class LegalReports(unittest.TestCase):
                 self.assertIsNone(why_refused((EXAMPLES / f"{report.stem}.script").read_bytes(), report.read_bytes()))
 
     def test_reports_in_documents_are_legal(self):
-        shown = [run for page in [ROOT / "README.md", *ROOT.glob("docs/*.md")] for run in shown_runs(page.read_text("utf-8"))]
+        shown, _ = shown_in_documents()
         self.assertGreaterEqual(len(shown), 2)
         for script, report in shown:
             with self.subTest(report[:200]):
@@ -536,6 +542,9 @@ class Program(unittest.TestCase):
     def test_scripts_of_a_queue(self):
         queues = json.loads((ROWS / "queues.json").read_text("utf-8"))
         self.assertGreaterEqual(len(queues), 20)
+        _, shown = shown_in_documents()
+        self.assertGreaterEqual(len(shown), 1)
+        queues += [[script.decode(), 0, report.decode()] for script, report in shown]
         for script, status, text in queues:
             with self.subTest(script):
                 self.assertEqual((status, text.encode(), len(script.encode())), self.ran(["fifo"], script.encode()))
@@ -545,13 +554,13 @@ class Program(unittest.TestCase):
 
     def test_a_held_reader_enters_the_queue(self):
         not_held = []
-        for _ in range(5):
+        for _ in range(8):
             try:
                 if held_reader.queued_reads():
                     return
             except held_reader.NotHeld as why:
                 not_held.append(why)
-        if len(not_held) == 5:
+        if len(not_held) == 8:
             self.skipTest(not_held[0])
         self.fail("no read entered the queue")
 

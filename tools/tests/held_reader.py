@@ -31,7 +31,7 @@ ADDITIONS = 10_000
 READS = 25_000
 MOST_SECONDS = 20
 # how long the reader is held before an instruction with a lock prefix
-HELD_SECONDS = 0.02
+HELD_SECONDS = 0.003
 # the refusals after which a read is entered
 REFUSALS = 8
 # the instructions that are stepped at most to find those, of which so many are watched
