@@ -1,4 +1,4 @@
-//! A queue that lends the callers of one service to any number of passes, and the account of their calls. Clients that take callers by it are no
+//! A queue that lends the callers of one service to up to 1,023 passes, and the account of their calls. Clients that take callers by it are no
 //! part of this crate.
 //!
 //! What holds at every moment is the rule `Lends` (`Pools` and `Keeps` in `specs/Pooling.antt`): the queue holds callers of one service, in no call; each
