@@ -2,6 +2,7 @@
 
 ghost use Rattle.std.specs.Prelude.{◌≡◌, ◌-◌, ◌*◌, ◌^◌, ◌<◌, ◌≤◌, ◌↔◌, nat_lt, IsTrue, IfOk, OnErr, Some};
 ghost use Rattle.cx_base.specs.Memory.{Always, Becomes, Framed};
+ghost use Rattle.cx_base.specs.OldFormat.{no_old_format, takes_over_nothing};
 ghost use Rattle.bounded_counters.specs.Counters.{Counts, IsCounters, counters_step, counters_read_only, counters_opening};
 ghost use Rattle.bounded_counters.specs.CounterLaws as laws;
 ghost use Rattle.bounded_counters.specs.declared.operations.Op.TheVariants.{Add, Read};
@@ -124,6 +125,8 @@ impl Object for Counters {
 
     ghost only_reads = { λ _. counters_read_only };
 
+    ghost old_format = { λ _. no_old_format };
+
     ghost opens = { λ c. laws.opens c.lines c.bound c.some c.zero };
 
     ghost keeps = { λ c image op i w. laws.keeps c.lines c.bound image op i };
@@ -133,6 +136,8 @@ impl Object for Counters {
     ghost replies = { λ c image op i w. laws.replies c.lines c.bound c.small image op i };
 
     ghost leaves = { λ c image op i w. laws.leaves c.lines c.bound image op i };
+
+    ghost takes_over = { λ c. takes_over_nothing c.lines 1 (IsCounters c.lines c.bound) };
 
     fn lines(&self) -> u64 {
         self.lines
@@ -172,4 +177,14 @@ impl Object for Counters {
     fn check(&self, _alloc: Global, words: &[u64]) -> Result<bool, AllocError> {
         Ok(self.is_image(words))
     }
+
+    fn old_version(&self) -> Option<u64> {
+        None
+    }
+
+    fn check_old(&self, _alloc: Global, _words: &[u64]) -> Result<bool, AllocError> {
+        Ok(false)
+    }
+
+    fn upgrade(&self, _words: &mut [u64]) {}
 }

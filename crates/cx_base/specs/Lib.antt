@@ -3,6 +3,7 @@ pub mod Callers
 pub mod Codes
 pub mod Memory
 pub mod Noted
+pub mod OldFormat
 pub mod Outside
 pub mod Packing
 pub mod Store

@@ -3,6 +3,7 @@
 ghost use Rattle.std.specs.Prelude.{◌≡◌, ◌*◌, ◌↔◌, ℕ, Bool, List, length, slice_index, IsTrue, IfOk};
 ghost use Rattle.cx_base.specs.Calls.{Changes, Finds};
 ghost use Rattle.cx_base.specs.Memory.{Words, Always};
+ghost use Rattle.cx_base.specs.OldFormat.{OldFormat, TakesOver};
 
 use crate::memory::{Halt, Memory};
 use std::alloc::{AllocError, Global};
@@ -27,6 +28,9 @@ pub trait Object: Drop {
 
     /// Whether an operation only reads.
     ghost only_reads: { Self → List ℕ → Bool };
+
+    /// The format that its images had before, from which they are taken over.
+    ghost old_format: { Self → OldFormat };
 
     /// The lines of its image, a line is 8 words. It is a constant of the value.
     fn lines(&self) -> u64
@@ -65,6 +69,19 @@ pub trait Object: Drop {
     fn check(&self, alloc: Global, words: &[u64]) -> Result<bool, AllocError>
         ensures { IfOk result (λ yes. IsTrue yes ↔ lawful self.now words.now) };
 
+    /// The version of the format before, where there was one. It is a constant of the value.
+    fn old_version(&self) -> Option<u64>
+        ensures { result ≡ (old_format self.now).version };
+
+    /// Whether words are a lawful image of the old version. `Err` is want of memory.
+    fn check_old(&self, alloc: Global, words: &[u64]) -> Result<bool, AllocError>
+        ensures { IfOk result (λ yes. IsTrue yes ↔ (old_format self.now).lawful words.now) };
+
+    /// Makes the image that one of the old version becomes.
+    fn upgrade(&self, words: &mut [u64])
+        requires { (old_format self.now).lawful words.old }
+        ensures { words.new ≡ (old_format self.now).upgraded words.old };
+
     /// The opening image is lawful.
     ghost opens: { (o : Self) → lawful o (opening o) };
 
@@ -79,4 +96,7 @@ pub trait Object: Drop {
 
     /// An operation that only reads leaves the image.
     ghost leaves: { (o : Self) (image op : List ℕ) → lawful o image → Words 144 op → IsTrue (only_reads o op) → (step o image op).0 ≡ image };
+
+    /// What an image of the old version becomes is lawful.
+    ghost takes_over: { (o : Self) → TakesOver (line_count o) (version_number o) (lawful o) (old_format o) };
 }

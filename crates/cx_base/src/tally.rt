@@ -2,6 +2,7 @@
 
 ghost use Rattle.std.specs.Prelude.{◌≡◌, ◌<◌, ◌^◌, ℕ, Bool, List, length, slice_index, IsTrue};
 ghost use Rattle.cx_base.specs.Memory.{Words};
+ghost use Rattle.cx_base.specs.OldFormat.{no_old_format, takes_over_nothing};
 ghost use Rattle.cx_base.specs.Tally.{IsTally, tally_opening, tally_reads, tally_reply, tally_step};
 ghost use Rattle.cx_base.specs.TallyLaws.{tally_opens, tally_keeps, tally_shape, tally_replies, tally_leaves};
 
@@ -31,6 +32,8 @@ impl Object for Tally {
 
     ghost only_reads = { λ _. tally_reads };
 
+    ghost old_format = { λ _. no_old_format };
+
     ghost opens = { tally_opens };
 
     ghost keeps = { tally_keeps };
@@ -40,6 +43,8 @@ impl Object for Tally {
     ghost replies = { tally_replies };
 
     ghost leaves = { tally_leaves };
+
+    ghost takes_over = { λ _. takes_over_nothing 64 7 IsTally };
 
     fn lines(&self) -> u64 {
         64
@@ -77,6 +82,16 @@ impl Object for Tally {
     fn check(&self, _alloc: Global, words: &[u64]) -> Result<bool, AllocError> {
         Ok(words.len() == 512 && words[0] == VERSION)
     }
+
+    fn old_version(&self) -> Option<u64> {
+        None
+    }
+
+    fn check_old(&self, _alloc: Global, _words: &[u64]) -> Result<bool, AllocError> {
+        Ok(false)
+    }
+
+    fn upgrade(&self, _words: &mut [u64]) {}
 }
 
 /// A word of the opening image.

@@ -3,6 +3,7 @@
 ghost use Rattle.std.specs.Prelude.{◌≡◌, ◌+◌, ◌-◌, ◌*◌, ◌^◌, ◌<◌, ◌≤◌, ◌↔◌, IsTrue, IfOk, length};
 ghost use Rattle.cx_base.specs.Calls.{Changes, Finds};
 ghost use Rattle.cx_base.specs.Memory.{Always};
+ghost use Rattle.cx_base.specs.OldFormat.{no_old_format, takes_over_nothing};
 ghost use Rattle.fifo_model.specs.Words as spec;
 ghost use Rattle.fifo_object.specs.Fifo.{HasItems, IsFifo, IsHeader, count_in, fifo_opening, fifo_reads, fifo_step, front_words, head_in, item_at, pop_step, push_step};
 ghost use Rattle.fifo_object.specs.FifoLaws as laws;
@@ -186,6 +187,8 @@ impl Object for Fifo {
 
     ghost only_reads = { λ _. fifo_reads };
 
+    ghost old_format = { λ _. no_old_format };
+
     ghost opens = { λ f. laws.opens f.lines f.some };
 
     ghost keeps = { λ f image op i w. laws.keeps f.lines f.some f.few image op i };
@@ -195,6 +198,8 @@ impl Object for Fifo {
     ghost replies = { λ f image op i w. laws.replies f.lines f.few image op i };
 
     ghost leaves = { λ f image op i w. laws.leaves f.lines image op };
+
+    ghost takes_over = { λ f. takes_over_nothing f.lines 16 (IsFifo f.lines) };
 
     fn lines(&self) -> u64 {
         self.lines
@@ -237,4 +242,14 @@ impl Object for Fifo {
     fn check(&self, _alloc: Global, words: &[u64]) -> Result<bool, AllocError> {
         Ok(self.is_image(words))
     }
+
+    fn old_version(&self) -> Option<u64> {
+        None
+    }
+
+    fn check_old(&self, _alloc: Global, _words: &[u64]) -> Result<bool, AllocError> {
+        Ok(false)
+    }
+
+    fn upgrade(&self, _words: &mut [u64]) {}
 }

@@ -2,6 +2,7 @@
 //! one stays in the middle of its fifth command until the others have ended.
 
 ghost use Rattle.cx_base.specs.Memory.{Words};
+ghost use Rattle.cx_base.specs.OldFormat.{no_old_format, takes_over_nothing};
 ghost use Rattle.cx_base.specs.Tally.{IsTally, tally_opening, tally_reads, tally_reply, tally_step};
 ghost use Rattle.cx_base.specs.TallyLaws.{tally_opens, tally_keeps, tally_shape, tally_replies, tally_leaves};
 
@@ -83,6 +84,8 @@ impl Object for MeetingTally<'_> {
 
     ghost only_reads = { λ _. tally_reads };
 
+    ghost old_format = { λ _. no_old_format };
+
     ghost opens = { tally_opens };
 
     ghost keeps = { tally_keeps };
@@ -92,6 +95,8 @@ impl Object for MeetingTally<'_> {
     ghost replies = { tally_replies };
 
     ghost leaves = { tally_leaves };
+
+    ghost takes_over = { λ _. takes_over_nothing 64 7 IsTally };
 
     fn lines(&self) -> u64 {
         Tally.lines()
@@ -128,6 +133,16 @@ impl Object for MeetingTally<'_> {
     fn check(&self, alloc: Global, words: &[u64]) -> Result<bool, AllocError> {
         Tally.check(alloc, words)
     }
+
+    fn old_version(&self) -> Option<u64> {
+        None
+    }
+
+    fn check_old(&self, _alloc: Global, _words: &[u64]) -> Result<bool, AllocError> {
+        Ok(false)
+    }
+
+    fn upgrade(&self, _words: &mut [u64]) {}
 }
 
 // How many steps are held until so many reads were made, what each of eight callers asks for, and how many updates and reads that is.
