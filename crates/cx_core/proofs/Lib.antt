@@ -14,3 +14,4 @@ pub mod StateLemmas
 pub mod StepLemmas
 pub mod StepWords
 pub mod Sums
+pub mod Upgrading

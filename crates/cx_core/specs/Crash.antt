@@ -52,7 +52,7 @@ pub record IsMediumOf (instance : Instance) (s : State) (medium : Held) : Type 0
   pub durable : (r i : ℕ) → r < 2 * instance.callers → i < length instance.base.words → (word_of medium (image_at instance r i)).durable ≡ per_word instance s.words r i
   pub dirty : (r i : ℕ) → r < 2 * instance.callers → i < length instance.base.words → IsDirtyMark (word_of medium (image_at instance r i)).mark → IsDirtyIn s.locals r i
 
--- what is recovered from an image: the region that its root names, with the root's place
+-- what is recovered from an image that a service left: the region that its root names, with the root's place
 abbrev pub recovered : Instance → CrashImage → Base
 recovered instance image = record {
   place = root_place_of instance.callers image.root;

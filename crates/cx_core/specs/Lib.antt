@@ -16,6 +16,7 @@ pub mod Layout
 pub mod LockEvents
 pub mod Merge
 pub mod QueueEvents
+pub mod Recovered
 pub mod Region
 pub mod RegionEvents
 pub mod Rights
