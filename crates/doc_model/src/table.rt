@@ -1,10 +1,10 @@
 //! Each operation over sorted pairs.
 
-ghost use Rattle.std.specs.Prelude.{◌≡◌, [], IfOk, OnOk, OnErr, length, is_some, if◌then◌else◌};
+ghost use Rattle.std.specs.Prelude.{◌≡◌, IfOk, is_some, if◌then◌else◌};
 ghost use Rattle.std.specs.Option.{option_map_or};
 ghost use Rattle.cx_base.specs.Store.{KeysRise};
 ghost use Rattle.doc_model.specs.Meaning as meaning;
-ghost use Rattle.doc_model.specs.Place.{IsAtPlace, IsGapFor};
+ghost use Rattle.doc_model.specs.Place.{DoesOp, IsAtPlace, IsGapFor};
 
 use crate::operations::{Op, Pair, Reply};
 use crate::places::{document_of, has_room, place_of};
@@ -22,9 +22,7 @@ fn replace_at(
     doc: &[u8],
 ) -> Result<Reply, AllocError>
     requires { IsAtPlace pairs.old.items key.now at }
-    ensures reply { IfOk result (λ reply. reply ≡ meaning.put_reply lines pairs.old.items key.now doc.now) }
-    ensures next { OnOk result (pairs.new.items ≡ meaning.store_after_put lines pairs.old.items key.now doc.now) }
-    ensures err { OnErr result (pairs.new.items ≡ pairs.old.items) }
+    ensures { DoesOp (meaning.put_reply lines pairs.old.items key.now doc.now) (meaning.store_after_put lines pairs.old.items key.now doc.now) pairs.old.items pairs.new.items result }
 {
     if !has_room(lines, &pairs[..at], key, doc, &pairs[at + 1..]) {
         return Ok(Reply::NoRoom);
@@ -44,9 +42,7 @@ fn insert_at(
     doc: &[u8],
 ) -> Result<Reply, AllocError>
     requires { IsGapFor pairs.old.items key.now at }
-    ensures reply { IfOk result (λ reply. reply ≡ meaning.put_reply lines pairs.old.items key.now doc.now) }
-    ensures next { OnOk result (pairs.new.items ≡ meaning.store_after_put lines pairs.old.items key.now doc.now) }
-    ensures err { OnErr result (pairs.new.items ≡ pairs.old.items) }
+    ensures { DoesOp (meaning.put_reply lines pairs.old.items key.now doc.now) (meaning.store_after_put lines pairs.old.items key.now doc.now) pairs.old.items pairs.new.items result }
 {
     if !has_room(lines, &pairs[..at], key, doc, &pairs[at..]) {
         return Ok(Reply::NoRoom);
@@ -68,9 +64,7 @@ fn put(
     doc: &[u8],
 ) -> Result<Reply, AllocError>
     requires { KeysRise pairs.old.items }
-    ensures reply { IfOk result (λ reply. reply ≡ meaning.put_reply lines pairs.old.items key.now doc.now) }
-    ensures next { OnOk result (pairs.new.items ≡ meaning.store_after_put lines pairs.old.items key.now doc.now) }
-    ensures err { OnErr result (pairs.new.items ≡ pairs.old.items) }
+    ensures { DoesOp (meaning.put_reply lines pairs.old.items key.now doc.now) (meaning.store_after_put lines pairs.old.items key.now doc.now) pairs.old.items pairs.new.items result }
 {
     match place_of(pairs, key) {
         Ok(at) => replace_at(pairs, alloc, lines, at, key, doc),
@@ -113,9 +107,7 @@ fn put_sum(
     sum: i64,
 ) -> Result<Reply, AllocError>
     requires { KeysRise pairs.old.items }
-    ensures reply { IfOk result (λ reply. reply ≡ meaning.sum_reply lines pairs.old.items key.now sum) }
-    ensures next { OnOk result (pairs.new.items ≡ meaning.store_after_sum lines pairs.old.items key.now sum) }
-    ensures err { OnErr result (pairs.new.items ≡ pairs.old.items) }
+    ensures { DoesOp (meaning.sum_reply lines pairs.old.items key.now sum) (meaning.store_after_sum lines pairs.old.items key.now sum) pairs.old.items pairs.new.items result }
 {
     let text = format!(in alloc; "{sum}")?;
     match put(pairs, alloc, lines, key, text.as_bytes())? {
@@ -133,9 +125,7 @@ fn add(
     amount: i64,
 ) -> Result<Reply, AllocError>
     requires { KeysRise pairs.old.items }
-    ensures reply { IfOk result (λ reply. reply ≡ meaning.add_reply lines pairs.old.items key.now amount (meaning.number_at key.now pairs.old.items)) }
-    ensures next { OnOk result (pairs.new.items ≡ meaning.store_after_add lines pairs.old.items key.now amount (meaning.number_at key.now pairs.old.items)) }
-    ensures err { OnErr result (pairs.new.items ≡ pairs.old.items) }
+    ensures { DoesOp (meaning.add_reply lines pairs.old.items key.now amount (meaning.number_at key.now pairs.old.items)) (meaning.store_after_add lines pairs.old.items key.now amount (meaning.number_at key.now pairs.old.items)) pairs.old.items pairs.new.items result }
 {
     let Some(before) = number_at(pairs, key) else {
         return Ok(Reply::NotNumber);
@@ -180,9 +170,7 @@ pub(crate) fn step(
     op: &Op,
 ) -> Result<Reply, AllocError>
     requires { KeysRise pairs.old.items }
-    ensures reply { IfOk result (λ reply. reply ≡ meaning.reply_to lines pairs.old.items op.now) }
-    ensures next { OnOk result (pairs.new.items ≡ meaning.store_after lines pairs.old.items op.now) }
-    ensures err { OnErr result (pairs.new.items ≡ pairs.old.items) }
+    ensures { DoesOp (meaning.reply_to lines pairs.old.items op.now) (meaning.store_after lines pairs.old.items op.now) pairs.old.items pairs.new.items result }
 {
     match op {
         Op::Put { key, doc } => put(pairs, alloc, lines, key.as_slice(), doc.as_slice()),

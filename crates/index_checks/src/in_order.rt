@@ -1,8 +1,8 @@
 //! A walk over the nodes of a tree in order.
 
-ghost use Rattle.std.specs.Prelude.{◌≡◌, ◌+◌, ◌≤◌, ◌∷◌, ◌++◌, length};
+ghost use Rattle.std.specs.Prelude.{◌≡◌, ◌≤◌, ◌∷◌, ◌++◌};
 ghost use Rattle.index_checks.specs.Order.{in_order, to_come, HasTree, AreNoted};
-ghost use Rattle.avl_words.specs.Lines.{IsPartLength, IsWithin};
+ghost use Rattle.avl_words.specs.Lines.{IsWithin};
 
 use crate::words::word_at;
 
@@ -16,8 +16,7 @@ pub struct InOrder {
 impl InOrder {
     /// Before the first node of the tree below a link.
     pub fn of(words: &[u64], root: u64) -> InOrder
-        requires sized { IsPartLength (length words.now) }
-        requires tree { HasTree words.now root 0 }
+        requires { HasTree words.now root 0 }
         ensures noted { AreNoted words.now result.nodes result.depth }
         ensures all { to_come words.now result.nodes result.depth ≡ in_order root words.now }
     {
@@ -28,7 +27,6 @@ impl InOrder {
 
     /// The next node.
     pub fn next_node(&mut self, words: &[u64]) -> u64
-        requires sized { IsPartLength (length words.now) }
         requires noted { AreNoted words.now self.old.nodes self.old.depth }
         requires some { 1 ≤ self.old.depth }
         ensures there { (1 ≤ result) × IsWithin words.now result }
@@ -44,7 +42,6 @@ impl InOrder {
 
 /// Notes the nodes on the way to the least one below a link.
 fn descend(words: &[u64], nodes: &mut [u64; 64], depth: usize, from: u64) -> usize
-    requires sized { IsPartLength (length words.now) }
     requires noted { AreNoted words.now nodes.old depth }
     requires tree { HasTree words.now from depth }
     ensures noted { AreNoted words.now nodes.new result }

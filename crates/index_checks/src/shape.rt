@@ -1,16 +1,14 @@
 //! Whether words have the shape of a balanced tree.
 
-ghost use Rattle.std.specs.Prelude.{◌≡◌, ◌≢◌, ◌+◌, ◌^◌, ◌<◌, ◌≤◌, ◌↔◌, IsTrue, length, slice_set};
+ghost use Rattle.std.specs.Prelude.{◌≡◌, ◌≢◌, ◌+◌, ◌^◌, ◌<◌, ◌≤◌, ◌↔◌, IsTrue, slice_set};
 ghost use Rattle.std.specs.Bool.{MatchBool};
 ghost use Rattle.index_checks.specs.Shape.{HasShape, IsGood};
 ghost use Rattle.avl_words.specs.Links.{high_of};
-ghost use Rattle.avl_words.specs.Lines.{IsPartLength};
 
 use crate::words::{high_at, word_at};
 
 /// Whether a node is right as far as its own line and its children's heights say.
 fn is_good(words: &[u64], line: u64) -> bool
-    requires sized { IsPartLength (length words.now) }
     ensures { MatchBool result (IsGood words.now line) (IsGood words.now line → ⊥) }
 {
     if line == 0 || (words.len() / 8) as u64 <= line {
@@ -40,8 +38,7 @@ fn push(stack: &mut [u64; 66], depth: usize, line: u64) -> usize
 /// Whether a balanced tree of so many nodes stands below a line whose height is at most 64. Each turn looks at one
 /// node, and its children wait on the stack. Heights fall on each way down, so no way is a ring.
 fn shape_at(words: &[u64], root: u64, count: u64) -> bool
-    requires sized { IsPartLength (length words.now) }
-    requires low { high_of root words.now ≤ 64 }
+    requires { high_of root words.now ≤ 64 }
     ensures { MatchBool result (HasShape words.now root count) (HasShape words.now root count → ⊥) }
 {
     let mut stack = [0; 66];
@@ -64,8 +61,7 @@ fn shape_at(words: &[u64], root: u64, count: u64) -> bool
 /// Whether a balanced tree of so many nodes stands below a line, whatever the words are. It looks at that many nodes at
 /// most. A line may stand in the tree more than once.
 pub fn is_balanced(words: &[u64], root: u64, count: u64) -> bool
-    requires sized { IsPartLength (length words.now) }
-    requires few { count < 2 ^ 32 }
+    requires { count < 2 ^ 32 }
     ensures { IsTrue result ↔ HasShape words.now root count }
 {
     if high_at(words, root) > 64 {

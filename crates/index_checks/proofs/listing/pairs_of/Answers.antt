@@ -4,8 +4,8 @@ use Rattle.index_checks.proofs.Orders.{some_noted}
 use Rattle.index_checks.proofs.Listings.{ListedSoFar, list_begins, list_next, list_more, index_tree, index_count}
 use Rattle.index_checks.proofs.listing.pairs_of.Goals as goal
 
-pub of-walk-requires-clause-tree : goal.of-walk-requires-clause-tree
-of-walk-requires-clause-tree c = index_tree c.args.words.now c.requires
+pub of-walk-requires : goal.of-walk-requires
+of-walk-requires c = index_tree c.args.words.now c.requires
 
 pub loop-init : goal.loop-init
 loop-init c =

@@ -10,8 +10,8 @@ use Rattle.index_checks.proofs.node_checks.nodes_at.Goals as goal
 fewer : (n m : ℕ) → n < m → m ≤ 2 ^ 32 → n < 2 ^ 32
 fewer n m l few = omega arith
 
-pub of-walk-requires-clause-tree : goal.of-walk-requires-clause-tree
-of-walk-requires-clause-tree c =
+pub of-walk-requires : goal.of-walk-requires
+of-walk-requires c =
     let ws = c.args.words.now in
     tree_of ws (word_of ws 0 1) (word_of ws 0 5) c.requires.shape (fewer (word_of ws 0 5) _ c.requires.few c.requires.sized.few)
 

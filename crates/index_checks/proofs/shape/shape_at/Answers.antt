@@ -11,7 +11,7 @@ loop-init c =
     let p = c.push-depth in
     let stack = replicate 66 0 in
     let s : IsPushed stack p.new.stack 0 p.result c.args.root = record { none = p.ensures.none; some = p.ensures.some } in
-    let room = begins_room c.args.words.now stack p.new.stack c.args.root p.result (lit< tt) s c.requires.low in
+    let room = begins_room c.args.words.now stack p.new.stack c.args.root p.result (lit< tt) s c.requires in
     record {
       left = subst (IsPending c.args.words.now c.args.root c.args.count (pending p.result p.new.stack)) (let e : c.args.count ≡ c.args.count - 0 = omega arith in e)
           (look_begins c.args.words.now stack p.new.stack c.args.root c.args.count p.result (lit< tt) s);
