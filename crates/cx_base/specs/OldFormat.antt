@@ -1,5 +1,5 @@
 -- The format that an object's images had before.
-use Rattle.std.specs.Prelude.{◌≡◌, ◌≢◌, ◌*◌, ℕ, List, Option, None, Some, slice_index}
+use Rattle.std.specs.Prelude.{◌≡◌, ◌≢◌, ◌*◌, ℕ, List, Option, None, Some, IfSome, slice_index}
 use Rattle.cx_base.specs.Memory.{Words}
 
 -- its version, whether an image of it may be the object's, and the image that such a one becomes
@@ -11,6 +11,10 @@ pub record OldFormat : Type 1 where
 -- of an object that had none
 abbrev pub no_old_format : OldFormat
 no_old_format = record { version = None; lawful = λ _. ⊥; upgraded = λ image. image }
+
+-- words may be upgraded: where there is an old version, they are a lawful image of it
+abbrev pub CanUpgrade : OldFormat → List ℕ → Type 0
+CanUpgrade old words = IfSome old.version (λ _. old.lawful words)
 
 -- An object of so many lines takes over its images of another version than its own. A lawful one has 8 words for each line, the first of
 -- which is that version, so there is none where there is no such version. It becomes an image that is lawful for the object, as long as it was.

@@ -3,7 +3,7 @@
 ghost use Rattle.std.specs.Prelude.{◌≡◌, ◌*◌, ◌↔◌, ℕ, Bool, List, length, slice_index, IsTrue, IfOk};
 ghost use Rattle.cx_base.specs.Calls.{Changes, Finds};
 ghost use Rattle.cx_base.specs.Memory.{Words, Always};
-ghost use Rattle.cx_base.specs.OldFormat.{OldFormat, TakesOver};
+ghost use Rattle.cx_base.specs.OldFormat.{CanUpgrade, OldFormat, TakesOver};
 
 use crate::memory::{Halt, Memory};
 use std::alloc::{AllocError, Global};
@@ -77,9 +77,9 @@ pub trait Object: Drop {
     fn check_old(&self, alloc: Global, words: &[u64]) -> Result<bool, AllocError>
         ensures { IfOk result (λ yes. IsTrue yes ↔ (old_format self.now).lawful words.now) };
 
-    /// Makes the image that one of the old version becomes.
+    /// Makes the image that one of the old version becomes. Without an old version it changes nothing.
     fn upgrade(&self, words: &mut [u64])
-        requires { (old_format self.now).lawful words.old }
+        requires { CanUpgrade (old_format self.now) words.old }
         ensures { words.new ≡ (old_format self.now).upgraded words.old };
 
     /// The opening image is lawful.
