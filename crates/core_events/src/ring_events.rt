@@ -92,7 +92,7 @@ pub(crate) fn scan(callers: Callers, words: &[u64], local: &mut Local, d: u64) -
     requires table { HasWords callers.number words.now }
     ensures { (base : _) → EachScene callers.number base words.now (λ instance scene. Did result instance scene (Scan d) local.old local.new words.now) }
 {
-    if d >= u64::from(callers) || !is_next(d, local.scan) {
+    if d >= u64::from(callers.number) || !is_next(d, local.scan) {
         return false;
     }
     local.scan = scan_after(d, words[need_at(d as u32)], local.scan);
@@ -117,7 +117,7 @@ pub(crate) fn open_free(callers: Callers, words: &mut [u64], local: &mut Local) 
     requires long { 4 ≤ length words.old }
     ensures { (base : _) → EachScene callers.number base words.old (λ instance scene. Did result instance scene OpenFree local.old local.new words.new) }
 {
-    if !is_next(u64::from(callers), local.scan) {
+    if !is_next(u64::from(callers.number), local.scan) {
         return false;
     }
     let found = words[FREE_AT];
