@@ -29,8 +29,7 @@ invariant_of-seat g c =
 
 pub returns-clause-step : goal.returns-clause-step
 returns-clause-step g c = record {
-  made =
-      steps_same (Downgrade c.held.inside.replica) (Downgrade c.args.held.replica) (ap (λ (n : ℕ). Downgrade n) (ap (λ (x : Right). x.replica) c.held.view_is))
+  made = steps_same (Downgrade c.held.inside.replica) (Downgrade c.args.held.replica) (ap (λ (n : ℕ). Downgrade n) (ap (λ (x : Right). x.replica) c.held.view_is))
       (step_made_at c.args.self.now g.O.Object.step g.O.Object.only_reads (Downgrade c.held.inside.replica) c.learned-found.result _ _ _ _ _ _ _ _ _ _ c.seat.invariant c.seat.view_is c.in_ok-check.ensures c.requires.may.seat (subst (λ (n : ℕ). IsClean c.args.self.now.callers n c.args.seat.now.known.local) (sym (ap (λ (x : Right). x.replica) c.held.view_is)) c.requires.may.guard)
       c.learned-found.ensures.table c.learned-found.ensures.taught (c.downgrade.ensures (instance_at c.args.self.now g.O.Object.step g.O.Object.only_reads) (known_of c.seat.inside.seat.me.0) c.learned-found.result (c.place.ensures ∙ c.seat.invariant.1.place) c.seat.invariant.0.is) refl).1;
   halted = tt;

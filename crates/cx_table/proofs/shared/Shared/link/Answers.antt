@@ -11,8 +11,7 @@ invariant_of-seat g c =
 
 pub returns : goal.returns
 returns g c = record {
-  made =
-      (step_made c.args.self.now g.O.Object.step g.O.Object.only_reads (Link c.args.j) c.event-found.result _ _ _ _ _ _ _ _ _ _ _ c.seat.invariant c.seat.view_is c.in_ok-check.ensures c.requires.seat c.requires.guard
+  made = (step_made c.args.self.now g.O.Object.step g.O.Object.only_reads (Link c.args.j) c.event-found.result _ _ _ _ _ _ _ _ _ _ _ c.seat.invariant c.seat.view_is c.in_ok-check.ensures c.requires.seat c.requires.guard
       c.event-found.ensures.table c.event-found.ensures.taught (ap (λ (r : Running _). r.callers) c.self.view_is) c.link.ensures refl).1;
   halted = tt;
 }

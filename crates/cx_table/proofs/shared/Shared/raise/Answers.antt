@@ -34,8 +34,7 @@ invariant_of-seat g c =
 
 pub returns : goal.returns
 returns g c = record {
-  made =
-      λ answers tells. (
+  made = λ answers tells. (
       let running = (subst (IsRunning g.O.Object.line_count g.O.Object.lawful) c.self.view_is c.self.invariant.0) in
       let laws = (laws_at g.O.Object.line_count g.O.Object.lawful g.O.Object.step c.args.self.now (subst (IsRunning g.O.Object.line_count g.O.Object.lawful) c.self.view_is c.self.invariant.0) g.met.O.Object.keeps (λ o image law. (g.met.O.Object.shape o image law).0) g.met.O.Object.replies) in
       let learned = raise_learned g.O.Object.line_count g.O.Object.lawful g.O.Object.step g.O.Object.only_reads c.args.self.now c.args.code c.args.read (known_of c.seat.inside.seat.me.0) c.args.seat.now running
@@ -44,8 +43,7 @@ returns g c = record {
       c.seat.invariant c.seat.view_is c.in_ok-check.ensures c.requires.may.seat c.requires.may.guard c.raise_learned-found.ensures.table tells
       (c.raise_learned-found.ensures.taught answers (learned answers tells)) (ap (λ (r : Running _). r.callers) c.self.view_is)
       (c.raise.ensures ∙ ap (λ b. raised_summary c.self.inside.callers.number c.args.code b c.seat.inside.summary) c.is_some-reads.ensures)).1);
-  fits =
-      let running = (subst (IsRunning g.O.Object.line_count g.O.Object.lawful) c.self.view_is c.self.invariant.0) in
+  fits = let running = (subst (IsRunning g.O.Object.line_count g.O.Object.lawful) c.self.view_is c.self.invariant.0) in
       let laws = (laws_at g.O.Object.line_count g.O.Object.lawful g.O.Object.step c.args.self.now (subst (IsRunning g.O.Object.line_count g.O.Object.lawful) c.self.view_is c.self.invariant.0) g.met.O.Object.keeps (λ o image law. (g.met.O.Object.shape o image law).0) g.met.O.Object.replies) in
       let learned = raise_learned g.O.Object.line_count g.O.Object.lawful g.O.Object.step g.O.Object.only_reads c.args.self.now c.args.code c.args.read (known_of c.seat.inside.seat.me.0) c.args.seat.now running
       laws (ap (λ (s : Seated). s.known) c.seat.view_is) c.requires.may.guard c.requires.told.1 in

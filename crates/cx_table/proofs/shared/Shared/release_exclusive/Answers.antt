@@ -29,8 +29,7 @@ invariant_of-seat g c =
 
 pub returns : goal.returns
 returns g c = record {
-  made =
-      steps_same (ReleaseExclusive c.held.inside.replica) (ReleaseExclusive c.args.held.replica) (ap (λ (n : ℕ). ReleaseExclusive n) (ap (λ (x : Right). x.replica) c.held.view_is))
+  made = steps_same (ReleaseExclusive c.held.inside.replica) (ReleaseExclusive c.args.held.replica) (ap (λ (n : ℕ). ReleaseExclusive n) (ap (λ (x : Right). x.replica) c.held.view_is))
       (step_made c.args.self.now g.O.Object.step g.O.Object.only_reads (ReleaseExclusive c.held.inside.replica) c.learned-found.result _ _ _ _ _ _ _ _ _ _ _ c.seat.invariant c.seat.view_is c.in_ok-check.ensures c.requires.may.seat (subst (λ (n : ℕ). IsClean c.args.self.now.callers n c.args.seat.now.known.local) (sym (ap (λ (x : Right). x.replica) c.held.view_is)) c.requires.may.guard)
       c.learned-found.ensures.table c.learned-found.ensures.taught (ap (λ (r : Running _). r.callers) c.self.view_is) (c.release_exclusive.ensures _ c.held.inside.replica c.learned-found.result) refl).1;
   halted = tt;

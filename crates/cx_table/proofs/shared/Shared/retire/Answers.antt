@@ -33,8 +33,7 @@ invariant_of-seat g c =
 
 pub returns : goal.returns
 returns g c = record {
-  made =
-      (step_made c.args.self.now g.O.Object.step g.O.Object.only_reads Retire c.learned-found.result _ _ _ _ _ _ _ _ _ _ _ c.seat.invariant c.seat.view_is c.in_ok-check.ensures c.requires.may.seat c.requires.may.guard
+  made = (step_made c.args.self.now g.O.Object.step g.O.Object.only_reads Retire c.learned-found.result _ _ _ _ _ _ _ _ _ _ _ c.seat.invariant c.seat.view_is c.in_ok-check.ensures c.requires.may.seat c.requires.may.guard
       c.learned-found.ensures.table c.learned-found.ensures.taught (ap (λ (r : Running _). r.callers) c.self.view_is) (c.retire.ensures c.self.inside.callers.number c.learned-found.result) refl).1;
   halted = tt;
 }

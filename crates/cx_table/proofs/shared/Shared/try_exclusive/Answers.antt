@@ -13,11 +13,9 @@ invariant_of-seat g c =
 
 pub returns-clause-step : goal.returns-clause-step
 returns-clause-step g c = record {
-  made =
-      (step_made c.args.self.now g.O.Object.step g.O.Object.only_reads (TryExclusive c.args.r) c.event-found.result _ _ _ _ _ _ _ _ _ _ _ c.seat.invariant c.seat.view_is c.in_ok-check.ensures c.requires.seat c.requires.guard
+  made = (step_made c.args.self.now g.O.Object.step g.O.Object.only_reads (TryExclusive c.args.r) c.event-found.result _ _ _ _ _ _ _ _ _ _ _ c.seat.invariant c.seat.view_is c.in_ok-check.ensures c.requires.seat c.requires.guard
       c.event-found.ensures.table c.event-found.ensures.taught (ap (λ (r : Running _). r.callers) c.self.view_is) (c.try_exclusive.ensures) c.begin.ensures).1;
-  fits =
-      step_fits g.O.Object.line_count g.O.Object.lawful g.O.Object.step g.O.Object.only_reads c.args.self.now (TryExclusive c.args.r) _ c.event-found.result _ (subst (IsRunning g.O.Object.line_count g.O.Object.lawful) c.self.view_is c.self.invariant.0)
+  fits = step_fits g.O.Object.line_count g.O.Object.lawful g.O.Object.step g.O.Object.only_reads c.args.self.now (TryExclusive c.args.r) _ c.event-found.result _ (subst (IsRunning g.O.Object.line_count g.O.Object.lawful) c.self.view_is c.self.invariant.0)
       (laws_at g.O.Object.line_count g.O.Object.lawful g.O.Object.step c.args.self.now (subst (IsRunning g.O.Object.line_count g.O.Object.lawful) c.self.view_is c.self.invariant.0)
       g.met.O.Object.keeps (λ o image law. (g.met.O.Object.shape o image law).0) g.met.O.Object.replies)
       c.event-found.ensures.taught;
