@@ -8,9 +8,9 @@ use Rattle.cx_rule.specs.Seats.{Seated, SeenGuard}
 use Rattle.cx_rule.specs.Steps.{Halts}
 
 -- the seat is one of this table, and as far as it shows, its caller may make a step of this kind
-pub record MayStep {O : Type 0} (o : Ghosts O) (r : Running O) (kind : Kind) (seat : Seated) : Type 0 where
-  pub seat : IsSeatOf r seat
-  pub guard : SeenGuard (instance_at r o.step o.only_reads) kind seat.known.local
+pub record MayStep {O : Type 0} (o : Ghosts O) (r : Running O) (kind : Kind) (s : Seated) : Type 0 where
+  pub seat : IsSeatOf r s
+  pub guard : SeenGuard (instance_at r o.step o.only_reads) kind s.known.local
 
 -- What a step call leaves: this of the step that it made, or nothing is changed, since the steps equal the limit.
 pub record MakesStep {O A E : Type 0} (r : Running O) (before after : Seated) (result : Result A E) (Made : A → Type 0) : Type 0 where
