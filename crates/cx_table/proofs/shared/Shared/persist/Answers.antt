@@ -17,7 +17,7 @@ store_learned-requires-clause-learns g c =
     let size : length c.seat.inside.copy.words ≡ length t.base.words = ap (λ (s : Seated). s.region) c.seat.view_is ∙ c.requires.seat.region in
     let below = may.0.1 in
     learns_persist instance c.args.r c.args.i known _ c.word-v.result may
-    (c.per_at-word.ensures.value ∙ ap (λ n. per_at c.self.inside.callers n c.args.r c.args.i) (c.region.ensures ∙ size) ∙ ap (λ (x : Running _). per_at x.callers (length t.base.words) c.args.r c.args.i) c.self.view_is)
+    (c.per_at-word.ensures.value ∙ ap (λ n. per_at c.self.inside.callers.number n c.args.r c.args.i) (c.region.ensures ∙ size) ∙ ap (λ (x : Running _). per_at x.callers (length t.base.words) c.args.r c.args.i) c.self.view_is)
     (subst (λ n. TellsWord n known.accesses c.args.i c.word-v.result) size (subst (TellsWord (length c.seat.inside.copy.words) known.accesses c.args.i) (sym c.word-v.ensures) (c.seat.invariant.1.words c.args.i (omega (arith, size, below)) may.1)))
 
 pub invariant_of-seat : goal.invariant_of-seat
@@ -25,7 +25,9 @@ invariant_of-seat g c =
     (step_made c.args.self.now g.O.Object.step g.O.Object.only_reads (Persist c.args.r c.args.i) 0 _ _ _ _ _ _ _ _ _ _ _ c.seat.invariant c.seat.view_is c.in_ok-check.ensures c.requires.seat c.requires.guard
     c.store_learned.ensures.table c.store_learned.ensures.taught (ap (λ (r : Running _). r.callers) c.self.view_is) (c.write_word.ensures.persisted _ c.args.r c.args.i 0) c.persist.ensures).0
 
-pub returns-clause-made : goal.returns-clause-made
-returns-clause-made g c =
-    (step_made c.args.self.now g.O.Object.step g.O.Object.only_reads (Persist c.args.r c.args.i) 0 _ _ _ _ _ _ _ _ _ _ _ c.seat.invariant c.seat.view_is c.in_ok-check.ensures c.requires.seat c.requires.guard
-    c.store_learned.ensures.table c.store_learned.ensures.taught (ap (λ (r : Running _). r.callers) c.self.view_is) (c.write_word.ensures.persisted _ c.args.r c.args.i 0) c.persist.ensures).1
+pub returns : goal.returns
+returns g c = record {
+  made = (step_made c.args.self.now g.O.Object.step g.O.Object.only_reads (Persist c.args.r c.args.i) 0 _ _ _ _ _ _ _ _ _ _ _ c.seat.invariant c.seat.view_is c.in_ok-check.ensures c.requires.seat c.requires.guard
+      c.store_learned.ensures.table c.store_learned.ensures.taught (ap (λ (r : Running _). r.callers) c.self.view_is) (c.write_word.ensures.persisted _ c.args.r c.args.i 0) c.persist.ensures).1;
+  halted = tt;
+}
