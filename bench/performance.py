@@ -26,6 +26,7 @@ from dataclasses import dataclass
 from build import path_of
 from performance_plot import Panel, drawn
 from performance_words import advice, comparison, short, size_words, thread_words
+from service import PARTS, READ_PARTS, parts
 
 HERE = os.path.dirname(os.path.abspath(__file__))
 SERVICE = path_of("service_bench")
@@ -134,8 +135,19 @@ def row(setting, rounds):
 
 def markdown(measured):
     head = ["Lines", "Keys", "Threads", "Reads in 100", *(name[0].upper() + name[1:] for name in FORMS.values())]
-    rows = [head, ["--:"] * len(head)] + [row(setting, rounds) for setting, rounds in measured.items()]
+    return table_of([head, ["--:"] * len(head)] + [row(setting, rounds) for setting, rounds in measured.items()])
+
+
+def table_of(rows):
     return "\n".join("| " + " | ".join(str(cell) for cell in cells) + " |" for cells in rows)
+
+
+def steps_by_part(found, call, of, last):
+    """The steps of each part of a call, and of all, by what one run of the parts found."""
+    calls = found[last]["times"]
+    rows = [[words, f"{found[part]['steps'] / calls:.1f}"] for part, words in of.items()]
+    whole = sum(found[part]["steps"] for part in of) / calls
+    return table_of([[f"Part of {call}", "Steps"], ["--", "--:"], *rows, ["all", f"{whole:.1f}"]])
 
 
 def panels(measured):
@@ -164,7 +176,7 @@ def shares(measured, peer):
     return found
 
 
-def page(measured, options, where, left_out):
+def page(measured, options, where, left_out, found):
     """The page: words, the table, and where it was measured."""
     lines = [
         "# Performance",
@@ -189,6 +201,15 @@ def page(measured, options, where, left_out):
         "how many times as many calls a second, and in brackets how many times that processor time.",
         "",
         markdown(measured),
+        "",
+        "## Steps by part",
+        "",
+        "The steps of a caller alone at 1,024 lines and 100 keys, on average over its first 16 updates and 64 reads behind them. Over many updates one "
+        "makes a few more (`bench/service.py` has the times).",
+        "",
+        steps_by_part(found, "an update", PARTS, "retire"),
+        "",
+        steps_by_part(found, "a read", READ_PARTS, "read_release"),
     ]
     for size in left_out:
         lines += ["", f"Not measured: {size_words(*size)}, which not all programs take."]
@@ -236,7 +257,7 @@ def main(words):
         measured[setting] = rounds_of(setting, options)
     if not measured:
         sys.exit("no size was measured")
-    text = page(measured, options, where, [size for size in options.sizes if size not in sizes])
+    text = page(measured, options, where, [size for size in options.sizes if size not in sizes], parts(1))
     if options.doc:
         written(options.doc, text)
         written(os.path.join(os.path.dirname(options.doc), PICTURE), drawn(panels(measured), FORMS, REGION))

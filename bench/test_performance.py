@@ -80,9 +80,12 @@ class Words(unittest.TestCase):
 
     def test_page_has_a_row_for_each_size_and_peer(self):
         found = measured(SIZES, [1, 2, 4], lambda form, reads: 1.5)
-        page = performance.page(found, performance.options_of([]), "a machine", [(64, 1000)])
+        parts = {part: {"times": 2, "steps": 3} for part in (*performance.PARTS, *performance.READ_PARTS)}
+        page = performance.page(found, performance.options_of([]), "a machine", [(64, 1000)], parts)
         self.assertEqual(9, page.count("| always | always | always |"))
         self.assertIn("Not measured: 64 lines and 1,000 keys", page)
+        self.assertIn(f"| all | {1.5 * len(performance.PARTS):.1f} |", page)
+        self.assertIn("| query | 1.5 |", page)
 
 
 class Pictures(unittest.TestCase):

@@ -1,12 +1,13 @@
--- What is really there fits what a caller noted. So what is said of all that fits is true of it: noted entries that lead on
--- from a full image lead to the full image after their place.
-use Rattle.std.proofs.Common.{◌≡◌, ◌+◌, ◌-◌, ◌^◌, ◌<◌, ◌≤◌, ℕ, suc, List, ◌∷◌, length, slice_index, refl, ap, sym, subst, ◌∙◌, arith, Some}
+-- What is really there fits what a caller noted. So what is said of all that fits is true of it: entries that the caller has and
+-- that lead on from a full image lead to the full image after their place.
+use Rattle.std.proofs.Common.{inl, inr, ◌≡◌, ◌+◌, ◌-◌, ◌^◌, ◌<◌, ◌≤◌, ℕ, suc, List, ◌∷◌, length, slice_index, refl, ap, sym, subst, ◌∙◌, arith, Some}
 use Rattle.std.proofs.lemmas.List.{ext_get_or}
 use Rattle.std.proofs.lemmas.Option.{same_Some, slice_get_within}
 use Rattle.std.specs.List.{slice_get}
 use Rattle.cx_base.specs.Noted.{Note, NotesLead}
 use Rattle.cx_core.specs.declared.entry.Base.{Base}
 use Rattle.cx_core.specs.declared.entry.Entry.{Entry}
+use Rattle.cx_core.specs.declared.local.Linked.{Linked}
 use Rattle.cx_core.specs.Base.{LawfulBase}
 use Rattle.cx_core.specs.History.{AreLawful, IsFull, IsLawfulEntry, full_image}
 use Rattle.cx_core.specs.Merge.{IsLinked}
@@ -17,7 +18,7 @@ use Rattle.cx_core.specs.WriteSet.{stored}
 use Rattle.cx_core.proofs.HistoryLemmas.{ObjectLaws, full_lawful, full_next}
 use Rattle.cx_rule.specs.declared.rule.Known.{Known}
 use Rattle.cx_rule.specs.declared.rule.Noted.{Noted}
-use Rattle.cx_rule.specs.Fitting.{Chain, Fits, Fitting, IsNoted, ReplayedTo, base_of, no_set, start, with_entry, with_set}
+use Rattle.cx_rule.specs.Fitting.{Chain, Fits, Fitting, HasEntry, IsNoted, IsOwn, ReplayedTo, base_of, entries_of, no_set, start, with_entry, with_set}
 use Rattle.cx_rule.specs.Having.{IsOfHistory, Has}
 use Rattle.cx_rule.specs.Rule.{IsBehindNotes, IsEntryFrom, IsOrigin, NotesHold}
 
@@ -103,14 +104,21 @@ module _ (lines : ℕ) (lawful : List ℕ → Type 0) (instance : Instance) (law
         is ∙ ap (stored (slice_index pairs 0) pairs) r.2 ∙ l.1.gives ∙ ap (full_image instance.step instance.base history) (sym at),
       )
 
-  -- noted entries alone
-  entries_of_history : (notes : List Noted) → NotesHold instance history notes → IsOfHistory instance history (record { entry = IsNoted notes; set = no_set })
-  entries_of_history notes hold = record { entries = λ t e from noted. noted_linked notes t e hold from noted; sets = λ t pairs from none. absurd none }
+  -- the own entries are the history's
+  abbrev pub OwnLinked : List Linked → Type 0
+  OwnLinked own = (ticket : ℕ) (e : Entry) → IsOwn own ticket e → IsLinked instance.base.place history ticket e
+
+  -- entries alone
+  entries_of_history : (known : Known) → NotesHold instance history known.noted → OwnLinked known.local.own → IsOfHistory instance history (record { entry = HasEntry (entries_of known); set = no_set })
+  entries_of_history known hold own = record {
+    entries = λ t e from has. elim has [ inl read ↦ noted_linked known.noted t e hold from read | inr mine ↦ own t e mine ];
+    sets = λ t pairs from none. absurd none;
+  }
 
   -- so they are the full image after their place
-  pub chain_full : (notes : List Noted) → NotesHold instance history notes → (first : List ℕ) → IsOrigin instance history first → (place : ℕ) (now : List ℕ) → ReplayedTo instance.step notes first place now → IsFull instance history now × (place_of now ≡ place)
-  chain_full notes hold first origin place now chain =
-      let r = chain_on (record { entry = IsNoted notes; set = no_set }) (entries_of_history notes hold) first (origin_full first origin) place now chain in
+  pub chain_full : (known : Known) → NotesHold instance history known.noted → OwnLinked known.local.own → (first : List ℕ) → IsOrigin instance history first → (place : ℕ) (now : List ℕ) → ReplayedTo instance.step (entries_of known) first place now → IsFull instance history now × (place_of now ≡ place)
+  chain_full known hold own first origin place now chain =
+      let r = chain_on (record { entry = HasEntry (entries_of known); set = no_set }) (entries_of_history known hold own) first (origin_full first origin) place now chain in
       let at : place_of now ≡ place = ap place_of r.2 ∙ (full_at place r.0 r.1).at_place in (
         record {
           from = subst (λ q. instance.base.place ≤ q) (sym at) r.0;

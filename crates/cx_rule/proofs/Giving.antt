@@ -1,7 +1,7 @@
 -- What steps teach whose guard or word is not told by the local state that a seat shows, but by what its caller noted.
 use Rattle.std.proofs.Common.{false, true, ◌≡◌, ◌≢◌, ◌==◌, ◌&&◌, inl, inr, ℕ, Bool, IsTrue, cond, List, [], ◌∷◌, length, slice_index, refl, ap, sym, subst, ◌∙◌, eq-eqb, Option, Some, None}
 use Rattle.std.proofs.lemmas.Bool.{eqb-true}
-use Rattle.std.specs.List.{Contains}
+use Rattle.std.specs.List.{Contains, slice_get}
 use Rattle.std.specs.Option.{IsNone, option_map}
 use Rattle.atomic_table.specs.Table as atomic
 use Rattle.cx_base.specs.Codes.{root_place_of}
@@ -25,14 +25,14 @@ use Rattle.cx_core.proofs.HistoryLemmas.{ObjectLaws}
 use Rattle.cx_core.proofs.MergeLemmas.{history_is}
 use Rattle.cx_core.proofs.HeldLists.{at_true, mapped}
 use Rattle.cx_rule.specs.declared.rule.Known.{Known}
-use Rattle.cx_rule.specs.Fitting.{Fits, IsReplayed, IsReplayedToPlace, ReplayedTo, TellsWord}
+use Rattle.cx_rule.specs.Fitting.{Fits, IsReplayed, IsReplayedToPlace, ReplayedTo, TellsWord, entries_of}
 use Rattle.cx_rule.specs.Learns.{LearnsBy}
 use Rattle.cx_rule.specs.Rule.{IsTraced, NotesHold, RuleHolds}
 use Rattle.cx_rule.specs.Steps.{IsBlind, IsLearned, Teaches}
 use Rattle.cx_rule.specs.Seats.{is_outdated, kind_found, known_after, known_local, known_of, marked_load, place_noted, unseen}
 use Rattle.cx_rule.proofs.Fitting.{chain_full, traced_fits}
 use Rattle.cx_rule.proofs.Keeps.{allows, blind_teaches, learns_of}
-use Rattle.cx_rule.proofs.Entries.{entries_from}
+use Rattle.cx_rule.proofs.Entries.{entries_from, own_linked}
 
 abbrev blank : HeldExclusive → HeldExclusive
 blank h = record h { words = [] }
@@ -83,13 +83,15 @@ full_now {instance = instance} s law l h has full =
     (subst (λ hs. IsFull instance hs h.words) (sym (history_is instance.base.place law.history s.locals law.tickets.merged)) full)
 
 module _ (lines : ℕ) (lawful : List ℕ → Type 0) (instance : Instance) (laws : ObjectLaws lines lawful instance.step) (base : LawfulBase lines lawful instance.base) where
-  -- where noted entries lead to whatever fits, they lead to the words of the replica that is held
+  -- where entries that the caller has lead to whatever fits, they lead to the words of the replica that is held
   held_full : (words : List ℕ) (locals : List Local) (law : Lawful instance (record { words = words; locals = locals })) (known : Known) (l : Local) (h : HeldExclusive) →
-      l.exclusive ≡ Some h → NotesHold instance law.history known.noted → (traced : IsTraced instance law.history known.accesses l) → (place : ℕ) → ReplayedTo instance.step known.noted traced.first place traced.now →
+      slice_get locals known.local.number ≡ Some l → known.local ≡ shown l → l.exclusive ≡ Some h → NotesHold instance law.history known.noted → (traced : IsTraced instance law.history known.accesses l) → (place : ℕ) → ReplayedTo instance.step (entries_of known) traced.first place traced.now →
       IsFull instance law.history h.words × (place_of h.words ≡ place)
-  held_full words locals law known l h has noted traced place chain =
-      let entries = entries_from instance (record { words = words; locals = locals }) law in
-      let full = chain_full lines lawful instance laws base law.history law.tickets.below entries known.noted noted traced.first traced.origin place traced.now chain in
+  held_full words locals law known l h of_caller shows has noted traced place chain =
+      let state : State = record { words = words; locals = locals } in
+      let entries = entries_from instance state law in
+      let own = own_linked instance state law known l of_caller shows in
+      let full = chain_full lines lawful instance laws base law.history law.tickets.below entries known noted own traced.first traced.origin place traced.now chain in
       subst (λ ws. IsFull instance law.history ws × (place_of ws ≡ place)) (traced.held h has) full
 
   -- what is traced fits
@@ -106,7 +108,7 @@ module _ (lines : ℕ) (lawful : List ℕ → Type 0) (instance : Instance) (law
       let state : State = record { words = words; locals = locals } in
       let held = mapped (λ (h : HeldExclusive). h.replica) l.exclusive r (held_on known l shows ∙ clean.1) in
       let chain = replayed traced.first traced.now (fits_there words locals law known l traced) in
-      let full = held_full words locals law known l held.0 held.1 noted traced chain.0 chain.1 in
+      let full = held_full words locals law known l held.0 of_caller shows held.1 noted traced chain.0 chain.1 in
       record {
         guard = (clean_on instance.callers r known l shows clean, full_now state law l held.0 held.1 full.0);
         new_is = refl;
@@ -122,7 +124,7 @@ module _ (lines : ℕ) (lawful : List ℕ → Type 0) (instance : Instance) (law
       let held = mapped (λ (h : HeldExclusive). h.replica) l.exclusive r (held_on known l shows ∙ clean.1) in
       let place = place_noted 0 known.accesses in
       let chain = replayed traced.first traced.now (fits_there words locals law known l traced) in
-      let full = held_full words locals law known l held.0 held.1 noted traced place chain in
+      let full = held_full words locals law known l held.0 of_caller shows held.1 noted traced place chain in
       let is : place_of (held_words l.exclusive) ≡ place = ap (λ o. place_of (held_words o)) held.1 ∙ full.1 in
       record {
         guard = (clean_on instance.callers r known l shows clean, full_now state law l held.0 held.1 full.0);

@@ -28,12 +28,12 @@ use Rattle.cx_core.proofs.HistoryLemmas.{ObjectLaws}
 use Rattle.cx_core.proofs.MergeLemmas.{history_is}
 use Rattle.cx_rule.specs.declared.rule.Known.{Known}
 use Rattle.cx_rule.specs.declared.rule.Noted.{Noted}
-use Rattle.cx_rule.specs.Fitting.{Fits, ReadFits, ReplayedTo, loaded_of, loads_of}
+use Rattle.cx_rule.specs.Fitting.{Fits, ReadFits, ReplayedTo, entries_of, loaded_of, loads_of}
 use Rattle.cx_rule.specs.Raises.{AnswersOf, IsRaiseLearned, TeachesRaised, TellsAnswers, TellsReads, TellsReply, answered_local, known_answered, op_in, read_at}
 use Rattle.cx_rule.specs.Rule.{IsTraced, NotesHold, RuleHolds}
 use Rattle.cx_rule.specs.Seats.{place_noted}
 use Rattle.cx_rule.proofs.Behind.{shared_there}
-use Rattle.cx_rule.proofs.Entries.{entries_from}
+use Rattle.cx_rule.proofs.Entries.{entries_from, own_linked}
 use Rattle.cx_rule.proofs.Fitting.{chain_full, entries_lawful, origin_full, traced_fits}
 use Rattle.cx_rule.proofs.Keeps.{event_held, event_leaves, seat_lawful}
 use Rattle.cx_rule.proofs.Replies.{reply_of_full, slot_of_full, unanswered_last}
@@ -63,7 +63,7 @@ module _ (lines : ℕ) (lawful : List ℕ → Type 0) (instance : Instance) (law
         let entries = entries_from instance state law in
         let fits = traced_fits lines lawful instance laws base law.history law.tickets.below entries known.accesses traced.first traced.now traced.origin traced.leads in
         let place = place_noted 0 known.accesses in
-        let full = chain_full lines lawful instance laws base law.history law.tickets.below entries known.noted noted traced.first traced.origin place traced.now (tells.replayed traced.first traced.now fits) in
+        let full = chain_full lines lawful instance laws base law.history law.tickets.below entries known noted (own_linked instance state law known l of_caller shows) traced.first traced.origin place traced.now (tells.replayed traced.first traced.now fits) in
         let last = unanswered_last instance law.history locals known.local.number l law.tickets of_caller x is in
         let above : x.ticket < place_of traced.now = subst (λ p. x.ticket < p) (sym full.1) tells.above in
         sym (tells.slot traced.first traced.now fits)
@@ -154,13 +154,13 @@ module _ (lines : ℕ) (lawful : List ℕ → Type 0) (base : Base) (step : List
       subst (λ (o : Option Linked). AnswersOf lines lawful base step known place o (record { ticket = x.ticket; reply = reply } ∷ [])) (sym is) (inr (record { below = below; reply = reply; tells = tells; are = refl }))
 
 -- a reply is told as long as what is noted stays
-pub reply_still : (lines : ℕ) (lawful : List ℕ → Type 0) (base : Base) (step : List ℕ → List ℕ → List ℕ × List ℕ) (known known' : Known) (ticket : ℕ) (reply : List ℕ) → known'.noted ≡ known.noted → known'.accesses ≡ known.accesses →
+pub reply_still : (lines : ℕ) (lawful : List ℕ → Type 0) (base : Base) (step : List ℕ → List ℕ → List ℕ × List ℕ) (known known' : Known) (ticket : ℕ) (reply : List ℕ) → entries_of known' ≡ entries_of known → known'.accesses ≡ known.accesses →
     known'.local.number ≡ known.local.number → TellsReply lines lawful base step known ticket reply → TellsReply lines lawful base step known' ticket reply
-reply_still lines lawful base step known known' ticket reply noted accesses number tells =
+reply_still lines lawful base step known known' ticket reply entries accesses number tells =
     let turn = λ (first now : List ℕ) (fits : Fits lines lawful base known'.accesses first now). subst (λ (ns : List Note). Fits lines lawful base ns first now) accesses fits in
     record {
-      replayed = λ first now fits. subst (λ (ns : List Noted). ReplayedTo step ns first (place_noted 0 known'.accesses) now) (sym noted)
-          (subst (λ (ns : List Note). ReplayedTo step known.noted first (place_noted 0 ns) now) (sym accesses) (tells.replayed first now (turn first now fits)));
+      replayed = λ first now fits. subst (λ (es : List Noted × List Linked). ReplayedTo step es first (place_noted 0 known'.accesses) now) (sym entries)
+          (subst (λ (ns : List Note). ReplayedTo step (entries_of known) first (place_noted 0 ns) now) (sym accesses) (tells.replayed first now (turn first now fits)));
       above = subst (λ (ns : List Note). ticket < place_noted 0 ns) (sym accesses) tells.above;
       slot = λ first now fits. ap (λ n. slot_reply n now) number ∙ tells.slot first now (turn first now fits);
     }

@@ -1,10 +1,11 @@
 -- What a caller noted of the replicas that it holds tells of their words: which words they may have had first, and which they
 -- then have now.
-use Rattle.std.specs.Prelude.{false, ◌≡◌, ◌+◌, ◌<◌, ◌≤◌, ◌==◌, if◌then◌else◌, ℕ, List, [], ◌∷◌, length, map, slice_get, slice_index, Option, Some, None}
+use Rattle.std.specs.Prelude.{false, ◌≡◌, ◌+◌, ◌<◌, ◌≤◌, ◌⊎◌, ◌==◌, if◌then◌else◌, ℕ, List, [], ◌∷◌, length, map, slice_get, slice_index, Option, Some, None}
 use Rattle.cx_base.specs.Noted.{Note, NotesLead}
 use Rattle.cx_core.specs.declared.entry.Base.{Base}
 use Rattle.cx_core.specs.declared.entry.Entry.{Entry}
 use Rattle.cx_core.specs.declared.local.HeldShared.{HeldShared}
+use Rattle.cx_core.specs.declared.local.Linked.{Linked}
 use Rattle.cx_core.specs.Base.{LawfulBase}
 use Rattle.cx_core.specs.History.{IsLawfulEntry}
 use Rattle.cx_core.specs.Region.{place_of}
@@ -88,14 +89,27 @@ pub data Chain (step : List ℕ → List ℕ → List ℕ × List ℕ) (has_entr
   with_entry : (place : ℕ) (now : List ℕ) (ticket : ℕ) (before : List ℕ) (entry : Entry) → place ≡ ticket + 1 → now ≡ full_step_of step entry before → has_entry ticket entry → Chain step has_entry has_set first ticket before → Chain step has_entry has_set first place now
   with_set : (place : ℕ) (now : List ℕ) (ticket : ℕ) (before set : List ℕ) → place ≡ ticket + 1 → now ≡ stored (slice_index set 0) set before → has_set ticket set → Chain step has_entry has_set first ticket before → Chain step has_entry has_set first place now
 
--- the chain of what a caller noted
-abbrev pub ReplayedTo : (List ℕ → List ℕ → List ℕ × List ℕ) → List Noted → List ℕ → ℕ → List ℕ → Type 0
-ReplayedTo step noted = Chain step (IsNoted noted) no_set
+-- an own entry has the ticket
+pub record IsOwn (own : List Linked) (ticket : ℕ) (entry : Entry) : Type 0 where
+  pub i : ℕ
+  pub at : slice_get own i ≡ Some (record { ticket = ticket; entry = entry })
 
--- for every pair that fits the accesses, noted entries lead from the first list to the second
+-- the entries that a caller has: those that it noted, and its own
+abbrev pub entries_of : Known → List Noted × List Linked
+entries_of known = (known.noted, known.local.own)
+
+-- an entry is noted whole with a ticket, or an own one has it
+abbrev pub HasEntry : List Noted × List Linked → ℕ → Entry → Type 0
+HasEntry entries ticket entry = IsNoted entries.0 ticket entry ⊎ IsOwn entries.1 ticket entry
+
+-- the chain of the entries that a caller has
+abbrev pub ReplayedTo : (List ℕ → List ℕ → List ℕ × List ℕ) → List Noted × List Linked → List ℕ → ℕ → List ℕ → Type 0
+ReplayedTo step entries = Chain step (HasEntry entries) no_set
+
+-- for every pair that fits the accesses, entries that the caller has lead from the first list to the second
 abbrev pub IsReplayed : ℕ → (List ℕ → Type 0) → Base → (List ℕ → List ℕ → List ℕ × List ℕ) → Known → Type 0
-IsReplayed lines lawful base step known = (first now : List ℕ) → Fits lines lawful base known.accesses first now → (place : ℕ) × ReplayedTo step known.noted first place now
+IsReplayed lines lawful base step known = (first now : List ℕ) → Fits lines lawful base known.accesses first now → (place : ℕ) × ReplayedTo step (entries_of known) first place now
 
 -- and they lead to the place that was last loaded or stored
 abbrev pub IsReplayedToPlace : ℕ → (List ℕ → Type 0) → Base → (List ℕ → List ℕ → List ℕ × List ℕ) → Known → Type 0
-IsReplayedToPlace lines lawful base step known = (first now : List ℕ) → Fits lines lawful base known.accesses first now → ReplayedTo step known.noted first (place_noted 0 known.accesses) now
+IsReplayedToPlace lines lawful base step known = (first now : List ℕ) → Fits lines lawful base known.accesses first now → ReplayedTo step (entries_of known) first (place_noted 0 known.accesses) now

@@ -19,7 +19,7 @@ use Rattle.cx_rule.specs.Rule.{IsBehindNotes, IsLawfulLocal}
 use Rattle.cx_rule.specs.Running.{IsSeatOf, Running, instance_at}
 use Rattle.cx_rule.specs.Seats.{IsAtLimit, IsWithinLimit, Seated, place_noted}
 
--- Noted entries lead whatever fits what is noted of the replica held exclusively, or held so last, to a place above a ticket, and
+-- Entries that the caller has lead whatever fits what is noted of the replica held exclusively, or held so last, to a place above a ticket, and
 -- it has this reply in the caller's slot. So this is the reply to the caller's last entry, where that has the ticket.
 pub record TellsReply (lines : ℕ) (lawful : List ℕ → Type 0) (base : Base) (step : List ℕ → List ℕ → List ℕ × List ℕ) (known : Known) (ticket : ℕ) (reply : List ℕ) : Type 0 where
   pub replayed : IsReplayedToPlace lines lawful base step known

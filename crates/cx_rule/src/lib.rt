@@ -22,7 +22,7 @@
 //! - Some pair of words fits what a caller noted of the replicas that it holds: words lawful as a base, at a place from the base's on, that
 //!   agree with the loads and lead by the stores to the words now: `fits` of `try_exclusive`, `try_shared`, `load_word` and `store_word`
 //!   (`Fitting`). The rule says that what is really there does.
-//! - An exclusive right is given up where whatever fits is the image after its place by noted entries: `replayed` of `downgrade` and
+//! - An exclusive right is given up where whatever fits is the image after its place by entries that the caller has: `replayed` of `downgrade` and
 //!   `release_exclusive` asks that, and the event's guard, that the words are a full image, then holds.
 //! - A word found in CUR, FREE or LOW is at least what the caller found there before, and the replica that CUR names is not held exclusively by
 //!   the caller. A word found by `look` and `link` names a ticket of its slot, at least as late as each of the slot below the front; one that

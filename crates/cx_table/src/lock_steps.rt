@@ -109,7 +109,7 @@ impl<O: Object> Shared<O> {
     }
 
     /// Turns an exclusive right into a shared one, where no word is dirty and whatever fits what is noted is the image after
-    /// the place noted, by noted entries. It gives the word found and the token of the shared right.
+    /// the place noted, by entries that the caller has. It gives the word found and the token of the shared right.
     pub fn downgrade(
         &self,
         seat: &mut CallerSeat,
@@ -146,7 +146,7 @@ impl<O: Object> Shared<O> {
     }
 
     /// Gives an exclusive right up, where no word is dirty and whatever fits what is noted is the image after its place, by
-    /// noted entries. It gives the word found.
+    /// entries that the caller has. It gives the word found.
     pub fn release_exclusive(&self, seat: &mut CallerSeat, held: Exclusive) -> Result<u64, Halt>
         requires may { MayStep O.Object self.now (ReleaseExclusive held.replica) seat.old }
         requires held { IsExclusiveOf self.now.callers seat.old held }

@@ -1,16 +1,27 @@
 //! A caller's seat: its right to step, and the numbers of its local state that code reads.
 
-ghost use Rattle.std.specs.Prelude.{◌≡◌, ◌+◌, ◌^◌, ◌<◌, ◌≤◌, ◌↔◌, ℕ, IfNone, IfSome, IsTrue, length, slice_index};
+ghost use Rattle.std.specs.Prelude.{◌≡◌, ◌+◌, ◌^◌, ◌<◌, ◌≤◌, ◌↔◌, ℕ, IfNone, IfSome, IsTrue, Some, length, slice_index};
 ghost use Rattle.std.specs.List.{Contains};
 ghost use Rattle.cx_core.specs.Rights.{held_dirty};
 ghost use Rattle.cx_core.specs.QueueEvents.{cell_of};
 ghost use Rattle.cx_rule.specs.Seats.{HasCells, IsWithinLimit, place_noted, unanswered_ticket};
+ghost use Rattle.seat_memory.specs.Summaries.{IsOwnEntry};
 
 use atomic_table::Seat;
-use cx_core::{HeldDowngraded, Protection, SeenNeed, SeenSlot, WonCode};
+use cx_core::{Entry, HeldDowngraded, Protection, SeenNeed, SeenSlot, WonCode};
 use cx_rule::View;
 use seat_memory::{Copies, Summary};
 use std::marker::Model;
+
+/// Whether a cell's ticket is this one.
+fn is_ticket(ticket: u64, of: Option<u64>) -> bool
+    ensures { IsTrue result → of ≡ Some ticket }
+{
+    match of {
+        None => false,
+        Some(found) => found == ticket,
+    }
+}
 
 /// The seat of one caller. It has no bytes of the table, and what it knows changes only at its own steps. Contracts see
 /// its table, the number of its caller's last entry in the table's base, the words of a region, and what it knows.
@@ -107,6 +118,31 @@ impl CallerSeat {
         ensures { result ≡ slice_index (cell_of self.now.known.local j).words i }
     {
         self.copy.cell_word(j, i)
+    }
+
+    /// The caller's own entry with a ticket, where a cell has it: its words are those last written there. It is false where no cell
+    /// has the ticket.
+    pub fn own_entry(&self, ticket: u64, entry: &mut Entry) -> bool
+        ensures { IsTrue result → IsOwnEntry self.now.known.local.own self.now.known.local.number ticket entry.new }
+    {
+        let Some(j) = self.ticket_cell(ticket) else {
+            return false;
+        };
+        entry.caller = self.summary.number;
+        self.copy.read_entry(j, entry);
+        true
+    }
+
+    /// The cell that has a ticket.
+    fn ticket_cell(&self, ticket: u64) -> Option<u64>
+        ensures { IfSome result (λ j. (j < 16) × ((cell_of self.now.known.local j).ticket ≡ Some ticket)) }
+    {
+        for j in 0..16 {
+            if is_ticket(ticket, self.cell_ticket(j)) {
+                return Some(j);
+            }
+        }
+        None
     }
 
     /// Whether a word of the replica that the caller holds exclusively was stored and not persisted.

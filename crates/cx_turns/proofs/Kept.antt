@@ -10,7 +10,7 @@ use Rattle.cx_core.specs.declared.local.Protection.TheVariants.{Unprotected}
 use Rattle.cx_core.specs.Region.{region_words}
 use Rattle.cx_core.specs.Rights.{held_dirty}
 use Rattle.cx_core.specs.State.{one_more}
-use Rattle.cx_rule.specs.Fitting.{SomeFits}
+use Rattle.cx_rule.specs.Fitting.{SomeFits, entries_of}
 use Rattle.cx_rule.specs.Running.{IsSeatOf, Running}
 use Rattle.cx_rule.specs.Seats.{Seated}
 use Rattle.cx_rule.specs.Steps.{Steps}
@@ -58,8 +58,8 @@ module _ {O : Type 0} (o : Ghosts O) (r : Running O) (before after : Seated) (he
     dirty = subst (λ (h : Option HeldExclusive). All (λ i. i < region_words (o.line_count r.object)) (held_dirty h)) (sym exclusive) was.dirty;
   }
 
-  pub image_same : after.known.accesses ≡ before.known.accesses → after.known.noted ≡ before.known.noted → IsImage (o.line_count r.object) (o.lawful r.object) r.base (o.step r.object) before.known → IsImage (o.line_count r.object) (o.lawful r.object) r.base (o.step r.object) after.known
-  image_same accesses noted image = image_more (o.line_count r.object) (o.lawful r.object) r.base (o.step r.object) before.known after.known [] accesses (noted ∙ sym (append-nil before.known.noted)) image
+  pub image_same : after.known.accesses ≡ before.known.accesses → entries_of after.known ≡ entries_of before.known → IsImage (o.line_count r.object) (o.lawful r.object) r.base (o.step r.object) before.known → IsImage (o.line_count r.object) (o.lawful r.object) r.base (o.step r.object) after.known
+  image_same accesses entries image = image_more (o.line_count r.object) (o.lawful r.object) r.base (o.step r.object) before.known after.known [] accesses (entries ∙ ap (λ ns. (ns, before.known.local.own)) (sym (append-nil before.known.noted))) image
 
   -- through protecting
   pub protected_image : IsSeatOf r after → but_protected after ≡ but_protected before → IsAtImage o r before held → IsAtImage o r after held
@@ -67,7 +67,7 @@ module _ {O : Type 0} (o : Ghosts O) (r : Running O) (before after : Seated) (he
       let accesses = ap (λ (s : Seated). s.known.accesses) same in
       record {
         is_held = held_same seat (ap (λ (s : Seated). s.known.local.exclusive) same) (ap (λ (s : Seated). s.known.local.number) same) accesses was.is_held;
-        image = image_same accesses (ap (λ (s : Seated). s.known.noted) same) was.image;
+        image = image_same accesses (ap (λ (s : Seated). entries_of s.known) same) was.image;
         alone = ap (λ (s : Seated). others s.known.local) same ∙ was.alone;
       }
 
@@ -78,7 +78,7 @@ module _ {O : Type 0} (o : Ghosts O) (r : Running O) (before after : Seated) (he
       let accesses = ap (λ (s : Seated). s.known.accesses) same in
       record {
         is_held = held_same seat (ap (λ (s : Seated). s.known.local.exclusive) same) (ap (λ (s : Seated). s.known.local.number) same) accesses was.is_held;
-        image = image_same accesses (ap (λ (s : Seated). s.known.noted) same) was.image;
+        image = image_same accesses (ap (λ (s : Seated). entries_of s.known) same) was.image;
         alone = ap (λ (a : AllRights). with a after) rights ∙ ap (with (all_rights before)) same ∙ was.alone;
       }
 
@@ -124,7 +124,7 @@ module _ {O : Type 0} (o : Ghosts O) (r : Running O) (before after : Seated) (he
       record {
         at_image = record {
           is_held = held_same o r before after held s.seat (ap (λ (t : Seated). t.known.local.exclusive) s.made) (ap (λ (t : Seated). t.known.local.number) s.made) accesses was.is_held;
-          image = image_same o r before after held accesses (ap (λ (t : Seated). t.known.noted) s.made ∙ append-nil before.known.noted) was.image;
+          image = image_same o r before after held accesses (ap (λ (t : Seated). entries_of t.known) s.made ∙ ap (λ ns. (ns, before.known.local.own)) (append-nil before.known.noted)) was.image;
           alone = ap (λ (t : Seated). others t.known.local) s.made ∙ was.alone;
         };
         apart = λ e. s.told.apart (was.is_held.right.holds ∙ ap Some (e ∙ ap (root_replica_of r.callers) cur));

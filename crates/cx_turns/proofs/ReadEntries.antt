@@ -1,17 +1,20 @@
 -- What an entry that was read leaves of a replica held exclusively, and its words.
-use Rattle.std.proofs.Common.{All, ◌≡◌, ◌<◌, ℕ, List, [], ◌∷◌, length, drop, slice_index, take, ap, sym, subst, ◌∙◌, arith}
+use Rattle.std.proofs.Common.{All, inl, inr, ◌≡◌, ◌^◌, ◌<◌, ℕ, List, [], ◌∷◌, length, drop, slice_index, take, ap, sym, subst, ◌∙◌, arith}
 use Rattle.std.proofs.lemmas.List.{take_all}
 use Rattle.cx_base.specs.declared.object.Object.{Ghosts}
+use Rattle.cx_core.specs.declared.entry.Entry.{Entry}
+use Rattle.cx_core.specs.History.{IsLawfulEntry}
 use Rattle.cx_core.specs.Region.{region_words}
 use Rattle.cx_core.specs.Rights.{held_dirty}
-use Rattle.cx_rule.specs.Fitting.{SomeFits}
+use Rattle.cx_rule.specs.Fitting.{HasEntry, SomeFits, entries_of}
 use Rattle.cx_rule.specs.Running.{IsSeatOf, Running}
 use Rattle.cx_rule.specs.Seats.{Seated}
 use Rattle.cx_table.specs.Right.{Right}
 use Rattle.cx_table.specs.Tokens.{IsExclusiveOf}
+use Rattle.cx_turns.specs.Replaying.{FindsNext}
 use Rattle.mutation_queue.specs.Entries.{ReadsEntry, notes_of, with_look, with_read}
 use Rattle.replica.specs.Held.{IsHeld}
-use Rattle.replica.specs.Replays.{IsReady, noted_place}
+use Rattle.replica.specs.Replays.{ComesNext, IsReady, noted_place}
 use Rattle.replica.specs.Laws.{image_more}
 
 -- a replica that is held still is, once an entry was read
@@ -30,8 +33,23 @@ held_read lines r lawful caller ticket words before after held of read was =
 pub ready_read : {O : Type 0} (o : Ghosts O) (r : Running O) (caller ticket at : ℕ) (words : List ℕ) (before after : Seated) (held : Right) → IsSeatOf r after → ReadsEntry caller ticket words before after → IsReady o r held at before → IsReady o r held at after
 ready_read o r caller ticket at words before after held of read was = record {
   is_held = held_read (o.line_count r.object) r (o.lawful r.object) caller ticket words before after held of read was.is_held;
-  image = image_more (o.line_count r.object) (o.lawful r.object) r.base (o.step r.object) before.known after.known (notes_of caller ticket 0 words) (ap (λ (s : Seated). s.known.accesses) read.seat) (ap (λ (s : Seated). s.known.noted) read.seat) was.image;
+  image = image_more (o.line_count r.object) (o.lawful r.object) r.base (o.step r.object) before.known after.known (notes_of caller ticket 0 words) (ap (λ (s : Seated). s.known.accesses) read.seat) (ap (λ (s : Seated). entries_of s.known) read.seat) was.image;
   place = ap noted_place read.seat ∙ was.place;
+}
+
+-- and once it was found
+pub ready_found : {O : Type 0} (o : Ghosts O) (r : Running O) (at : ℕ) (entry : Entry) (before after : Seated) (held : Right) → IsSeatOf r after → FindsNext at entry before after → IsReady o r held at before → IsReady o r held at after
+ready_found o r at entry before after held of next was = elim next.found [
+  | inl same ↦ subst (IsReady o r held at) (sym same) was
+  | inr read ↦ ready_read o r entry.caller at at (entry.number ∷ entry.op) before after held of read was
+]
+
+-- it comes next where it has the replica's place as its ticket
+pub found_next : (at : ℕ) (entry : Entry) (before after : Seated) → FindsNext at entry before after → noted_place after ≡ at → ComesNext entry after
+found_next at entry before after next place = record {
+  had = subst (λ p. HasEntry (entries_of after.known) p entry) (sym place) next.had;
+  lawful = subst (λ p. IsLawfulEntry p entry) (sym place) next.lawful;
+  small = subst (λ p. p < 2 ^ 40) (sym place) next.small;
 }
 
 -- words, the first of them and the 144 behind it

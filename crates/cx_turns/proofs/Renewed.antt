@@ -3,7 +3,7 @@ use Rattle.std.proofs.Common.{◌≡◌, ◌<◌, ℕ, List, ap, sym, subst, ◌
 use Rattle.cx_base.specs.declared.object.Object.{Ghosts}
 use Rattle.cx_core.specs.declared.local.HeldDowngraded.{HeldDowngraded}
 use Rattle.cx_core.specs.Rights.{exclusive_on}
-use Rattle.cx_rule.specs.Fitting.{Fits, ReplayedTo, SomeFits}
+use Rattle.cx_rule.specs.Fitting.{Fits, ReplayedTo, SomeFits, entries_of}
 use Rattle.cx_rule.specs.Running.{Running}
 use Rattle.cx_rule.specs.Seats.{Seated}
 use Rattle.cx_table.specs.Right.{Right}
@@ -29,7 +29,7 @@ finished o r ticket before mid after held token reply alone holds brought work d
     ap (λ (o : Option ℕ). with_others o (others before.known.local)) holds ∙ ap (with_others (Some held.replica)) alone in
     let made = d.made.made in
     let accesses : after.known.accesses ≡ mid.known.accesses = ap (λ (s : Seated). s.known.accesses) made in
-    let noted : after.known.noted ≡ mid.known.noted = ap (λ (s : Seated). s.known.noted) made ∙ append-nil mid.known.noted in
+    let entries : entries_of after.known ≡ entries_of mid.known = ap (λ (s : Seated). entries_of s.known) made ∙ ap (λ ns. (ns, mid.known.local.own)) (append-nil mid.known.noted) in
     let place : noted_place after ≡ noted_place mid = ap noted_place made in
     let lines_are = brought.is_held.sized.lines_are in
     let number : after.known.local.number ≡ mid.known.local.number = ap (λ (s : Seated). s.known.local.number) made in
@@ -44,8 +44,8 @@ finished o r ticket before mid after held token reply alone holds brought work d
       rights = d.rights
           ∙ ap (λ (x : AllRights). (let y : AllRights = record x { exclusive = None; downgraded = Some held.replica } in y)) (rights_kept (unguarded before) (unguarded mid) work ∙ free)
           ∙ ap (λ q. (let y : AllRights = record no_rights { downgraded = Some q } in y)) (sym d.here);
-      replayed = λ first now f. subst (λ p. ReplayedTo (o.step r.object) after.known.noted first p now) (sym place)
-          (subst (λ ns. ReplayedTo (o.step r.object) ns first (noted_place mid) now) (sym noted) (brought.image.replayed first now (there first now f)));
+      replayed = λ first now f. subst (λ p. ReplayedTo (o.step r.object) (entries_of after.known) first p now) (sym place)
+          (subst (λ es. ReplayedTo (o.step r.object) es first (noted_place mid) now) (sym entries) (brought.image.replayed first now (there first now f)));
       reply = λ first now f. subst (λ n. ShowsReply (o.line_count r.object) (o.lawful r.object) r.base mid.known.accesses n reply) (sym number) brought.reply_is first now (there first now f);
       some = subst (λ xs. SomeFits r.lines (o.lawful r.object) r.base xs) (sym accesses) (subst (λ n. SomeFits n (o.lawful r.object) r.base mid.known.accesses) (sym lines_are) brought.is_held.some);
       protection = ap (λ (s : Seated). s.known.local.protection) made ∙ brought.none;

@@ -1,5 +1,5 @@
 -- A replica held exclusively that is brought up to a ticket.
-use Rattle.std.specs.Prelude.{◌≡◌, ◌<◌, ℕ, List, [], ◌∷◌, None}
+use Rattle.std.specs.Prelude.{◌≡◌, ◌^◌, ◌<◌, ◌⊎◌, ℕ, List, [], ◌∷◌, None}
 use Rattle.std.specs.Option.{option_map}
 use Rattle.cx_base.specs.Memory.{Becomes}
 use Rattle.cx_base.specs.Noted.{Note}
@@ -8,8 +8,9 @@ use Rattle.cx_core.specs.declared.entry.Base.{Base}
 use Rattle.cx_core.specs.declared.entry.Entry.{Entry}
 use Rattle.cx_core.specs.declared.local.HeldShared.{HeldShared}
 use Rattle.cx_core.specs.declared.local.Protection.TheVariants.{Unprotected}
+use Rattle.cx_core.specs.History.{IsLawfulEntry}
 use Rattle.cx_core.specs.Region.{slot_reply}
-use Rattle.cx_rule.specs.Fitting.{Fits}
+use Rattle.cx_rule.specs.Fitting.{Fits, HasEntry, entries_of}
 use Rattle.cx_rule.specs.Running.{Running}
 use Rattle.cx_rule.specs.Seats.{IsWithinLimit, Seated}
 use Rattle.cx_table.specs.Right.{Right}
@@ -44,6 +45,14 @@ beside_work s = record s {
 pub record ReadsNext (ticket : ℕ) (entry : Entry) (before after : Seated) : Type 0 where
   pub read : ReadsEntry entry.caller ticket (entry.number ∷ entry.op) before after
   pub noted : IsNotedEntry ticket after entry
+
+-- The caller has the entry with a ticket, and it is one that may come there. It is an own one that stands in the seat's memory, and nothing
+-- is changed, or it was read.
+pub record FindsNext (ticket : ℕ) (entry : Entry) (before after : Seated) : Type 0 where
+  pub had : HasEntry (entries_of after.known) ticket entry
+  pub lawful : IsLawfulEntry ticket entry
+  pub small : ticket < 2 ^ 40
+  pub found : (after ≡ before) ⊎ ReadsEntry entry.caller ticket (entry.number ∷ entry.op) before after
 
 -- whatever fits the accesses of a replica, the last entry of this caller there has this reply
 abbrev pub ShowsReply : ℕ → (List ℕ → Type 0) → Base → List Note → ℕ → List ℕ → Type 0

@@ -7,7 +7,7 @@ ghost use Rattle.cx_core.specs.RingEvents.{Protects};
 ghost use Rattle.cx_rule.specs.Fitting.{Fits};
 ghost use Rattle.cx_rule.specs.Seats.{IsAtLimit};
 ghost use Rattle.cx_turns.specs.Keeping.{IsKept};
-ghost use Rattle.cx_turns.specs.Replaying.{IsBroughtUp, IsReplayed, IsSettled, LoadsOnly, ReadsNext, ShowsReply, beside_bringing, beside_work};
+ghost use Rattle.cx_turns.specs.Replaying.{FindsNext, IsBroughtUp, IsReplayed, IsSettled, LoadsOnly, ReadsNext, ShowsReply, beside_bringing, beside_work};
 ghost use Rattle.cx_turns.specs.Turns.{Keeps};
 ghost use Rattle.mutation_queue.specs.Entries.{MayRead};
 ghost use Rattle.replica.specs.Held.{IsHeld, beside_held, left_of};
@@ -54,8 +54,8 @@ fn settle<O: Object>(
     Ok(reply)
 }
 
-/// Applies the entries from the place of a replica held exclusively up to a ticket, in order, each read from the queue while the
-/// caller's protection keeps it: where the place is above the ticket, none. The replica is the image after its place before and
+/// Applies the entries from the place of a replica held exclusively up to a ticket, in order, the caller's own from the seat's memory, and
+/// each other read from the queue while the caller's protection keeps it: where the place is above the ticket, none. The replica is the image after its place before and
 /// afterwards, and then its place is above the ticket. `Halt` comes only where the seat's steps equal its limit.
 pub fn replay_to<O: Object>(
     shared: &Shared<O>,
@@ -84,7 +84,7 @@ pub fn replay_to<O: Object>(
     Ok(())
 }
 
-/// Applies the entry of the place of a replica held exclusively, which is read into memory of the caller's.
+/// Applies the entry of the place of a replica held exclusively, which is found in memory of the caller's.
 fn replay_next<O: Object>(
     shared: &Shared<O>,
     seat: &mut CallerSeat,
@@ -99,8 +99,32 @@ fn replay_next<O: Object>(
     ensures ready { MatchResult result (λ _. IsReady O.Object shared.now held.now (at + 1) seat.new) (λ _. IsAtLimit seat.new.known.local) }
     ensures keeps { Keeps shared.now beside_work seat.old seat.new }
 {
-    read_next(shared, seat, at, words, next)?;
+    find_next(shared, seat, at, words, next)?;
     apply(shared, seat, held, next)?;
+    Ok(())
+}
+
+/// Finds the entry with a ticket, which is linked and protected: the caller's own in the seat's memory, without a step, and that of another
+/// in its cell.
+fn find_next<O: Object>(
+    shared: &Shared<O>,
+    seat: &mut CallerSeat,
+    ticket: u64,
+    words: &mut [u64; 145],
+    next: &mut Entry,
+) -> Result<(), Halt>
+    requires may { MayRead shared.now ticket seat.old }
+    requires later { shared.now.base.place ≤ ticket }
+    ensures found { MatchResult result (λ _. FindsNext ticket next.new seat.old seat.new) (λ _. IsAtLimit seat.new.known.local) }
+    ensures keeps { Keeps shared.now beside_work seat.old seat.new }
+{
+    // callers and tickets are few
+    let _callers = shared.callers();
+    let _front = seat.front();
+    if seat.own_entry(ticket, next) {
+        return Ok(());
+    }
+    read_next(shared, seat, ticket, words, next)?;
     Ok(())
 }
 

@@ -11,6 +11,7 @@ use Rattle.cx_base.specs.Memory.{Becomes}
 use Rattle.cx_base.specs.Noted.{Note, NotesLead}
 use Rattle.cx_core.specs.declared.entry.Base.{Base}
 use Rattle.cx_core.specs.declared.entry.Entry.{Entry}
+use Rattle.cx_core.specs.declared.local.Linked.{Linked}
 use Rattle.cx_core.specs.Base.{LawfulBase}
 use Rattle.cx_core.specs.History.{IsLawfulEntry}
 use Rattle.cx_core.specs.Region.{object_part, place_of}
@@ -19,7 +20,7 @@ use Rattle.cx_core.proofs.HistoryLemmas.{ObjectLaws}
 use Rattle.cx_core.proofs.KeepLemmas as keep
 use Rattle.cx_rule.specs.declared.rule.Known.{Known}
 use Rattle.cx_rule.specs.declared.rule.Noted.{Noted}
-use Rattle.cx_rule.specs.Fitting.{Fits, IsNoted, ReplayedTo, SomeFits, base_of, start, with_entry, with_set}
+use Rattle.cx_rule.specs.Fitting.{Fits, HasEntry, ReplayedTo, SomeFits, base_of, entries_of, start, with_entry, with_set}
 use Rattle.cx_rule.specs.Running.{Running}
 use Rattle.cx_rule.specs.Seats.{Seated, place_noted}
 use Rattle.cx_table.specs.Right.{Right}
@@ -73,9 +74,9 @@ module _ (lines : ℕ) (lawful : List ℕ → Type 0) (base : Base) (step : List
   image_object known image first now f = (image.law first now f).object
 
   -- a full step leads to the next image
-  steps_on : ObjectLaws lines lawful step → (old new : Known) (entry : Entry) → new.noted ≡ old.noted → IsImage lines lawful base step old → IsNoted old.noted (place_noted 0 old.accesses) entry → IsLawfulEntry (place_noted 0 old.accesses) entry → place_noted 0 old.accesses < 2 ^ 40 →
+  steps_on : ObjectLaws lines lawful step → (old new : Known) (entry : Entry) → entries_of new ≡ entries_of old → IsImage lines lawful base step old → HasEntry (entries_of old) (place_noted 0 old.accesses) entry → IsLawfulEntry (place_noted 0 old.accesses) entry → place_noted 0 old.accesses < 2 ^ 40 →
       Becomes (Fits lines lawful base old.accesses) (Fits lines lawful base new.accesses) (λ before now. now ≡ full_step_of step entry before) →
-      (first now : List ℕ) → Fits lines lawful base new.accesses first now → ReplayedTo step new.noted first (place_noted 0 old.accesses + 1) now × LawfulBase lines lawful (base_of now) × (place_of now ≡ place_noted 0 old.accesses + 1)
+      (first now : List ℕ) → Fits lines lawful base new.accesses first now → ReplayedTo step (entries_of new) first (place_noted 0 old.accesses + 1) now × LawfulBase lines lawful (base_of now) × (place_of now ≡ place_noted 0 old.accesses + 1)
   steps_on laws old new entry same image noted is small becomes first now f =
       let ticket = place_noted 0 old.accesses in
       let b = becomes.from first now f in
@@ -89,13 +90,13 @@ module _ (lines : ℕ) (lawful : List ℕ → Type 0) (base : Base) (step : List
       let kept = keep.keeps lines lawful step (base_of before) entry next law (omega (arith, at)) is.caller is.some (omega (arith, at, most))
       part_lawful (laws.shape (step part entry.op).0 part_lawful) (laws.replies part entry.op law.object is.op) refl b.2 in
       let place : place_of now ≡ place_of before + 1 = kept.lawful_next.at_place in (
-        subst (λ ns. ReplayedTo step ns first (ticket + 1) now) (sym same) (with_entry (ticket + 1) now ticket before entry refl b.2 noted (image.replayed first before b.1)),
+        subst (λ es. ReplayedTo step es first (ticket + 1) now) (sym same) (with_entry (ticket + 1) now ticket before entry refl b.2 noted (image.replayed first before b.1)),
         subst (λ q. LawfulBase lines lawful (let x : Base = record { place = q; words = now } in x)) (sym place) kept.lawful_next,
         place ∙ ap (λ p. p + 1) at,
       )
 
   -- so it is the image after the next place
-  next_image : ObjectLaws lines lawful step → (old new : Known) (entry : Entry) → new.noted ≡ old.noted → HasPlace new.accesses → SomeFits lines lawful base new.accesses → IsImage lines lawful base step old → IsNoted old.noted (place_noted 0 old.accesses) entry → IsLawfulEntry (place_noted 0 old.accesses) entry → place_noted 0 old.accesses < 2 ^ 40 →
+  next_image : ObjectLaws lines lawful step → (old new : Known) (entry : Entry) → entries_of new ≡ entries_of old → HasPlace new.accesses → SomeFits lines lawful base new.accesses → IsImage lines lawful base step old → HasEntry (entries_of old) (place_noted 0 old.accesses) entry → IsLawfulEntry (place_noted 0 old.accesses) entry → place_noted 0 old.accesses < 2 ^ 40 →
       Becomes (Fits lines lawful base old.accesses) (Fits lines lawful base new.accesses) (λ before now. now ≡ full_step_of step entry before) → IsImage lines lawful base step new × (place_noted 0 new.accesses ≡ place_noted 0 old.accesses + 1)
   next_image laws old new entry same begun some image noted is small becomes =
       let on = steps_on laws old new entry same image noted is small becomes in
@@ -103,14 +104,14 @@ module _ (lines : ℕ) (lawful : List ℕ → Type 0) (base : Base) (step : List
       ∥∥₁_elim some (hlevel props) (λ p. (let f = p.2 in sym (noted_at new.accesses begun p.0 p.1 f) ∙ (on p.0 p.1 f).2)) in (
         record {
           begun = begun;
-          replayed = λ first now f. subst (λ p. ReplayedTo step new.noted first p now) (sym place) (on first now f).0;
+          replayed = λ first now f. subst (λ p. ReplayedTo step (entries_of new) first p now) (sym place) (on first now f).0;
           law = λ first now f. (on first now f).1;
         },
         place,
       )
 
   -- what was only loaded from stays the image after the same place
-  pub loaded_image : (old new : Known) → new.noted ≡ old.noted → HasPlace new.accesses → SomeFits lines lawful base new.accesses → IsImage lines lawful base step old →
+  pub loaded_image : (old new : Known) → entries_of new ≡ entries_of old → HasPlace new.accesses → SomeFits lines lawful base new.accesses → IsImage lines lawful base step old →
       Becomes (Fits lines lawful base old.accesses) (Fits lines lawful base new.accesses) ◌≡◌ → IsImage lines lawful base step new × (place_noted 0 new.accesses ≡ place_noted 0 old.accesses)
   loaded_image old new same begun some image becomes =
       let place : place_noted 0 new.accesses ≡ place_noted 0 old.accesses =
@@ -119,21 +120,21 @@ module _ (lines : ℕ) (lawful : List ℕ → Type 0) (base : Base) (step : List
           begun = begun;
           replayed = λ first now f. (
               let b = becomes.from first now f in
-              subst (λ p. ReplayedTo step new.noted first p now) (sym place) (subst (λ ns. ReplayedTo step ns first (place_noted 0 old.accesses) now) (sym same)
-              (subst (ReplayedTo step old.noted first (place_noted 0 old.accesses)) b.2 (image.replayed first b.0 b.1))));
+              subst (λ p. ReplayedTo step (entries_of new) first p now) (sym place) (subst (λ es. ReplayedTo step es first (place_noted 0 old.accesses) now) (sym same)
+              (subst (ReplayedTo step (entries_of old) first (place_noted 0 old.accesses)) b.2 (image.replayed first b.0 b.1))));
           law = λ first now f. (let b = becomes.from first now f in subst (λ ws. LawfulBase lines lawful (base_of ws)) b.2 (image.law first b.0 b.1));
         },
         place,
       )
 
   -- an image is at a place from the base's on
-  chain_from : (notes : List Noted) (first : List ℕ) (place : ℕ) (now : List ℕ) → ReplayedTo step notes first place now → place_of first ≤ place
-  chain_from notes first place now (start _ _ at is) = omega arith
-  chain_from notes first place now (with_entry _ _ t before e at is noted rest) = (let below = chain_from notes first t before rest in omega arith)
-  chain_from notes first place now (with_set _ _ t before set at is noted rest) = absurd noted
+  chain_from : (entries : List Noted × List Linked) (first : List ℕ) (place : ℕ) (now : List ℕ) → ReplayedTo step entries first place now → place_of first ≤ place
+  chain_from entries first place now (start _ _ at is) = omega arith
+  chain_from entries first place now (with_entry _ _ t before e at is noted rest) = (let below = chain_from entries first t before rest in omega arith)
+  chain_from entries first place now (with_set _ _ t before set at is noted rest) = absurd noted
 
   pub image_from : (known : Known) → SomeFits lines lawful base known.accesses → IsImage lines lawful base step known → base.place ≤ place_noted 0 known.accesses
-  image_from known some image = ∥∥₁_elim some le_prop (λ p. (let f = p.2 in let from = f.from in let on = chain_from known.noted p.0 (place_noted 0 known.accesses) p.1 (image.replayed p.0 p.1 f) in omega arith))
+  image_from known some image = ∥∥₁_elim some le_prop (λ p. (let f = p.2 in let from = f.from in let on = chain_from (entries_of known) p.0 (place_noted 0 known.accesses) p.1 (image.replayed p.0 p.1 f) in omega arith))
 
   -- what was not stored into since its place was loaded is the image after that place
   pub unstored_image : (known : Known) → HasPlace known.accesses → StoresNone known.accesses → IsImage lines lawful base step known
@@ -172,6 +173,6 @@ module _ {O : Type 0} (o : Ghosts O) (r : Running O) (held : Right) where
   pub steps_ready : {X E : Type 0} (entry : Entry) (before after : Seated) → ObjectLaws (o.line_count r.object) (o.lawful r.object) (o.step r.object) → (result : Result X E) → IsImage (o.line_count r.object) (o.lawful r.object) r.base (o.step r.object) before.known → ComesNext entry before → Accessed o r held before after →
       OnOk result (Becomes (Fits (o.line_count r.object) (o.lawful r.object) r.base before.known.accesses) (Fits (o.line_count r.object) (o.lawful r.object) r.base after.known.accesses) (λ first now. now ≡ full_step_of (o.step r.object) entry first)) → OnOk result (IsReady o r held (noted_place before + 1) after)
   steps_ready entry before after laws (Ok x) image next leaves becomes =
-      let on = next_image (o.line_count r.object) (o.lawful r.object) r.base (o.step r.object) laws before.known after.known entry (ap (λ (s : Seated). s.known.noted) leaves.rest) leaves.begun leaves.still.some image next.noted next.lawful next.small becomes in
+      let on = next_image (o.line_count r.object) (o.lawful r.object) r.base (o.step r.object) laws before.known after.known entry (ap (λ (s : Seated). entries_of s.known) leaves.rest) leaves.begun leaves.still.some image next.had next.lawful next.small becomes in
       record { is_held = leaves.still; image = on.0; place = on.1 }
   steps_ready entry before after laws (Err e) image next leaves becomes = tt

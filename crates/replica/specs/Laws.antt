@@ -1,6 +1,6 @@
 -- What follows for a replica held exclusively from the steps that take it, and from those that note more of entries.
 use Rattle.std.specs.Prelude.{◌≡◌, ◌<◌, ℕ, Bool, cond, All, List, [], ◌++◌, refl, Option, Some, None}
-use Rattle.std.proofs.Common.{ap, sym, subst, ◌∙◌, eq-eqb}
+use Rattle.std.proofs.Common.{inl, inr, ap, sym, subst, ◌∙◌, eq-eqb}
 use Rattle.std.proofs.lemmas.List.Elements.{All-nil}
 use Rattle.std.proofs.lemmas.Option.{none-some}
 use Rattle.std.specs.Option.{option_map}
@@ -8,6 +8,7 @@ use Rattle.cx_core.specs.declared.entry.Base.{Base}
 use Rattle.cx_core.specs.declared.entry.Entry.{Entry}
 use Rattle.cx_core.specs.declared.kinds.Kind.TheVariants.{TryExclusive}
 use Rattle.cx_core.specs.declared.local.HeldShared.{HeldShared}
+use Rattle.cx_core.specs.declared.local.Linked.{Linked}
 use Rattle.cx_core.specs.declared.local.Local.{Local}
 use Rattle.cx_core.specs.LockEvents.{refused_by, taken}
 use Rattle.cx_core.specs.Region.{region_words}
@@ -15,7 +16,7 @@ use Rattle.cx_core.specs.Rights.{held_dirty, shared_on}
 use Rattle.cx_core.proofs.ListLemmas.{slice_get-append_left}
 use Rattle.cx_rule.specs.declared.rule.Known.{Known}
 use Rattle.cx_rule.specs.declared.rule.Noted.{Noted}
-use Rattle.cx_rule.specs.Fitting.{Fits, Fitting, IsNoted, ReplayedTo, SomeFits, SomeReadFits, start, with_entry, with_set, loaded_of}
+use Rattle.cx_rule.specs.Fitting.{Fits, Fitting, HasEntry, IsNoted, ReplayedTo, SomeFits, SomeReadFits, entries_of, start, with_entry, with_set, loaded_of}
 use Rattle.cx_rule.specs.Running.{IsSeatOf, Running, instance_at}
 use Rattle.cx_rule.specs.Seats.{Seated, place_noted, unseen}
 use Rattle.cx_rule.specs.Steps.{Steps}
@@ -66,23 +67,27 @@ shared_held lines r lawful seat held sized of right fits = record {
   some = subst (λ n. SomeReadFits n lawful r.base (loaded_of seat.known.local.shared)) sized.lines_are (fitting_shared r lawful seat.known held.replica right.holds fits);
 }
 
--- an entry that is noted stays so
+-- an entry that is had stays so
 noted_more : (notes more : List Noted) (ticket : ℕ) (entry : Entry) → IsNoted notes ticket entry → IsNoted (notes ++ more) ticket entry
 noted_more notes more ticket entry n = record { long = n.long; each = λ i below. (let at = n.each i below in (at.0, slice_get-append_left notes more at.0 _ at.1)) }
 
-replayed_more : (step : List ℕ → List ℕ → List ℕ × List ℕ) (notes more : List Noted) (first : List ℕ) (place : ℕ) (now : List ℕ) → ReplayedTo step notes first place now → ReplayedTo step (notes ++ more) first place now
-replayed_more step notes more first place now (start _ _ at is) = start place now at is
-replayed_more step notes more first place now (with_entry _ _ t before e at is noted rest) = with_entry place now t before e at is (noted_more notes more t e noted) (replayed_more step notes more first t before rest)
-replayed_more step notes more first place now (with_set _ _ t before set at is noted rest) = absurd noted
+had_more : (notes more : List Noted) (own : List Linked) (ticket : ℕ) (entry : Entry) → HasEntry (notes, own) ticket entry → HasEntry (notes ++ more, own) ticket entry
+had_more notes more own ticket entry (inl noted) = inl (noted_more notes more ticket entry noted)
+had_more notes more own ticket entry (inr mine) = inr mine
+
+replayed_more : (step : List ℕ → List ℕ → List ℕ × List ℕ) (notes more : List Noted) (own : List Linked) (first : List ℕ) (place : ℕ) (now : List ℕ) → ReplayedTo step (notes, own) first place now → ReplayedTo step (notes ++ more, own) first place now
+replayed_more step notes more own first place now (start _ _ at is) = start place now at is
+replayed_more step notes more own first place now (with_entry _ _ t before e at is had rest) = with_entry place now t before e at is (had_more notes more own t e had) (replayed_more step notes more own first t before rest)
+replayed_more step notes more own first place now (with_set _ _ t before set at is had rest) = absurd had
 
 -- what is the image after its place stays so when more of entries is noted
 pub image_more : (lines : ℕ) (lawful : List ℕ → Type 0) (base : Base) (step : List ℕ → List ℕ → List ℕ × List ℕ) (before after : Known) (more : List Noted) →
-    after.accesses ≡ before.accesses → after.noted ≡ before.noted ++ more → IsImage lines lawful base step before → IsImage lines lawful base step after
-image_more lines lawful base step before after more same noted image =
+    after.accesses ≡ before.accesses → entries_of after ≡ (before.noted ++ more, before.local.own) → IsImage lines lawful base step before → IsImage lines lawful base step after
+image_more lines lawful base step before after more same entries image =
     let there : (first now : List ℕ) → Fits lines lawful base after.accesses first now → Fits lines lawful base before.accesses first now = λ first now f. subst (λ xs. Fits lines lawful base xs first now) same f in
     record {
       begun = subst HasPlace (sym same) image.begun;
-      replayed = λ first now f. subst (λ ns. ReplayedTo step ns first (place_noted 0 after.accesses) now) (sym noted)
-          (replayed_more step before.noted more first (place_noted 0 after.accesses) now (subst (λ xs. ReplayedTo step before.noted first (place_noted 0 xs) now) (sym same) (image.replayed first now (there first now f))));
+      replayed = λ first now f. subst (λ es. ReplayedTo step es first (place_noted 0 after.accesses) now) (sym entries)
+          (replayed_more step before.noted more before.local.own first (place_noted 0 after.accesses) now (subst (λ xs. ReplayedTo step (entries_of before) first (place_noted 0 xs) now) (sym same) (image.replayed first now (there first now f))));
       law = λ first now f. image.law first now (there first now f);
     }

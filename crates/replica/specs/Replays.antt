@@ -1,4 +1,4 @@
--- A replica held exclusively that is the image after its place, by noted entries.
+-- A replica held exclusively that is the image after its place, by entries that its caller has.
 use Rattle.std.specs.Prelude.{false, ◌≡◌, ◌<◌, ◌^◌, ℕ, All, List}
 use Rattle.cx_base.specs.declared.object.Object.{Ghosts}
 use Rattle.cx_base.specs.Memory.{Always}
@@ -9,7 +9,7 @@ use Rattle.cx_core.specs.Base.{LawfulBase}
 use Rattle.cx_core.specs.History.{IsLawfulEntry}
 use Rattle.cx_core.specs.Region.{object_part, place_of}
 use Rattle.cx_rule.specs.declared.rule.Known.{Known}
-use Rattle.cx_rule.specs.Fitting.{Fits, IsNoted, IsReplayedToPlace, base_of}
+use Rattle.cx_rule.specs.Fitting.{Fits, HasEntry, IsReplayedToPlace, base_of, entries_of}
 use Rattle.cx_rule.specs.Running.{Running}
 use Rattle.cx_rule.specs.Seats.{IsWithinLimit, Seated, place_noted}
 use Rattle.cx_table.specs.Right.{Right}
@@ -24,7 +24,7 @@ StoresNone accesses = All (λ (note : Note). note.0 ≡ false) accesses
 abbrev pub noted_place : Seated → ℕ
 noted_place seat = place_noted 0 seat.known.accesses
 
--- The place was loaded. For every pair that fits what was noted, noted entries lead from the first words to the words now,
+-- The place was loaded. For every pair that fits what was noted, entries that the caller has lead from the first words to the words now,
 -- which are lawful as a base, up to the place that was loaded or stored last. The table asks this of a replica that is given up.
 pub record IsImage (lines : ℕ) (lawful : List ℕ → Type 0) (base : Base) (step : List ℕ → List ℕ → List ℕ × List ℕ) (known : Known) : Type 0 where
   pub begun : HasPlace known.accesses
@@ -37,9 +37,9 @@ pub record IsReady {O : Type 0} (o : Ghosts O) (r : Running O) (held : Right) (a
   pub image : IsImage (o.line_count r.object) (o.lawful r.object) r.base (o.step r.object) seat.known
   pub place : noted_place seat ≡ at
 
--- an entry is noted at the place of the replica held exclusively, and it is one that may come there
+-- the caller has an entry with the place of the replica held exclusively as its ticket, and it is one that may come there
 pub record ComesNext (entry : Entry) (seat : Seated) : Type 0 where
-  pub noted : IsNoted seat.known.noted (noted_place seat) entry
+  pub had : HasEntry (entries_of seat.known) (noted_place seat) entry
   pub lawful : IsLawfulEntry (noted_place seat) entry
   pub small : noted_place seat < 2 ^ 40
 

@@ -55,7 +55,7 @@ module _ {O : Type 0} (r : Running O) (step : O → List ℕ → List ℕ → Li
       let m = made.0.0 in
       let at = made.1.seat in
       let long : length copy.words ≡ length r.base.words = ap (λ (s : Seated). s.region) view ∙ of.region in
-      let summarised : HasSummary now summary' before = record { one = refl; is = m.is; linked = m.linked; front = m.front; few = m.few; small = m.small; place = m.place; cells = m.cells; within = m.within } in
+      let summarised : HasSummary now summary' before = record { one = refl; is = m.is; linked = m.linked; front = m.front; few = m.few; small = m.small; place = m.place; cells = m.cells; own = m.own; within = m.within } in
       let copied = copy_moved instance replica found k copy long (subst (λ n. 0 < n) (sym long) some) (subst (λ (s : Seated). AgreeTo s.known s.region) (sym view) agree) taught.event.behind made.0.1 in
       let stands : IsSeatOf r (seated table' now before copy) = record { table = at.table; caller = at.caller; before = at.before; region = at.region } in
       let whole : seated table' now before copy ≡ record old { known = known_copied instance (BackOff replica) old.known found } =

@@ -1,5 +1,6 @@
 pub mod Rows
 mod CopyLaws
+pub mod OwnEntries
 pub mod SummaryLaws
 mod Refused
 pub mod Copying

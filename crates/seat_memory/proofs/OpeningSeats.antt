@@ -12,7 +12,7 @@ use Rattle.cx_core.specs.State.{blank_cell, opening_local}
 use Rattle.cx_rule.specs.declared.rule.Known.{Known}
 use Rattle.seat_memory.specs.declared.summary.Summary.{Summary}
 use Rattle.seat_memory.specs.Copies.{Copied, HasCellWords, IsCopied, blank_copy}
-use Rattle.seat_memory.specs.Summaries.{HasSummary, summary_of}
+use Rattle.seat_memory.specs.Summaries.{HasSummary, OwnCells, summary_of}
 use Rattle.cx_rule.specs.Seats.{HasCells, IsWithinLimit, known_of, opening_known}
 use Rattle.cx_rule.proofs.Moves.{one_caller}
 
@@ -26,26 +26,32 @@ blank_cells callers place number limit = record {
       subst CellShape is blank_shape);
 }
 
+abbrev no_cell : Cell
+no_cell = record { words = []; ticket = None; set = []; offer = 0 }
+
+-- no cell has a ticket
+no_own : (l : Local) → l.cells ≡ replicate 16 blank_cell → OwnCells l
+no_own l is j ticket small at =
+    absurd (none-some ticket (sym (ap (λ (c : Cell). c.ticket) (ap (λ (cs : List Cell). get_or cs j no_cell) is ∙ get_or-replicate 16 j blank_cell no_cell small)) ∙ at))
+
 -- a caller's seat as it is cut from the first seat
 pub opening_summarised : (me : Me ℕ (List Known)) (summary : Summary) (before callers place number : ℕ) (limits : List ℕ) → me ≡ (opening_known callers place limits number ∷ [], []) →
-    summary ≡ summary_of (opening_known callers place limits number).local → place ≤ 2 ^ 40 → before ≤ 2 ^ 40 → HasSummary me summary before
+    summary ≡ summary_of (opening_known callers place limits number).local → place ≤ 2 ^ 40 → before ≤ place → HasSummary me summary before
 opening_summarised me summary before callers place number limits is m most small =
     let one = one_caller me (opening_known callers place limits number) is in
     let linked : summary.linked ≡ 0 = ap (λ (x : Summary). x.linked) m in
     record {
       one = one.0;
       is = m ∙ ap (λ (k : Known). summary_of k.local) (sym one.1);
-      linked = omega arith;
+      linked = omega (arith, linked, small, ap (λ (x : Summary). x.front) m);
       front = omega (arith, ap (λ (x : Summary). x.front) m);
       few = omega arith;
-      small = small;
+      small = omega (arith, small, most);
       place = λ h is. absurd (none-some h (sym (ap (λ (k : Known). k.local.downgraded) one.1) ∙ is));
       cells = subst HasCells (ap (λ (k : Known). k.local) (sym one.1)) (blank_cells callers place number (slice_index limits number));
+      own = subst OwnCells (ap (λ (k : Known). k.local) (sym one.1)) (no_own (record (opening_local callers place number) { limit = slice_index limits number }) refl);
       within = subst (λ (k : Known). IsWithinLimit k.local) (sym one.1) (λ few. omega arith);
     }
-
-abbrev no_cell : Cell
-no_cell = record { words = []; ticket = None; set = []; offer = 0 }
 
 -- no word was written
 blank_words : (l : Local) → l.cells ≡ replicate 16 blank_cell → HasCellWords l (replicate 2320 0)

@@ -101,6 +101,7 @@ module _ {O : Type 0} (r : Running O) (step : O → List ℕ → List ℕ → Li
         small = old.0.small;
         place = old.0.place;
         cells = record { count = old.0.cells.count; each = old.0.cells.each };
+        own = old.0.own;
         within = λ few. one_step l old.0.within allowed few;
       } in
       let copied : IsCopied k' copy = record { long = old.1.long; place = old.1.place; marks = old.1.marks; words = old.1.words; cells = record { long = old.1.cells.long; each = old.1.cells.each } } in

@@ -26,6 +26,7 @@ use Rattle.cx_rule.specs.declared.rule.Known.{Known}
 use Rattle.seat_memory.specs.Copies.{Copied, IsCopied, copied_after}
 use Rattle.seat_memory.specs.Summaries.{Follows, HasSummary, summary_of}
 use Rattle.seat_memory.proofs.CopyLaws.{copy_kept}
+use Rattle.seat_memory.proofs.OwnEntries.{own_kept}
 use Rattle.cx_rule.specs.Rule.{IsLawfulLocal}
 use Rattle.cx_rule.specs.Running.{IsSeatOf, Running, instance_at}
 use Rattle.cx_rule.specs.Seats.{IsAtLimit, IsWithinLimit, SeenGuard, Seated, known_after, known_local, known_of, shown_next, unanswered_ticket, unseen}
@@ -57,74 +58,74 @@ summary_won l m j is same =
     ap (after_win j) is
     ∙ (λ k. record (summary_of (linked l j)) { linked = longer k; unanswered = sym ticket k; tickets = sym cells k })
 
--- own entries are at most 2^40, and at most as many as the front
-abbrev pub IsSmall : Local → Type 0
-IsSmall l = (length l.own ≤ l.front) × (length l.own ≤ 2 ^ 40)
+-- own entries are at most 2^40, and with those before this service at most as many as the front
+abbrev pub IsSmall : ℕ → Local → Type 0
+IsSmall before l = (before + length l.own ≤ l.front) × (length l.own ≤ 2 ^ 40)
 
 raises : (callers front found : ℕ) → front ≤ raised_front callers front found
 raises callers front found =
     elim (found == 0) as (λ b. front ≤ cond b front (max front (link_ticket_of callers found + 1))) [ true ↦ omega arith | false ↦ omega arith ]
 
 -- what a step leaves of a local state as far as numbers count on it
-record GoesOn (l l' : Local) : Type 0 where
-  small : IsSmall l'
+record GoesOn (before : ℕ) (l l' : Local) : Type 0 where
+  small : IsSmall before l'
   shape : LocalShape l.number l'
   steps : l'.steps ≡ one_more l.steps
   limit : l'.limit ≡ l.limit
 
 -- a step on no cell and no entry
-quiet : (l l' : Local) → IsSmall l → LocalShape l.number l → l'.own ≡ l.own → l'.front ≡ l.front → l'.number ≡ l.number → l'.cells ≡ l.cells → l'.steps ≡ one_more l.steps → l'.limit ≡ l.limit → GoesOn l l'
-quiet l l' small shape own front number cells steps limit = record {
+quiet : (before : ℕ) (l l' : Local) → IsSmall before l → LocalShape l.number l → l'.own ≡ l.own → l'.front ≡ l.front → l'.number ≡ l.number → l'.cells ≡ l.cells → l'.steps ≡ one_more l.steps → l'.limit ≡ l.limit → GoesOn before l l'
+quiet before l l' small shape own front number cells steps limit = record {
   small = (let a = small.0 in let b = small.1 in let c = ap length own in (omega (arith, a, c, front), omega (arith, b, c)));
   shape = shape_same l.number l l' shape number cells;
   steps = steps;
   limit = limit;
 }
 
-goes_on : (instance : Instance) (kind : Kind) (k : Known) (found : ℕ) → SeenGuard instance kind k.local → IsSmall k.local → LocalShape k.local.number k.local → GoesOn k.local (known_local instance kind k found)
-goes_on instance (WriteCell j i v) k found guard small shape =
+goes_on : (before : ℕ) (instance : Instance) (kind : Kind) (k : Known) (found : ℕ) → SeenGuard instance kind k.local → IsSmall before k.local → LocalShape k.local.number k.local → GoesOn before k.local (known_local instance kind k found)
+goes_on before instance (WriteCell j i v) k found guard small shape =
     record { small = small; shape = shape_written k.local.number k.local _ j i v shape guard.0 guard.3 refl refl; steps = refl; limit = refl }
-goes_on instance (Link j) k found guard small shape =
+goes_on before instance (Link j) k found guard small shape =
     let l = k.local in
     let front = guard.3 in
     let own = small.0 in
     let up = raises instance.callers l.front found in
-    elim (found == seen_word l.seen_slot) as (λ b. GoesOn l (cond b (linked l j) (lost instance.callers l found))) [
+    elim (found == seen_word l.seen_slot) as (λ b. GoesOn before l (cond b (linked l j) (lost instance.callers l found))) [
       | true ↦ record { small = (simp length-append (omega arith), simp length-append (omega arith)); shape = shape_linked l.number l j shape guard.0; steps = refl; limit = refl }
       | false ↦ record { small = (omega arith, small.1); shape = shape_same l.number l (lost instance.callers l found) shape refl refl; steps = refl; limit = refl }
     ]
-goes_on instance (Look s) k found guard small shape =
+goes_on before instance (Look s) k found guard small shape =
     (let own = small.0 in let up = raises instance.callers k.local.front found in record { small = (omega arith, small.1); shape = shape_same k.local.number k.local _ shape refl refl; steps = refl; limit = refl })
-goes_on instance (TryExclusive r) k found guard small shape =
-    elim (found == 0) as (λ b. GoesOn k.local (cond b (taken instance unseen r k.local) (refused_by instance.callers r k.local found))) [
-      | true ↦ quiet k.local _ small shape refl refl refl refl refl refl
-      | false ↦ quiet k.local _ small shape refl refl refl refl refl refl
+goes_on before instance (TryExclusive r) k found guard small shape =
+    elim (found == 0) as (λ b. GoesOn before k.local (cond b (taken instance unseen r k.local) (refused_by instance.callers r k.local found))) [
+      | true ↦ quiet before k.local _ small shape refl refl refl refl refl refl
+      | false ↦ quiet before k.local _ small shape refl refl refl refl refl refl
     ]
-goes_on instance (TryShared r) k found guard small shape =
-    elim (nat_lt found exclusive_mark) as (λ b. GoesOn k.local (cond b (shared_by r k.local found) (passing instance.callers r k.local found))) [
-      | true ↦ quiet k.local _ small shape refl refl refl refl refl refl
-      | false ↦ quiet k.local _ small shape refl refl refl refl refl refl
+goes_on before instance (TryShared r) k found guard small shape =
+    elim (nat_lt found exclusive_mark) as (λ b. GoesOn before k.local (cond b (shared_by r k.local found) (passing instance.callers r k.local found))) [
+      | true ↦ quiet before k.local _ small shape refl refl refl refl refl refl
+      | false ↦ quiet before k.local _ small shape refl refl refl refl refl refl
     ]
-goes_on instance (BackOff r) k found guard small shape = backed (is_at r (shared_on k.local)) (is_at r k.local.passer)
+goes_on before instance (BackOff r) k found guard small shape = backed (is_at r (shared_on k.local)) (is_at r k.local.passer)
   where
-    backed : (a b : Bool) → GoesOn k.local (cond a (record k.local { shared = None; steps = one_more k.local.steps }) (cond b (record k.local { passer = None; steps = one_more k.local.steps }) (record k.local { downgraded = None; steps = one_more k.local.steps })))
-    backed true b = quiet k.local _ small shape refl refl refl refl refl refl
-    backed false true = quiet k.local _ small shape refl refl refl refl refl refl
-    backed false false = quiet k.local _ small shape refl refl refl refl refl refl
-goes_on instance LoadCur k found guard small shape = (let own = small.0 in record { small = (omega arith, small.1); shape = shape_same k.local.number k.local _ shape refl refl; steps = refl; limit = refl })
-goes_on instance Publish k found guard small shape =
+    backed : (a b : Bool) → GoesOn before k.local (cond a (record k.local { shared = None; steps = one_more k.local.steps }) (cond b (record k.local { passer = None; steps = one_more k.local.steps }) (record k.local { downgraded = None; steps = one_more k.local.steps })))
+    backed true b = quiet before k.local _ small shape refl refl refl refl refl refl
+    backed false true = quiet before k.local _ small shape refl refl refl refl refl refl
+    backed false false = quiet before k.local _ small shape refl refl refl refl refl refl
+goes_on before instance LoadCur k found guard small shape = (let own = small.0 in record { small = (omega arith, small.1); shape = shape_same k.local.number k.local _ shape refl refl; steps = refl; limit = refl })
+goes_on before instance Publish k found guard small shape =
     let own = small.0 in
-    elim (found == k.local.seen_cur) as (λ b. GoesOn k.local (cond b (published instance.callers k.local) (outrun instance.callers k.local found))) [
+    elim (found == k.local.seen_cur) as (λ b. GoesOn before k.local (cond b (published instance.callers k.local) (outrun instance.callers k.local found))) [
       | true ↦ record { small = (omega arith, small.1); shape = shape_same k.local.number k.local _ shape refl refl; steps = refl; limit = refl }
       | false ↦ record { small = (omega arith, small.1); shape = shape_same k.local.number k.local _ shape refl refl; steps = refl; limit = refl }
     ]
-goes_on instance (WriteSet j i v) k found guard small shape =
+goes_on before instance (WriteSet j i v) k found guard small shape =
     let old = shape.each j (cell_of k.local j) (cell_there k.local.number k.local j shape guard.0.0) in
     record { small = small; shape = shape_put k.local.number k.local _ j _ shape guard.0.0 (record { words = old.words; fit = old.fit; set = length-set (cell_of k.local j).set i v ∙ old.set }) refl refl; steps = refl; limit = refl }
-goes_on instance (Offer j) k found guard small shape =
+goes_on before instance (Offer j) k found guard small shape =
     let old = shape.each j (cell_of k.local j) (cell_there k.local.number k.local j shape guard.0) in
     record { small = small; shape = shape_put k.local.number k.local _ j _ shape guard.0 (record { words = old.words; fit = old.fit; set = old.set }) refl refl; steps = refl; limit = refl }
-goes_on instance kind k found guard small shape = quiet k.local _ small shape refl refl refl refl refl refl
+goes_on before instance kind k found guard small shape = quiet before k.local _ small shape refl refl refl refl refl refl
 
 -- one step more within the limit
 pub one_step : (l : Local) → IsWithinLimit l → ¬ IsAtLimit l → l.limit < max_word → one_more l.steps ≤ l.limit
@@ -133,17 +134,17 @@ one_step l within allowed few =
     let apart : l.steps ≢ l.limit = λ e. allowed (e, few) in
     omega arith
 
-within_after : (l l' : Local) → GoesOn l l' → IsWithinLimit l → ¬ IsAtLimit l → IsWithinLimit l'
-within_after l l' goes within allowed few =
+within_after : (before : ℕ) (l l' : Local) → GoesOn before l l' → IsWithinLimit l → ¬ IsAtLimit l → IsWithinLimit l'
+within_after before l l' goes within allowed few =
     let same = goes.limit in
     let most = one_step l within allowed (omega arith) in
     let steps = goes.steps in
     omega (arith, most, steps, same)
 
 -- a seat's numbers are its caller's after a step
-summarised : (instance : Instance) (kind : Kind) (found : ℕ) (me me' : Me ℕ (List Known)) (summary summary' : Summary) (before : ℕ) → HasSummary me summary before → ¬ IsAtLimit (known_of me.0).local →
+summarised : (instance : Instance) (kind : Kind) (found : ℕ) (me me' : Me ℕ (List Known)) (summary summary' : Summary) (before : ℕ) → HasSummary me summary before → before ≡ slot_number (known_of me.0).local.number instance.base.words → ¬ IsAtLimit (known_of me.0).local →
     SeenGuard instance kind (known_of me.0).local → Teaches instance kind (known_of me.0) found me' → summary' ≡ summary_of (known_local instance kind (known_of me.0) found) → HasSummary me' summary' before
-summarised instance kind found me me' summary summary' before old allowed guard taught numbers =
+summarised instance kind found me me' summary summary' before old based allowed guard taught numbers =
     let l = (known_of me.0).local in
     let l' = known_local instance kind (known_of me.0) found in
     let same = old.is in
@@ -151,7 +152,9 @@ summarised instance kind found me me' summary summary' before old allowed guard 
     let front : summary.front ≡ l.front = ap (λ (m : Summary). m.front) same in
     let a = old.linked in
     let b = old.few in
-    let goes = goes_on instance kind (known_of me.0) found guard (omega arith, omega arith) (record { number = refl; cells = old.cells.count; each = old.cells.each }) in
+    let small : IsSmall before l = (omega arith, omega arith) in
+    let shape : LocalShape l.number l = record { number = refl; cells = old.cells.count; each = old.cells.each } in
+    let goes = goes_on before instance kind (known_of me.0) found guard small shape in
     let c = goes.small.0 in
     let d = goes.small.1 in
     let most = taught.lawful_after.to in
@@ -166,7 +169,8 @@ summarised instance kind found me me' summary summary' before old allowed guard 
       small = old.small;
       place = λ h is. (taught.lawful_after.downgraded h is).place;
       cells = record { count = goes.shape.cells; each = goes.shape.each };
-      within = within_after l l' goes old.within allowed;
+      own = own_kept before instance kind (known_of me.0) found guard based small.0 old.cells.count taught.lawful_after.tickets.ops old.own;
+      within = within_after before l l' goes old.within allowed;
     })
 
 -- what contracts see of a seat with these parts
@@ -185,9 +189,9 @@ module _ {O : Type 0} (r : Running O) (step : O → List ℕ → List ℕ → Li
       let instance = instance_at r step reads in
       let l = (known_of me.0).local in
       let known : known_of me'.0 ≡ known_after instance kind (known_of me.0) found = ap (λ (m : Me ℕ (List Known)). known_of m.0) taught.knows in
-      let new = summarised instance kind found me me' summary summary' before old.0 allowed may taught numbers in
+      let new = summarised instance kind found me me' summary summary' before old.0 of.before allowed may taught numbers in
       let kept = copy_kept instance kind (known_of me.0) found copy may old.0.cells of.region old.1 in
-      let number : (known_of me'.0).local.number ≡ l.number = ap (λ (k : Known). k.local.number) known ∙ (goes_on instance kind (known_of me.0) found may (numbers_small old.0) (record { number = refl; cells = old.0.cells.count; each = old.0.cells.each })).shape.number in
+      let number : (known_of me'.0).local.number ≡ l.number = ap (λ (k : Known). k.local.number) known ∙ (goes_on before instance kind (known_of me.0) found may (numbers_small old.0) (record { number = refl; cells = old.0.cells.count; each = old.0.cells.each })).shape.number in
       let region : length copy'.words ≡ length copy.words = ap (λ (c : Copied). length c.words) copied ∙ kept.0 in (
         (new, subst (IsCopied (known_of me'.0)) (sym copied) (subst (λ (k : Known). IsCopied k (copied_after kind (known_of me.0) found copy)) (sym known) kept.1)),
         record {
@@ -206,7 +210,7 @@ module _ {O : Type 0} (r : Running O) (step : O → List ℕ → List ℕ → Li
         },
       )
     where
-      numbers_small : HasSummary me summary before → IsSmall (known_of me.0).local
+      numbers_small : HasSummary me summary before → IsSmall before (known_of me.0).local
       numbers_small old =
           let own : summary.linked ≡ length (known_of me.0).local.own = ap (λ (m : Summary). m.linked) old.is in
           let front : summary.front ≡ (known_of me.0).local.front = ap (λ (m : Summary). m.front) old.is in

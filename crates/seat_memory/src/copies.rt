@@ -2,10 +2,11 @@
 //! replica held exclusively that are to be persisted have to be known without a load, and so have those of the caller's
 //! cells, of which only the words that differ are written.
 
-ghost use Rattle.std.specs.Prelude.{◌≡◌, ◌≢◌, ◌+◌, ◌*◌, ◌<◌, ◌==◌, ℕ, IfOk, IfSome, IfNone, false, true, if◌then◌else◌, length, slice_get, slice_index, slice_set, Some};
+ghost use Rattle.std.specs.Prelude.{◌≡◌, ◌≢◌, ◌+◌, ◌*◌, ◌<◌, ◌≤◌, ◌==◌, ℕ, IfOk, IfSome, IfNone, false, true, if◌then◌else◌, length, slice_get, slice_index, slice_range, slice_set, Some};
 ghost use Rattle.seat_memory.specs.Copies.{blank_copy};
 
 use crate::marks::Marks;
+use cx_core::Entry;
 use std::alloc::{AllocError, Global};
 use std::marker::Model;
 
@@ -94,6 +95,17 @@ impl Copies {
         ensures { result ≡ slice_index self.now.cells (145 * j + i) }
     {
         self.cells[(145 * j + i) as usize]
+    }
+
+    /// Makes an entry's number and operation those that stand in a cell.
+    pub fn read_entry(&self, j: u64, entry: &mut Entry)
+        requires j { j < 16 }
+        requires long { length self.now.cells ≡ 2320 }
+        ensures { entry.new ≡ record entry.old { number = slice_index self.now.cells (145 * j); op = slice_range self.now.cells (145 * j + 1) (145 * j + 145) } }
+    {
+        let from = 145 * (j as usize);
+        entry.number = self.cells[from];
+        entry.op.copy_from_slice(&self.cells[from + 1..from + 145]);
     }
 
     /// The word last stored.

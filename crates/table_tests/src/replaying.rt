@@ -7,10 +7,9 @@ ghost use Rattle.cx_core.specs.Region.{region_words};
 ghost use Rattle.cx_core.specs.RingEvents.{Protects};
 ghost use Rattle.cx_rule.specs.Running.{IsSeatOf};
 ghost use Rattle.cx_table.specs.Tokens.{IsDowngradedOf};
-ghost use Rattle.mutation_queue.specs.Entries.{IsNotedEntry};
 ghost use Rattle.replica.specs.Held.{IsHeldShared, IsSized};
 ghost use Rattle.replica.specs.Laws.{IsTaken};
-ghost use Rattle.replica.specs.Replays.{IsReady};
+ghost use Rattle.replica.specs.Replays.{ComesNext, IsReady};
 ghost use Rattle.table_tests.specs.Replaying.{IsFree, IsNew, Keeps, KnowsLinked};
 
 use crate::holds::holds;
@@ -68,7 +67,7 @@ fn read_next<O: Object>(
     requires protected { Protects ticket seat.old.known.local.protection }
     ensures ready { OnOk result (IsReady O.Object shared.now held.now ticket seat.new) }
     ensures keeps { OnOk result (Keeps seat.old seat.new) }
-    ensures entry { IfOk result (IsNotedEntry ticket seat.new) }
+    ensures next { IfOk result (λ next. ComesNext next seat.new) }
 {
     let mut words = [0; 145];
     let caller = entry(shared, seat, ticket, &mut words)?;
@@ -260,6 +259,24 @@ fn is_own_replayed(alloc: Global) -> Result<bool, AllocError> {
     Ok(token.replica() == 1 && token.caller() == 0 && sees(&shared, &mut second, 1, &want))
 }
 
+// Whether a caller that linked an entry has it in its seat, and no other caller and no other ticket does.
+fn is_own_found(alloc: Global) -> Result<bool, AllocError> {
+    let (shared, mut first, second) = made(alloc, Tally, &NO_LIMITS)?;
+    let Ok(LinkTried::Linked { ticket: 0 }) = update(&shared, &mut first, &adds(5)) else {
+        return Ok(false);
+    };
+    let mut found = entry_of(7, &[0; 145]);
+    if second.own_entry(0, &mut found) || first.own_entry(1, &mut found) {
+        return Ok(false);
+    }
+    Ok(
+        first.own_entry(0, &mut found)
+            && found.caller == 0
+            && found.number == 1
+            && found.op == adds(5),
+    )
+}
+
 // The number and a word of the operation, which the cell does not have yet, and 2 steps to link; a try and the load of
 // the place; 2 steps to protect it; 146 steps for the entry; for the full step the place loaded, Tally's load and store, the
 // number loaded and stored, the reply loaded and its first word stored, the place stored; 1 step to give the protection up;
@@ -364,6 +381,7 @@ fn first_wrong_loads(alloc: Global) -> Result<Option<usize>, AllocError> {
 fn entries_are_replayed_unless_a_limit_halts(rt: HostRuntime) -> Result<(), Fail> {
     let alloc = rt.alloc();
     holds(&rt, is_own_replayed(alloc)?);
+    holds(&rt, is_own_found(alloc)?);
     holds(&rt, first_wrong_limit(alloc)?.is_none());
     holds(&rt, first_wrong_loads(alloc)?.is_none());
     Ok(())

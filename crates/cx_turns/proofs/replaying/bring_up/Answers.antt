@@ -1,4 +1,5 @@
 use Rattle.std.proofs.Common.{ap, refl}
+use Rattle.cx_rule.specs.Fitting.{entries_of}
 use Rattle.cx_rule.specs.Seats.{Seated}
 use Rattle.cx_turns.proofs.Kept.{held_same, image_same}
 use Rattle.cx_turns.proofs.replaying.bring_up.Goals as goal
@@ -12,7 +13,7 @@ settle-requires g c =
     record {
       ready = record {
         is_held = held_same g.O.Object t c.replay_to.new.seat c.unguard.new.seat c.args.held.now e.of (ap (λ (s : Seated). s.known.local.exclusive) e.rest) (ap (λ (s : Seated). s.known.local.number) e.rest) accesses was.is_held;
-        image = image_same g.O.Object t c.replay_to.new.seat c.unguard.new.seat c.args.held.now accesses (ap (λ (s : Seated). s.known.noted) e.rest) was.image;
+        image = image_same g.O.Object t c.replay_to.new.seat c.unguard.new.seat c.args.held.now accesses (ap (λ (s : Seated). entries_of s.known) e.rest) was.image;
         place = refl;
       };
     }

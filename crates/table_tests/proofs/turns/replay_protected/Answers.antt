@@ -1,4 +1,5 @@
 use Rattle.std.proofs.Common.{[], append-nil, ap, refl, sym, ◌∙◌}
+use Rattle.cx_rule.specs.Fitting.{entries_of}
 use Rattle.cx_rule.specs.Seats.{Seated}
 use Rattle.replica.specs.Laws.{image_more}
 use Rattle.table_tests.proofs.Protecting.{held_protected}
@@ -11,7 +12,7 @@ replay_to-requires-clause-ready g c =
     record {
       is_held = held_protected (g.O.Object.line_count shared.object) shared (g.O.Object.lawful shared.object) c.args.seat.now c.protect.new.seat c.args.held.now e.of e.rest c.requires.held;
       image = image_more (g.O.Object.line_count shared.object) (g.O.Object.lawful shared.object) shared.base (g.O.Object.step shared.object) c.args.seat.now.known c.protect.new.seat.known []
-          (ap (λ (s : Seated). s.known.accesses) e.rest) (ap (λ (s : Seated). s.known.noted) e.rest ∙ sym (append-nil c.args.seat.now.known.noted)) c.requires.image;
+          (ap (λ (s : Seated). s.known.accesses) e.rest) (ap (λ (s : Seated). entries_of s.known) e.rest ∙ ap (λ ns. (ns, c.args.seat.now.known.local.own)) (sym (append-nil c.args.seat.now.known.noted))) c.requires.image;
       place = refl;
     }
 

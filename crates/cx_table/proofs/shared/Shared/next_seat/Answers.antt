@@ -42,7 +42,7 @@ invariant_of-result g c =
           me
           (c.opening_summary-summary.ensures ∙ ap (λ s. summary_of (record (opening_local s.callers s.base.place n) { limit = slice_index limits n })) view)
           (omega (arith, ap (λ s. s.base.place) view, running.base.place_within))
-          (omega (arith, before, running.base.numbers n eight, running.base.place_within)),
+          (omega (arith, before, running.base.numbers n eight, ap (λ s. s.base.place) view)),
       opening_copied c.split_seat-seat.result.me c.args.copy callers place n (length c.args.self.now.base.words) limits me c.requires.copy,
     )
 
