@@ -18,6 +18,7 @@ use crate::replies::{Acknowledged, replies_of};
 use crate::sets::offered_word;
 use crate::state::CoreState;
 use crate::{lock_events, queue_events, region_events, ring_events, root_events, set_events};
+use core_guards::callers::Callers;
 use cx_base::Object;
 use cx_core::{Base, Event, Kind, Local, OBJECT_START};
 use std::alloc::{AllocError, Global};
@@ -67,17 +68,17 @@ pub(crate) struct Told {
 /// where the guard fails. Then, and where `Err` says that memory is wanting, nothing changed.
 fn step(
     alloc: Global,
-    callers: u32,
+    callers: Callers,
     base: &Base,
     words: &mut [u64],
     local: &mut Local,
     kind: &Kind,
     told: &Told,
 ) -> Result<bool, AllocError>
-    requires regions { HasRegions callers base.now words.old }
-    requires caller { local.old.number < callers }
-    requires code { HasCode callers local.old.downgraded }
-    ensures { Tries result (λ made. EachScene callers base.now words.old (λ instance scene. Tells told.now instance scene kind.now local.old → Did made instance scene kind.now local.old local.new words.new)) ((local.new ≡ local.old) × (words.new ≡ words.old)) }
+    requires regions { HasRegions callers.number base.now words.old }
+    requires caller { local.old.number < callers.number }
+    requires code { HasCode callers.number local.old.downgraded }
+    ensures { Tries result (λ made. EachScene callers.number base.now words.old (λ instance scene. Tells told.now instance scene kind.now local.old → Did made instance scene kind.now local.old local.new words.new)) ((local.new ≡ local.old) × (words.new ≡ words.old)) }
 {
     match *kind {
         Kind::WriteCell { j, i, v } => {

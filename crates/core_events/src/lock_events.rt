@@ -2,7 +2,6 @@
 
 ghost use Rattle.std.specs.Prelude.{◌≡◌, ◌+◌, ◌-◌, ◌*◌, ◌<◌, ◌≤◌, ◌↔◌, length, take, IsTrue, IfOk};
 ghost use Rattle.core_events.specs.Tables.{HasRegions, HasWords};
-ghost use Rattle.cx_base.specs.Callers.{AreCallers};
 ghost use Rattle.cx_core.specs.declared.kinds.Kind.TheVariants.{TryExclusive, TryShared, BackOff, Downgrade, ReleaseExclusive};
 ghost use Rattle.core_events.specs.Tries.{Tries};
 ghost use Rattle.cx_core.specs.Events.{Did};
@@ -12,6 +11,7 @@ ghost use Rattle.cx_core.specs.LockEvents.{backed_off, downgraded_to, has_all, i
 ghost use Rattle.cx_core.specs.Rights.{held_words, is_at, shared_on};
 ghost use Rattle.cx_core.specs.State.{EachScene};
 
+use core_guards::callers::Callers;
 use core_guards::locks::{
     can_back_off, can_try_exclusive, can_try_shared, has_all, held_place, is_at, is_clean, is_free,
     is_fresh_on, shared_on,
@@ -35,19 +35,19 @@ pub(crate) fn push_once(numbers: &mut Items<u64>, n: u64) -> Result<(), AllocErr
 /// nothing changed.
 pub(crate) fn try_exclusive(
     alloc: Global,
-    callers: u32,
+    callers: Callers,
     base: &Base,
     words: &mut [u64],
     local: &mut Local,
     r: u64,
 ) -> Result<bool, AllocError>
-    requires regions { HasRegions callers base.now words.old }
-    ensures { Tries result (λ made. EachScene callers base.now words.old (λ instance scene. Did made instance scene (TryExclusive r) local.old local.new words.new)) ((local.new ≡ local.old) × (words.new ≡ words.old)) }
+    requires regions { HasRegions callers.number base.now words.old }
+    ensures { Tries result (λ made. EachScene callers.number base.now words.old (λ instance scene. Did made instance scene (TryExclusive r) local.old local.new words.new)) ((local.new ≡ local.old) × (words.new ≡ words.old)) }
 {
     if !can_try_exclusive(callers, local, r) {
         return Ok(false);
     }
-    let at = lock_at(callers, r);
+    let at = lock_at(callers.number, r);
     let found = words[at];
     if is_free(found) {
         take(alloc, callers, base, words, local, r)?;
@@ -62,15 +62,15 @@ pub(crate) fn try_exclusive(
 /// memory, and nothing changed.
 fn take(
     alloc: Global,
-    callers: u32,
+    callers: Callers,
     base: &Base,
     words: &[u64],
     local: &mut Local,
     r: u64,
 ) -> Result<(), AllocError>
-    requires regions { HasRegions callers base.now words.now }
-    requires r { r < 2 * callers }
-    ensures { Tries result (λ _. EachScene callers base.now words.now (λ instance scene. local.new ≡ taken instance scene r local.old)) (local.new ≡ local.old) }
+    requires regions { HasRegions callers.number base.now words.now }
+    requires r { r < 2 * callers.number }
+    ensures { Tries result (λ _. EachScene callers.number base.now words.now (λ instance scene. local.new ≡ taken instance scene r local.old)) (local.new ≡ local.old) }
 {
     let copy = words_of(alloc, callers, base, words, r)?;
     local.exclusive = Some(HeldExclusive {
@@ -90,12 +90,12 @@ fn take(
 /// What a caller learns by an exclusive try that was refused. `Err` is want of memory, and nothing changed.
 fn refuse(
     alloc: Global,
-    callers: u32,
+    callers: Callers,
     local: &mut Local,
     r: u64,
     found: u64,
 ) -> Result<(), AllocError>
-    ensures { Tries result (λ _. local.new ≡ refused_by callers r local.old found) (local.new ≡ local.old) }
+    ensures { Tries result (λ _. local.new ≡ refused_by callers.number r local.old found) (local.new ≡ local.old) }
 {
     push_once(&mut local.refused, r)?;
     if has_all(callers, local.refused.as_slice()) {
@@ -113,18 +113,18 @@ fn refuse(
 /// Tries to take a replica shared: 1 is added to its lock word, and is a passer's mark where it was held exclusively.
 pub(crate) fn try_shared(
     alloc: Global,
-    callers: u32,
+    callers: Callers,
     words: &mut [u64],
     local: &mut Local,
     r: u64,
 ) -> bool
-    requires table { HasWords callers words.old }
-    ensures { (base : _) → EachScene callers base words.old (λ instance scene. Did result instance scene (TryShared r) local.old local.new words.new) }
+    requires table { HasWords callers.number words.old }
+    ensures { (base : _) → EachScene callers.number base words.old (λ instance scene. Did result instance scene (TryShared r) local.old local.new words.new) }
 {
     if !can_try_shared(callers, local, r) {
         return false;
     }
-    let at = lock_at(callers, r);
+    let at = lock_at(callers.number, r);
     let found = words[at];
     words[at] = found.wrapping_add(1);
     if found < EXCLUSIVE_MARK {
@@ -151,9 +151,8 @@ fn share(alloc: Global, local: &mut Local, r: u64, found: u64)
 }
 
 /// What a caller learns by a shared try that found an exclusive mark.
-fn pass(callers: u32, local: &mut Local, r: u64, found: u64)
-    requires callers { AreCallers callers }
-    ensures { local.new ≡ passing callers r local.old found }
+fn pass(callers: Callers, local: &mut Local, r: u64, found: u64)
+    ensures { local.new ≡ passing callers.number r local.old found }
 {
     if is_fresh_on(callers, r, local) {
         local.met = local.met.saturating_add(1);
@@ -168,14 +167,14 @@ fn pass(callers: u32, local: &mut Local, r: u64, found: u64)
 }
 
 /// Takes back what the caller added to a lock word by a shared try or a downgrade.
-pub(crate) fn back_off(callers: u32, words: &mut [u64], local: &mut Local, r: u64) -> bool
-    requires table { HasWords callers words.old }
-    ensures { (base : _) → EachScene callers base words.old (λ instance scene. Did result instance scene (BackOff r) local.old local.new words.new) }
+pub(crate) fn back_off(callers: Callers, words: &mut [u64], local: &mut Local, r: u64) -> bool
+    requires table { HasWords callers.number words.old }
+    ensures { (base : _) → EachScene callers.number base words.old (λ instance scene. Did result instance scene (BackOff r) local.old local.new words.new) }
 {
     if !can_back_off(callers, local, r) {
         return false;
     }
-    let at = lock_at(callers, r);
+    let at = lock_at(callers.number, r);
     words[at] = words[at].wrapping_sub(1);
     leave(local, r);
     true
@@ -197,19 +196,19 @@ fn leave(local: &mut Local, r: u64)
 
 /// Turns an exclusive right into a downgraded one. `full` is whether the words held are the full image after their place.
 pub(crate) fn downgrade(
-    callers: u32,
+    callers: Callers,
     words: &mut [u64],
     local: &mut Local,
     r: u64,
     full: bool,
 ) -> bool
-    requires table { HasWords callers words.old }
-    ensures { (base : _) → EachScene callers base words.old (λ instance scene. (IsTrue full ↔ IsFull instance scene.history (held_words local.old.exclusive)) → Did result instance scene (Downgrade r) local.old local.new words.new) }
+    requires table { HasWords callers.number words.old }
+    ensures { (base : _) → EachScene callers.number base words.old (λ instance scene. (IsTrue full ↔ IsFull instance scene.history (held_words local.old.exclusive)) → Did result instance scene (Downgrade r) local.old local.new words.new) }
 {
     if !full || !is_clean(callers, local, r) {
         return false;
     }
-    let at = lock_at(callers, r);
+    let at = lock_at(callers.number, r);
     words[at] = words[at].wrapping_sub(EXCLUSIVE_MARK - 1);
     keep_place(local, r);
     true
@@ -229,19 +228,19 @@ fn keep_place(local: &mut Local, r: u64)
 
 /// Gives an exclusive right up. `full` is whether the words held are the full image after their place.
 pub(crate) fn release_exclusive(
-    callers: u32,
+    callers: Callers,
     words: &mut [u64],
     local: &mut Local,
     r: u64,
     full: bool,
 ) -> bool
-    requires table { HasWords callers words.old }
-    ensures { (base : _) → EachScene callers base words.old (λ instance scene. (IsTrue full ↔ IsFull instance scene.history (held_words local.old.exclusive)) → Did result instance scene (ReleaseExclusive r) local.old local.new words.new) }
+    requires table { HasWords callers.number words.old }
+    ensures { (base : _) → EachScene callers.number base words.old (λ instance scene. (IsTrue full ↔ IsFull instance scene.history (held_words local.old.exclusive)) → Did result instance scene (ReleaseExclusive r) local.old local.new words.new) }
 {
     if !is_clean(callers, local, r) || !full {
         return false;
     }
-    let at = lock_at(callers, r);
+    let at = lock_at(callers.number, r);
     words[at] = words[at].wrapping_sub(EXCLUSIVE_MARK);
     local.exclusive = None;
     local.steps = local.steps.saturating_add(1);
@@ -251,17 +250,17 @@ pub(crate) fn release_exclusive(
 /// The words of a replica as loads give them. `Err` is want of memory.
 fn words_of(
     alloc: Global,
-    callers: u32,
+    callers: Callers,
     base: &Base,
     words: &[u64],
     r: u64,
 ) -> Result<Items<u64>, AllocError>
-    requires long { length words.now ≡ word_count callers (length base.now.words) }
+    requires long { length words.now ≡ word_count callers.number (length base.now.words) }
     requires slots { OBJECT_START ≤ length base.now.words }
-    requires r { r < 2 * callers }
-    ensures { IfOk result (λ copy. copy ≡ replica_words callers (length base.now.words) words.now r) }
+    requires r { r < 2 * callers.number }
+    ensures { IfOk result (λ copy. copy ≡ replica_words callers.number (length base.now.words) words.now r) }
 {
     let len = base.words.as_slice().len();
-    let from = vol_at(callers, len as u64, r, 0);
+    let from = vol_at(callers.number, len as u64, r, 0);
     Ok(Items::of(Vec::from_slice(alloc, &words[from..from + len])?))
 }

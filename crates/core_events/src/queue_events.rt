@@ -2,7 +2,6 @@
 
 ghost use Rattle.std.specs.Prelude.{◌≡◌, ◌+◌, ◌*◌, ◌%◌, ◌^◌, ◌<◌, ◌≤◌, ℕ, max, length, slice_index, slice_set, if◌then◌else◌, ◌==◌};
 ghost use Rattle.core_events.specs.Tables.{HasCaller, HasWords};
-ghost use Rattle.cx_base.specs.Callers.{AreCallers};
 ghost use Rattle.cx_core.specs.declared.kinds.Kind.TheVariants.{WriteCell, Link, Look, ReadCell, LoadFree};
 ghost use Rattle.core_events.specs.Tries.{Tries};
 ghost use Rattle.cx_core.specs.Events.{Did};
@@ -10,6 +9,7 @@ ghost use Rattle.cx_core.specs.Layout.{cell_count, link_at};
 ghost use Rattle.cx_core.specs.QueueEvents.{exchanged, lost, linked, seen_word};
 ghost use Rattle.cx_core.specs.State.{EachScene};
 
+use core_guards::callers::Callers;
 use core_guards::queue::{
     can_link, entry_of, front_after, is_idle, protects, shows_ticket, word_seen,
 };
@@ -20,21 +20,21 @@ use std::alloc::AllocError;
 
 /// Stores a word into a caller's cell, where it may be written.
 pub(crate) fn write_cell(
-    callers: u32,
+    callers: Callers,
     words: &mut [u64],
     local: &mut Local,
     j: u64,
     i: u64,
     v: u64,
 ) -> bool
-    requires table { HasCaller callers words.old local.old }
-    ensures { (base : _) → EachScene callers base words.old (λ instance scene. Did result instance scene (WriteCell j i v) local.old local.new words.new) }
+    requires table { HasCaller callers.number words.old local.old }
+    ensures { (base : _) → EachScene callers.number base words.old (λ instance scene. Did result instance scene (WriteCell j i v) local.old local.new words.new) }
 {
     if j >= CELLS || i >= CELL_WORDS || !is_idle(local, j) {
         return false;
     }
     let k = CELLS * u64::from(local.number) + j;
-    words[cell_at(callers, k, i)] = v;
+    words[cell_at(callers.number, k, i)] = v;
     let cell = &mut local.cells[j as usize];
     cell.words[i as usize] = v;
     cell.ticket = None;
@@ -45,15 +45,15 @@ pub(crate) fn write_cell(
 
 /// Tries to link the entry in a caller's cell at the caller's front. `Err` is want of memory, and nothing changed.
 pub(crate) fn link(
-    callers: u32,
+    callers: Callers,
     base: &Base,
     words: &mut [u64],
     local: &mut Local,
     j: u64,
 ) -> Result<bool, AllocError>
-    requires table { HasCaller callers words.old local.old }
+    requires table { HasCaller callers.number words.old local.old }
     requires slots { OBJECT_START ≤ length base.now.words }
-    ensures { Tries result (λ b. EachScene callers base.now words.old (λ instance scene. Did b instance scene (Link j) local.old local.new words.new)) ((local.new ≡ local.old) × (words.new ≡ words.old)) }
+    ensures { Tries result (λ b. EachScene callers.number base.now words.old (λ instance scene. Did b instance scene (Link j) local.old local.new words.new)) ((local.new ≡ local.old) × (words.new ≡ words.old)) }
 {
     if !can_link(callers, base, local, j) {
         return Ok(false);
@@ -63,16 +63,25 @@ pub(crate) fn link(
 }
 
 /// The compare-exchange of a link, and what its caller learns. `Err` is want of memory, and nothing changed.
-fn exchange(callers: u32, words: &mut [u64], local: &mut Local, j: u64) -> Result<(), AllocError>
-    requires table { HasCaller callers words.old local.old }
+fn exchange(
+    callers: Callers,
+    words: &mut [u64],
+    local: &mut Local,
+    j: u64,
+) -> Result<(), AllocError>
+    requires table { HasCaller callers.number words.old local.old }
     requires j { j < 16 }
     requires front { local.old.front < 2 ^ 40 }
-    ensures { let at = link_at callers (local.old.front % cell_count callers) in let found = slice_index words.old at in Tries result (λ _. (words.new ≡ slice_set words.old at (exchanged callers local.old j found)) × (local.new ≡ (if found == seen_word local.old.seen_slot then linked local.old j else lost callers local.old found))) ((local.new ≡ local.old) × (words.new ≡ words.old)) }
+    ensures { let at = link_at callers.number (local.old.front % cell_count callers.number) in let found = slice_index words.old at in Tries result (λ _. (words.new ≡ slice_set words.old at (exchanged callers.number local.old j found)) × (local.new ≡ (if found == seen_word local.old.seen_slot then linked local.old j else lost callers.number local.old found))) ((local.new ≡ local.old) × (words.new ≡ words.old)) }
 {
-    let at = link_at(callers, local.front % cell_count(callers));
+    let at = link_at(callers.number, local.front % cell_count(callers.number));
     let found = words[at];
     if found == word_seen(local.seen_slot) {
-        let code = link_code(callers, local.front, CELLS as u32 * local.number + j as u32);
+        let code = link_code(
+            callers.number,
+            local.front,
+            CELLS as u32 * local.number + j as u32,
+        );
         win(local, j)?;
         words[at] = code;
     } else {
@@ -99,23 +108,22 @@ fn win(local: &mut Local, j: u64) -> Result<(), AllocError>
 }
 
 /// What a caller learns by a link that was lost to the ticket found.
-fn lose(callers: u32, local: &mut Local, found: u64)
-    requires callers { AreCallers callers }
-    ensures { local.new ≡ lost callers local.old found }
+fn lose(callers: Callers, local: &mut Local, found: u64)
+    ensures { local.new ≡ lost callers.number local.old found }
 {
     local.front = front_after(callers, local.front, found);
     local.steps = local.steps.saturating_add(1);
 }
 
 /// Loads the word of a link slot.
-pub(crate) fn look(callers: u32, words: &[u64], local: &mut Local, s: u64) -> bool
-    requires table { HasWords callers words.now }
-    ensures { (base : _) → EachScene callers base words.now (λ instance scene. Did result instance scene (Look s) local.old local.new words.now) }
+pub(crate) fn look(callers: Callers, words: &[u64], local: &mut Local, s: u64) -> bool
+    requires table { HasWords callers.number words.now }
+    ensures { (base : _) → EachScene callers.number base words.now (λ instance scene. Did result instance scene (Look s) local.old local.new words.now) }
 {
-    if s >= cell_count(callers) {
+    if s >= cell_count(callers.number) {
         return false;
     }
-    let found = words[link_at(callers, s)];
+    let found = words[link_at(callers.number, s)];
     local.seen_slot = Some(SeenSlot {
         slot: s,
         word: found,
@@ -128,15 +136,14 @@ pub(crate) fn look(callers: u32, words: &[u64], local: &mut Local, s: u64) -> bo
 /// Loads a word of the cell that the slot last looked at shows with a ticket, which a confirmed protection has to keep. The word
 /// found is no part of the local state.
 pub(crate) fn read_cell(
-    callers: u32,
+    callers: Callers,
     words: &[u64],
     local: &mut Local,
     t: u64,
     k: u64,
     i: u64,
 ) -> bool
-    requires callers { AreCallers callers }
-    ensures { (base : _) → EachScene callers base words.now (λ instance scene. Did result instance scene (ReadCell t k i) local.old local.new words.now) }
+    ensures { (base : _) → EachScene callers.number base words.now (λ instance scene. Did result instance scene (ReadCell t k i) local.old local.new words.now) }
 {
     if t >= local.front
         || i >= CELL_WORDS

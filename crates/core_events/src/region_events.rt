@@ -1,7 +1,6 @@
 //! The steps on the words of replicas: words are loaded, stored and persisted.
 
 ghost use Rattle.std.specs.Prelude.{◌≡◌, ◌*◌, ◌<◌, length, ◌==◌, true, false};
-ghost use Rattle.cx_base.specs.Callers.{AreCallers};
 ghost use Rattle.cx_core.specs.declared.kinds.Kind.TheVariants.{LoadWord, StoreWord, Persist};
 ghost use Rattle.core_events.specs.Tries.{Tries};
 ghost use Rattle.cx_core.specs.Events.{Did};
@@ -10,6 +9,7 @@ ghost use Rattle.cx_core.specs.RegionEvents.{loaded_by, loaded_into, persisted, 
 ghost use Rattle.cx_core.specs.State.{EachScene};
 
 use crate::lock_events::push_once;
+use core_guards::callers::Callers;
 use core_guards::regions::{can_load_as, can_persist, can_store, held_word, region_len};
 use cx_base::Items;
 use cx_core::layout::{per_at, vol_at};
@@ -20,7 +20,7 @@ use std::mem;
 /// Loads a word of a replica. Of one held shared it is part of the local state. `Err` is want of memory, and nothing
 /// changed.
 pub(crate) fn load_word(
-    callers: u32,
+    callers: Callers,
     base: &Base,
     words: &[u64],
     local: &mut Local,
@@ -28,14 +28,13 @@ pub(crate) fn load_word(
     i: u64,
     refused: bool,
 ) -> Result<bool, AllocError>
-    requires callers { AreCallers callers }
-    requires long { length words.now ≡ word_count callers (length base.now.words) }
-    ensures { Tries result (λ made. EachScene callers base.now words.now (λ instance scene. Did made instance scene (LoadWord r i refused) local.old local.new words.now)) (local.new ≡ local.old) }
+    requires long { length words.now ≡ word_count callers.number (length base.now.words) }
+    ensures { Tries result (λ made. EachScene callers.number base.now words.now (λ instance scene. Did made instance scene (LoadWord r i refused) local.old local.new words.now)) (local.new ≡ local.old) }
 {
     if !can_load_as(callers, base, words, local, r, i, refused) {
         return Ok(false);
     }
-    let found = words[vol_at(callers, region_len(base), r, i)];
+    let found = words[vol_at(callers.number, region_len(base), r, i)];
     learn(local, r, i, refused, found)?;
     Ok(true)
 }
@@ -68,7 +67,7 @@ fn note(held: &mut HeldShared, r: u64, i: u64, found: u64) -> Result<(), AllocEr
 /// Stores a word of a replica, which is dirty from here on. `Err` is want of memory, and nothing changed.
 pub(crate) fn store_word(
     alloc: Global,
-    callers: u32,
+    callers: Callers,
     base: &Base,
     words: &mut [u64],
     local: &mut Local,
@@ -76,13 +75,13 @@ pub(crate) fn store_word(
     i: u64,
     v: u64,
 ) -> Result<bool, AllocError>
-    requires long { length words.old ≡ word_count callers (length base.now.words) }
-    ensures { Tries result (λ made. EachScene callers base.now words.old (λ instance scene. Did made instance scene (StoreWord r i v) local.old local.new words.new)) ((local.new ≡ local.old) × (words.new ≡ words.old)) }
+    requires long { length words.old ≡ word_count callers.number (length base.now.words) }
+    ensures { Tries result (λ made. EachScene callers.number base.now words.old (λ instance scene. Did made instance scene (StoreWord r i v) local.old local.new words.new)) ((local.new ≡ local.old) × (words.new ≡ words.old)) }
 {
     if !can_store(callers, base, local, r, i) {
         return Ok(false);
     }
-    let at = vol_at(callers, region_len(base), r, i);
+    let at = vol_at(callers.number, region_len(base), r, i);
     if let Some(held) = &mut local.exclusive {
         put(alloc, held, i, v)?;
     }
@@ -107,20 +106,20 @@ fn put(alloc: Global, held: &mut HeldExclusive, i: u64, v: u64) -> Result<(), Al
 /// Writes a dirty word back to the medium. It is not dirty any more.
 pub(crate) fn persist(
     alloc: Global,
-    callers: u32,
+    callers: Callers,
     base: &Base,
     words: &mut [u64],
     local: &mut Local,
     r: u64,
     i: u64,
 ) -> bool
-    requires long { length words.old ≡ word_count callers (length base.now.words) }
-    ensures { EachScene callers base.now words.old (λ instance scene. Did result instance scene (Persist r i) local.old local.new words.new) }
+    requires long { length words.old ≡ word_count callers.number (length base.now.words) }
+    ensures { EachScene callers.number base.now words.old (λ instance scene. Did result instance scene (Persist r i) local.old local.new words.new) }
 {
     if !can_persist(callers, base, local, r, i) {
         return false;
     }
-    words[per_at(callers, region_len(base), r, i)] = held_word(local, i);
+    words[per_at(callers.number, region_len(base), r, i)] = held_word(local, i);
     if let Some(held) = &mut local.exclusive {
         clean(alloc, held, i);
     }

@@ -2,7 +2,6 @@
 
 ghost use Rattle.std.specs.Prelude.{◌≡◌, ◌+◌, ◌<◌, ◌↔◌, ℕ, Bool, List, None, length, IsTrue, IfOk};
 ghost use Rattle.std.specs.Option.{option_to_list};
-ghost use Rattle.cx_base.specs.Callers.{AreCallers};
 ghost use Rattle.core_events.specs.Told.{TellsAnswers};
 ghost use Rattle.cx_base.specs.VecMemory.{words_of};
 ghost use Rattle.cx_core.specs.Base.{LawfulBase};
@@ -13,6 +12,7 @@ ghost use Rattle.cx_core.specs.RootEvents.{CanRaise, answers_below, reads_at, re
 
 use crate::images::{copied, merged, op_fits};
 use core_guards::answers::{is_below, is_won_code, shows_current};
+use core_guards::callers::Callers;
 use cx_base::{Object, VecMemory, root_place};
 use cx_core::{Answer, Base, Entry, Linked, Local, OBJECT_START, SeenRead};
 use std::alloc::{AllocError, Global};
@@ -27,13 +27,12 @@ pub(crate) struct Acknowledged {
 /// Whether a caller may raise DUR by a code, and have this read answered.
 fn can_raise<O: Object>(
     object: &O,
-    callers: u32,
+    callers: Callers,
     local: &Local,
     code: u64,
     read: &Option<[u64; 144]>,
 ) -> bool
-    requires callers { AreCallers callers }
-    ensures { (base : _) (step : List ℕ → List ℕ → List ℕ × List ℕ) → IsTrue result ↔ CanRaise (record { callers = callers; base = base; step = step; reads = O.only_reads object.now }) code read.now local.now }
+    ensures { (base : _) (step : List ℕ → List ℕ → List ℕ × List ℕ) → IsTrue result ↔ CanRaise (record { callers = callers.number; base = base; step = step; reads = O.only_reads object.now }) code read.now local.now }
 {
     (code == local.seen_cur || is_won_code(code, local.won))
         && match read {
@@ -47,21 +46,20 @@ fn can_raise<O: Object>(
 pub(crate) fn replies_of<O: Object>(
     alloc: Global,
     object: &O,
-    callers: u32,
+    callers: Callers,
     base: &Base,
     locals: &[Local],
     local: &Local,
     code: u64,
     read: &Option<[u64; 144]>,
 ) -> Result<Option<Acknowledged>, AllocError>
-    requires callers { AreCallers callers }
     requires base { LawfulBase (O.line_count object.now) (O.lawful object.now) base.now }
-    ensures { (words : List ℕ) → IfOk result (λ told. TellsAnswers told (record { callers = callers; base = base.now; step = O.step object.now; reads = O.only_reads object.now }) (record { history = history_of base.now.place locals.now; words = words }) code read.now local.now) }
+    ensures { (words : List ℕ) → IfOk result (λ told. TellsAnswers told (record { callers = callers.number; base = base.now; step = O.step object.now; reads = O.only_reads object.now }) (record { history = history_of base.now.place locals.now; words = words }) code read.now local.now) }
 {
     if !can_raise(object, callers, local, code, read) {
         return Ok(None);
     }
-    let place = root_place(callers, code);
+    let place = root_place(callers.number, code);
     let entry = answer_below(alloc, object, base, locals, local, place)?;
     let before = local.answered.as_slice().len() as u64 + count(&entry);
     let read = read_at(alloc, object, base, locals, place, before, read)?;

@@ -2,12 +2,12 @@
 
 ghost use Rattle.std.specs.Prelude.{◌≡◌, ◌<◌, ◌≤◌, length};
 ghost use Rattle.core_events.specs.Tables.{HasCaller, HasWords};
-ghost use Rattle.cx_base.specs.Callers.{AreCallers};
 ghost use Rattle.cx_core.specs.declared.kinds.Kind.TheVariants.{Protect, Confirm, Unprotect, CloseLow, Scan, OpenFree};
 ghost use Rattle.cx_core.specs.Events.{Did};
 ghost use Rattle.cx_core.specs.RingEvents.{bound_in, confirmed, confirmed_by, least_in, opened, scan_after, shows_outdated};
 ghost use Rattle.cx_core.specs.State.{EachScene};
 
+use core_guards::callers::Callers;
 use core_guards::ring::{
     bound_in, can_close, confirmed_by, is_next, is_protected, is_stated, is_unprotected, least_in,
     scan_after, shows_outdated,
@@ -16,9 +16,9 @@ use cx_core::layout::{FREE_AT, LOW_AT, MAX_WORD, need_at};
 use cx_core::{Local, Protection};
 
 /// States in the caller's need that it needs the tickets from a place on.
-pub(crate) fn protect(callers: u32, words: &mut [u64], local: &mut Local, p: u64) -> bool
-    requires table { HasCaller callers words.old local.old }
-    ensures { (base : _) → EachScene callers base words.old (λ instance scene. Did result instance scene (Protect p) local.old local.new words.new) }
+pub(crate) fn protect(callers: Callers, words: &mut [u64], local: &mut Local, p: u64) -> bool
+    requires table { HasCaller callers.number words.old local.old }
+    ensures { (base : _) → EachScene callers.number base words.old (λ instance scene. Did result instance scene (Protect p) local.old local.new words.new) }
 {
     if p > 1 << 40 || !is_unprotected(local.protection) {
         return false;
@@ -30,9 +30,8 @@ pub(crate) fn protect(callers: u32, words: &mut [u64], local: &mut Local, p: u64
 }
 
 /// What a caller learns by LOW that it found.
-fn learn(callers: u32, local: &mut Local, found: u64)
-    requires callers { AreCallers callers }
-    ensures { local.new ≡ confirmed callers local.old found }
+fn learn(callers: Callers, local: &mut Local, found: u64)
+    ensures { local.new ≡ confirmed callers.number local.old found }
 {
     if shows_outdated(callers, local, found) {
         local.met = local.met.saturating_add(1);
@@ -44,9 +43,9 @@ fn learn(callers: u32, local: &mut Local, found: u64)
 }
 
 /// Loads LOW, which confirms the protection stated where it is at most its place.
-pub(crate) fn confirm(callers: u32, words: &[u64], local: &mut Local) -> bool
-    requires table { HasWords callers words.now }
-    ensures { (base : _) → EachScene callers base words.now (λ instance scene. Did result instance scene Confirm local.old local.new words.now) }
+pub(crate) fn confirm(callers: Callers, words: &[u64], local: &mut Local) -> bool
+    requires table { HasWords callers.number words.now }
+    ensures { (base : _) → EachScene callers.number base words.now (λ instance scene. Did result instance scene Confirm local.old local.new words.now) }
 {
     if !is_stated(local.protection) {
         return false;
@@ -56,9 +55,9 @@ pub(crate) fn confirm(callers: u32, words: &[u64], local: &mut Local) -> bool
 }
 
 /// Gives the caller's protection up.
-pub(crate) fn unprotect(callers: u32, words: &mut [u64], local: &mut Local) -> bool
-    requires table { HasCaller callers words.old local.old }
-    ensures { (base : _) → EachScene callers base words.old (λ instance scene. Did result instance scene Unprotect local.old local.new words.new) }
+pub(crate) fn unprotect(callers: Callers, words: &mut [u64], local: &mut Local) -> bool
+    requires table { HasCaller callers.number words.old local.old }
+    ensures { (base : _) → EachScene callers.number base words.old (λ instance scene. Did result instance scene Unprotect local.old local.new words.new) }
 {
     if !is_protected(local.protection) {
         return false;
@@ -70,9 +69,9 @@ pub(crate) fn unprotect(callers: u32, words: &mut [u64], local: &mut Local) -> b
 }
 
 /// Raises LOW to a target, and begins a scan of what the callers need.
-pub(crate) fn close_low(callers: u32, words: &mut [u64], local: &mut Local, target: u64) -> bool
-    requires table { HasWords callers words.old }
-    ensures { (base : _) → EachScene callers base words.old (λ instance scene. Did result instance scene (CloseLow target) local.old local.new words.new) }
+pub(crate) fn close_low(callers: Callers, words: &mut [u64], local: &mut Local, target: u64) -> bool
+    requires table { HasWords callers.number words.old }
+    ensures { (base : _) → EachScene callers.number base words.old (λ instance scene. Did result instance scene (CloseLow target) local.old local.new words.new) }
 {
     if !can_close(callers, local, target) {
         return false;
@@ -89,11 +88,11 @@ pub(crate) fn close_low(callers: u32, words: &mut [u64], local: &mut Local, targ
 }
 
 /// Loads the need of the next caller of the scan.
-pub(crate) fn scan(callers: u32, words: &[u64], local: &mut Local, d: u64) -> bool
-    requires table { HasWords callers words.now }
-    ensures { (base : _) → EachScene callers base words.now (λ instance scene. Did result instance scene (Scan d) local.old local.new words.now) }
+pub(crate) fn scan(callers: Callers, words: &[u64], local: &mut Local, d: u64) -> bool
+    requires table { HasWords callers.number words.now }
+    ensures { (base : _) → EachScene callers.number base words.now (λ instance scene. Did result instance scene (Scan d) local.old local.new words.now) }
 {
-    if d >= u64::from(callers) || !is_next(d, local.scan) {
+    if d >= u64::from(callers.number) || !is_next(d, local.scan) {
         return false;
     }
     local.scan = scan_after(d, words[need_at(d as u32)], local.scan);
@@ -114,11 +113,11 @@ fn end_scan(local: &mut Local, found: u64)
 }
 
 /// Raises FREE to the bound that the caller's scan of every need found.
-pub(crate) fn open_free(callers: u32, words: &mut [u64], local: &mut Local) -> bool
+pub(crate) fn open_free(callers: Callers, words: &mut [u64], local: &mut Local) -> bool
     requires long { 4 ≤ length words.old }
-    ensures { (base : _) → EachScene callers base words.old (λ instance scene. Did result instance scene OpenFree local.old local.new words.new) }
+    ensures { (base : _) → EachScene callers.number base words.old (λ instance scene. Did result instance scene OpenFree local.old local.new words.new) }
 {
-    if !is_next(u64::from(callers), local.scan) {
+    if !is_next(u64::from(callers.number), local.scan) {
         return false;
     }
     let found = words[FREE_AT];

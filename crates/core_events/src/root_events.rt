@@ -3,7 +3,6 @@
 ghost use Rattle.std.specs.Prelude.{◌≡◌, ◌+◌, ◌*◌, ◌<◌, ◌∷◌, ◌++◌, [], ℕ, List, Option, Some, max};
 ghost use Rattle.std.specs.Option.{option_to_list};
 ghost use Rattle.core_events.specs.Tables.{HasWords};
-ghost use Rattle.cx_base.specs.Callers.{AreCallers};
 ghost use Rattle.core_events.specs.Codes.{HasCode};
 ghost use Rattle.core_events.specs.Told.{TellsAnswers};
 ghost use Rattle.cx_base.specs.Codes.{root_place_of};
@@ -14,6 +13,7 @@ ghost use Rattle.cx_core.specs.RootEvents.{before_in, code_in, outrun, published
 ghost use Rattle.cx_core.specs.State.{EachScene, one_more};
 
 use crate::replies::Acknowledged;
+use core_guards::callers::Callers;
 use core_guards::root::{before_in, can_publish, can_retire};
 use cx_base::{Items, root_code, root_place, root_replica};
 use cx_core::layout::{CUR_AT, DUR_AT, lock_at};
@@ -22,9 +22,9 @@ use std::alloc::{AllocError, Global};
 use std::mem;
 
 /// Loads CUR, which is always allowed.
-pub(crate) fn load_cur(callers: u32, words: &[u64], local: &mut Local) -> bool
-    requires table { HasWords callers words.now }
-    ensures { (base : _) → EachScene callers base words.now (λ instance scene. Did result instance scene LoadCur local.old local.new words.now) }
+pub(crate) fn load_cur(callers: Callers, words: &[u64], local: &mut Local) -> bool
+    requires table { HasWords callers.number words.now }
+    ensures { (base : _) → EachScene callers.number base words.now (λ instance scene. Did result instance scene LoadCur local.old local.new words.now) }
 {
     see(callers, local, words[CUR_AT]);
     local.fresh = true;
@@ -32,32 +32,30 @@ pub(crate) fn load_cur(callers: u32, words: &[u64], local: &mut Local) -> bool
 }
 
 /// A code is now the last one found in CUR, or put there. Every ticket below its place is linked. It is one step.
-fn see(callers: u32, local: &mut Local, code: u64)
-    requires callers { AreCallers callers }
-    ensures { local.new ≡ record local.old { seen_cur = code; front = max local.old.front (root_place_of callers code); steps = one_more local.old.steps } }
+fn see(callers: Callers, local: &mut Local, code: u64)
+    ensures { local.new ≡ record local.old { seen_cur = code; front = max local.old.front (root_place_of callers.number code); steps = one_more local.old.steps } }
 {
     local.seen_cur = code;
-    local.front = local.front.max(root_place(callers, code));
+    local.front = local.front.max(root_place(callers.number, code));
     local.steps = local.steps.saturating_add(1);
 }
 
 /// The root code of the replica that is downgraded, 0 where there is none.
-fn code_in(callers: u32, held: Option<HeldDowngraded>) -> u64
-    requires callers { AreCallers callers }
-    requires code { HasCode callers held }
-    ensures { result ≡ code_in callers held }
+fn code_in(callers: Callers, held: Option<HeldDowngraded>) -> u64
+    requires code { HasCode callers.number held }
+    ensures { result ≡ code_in callers.number held }
 {
     match held {
         None => 0,
-        Some(held) => root_code(callers, held.place, held.replica as u32),
+        Some(held) => root_code(callers.number, held.place, held.replica as u32),
     }
 }
 
 /// Tries to publish the replica that is downgraded: a compare-exchange of CUR from the code last found there.
-pub(crate) fn publish(callers: u32, words: &mut [u64], local: &mut Local) -> bool
-    requires table { HasWords callers words.old }
-    requires code { HasCode callers local.old.downgraded }
-    ensures { (base : _) → EachScene callers base words.old (λ instance scene. Did result instance scene Publish local.old local.new words.new) }
+pub(crate) fn publish(callers: Callers, words: &mut [u64], local: &mut Local) -> bool
+    requires table { HasWords callers.number words.old }
+    requires code { HasCode callers.number local.old.downgraded }
+    ensures { (base : _) → EachScene callers.number base words.old (λ instance scene. Did result instance scene Publish local.old local.new words.new) }
 {
     if !can_publish(callers, local) {
         return false;
@@ -73,11 +71,10 @@ pub(crate) fn publish(callers: u32, words: &mut [u64], local: &mut Local) -> boo
 
 /// What a caller learns by a publication that won, and its code: what was downgraded is the pin of CUR, and the pin before
 /// is the win's.
-fn win(callers: u32, local: &mut Local) -> u64
-    requires callers { AreCallers callers }
-    requires code { HasCode callers local.old.downgraded }
-    ensures local { local.new ≡ published callers local.old }
-    ensures code { result ≡ code_in callers local.old.downgraded }
+fn win(callers: Callers, local: &mut Local) -> u64
+    requires code { HasCode callers.number local.old.downgraded }
+    ensures local { local.new ≡ published callers.number local.old }
+    ensures code { result ≡ code_in callers.number local.old.downgraded }
 {
     let code = code_in(callers, local.downgraded);
     local.downgraded = None;
@@ -91,9 +88,8 @@ fn win(callers: u32, local: &mut Local) -> u64
 }
 
 /// What a caller learns by a publication that was lost to the code found.
-fn lose(callers: u32, local: &mut Local, found: u64)
-    requires callers { AreCallers callers }
-    ensures { local.new ≡ outrun callers local.old found }
+fn lose(callers: Callers, local: &mut Local, found: u64)
+    ensures { local.new ≡ outrun callers.number local.old found }
 {
     if local.fresh {
         local.met = local.met.saturating_add(1);
@@ -106,19 +102,19 @@ fn lose(callers: u32, local: &mut Local, found: u64)
 /// memory, and nothing changed.
 pub(crate) fn raise(
     alloc: Global,
-    callers: u32,
+    callers: Callers,
     words: &mut [u64],
     local: &mut Local,
     code: u64,
     told: Option<Acknowledged>,
 ) -> Result<bool, AllocError>
-    requires table { HasWords callers words.old }
-    ensures { Tries result (λ made. (base : _) → EachScene callers base words.old (λ instance scene. (read : Option (List ℕ)) → TellsAnswers told instance scene code read local.old → Did made instance scene (Raise code read) local.old local.new words.new)) ((local.new ≡ local.old) × (words.new ≡ words.old)) }
+    requires table { HasWords callers.number words.old }
+    ensures { Tries result (λ made. (base : _) → EachScene callers.number base words.old (λ instance scene. (read : Option (List ℕ)) → TellsAnswers told instance scene code read local.old → Did made instance scene (Raise code read) local.old local.new words.new)) ((local.new ≡ local.old) × (words.new ≡ words.old)) }
 {
     let Some(answers) = told else {
         return Ok(false);
     };
-    acknowledge(alloc, local, root_place(callers, code), answers)?;
+    acknowledge(alloc, local, root_place(callers.number, code), answers)?;
     local.raised = local.raised.max(code);
     local.fresh = false;
     local.steps = local.steps.saturating_add(1);
@@ -182,15 +178,15 @@ fn take_last(alloc: Global, answered: &mut Items<Answer>)
 }
 
 /// Takes the pin back from the replica of the code before the caller's win.
-pub(crate) fn retire(callers: u32, words: &mut [u64], local: &mut Local) -> bool
-    requires table { HasWords callers words.old }
-    ensures { (base : _) → EachScene callers base words.old (λ instance scene. Did result instance scene Retire local.old local.new words.new) }
+pub(crate) fn retire(callers: Callers, words: &mut [u64], local: &mut Local) -> bool
+    requires table { HasWords callers.number words.old }
+    ensures { (base : _) → EachScene callers.number base words.old (λ instance scene. Did result instance scene Retire local.old local.new words.new) }
 {
     if !can_retire(local.raised, local.won) {
         return false;
     }
-    let before = root_replica(callers, before_in(local.won));
-    let at = lock_at(callers, u64::from(before));
+    let before = root_replica(callers.number, before_in(local.won));
+    let at = lock_at(callers.number, u64::from(before));
     words[at] = words[at].wrapping_sub(1);
     local.won = None;
     local.steps = local.steps.saturating_add(1);

@@ -2,33 +2,33 @@
 
 ghost use Rattle.std.specs.Prelude.{◌<◌};
 ghost use Rattle.core_events.specs.Tables.{HasCaller, HasWords};
-ghost use Rattle.cx_base.specs.Callers.{AreCallers};
 ghost use Rattle.core_events.specs.Told.{TellsOfferWord};
 ghost use Rattle.cx_core.specs.declared.kinds.Kind.TheVariants.{WriteSet, Offer, LoadOffer, ReadSet};
 ghost use Rattle.cx_core.specs.Events.{Did};
 ghost use Rattle.cx_core.specs.State.{EachScene};
 
+use core_guards::callers::Callers;
 use core_guards::sets::{can_load_offer, can_read_set, can_write_set};
 use cx_core::layout::{CELLS, SET_WORDS, offer_at, set_at};
 use cx_core::{Local, SeenOffer};
 
 /// Stores a word into the set of the entry in a caller's cell.
 pub(crate) fn write_set(
-    callers: u32,
+    callers: Callers,
     words: &mut [u64],
     local: &mut Local,
     j: u64,
     i: u64,
     v: u64,
 ) -> bool
-    requires table { HasCaller callers words.old local.old }
-    ensures { (base : _) → EachScene callers base words.old (λ instance scene. Did result instance scene (WriteSet j i v) local.old local.new words.new) }
+    requires table { HasCaller callers.number words.old local.old }
+    ensures { (base : _) → EachScene callers.number base words.old (λ instance scene. Did result instance scene (WriteSet j i v) local.old local.new words.new) }
 {
     if i >= SET_WORDS || !can_write_set(local, j) {
         return false;
     }
     let k = CELLS * u64::from(local.number) + j;
-    words[set_at(callers, k, i)] = v;
+    words[set_at(callers.number, k, i)] = v;
     local.cells[j as usize].set[i as usize] = v;
     local.steps = local.steps.saturating_add(1);
     true
@@ -36,14 +36,14 @@ pub(crate) fn write_set(
 
 /// Offers the set in a caller's cell. `told` is the offer word, and none where the guard fails.
 pub(crate) fn offer(
-    callers: u32,
+    callers: Callers,
     words: &mut [u64],
     local: &mut Local,
     j: u64,
     told: Option<u64>,
 ) -> bool
-    requires table { HasCaller callers words.old local.old }
-    ensures { (base : _) → EachScene callers base words.old (λ instance scene. TellsOfferWord told instance scene j local.old → Did result instance scene (Offer j) local.old local.new words.new) }
+    requires table { HasCaller callers.number words.old local.old }
+    ensures { (base : _) → EachScene callers.number base words.old (λ instance scene. TellsOfferWord told instance scene j local.old → Did result instance scene (Offer j) local.old local.new words.new) }
 {
     let Some(word) = told else {
         return false;
@@ -52,16 +52,16 @@ pub(crate) fn offer(
         return false;
     }
     let k = CELLS * u64::from(local.number) + j;
-    words[offer_at(callers, k)] = word;
+    words[offer_at(callers.number, k)] = word;
     local.cells[j as usize].offer = word;
     local.steps = local.steps.saturating_add(1);
     true
 }
 
 /// Loads the offer word of the cell that the slot last looked at shows with a ticket, which a confirmed protection has to keep.
-pub(crate) fn load_offer(callers: u32, words: &[u64], local: &mut Local, k: u64, t: u64) -> bool
-    requires table { HasWords callers words.now }
-    ensures { (base : _) → EachScene callers base words.now (λ instance scene. Did result instance scene (LoadOffer k t) local.old local.new words.now) }
+pub(crate) fn load_offer(callers: Callers, words: &[u64], local: &mut Local, k: u64, t: u64) -> bool
+    requires table { HasWords callers.number words.now }
+    ensures { (base : _) → EachScene callers.number base words.now (λ instance scene. Did result instance scene (LoadOffer k t) local.old local.new words.now) }
 {
     if !can_load_offer(callers, local, k, t) {
         return false;
@@ -69,7 +69,7 @@ pub(crate) fn load_offer(callers: u32, words: &[u64], local: &mut Local, k: u64,
     local.seen_offer = Some(SeenOffer {
         cell: k,
         ticket: t,
-        word: words[offer_at(callers, k)],
+        word: words[offer_at(callers.number, k)],
     });
     local.steps = local.steps.saturating_add(1);
     true
@@ -78,15 +78,14 @@ pub(crate) fn load_offer(callers: u32, words: &[u64], local: &mut Local, k: u64,
 /// Loads a word of the set of a cell, which the offer word last loaded has to name with the ticket. The word found is no part of
 /// the local state.
 pub(crate) fn read_set(
-    callers: u32,
+    callers: Callers,
     words: &[u64],
     local: &mut Local,
     k: u64,
     t: u64,
     i: u64,
 ) -> bool
-    requires callers { AreCallers callers }
-    ensures { (base : _) → EachScene callers base words.now (λ instance scene. Did result instance scene (ReadSet k t i) local.old local.new words.now) }
+    ensures { (base : _) → EachScene callers.number base words.now (λ instance scene. Did result instance scene (ReadSet k t i) local.old local.new words.now) }
 {
     if !can_read_set(callers, local, k, t, i) {
         return false;

@@ -6,6 +6,7 @@ ghost use Rattle.cx_core.specs.Base.{LawfulBase};
 ghost use Rattle.cx_core.specs.Layout.{cell_count, cur_at, dur_at, low_at, free_at, link_at, lock_at, need_at, cell_at, offer_at, set_at, vol_at, per_at, word_count};
 ghost use Rattle.cx_core.specs.State.{copies, opening_locals, opening_words, opening_state};
 
+use core_guards::callers::Callers;
 use cx_base::{Items, Object, root_code};
 use cx_core::layout::{
     CUR_AT, DUR_AT, FREE_AT, LOW_AT, MAX_WORD, QUEUE_WORDS, cell_at, cell_count, link_at, lock_at,
@@ -19,7 +20,7 @@ use std::marker::Model;
 /// its words in the order of the table, and one local state for each caller.
 #[derive(Drop)]
 pub struct CoreState {
-    pub(crate) callers: u32,
+    pub(crate) callers: Callers,
     pub(crate) lines: u64,
     pub(crate) base: Base,
     pub(crate) words: Vec<u64>,
@@ -32,9 +33,9 @@ impl Model for CoreState {
 
     ghost Value = { Core };
 
-    ghost view = { λ s. record { callers = s.callers; lines = s.lines; base = s.base; state = record { words = s.words.items; locals = s.locals.items } } };
+    ghost view = { λ s. record { callers = s.callers.number; lines = s.lines; base = s.base; state = record { words = s.words.items; locals = s.locals.items } } };
 
-    ghost invariant = { λ s. IsKept (record { callers = s.callers; lines = s.lines; base = s.base; state = record { words = s.words.items; locals = s.locals.items } }) };
+    ghost invariant = { λ s. IsKept (record { callers = s.callers.number; lines = s.lines; base = s.base; state = record { words = s.words.items; locals = s.locals.items } }) };
 }
 
 impl CoreState {
@@ -52,6 +53,7 @@ impl CoreState {
         requires base { LawfulBase (O.line_count object.now) (O.lawful object.now) base.now }
         ensures { IfOk result (λ core. core ≡ record { callers = callers; lines = O.line_count object.now; base = base.now; state = opening_state callers base.now }) }
     {
+        let callers = Callers { number: callers };
         Ok(CoreState {
             callers,
             lines: object.lines(),
@@ -72,7 +74,7 @@ impl CoreState {
         ensures some { 1 ≤ result }
         ensures few { result ≤ 8 }
     {
-        self.callers
+        self.callers.number
     }
 
     /// The lines of the object part.
@@ -136,14 +138,14 @@ impl CoreState {
     pub fn need(&self) -> &[u64]
         ensures { result.now ≡ slice_range self.now.state.words (need_at 0) (need_at self.now.callers) }
     {
-        &self.words[need_at(0)..need_at(self.callers)]
+        &self.words[need_at(0)..need_at(self.callers.number)]
     }
 
     /// LOCK, the lock word of each replica.
     pub fn lock(&self) -> &[u64]
         ensures { let n = self.now.callers in result.now ≡ slice_range self.now.state.words (lock_at n 0) (lock_at n (2 * n)) }
     {
-        let n = self.callers;
+        let n = self.callers.number;
         &self.words[lock_at(n, 0)..lock_at(n, replica_count(n))]
     }
 
@@ -151,7 +153,7 @@ impl CoreState {
     pub fn link(&self) -> &[u64]
         ensures { let n = self.now.callers in result.now ≡ slice_range self.now.state.words (link_at n 0) (link_at n (cell_count n)) }
     {
-        let n = self.callers;
+        let n = self.callers.number;
         &self.words[link_at(n, 0)..link_at(n, cell_count(n))]
     }
 
@@ -159,7 +161,7 @@ impl CoreState {
     pub fn cell(&self) -> &[u64]
         ensures { let n = self.now.callers in result.now ≡ slice_range self.now.state.words (cell_at n 0 0) (cell_at n (cell_count n) 0) }
     {
-        let n = self.callers;
+        let n = self.callers.number;
         &self.words[cell_at(n, 0, 0)..cell_at(n, cell_count(n), 0)]
     }
 
@@ -167,7 +169,7 @@ impl CoreState {
     pub fn offer(&self) -> &[u64]
         ensures { let n = self.now.callers in result.now ≡ slice_range self.now.state.words (offer_at n 0) (offer_at n (cell_count n)) }
     {
-        let n = self.callers;
+        let n = self.callers.number;
         &self.words[offer_at(n, 0)..offer_at(n, cell_count(n))]
     }
 
@@ -175,7 +177,7 @@ impl CoreState {
     pub fn set(&self) -> &[u64]
         ensures { let n = self.now.callers in result.now ≡ slice_range self.now.state.words (set_at n 0 0) (set_at n (cell_count n) 0) }
     {
-        let n = self.callers;
+        let n = self.callers.number;
         &self.words[set_at(n, 0, 0)..set_at(n, cell_count(n), 0)]
     }
 
@@ -183,9 +185,9 @@ impl CoreState {
     pub fn vol(&self) -> &[u64]
         ensures { let n = self.now.callers in let r = length self.now.base.words in result.now ≡ slice_range self.now.state.words (vol_at n r 0 0) (vol_at n r (2 * n) 0) }
     {
-        let n = self.callers as usize;
+        let n = self.callers.number as usize;
         let region = self.base.words.as_slice().len();
-        let from = replicas_at(self.callers);
+        let from = replicas_at(self.callers.number);
         &self.words[from..from + region * (2 * n)]
     }
 
@@ -193,22 +195,24 @@ impl CoreState {
     pub fn per(&self) -> &[u64]
         ensures { let n = self.now.callers in let r = length self.now.base.words in result.now ≡ slice_range self.now.state.words (per_at n r 0 0) (per_at n r (2 * n) 0) }
     {
-        let n = self.callers as usize;
+        let n = self.callers.number as usize;
         let region = self.base.words.as_slice().len();
-        let from = replicas_at(self.callers) + region * (2 * n);
+        let from = replicas_at(self.callers.number) + region * (2 * n);
         &self.words[from..from + region * (2 * n)]
     }
 }
 
 /// The words with which a table of so many callers opens from a base. `Err` is want of memory.
-pub fn opening_words(alloc: Global, callers: u32, base: &Base) -> Result<Vec<u64>, AllocError>
-    requires callers { AreCallers callers }
+pub fn opening_words(alloc: Global, callers: Callers, base: &Base) -> Result<Vec<u64>, AllocError>
     requires place { base.now.place ≤ 2 ^ 40 }
-    ensures { IfOk result (λ words. words.items ≡ opening_words callers base.now) }
+    ensures { IfOk result (λ words. words.items ≡ opening_words callers.number base.now) }
 {
-    let code = root_code(callers, base.place, 0);
-    let n = u64::from(callers);
-    let mut words = Vec::with_capacity(alloc, room_for(callers, base.words.as_slice().len()))?;
+    let code = root_code(callers.number, base.place, 0);
+    let n = u64::from(callers.number);
+    let mut words = Vec::with_capacity(
+        alloc,
+        room_for(callers.number, base.words.as_slice().len()),
+    )?;
     words.push(code)?;
     words.push(code)?;
     words.push(base.place)?;
@@ -252,14 +256,13 @@ fn push_copies(words: &mut Vec<u64>, n: u64, from: &[u64]) -> Result<(), AllocEr
 }
 
 /// The local states with which the callers open.
-fn opening_callers(alloc: Global, callers: u32, place: u64) -> Result<Vec<Local>, AllocError>
-    requires callers { AreCallers callers }
+fn opening_callers(alloc: Global, callers: Callers, place: u64) -> Result<Vec<Local>, AllocError>
     requires place { place ≤ 2 ^ 40 }
-    ensures { IfOk result (λ locals. locals.items ≡ opening_locals callers place) }
+    ensures { IfOk result (λ locals. locals.items ≡ opening_locals callers.number place) }
 {
     let mut locals = Vec::new(alloc);
-    for caller in 0..callers {
-        locals.push(Local::opening(alloc, callers, place, caller))?;
+    for caller in 0..callers.number {
+        locals.push(Local::opening(alloc, callers.number, place, caller))?;
     }
     Ok(locals)
 }

@@ -1,9 +1,9 @@
 //! What a raise asks of a caller's local state, and which tickets it answers.
 
 ghost use Rattle.std.specs.Prelude.{◌≡◌, ◌<◌, ◌↔◌, None, IsTrue};
-ghost use Rattle.cx_base.specs.Callers.{AreCallers};
 ghost use Rattle.cx_core.specs.RootEvents.{IsWonCode, ShowsPlace};
 
+use crate::callers::Callers;
 use cx_base::{root_place, root_replica};
 use cx_core::{HeldShared, Local, WonCode};
 
@@ -18,26 +18,24 @@ pub fn is_won_code(code: u64, won: Option<WonCode>) -> bool
 }
 
 /// Whether the replica that a code names is held shared, and its place word was loaded, which is the code's place.
-pub fn shows_place(callers: u32, code: u64, shared: &Option<HeldShared>) -> bool
-    requires callers { AreCallers callers }
-    ensures { IsTrue result ↔ ShowsPlace callers code shared.now }
+pub fn shows_place(callers: Callers, code: u64, shared: &Option<HeldShared>) -> bool
+    ensures { IsTrue result ↔ ShowsPlace callers.number code shared.now }
 {
     match shared {
         None => false,
         Some(held) => {
-            held.replica == u64::from(root_replica(callers, code))
+            held.replica == u64::from(root_replica(callers.number, code))
                 && held
                     .loaded
                     .as_slice()
-                    .contains(&(0, root_place(callers, code)))
+                    .contains(&(0, root_place(callers.number, code)))
         }
     }
 }
 
 /// Whether a raise by a code may answer a read whose operation only reads.
-pub fn shows_current(callers: u32, local: &Local, code: u64) -> bool
-    requires callers { AreCallers callers }
-    ensures { IsTrue result ↔ ((code ≡ local.now.seen_cur) × IsTrue local.now.fresh × ShowsPlace callers code local.now.shared) }
+pub fn shows_current(callers: Callers, local: &Local, code: u64) -> bool
+    ensures { IsTrue result ↔ ((code ≡ local.now.seen_cur) × IsTrue local.now.fresh × ShowsPlace callers.number code local.now.shared) }
 {
     code == local.seen_cur && local.fresh && shows_place(callers, code, &local.shared)
 }

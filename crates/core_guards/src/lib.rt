@@ -7,6 +7,7 @@
 #![tactic(auto)]
 
 pub mod answers;
+pub mod callers;
 pub mod locks;
 pub mod queue;
 pub mod regions;

@@ -1,11 +1,11 @@
 //! What guards on locks ask of a caller's local state, and of a lock's word.
 
 ghost use Rattle.std.specs.Prelude.{◌≡◌, ◌+◌, ◌-◌, ◌<◌, ◌↔◌, [], IsTrue, ◌==◌};
-ghost use Rattle.cx_base.specs.Callers.{AreCallers};
 ghost use Rattle.cx_core.specs.LockEvents.{CanBackOff, CanTryExclusive, CanTryShared, IsClean, has_all, is_fresh_on};
 ghost use Rattle.cx_core.specs.Region.{place_of};
 ghost use Rattle.cx_core.specs.Rights.{downgraded_on, exclusive_on, held_dirty, held_words, is_at, rights, rights_on, shared_on, won_on};
 
+use crate::callers::Callers;
 use cx_base::root_replica;
 use cx_core::Local;
 use cx_core::layout::replica_count;
@@ -41,13 +41,12 @@ pub fn downgraded_on(local: &Local) -> Option<u64>
 }
 
 /// The replica that an unretired win pins: that of the code before it.
-pub fn won_on(callers: u32, local: &Local) -> Option<u64>
-    requires callers { AreCallers callers }
-    ensures { result ≡ won_on callers local.now }
+pub fn won_on(callers: Callers, local: &Local) -> Option<u64>
+    ensures { result ≡ won_on callers.number local.now }
 {
     match &local.won {
         None => None,
-        Some(won) => Some(u64::from(root_replica(callers, won.before))),
+        Some(won) => Some(u64::from(root_replica(callers.number, won.before))),
     }
 }
 
@@ -62,9 +61,8 @@ pub fn is_at(r: u64, right: Option<u64>) -> bool
 }
 
 /// The number of a caller's rights.
-pub fn rights(callers: u32, local: &Local) -> u64
-    requires callers { AreCallers callers }
-    ensures { result ≡ rights callers local.now }
+pub fn rights(callers: Callers, local: &Local) -> u64
+    ensures { result ≡ rights callers.number local.now }
 {
     u64::from(local.exclusive.is_some())
         + u64::from(local.shared.is_some())
@@ -74,9 +72,8 @@ pub fn rights(callers: u32, local: &Local) -> u64
 }
 
 /// Whether a caller has no right on a replica.
-pub fn has_none_on(callers: u32, r: u64, local: &Local) -> bool
-    requires callers { AreCallers callers }
-    ensures { IsTrue result ↔ (rights_on callers r local.now ≡ 0) }
+pub fn has_none_on(callers: Callers, r: u64, local: &Local) -> bool
+    ensures { IsTrue result ↔ (rights_on callers.number r local.now ≡ 0) }
 {
     !(is_at(r, exclusive_on(local))
         || is_at(r, shared_on(local))
@@ -86,22 +83,20 @@ pub fn has_none_on(callers: u32, r: u64, local: &Local) -> bool
 }
 
 /// Whether a caller may try to take a replica exclusively.
-pub fn can_try_exclusive(callers: u32, local: &Local, r: u64) -> bool
-    requires callers { AreCallers callers }
-    ensures { IsTrue result ↔ CanTryExclusive callers r local.now }
+pub fn can_try_exclusive(callers: Callers, local: &Local, r: u64) -> bool
+    ensures { IsTrue result ↔ CanTryExclusive callers.number r local.now }
 {
-    r < replica_count(callers)
+    r < replica_count(callers.number)
         && local.exclusive.is_none()
         && rights(callers, local) <= 1
         && has_none_on(callers, r, local)
 }
 
 /// Whether a caller may try to take a replica shared.
-pub fn can_try_shared(callers: u32, local: &Local, r: u64) -> bool
-    requires callers { AreCallers callers }
-    ensures { IsTrue result ↔ CanTryShared callers r local.now }
+pub fn can_try_shared(callers: Callers, local: &Local, r: u64) -> bool
+    ensures { IsTrue result ↔ CanTryShared callers.number r local.now }
 {
-    r < replica_count(callers)
+    r < replica_count(callers.number)
         && local.shared.is_none()
         && local.passer.is_none()
         && rights(callers, local) <= 1
@@ -109,18 +104,18 @@ pub fn can_try_shared(callers: u32, local: &Local, r: u64) -> bool
 }
 
 /// Whether a caller may back off from a replica.
-pub fn can_back_off(callers: u32, local: &Local, r: u64) -> bool
-    ensures { IsTrue result ↔ CanBackOff callers r local.now }
+pub fn can_back_off(callers: Callers, local: &Local, r: u64) -> bool
+    ensures { IsTrue result ↔ CanBackOff callers.number r local.now }
 {
-    r < replica_count(callers)
+    r < replica_count(callers.number)
         && (is_at(r, shared_on(local)) || is_at(r, local.passer) || is_at(r, downgraded_on(local)))
 }
 
 /// Whether all replicas are in a list.
-pub fn has_all(callers: u32, replicas: &[u64]) -> bool
-    ensures { result ≡ has_all callers replicas.now }
+pub fn has_all(callers: Callers, replicas: &[u64]) -> bool
+    ensures { result ≡ has_all callers.number replicas.now }
 {
-    (0..replica_count(callers)).all(|r| replicas.contains(&r))
+    (0..replica_count(callers.number)).all(|r| replicas.contains(&r))
 }
 
 /// Whether nobody has a right on a replica with this lock word, and nothing pins it.
@@ -131,11 +126,10 @@ pub fn is_free(word: u64) -> bool
 }
 
 /// Whether the code last loaded from CUR names this replica, and nothing ended its use.
-pub fn is_fresh_on(callers: u32, r: u64, local: &Local) -> bool
-    requires callers { AreCallers callers }
-    ensures { result ≡ is_fresh_on callers r local.now }
+pub fn is_fresh_on(callers: Callers, r: u64, local: &Local) -> bool
+    ensures { result ≡ is_fresh_on callers.number r local.now }
 {
-    u64::from(root_replica(callers, local.seen_cur)) == r && local.fresh
+    u64::from(root_replica(callers.number, local.seen_cur)) == r && local.fresh
 }
 
 /// Whether no word of the replica held exclusively is dirty.
@@ -149,10 +143,10 @@ pub fn has_no_dirty(local: &Local) -> bool
 }
 
 /// Whether a caller holds a replica exclusively with no word dirty and nothing downgraded.
-pub fn is_clean(callers: u32, local: &Local, r: u64) -> bool
-    ensures { IsTrue result ↔ IsClean callers r local.now }
+pub fn is_clean(callers: Callers, local: &Local, r: u64) -> bool
+    ensures { IsTrue result ↔ IsClean callers.number r local.now }
 {
-    r < replica_count(callers)
+    r < replica_count(callers.number)
         && is_at(r, exclusive_on(local))
         && local.downgraded.is_none()
         && has_no_dirty(local)

@@ -1,11 +1,11 @@
 //! What guards on cells and links ask of a caller's local state.
 
 ghost use Rattle.std.specs.Prelude.{◌≡◌, ◌+◌, ◌%◌, ◌<◌, ◌≤◌, ◌↔◌, max, length, IsTrue, slice_index, ◌==◌};
-ghost use Rattle.cx_base.specs.Callers.{AreCallers};
 ghost use Rattle.cx_core.specs.Layout.{cell_count};
 ghost use Rattle.cx_core.specs.QueueEvents.{CanLink, IsIdle, next_number, ShowsOpen, ShowsTicket, cell_of, entry_in, raised_front, seen_word};
 ghost use Rattle.cx_core.specs.RingEvents.{Protects};
 
+use crate::callers::Callers;
 use cx_base::{link_cell, link_ticket};
 use cx_core::layout::{CELLS, cell_count};
 use cx_core::{Base, Entry, Local, OBJECT_START, Protection, SeenSlot, slot_start};
@@ -22,33 +22,32 @@ pub fn is_idle(local: &Local, j: u64) -> bool
 }
 
 /// Whether the slot last looked at shows that a ticket can be linked.
-pub fn shows_open(callers: u32, seen: Option<SeenSlot>, ticket: u64) -> bool
-    requires callers { AreCallers callers }
-    ensures { IsTrue result ↔ ShowsOpen callers seen ticket }
+pub fn shows_open(callers: Callers, seen: Option<SeenSlot>, ticket: u64) -> bool
+    ensures { IsTrue result ↔ ShowsOpen callers.number seen ticket }
 {
-    let cells = cell_count(callers);
+    let cells = cell_count(callers.number);
     match seen {
         None => false,
         Some(seen) => {
             seen.slot == ticket % cells
                 && (seen.word == 0
-                    || (ticket >= cells && link_ticket(callers, seen.word) == ticket - cells))
+                    || (ticket >= cells
+                        && link_ticket(callers.number, seen.word) == ticket - cells))
         }
     }
 }
 
 /// Whether the slot last looked at shows a ticket in a cell.
-pub fn shows_ticket(callers: u32, seen: Option<SeenSlot>, ticket: u64, cell: u64) -> bool
-    requires callers { AreCallers callers }
-    ensures { IsTrue result ↔ ShowsTicket callers seen ticket cell }
+pub fn shows_ticket(callers: Callers, seen: Option<SeenSlot>, ticket: u64, cell: u64) -> bool
+    ensures { IsTrue result ↔ ShowsTicket callers.number seen ticket cell }
 {
     match seen {
         None => false,
         Some(seen) => {
-            seen.slot == ticket % cell_count(callers)
+            seen.slot == ticket % cell_count(callers.number)
                 && seen.word != 0
-                && link_ticket(callers, seen.word) == ticket
-                && u64::from(link_cell(callers, seen.word)) == cell
+                && link_ticket(callers.number, seen.word) == ticket
+                && u64::from(link_cell(callers.number, seen.word)) == cell
         }
     }
 }
@@ -66,14 +65,13 @@ pub fn has_next_number(base: &Base, local: &Local, j: u64) -> bool
 }
 
 /// The front after a link word was found: the ticket in it is linked, and so is each one before it.
-pub fn front_after(callers: u32, front: u64, found: u64) -> u64
-    requires callers { AreCallers callers }
-    ensures { result ≡ raised_front callers front found }
+pub fn front_after(callers: Callers, front: u64, found: u64) -> u64
+    ensures { result ≡ raised_front callers.number front found }
 {
     if found == 0 {
         front
     } else {
-        front.max(link_ticket(callers, found) + 1)
+        front.max(link_ticket(callers.number, found) + 1)
     }
 }
 
@@ -103,11 +101,10 @@ pub fn entry_of(local: &Local, j: u64) -> Entry
 }
 
 /// Whether a caller may try to link the entry in its cell.
-pub fn can_link(callers: u32, base: &Base, local: &Local, j: u64) -> bool
-    requires callers { AreCallers callers }
-    requires caller { local.now.number < callers }
+pub fn can_link(callers: Callers, base: &Base, local: &Local, j: u64) -> bool
+    requires caller { local.now.number < callers.number }
     requires slots { OBJECT_START ≤ length base.now.words }
-    ensures { IsTrue result ↔ CanLink callers base.now local.now j }
+    ensures { IsTrue result ↔ CanLink callers.number base.now local.now j }
 {
     j < CELLS
         && is_idle(local, j)

@@ -2,11 +2,11 @@
 
 ghost use Rattle.std.specs.Prelude.{◌≡◌, ◌*◌, ◌<◌, ◌↔◌, length, IsTrue, slice_index, ◌==◌, false};
 ghost use Rattle.std.specs.List.{Contains};
-ghost use Rattle.cx_base.specs.Callers.{AreCallers};
 ghost use Rattle.cx_core.specs.Layout.{word_count};
 ghost use Rattle.cx_core.specs.RegionEvents.{CanLoad, CanLoadAs, CanPersist, CanStore, ShowsOutdated};
 ghost use Rattle.cx_core.specs.Rights.{exclusive_on, held_dirty, held_words, shared_on};
 
+use crate::callers::Callers;
 use crate::locks::{exclusive_on, is_at, is_fresh_on, shared_on};
 use cx_base::root_place;
 use cx_core::layout::{replica_count, vol_at};
@@ -20,38 +20,38 @@ pub fn region_len(base: &Base) -> u64
 }
 
 /// Whether a caller may load a word of a replica.
-pub fn can_load(callers: u32, base: &Base, local: &Local, r: u64, i: u64) -> bool
-    ensures { IsTrue result ↔ CanLoad callers (length base.now.words) r i local.now }
+pub fn can_load(callers: Callers, base: &Base, local: &Local, r: u64, i: u64) -> bool
+    ensures { IsTrue result ↔ CanLoad callers.number (length base.now.words) r i local.now }
 {
-    r < replica_count(callers)
+    r < replica_count(callers.number)
         && i < region_len(base)
         && (is_at(r, exclusive_on(local)) || is_at(r, shared_on(local)))
 }
 
 /// Whether the word of a replica, which a caller may load, shows that the replica is outdated.
 pub fn shows_outdated(
-    callers: u32,
+    callers: Callers,
     base: &Base,
     words: &[u64],
     local: &Local,
     r: u64,
     i: u64,
 ) -> bool
-    requires callers { AreCallers callers }
-    requires long { length words.now ≡ word_count callers (length base.now.words) }
-    requires r { r < 2 * callers }
+    requires long { length words.now ≡ word_count callers.number (length base.now.words) }
+    requires r { r < 2 * callers.number }
     requires i { i < length base.now.words }
-    ensures { IsTrue result ↔ ShowsOutdated callers (length base.now.words) words.now r i local.now }
+    ensures { IsTrue result ↔ ShowsOutdated callers.number (length base.now.words) words.now r i local.now }
 {
     i == 0
         && is_at(r, shared_on(local))
         && is_fresh_on(callers, r, local)
-        && words[vol_at(callers, region_len(base), r, i)] != root_place(callers, local.seen_cur)
+        && words[vol_at(callers.number, region_len(base), r, i)]
+            != root_place(callers.number, local.seen_cur)
 }
 
 /// Whether a caller may load a word of a replica, and mark it as a refusal where that is wanted.
 pub fn can_load_as(
-    callers: u32,
+    callers: Callers,
     base: &Base,
     words: &[u64],
     local: &Local,
@@ -59,19 +59,18 @@ pub fn can_load_as(
     i: u64,
     refused: bool,
 ) -> bool
-    requires callers { AreCallers callers }
-    requires long { length words.now ≡ word_count callers (length base.now.words) }
-    ensures { IsTrue result ↔ CanLoadAs refused callers (length base.now.words) words.now r i local.now }
+    requires long { length words.now ≡ word_count callers.number (length base.now.words) }
+    ensures { IsTrue result ↔ CanLoadAs refused callers.number (length base.now.words) words.now r i local.now }
 {
     can_load(callers, base, local, r, i)
         && (!refused || shows_outdated(callers, base, words, local, r, i))
 }
 
 /// Whether a caller may store a word of a replica.
-pub fn can_store(callers: u32, base: &Base, local: &Local, r: u64, i: u64) -> bool
-    ensures { IsTrue result ↔ CanStore callers (length base.now.words) r i local.now }
+pub fn can_store(callers: Callers, base: &Base, local: &Local, r: u64, i: u64) -> bool
+    ensures { IsTrue result ↔ CanStore callers.number (length base.now.words) r i local.now }
 {
-    r < replica_count(callers) && i < region_len(base) && is_at(r, exclusive_on(local))
+    r < replica_count(callers.number) && i < region_len(base) && is_at(r, exclusive_on(local))
 }
 
 /// Whether a word is dirty in the replica held exclusively.
@@ -85,8 +84,8 @@ pub fn is_dirty(local: &Local, i: u64) -> bool
 }
 
 /// Whether a caller may persist a word of a replica.
-pub fn can_persist(callers: u32, base: &Base, local: &Local, r: u64, i: u64) -> bool
-    ensures { IsTrue result ↔ CanPersist callers (length base.now.words) r i local.now }
+pub fn can_persist(callers: Callers, base: &Base, local: &Local, r: u64, i: u64) -> bool
+    ensures { IsTrue result ↔ CanPersist callers.number (length base.now.words) r i local.now }
 {
     can_store(callers, base, local, r, i) && is_dirty(local, i)
 }

@@ -1,10 +1,10 @@
 //! What guards on the ring ask of a caller's local state: its protection and its scan.
 
 ghost use Rattle.std.specs.Prelude.{◌≡◌, ◌+◌, ◌<◌, ◌↔◌, IsTrue};
-ghost use Rattle.cx_base.specs.Callers.{AreCallers};
 ghost use Rattle.cx_core.specs.declared.kinds.Kind.TheVariants.{Scan};
 ghost use Rattle.cx_core.specs.RingEvents.{CanClose, IsNext, IsProtected, IsStated, IsUnprotected, bound_in, confirmed_by, least_in, lesser, scan_after, shows_outdated};
 
+use crate::callers::Callers;
 use cx_base::root_place;
 use cx_core::{Local, Protection, SeenNeed};
 
@@ -53,24 +53,22 @@ pub fn confirmed_by(found: u64, protection: Protection) -> Protection
 
 /// Whether LOW was found above the place of a protection, though the code last loaded from CUR, which nothing ended the use
 /// of, is at no place above that.
-pub fn shows_outdated(callers: u32, local: &Local, found: u64) -> bool
-    requires callers { AreCallers callers }
-    ensures { result ≡ shows_outdated callers local.now found local.now.protection }
+pub fn shows_outdated(callers: Callers, local: &Local, found: u64) -> bool
+    ensures { result ≡ shows_outdated callers.number local.now found local.now.protection }
 {
     match local.protection {
         Protection::Stated(p) => {
-            p < found && root_place(callers, local.seen_cur) <= p && local.fresh
+            p < found && root_place(callers.number, local.seen_cur) <= p && local.fresh
         }
         _ => false,
     }
 }
 
 /// Whether a caller may close the tickets below a target.
-pub fn can_close(callers: u32, local: &Local, target: u64) -> bool
-    requires callers { AreCallers callers }
-    ensures { IsTrue result ↔ CanClose callers target local.now }
+pub fn can_close(callers: Callers, local: &Local, target: u64) -> bool
+    ensures { IsTrue result ↔ CanClose callers.number target local.now }
 {
-    target <= root_place(callers, local.seen_cur) && local.scan.is_none()
+    target <= root_place(callers.number, local.seen_cur) && local.scan.is_none()
 }
 
 /// Whether this is the next caller that the scan comes to.

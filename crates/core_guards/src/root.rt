@@ -1,27 +1,25 @@
 //! What guards on the root ask of a caller's local state: what it downgraded, and what it won.
 
 ghost use Rattle.std.specs.Prelude.{◌≡◌, ◌<◌, ◌↔◌, Option, Some, IsTrue};
-ghost use Rattle.cx_base.specs.Callers.{AreCallers};
 ghost use Rattle.cx_core.specs.RootEvents.{CanPublish, CanRetire, IsAbove, before_in};
 
+use crate::callers::Callers;
 use cx_base::root_place;
 use cx_core::{HeldDowngraded, Local, WonCode};
 
 /// Whether a replica is downgraded at a place above that of a code.
-pub fn is_above(callers: u32, code: u64, held: Option<HeldDowngraded>) -> bool
-    requires callers { AreCallers callers }
-    ensures { IsTrue result ↔ IsAbove callers code held }
+pub fn is_above(callers: Callers, code: u64, held: Option<HeldDowngraded>) -> bool
+    ensures { IsTrue result ↔ IsAbove callers.number code held }
 {
     match held {
         None => false,
-        Some(held) => root_place(callers, code) < held.place,
+        Some(held) => root_place(callers.number, code) < held.place,
     }
 }
 
 /// Whether a caller may publish the replica that it has downgraded.
-pub fn can_publish(callers: u32, local: &Local) -> bool
-    requires callers { AreCallers callers }
-    ensures { IsTrue result ↔ CanPublish callers local.now }
+pub fn can_publish(callers: Callers, local: &Local) -> bool
+    ensures { IsTrue result ↔ CanPublish callers.number local.now }
 {
     is_above(callers, local.seen_cur, local.downgraded) && local.won.is_none()
 }

@@ -1,13 +1,13 @@
 //! What guards on write sets ask: of a caller's local state, and of a set's words between two regions.
 
 ghost use Rattle.std.specs.Prelude.{◌<◌, ◌↔◌, IsTrue};
-ghost use Rattle.cx_base.specs.Callers.{AreCallers};
 ghost use Rattle.cx_core.specs.Layout.{cell_count};
 ghost use Rattle.cx_core.specs.QueueEvents.{ShowsTicket};
 ghost use Rattle.cx_core.specs.RingEvents.{Protects};
 ghost use Rattle.cx_core.specs.SetEvents.{CanWriteSet, HasTicket, IsUnoffered, ShowsOffer};
 ghost use Rattle.cx_core.specs.WriteSet.{IsWriteSet};
 
+use crate::callers::Callers;
 use crate::queue::{protects, shows_ticket};
 use cx_core::layout::{CELLS, SET_WORDS};
 use cx_core::{Linked, Local, SeenOffer};
@@ -77,18 +77,16 @@ pub fn shows_offer(seen: Option<SeenOffer>, k: u64, t: u64) -> bool
 }
 
 /// Whether a caller may look whether the entry with a ticket, in a cell, is offered: it may read the entry.
-pub fn can_load_offer(callers: u32, local: &Local, k: u64, t: u64) -> bool
-    requires callers { AreCallers callers }
-    ensures value { IsTrue result ↔ ((t < local.now.front) × ShowsTicket callers local.now.seen_slot t k × Protects t local.now.protection) }
-    ensures within { IsTrue result → k < cell_count callers }
+pub fn can_load_offer(callers: Callers, local: &Local, k: u64, t: u64) -> bool
+    ensures value { IsTrue result ↔ ((t < local.now.front) × ShowsTicket callers.number local.now.seen_slot t k × Protects t local.now.protection) }
+    ensures within { IsTrue result → k < cell_count callers.number }
 {
     t < local.front && shows_ticket(callers, local.seen_slot, t, k) && protects(local.protection, t)
 }
 
 /// Whether a caller may read a word of the set of the entry with a ticket, in a cell.
-pub fn can_read_set(callers: u32, local: &Local, k: u64, t: u64, i: u64) -> bool
-    requires callers { AreCallers callers }
-    ensures { IsTrue result ↔ ((t < local.now.front) × (i < 513) × ShowsTicket callers local.now.seen_slot t k × Protects t local.now.protection × ShowsOffer local.now.seen_offer k t) }
+pub fn can_read_set(callers: Callers, local: &Local, k: u64, t: u64, i: u64) -> bool
+    ensures { IsTrue result ↔ ((t < local.now.front) × (i < 513) × ShowsTicket callers.number local.now.seen_slot t k × Protects t local.now.protection × ShowsOffer local.now.seen_offer k t) }
 {
     t < local.front
         && i < SET_WORDS

@@ -125,10 +125,10 @@ impl<O: Object> Shared<O> {
         ensures { IfOk result (IsRoomOf self.now) }
     {
         let region = LINE_WORDS as usize * (HEAD_LINES as usize + self.lines as usize);
-        let replicas = 2 * self.callers as usize;
-        let space = Space::take(alloc, self.callers as usize, region * replicas)?;
+        let replicas = 2 * self.callers.number as usize;
+        let space = Space::take(alloc, self.callers.number as usize, region * replicas)?;
         Ok(Room {
-            callers: self.callers,
+            callers: self.callers.number,
             lines: self.lines,
             space,
         })
@@ -141,7 +141,7 @@ impl<O: Object> Shared<O> {
         ensures { Leaves self (instance_at self O.step O.only_reads) seats.items result }
     {
         let region = LINE_WORDS as usize * (HEAD_LINES as usize + self.lines as usize);
-        let replicas = 2 * self.callers as usize;
+        let replicas = 2 * self.callers.number as usize;
         let Room {
             callers: _,
             lines: _,
@@ -203,8 +203,8 @@ impl<O: Object> Shared<O> {
             object: _,
         } = self;
         let region = LINE_WORDS as usize * (HEAD_LINES as usize + lines as usize);
-        let count = region * (2 * callers as usize);
-        let from = replicas_at(callers);
+        let count = region * (2 * callers.number as usize);
+        let from = replicas_at(callers.number);
         let end = Snapshot::of(&closing);
         let closed = table.close_with(closing);
         lead_on(wins, closed.word(DUR_AT), &mut published);
@@ -217,7 +217,7 @@ impl<O: Object> Shared<O> {
             chain: Snapshot::of(&published),
         };
         Remains {
-            callers,
+            callers: callers.number,
             lines,
             first: base.place,
             published,

@@ -35,7 +35,7 @@ impl<O: Object> Shared<O> {
     {
         seat.summary.check()?;
         let kind = Kind::TryExclusive { r };
-        let word = lock_at(self.callers, r);
+        let word = lock_at(self.callers.number, r);
         let found = self.event(
             &mut seat.seat,
             &kind,
@@ -63,7 +63,7 @@ impl<O: Object> Shared<O> {
     {
         seat.summary.check()?;
         let kind = Kind::TryShared { r };
-        let word = lock_at(self.callers, r);
+        let word = lock_at(self.callers.number, r);
         let found = self.event(&mut seat.seat, &kind, word, Instruction::Add(1));
         seat.summary.try_shared(self.callers, r, found);
         Ok((found, shared_token(found, r as u32, seat.summary.number)))
@@ -80,7 +80,7 @@ impl<O: Object> Shared<O> {
         let r = replica_in(right) as u64;
         seat.summary.check()?;
         let kind = Kind::BackOff { r };
-        let word = lock_at(self.callers, r);
+        let word = lock_at(self.callers.number, r);
         let found = self.learned(&mut seat.seat, &kind, word, Instruction::Subtract(1));
         seat.summary.back_off(r);
         Ok(found)
@@ -111,7 +111,7 @@ impl<O: Object> Shared<O> {
         seat.summary.check()?;
         let r = replica as u64;
         let kind = Kind::BackOff { r };
-        let word = lock_at(self.callers, r);
+        let word = lock_at(self.callers.number, r);
         let found = self.subtract_copied(&mut seat.seat, &kind, word, 1);
         seat.summary.back_off(r);
         Ok(found)
@@ -139,7 +139,7 @@ impl<O: Object> Shared<O> {
         seat.summary.check()?;
         let r = replica as u64;
         let kind = Kind::Downgrade { r };
-        let word = lock_at(self.callers, r);
+        let word = lock_at(self.callers.number, r);
         let found = self.learned(
             &mut seat.seat,
             &kind,
@@ -173,7 +173,7 @@ impl<O: Object> Shared<O> {
         seat.summary.check()?;
         let r = replica as u64;
         let kind = Kind::ReleaseExclusive { r };
-        let word = lock_at(self.callers, r);
+        let word = lock_at(self.callers.number, r);
         let found = self.learned(
             &mut seat.seat,
             &kind,

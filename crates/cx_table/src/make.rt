@@ -12,6 +12,7 @@ use crate::seat::CallerSeat;
 use crate::shared::Shared;
 use atomic_table::{Seat, Split, Table};
 use core_events::opening_words;
+use core_guards::callers::Callers;
 use cx_base::{Items, Object};
 use cx_core::{Base, slot_start};
 use cx_rule::{Key, View};
@@ -52,7 +53,8 @@ impl<O: Object> Shared<O> {
             place: base.place,
             words: Items::of(Vec::from_slice(alloc, base.words.as_slice())?),
         };
-        let opening = opening_words(alloc, callers, base)?;
+        let count = Callers { number: callers };
+        let opening = opening_words(alloc, count, base)?;
         let key = Key {
             callers,
             limits: Items::of(Vec::from_slice(alloc, limits)?),
@@ -62,7 +64,7 @@ impl<O: Object> Shared<O> {
         let (table, first) = Table::of_words(alloc, &opening, &key)?;
         let shared = Shared {
             table,
-            callers,
+            callers: count,
             lines: object.lines(),
             base: own,
             object,
@@ -85,7 +87,7 @@ impl<O: Object> Shared<O> {
         requires room { self.now.callers ≤ vec_capacity seats }
         ensures { IfOk result (λ made. made.items ≡ map (opening_seat self.now limits.now) (range_with_len 0 self.now.callers)) }
     {
-        for number in 0..self.callers {
+        for number in 0..self.callers.number {
             let copy = Copies::of(alloc, self.base.words.len())?;
             let seat = self.next_seat(&mut first, number, limits, copy);
             seats.push_reserved(seat);

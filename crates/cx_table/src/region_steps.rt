@@ -33,7 +33,7 @@ impl<O: Object> Shared<O> {
             i,
             refused: mark,
         };
-        let word = vol_at(self.callers, seat.copy.region(), r, i);
+        let word = vol_at(self.callers.number, seat.copy.region(), r, i);
         let found = self.learned(&mut seat.seat, &kind, word, Instruction::Load);
         let held = is_at(r, seat.summary.exclusive);
         seat.copy.load(held, i, found);
@@ -52,7 +52,7 @@ impl<O: Object> Shared<O> {
     {
         seat.summary.check()?;
         let kind = Kind::StoreWord { r, i, v };
-        let word = vol_at(self.callers, seat.copy.region(), r, i);
+        let word = vol_at(self.callers.number, seat.copy.region(), r, i);
         self.store_event(&mut seat.seat, &kind, word, v);
         seat.copy.store(i, v);
         seat.summary.write_word();
@@ -68,7 +68,7 @@ impl<O: Object> Shared<O> {
     {
         seat.summary.check()?;
         let kind = Kind::Persist { r, i };
-        let word = per_at(self.callers, seat.copy.region(), r, i);
+        let word = per_at(self.callers.number, seat.copy.region(), r, i);
         let v = seat.copy.word(i);
         self.store_learned(&mut seat.seat, &kind, word, v);
         seat.copy.persist(i);
@@ -84,6 +84,6 @@ impl<O: Object> Shared<O> {
         mark && i == 0
             && is_at(r, summary.shared)
             && summary.is_fresh_on(self.callers, r)
-            && found != root_place(self.callers, summary.seen_cur)
+            && found != root_place(self.callers.number, summary.seen_cur)
     }
 }

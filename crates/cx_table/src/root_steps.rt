@@ -76,8 +76,8 @@ impl<O: Object> Shared<O> {
             caller: _,
         } = won;
         seat.summary.check()?;
-        let r = u64::from(root_replica(self.callers, before));
-        let word = lock_at(self.callers, r);
+        let r = u64::from(root_replica(self.callers.number, before));
+        let word = lock_at(self.callers.number, r);
         let found = self.learned(
             &mut seat.seat,
             &Kind::Retire,

@@ -47,7 +47,7 @@ impl<O: Object> Shared<O> {
         ensures taught { IsTaught seat.old.table_id seat.new.table_id (TeachesRun (instance_at self.now O.step O.only_reads) (loads_from r from) into.new seat.old.me seat.new.me) }
         ensures length { length into.new ≡ length into.old }
     {
-        let callers = self.callers;
+        let callers = self.callers.number;
         for i in 0..into.len() {
             let kind = Kind::LoadWord {
                 r,
@@ -83,7 +83,7 @@ impl<O: Object> Shared<O> {
         requires guard { (i : ℕ) → i < 145 → Guard (instance_at self.now O.step O.only_reads) unseen (ReadCell t k i) (known_of seat.old.me.0).local }
         ensures { IsTaught seat.old.table_id seat.new.table_id (TeachesRun (instance_at self.now O.step O.only_reads) (reads_of t k) into.new seat.old.me seat.new.me) }
     {
-        let callers = self.callers;
+        let callers = self.callers.number;
         for i in 0..145 {
             let kind = Kind::ReadCell { t, k, i: i as u64 };
             let word = cell_at(callers, k, i as u64);

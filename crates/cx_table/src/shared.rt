@@ -4,6 +4,7 @@ ghost use Rattle.std.specs.Prelude.{◌≡◌, ◌≤◌};
 ghost use Rattle.cx_rule.specs.Running.{IsRunning};
 
 use atomic_table::Table;
+use core_guards::callers::Callers;
 use cx_base::Object;
 use cx_core::Base;
 use cx_rule::{CoreRule, Key, View};
@@ -15,7 +16,7 @@ use std::marker::Model;
 #[derive(Drop)]
 pub struct Shared<O: Object> {
     pub(crate) table: Table<u8, View, Key<O>, CoreRule<O>, Global>,
-    pub(crate) callers: u32,
+    pub(crate) callers: Callers,
     pub(crate) lines: u64,
     pub(crate) base: Base,
     pub(crate) object: O,
@@ -27,9 +28,9 @@ impl<O: Object> Model for Shared<O> {
 
     ghost Value = { Running O };
 
-    ghost view = { λ s. record { table = s.table.shared.table_id; callers = s.callers; lines = s.lines; base = s.base; object = s.object } };
+    ghost view = { λ s. record { table = s.table.shared.table_id; callers = s.callers.number; lines = s.lines; base = s.base; object = s.object } };
 
-    ghost invariant = { λ s. IsRunning O.line_count O.lawful (record { table = s.table.shared.table_id; callers = s.callers; lines = s.lines; base = s.base; object = s.object }) × (s.table.shared.key.callers ≡ s.callers) × (s.table.shared.key.base.value ≡ s.base) × (s.table.shared.key.object.value ≡ s.object) };
+    ghost invariant = { λ s. IsRunning O.line_count O.lawful (record { table = s.table.shared.table_id; callers = s.callers.number; lines = s.lines; base = s.base; object = s.object }) × (s.table.shared.key.callers ≡ s.callers.number) × (s.table.shared.key.base.value ≡ s.base) × (s.table.shared.key.object.value ≡ s.object) };
 }
 
 impl<O: Object> Shared<O> {
@@ -39,7 +40,7 @@ impl<O: Object> Shared<O> {
         ensures some { 1 ≤ result }
         ensures few { result ≤ 8 }
     {
-        self.callers
+        self.callers.number
     }
 
     /// The lines of the object. A running table is within its limits.

@@ -27,7 +27,7 @@ impl<O: Object> Shared<O> {
         seat.summary.check()?;
         let kind = Kind::WriteCell { j, i, v };
         let cell = CELLS * u64::from(seat.summary.number) + j;
-        let word = cell_at(self.callers, cell, i);
+        let word = cell_at(self.callers.number, cell, i);
         self.store_event(&mut seat.seat, &kind, word, v);
         seat.copy.write_cell(j, i, v);
         seat.summary.write_cell(j);
@@ -45,11 +45,11 @@ impl<O: Object> Shared<O> {
         seat.summary.check()?;
         let kind = Kind::Link { j };
         let summary = &seat.summary;
-        let slot = summary.front % cell_count(self.callers);
-        let word = link_at(self.callers, slot);
+        let slot = summary.front % cell_count(self.callers.number);
+        let word = link_at(self.callers.number, slot);
         let seen = summary.seen_word();
         let cell = CELLS as u32 * summary.number + j as u32;
-        let code = link_code(self.callers, summary.front, cell);
+        let code = link_code(self.callers.number, summary.front, cell);
         let found = self.event(
             &mut seat.seat,
             &kind,
@@ -69,7 +69,7 @@ impl<O: Object> Shared<O> {
     {
         seat.summary.check()?;
         let kind = Kind::Look { s };
-        let word = link_at(self.callers, s);
+        let word = link_at(self.callers.number, s);
         let found = self.event(&mut seat.seat, &kind, word, Instruction::Load);
         seat.summary.look(self.callers, s, found);
         Ok(found)
@@ -85,7 +85,7 @@ impl<O: Object> Shared<O> {
     {
         seat.summary.check()?;
         let kind = Kind::ReadCell { t, k, i };
-        let word = cell_at(self.callers, k, i);
+        let word = cell_at(self.callers.number, k, i);
         let found = self.event(&mut seat.seat, &kind, word, Instruction::Load);
         seat.summary.read_cell();
         Ok(found)

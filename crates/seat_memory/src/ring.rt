@@ -2,12 +2,12 @@
 //! closed, scanned and opened.
 
 ghost use Rattle.std.specs.Prelude.{◌≡◌, ◌<◌, ℕ};
-ghost use Rattle.cx_base.specs.Callers.{AreCallers};
 ghost use Rattle.cx_core.specs.declared.kinds.Kind.TheVariants.{Protect, Confirm, Unprotect, CloseLow, Scan, OpenFree};
 ghost use Rattle.cx_core.specs.RingEvents.{bound_in, confirmed_by, least_in, scan_after, shows_outdated};
 ghost use Rattle.seat_memory.specs.Summaries.{Follows, summary_of};
 
 use crate::summary::Summary;
+use core_guards::callers::Callers;
 use core_guards::ring::{bound_in, confirmed_by, least_in, scan_after};
 use cx_base::root_place;
 use cx_core::Protection;
@@ -23,22 +23,20 @@ impl Summary {
 
     /// Whether LOW was found above the place of a protection, though the code last loaded from CUR, which nothing ended the
     /// use of, is at no place above that.
-    fn shows_outdated(&self, callers: u32, found: u64) -> bool
-        requires callers { AreCallers callers }
-        ensures { (l : _) → self.now ≡ summary_of l → result ≡ shows_outdated callers l found l.protection }
+    fn shows_outdated(&self, callers: Callers, found: u64) -> bool
+        ensures { (l : _) → self.now ≡ summary_of l → result ≡ shows_outdated callers.number l found l.protection }
     {
         match self.protection {
             Protection::Stated(p) => {
-                p < found && root_place(callers, self.seen_cur) <= p && self.fresh
+                p < found && root_place(callers.number, self.seen_cur) <= p && self.fresh
             }
             _ => false,
         }
     }
 
     /// LOW was found.
-    pub fn confirm(&mut self, callers: u32, found: u64)
-        requires callers { AreCallers callers }
-        ensures { Follows callers Confirm found self.old self.new }
+    pub fn confirm(&mut self, callers: Callers, found: u64)
+        ensures { Follows callers.number Confirm found self.old self.new }
     {
         if self.shows_outdated(callers, found) {
             self.met = self.met.saturating_add(1);

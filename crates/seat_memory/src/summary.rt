@@ -7,7 +7,6 @@ ghost use Rattle.cx_core.specs.declared.local.HeldDowngraded.{HeldDowngraded};
 ghost use Rattle.cx_core.specs.RootEvents.{code_in, outrun, published};
 ghost use Rattle.cx_core.specs.declared.kinds.Kind.TheVariants.{WriteCell, Link, Look, ReadCell, LoadFree, TryExclusive, TryShared, BackOff, Downgrade, ReleaseExclusive, LoadWord, StoreWord, Persist, LoadCur, Publish, Retire};
 ghost use Rattle.std.specs.List.{list_all, range_with_len};
-ghost use Rattle.cx_base.specs.Callers.{AreCallers};
 ghost use Rattle.cx_core.specs.LockEvents.{is_fresh_on, refused_by, taken};
 ghost use Rattle.cx_core.specs.State.{Instance, opening_local};
 ghost use Rattle.cx_core.specs.Rights.{is_at};
@@ -16,6 +15,7 @@ ghost use Rattle.seat_memory.specs.Raised.{is_below, raised_summary};
 ghost use Rattle.cx_rule.specs.declared.rule.Known.{Known};
 ghost use Rattle.cx_rule.specs.Seats.{IsAtLimit, known_local, place_noted, unseen};
 
+use core_guards::callers::Callers;
 use core_guards::locks::is_at;
 use core_guards::queue::{front_after, word_seen};
 use cx_base::{Halt, root_code, root_place, root_replica};
@@ -73,12 +73,11 @@ pub struct Summary {
 }
 
 /// The numbers of a caller that made no step.
-pub fn opening_summary(callers: u32, place: u64, number: u32, limit: u64) -> Summary
-    requires callers { AreCallers callers }
+pub fn opening_summary(callers: Callers, place: u64, number: u32, limit: u64) -> Summary
     requires place { place ≤ 2 ^ 40 }
-    ensures { result ≡ summary_of (record (opening_local callers place number) { limit = limit }) }
+    ensures { result ≡ summary_of (record (opening_local callers.number place number) { limit = limit }) }
 {
-    let code = root_code(callers, place, 0);
+    let code = root_code(callers.number, place, 0);
     Summary {
         number,
         front: place,
@@ -156,21 +155,19 @@ impl Summary {
     }
 
     /// A link was lost to the word found.
-    pub fn lose(&mut self, callers: u32, found: u64)
-        requires callers { AreCallers callers }
-        ensures { (l : _) → self.old ≡ summary_of l → self.new ≡ summary_of (lost callers l found) }
+    pub fn lose(&mut self, callers: Callers, found: u64)
+        ensures { (l : _) → self.old ≡ summary_of l → self.new ≡ summary_of (lost callers.number l found) }
     {
         self.front = front_after(callers, self.front, found);
         self.steps = self.steps.saturating_add(1);
     }
 
     /// A link of the entry in cell `j` found this word.
-    pub fn link(&mut self, callers: u32, j: u64, found: u64)
-        requires callers { AreCallers callers }
+    pub fn link(&mut self, callers: Callers, j: u64, found: u64)
         requires j { j < 16 }
         requires front { self.old.front < 2 ^ 40 }
         requires linked { self.old.linked ≤ self.old.front }
-        ensures { Follows callers (Link j) found self.old self.new }
+        ensures { Follows callers.number (Link j) found self.old self.new }
     {
         if found == self.seen_word() {
             self.win(j);
@@ -187,9 +184,8 @@ impl Summary {
     }
 
     /// A link slot was looked at.
-    pub fn look(&mut self, callers: u32, s: u64, found: u64)
-        requires callers { AreCallers callers }
-        ensures { Follows callers (Look s) found self.old self.new }
+    pub fn look(&mut self, callers: Callers, s: u64, found: u64)
+        ensures { Follows callers.number (Look s) found self.old self.new }
     {
         self.seen_slot = Some(SeenSlot {
             slot: s,
@@ -215,10 +211,9 @@ impl Summary {
     }
 
     /// An exclusive try of a replica found this word.
-    pub fn try_exclusive(&mut self, callers: u32, r: u64, found: u64)
-        requires callers { AreCallers callers }
-        requires r { r < 2 * callers }
-        ensures { Follows callers (TryExclusive r) found self.old self.new }
+    pub fn try_exclusive(&mut self, callers: Callers, r: u64, found: u64)
+        requires { r < 2 * callers.number }
+        ensures { Follows callers.number (TryExclusive r) found self.old self.new }
     {
         if found == 0 {
             self.take(r);
@@ -237,10 +232,9 @@ impl Summary {
     }
 
     /// An exclusive try was refused.
-    fn refuse(&mut self, callers: u32, r: u64)
-        requires few { callers ≤ 8 }
-        requires r { r < 2 * callers }
-        ensures { (l : _) (found : ℕ) → self.old ≡ summary_of l → self.new ≡ summary_of (refused_by callers r l found) }
+    fn refuse(&mut self, callers: Callers, r: u64)
+        requires { r < 2 * callers.number }
+        ensures { (l : _) (found : ℕ) → self.old ≡ summary_of l → self.new ≡ summary_of (refused_by callers.number r l found) }
     {
         self.refused[r as usize] = true;
         let all = self.all_refused(callers);
@@ -252,17 +246,15 @@ impl Summary {
     }
 
     /// Whether each replica was refused.
-    fn all_refused(&self, callers: u32) -> bool
-        requires { callers ≤ 8 }
-        ensures { result ≡ list_all (λ r. slice_index_or self.now.refused r false) (range_with_len 0 (2 * callers)) }
+    fn all_refused(&self, callers: Callers) -> bool
+        ensures { result ≡ list_all (λ r. slice_index_or self.now.refused r false) (range_with_len 0 (2 * callers.number)) }
     {
-        (0..2 * callers as usize).all(|r| self.refused[r])
+        (0..2 * callers.number as usize).all(|r| self.refused[r])
     }
 
     /// A shared try of a replica found this word.
-    pub fn try_shared(&mut self, callers: u32, r: u64, found: u64)
-        requires callers { AreCallers callers }
-        ensures { Follows callers (TryShared r) found self.old self.new }
+    pub fn try_shared(&mut self, callers: Callers, r: u64, found: u64)
+        ensures { Follows callers.number (TryShared r) found self.old self.new }
     {
         if found < EXCLUSIVE_MARK {
             self.shared = Some(r);
@@ -278,11 +270,10 @@ impl Summary {
     }
 
     /// Whether the code last loaded from CUR names this replica, and nothing ended its use.
-    pub fn is_fresh_on(&self, callers: u32, r: u64) -> bool
-        requires callers { AreCallers callers }
-        ensures { (l : _) → self.now ≡ summary_of l → result ≡ is_fresh_on callers r l }
+    pub fn is_fresh_on(&self, callers: Callers, r: u64) -> bool
+        ensures { (l : _) → self.now ≡ summary_of l → result ≡ is_fresh_on callers.number r l }
     {
-        u64::from(root_replica(callers, self.seen_cur)) == r && self.fresh
+        u64::from(root_replica(callers.number, self.seen_cur)) == r && self.fresh
     }
 
     /// A shared right, a passer's mark or a downgraded right was taken back.
@@ -317,9 +308,8 @@ impl Summary {
     }
 
     /// CUR was found.
-    pub fn load_cur(&mut self, callers: u32, found: u64)
-        requires callers { AreCallers callers }
-        ensures { Follows callers LoadCur found self.old self.new }
+    pub fn load_cur(&mut self, callers: Callers, found: u64)
+        ensures { Follows callers.number LoadCur found self.old self.new }
     {
         self.see_cur(callers, found);
         self.fresh = true;
@@ -327,22 +317,20 @@ impl Summary {
     }
 
     /// The root code of the replica that was downgraded, 0 where there is none.
-    pub fn downgraded_code(&self, callers: u32) -> u64
-        requires callers { AreCallers callers }
-        requires placed { (h : HeldDowngraded) → self.now.downgraded ≡ Some h → (h.replica < 2 * callers) × (h.place ≤ 2 ^ 40) }
-        ensures { result ≡ code_in callers self.now.downgraded }
+    pub fn downgraded_code(&self, callers: Callers) -> u64
+        requires placed { (h : HeldDowngraded) → self.now.downgraded ≡ Some h → (h.replica < 2 * callers.number) × (h.place ≤ 2 ^ 40) }
+        ensures { result ≡ code_in callers.number self.now.downgraded }
     {
         match self.downgraded {
             None => 0,
-            Some(held) => root_code(callers, held.place, held.replica as u32),
+            Some(held) => root_code(callers.number, held.place, held.replica as u32),
         }
     }
 
     /// A publication of this code found this word in CUR.
-    pub fn publish(&mut self, callers: u32, code: u64, found: u64)
-        requires callers { AreCallers callers }
-        requires code { code ≡ code_in callers self.old.downgraded }
-        ensures { Follows callers Publish found self.old self.new }
+    pub fn publish(&mut self, callers: Callers, code: u64, found: u64)
+        requires code { code ≡ code_in callers.number self.old.downgraded }
+        ensures { Follows callers.number Publish found self.old self.new }
     {
         if found == self.seen_cur {
             self.win_cur(callers, code);
@@ -352,10 +340,9 @@ impl Summary {
     }
 
     /// A publication of this code won.
-    fn win_cur(&mut self, callers: u32, code: u64)
-        requires callers { AreCallers callers }
-        requires code { code ≡ code_in callers self.old.downgraded }
-        ensures { (l : _) → self.old ≡ summary_of l → self.new ≡ summary_of (published callers l) }
+    fn win_cur(&mut self, callers: Callers, code: u64)
+        requires code { code ≡ code_in callers.number self.old.downgraded }
+        ensures { (l : _) → self.old ≡ summary_of l → self.new ≡ summary_of (published callers.number l) }
     {
         self.won = Some(WonCode {
             code,
@@ -368,9 +355,8 @@ impl Summary {
     }
 
     /// A publication was lost to the code found.
-    fn lose_cur(&mut self, callers: u32, found: u64)
-        requires callers { AreCallers callers }
-        ensures { (l : _) → self.old ≡ summary_of l → self.new ≡ summary_of (outrun callers l found) }
+    fn lose_cur(&mut self, callers: Callers, found: u64)
+        ensures { (l : _) → self.old ≡ summary_of l → self.new ≡ summary_of (outrun callers.number l found) }
     {
         if self.fresh {
             self.met = self.met.saturating_add(1);
@@ -408,11 +394,10 @@ impl Summary {
     }
 
     /// DUR was raised by a code, with a read that is answered or without.
-    pub fn raise(&mut self, callers: u32, code: u64, read: bool)
-        requires callers { AreCallers callers }
-        ensures { self.new ≡ raised_summary callers code read self.old }
+    pub fn raise(&mut self, callers: Callers, code: u64, read: bool)
+        ensures { self.new ≡ raised_summary callers.number code read self.old }
     {
-        let place = root_place(callers, code);
+        let place = root_place(callers.number, code);
         let answers = is_below(place, self.unanswered);
         if answers {
             self.unanswered = None;
@@ -426,11 +411,10 @@ impl Summary {
     }
 
     /// This code was found in CUR, or put there.
-    fn see_cur(&mut self, callers: u32, code: u64)
-        requires callers { AreCallers callers }
-        ensures { self.new ≡ record self.old { seen_cur = code; front = max self.old.front (root_place_of callers code) } }
+    fn see_cur(&mut self, callers: Callers, code: u64)
+        ensures { self.new ≡ record self.old { seen_cur = code; front = max self.old.front (root_place_of callers.number code) } }
     {
         self.seen_cur = code;
-        self.front = self.front.max(root_place(callers, code));
+        self.front = self.front.max(root_place(callers.number, code));
     }
 }

@@ -18,7 +18,7 @@ invariant_of-state g c =
     let l = c.index_mut-local.result.now in
     let step = g.O.Object.step c.args.object.now in
     let reads = g.O.Object.only_reads c.args.object.now in
-    let core : Core = record { callers = s.callers; lines = s.lines; base = s.base; state = record { words = s.words.items; locals = s.locals.items } } in
+    let core : Core = record { callers = s.callers.number; lines = s.lines; base = s.base; state = record { words = s.words.items; locals = s.locals.items } } in
     let instance = instance_of core step reads in
     let before : State = record { words = c.deref_mut.result.now; locals = s.locals.items } in
     let within : event.caller < length s.locals.items = omega (arith, s.locals.ok) in
@@ -38,7 +38,7 @@ returns-clause-ok g c =
     let l = c.index_mut-local.result.now in
     let step = g.O.Object.step c.args.object.now in
     let reads = g.O.Object.only_reads c.args.object.now in
-    let core : Core = record { callers = s.callers; lines = s.lines; base = s.base; state = record { words = s.words.items; locals = s.locals.items } } in
+    let core : Core = record { callers = s.callers.number; lines = s.lines; base = s.base; state = record { words = s.words.items; locals = s.locals.items } } in
     let instance = instance_of core step reads in
     let before : State = record { words = c.deref_mut.result.now; locals = s.locals.items } in
     let within : event.caller < length s.locals.items = omega (arith, s.locals.ok) in

@@ -14,7 +14,7 @@ returns g c =
     let s = c.state.inside in
     let caller = c.args.caller in
     let mine = c.index.result.now in
-    let instance : Instance = record { callers = s.callers; base = s.base; step = g.O.Object.step c.args.object.now; reads = g.O.Object.only_reads c.args.object.now } in
+    let instance : Instance = record { callers = s.callers.number; base = s.base; step = g.O.Object.step c.args.object.now; reads = g.O.Object.only_reads c.args.object.now } in
     let sizes : length s.locals.items ≡ length c.args.state.now.state.locals = ap (λ (core : Core). length core.state.locals) c.state.view_is in
     let within : caller < length s.locals.items = omega (arith, sizes, c.requires.caller) in
     let there : slice_get s.locals.items caller ≡ Some mine = slice_get_read s.locals.items (length s.locals.items) caller mine refl within c.index.ensures in

@@ -24,7 +24,7 @@ returns g c =
     let caller = c.args.caller in
     let j = c.args.j in
     let mine = c.index-local.result.now in
-    let instance : Instance = record { callers = s.callers; base = s.base; step = g.O.Object.step c.args.object.now; reads = g.O.Object.only_reads c.args.object.now } in
+    let instance : Instance = record { callers = s.callers.number; base = s.base; step = g.O.Object.step c.args.object.now; reads = g.O.Object.only_reads c.args.object.now } in
     let sizes : length s.locals.items ≡ length c.args.state.now.state.locals = ap (λ (core : Core). length core.state.locals) c.state.view_is in
     let within : caller < length s.locals.items = omega (arith, sizes, c.requires.caller) in
     let there : slice_get s.locals.items caller ≡ Some mine = slice_get_read s.locals.items (length s.locals.items) caller mine refl within c.index-local.ensures in
@@ -32,7 +32,7 @@ returns g c =
     (IfOk-then c.offered_word.result
     (λ told. TellsOfferWord told instance (let scene : Scene = record { history = history_of s.base.place c.deref.result.now; words = s.words.items } in scene) j mine)
     (λ told. (l : Local) → slice_get s.locals.items caller ≡ Some l → TellsOfferWord told instance (let scene : Scene = record { history = history_of s.base.place s.locals.items; words = s.words.items } in scene) j l)
-    (c.offered_word.ensures s.callers instance.reads s.words.items)
+    (c.offered_word.ensures s.callers.number instance.reads s.words.items)
     (λ told tells l at.
     subst (λ x. TellsOfferWord told instance (let scene : Scene = record { history = history_of s.base.place s.locals.items; words = s.words.items } in scene) j x) (same_Some mine l (sym there ∙ at))
     (subst (λ ls. TellsOfferWord told instance (let scene : Scene = record { history = history_of s.base.place ls; words = s.words.items } in scene) j mine) c.deref.ensures.value tells)))

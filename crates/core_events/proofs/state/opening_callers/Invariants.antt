@@ -4,4 +4,4 @@ use Rattle.cx_core.specs.State.{opening_local}
 use Rattle.core_events.proofs.state.opening_callers.Given as goal
 
 abbrev pub invariant-loop-caller : goal.invariant-loop-caller
-invariant-loop-caller l = l.locals.items ≡ map (opening_local l.callers l.place) (range_with_len 0 l.caller)
+invariant-loop-caller l = l.locals.items ≡ map (opening_local l.callers.number l.place) (range_with_len 0 l.caller)

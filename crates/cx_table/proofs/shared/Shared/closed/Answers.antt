@@ -21,9 +21,9 @@ pub copy_words-requires-2-clause-within : goal.copy_words-requires-2-clause-with
 copy_words-requires-2-clause-within g c =
     let running = c.self.invariant.0 in
     let long : length c.self.inside.base.words ≡ 8 * (146 + c.self.inside.lines) = running.base.size.long in
-    let count : slots_len c.close_with-closed.result.words ≡ 4 + 10563 * c.self.inside.callers + 8 * (146 + c.self.inside.lines) * (4 * c.self.inside.callers) =
-    c.close_with-closed.ensures.counts.0 ∙ running.words ∙ ap (λ n. 4 + 10563 * c.self.inside.callers + n * (4 * c.self.inside.callers)) long in
-    omega (arith, twice (8 * (146 + c.self.inside.lines)) c.self.inside.callers, count)
+    let count : slots_len c.close_with-closed.result.words ≡ 4 + 10563 * c.self.inside.callers.number + 8 * (146 + c.self.inside.lines) * (4 * c.self.inside.callers.number) =
+    c.close_with-closed.ensures.counts.0 ∙ running.words ∙ ap (λ n. 4 + 10563 * c.self.inside.callers.number + n * (4 * c.self.inside.callers.number)) long in
+    omega (arith, twice (8 * (146 + c.self.inside.lines)) c.self.inside.callers.number, count)
 
 -- where the words of the replicas end, and where the medium's end
 vol_end : (n c m d : ℕ) → c ≡ d → n ≡ m → 4 + 10563 * c + n * (2 * c) ≡ vol_at d m (2 * d) 0
@@ -50,11 +50,11 @@ returns g c = λ seats are knows marked won.
     let same = key_instance g.O.Object.step g.O.Object.only_reads _ _ _ _ _ view key.1 key.2 key.3 in
     let instance : Instance = instance_at t g.O.Object.step g.O.Object.only_reads in
     let held : RuleHolds instance end.0 = subst (λ (l : Instance). RuleHolds l end.0) (sym same) end.1.0 in
-    let callers : inside.callers ≡ t.callers = ap (λ s. s.callers) view in
+    let callers : inside.callers.number ≡ t.callers = ap (λ s. s.callers) view in
     let region : 8 * (146 + inside.lines) ≡ length t.base.words = sym running.base.size.long ∙ ap (λ s. length s.base.words) view in
     let lines : length t.base.words ≡ region_words t.lines = sym region ∙ ap (λ s. region_words s.lines) view in
     let at = c.replicas_at-from.ensures in
-    let count = 8 * (146 + inside.lines) * (2 * inside.callers) in
+    let count = 8 * (146 + inside.lines) * (2 * inside.callers.number) in
     let from : c.replicas_at-from.result ≡ vol_at t.callers (length t.base.words) 0 0 = at ∙ ap (λ k. 4 + 10563 * k) callers ∙ no_row (4 + 10563 * t.callers) (length t.base.words) in
     let half : c.replicas_at-from.result + count ≡ vol_at t.callers (length t.base.words) (2 * t.callers) 0 = ap (λ n. n + count) at ∙ vol_end _ _ _ _ callers region in
     leaves t instance seats _ end.0 c.args.closing.id refl refl are held (end.1.1 ∙ ap some me) (record {

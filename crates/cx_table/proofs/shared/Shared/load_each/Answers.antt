@@ -31,7 +31,7 @@ learned-requires-clause-learns g c =
     learns_load (instance_at t g.O.Object.step g.O.Object.only_reads) c.args.r (c.args.from + c.loop-i.i) false (known_of c.loop-i.seat.me.0) _
     (subst (λ n. CanLoad t.callers n c.args.r (c.args.from + c.loop-i.i) (known_of c.loop-i.seat.me.0).local) c.requires.region may)
     (c.vol_at-word.ensures.value
-    ∙ ap (λ n. vol_at c.self.inside.callers n c.args.r (c.args.from + c.loop-i.i)) c.requires.region
+    ∙ ap (λ n. vol_at c.self.inside.callers.number n c.args.r (c.args.from + c.loop-i.i)) c.requires.region
     ∙ ap (λ (x : Running _). vol_at x.callers (length t.base.words) c.args.r (c.args.from + c.loop-i.i)) c.self.view_is)
 
 pub loop-i-preserved : goal.loop-i-preserved

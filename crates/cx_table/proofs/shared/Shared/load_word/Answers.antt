@@ -17,14 +17,14 @@ learned-found-requires-clause-learns g c =
     learns_load (instance_at c.args.self.now g.O.Object.step g.O.Object.only_reads) c.args.r c.args.i c.args.mark (known_of c.seat.inside.seat.me.0) _
     (subst (λ (s : Seated). CanLoad t.callers (length t.base.words) c.args.r c.args.i s.known.local) (sym c.seat.view_is) c.requires.guard)
     (c.vol_at-word.ensures.value
-    ∙ ap (λ n. vol_at c.self.inside.callers n c.args.r c.args.i) (c.region.ensures ∙ ap (λ (s : Seated). s.region) c.seat.view_is ∙ c.requires.seat.region)
+    ∙ ap (λ n. vol_at c.self.inside.callers.number n c.args.r c.args.i) (c.region.ensures ∙ ap (λ (s : Seated). s.region) c.seat.view_is ∙ c.requires.seat.region)
     ∙ ap (λ (x : Running _). vol_at x.callers (length t.base.words) c.args.r c.args.i) c.self.view_is)
 
 pub invariant_of-seat : goal.invariant_of-seat
 invariant_of-seat g c =
     (step_made c.args.self.now g.O.Object.step g.O.Object.only_reads (marked_load (instance_at c.args.self.now g.O.Object.step g.O.Object.only_reads) c.args.r c.args.i c.args.mark (known_of c.seat.inside.seat.me.0).local c.learned-found.result) c.learned-found.result _ _ _ _ _ _ _ _ _ _ _ c.seat.invariant c.seat.view_is c.in_ok-check.ensures c.requires.seat c.requires.guard
     c.learned-found.ensures.table c.learned-found.ensures.taught (ap (λ (r : Running _). r.callers) c.self.view_is)
-    (follows_same c.self.inside.callers c.learned-found.result c.seat.inside.summary c.load_word.new.self _ _ (ap (λ (b : Bool). LoadWord c.args.r c.args.i b) (c.is_refusal-refused.ensures (known_of c.seat.inside.seat.me.0).local c.seat.invariant.0.is)) (c.load_word.ensures c.self.inside.callers c.args.r c.args.i c.learned-found.result))
+    (follows_same c.self.inside.callers.number c.learned-found.result c.seat.inside.summary c.load_word.new.self _ _ (ap (λ (b : Bool). LoadWord c.args.r c.args.i b) (c.is_refusal-refused.ensures (known_of c.seat.inside.seat.me.0).local c.seat.invariant.0.is)) (c.load_word.ensures c.self.inside.callers.number c.args.r c.args.i c.learned-found.result))
     (c.load.ensures ∙ ap (λ (b : Bool). cond b (record c.seat.inside.copy { place = cond (c.args.i == 0) c.learned-found.result c.seat.inside.copy.place }) c.seat.inside.copy) (c.is_at-held.ensures ∙ ap (λ (x : Summary). is_at c.args.r x.exclusive) c.seat.invariant.0.is))).0
 
 pub returns-clause-made : goal.returns-clause-made
@@ -32,7 +32,7 @@ returns-clause-made g c =
     steps_same _ _ (ap (λ (s : Seated). marked_load (instance_at c.args.self.now g.O.Object.step g.O.Object.only_reads) c.args.r c.args.i c.args.mark s.known.local c.learned-found.result) c.seat.view_is)
     (step_made c.args.self.now g.O.Object.step g.O.Object.only_reads (marked_load (instance_at c.args.self.now g.O.Object.step g.O.Object.only_reads) c.args.r c.args.i c.args.mark (known_of c.seat.inside.seat.me.0).local c.learned-found.result) c.learned-found.result _ _ _ _ _ _ _ _ _ _ _ c.seat.invariant c.seat.view_is c.in_ok-check.ensures c.requires.seat c.requires.guard
     c.learned-found.ensures.table c.learned-found.ensures.taught (ap (λ (r : Running _). r.callers) c.self.view_is)
-    (follows_same c.self.inside.callers c.learned-found.result c.seat.inside.summary c.load_word.new.self _ _ (ap (λ (b : Bool). LoadWord c.args.r c.args.i b) (c.is_refusal-refused.ensures (known_of c.seat.inside.seat.me.0).local c.seat.invariant.0.is)) (c.load_word.ensures c.self.inside.callers c.args.r c.args.i c.learned-found.result))
+    (follows_same c.self.inside.callers.number c.learned-found.result c.seat.inside.summary c.load_word.new.self _ _ (ap (λ (b : Bool). LoadWord c.args.r c.args.i b) (c.is_refusal-refused.ensures (known_of c.seat.inside.seat.me.0).local c.seat.invariant.0.is)) (c.load_word.ensures c.self.inside.callers.number c.args.r c.args.i c.learned-found.result))
     (c.load.ensures ∙ ap (λ (b : Bool). cond b (record c.seat.inside.copy { place = cond (c.args.i == 0) c.learned-found.result c.seat.inside.copy.place }) c.seat.inside.copy) (c.is_at-held.ensures ∙ ap (λ (x : Summary). is_at c.args.r x.exclusive) c.seat.invariant.0.is))).1
 
 pub returns-clause-fits : goal.returns-clause-fits

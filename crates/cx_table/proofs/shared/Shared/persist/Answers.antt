@@ -17,7 +17,7 @@ store_learned-requires-clause-learns g c =
     let size : length c.seat.inside.copy.words ≡ length t.base.words = ap (λ (s : Seated). s.region) c.seat.view_is ∙ c.requires.seat.region in
     let below = may.0.1 in
     learns_persist instance c.args.r c.args.i known _ c.word-v.result may
-    (c.per_at-word.ensures.value ∙ ap (λ n. per_at c.self.inside.callers n c.args.r c.args.i) (c.region.ensures ∙ size) ∙ ap (λ (x : Running _). per_at x.callers (length t.base.words) c.args.r c.args.i) c.self.view_is)
+    (c.per_at-word.ensures.value ∙ ap (λ n. per_at c.self.inside.callers.number n c.args.r c.args.i) (c.region.ensures ∙ size) ∙ ap (λ (x : Running _). per_at x.callers (length t.base.words) c.args.r c.args.i) c.self.view_is)
     (subst (λ n. TellsWord n known.accesses c.args.i c.word-v.result) size (subst (TellsWord (length c.seat.inside.copy.words) known.accesses c.args.i) (sym c.word-v.ensures) (c.seat.invariant.1.words c.args.i (omega (arith, size, below)) may.1)))
 
 pub invariant_of-seat : goal.invariant_of-seat

@@ -8,7 +8,7 @@ use Rattle.cx_table.proofs.shared.Shared.read_cell.Goals as goal
 pub invariant_of-seat : goal.invariant_of-seat
 invariant_of-seat g c =
     (step_made c.args.self.now g.O.Object.step g.O.Object.only_reads (ReadCell c.args.t c.args.k c.args.i) c.event-found.result _ _ _ _ _ _ _ _ _ _ _ c.seat.invariant c.seat.view_is c.in_ok-check.ensures c.requires.seat c.requires.guard
-    c.event-found.ensures.table c.event-found.ensures.taught (ap (λ (r : Running _). r.callers) c.self.view_is) (c.read_cell.ensures c.self.inside.callers c.args.t c.args.k c.args.i c.event-found.result) refl).0
+    c.event-found.ensures.table c.event-found.ensures.taught (ap (λ (r : Running _). r.callers) c.self.view_is) (c.read_cell.ensures c.self.inside.callers.number c.args.t c.args.k c.args.i c.event-found.result) refl).0
 
 pub returns-clause-fits : goal.returns-clause-fits
 returns-clause-fits g c =

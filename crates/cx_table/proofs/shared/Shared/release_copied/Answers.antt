@@ -35,7 +35,7 @@ pub invariant_of-seat : goal.invariant_of-seat
 invariant_of-seat g c =
     (copied_made c.args.self.now g.O.Object.step g.O.Object.only_reads c.source.inside.replica c.subtract_copied-found.result _ _ _ _ c.seat.inside.copy _ _ _ _ _ c.seat.invariant c.seat.view_is c.in_ok-check.ensures c.requires.seat
     (subst (λ (x : Right). CanBackOff c.args.self.now.callers x.replica c.args.seat.now.known.local) (sym c.source.view_is) (c.requires.copied.source.few, inl c.requires.copied.source.holds))
-    c.subtract_copied-found.ensures.table c.subtract_copied-found.ensures.taught (ap (λ (r : Running _). r.callers) c.self.view_is) (c.back_off.ensures c.self.inside.callers c.subtract_copied-found.result) c.requires.copied.agree
+    c.subtract_copied-found.ensures.table c.subtract_copied-found.ensures.taught (ap (λ (r : Running _). r.callers) c.self.view_is) (c.back_off.ensures c.self.inside.callers.number c.subtract_copied-found.result) c.requires.copied.agree
     (region_some (subst (IsRunning g.O.Object.line_count g.O.Object.lawful) c.self.view_is c.self.invariant.0))).0
 
 pub returns-clause-made : goal.returns-clause-made
@@ -43,7 +43,7 @@ returns-clause-made g c =
     copied_same (ap (λ (x : Right). x.replica) c.source.view_is)
     (copied_made c.args.self.now g.O.Object.step g.O.Object.only_reads c.source.inside.replica c.subtract_copied-found.result _ _ _ _ c.seat.inside.copy _ _ _ _ _ c.seat.invariant c.seat.view_is c.in_ok-check.ensures c.requires.seat
     (subst (λ (x : Right). CanBackOff c.args.self.now.callers x.replica c.args.seat.now.known.local) (sym c.source.view_is) (c.requires.copied.source.few, inl c.requires.copied.source.holds))
-    c.subtract_copied-found.ensures.table c.subtract_copied-found.ensures.taught (ap (λ (r : Running _). r.callers) c.self.view_is) (c.back_off.ensures c.self.inside.callers c.subtract_copied-found.result) c.requires.copied.agree
+    c.subtract_copied-found.ensures.table c.subtract_copied-found.ensures.taught (ap (λ (r : Running _). r.callers) c.self.view_is) (c.back_off.ensures c.self.inside.callers.number c.subtract_copied-found.result) c.requires.copied.agree
     (region_some (subst (IsRunning g.O.Object.line_count g.O.Object.lawful) c.self.view_is c.self.invariant.0))).1
 
 pub returns-clause-held : goal.returns-clause-held
@@ -51,7 +51,7 @@ returns-clause-held g c =
     still_held c.args.self.now g.O.Object.step g.O.Object.only_reads c.source.inside.replica c.subtract_copied-found.result c.args.seat.now _ c.args.held.now
     (copied_made c.args.self.now g.O.Object.step g.O.Object.only_reads c.source.inside.replica c.subtract_copied-found.result _ _ _ _ c.seat.inside.copy _ _ _ _ _ c.seat.invariant c.seat.view_is c.in_ok-check.ensures c.requires.seat
     (subst (λ (x : Right). CanBackOff c.args.self.now.callers x.replica c.args.seat.now.known.local) (sym c.source.view_is) (c.requires.copied.source.few, inl c.requires.copied.source.holds))
-    c.subtract_copied-found.ensures.table c.subtract_copied-found.ensures.taught (ap (λ (r : Running _). r.callers) c.self.view_is) (c.back_off.ensures c.self.inside.callers c.subtract_copied-found.result) c.requires.copied.agree
+    c.subtract_copied-found.ensures.table c.subtract_copied-found.ensures.taught (ap (λ (r : Running _). r.callers) c.self.view_is) (c.back_off.ensures c.self.inside.callers.number c.subtract_copied-found.result) c.requires.copied.agree
     (region_some (subst (IsRunning g.O.Object.line_count g.O.Object.lawful) c.self.view_is c.self.invariant.0))).1
     c.requires.copied.held
 

@@ -20,7 +20,7 @@ learned-found-requires-clause-learns g c = λ words within.
     subst (λ (s : Seated). s.known.local.won ≡ Some (record { code = c.args.won.code; before = c.args.won.before })) (sym c.seat.view_is) c.requires.won.holds in
     learns_shown (instance_at t g.O.Object.step g.O.Object.only_reads) Retire known words _ _ tt tt can
     (c.lock_at-word.ensures
-    ∙ ap (λ (n : ℕ). lock_at c.self.inside.callers n) (c.from-r.ensures ∙ c.root_replica.ensures.value)
+    ∙ ap (λ (n : ℕ). lock_at c.self.inside.callers.number n) (c.from-r.ensures ∙ c.root_replica.ensures.value)
     ∙ ap (λ (x : Running _). lock_at x.callers (root_replica_of x.callers c.won.inside.before)) c.self.view_is
     ∙ ap (λ (w : WonRight). lock_at t.callers (root_replica_of t.callers w.before)) c.won.view_is
     ∙ ap (λ (o : Option WonCode). lock_at t.callers (root_replica_of t.callers (before_in o))) (sym holds))
@@ -29,4 +29,4 @@ learned-found-requires-clause-learns g c = λ words within.
 pub invariant_of-seat : goal.invariant_of-seat
 invariant_of-seat g c =
     (step_made c.args.self.now g.O.Object.step g.O.Object.only_reads Retire c.learned-found.result _ _ _ _ _ _ _ _ _ _ _ c.seat.invariant c.seat.view_is c.in_ok-check.ensures c.requires.seat c.requires.guard
-    c.learned-found.ensures.table c.learned-found.ensures.taught (ap (λ (r : Running _). r.callers) c.self.view_is) (c.retire.ensures c.self.inside.callers c.learned-found.result) refl).0
+    c.learned-found.ensures.table c.learned-found.ensures.taught (ap (λ (r : Running _). r.callers) c.self.view_is) (c.retire.ensures c.self.inside.callers.number c.learned-found.result) refl).0
