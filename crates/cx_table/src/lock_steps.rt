@@ -1,13 +1,13 @@
 //! The step calls on locks: tries, and rights given up. A call that begins a right hands out its token beside the word found,
 //! and a call that ends one takes it. `Halt` comes exactly where the seat's steps equal its limit, and then nothing changes.
 
-ghost use Rattle.std.specs.Prelude.{◌≡◌, OnErr, OnOk, IfOk};
+ghost use Rattle.std.specs.Prelude.{◌≡◌, OnOk, IfOk};
 ghost use Rattle.cx_core.specs.declared.kinds.Kind.TheVariants.{BackOff, Downgrade, ReleaseExclusive, TryExclusive, TryShared};
-ghost use Rattle.cx_rule.specs.Fitting.{Fitting, IsReplayed, IsReplayedToPlace};
-ghost use Rattle.cx_rule.specs.Running.{IsSeatOf, instance_at};
-ghost use Rattle.cx_rule.specs.Seats.{SeenGuard};
-ghost use Rattle.cx_rule.specs.Steps.{Halts, Steps, StepsCopied};
+ghost use Rattle.cx_rule.specs.Fitting.{IsReplayed, IsReplayedToPlace};
+ghost use Rattle.cx_rule.specs.Running.{IsSeatOf};
+ghost use Rattle.cx_rule.specs.Steps.{Steps, StepsCopied};
 ghost use Rattle.cx_table.specs.Tokens.{HandsExclusive, HandsShared, IsCopiedFrom, IsDowngradedOf, IsExclusiveOf, IsRightOf, TriedExclusive, TriedShared, replica_of};
+ghost use Rattle.cx_table.specs.Calls.{MakesFittingStep, MakesStep, MayStep};
 
 use crate::events::Instruction;
 use crate::seat::CallerSeat;
@@ -26,12 +26,9 @@ impl<O: Object> Shared<O> {
         seat: &mut CallerSeat,
         r: u64,
     ) -> Result<(u64, Option<Exclusive>), Halt>
-        requires seat { IsSeatOf self.now seat.old }
-        requires guard { SeenGuard (instance_at self.now O.step O.only_reads) (TryExclusive r) seat.old.known.local }
-        ensures made { IfOk result (λ x. Steps self.now O.step O.only_reads (TryExclusive r) x.0 seat.old seat.new) }
+        requires { MayStep O.Object self.now (TryExclusive r) seat.old }
+        ensures step { MakesFittingStep O.Object self.now seat.old seat.new result (λ x. Steps self.now O.step O.only_reads (TryExclusive r) x.0 seat.old seat.new) }
         ensures token { IfOk result (λ x. TriedExclusive self.now.callers r seat.new x.0 x.1) }
-        ensures fits { OnOk result (Fitting self.now.lines (O.lawful self.now.object) self.now.base seat.new.known) }
-        ensures halted { OnErr result (Halts self.now seat.old seat.new) }
     {
         seat.summary.check()?;
         let kind = Kind::TryExclusive { r };
@@ -54,12 +51,9 @@ impl<O: Object> Shared<O> {
         seat: &mut CallerSeat,
         r: u64,
     ) -> Result<(u64, Result<SharedHold, Passer>), Halt>
-        requires seat { IsSeatOf self.now seat.old }
-        requires guard { SeenGuard (instance_at self.now O.step O.only_reads) (TryShared r) seat.old.known.local }
-        ensures made { IfOk result (λ x. Steps self.now O.step O.only_reads (TryShared r) x.0 seat.old seat.new) }
+        requires { MayStep O.Object self.now (TryShared r) seat.old }
+        ensures step { MakesFittingStep O.Object self.now seat.old seat.new result (λ x. Steps self.now O.step O.only_reads (TryShared r) x.0 seat.old seat.new) }
         ensures token { IfOk result (λ x. TriedShared self.now.callers r seat.new x.0 x.1) }
-        ensures fits { OnOk result (Fitting self.now.lines (O.lawful self.now.object) self.now.base seat.new.known) }
-        ensures halted { OnErr result (Halts self.now seat.old seat.new) }
     {
         seat.summary.check()?;
         let kind = Kind::TryShared { r };
@@ -74,8 +68,7 @@ impl<O: Object> Shared<O> {
     pub fn back_off(&self, seat: &mut CallerSeat, right: SharedRight) -> Result<u64, Halt>
         requires seat { IsSeatOf self.now seat.old }
         requires right { IsRightOf self.now.callers seat.old right }
-        ensures made { IfOk result (λ found. Steps self.now O.step O.only_reads (BackOff (replica_of right)) found seat.old seat.new) }
-        ensures halted { OnErr result (Halts self.now seat.old seat.new) }
+        ensures { MakesStep self.now seat.old seat.new result (λ found. Steps self.now O.step O.only_reads (BackOff (replica_of right)) found seat.old seat.new) }
     {
         let r = replica_in(right) as u64;
         seat.summary.check()?;
@@ -97,10 +90,8 @@ impl<O: Object> Shared<O> {
     ) -> Result<u64, Halt>
         requires seat { IsSeatOf self.now seat.old }
         requires copied { IsCopiedFrom self.now.callers seat.old held.now source }
-        ensures made { IfOk result (λ found. StepsCopied self.now O.step O.only_reads source.replica found seat.old seat.new) }
+        ensures step { MakesFittingStep O.Object self.now seat.old seat.new result (λ found. StepsCopied self.now O.step O.only_reads source.replica found seat.old seat.new) }
         ensures held { OnOk result (IsExclusiveOf self.now.callers seat.new held.now) }
-        ensures fits { OnOk result (Fitting self.now.lines (O.lawful self.now.object) self.now.base seat.new.known) }
-        ensures halted { OnErr result (Halts self.now seat.old seat.new) }
     {
         let _ = held;
         let Token {
@@ -124,12 +115,11 @@ impl<O: Object> Shared<O> {
         seat: &mut CallerSeat,
         held: Exclusive,
     ) -> Result<(u64, Downgraded), Halt>
-        requires seat { IsSeatOf self.now seat.old }
-        requires held { IsExclusiveOf self.now.callers seat.old held × SeenGuard (instance_at self.now O.step O.only_reads) (Downgrade held.replica) seat.old.known.local }
+        requires may { MayStep O.Object self.now (Downgrade held.replica) seat.old }
+        requires held { IsExclusiveOf self.now.callers seat.old held }
         requires replayed { IsReplayedToPlace self.now.lines (O.lawful self.now.object) self.now.base (O.step self.now.object) seat.old.known }
-        ensures made { IfOk result (λ x. Steps self.now O.step O.only_reads (Downgrade held.replica) x.0 seat.old seat.new) }
+        ensures step { MakesStep self.now seat.old seat.new result (λ x. Steps self.now O.step O.only_reads (Downgrade held.replica) x.0 seat.old seat.new) }
         ensures token { IfOk result (λ x. (x.1.replica ≡ held.replica) × IsDowngradedOf self.now.callers seat.new x.1) }
-        ensures halted { OnErr result (Halts self.now seat.old seat.new) }
     {
         let Token {
             replica,
@@ -158,12 +148,10 @@ impl<O: Object> Shared<O> {
     /// Gives an exclusive right up, where no word is dirty and whatever fits what is noted is the image after its place, by
     /// noted entries. It gives the word found.
     pub fn release_exclusive(&self, seat: &mut CallerSeat, held: Exclusive) -> Result<u64, Halt>
-        requires seat { IsSeatOf self.now seat.old }
+        requires may { MayStep O.Object self.now (ReleaseExclusive held.replica) seat.old }
         requires held { IsExclusiveOf self.now.callers seat.old held }
-        requires guard { SeenGuard (instance_at self.now O.step O.only_reads) (ReleaseExclusive held.replica) seat.old.known.local }
         requires replayed { IsReplayed self.now.lines (O.lawful self.now.object) self.now.base (O.step self.now.object) seat.old.known }
-        ensures made { IfOk result (λ found. Steps self.now O.step O.only_reads (ReleaseExclusive held.replica) found seat.old seat.new) }
-        ensures halted { OnErr result (Halts self.now seat.old seat.new) }
+        ensures { MakesStep self.now seat.old seat.new result (λ found. Steps self.now O.step O.only_reads (ReleaseExclusive held.replica) found seat.old seat.new) }
     {
         let Token {
             replica,

@@ -1,14 +1,12 @@
 //! The step call that raises DUR, which answers the caller's entry and a read. `Halt` comes exactly where the seat's steps
 //! equal its limit, and then nothing changes.
 
-ghost use Rattle.std.specs.Prelude.{List, OnErr, OnOk, IfOk};
+ghost use Rattle.std.specs.Prelude.{List};
 ghost use Rattle.cx_base.specs.Codes.{root_place_of};
+ghost use Rattle.cx_core.specs.declared.kinds.Kind.TheVariants.{Raise};
 ghost use Rattle.cx_core.specs.declared.local.Answer.{Answer};
-ghost use Rattle.cx_core.specs.RootEvents.{CanRaise};
-ghost use Rattle.cx_rule.specs.Fitting.{Fitting};
 ghost use Rattle.cx_rule.specs.Raises.{Raises, TellsAnswers, TellsReads, op_in};
-ghost use Rattle.cx_rule.specs.Running.{IsSeatOf, instance_at};
-ghost use Rattle.cx_rule.specs.Steps.{Halts};
+ghost use Rattle.cx_table.specs.Calls.{MakesFittingStep, MayStep};
 
 use crate::seat::CallerSeat;
 use crate::shared::Shared;
@@ -43,12 +41,9 @@ impl<O: Object> Shared<O> {
         code: u64,
         read: Option<AnsweredRead>,
     ) -> Result<u64, Halt>
-        requires seat { IsSeatOf self.now seat.old }
-        requires guard { CanRaise (instance_at self.now O.step O.only_reads) code (op_in read) seat.old.known.local }
+        requires may { MayStep O.Object self.now (Raise code (op_in read)) seat.old }
         requires told { ((answers : List Answer) × TellsAnswers self.now.lines (O.lawful self.now.object) self.now.base (O.step self.now.object) seat.old.known (root_place_of self.now.callers code) answers) × TellsReads self.now.lines (O.lawful self.now.object) self.now.base (O.step self.now.object) seat.old.known read }
-        ensures made { IfOk result (λ _. (answers : List Answer) → TellsAnswers self.now.lines (O.lawful self.now.object) self.now.base (O.step self.now.object) seat.old.known (root_place_of self.now.callers code) answers → Raises self.now O.step O.only_reads code answers read.entry seat.old seat.new) }
-        ensures fits { OnOk result (Fitting self.now.lines (O.lawful self.now.object) self.now.base seat.new.known) }
-        ensures halted { OnErr result (Halts self.now seat.old seat.new) }
+        ensures { MakesFittingStep O.Object self.now seat.old seat.new result (λ _. (answers : List Answer) → TellsAnswers self.now.lines (O.lawful self.now.object) self.now.base (O.step self.now.object) seat.old.known (root_place_of self.now.callers code) answers → Raises self.now O.step O.only_reads code answers read.entry seat.old seat.new) }
     {
         let callers = self.callers;
         let reads = read.is_some();

@@ -2,12 +2,9 @@
 //! tickets are closed, scanned and opened. `Halt` comes exactly where the seat's steps equal its limit, and then nothing
 //! changes.
 
-ghost use Rattle.std.specs.Prelude.{OnErr, IfOk};
-ghost use Rattle.cx_core.specs.Events.{Guard};
 ghost use Rattle.cx_core.specs.declared.kinds.Kind.TheVariants.{Protect, Confirm, Unprotect, CloseLow, Scan, OpenFree};
-ghost use Rattle.cx_rule.specs.Running.{IsSeatOf, instance_at};
-ghost use Rattle.cx_rule.specs.Seats.{unseen};
-ghost use Rattle.cx_rule.specs.Steps.{Halts, Steps};
+ghost use Rattle.cx_rule.specs.Steps.{Steps};
+ghost use Rattle.cx_table.specs.Calls.{MakesStep, MayStep};
 
 use crate::events::Instruction;
 use crate::seat::CallerSeat;
@@ -19,10 +16,8 @@ use cx_core::layout::{FREE_AT, LOW_AT, MAX_WORD, need_at};
 impl<O: Object> Shared<O> {
     /// Stores in the caller's need that it needs the tickets from `p` on. It protects nothing before it is confirmed.
     pub fn protect(&self, seat: &mut CallerSeat, p: u64) -> Result<(), Halt>
-        requires seat { IsSeatOf self.now seat.old }
-        requires guard { Guard (instance_at self.now O.step O.only_reads) unseen (Protect p) seat.old.known.local }
-        ensures made { IfOk result (λ _. Steps self.now O.step O.only_reads (Protect p) 0 seat.old seat.new) }
-        ensures halted { OnErr result (Halts self.now seat.old seat.new) }
+        requires { MayStep O.Object self.now (Protect p) seat.old }
+        ensures { MakesStep self.now seat.old seat.new result (λ _. Steps self.now O.step O.only_reads (Protect p) 0 seat.old seat.new) }
     {
         let _ = &self.table;
         seat.summary.check()?;
@@ -36,10 +31,8 @@ impl<O: Object> Shared<O> {
     /// Loads LOW, which confirms the protection stated where it is at most its place: the tickets from there on are then not
     /// closed.
     pub fn confirm(&self, seat: &mut CallerSeat) -> Result<u64, Halt>
-        requires seat { IsSeatOf self.now seat.old }
-        requires guard { Guard (instance_at self.now O.step O.only_reads) unseen Confirm seat.old.known.local }
-        ensures made { IfOk result (λ found. Steps self.now O.step O.only_reads Confirm found seat.old seat.new) }
-        ensures halted { OnErr result (Halts self.now seat.old seat.new) }
+        requires { MayStep O.Object self.now Confirm seat.old }
+        ensures { MakesStep self.now seat.old seat.new result (λ found. Steps self.now O.step O.only_reads Confirm found seat.old seat.new) }
     {
         let _ = &self.table;
         seat.summary.check()?;
@@ -50,10 +43,8 @@ impl<O: Object> Shared<O> {
 
     /// Gives the caller's protection up: stores in its need that it needs no ticket.
     pub fn unprotect(&self, seat: &mut CallerSeat) -> Result<(), Halt>
-        requires seat { IsSeatOf self.now seat.old }
-        requires guard { Guard (instance_at self.now O.step O.only_reads) unseen Unprotect seat.old.known.local }
-        ensures made { IfOk result (λ _. Steps self.now O.step O.only_reads Unprotect 0 seat.old seat.new) }
-        ensures halted { OnErr result (Halts self.now seat.old seat.new) }
+        requires { MayStep O.Object self.now Unprotect seat.old }
+        ensures { MakesStep self.now seat.old seat.new result (λ _. Steps self.now O.step O.only_reads Unprotect 0 seat.old seat.new) }
     {
         let _ = &self.table;
         seat.summary.check()?;
@@ -66,10 +57,8 @@ impl<O: Object> Shared<O> {
     /// Raises LOW to a target, so that no protection below it is confirmed any more, and begins a scan of what the callers
     /// need. It gives the word found.
     pub fn close_low(&self, seat: &mut CallerSeat, target: u64) -> Result<u64, Halt>
-        requires seat { IsSeatOf self.now seat.old }
-        requires guard { Guard (instance_at self.now O.step O.only_reads) unseen (CloseLow target) seat.old.known.local }
-        ensures made { IfOk result (λ found. Steps self.now O.step O.only_reads (CloseLow target) found seat.old seat.new) }
-        ensures halted { OnErr result (Halts self.now seat.old seat.new) }
+        requires { MayStep O.Object self.now (CloseLow target) seat.old }
+        ensures { MakesStep self.now seat.old seat.new result (λ found. Steps self.now O.step O.only_reads (CloseLow target) found seat.old seat.new) }
     {
         let _ = &self.table;
         seat.summary.check()?;
@@ -81,10 +70,8 @@ impl<O: Object> Shared<O> {
 
     /// Loads the need of caller `d`, the next one of the caller's scan, which lowers the scan's bound to it.
     pub fn scan(&self, seat: &mut CallerSeat, d: u64) -> Result<u64, Halt>
-        requires seat { IsSeatOf self.now seat.old }
-        requires guard { Guard (instance_at self.now O.step O.only_reads) unseen (Scan d) seat.old.known.local }
-        ensures made { IfOk result (λ found. Steps self.now O.step O.only_reads (Scan d) found seat.old seat.new) }
-        ensures halted { OnErr result (Halts self.now seat.old seat.new) }
+        requires { MayStep O.Object self.now (Scan d) seat.old }
+        ensures { MakesStep self.now seat.old seat.new result (λ found. Steps self.now O.step O.only_reads (Scan d) found seat.old seat.new) }
     {
         let _ = &self.table;
         seat.summary.check()?;
@@ -98,10 +85,8 @@ impl<O: Object> Shared<O> {
     /// Raises FREE to the bound that the caller's scan of every need found, so that the cells of the tickets below it may be
     /// written again, and ends the scan. It gives the word found.
     pub fn open_free(&self, seat: &mut CallerSeat) -> Result<u64, Halt>
-        requires seat { IsSeatOf self.now seat.old }
-        requires guard { Guard (instance_at self.now O.step O.only_reads) unseen OpenFree seat.old.known.local }
-        ensures made { IfOk result (λ found. Steps self.now O.step O.only_reads OpenFree found seat.old seat.new) }
-        ensures halted { OnErr result (Halts self.now seat.old seat.new) }
+        requires { MayStep O.Object self.now OpenFree seat.old }
+        ensures { MakesStep self.now seat.old seat.new result (λ found. Steps self.now O.step O.only_reads OpenFree found seat.old seat.new) }
     {
         let _ = &self.table;
         seat.summary.check()?;

@@ -2,13 +2,12 @@
 //! publication that wins hands out the token of the win, and the call that retires it takes that. `Halt` comes exactly where
 //! the seat's steps equal its limit, and then nothing changes.
 
-ghost use Rattle.std.specs.Prelude.{OnErr, OnOk, IfOk};
+ghost use Rattle.std.specs.Prelude.{IfOk};
 ghost use Rattle.cx_core.specs.declared.kinds.Kind.TheVariants.{LoadCur, Publish, Retire};
-ghost use Rattle.cx_rule.specs.Fitting.{Fitting};
-ghost use Rattle.cx_rule.specs.Running.{IsSeatOf, instance_at};
-ghost use Rattle.cx_rule.specs.Seats.{SeenGuard};
-ghost use Rattle.cx_rule.specs.Steps.{Halts, Steps};
+ghost use Rattle.cx_rule.specs.Running.{IsSeatOf};
+ghost use Rattle.cx_rule.specs.Steps.{Steps};
 ghost use Rattle.cx_table.specs.Tokens.{HandsWon, IsDowngradedOf, IsWonOf, TriedPublish};
+ghost use Rattle.cx_table.specs.Calls.{MakesFittingStep, MakesStep, MayStep};
 
 use crate::events::Instruction;
 use crate::seat::CallerSeat;
@@ -21,10 +20,8 @@ use cx_core::layout::{CUR_AT, lock_at};
 impl<O: Object> Shared<O> {
     /// Loads CUR: the code of the replica that was published last, and of its place.
     pub fn load_cur(&self, seat: &mut CallerSeat) -> Result<u64, Halt>
-        requires seat { IsSeatOf self.now seat.old }
-        ensures made { IfOk result (λ found. Steps self.now O.step O.only_reads LoadCur found seat.old seat.new) }
-        ensures fits { OnOk result (Fitting self.now.lines (O.lawful self.now.object) self.now.base seat.new.known) }
-        ensures halted { OnErr result (Halts self.now seat.old seat.new) }
+        requires { IsSeatOf self.now seat.old }
+        ensures { MakesFittingStep O.Object self.now seat.old seat.new result (λ found. Steps self.now O.step O.only_reads LoadCur found seat.old seat.new) }
     {
         let _ = &self.table;
         seat.summary.check()?;
@@ -41,12 +38,10 @@ impl<O: Object> Shared<O> {
         seat: &mut CallerSeat,
         held: Downgraded,
     ) -> Result<(u64, Result<Won, Downgraded>), Halt>
-        requires seat { IsSeatOf self.now seat.old }
-        requires held { IsDowngradedOf self.now.callers seat.old held × SeenGuard (instance_at self.now O.step O.only_reads) Publish seat.old.known.local }
-        ensures made { IfOk result (λ x. Steps self.now O.step O.only_reads Publish x.0 seat.old seat.new) }
+        requires may { MayStep O.Object self.now Publish seat.old }
+        requires held { IsDowngradedOf self.now.callers seat.old held }
+        ensures step { MakesFittingStep O.Object self.now seat.old seat.new result (λ x. Steps self.now O.step O.only_reads Publish x.0 seat.old seat.new) }
         ensures token { IfOk result (λ x. TriedPublish self.now.callers seat.old held seat.new x.0 x.1) }
-        ensures fits { OnOk result (Fitting self.now.lines (O.lawful self.now.object) self.now.base seat.new.known) }
-        ensures halted { OnErr result (Halts self.now seat.old seat.new) }
     {
         seat.summary.check()?;
         let seen = seat.summary.seen_cur;
@@ -64,11 +59,9 @@ impl<O: Object> Shared<O> {
     /// Retires a win by whose code the caller raised DUR: subtracts 1 from the lock word of the replica of the code before.
     /// It gives the word found.
     pub fn retire(&self, seat: &mut CallerSeat, won: Won) -> Result<u64, Halt>
-        requires seat { IsSeatOf self.now seat.old }
+        requires may { MayStep O.Object self.now Retire seat.old }
         requires won { IsWonOf self.now.callers seat.old won }
-        requires guard { SeenGuard (instance_at self.now O.step O.only_reads) Retire seat.old.known.local }
-        ensures made { IfOk result (λ found. Steps self.now O.step O.only_reads Retire found seat.old seat.new) }
-        ensures halted { OnErr result (Halts self.now seat.old seat.new) }
+        ensures { MakesStep self.now seat.old seat.new result (λ found. Steps self.now O.step O.only_reads Retire found seat.old seat.new) }
     {
         let Won {
             code: _,

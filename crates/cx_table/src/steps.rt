@@ -1,13 +1,10 @@
 //! The step calls: each is one event of the core, of the seat's caller, on the words and local states that the table
 //! shows. `Halt` comes exactly where the seat's steps equal its limit, and then nothing changes.
 
-ghost use Rattle.std.specs.Prelude.{OnErr, OnOk, IfOk};
-ghost use Rattle.cx_core.specs.Events.{Guard};
 ghost use Rattle.cx_core.specs.declared.kinds.Kind.TheVariants.{WriteCell, Link, Look, ReadCell, LoadFree};
-ghost use Rattle.cx_rule.specs.Fitting.{Fitting};
-ghost use Rattle.cx_rule.specs.Running.{IsSeatOf, instance_at};
-ghost use Rattle.cx_rule.specs.Seats.{unseen};
-ghost use Rattle.cx_rule.specs.Steps.{Halts, Steps};
+ghost use Rattle.cx_rule.specs.Running.{IsSeatOf};
+ghost use Rattle.cx_rule.specs.Steps.{Steps};
+ghost use Rattle.cx_table.specs.Calls.{MakesFittingStep, MakesStep, MayStep};
 
 use crate::events::Instruction;
 use crate::seat::CallerSeat;
@@ -19,10 +16,8 @@ use cx_core::layout::{CELLS, FREE_AT, cell_at, cell_count, link_at};
 impl<O: Object> Shared<O> {
     /// Stores a word into a cell of the caller, which has to be idle.
     pub fn write_cell(&self, seat: &mut CallerSeat, j: u64, i: u64, v: u64) -> Result<(), Halt>
-        requires seat { IsSeatOf self.now seat.old }
-        requires guard { Guard (instance_at self.now O.step O.only_reads) unseen (WriteCell j i v) seat.old.known.local }
-        ensures made { IfOk result (λ _. Steps self.now O.step O.only_reads (WriteCell j i v) 0 seat.old seat.new) }
-        ensures halted { OnErr result (Halts self.now seat.old seat.new) }
+        requires { MayStep O.Object self.now (WriteCell j i v) seat.old }
+        ensures { MakesStep self.now seat.old seat.new result (λ _. Steps self.now O.step O.only_reads (WriteCell j i v) 0 seat.old seat.new) }
     {
         seat.summary.check()?;
         let kind = Kind::WriteCell { j, i, v };
@@ -37,10 +32,8 @@ impl<O: Object> Shared<O> {
     /// Tries to link the entry in a cell of the caller at the caller's front: a compare-exchange of the slot last looked at,
     /// from the word seen to the link code. It gives the word found, and won where that is the word seen.
     pub fn link(&self, seat: &mut CallerSeat, j: u64) -> Result<u64, Halt>
-        requires seat { IsSeatOf self.now seat.old }
-        requires guard { Guard (instance_at self.now O.step O.only_reads) unseen (Link j) seat.old.known.local }
-        ensures made { IfOk result (λ found. Steps self.now O.step O.only_reads (Link j) found seat.old seat.new) }
-        ensures halted { OnErr result (Halts self.now seat.old seat.new) }
+        requires { MayStep O.Object self.now (Link j) seat.old }
+        ensures { MakesStep self.now seat.old seat.new result (λ found. Steps self.now O.step O.only_reads (Link j) found seat.old seat.new) }
     {
         seat.summary.check()?;
         let kind = Kind::Link { j };
@@ -62,10 +55,8 @@ impl<O: Object> Shared<O> {
 
     /// Loads the word of a link slot.
     pub fn look(&self, seat: &mut CallerSeat, s: u64) -> Result<u64, Halt>
-        requires seat { IsSeatOf self.now seat.old }
-        requires guard { Guard (instance_at self.now O.step O.only_reads) unseen (Look s) seat.old.known.local }
-        ensures made { IfOk result (λ found. Steps self.now O.step O.only_reads (Look s) found seat.old seat.new) }
-        ensures halted { OnErr result (Halts self.now seat.old seat.new) }
+        requires { MayStep O.Object self.now (Look s) seat.old }
+        ensures { MakesStep self.now seat.old seat.new result (λ found. Steps self.now O.step O.only_reads (Look s) found seat.old seat.new) }
     {
         seat.summary.check()?;
         let kind = Kind::Look { s };
@@ -77,11 +68,8 @@ impl<O: Object> Shared<O> {
 
     /// Loads a word of the cell that the slot last looked at shows with a ticket, and notes it with the ticket.
     pub fn read_cell(&self, seat: &mut CallerSeat, t: u64, k: u64, i: u64) -> Result<u64, Halt>
-        requires seat { IsSeatOf self.now seat.old }
-        requires guard { Guard (instance_at self.now O.step O.only_reads) unseen (ReadCell t k i) seat.old.known.local }
-        ensures made { IfOk result (λ found. Steps self.now O.step O.only_reads (ReadCell t k i) found seat.old seat.new) }
-        ensures fits { OnOk result (Fitting self.now.lines (O.lawful self.now.object) self.now.base seat.new.known) }
-        ensures halted { OnErr result (Halts self.now seat.old seat.new) }
+        requires { MayStep O.Object self.now (ReadCell t k i) seat.old }
+        ensures { MakesFittingStep O.Object self.now seat.old seat.new result (λ found. Steps self.now O.step O.only_reads (ReadCell t k i) found seat.old seat.new) }
     {
         seat.summary.check()?;
         let kind = Kind::ReadCell { t, k, i };
@@ -93,9 +81,8 @@ impl<O: Object> Shared<O> {
 
     /// Loads FREE, the ticket below which cells may be written again.
     pub fn load_free(&self, seat: &mut CallerSeat) -> Result<u64, Halt>
-        requires seat { IsSeatOf self.now seat.old }
-        ensures made { IfOk result (λ found. Steps self.now O.step O.only_reads LoadFree found seat.old seat.new) }
-        ensures halted { OnErr result (Halts self.now seat.old seat.new) }
+        requires { IsSeatOf self.now seat.old }
+        ensures { MakesStep self.now seat.old seat.new result (λ found. Steps self.now O.step O.only_reads LoadFree found seat.old seat.new) }
     {
         let _ = &self.table;
         seat.summary.check()?;

@@ -1,12 +1,10 @@
 //! An entry is written into a cell before it is linked.
 
 ghost use Rattle.std.specs.Prelude.{◌≡◌, ◌≢◌, ◌∷◌, OnErr, OnOk, slice_index};
-ghost use Rattle.cx_core.specs.Events.{Guard};
 ghost use Rattle.cx_core.specs.QueueEvents.{cell_of, next_number};
 ghost use Rattle.cx_core.specs.declared.kinds.Kind.TheVariants.{WriteCell};
-ghost use Rattle.cx_table.specs.Running.{IsSeatOf, instance_at};
-ghost use Rattle.cx_table.specs.Seats.{unseen};
-ghost use Rattle.cx_table.specs.Steps.{Halts};
+ghost use Rattle.cx_table.specs.Calls.{MakesStep, MayStep};
+ghost use Rattle.cx_table.specs.Running.{IsSeatOf};
 ghost use Rattle.mutation_queue.specs.Cells.{Announces, HaltsIn, IsAnnounced, MayAnnounce, WritesDiffering};
 
 use cx_base::{Halt, Object};
@@ -45,11 +43,9 @@ fn write_differing<O: Object>(
     i: u64,
     v: u64,
 ) -> Result<(), Halt>
-    requires seat { IsSeatOf shared.now seat.old }
-    requires guard { Guard (instance_at shared.now O.step O.only_reads) unseen (WriteCell j i v) seat.old.known.local }
-    ensures made { OnOk result (WritesDiffering shared.now O.step O.only_reads j i v seat.old seat.new) }
+    requires { MayStep O.Object shared.now (WriteCell j i v) seat.old }
+    ensures step { MakesStep shared.now seat.old seat.new result (λ _. WritesDiffering shared.now O.step O.only_reads j i v seat.old seat.new) }
     ensures differs { OnErr result (slice_index (cell_of seat.old.known.local j).words i ≢ v) }
-    ensures halted { OnErr result (Halts shared.now seat.old seat.new) }
 {
     if seat.cell_word(j, i) == v {
         return Ok(());

@@ -2,8 +2,8 @@
 
 ghost use Rattle.std.specs.Prelude.{◌≤◌, ◌/◌, IfOk, OnErr, OnOk};
 ghost use Rattle.cx_core.specs.QueueEvents.{ShowsTicket};
+ghost use Rattle.cx_table.specs.Calls.{MakesStep};
 ghost use Rattle.cx_table.specs.Running.{IsSeatOf};
-ghost use Rattle.cx_table.specs.Steps.{Halts};
 ghost use Rattle.mutation_queue.specs.Entries.{HaltsAmong, HaltsReading, Looked, MayRead, NotesEntry, ReadsEntry, ReadsWords};
 
 use cx_base::{Halt, Object, link_cell};
@@ -36,8 +36,7 @@ pub fn entry<O: Object>(
 fn find_cell<O: Object>(shared: &Shared<O>, seat: &mut CallerSeat, ticket: u64) -> Result<u64, Halt>
     requires may { MayRead shared.now ticket seat.old }
     requires later { shared.now.base.place ≤ ticket }
-    ensures found { IfOk result (λ cell. Looked shared.now ticket cell seat.old seat.new) }
-    ensures halted { OnErr result (Halts shared.now seat.old seat.new) }
+    ensures { MakesStep shared.now seat.old seat.new result (λ cell. Looked shared.now ticket cell seat.old seat.new) }
 {
     let callers = shared.callers();
     let slot = ticket % cell_count(callers);

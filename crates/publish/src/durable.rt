@@ -1,13 +1,12 @@
 //! DUR is raised, by which alone callers are answered, and a win is retired.
 
-ghost use Rattle.std.specs.Prelude.{◌≤◌, List, OnErr, OnOk};
+ghost use Rattle.std.specs.Prelude.{◌≤◌, List};
 ghost use Rattle.cx_base.specs.Codes.{root_place_of};
 ghost use Rattle.cx_core.specs.declared.local.Answer.{Answer};
-ghost use Rattle.cx_core.specs.RootEvents.{CanRaise};
-ghost use Rattle.cx_core.specs.declared.kinds.Kind.TheVariants.{Retire};
+ghost use Rattle.cx_core.specs.declared.kinds.Kind.TheVariants.{Raise, Retire};
 ghost use Rattle.cx_rule.specs.Raises.{Raises, TellsAnswers, TellsReads, op_in};
-ghost use Rattle.cx_rule.specs.Running.{IsSeatOf, instance_at};
-ghost use Rattle.cx_rule.specs.Steps.{Halts};
+ghost use Rattle.cx_rule.specs.Running.{IsSeatOf};
+ghost use Rattle.cx_table.specs.Calls.{MakesStep, MayStep};
 ghost use Rattle.cx_table.specs.Tokens.{IsWonOf};
 ghost use Rattle.strong_trylock.specs.Ends.{MakesOne};
 
@@ -23,12 +22,10 @@ pub fn make_durable<O: Object>(
     code: u64,
     read: Option<AnsweredRead>,
 ) -> Result<(), Halt>
-    requires seat { IsSeatOf shared.now seat.old }
-    requires guard { CanRaise (instance_at shared.now O.step O.only_reads) code (op_in read) seat.old.known.local }
+    requires may { MayStep O.Object shared.now (Raise code (op_in read)) seat.old }
     requires told { (answers : List Answer) × TellsAnswers shared.now.lines (O.lawful shared.now.object) shared.now.base (O.step shared.now.object) seat.old.known (root_place_of shared.now.callers code) answers }
     requires reads { TellsReads shared.now.lines (O.lawful shared.now.object) shared.now.base (O.step shared.now.object) seat.old.known read }
-    ensures made { OnOk result ((answers : List Answer) → TellsAnswers shared.now.lines (O.lawful shared.now.object) shared.now.base (O.step shared.now.object) seat.old.known (root_place_of shared.now.callers code) answers → Raises shared.now O.step O.only_reads code answers read.entry seat.old seat.new) }
-    ensures halted { OnErr result (Halts shared.now seat.old seat.new) }
+    ensures { MakesStep shared.now seat.old seat.new result (λ _. (answers : List Answer) → TellsAnswers shared.now.lines (O.lawful shared.now.object) shared.now.base (O.step shared.now.object) seat.old.known (root_place_of shared.now.callers code) answers → Raises shared.now O.step O.only_reads code answers read.entry seat.old seat.new) }
 {
     shared.raise(seat, code, read)?;
     Ok(())
@@ -40,8 +37,7 @@ pub fn retire<O: Object>(shared: &Shared<O>, seat: &mut CallerSeat, won: Won) ->
     requires seat { IsSeatOf shared.now seat.old }
     requires won { IsWonOf shared.now.callers seat.old won }
     requires raised { won.code ≤ seat.old.known.local.raised }
-    ensures retired { OnOk result (MakesOne shared.now O.step O.only_reads Retire seat.old seat.new) }
-    ensures halted { OnErr result (Halts shared.now seat.old seat.new) }
+    ensures { MakesStep shared.now seat.old seat.new result (λ _. MakesOne shared.now O.step O.only_reads Retire seat.old seat.new) }
 {
     shared.retire(seat, won)?;
     Ok(())

@@ -7,7 +7,7 @@
 //!   `leaves`: `LeavesRest`). At most one refusal is met (its `most`), and the steps are at most as many as the code seen rose, and one
 //!   (`steps`), since each exchange that is lost found a later code.
 //! - Callers are answered by `make_durable` alone (`made`), and a win is retired once DUR was raised by its code: `retire` (`raised`,
-//!   `retired`).
+//!   `made`).
 #![tactic(auto)]
 
 mod durable;

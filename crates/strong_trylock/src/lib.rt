@@ -2,7 +2,7 @@
 //! answers the word that it found.
 //!
 //! - An exclusive try is one step. It answers `Held` exactly where the lock word found is not 0, with that word, which the seat keeps, and then
-//!   the caller has the rights that it had; else the token of the replica: `try_exclusive` (`tried`, `fits`, `halted`).
+//!   the caller has the rights that it had; else the token of the replica: `try_exclusive` (`made`, `fits`, `halted`).
 //! - A shared try answers `Held` exactly where the word found is 2^32 or more, with that word, which the seat keeps. Then a second step took
 //!   the passer's mark back, and the caller has the rights that it had; else it is one step and hands the hold out: `try_shared` (`tried`,
 //!   `fits`).
@@ -11,8 +11,8 @@
 //! - The local state after a try is that of the events made, with the word found: `made` and `back` of `TriesExclusive`, `TakesShared`,
 //!   `PassesBy`, `LeavesMark`.
 //! - A downgrade is one step, and the exclusive right is then a downgraded one on the same replica. A release, and the giving up of a shared or
-//!   a downgraded right, is one step that ends that right and no other: `downgrade` (`downgraded`), `release`, `release_shared`,
-//!   `release_downgraded` (`released`: `Ends`). Each halts exactly at the limit, with nothing changed: `halted`.
+//!   a downgraded right, is one step that ends that right and no other: `downgrade` (`made`: `Downgrades`), `release`, `release_shared`,
+//!   `release_downgraded` (`made`: `Ends`). Each halts exactly at the limit, with nothing changed: `halted`.
 //!
 //! Tested (`table_tests`): the lock words of two callers over four replicas; a right of each kind but a win begun and given up, and what the
 //! other caller then finds; each limit from 0 to 2 of a shared try that is refused, and the mark that is left with a limit of 1.

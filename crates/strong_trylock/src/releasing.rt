@@ -1,11 +1,11 @@
 //! Rights on replicas that are given up. `Halt` comes exactly where the seat's steps equal its limit, and then nothing
 //! changes: the right stands, and its token is gone, since the caller makes no further step.
 
-ghost use Rattle.std.specs.Prelude.{◌≡◌, None, IfOk, OnErr, OnOk};
+ghost use Rattle.std.specs.Prelude.{◌≡◌, None, OnOk};
 ghost use Rattle.cx_core.specs.declared.kinds.Kind.TheVariants.{BackOff, ReleaseExclusive};
 ghost use Rattle.cx_core.specs.LockEvents.{IsClean};
 ghost use Rattle.cx_table.specs.Fitting.{IsReplayed, IsReplayedToPlace};
-ghost use Rattle.cx_table.specs.Steps.{Halts};
+ghost use Rattle.cx_table.specs.Calls.{MakesStep};
 ghost use Rattle.cx_table.specs.Tokens.{IsDowngradedOf, IsExclusiveOf, IsSharedOf};
 ghost use Rattle.strong_trylock.specs.Ends.{Downgrades, Ends, but_downgraded};
 ghost use Rattle.strong_trylock.specs.Held.{Has, all_rights};
@@ -23,8 +23,7 @@ pub fn downgrade<O: Object>(
     requires held { Has IsExclusiveOf shared.now seat.old held }
     requires clean { IsClean shared.now.callers held.replica seat.old.known.local }
     requires replayed { IsReplayedToPlace shared.now.lines (O.lawful shared.now.object) shared.now.base (O.step shared.now.object) seat.old.known }
-    ensures downgraded { IfOk result (λ token. Downgrades shared.now O.step O.only_reads held.replica seat.old seat.new token) }
-    ensures halted { OnErr result (Halts shared.now seat.old seat.new) }
+    ensures { MakesStep shared.now seat.old seat.new result (λ token. Downgrades shared.now O.step O.only_reads held.replica seat.old seat.new token) }
 {
     let (_found, token) = shared.downgrade(seat, held)?;
     Ok(token)
@@ -40,8 +39,7 @@ pub fn release<O: Object>(
     requires held { Has IsExclusiveOf shared.now seat.old held }
     requires clean { IsClean shared.now.callers held.replica seat.old.known.local }
     requires replayed { IsReplayed shared.now.lines (O.lawful shared.now.object) shared.now.base (O.step shared.now.object) seat.old.known }
-    ensures released { OnOk result (Ends shared.now O.step O.only_reads (ReleaseExclusive held.replica) (record (all_rights seat.old) { exclusive = None }) seat.old seat.new) }
-    ensures halted { OnErr result (Halts shared.now seat.old seat.new) }
+    ensures { MakesStep shared.now seat.old seat.new result (λ _. Ends shared.now O.step O.only_reads (ReleaseExclusive held.replica) (record (all_rights seat.old) { exclusive = None }) seat.old seat.new) }
 {
     shared.release_exclusive(seat, held)?;
     Ok(())
@@ -54,8 +52,7 @@ pub fn release_shared<O: Object>(
     held: SharedHold,
 ) -> Result<(), Halt>
     requires held { Has IsSharedOf shared.now seat.old held }
-    ensures released { OnOk result (Ends shared.now O.step O.only_reads (BackOff held.replica) (record (all_rights seat.old) { shared = None }) seat.old seat.new) }
-    ensures halted { OnErr result (Halts shared.now seat.old seat.new) }
+    ensures { MakesStep shared.now seat.old seat.new result (λ _. Ends shared.now O.step O.only_reads (BackOff held.replica) (record (all_rights seat.old) { shared = None }) seat.old seat.new) }
 {
     shared.back_off(seat, SharedRight::Hold(held))?;
     Ok(())
@@ -68,9 +65,8 @@ pub fn release_downgraded<O: Object>(
     held: Downgraded,
 ) -> Result<(), Halt>
     requires held { Has IsDowngradedOf shared.now seat.old held }
-    ensures released { OnOk result (Ends shared.now O.step O.only_reads (BackOff held.replica) (record (all_rights seat.old) { downgraded = None }) seat.old seat.new) }
+    ensures step { MakesStep shared.now seat.old seat.new result (λ _. Ends shared.now O.step O.only_reads (BackOff held.replica) (record (all_rights seat.old) { downgraded = None }) seat.old seat.new) }
     ensures rest { OnOk result (but_downgraded seat.new ≡ but_downgraded seat.old) }
-    ensures halted { OnErr result (Halts shared.now seat.old seat.new) }
 {
     shared.back_off(seat, SharedRight::Downgraded(held))?;
     Ok(())

@@ -1,10 +1,9 @@
 //! Tries of a replica. Neither waits, and a refused one leaves no right.
 
 ghost use Rattle.std.specs.Prelude.{IfOk, OnErr, OnOk};
-ghost use Rattle.cx_core.specs.LockEvents.{CanTryExclusive, CanTryShared};
+ghost use Rattle.cx_core.specs.declared.kinds.Kind.TheVariants.{TryExclusive, TryShared};
+ghost use Rattle.cx_table.specs.Calls.{MakesFittingStep, MayStep};
 ghost use Rattle.cx_table.specs.Fitting.{Fitting};
-ghost use Rattle.cx_table.specs.Running.{IsSeatOf};
-ghost use Rattle.cx_table.specs.Steps.{Halts};
 ghost use Rattle.strong_trylock.specs.Tries.{HaltsShared, TriesExclusive, TriesShared};
 
 use cx_base::{Halt, Object};
@@ -35,11 +34,8 @@ pub fn try_exclusive<O: Object>(
     seat: &mut CallerSeat,
     r: u32,
 ) -> Result<ExclusiveTried, Halt>
-    requires seat { IsSeatOf shared.now seat.old }
-    requires free { CanTryExclusive shared.now.callers r seat.old.known.local }
-    ensures tried { IfOk result (λ tried. TriesExclusive shared.now O.step O.only_reads r seat.old seat.new tried) }
-    ensures fits { OnOk result (Fitting shared.now.lines (O.lawful shared.now.object) shared.now.base seat.new.known) }
-    ensures halted { OnErr result (Halts shared.now seat.old seat.new) }
+    requires { MayStep O.Object shared.now (TryExclusive r) seat.old }
+    ensures { MakesFittingStep O.Object shared.now seat.old seat.new result (λ tried. TriesExclusive shared.now O.step O.only_reads r seat.old seat.new tried) }
 {
     let (found, token) = shared.try_exclusive(seat, r as u64)?;
     match token {
@@ -57,8 +53,7 @@ pub fn try_shared<O: Object>(
     seat: &mut CallerSeat,
     r: u32,
 ) -> Result<SharedTried, Halt>
-    requires seat { IsSeatOf shared.now seat.old }
-    requires free { CanTryShared shared.now.callers r seat.old.known.local }
+    requires { MayStep O.Object shared.now (TryShared r) seat.old }
     ensures tried { IfOk result (λ tried. TriesShared shared.now O.step O.only_reads r seat.old seat.new tried) }
     ensures fits { OnOk result (Fitting shared.now.lines (O.lawful shared.now.object) shared.now.base seat.new.known) }
     ensures halted { OnErr result (HaltsShared shared.now O.step O.only_reads r seat.old seat.new) }

@@ -24,23 +24,20 @@ loop-i-init g c =
     let made = subst (λ j. Steps r g.O.Object.step g.O.Object.only_reads (WriteCell j 0 number) 0 s c.write_cell.new.seat) c.from-j.ensures c.in_ok-write_cell.ensures.made in
     has_first s c.args.cell words c.next_number-number.ensures.cells c.requires.may.few (omega (arith, c.told-op)) r g.O.Object.step g.O.Object.only_reads number c.write_cell.new.seat value made
 
-pub write_differing-requires-clause-seat : goal.write_differing-requires-clause-seat
-write_differing-requires-clause-seat g c =
+pub write_differing-requires : goal.write_differing-requires
+write_differing-requires g c =
     let s = c.args.seat.now in
     let words = next_number c.args.shared.now.base s.known.local ∷ c.args.op.now in
-    still_of s c.args.cell words c.next_number-number.ensures.cells c.requires.may.few (omega (arith, c.told-op)) c.args.shared.now c.loop-i.i c.loop-i.seat c.loop-i.invariant c.requires.may.of
-
-pub write_differing-requires-clause-guard : goal.write_differing-requires-clause-guard
-write_differing-requires-clause-guard g c =
-    let s = c.args.seat.now in
-    let words = next_number c.args.shared.now.base s.known.local ∷ c.args.op.now in
-    let below = c.loop-i-test.true in (
-      omega (arith, c.from-j.ensures, c.requires.may.few),
-      omega arith,
-      subst (λ j. IsIdle c.loop-i.seat.known.local j) (sym c.from-j.ensures)
-          (still_idle s c.args.cell words c.next_number-number.ensures.cells c.requires.may.few (omega (arith, c.told-op)) c.loop-i.i c.loop-i.seat c.loop-i.invariant),
-      c.fits-op c.loop-i.i,
-    )
+    let below = c.loop-i-test.true in record {
+      seat = still_of s c.args.cell words c.next_number-number.ensures.cells c.requires.may.few (omega (arith, c.told-op)) c.args.shared.now c.loop-i.i c.loop-i.seat c.loop-i.invariant c.requires.may.of;
+      guard = (
+        omega (arith, c.from-j.ensures, c.requires.may.few),
+        omega arith,
+        subst (λ j. IsIdle c.loop-i.seat.known.local j) (sym c.from-j.ensures)
+            (still_idle s c.args.cell words c.next_number-number.ensures.cells c.requires.may.few (omega (arith, c.told-op)) c.loop-i.i c.loop-i.seat c.loop-i.invariant),
+        c.fits-op c.loop-i.i,
+      );
+    }
 
 pub returns-in_err-write_differing-clause-halted : goal.returns-in_err-write_differing-clause-halted
 returns-in_err-write_differing-clause-halted g c =
@@ -51,7 +48,7 @@ returns-in_err-write_differing-clause-halted g c =
     let number = next_number c.args.shared.now.base s.known.local in
     let err = c.in_err-write_differing.ensures in
     let differs = subst (λ n. slice_index (cell_of t.known.local c.args.cell).words n ≡ slice_index op i → ⊥) (add-one i) (subst (λ j. slice_index (cell_of t.known.local j).words (i + 1) ≡ slice_index op i → ⊥) c.from-j.ensures err.differs) in
-    let halted = err.halted in
+    let halted = err.step.halted in
     on_err c.from_residual-in_err-write_differing.result _
     (halts_at s c.args.cell (number ∷ op) c.next_number-number.ensures.cells c.requires.may.few (omega (arith, c.told-op)) i t c.write_differing.new.seat (slice_index op i) c.loop-i-test.true
     refl c.loop-i.invariant differs halted.same halted.limit)
@@ -66,7 +63,7 @@ loop-i-preserved g c =
     let op = c.args.op.now in
     let number = next_number r.base s.known.local in
     let made = subst (λ n. WritesDiffering r g.O.Object.step g.O.Object.only_reads c.args.cell n (slice_index op i) t u) (add-one i)
-    (subst (λ j. WritesDiffering r g.O.Object.step g.O.Object.only_reads j (i + 1) (slice_index op i) t u) c.from-j.ensures c.in_ok-write_differing.ensures.made) in
+    (subst (λ j. WritesDiffering r g.O.Object.step g.O.Object.only_reads j (i + 1) (slice_index op i) t u) c.from-j.ensures c.in_ok-write_differing.ensures.step.made) in
     let more = has_more s c.args.cell (number ∷ op) c.next_number-number.ensures.cells c.requires.may.few (omega (arith, c.told-op)) r g.O.Object.step g.O.Object.only_reads i (slice_index op i) t u c.loop-i-test.true refl c.loop-i.invariant made in
     subst (λ n. HasTo c.args.cell (number ∷ op) n s u) (sym (add-one i)) more
 

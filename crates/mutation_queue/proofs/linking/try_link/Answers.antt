@@ -12,8 +12,8 @@ use Rattle.mutation_queue.proofs.Results.{on_err}
 use Rattle.mutation_queue.proofs.Tries.{finds_link, finds_loss, finds_open, front_stays, lost_to, may_link, none_open, past_front, shows_open, taken, wins, won_at}
 use Rattle.mutation_queue.proofs.linking.try_link.Goals as goal
 
-pub link-requires-clause-guard : goal.link-requires-clause-guard
-link-requires-clause-guard g c =
+pub link-requires : goal.link-requires
+link-requires g c =
     let instance = instance_at c.args.shared.now g.O.Object.step g.O.Object.only_reads in
     let s = c.args.seat.now in
     let l = s.known.local in
@@ -27,8 +27,11 @@ link-requires-clause-guard g c =
     let open_ = subst (λ n. 0 < seen → link_ticket_of n seen < l.front) c.callers-callers.ensures.value
     (subst (λ f. 0 < seen → link_ticket_of c.callers-callers.result seen < f) c.front-front.ensures.value c.if-is_taken.ensures) in
     let may = may_link instance l seen some told open_ c.args.cell c.requires.may.few c.requires.may.announced.idle c.requires.may.announced.number c.requires.front c.requires.may.answered in
-    subst (λ (x : Seated). Guard instance unseen (Link c.from.result) x.known.local) (sym looked)
-    (subst (λ n. Guard instance unseen (Link n) (shown_next instance (Look slot) l seen)) (sym c.from.ensures) may)
+    record {
+      seat = c.in_ok-seen.ensures.made.seat;
+      guard = subst (λ (x : Seated). Guard instance unseen (Link c.from.result) x.known.local) (sym looked)
+          (subst (λ n. Guard instance unseen (Link n) (shown_next instance (Look slot) l seen)) (sym c.from.ensures) may);
+    }
 
 pub returns-clause-tried : goal.returns-clause-tried
 returns-clause-tried g c =

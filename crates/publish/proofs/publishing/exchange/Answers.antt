@@ -9,5 +9,5 @@ returns-clause-leaves g c =
     let reads = g.O.Object.only_reads in
     let found = c.in_ok-_found._found in
     let e = c.in_ok-_found.ensures in
-    exchange_leaves t step reads found c.args.seat.now c.publish.new.seat e.made c.in_ok-_found.exchanged (omega (arith, c.requires.ready.token.few)) (omega arith) c.requires.below
-    (exchanged t step reads found c.args.seat.now c.publish.new.seat e.made c.args.held c.in_ok-_found.exchanged c.requires.ready.none e.token)
+    exchange_leaves t step reads found c.args.seat.now c.publish.new.seat e.step.made c.in_ok-_found.exchanged (omega (arith, c.requires.ready.token.few)) (omega arith) c.requires.below
+    (exchanged t step reads found c.args.seat.now c.publish.new.seat e.step.made c.args.held c.in_ok-_found.exchanged c.requires.ready.none e.token)

@@ -6,15 +6,15 @@ use Rattle.strong_trylock.specs.Tries.{AnswersExclusive}
 use Rattle.table_tests.proofs.Replays.{first_load, place_loaded}
 use Rattle.table_tests.proofs.trylocks.take_and_downgrade.Goals as goal
 
-pub load_word-requires-clause-guard : goal.load_word-requires-clause-guard
-load_word-requires-clause-guard c =
-    let tried = c.in_ok-held.ensures.tried in
+pub load_word-requires : goal.load_word-requires
+load_word-requires c =
+    let tried = c.in_ok-held.ensures.made in
     let answer = subst (AnswersExclusive c.args.shared.now.callers c.args.r tried.found c.args.seat.now c.try_exclusive.new.seat) c.in-Got.is tried.answer in
-    (c.requires.few, c.requires.words, inl (ap (λ (a : AllRights). a.exclusive) answer.3))
+    record { seat = tried.made.seat; guard = (c.requires.few, c.requires.words, inl (ap (λ (a : AllRights). a.exclusive) answer.3)) }
 
 pub downgrade-requires-clause-replayed : goal.downgrade-requires-clause-replayed
 downgrade-requires-clause-replayed c =
-    let tried = c.in_ok-held.ensures.tried in
+    let tried = c.in_ok-held.ensures.made in
     let answer = subst (AnswersExclusive c.args.shared.now.callers c.args.r tried.found c.args.seat.now c.try_exclusive.new.seat) c.in-Got.is tried.answer in
     let none = ap (λ (s : Seated). s.known.accesses) tried.made.made in
     let held = ap (λ (a : AllRights). a.exclusive) answer.3 in

@@ -6,4 +6,4 @@ use Rattle.table_tests.proofs.trylocks.take_and_release.Goals as goal
 
 pub release-requires-clause-replayed : goal.release-requires-clause-replayed
 release-requires-clause-replayed c =
-    just_taken c.args.shared.now.lines IsTally c.args.shared.now.base _ c.try_exclusive.new.seat.known (ap (λ (s : Seated). s.known.accesses) c.in_ok-held.ensures.tried.made.made)
+    just_taken c.args.shared.now.lines IsTally c.args.shared.now.base _ c.try_exclusive.new.seat.known (ap (λ (s : Seated). s.known.accesses) c.in_ok-held.ensures.made.made.made)

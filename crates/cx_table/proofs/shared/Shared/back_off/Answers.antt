@@ -24,8 +24,10 @@ invariant_of-seat g c =
     (step_made c.args.self.now g.O.Object.step g.O.Object.only_reads (BackOff c.replica_in-r.result) c.learned-found.result _ _ _ _ _ _ _ _ _ _ _ c.seat.invariant c.seat.view_is c.in_ok-check.ensures c.requires.seat (subst (λ (n : ℕ). CanBackOff c.args.self.now.callers n c.args.seat.now.known.local) (sym c.replica_in-r.ensures) (can_back_off c.args.self.now.callers c.args.seat.now c.args.right c.requires.right))
     c.learned-found.ensures.table c.learned-found.ensures.taught (ap (λ (r : Running _). r.callers) c.self.view_is) (c.back_off.ensures c.self.inside.callers.number c.learned-found.result) refl).0
 
-pub returns-clause-made : goal.returns-clause-made
-returns-clause-made g c =
-    steps_same (BackOff c.replica_in-r.result) (BackOff (replica_of c.args.right)) (ap (λ (n : ℕ). BackOff n) c.replica_in-r.ensures)
-    (step_made c.args.self.now g.O.Object.step g.O.Object.only_reads (BackOff c.replica_in-r.result) c.learned-found.result _ _ _ _ _ _ _ _ _ _ _ c.seat.invariant c.seat.view_is c.in_ok-check.ensures c.requires.seat (subst (λ (n : ℕ). CanBackOff c.args.self.now.callers n c.args.seat.now.known.local) (sym c.replica_in-r.ensures) (can_back_off c.args.self.now.callers c.args.seat.now c.args.right c.requires.right))
-    c.learned-found.ensures.table c.learned-found.ensures.taught (ap (λ (r : Running _). r.callers) c.self.view_is) (c.back_off.ensures c.self.inside.callers.number c.learned-found.result) refl).1
+pub returns : goal.returns
+returns g c = record {
+  made = steps_same (BackOff c.replica_in-r.result) (BackOff (replica_of c.args.right)) (ap (λ (n : ℕ). BackOff n) c.replica_in-r.ensures)
+      (step_made c.args.self.now g.O.Object.step g.O.Object.only_reads (BackOff c.replica_in-r.result) c.learned-found.result _ _ _ _ _ _ _ _ _ _ _ c.seat.invariant c.seat.view_is c.in_ok-check.ensures c.requires.seat (subst (λ (n : ℕ). CanBackOff c.args.self.now.callers n c.args.seat.now.known.local) (sym c.replica_in-r.ensures) (can_back_off c.args.self.now.callers c.args.seat.now c.args.right c.requires.right))
+      c.learned-found.ensures.table c.learned-found.ensures.taught (ap (λ (r : Running _). r.callers) c.self.view_is) (c.back_off.ensures c.self.inside.callers.number c.learned-found.result) refl).1;
+  halted = tt;
+}

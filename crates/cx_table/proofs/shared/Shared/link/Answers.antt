@@ -9,7 +9,9 @@ invariant_of-seat g c =
     (step_made c.args.self.now g.O.Object.step g.O.Object.only_reads (Link c.args.j) c.event-found.result _ _ _ _ _ _ _ _ _ _ _ c.seat.invariant c.seat.view_is c.in_ok-check.ensures c.requires.seat c.requires.guard
     c.event-found.ensures.table c.event-found.ensures.taught (ap (λ (r : Running _). r.callers) c.self.view_is) c.link.ensures refl).0
 
-pub returns-clause-made : goal.returns-clause-made
-returns-clause-made g c =
-    (step_made c.args.self.now g.O.Object.step g.O.Object.only_reads (Link c.args.j) c.event-found.result _ _ _ _ _ _ _ _ _ _ _ c.seat.invariant c.seat.view_is c.in_ok-check.ensures c.requires.seat c.requires.guard
-    c.event-found.ensures.table c.event-found.ensures.taught (ap (λ (r : Running _). r.callers) c.self.view_is) c.link.ensures refl).1
+pub returns : goal.returns
+returns g c = record {
+  made = (step_made c.args.self.now g.O.Object.step g.O.Object.only_reads (Link c.args.j) c.event-found.result _ _ _ _ _ _ _ _ _ _ _ c.seat.invariant c.seat.view_is c.in_ok-check.ensures c.requires.seat c.requires.guard
+      c.event-found.ensures.table c.event-found.ensures.taught (ap (λ (r : Running _). r.callers) c.self.view_is) c.link.ensures refl).1;
+  halted = tt;
+}

@@ -27,17 +27,16 @@ invariant_of-seat g c =
     (follows_same c.self.inside.callers.number c.learned-found.result c.seat.inside.summary c.load_word.new.self _ _ (ap (λ (b : Bool). LoadWord c.args.r c.args.i b) (c.is_refusal-refused.ensures (known_of c.seat.inside.seat.me.0).local c.seat.invariant.0.is)) (c.load_word.ensures c.self.inside.callers.number c.args.r c.args.i c.learned-found.result))
     (c.load.ensures ∙ ap (λ (b : Bool). cond b (record c.seat.inside.copy { place = cond (c.args.i == 0) c.learned-found.result c.seat.inside.copy.place }) c.seat.inside.copy) (c.is_at-held.ensures ∙ ap (λ (x : Summary). is_at c.args.r x.exclusive) c.seat.invariant.0.is))).0
 
-pub returns-clause-made : goal.returns-clause-made
-returns-clause-made g c =
-    steps_same _ _ (ap (λ (s : Seated). marked_load (instance_at c.args.self.now g.O.Object.step g.O.Object.only_reads) c.args.r c.args.i c.args.mark s.known.local c.learned-found.result) c.seat.view_is)
-    (step_made c.args.self.now g.O.Object.step g.O.Object.only_reads (marked_load (instance_at c.args.self.now g.O.Object.step g.O.Object.only_reads) c.args.r c.args.i c.args.mark (known_of c.seat.inside.seat.me.0).local c.learned-found.result) c.learned-found.result _ _ _ _ _ _ _ _ _ _ _ c.seat.invariant c.seat.view_is c.in_ok-check.ensures c.requires.seat c.requires.guard
-    c.learned-found.ensures.table c.learned-found.ensures.taught (ap (λ (r : Running _). r.callers) c.self.view_is)
-    (follows_same c.self.inside.callers.number c.learned-found.result c.seat.inside.summary c.load_word.new.self _ _ (ap (λ (b : Bool). LoadWord c.args.r c.args.i b) (c.is_refusal-refused.ensures (known_of c.seat.inside.seat.me.0).local c.seat.invariant.0.is)) (c.load_word.ensures c.self.inside.callers.number c.args.r c.args.i c.learned-found.result))
-    (c.load.ensures ∙ ap (λ (b : Bool). cond b (record c.seat.inside.copy { place = cond (c.args.i == 0) c.learned-found.result c.seat.inside.copy.place }) c.seat.inside.copy) (c.is_at-held.ensures ∙ ap (λ (x : Summary). is_at c.args.r x.exclusive) c.seat.invariant.0.is))).1
-
-pub returns-clause-fits : goal.returns-clause-fits
-returns-clause-fits g c =
-    step_fits g.O.Object.line_count g.O.Object.lawful g.O.Object.step g.O.Object.only_reads c.args.self.now (marked_load (instance_at c.args.self.now g.O.Object.step g.O.Object.only_reads) c.args.r c.args.i c.args.mark (known_of c.seat.inside.seat.me.0).local c.learned-found.result) _ c.learned-found.result _ (subst (IsRunning g.O.Object.line_count g.O.Object.lawful) c.self.view_is c.self.invariant.0)
-    (laws_at g.O.Object.line_count g.O.Object.lawful g.O.Object.step c.args.self.now (subst (IsRunning g.O.Object.line_count g.O.Object.lawful) c.self.view_is c.self.invariant.0)
-    g.met.O.Object.keeps (λ o image law. (g.met.O.Object.shape o image law).0) g.met.O.Object.replies)
-    c.learned-found.ensures.taught
+pub returns : goal.returns
+returns g c = record {
+  made = steps_same _ _ (ap (λ (s : Seated). marked_load (instance_at c.args.self.now g.O.Object.step g.O.Object.only_reads) c.args.r c.args.i c.args.mark s.known.local c.learned-found.result) c.seat.view_is)
+      (step_made c.args.self.now g.O.Object.step g.O.Object.only_reads (marked_load (instance_at c.args.self.now g.O.Object.step g.O.Object.only_reads) c.args.r c.args.i c.args.mark (known_of c.seat.inside.seat.me.0).local c.learned-found.result) c.learned-found.result _ _ _ _ _ _ _ _ _ _ _ c.seat.invariant c.seat.view_is c.in_ok-check.ensures c.requires.seat c.requires.guard
+      c.learned-found.ensures.table c.learned-found.ensures.taught (ap (λ (r : Running _). r.callers) c.self.view_is)
+      (follows_same c.self.inside.callers.number c.learned-found.result c.seat.inside.summary c.load_word.new.self _ _ (ap (λ (b : Bool). LoadWord c.args.r c.args.i b) (c.is_refusal-refused.ensures (known_of c.seat.inside.seat.me.0).local c.seat.invariant.0.is)) (c.load_word.ensures c.self.inside.callers.number c.args.r c.args.i c.learned-found.result))
+      (c.load.ensures ∙ ap (λ (b : Bool). cond b (record c.seat.inside.copy { place = cond (c.args.i == 0) c.learned-found.result c.seat.inside.copy.place }) c.seat.inside.copy) (c.is_at-held.ensures ∙ ap (λ (x : Summary). is_at c.args.r x.exclusive) c.seat.invariant.0.is))).1;
+  fits = step_fits g.O.Object.line_count g.O.Object.lawful g.O.Object.step g.O.Object.only_reads c.args.self.now (marked_load (instance_at c.args.self.now g.O.Object.step g.O.Object.only_reads) c.args.r c.args.i c.args.mark (known_of c.seat.inside.seat.me.0).local c.learned-found.result) _ c.learned-found.result _ (subst (IsRunning g.O.Object.line_count g.O.Object.lawful) c.self.view_is c.self.invariant.0)
+      (laws_at g.O.Object.line_count g.O.Object.lawful g.O.Object.step c.args.self.now (subst (IsRunning g.O.Object.line_count g.O.Object.lawful) c.self.view_is c.self.invariant.0)
+      g.met.O.Object.keeps (λ o image law. (g.met.O.Object.shape o image law).0) g.met.O.Object.replies)
+      c.learned-found.ensures.taught;
+  halted = tt;
+}

@@ -8,3 +8,10 @@ pub invariant_of-seat : goal.invariant_of-seat
 invariant_of-seat g c =
     (step_made c.args.self.now g.O.Object.step g.O.Object.only_reads OpenFree c.event-found.result _ _ _ _ _ _ _ _ _ _ _ c.seat.invariant c.seat.view_is c.in_ok-check.ensures c.requires.seat c.requires.guard
     c.event-found.ensures.table c.event-found.ensures.taught (ap (λ (r : Running _). r.callers) c.self.view_is) (c.open_free.ensures _) refl).0
+
+pub returns : goal.returns
+returns g c = record {
+  made = (step_made c.args.self.now g.O.Object.step g.O.Object.only_reads OpenFree c.event-found.result _ _ _ _ _ _ _ _ _ _ _ c.seat.invariant c.seat.view_is c.in_ok-check.ensures c.requires.seat c.requires.guard
+      c.event-found.ensures.table c.event-found.ensures.taught (ap (λ (r : Running _). r.callers) c.self.view_is) (c.open_free.ensures _) refl).1;
+  halted = tt;
+}

@@ -25,7 +25,9 @@ invariant_of-seat g c =
     (step_made c.args.self.now g.O.Object.step g.O.Object.only_reads (Persist c.args.r c.args.i) 0 _ _ _ _ _ _ _ _ _ _ _ c.seat.invariant c.seat.view_is c.in_ok-check.ensures c.requires.seat c.requires.guard
     c.store_learned.ensures.table c.store_learned.ensures.taught (ap (λ (r : Running _). r.callers) c.self.view_is) (c.write_word.ensures.persisted _ c.args.r c.args.i 0) c.persist.ensures).0
 
-pub returns-clause-made : goal.returns-clause-made
-returns-clause-made g c =
-    (step_made c.args.self.now g.O.Object.step g.O.Object.only_reads (Persist c.args.r c.args.i) 0 _ _ _ _ _ _ _ _ _ _ _ c.seat.invariant c.seat.view_is c.in_ok-check.ensures c.requires.seat c.requires.guard
-    c.store_learned.ensures.table c.store_learned.ensures.taught (ap (λ (r : Running _). r.callers) c.self.view_is) (c.write_word.ensures.persisted _ c.args.r c.args.i 0) c.persist.ensures).1
+pub returns : goal.returns
+returns g c = record {
+  made = (step_made c.args.self.now g.O.Object.step g.O.Object.only_reads (Persist c.args.r c.args.i) 0 _ _ _ _ _ _ _ _ _ _ _ c.seat.invariant c.seat.view_is c.in_ok-check.ensures c.requires.seat c.requires.guard
+      c.store_learned.ensures.table c.store_learned.ensures.taught (ap (λ (r : Running _). r.callers) c.self.view_is) (c.write_word.ensures.persisted _ c.args.r c.args.i 0) c.persist.ensures).1;
+  halted = tt;
+}

@@ -38,13 +38,19 @@ invariant_of-seat g c =
     c.subtract_copied-found.ensures.table c.subtract_copied-found.ensures.taught (ap (λ (r : Running _). r.callers) c.self.view_is) (c.back_off.ensures c.self.inside.callers.number c.subtract_copied-found.result) c.requires.copied.agree
     (region_some (subst (IsRunning g.O.Object.line_count g.O.Object.lawful) c.self.view_is c.self.invariant.0))).0
 
-pub returns-clause-made : goal.returns-clause-made
-returns-clause-made g c =
-    copied_same (ap (λ (x : Right). x.replica) c.source.view_is)
-    (copied_made c.args.self.now g.O.Object.step g.O.Object.only_reads c.source.inside.replica c.subtract_copied-found.result _ _ _ _ c.seat.inside.copy _ _ _ _ _ c.seat.invariant c.seat.view_is c.in_ok-check.ensures c.requires.seat
-    (subst (λ (x : Right). CanBackOff c.args.self.now.callers x.replica c.args.seat.now.known.local) (sym c.source.view_is) (c.requires.copied.source.few, inl c.requires.copied.source.holds))
-    c.subtract_copied-found.ensures.table c.subtract_copied-found.ensures.taught (ap (λ (r : Running _). r.callers) c.self.view_is) (c.back_off.ensures c.self.inside.callers.number c.subtract_copied-found.result) c.requires.copied.agree
-    (region_some (subst (IsRunning g.O.Object.line_count g.O.Object.lawful) c.self.view_is c.self.invariant.0))).1
+pub returns-clause-step : goal.returns-clause-step
+returns-clause-step g c = record {
+  made = copied_same (ap (λ (x : Right). x.replica) c.source.view_is)
+      (copied_made c.args.self.now g.O.Object.step g.O.Object.only_reads c.source.inside.replica c.subtract_copied-found.result _ _ _ _ c.seat.inside.copy _ _ _ _ _ c.seat.invariant c.seat.view_is c.in_ok-check.ensures c.requires.seat
+      (subst (λ (x : Right). CanBackOff c.args.self.now.callers x.replica c.args.seat.now.known.local) (sym c.source.view_is) (c.requires.copied.source.few, inl c.requires.copied.source.holds))
+      c.subtract_copied-found.ensures.table c.subtract_copied-found.ensures.taught (ap (λ (r : Running _). r.callers) c.self.view_is) (c.back_off.ensures c.self.inside.callers.number c.subtract_copied-found.result) c.requires.copied.agree
+      (region_some (subst (IsRunning g.O.Object.line_count g.O.Object.lawful) c.self.view_is c.self.invariant.0))).1;
+  fits = copied_fits g.O.Object.line_count g.O.Object.lawful g.O.Object.step g.O.Object.only_reads c.args.self.now _ _ _ _ (subst (IsRunning g.O.Object.line_count g.O.Object.lawful) c.self.view_is c.self.invariant.0)
+      (laws_at g.O.Object.line_count g.O.Object.lawful g.O.Object.step c.args.self.now (subst (IsRunning g.O.Object.line_count g.O.Object.lawful) c.self.view_is c.self.invariant.0)
+      g.met.O.Object.keeps (λ o image law. (g.met.O.Object.shape o image law).0) g.met.O.Object.replies)
+      c.subtract_copied-found.ensures.taught;
+  halted = tt;
+}
 
 pub returns-clause-held : goal.returns-clause-held
 returns-clause-held g c =
@@ -54,10 +60,3 @@ returns-clause-held g c =
     c.subtract_copied-found.ensures.table c.subtract_copied-found.ensures.taught (ap (λ (r : Running _). r.callers) c.self.view_is) (c.back_off.ensures c.self.inside.callers.number c.subtract_copied-found.result) c.requires.copied.agree
     (region_some (subst (IsRunning g.O.Object.line_count g.O.Object.lawful) c.self.view_is c.self.invariant.0))).1
     c.requires.copied.held
-
-pub returns-clause-fits : goal.returns-clause-fits
-returns-clause-fits g c =
-    copied_fits g.O.Object.line_count g.O.Object.lawful g.O.Object.step g.O.Object.only_reads c.args.self.now _ _ _ _ (subst (IsRunning g.O.Object.line_count g.O.Object.lawful) c.self.view_is c.self.invariant.0)
-    (laws_at g.O.Object.line_count g.O.Object.lawful g.O.Object.step c.args.self.now (subst (IsRunning g.O.Object.line_count g.O.Object.lawful) c.self.view_is c.self.invariant.0)
-    g.met.O.Object.keeps (λ o image law. (g.met.O.Object.shape o image law).0) g.met.O.Object.replies)
-    c.subtract_copied-found.ensures.taught

@@ -18,17 +18,19 @@ learned-found-requires-clause-learns g c =
     (laws_at g.O.Object.line_count g.O.Object.lawful g.O.Object.step c.args.self.now (subst (IsRunning g.O.Object.line_count g.O.Object.lawful) c.self.view_is c.self.invariant.0)
     g.met.O.Object.keeps (λ o image law. (g.met.O.Object.shape o image law).0) g.met.O.Object.replies)
     (subst (IsRunning g.O.Object.line_count g.O.Object.lawful) c.self.view_is c.self.invariant.0).base c.held.inside.replica (known_of c.seat.inside.seat.me.0) _
-    (subst (λ (n : ℕ). IsClean t.callers n (known_of c.seat.inside.seat.me.0).local) (sym (ap (λ (x : Right). x.replica) c.held.view_is)) (subst (λ (s : Seated). IsClean t.callers c.args.held.replica s.known.local) (sym c.seat.view_is) c.requires.guard))
+    (subst (λ (n : ℕ). IsClean t.callers n (known_of c.seat.inside.seat.me.0).local) (sym (ap (λ (x : Right). x.replica) c.held.view_is)) (subst (λ (s : Seated). IsClean t.callers c.args.held.replica s.known.local) (sym c.seat.view_is) c.requires.may.guard))
     (c.lock_at-word.ensures ∙ ap (λ (r : Running _). lock_at r.callers c.held.inside.replica) c.self.view_is)
     (subst (λ (s : Seated). IsReplayed t.lines (g.O.Object.lawful t.object) t.base (g.O.Object.step t.object) s.known) (sym c.seat.view_is) c.requires.replayed)
 
 pub invariant_of-seat : goal.invariant_of-seat
 invariant_of-seat g c =
-    (step_made c.args.self.now g.O.Object.step g.O.Object.only_reads (ReleaseExclusive c.held.inside.replica) c.learned-found.result _ _ _ _ _ _ _ _ _ _ _ c.seat.invariant c.seat.view_is c.in_ok-check.ensures c.requires.seat (subst (λ (n : ℕ). IsClean c.args.self.now.callers n c.args.seat.now.known.local) (sym (ap (λ (x : Right). x.replica) c.held.view_is)) c.requires.guard)
+    (step_made c.args.self.now g.O.Object.step g.O.Object.only_reads (ReleaseExclusive c.held.inside.replica) c.learned-found.result _ _ _ _ _ _ _ _ _ _ _ c.seat.invariant c.seat.view_is c.in_ok-check.ensures c.requires.may.seat (subst (λ (n : ℕ). IsClean c.args.self.now.callers n c.args.seat.now.known.local) (sym (ap (λ (x : Right). x.replica) c.held.view_is)) c.requires.may.guard)
     c.learned-found.ensures.table c.learned-found.ensures.taught (ap (λ (r : Running _). r.callers) c.self.view_is) (c.release_exclusive.ensures _ c.held.inside.replica c.learned-found.result) refl).0
 
-pub returns-clause-made : goal.returns-clause-made
-returns-clause-made g c =
-    steps_same (ReleaseExclusive c.held.inside.replica) (ReleaseExclusive c.args.held.replica) (ap (λ (n : ℕ). ReleaseExclusive n) (ap (λ (x : Right). x.replica) c.held.view_is))
-    (step_made c.args.self.now g.O.Object.step g.O.Object.only_reads (ReleaseExclusive c.held.inside.replica) c.learned-found.result _ _ _ _ _ _ _ _ _ _ _ c.seat.invariant c.seat.view_is c.in_ok-check.ensures c.requires.seat (subst (λ (n : ℕ). IsClean c.args.self.now.callers n c.args.seat.now.known.local) (sym (ap (λ (x : Right). x.replica) c.held.view_is)) c.requires.guard)
-    c.learned-found.ensures.table c.learned-found.ensures.taught (ap (λ (r : Running _). r.callers) c.self.view_is) (c.release_exclusive.ensures _ c.held.inside.replica c.learned-found.result) refl).1
+pub returns : goal.returns
+returns g c = record {
+  made = steps_same (ReleaseExclusive c.held.inside.replica) (ReleaseExclusive c.args.held.replica) (ap (λ (n : ℕ). ReleaseExclusive n) (ap (λ (x : Right). x.replica) c.held.view_is))
+      (step_made c.args.self.now g.O.Object.step g.O.Object.only_reads (ReleaseExclusive c.held.inside.replica) c.learned-found.result _ _ _ _ _ _ _ _ _ _ _ c.seat.invariant c.seat.view_is c.in_ok-check.ensures c.requires.may.seat (subst (λ (n : ℕ). IsClean c.args.self.now.callers n c.args.seat.now.known.local) (sym (ap (λ (x : Right). x.replica) c.held.view_is)) c.requires.may.guard)
+      c.learned-found.ensures.table c.learned-found.ensures.taught (ap (λ (r : Running _). r.callers) c.self.view_is) (c.release_exclusive.ensures _ c.held.inside.replica c.learned-found.result) refl).1;
+  halted = tt;
+}

@@ -15,7 +15,7 @@ pub learned-found-requires-clause-learns : goal.learned-found-requires-clause-le
 learned-found-requires-clause-learns g c = λ words within.
     let t = c.args.self.now in
     let known = known_of c.seat.inside.seat.me.0 in
-    let can = subst (λ (s : Seated). CanRetire s.known.local.raised s.known.local.won) (sym c.seat.view_is) c.requires.guard in
+    let can = subst (λ (s : Seated). CanRetire s.known.local.raised s.known.local.won) (sym c.seat.view_is) c.requires.may.guard in
     let holds : known.local.won ≡ Some (record { code = c.args.won.code; before = c.args.won.before }) =
     subst (λ (s : Seated). s.known.local.won ≡ Some (record { code = c.args.won.code; before = c.args.won.before })) (sym c.seat.view_is) c.requires.won.holds in
     learns_shown (instance_at t g.O.Object.step g.O.Object.only_reads) Retire known words _ _ tt tt can
@@ -28,5 +28,12 @@ learned-found-requires-clause-learns g c = λ words within.
 
 pub invariant_of-seat : goal.invariant_of-seat
 invariant_of-seat g c =
-    (step_made c.args.self.now g.O.Object.step g.O.Object.only_reads Retire c.learned-found.result _ _ _ _ _ _ _ _ _ _ _ c.seat.invariant c.seat.view_is c.in_ok-check.ensures c.requires.seat c.requires.guard
+    (step_made c.args.self.now g.O.Object.step g.O.Object.only_reads Retire c.learned-found.result _ _ _ _ _ _ _ _ _ _ _ c.seat.invariant c.seat.view_is c.in_ok-check.ensures c.requires.may.seat c.requires.may.guard
     c.learned-found.ensures.table c.learned-found.ensures.taught (ap (λ (r : Running _). r.callers) c.self.view_is) (c.retire.ensures c.self.inside.callers.number c.learned-found.result) refl).0
+
+pub returns : goal.returns
+returns g c = record {
+  made = (step_made c.args.self.now g.O.Object.step g.O.Object.only_reads Retire c.learned-found.result _ _ _ _ _ _ _ _ _ _ _ c.seat.invariant c.seat.view_is c.in_ok-check.ensures c.requires.may.seat c.requires.may.guard
+      c.learned-found.ensures.table c.learned-found.ensures.taught (ap (λ (r : Running _). r.callers) c.self.view_is) (c.retire.ensures c.self.inside.callers.number c.learned-found.result) refl).1;
+  halted = tt;
+}

@@ -10,14 +10,13 @@ invariant_of-seat g c =
     (step_made c.args.self.now g.O.Object.step g.O.Object.only_reads (StoreWord c.args.r c.args.i c.args.v) 0 _ _ _ _ _ _ _ _ _ _ _ c.seat.invariant c.seat.view_is c.in_ok-check.ensures c.requires.seat c.requires.guard
     c.store_event.ensures.table c.store_event.ensures.taught (ap (λ (r : Running _). r.callers) c.self.view_is) (c.write_word.ensures.stored _ c.args.r c.args.i c.args.v 0) c.store.ensures).0
 
-pub returns-clause-made : goal.returns-clause-made
-returns-clause-made g c =
-    (step_made c.args.self.now g.O.Object.step g.O.Object.only_reads (StoreWord c.args.r c.args.i c.args.v) 0 _ _ _ _ _ _ _ _ _ _ _ c.seat.invariant c.seat.view_is c.in_ok-check.ensures c.requires.seat c.requires.guard
-    c.store_event.ensures.table c.store_event.ensures.taught (ap (λ (r : Running _). r.callers) c.self.view_is) (c.write_word.ensures.stored _ c.args.r c.args.i c.args.v 0) c.store.ensures).1
-
-pub returns-clause-fits : goal.returns-clause-fits
-returns-clause-fits g c =
-    step_fits g.O.Object.line_count g.O.Object.lawful g.O.Object.step g.O.Object.only_reads c.args.self.now (StoreWord c.args.r c.args.i c.args.v) _ 0 _ (subst (IsRunning g.O.Object.line_count g.O.Object.lawful) c.self.view_is c.self.invariant.0)
-    (laws_at g.O.Object.line_count g.O.Object.lawful g.O.Object.step c.args.self.now (subst (IsRunning g.O.Object.line_count g.O.Object.lawful) c.self.view_is c.self.invariant.0)
-    g.met.O.Object.keeps (λ o image law. (g.met.O.Object.shape o image law).0) g.met.O.Object.replies)
-    c.store_event.ensures.taught
+pub returns : goal.returns
+returns g c = record {
+  made = (step_made c.args.self.now g.O.Object.step g.O.Object.only_reads (StoreWord c.args.r c.args.i c.args.v) 0 _ _ _ _ _ _ _ _ _ _ _ c.seat.invariant c.seat.view_is c.in_ok-check.ensures c.requires.seat c.requires.guard
+      c.store_event.ensures.table c.store_event.ensures.taught (ap (λ (r : Running _). r.callers) c.self.view_is) (c.write_word.ensures.stored _ c.args.r c.args.i c.args.v 0) c.store.ensures).1;
+  fits = step_fits g.O.Object.line_count g.O.Object.lawful g.O.Object.step g.O.Object.only_reads c.args.self.now (StoreWord c.args.r c.args.i c.args.v) _ 0 _ (subst (IsRunning g.O.Object.line_count g.O.Object.lawful) c.self.view_is c.self.invariant.0)
+      (laws_at g.O.Object.line_count g.O.Object.lawful g.O.Object.step c.args.self.now (subst (IsRunning g.O.Object.line_count g.O.Object.lawful) c.self.view_is c.self.invariant.0)
+      g.met.O.Object.keeps (λ o image law. (g.met.O.Object.shape o image law).0) g.met.O.Object.replies)
+      c.store_event.ensures.taught;
+  halted = tt;
+}

@@ -11,20 +11,19 @@ invariant_of-seat g c =
     (step_made c.args.self.now g.O.Object.step g.O.Object.only_reads (TryExclusive c.args.r) c.event-found.result _ _ _ _ _ _ _ _ _ _ _ c.seat.invariant c.seat.view_is c.in_ok-check.ensures c.requires.seat c.requires.guard
     c.event-found.ensures.table c.event-found.ensures.taught (ap (λ (r : Running _). r.callers) c.self.view_is) (c.try_exclusive.ensures) c.begin.ensures).0
 
-pub returns-clause-made : goal.returns-clause-made
-returns-clause-made g c =
-    (step_made c.args.self.now g.O.Object.step g.O.Object.only_reads (TryExclusive c.args.r) c.event-found.result _ _ _ _ _ _ _ _ _ _ _ c.seat.invariant c.seat.view_is c.in_ok-check.ensures c.requires.seat c.requires.guard
-    c.event-found.ensures.table c.event-found.ensures.taught (ap (λ (r : Running _). r.callers) c.self.view_is) (c.try_exclusive.ensures) c.begin.ensures).1
+pub returns-clause-step : goal.returns-clause-step
+returns-clause-step g c = record {
+  made = (step_made c.args.self.now g.O.Object.step g.O.Object.only_reads (TryExclusive c.args.r) c.event-found.result _ _ _ _ _ _ _ _ _ _ _ c.seat.invariant c.seat.view_is c.in_ok-check.ensures c.requires.seat c.requires.guard
+      c.event-found.ensures.table c.event-found.ensures.taught (ap (λ (r : Running _). r.callers) c.self.view_is) (c.try_exclusive.ensures) c.begin.ensures).1;
+  fits = step_fits g.O.Object.line_count g.O.Object.lawful g.O.Object.step g.O.Object.only_reads c.args.self.now (TryExclusive c.args.r) _ c.event-found.result _ (subst (IsRunning g.O.Object.line_count g.O.Object.lawful) c.self.view_is c.self.invariant.0)
+      (laws_at g.O.Object.line_count g.O.Object.lawful g.O.Object.step c.args.self.now (subst (IsRunning g.O.Object.line_count g.O.Object.lawful) c.self.view_is c.self.invariant.0)
+      g.met.O.Object.keeps (λ o image law. (g.met.O.Object.shape o image law).0) g.met.O.Object.replies)
+      c.event-found.ensures.taught;
+  halted = tt;
+}
 
 pub returns-clause-token : goal.returns-clause-token
 returns-clause-token g c =
     let made = (step_made c.args.self.now g.O.Object.step g.O.Object.only_reads (TryExclusive c.args.r) c.event-found.result _ _ _ _ _ _ _ _ _ _ _ c.seat.invariant c.seat.view_is c.in_ok-check.ensures c.requires.seat c.requires.guard
     c.event-found.ensures.table c.event-found.ensures.taught (ap (λ (r : Running _). r.callers) c.self.view_is) (c.try_exclusive.ensures) c.begin.ensures) in
     tried_exclusive c.args.self.now g.O.Object.step g.O.Object.only_reads c.args.r _ c.event-found.result _ _ c.requires.guard.0 (ap (λ (m : Summary). m.number) made.0.0.is) _ made.1 c.exclusive_token.ensures
-
-pub returns-clause-fits : goal.returns-clause-fits
-returns-clause-fits g c =
-    step_fits g.O.Object.line_count g.O.Object.lawful g.O.Object.step g.O.Object.only_reads c.args.self.now (TryExclusive c.args.r) _ c.event-found.result _ (subst (IsRunning g.O.Object.line_count g.O.Object.lawful) c.self.view_is c.self.invariant.0)
-    (laws_at g.O.Object.line_count g.O.Object.lawful g.O.Object.step c.args.self.now (subst (IsRunning g.O.Object.line_count g.O.Object.lawful) c.self.view_is c.self.invariant.0)
-    g.met.O.Object.keeps (λ o image law. (g.met.O.Object.shape o image law).0) g.met.O.Object.replies)
-    c.event-found.ensures.taught

@@ -1,0 +1,24 @@
+-- What a step call needs of its seat, and what it leaves.
+use Rattle.std.specs.Prelude.{IfOk, OnErr, OnOk, Result}
+use Rattle.cx_base.specs.declared.object.Object.{Ghosts}
+use Rattle.cx_core.specs.declared.kinds.Kind.{Kind}
+use Rattle.cx_rule.specs.Fitting.{Fitting}
+use Rattle.cx_rule.specs.Running.{IsSeatOf, Running, instance_at}
+use Rattle.cx_rule.specs.Seats.{Seated, SeenGuard}
+use Rattle.cx_rule.specs.Steps.{Halts}
+
+-- the seat is one of this table, and as far as it shows, its caller may make a step of this kind
+pub record MayStep {O : Type 0} (o : Ghosts O) (r : Running O) (kind : Kind) (s : Seated) : Type 0 where
+  pub seat : IsSeatOf r s
+  pub guard : SeenGuard (instance_at r o.step o.only_reads) kind s.known.local
+
+-- What a step call leaves: this of the step that it made, or nothing is changed, since the steps equal the limit.
+pub record MakesStep {O A E : Type 0} (r : Running O) (before after : Seated) (result : Result A E) (Made : A → Type 0) : Type 0 where
+  pub made : IfOk result Made
+  pub halted : OnErr result (Halts r before after)
+
+-- the same of a step that tells besides that some pair of words fits what its caller noted
+pub record MakesFittingStep {O A E : Type 0} (o : Ghosts O) (r : Running O) (before after : Seated) (result : Result A E) (Made : A → Type 0) : Type 0 where
+  pub made : IfOk result Made
+  pub fits : OnOk result (Fitting r.lines (o.lawful r.object) r.base after.known)
+  pub halted : OnErr result (Halts r before after)
