@@ -14,11 +14,11 @@ returns-clause-renewed g c =
     let last = c.release_copied.new.seat in
     let copied = c.in_ok-place.ensures.copied in
     let both = c.in_ok-place.ensures.leaves.both in
-    let made = c.in_ok-release_copied.ensures.made in
+    let made = c.in_ok-release_copied.ensures.step.made in
     let image = renewed_image lines t step reads lawful c.args.held.now c.args.source found mid last both made copied.agree in
     record {
       ready = record {
-        is_held = renewed_held lines t step reads lawful c.args.held.now c.args.source found mid last both made c.in_ok-release_copied.ensures.held c.in_ok-release_copied.ensures.fits;
+        is_held = renewed_held lines t step reads lawful c.args.held.now c.args.source found mid last both made c.in_ok-release_copied.ensures.held c.in_ok-release_copied.ensures.step.fits;
         image = image.0;
         place = image.1 ∙ copied.place;
       };
