@@ -31,7 +31,7 @@ pub returns-clause-answered : goal.returns-clause-answered
 returns-clause-answered g c ticket reply published =
     let r = c.args.shared.now in
     let by = c.in_ok-answer.ensures.answered ticket reply (subst (λ n. IsPublishedFor g.O.Object r n ticket reply c.args.seat.now) (sym c.code.ensures) published) in
-    let made = c.in_ok-retire.ensures.retired in
+    let made = c.in_ok-retire.ensures.made in
     retired_answers g.O.Object r c.code.result ticket reply c.args.seat.now c.answer.new.seat by made.found c.retire.new.seat made.made published.rest published.ended
 
 pub returns-clause-leaves : goal.returns-clause-leaves
@@ -39,5 +39,5 @@ returns-clause-leaves g c =
     let r = c.args.shared.now in
     let (ticket, reply, published) = c.requires.published in
     let by = c.in_ok-answer.ensures.answered ticket reply (subst (λ n. IsPublishedFor g.O.Object r n ticket reply c.args.seat.now) (sym c.code.ensures) published) in
-    let made = c.in_ok-retire.ensures.retired in
+    let made = c.in_ok-retire.ensures.made in
     retired_leaves g.O.Object r c.code.result ticket reply c.args.seat.now c.answer.new.seat by made.found c.retire.new.seat made.made
