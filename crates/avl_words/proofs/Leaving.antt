@@ -19,7 +19,7 @@ use Rattle.avl_words.proofs.Hanging.{whole_times, mended_times}
 use Rattle.avl_words.proofs.Putting.{spine_of, low_way}
 use Rattle.avl_words.proofs.Taking.{gone_hung, gone_settled, least_is_there, times_both}
 use Rattle.avl_words.proofs.Relinking.{settled_of}
-use Rattle.avl_words.proofs.Walks.{stands_at, noted_set, spot_depth}
+use Rattle.avl_words.proofs.Walks.{stands_at, noted_set}
 
 -- the node of a turn noted is another
 noted_below : (nodes sides : List ℕ) (way : List (Turn ℕ)) (d a : ℕ) → length way ≤ d → IsNoted nodes sides way → IsNoted (set nodes d a) sides way
@@ -327,9 +327,6 @@ node_there ws nodes sides depth node c =
     at_root : (here : Tree ℕ) → Stands ws here → node ≡ root here → node ≢ 0 → IsWithin ws node
     at_root Empty s e n = absurd (n e)
     at_root (Node l x r) s e n = subst (IsWithin ws) (sym e) s.0.within
-
-pub take_depth : (ws nodes sides : List ℕ) (depth node : ℕ) → CanTake ws nodes sides depth node → depth ≤ 64
-take_depth ws nodes sides depth node c = spot_depth ws c.order c.tree c.there.tree nodes sides depth node c.there.spot
 
 pub takes_from : (x y mid now last nodes sides nodes_now sides_now : List ℕ) (depth node left right depth_now rest high top : ℕ) → y ≡ x → HasTwo y nodes sides depth node left right → Raises nodes sides depth node left right nodes_now sides_now depth_now rest y mid →
     high_of rest mid ≡ high → Mends nodes_now sides_now depth_now depth rest high top mid now → last ≡ with_word 0 1 top now → Takes nodes sides depth node x last

@@ -14,7 +14,7 @@ use Rattle.avl_words.specs.Links.{IsMade}
 use Rattle.avl_words.specs.Changes.{CanPut, Puts}
 use Rattle.avl_words.specs.Mending.{Spine, IsLow, IsHung, Settled, CanMend, Mends}
 use Rattle.avl_words.specs.Exact.{with_tree}
-use Rattle.avl_words.proofs.Walks.{stands_at, spot_depth}
+use Rattle.avl_words.proofs.Walks.{stands_at}
 use Rattle.avl_words.proofs.Frames.{times_most, times_other, stands_same, but_more, high_is}
 use Rattle.avl_words.proofs.Relinking.{settled_of}
 use Rattle.avl_words.proofs.ExactWords.{only_words}
@@ -144,16 +144,6 @@ can_mend_leaf ws nodes sides depth node c =
       high_is = high_is ws (Node Empty node Empty) h.stands;
       settled_way = settled_leaf ws nodes sides c.order depth node c.tree b.tree b.spot b.leaf b.apart;
     }
-
-pub put_depth : (ws nodes sides : List ℕ) (depth node : ℕ) → CanPut ws nodes sides depth node → depth ≤ 64
-put_depth ws nodes sides depth node c = spot_depth ws c.order c.tree c.beside.tree nodes sides depth 0 c.beside.spot
-
-pub put_header : (ws now nodes sides : List ℕ) (depth node top : ℕ) → CanPut ws nodes sides depth node → Mends nodes sides depth depth node 1 top ws now → IsWithin now 0
-put_header ws now nodes sides depth node top c m =
-    let h = can_mend_leaf ws nodes sides depth node c in
-    let header = c.beside.header in
-    let long = (m h.way h.tree h.hung h.high_is h.settled_way).but.long in
-    omega arith
 
 pub puts : (ws now last nodes sides : List ℕ) (depth node top : ℕ) → Mends nodes sides depth depth node 1 top ws now → last ≡ with_word 0 1 top now → Puts nodes sides depth node ws last
 puts ws now last nodes sides depth node top m e order t b =

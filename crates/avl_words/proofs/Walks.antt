@@ -169,14 +169,6 @@ module _ (ws : List ℕ) (order : ℕ → Ordering) (t : Tree ℕ) (i : IsTree w
       let q = depth_law t i.balanced in
       omega (arith, p, q)
 
-  pub spot_depth : (nodes sides : List ℕ) (d node : ℕ) → IsSpot nodes sides order d node t → d ≤ 64
-  spot_depth nodes sides d node o =
-      let b = depth_bound t i.balanced i.few in
-      let p = height_at (spot order [] t).0 (spot order [] t).1 in
-      let e = ap height (spot_whole order [] t) in
-      let l = o.long in
-      omega arith
-
   -- the way at the end is the one that was noted
   end_way : (nodes sides : List ℕ) (d node : ℕ) (way : List (Turn ℕ)) (here : Tree ℕ) → Stands ws here → spot order [] t ≡ spot order way here → node ≡ root here → node ≡ 0 → (spot order [] t).0 ≡ way
   end_way nodes sides d node way Empty s same e z = ap (λ s. s.0) same

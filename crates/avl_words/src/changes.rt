@@ -1,6 +1,6 @@
 //! A node is put where a walk ended, or the node there is taken out.
 
-ghost use Rattle.std.specs.Prelude.{◌≡◌, ◌≢◌, ◌≤◌, ℕ, List, IfOk, length};
+ghost use Rattle.std.specs.Prelude.{◌≢◌, ◌≡◌, ℕ, List};
 ghost use Rattle.std.specs.declared.cmp.Ordering.{Ordering};
 ghost use Rattle.cx_base.specs.Calls.{Changes, Finds};
 ghost use Rattle.avl_words.specs.Removal.{gone_way, gone_rest};
@@ -29,11 +29,8 @@ pub fn put_node<M: Memory>(mem: &mut M, way: &Way, node: u64) -> Result<(), Halt
 
 /// Notes the way from a node down to the least node below it, and gives that node.
 fn descend<M: Memory>(mem: &mut M, way: &mut Way, node: u64) -> Result<u64, Halt>
-    requires memory { CanLoad M.Memory mem.old (λ ws. CanDescend ws way.old.nodes way.old.sides way.old.depth node) }
-    requires arrays { (length way.old.nodes ≡ 64) × (length way.old.sides ≡ 64) }
-    ensures finds { Finds M.Memory mem.old mem.new result (λ least. Descends way.old.nodes way.old.sides way.old.depth node way.new.nodes way.new.sides way.new.depth least) }
-    ensures arrays { (length way.new.nodes ≡ 64) × (length way.new.sides ≡ 64) }
-    ensures depth { IfOk result (λ _. way.new.depth ≤ 64) }
+    requires { CanLoad M.Memory mem.old (λ ws. CanDescend ws way.old.nodes way.old.sides way.old.depth node) }
+    ensures { Finds M.Memory mem.old mem.new result (λ least. Descends way.old.nodes way.old.sides way.old.depth node way.new.nodes way.new.sides way.new.depth least) }
 {
     let mut least = node;
     for depth in way.depth..64 {
@@ -60,10 +57,8 @@ fn next_up<M: Memory>(
     right: u64,
 ) -> Result<u64, Halt>
     requires memory { CanStore M.Memory mem.old (λ ws. HasTwo ws way.old.nodes way.old.sides way.old.depth node left right) }
-    requires arrays { (length way.old.nodes ≡ 64) × (length way.old.sides ≡ 64) }
     requires some { (left ≢ 0) × (right ≢ 0) }
-    ensures changes { Changes M.Memory mem.old mem.new result (λ rest. Raises way.old.nodes way.old.sides way.old.depth node left right way.new.nodes way.new.sides way.new.depth rest) }
-    ensures depth { IfOk result (λ _. way.new.depth ≤ 64) }
+    ensures { Changes M.Memory mem.old mem.new result (λ rest. Raises way.old.nodes way.old.sides way.old.depth node left right way.new.nodes way.new.sides way.new.depth rest) }
 {
     let at = way.depth;
     way.nodes[at] = node;
@@ -84,10 +79,8 @@ fn hung_up<M: Memory>(
     left: u64,
     right: u64,
 ) -> Result<u64, Halt>
-    requires memory { CanStore M.Memory mem.old (λ ws. HasTwo ws way.old.nodes way.old.sides way.old.depth node left right) }
-    requires arrays { (length way.old.nodes ≡ 64) × (length way.old.sides ≡ 64) }
-    ensures changes { Changes M.Memory mem.old mem.new result (λ rest. Raises way.old.nodes way.old.sides way.old.depth node left right way.new.nodes way.new.sides way.new.depth rest) }
-    ensures depth { IfOk result (λ _. way.new.depth ≤ 64) }
+    requires { CanStore M.Memory mem.old (λ ws. HasTwo ws way.old.nodes way.old.sides way.old.depth node left right) }
+    ensures { Changes M.Memory mem.old mem.new result (λ rest. Raises way.old.nodes way.old.sides way.old.depth node left right way.new.nodes way.new.sides way.new.depth rest) }
 {
     if left == 0 {
         return Ok(right);
@@ -101,8 +94,7 @@ fn hung_up<M: Memory>(
 /// Takes the node of a walk's end out, and balances the tree: its one child takes its place, or the least node behind it
 /// does, whose own place its right child takes. Words 0 to 2 of the node's own line stay as they are.
 pub fn take_node<M: Memory>(mem: &mut M, way: &mut Way, node: u64) -> Result<(), Halt>
-    requires memory { CanStore M.Memory mem.old (λ ws. CanTake ws way.old.nodes way.old.sides way.old.depth node) }
-    requires arrays { (length way.old.nodes ≡ 64) × (length way.old.sides ≡ 64) }
+    requires { CanStore M.Memory mem.old (λ ws. CanTake ws way.old.nodes way.old.sides way.old.depth node) }
     ensures { Changes M.Memory mem.old mem.new result (λ _. Takes way.old.nodes way.old.sides way.old.depth node) }
 {
     let left = word(mem, node, 0)?;

@@ -15,13 +15,14 @@ pub struct Way {
     pub nodes: [u64; 64],
     pub sides: [u64; 64],
     pub depth: usize,
+    pub ghost long: { (length nodes ≡ 64) × (length sides ≡ 64) },
+    pub ghost few: { depth ≤ 64 },
 }
 
 impl Way {
     /// A way of no nodes.
     pub fn none() -> Way
-        ensures none { result.depth ≡ 0 }
-        ensures arrays { (length result.nodes ≡ 64) × (length result.sides ≡ 64) }
+        ensures { result.depth ≡ 0 }
     {
         Way {
             nodes: [0; 64],
@@ -64,8 +65,7 @@ fn relink<M: Memory>(mem: &mut M, way: &Way, depth: usize, node: u64) -> Result<
 /// `settled` nodes of the way stand as they did before the change: where one of them has the height that it had, those
 /// above it stay as they are.
 pub fn mend<M: Memory>(mem: &mut M, way: &Way, settled: usize, tree: Subtree) -> Result<u64, Halt>
-    requires memory { CanStore M.Memory mem.old (λ ws. CanMend ws way.now.nodes way.now.sides way.now.depth settled tree.root tree.height) }
-    requires depth { way.now.depth ≤ 64 }
+    requires { CanStore M.Memory mem.old (λ ws. CanMend ws way.now.nodes way.now.sides way.now.depth settled tree.root tree.height) }
     ensures { Changes M.Memory mem.old mem.new result (λ top. Mends way.now.nodes way.now.sides way.now.depth settled tree.root tree.height top) }
 {
     let mut top = tree;

@@ -7,7 +7,7 @@ use Rattle.cx_base.specs.Packing.{packed, unpacked}
 use Rattle.cx_base.specs.Store.{blocks}
 use Rattle.avl_words.specs.Lines.{word_of, with_word, IsWithin}
 use Rattle.index_checks.proofs.Texts.{blocks_are}
-use Rattle.word_index.specs.Answers.{IsPacked}
+use Rattle.word_index.specs.Packed.{IsPacked}
 use Rattle.word_index.specs.Changes.{LooseChain}
 use Rattle.word_index.specs.Exact.{with_chain_given, with_chain_filled, with_text, document_blocks, with_refilled, with_emptied, with_renewed, with_rewritten}
 use Rattle.word_index.specs.Fresh.{CanTake}

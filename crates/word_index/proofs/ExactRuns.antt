@@ -11,7 +11,7 @@ use Rattle.cx_base.specs.Store.{blocks}
 use Rattle.avl_words.specs.Lines.{with_word, word_of}
 use Rattle.index_checks.proofs.Texts.{blocks_are}
 use Rattle.word_index.proofs.Putting.{length_unpacked}
-use Rattle.word_index.specs.Answers.{IsPacked}
+use Rattle.word_index.specs.Packed.{IsPacked}
 use Rattle.word_index.specs.Changes.{with_given}
 use Rattle.word_index.specs.Exact.{with_chain_given, with_text_given, with_pair_given, line_to_take, with_line_taken, block_words, with_text, with_new_pair}
 use Rattle.word_index.specs.Fresh.{IsBlock}

@@ -14,7 +14,7 @@ use Rattle.index_checks.proofs.Texts.{blocks_are}
 use Rattle.word_index.proofs.Putting.{room_less, room_after_line, room_after_text, node_still, pair_written}
 use Rattle.word_index.proofs.Taking.{end_small, new_line, given_line}
 use Rattle.word_index.proofs.Writing.{WrittenSoFar, written_none, can_take_next, taken_within, written_more, written_all}
-use Rattle.word_index.specs.Answers.{IsPacked}
+use Rattle.word_index.specs.Packed.{IsPacked}
 use Rattle.word_index.specs.Exact.{line_to_take, with_line_taken, block_words, with_text, with_new_pair}
 use Rattle.word_index.specs.Fresh.{CanTake, LineTaken, LineFilled, IsBlock, TextWritten}
 use Rattle.word_index.specs.Insertion.{PairWritten}

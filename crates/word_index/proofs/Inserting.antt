@@ -17,7 +17,7 @@ use Rattle.index_checks.proofs.Totals.{all_lines}
 use Rattle.word_index.specs.Exact.{document_blocks, order_in, with_new_pair, with_one_more, with_added, node_at, with_rewritten, is_key_in, with_document, inserted_in}
 use Rattle.word_index.specs.Answers.{IsNodeOf}
 use Rattle.word_index.specs.Fresh.{CanTake}
-use Rattle.word_index.specs.Insertion.{Inserts, CanAdd, Adds, LinesAt}
+use Rattle.word_index.specs.Insertion.{Inserts, CanAdd, Adds, LinesAt, IsKnown, PutsDocument}
 use Rattle.word_index.specs.declared.insertion.Inserted.TheVariants.{New, Replaced, NoRoom}
 use Rattle.word_index.specs.Rewriting.{CanRewrite, CanRefit, CanRenew}
 use Rattle.word_index.specs.Walk.{HasNode, AtSpot}
@@ -159,13 +159,6 @@ module _ (key document x : List ℕ) (is_key : IsKey key) (is_document : IsDocum
   unfolding inserted_in with_document
   inserted_is = inserted_by (has_room (line_count x) (with_pair key document (store_in x))) refl
 
--- what is known before the change
-pub record IsKnown (key nodes sides : List ℕ) (depth node above used old n : ℕ) (ws : List ℕ) : Type 0 where
-  pub spot : AtSpot false key nodes sides depth node above ws
-  pub in_use : (version : ℕ) (store : Store) → StandsFor ws version store → used ≡ lines_of store
-  pub here : LinesAt node old ws
-  pub long : length ws ≡ n
-
 pub can_have_node : (ws key nodes sides : List ℕ) (depth node above : ℕ) → AtSpot false key nodes sides depth node above ws → IsIndex ws → node ≢ 0 → HasNode ws node
 can_have_node ws key nodes sides depth node above spot i n = spot_node ws key nodes sides depth node above spot n i
 
@@ -174,9 +167,12 @@ pub record IsCounted (used old more total : ℕ) : Type 0 where
   pub below : old ≤ used
   pub sum : used - old + more ≡ total
 
-module _ (x key document nodes sides : List ℕ) (depth node above used old n : ℕ) (k : IsKnown key nodes sides depth node above used old n x) where
-  pub counted : (version : ℕ) (store : Store) → StandsFor x version store → IsCounted used old (pair_lines (key, document)) (lines_of (with_pair key document store))
-  counted version store s =
+module _ {x key nodes sides : List ℕ} {depth node above used old lines : ℕ} (document : List ℕ) (k : IsKnown key nodes sides depth node above used old lines x) where
+  pub counted : IsCounted used old (pair_lines (key, document)) (lines_of (with_pair key document k.index.store))
+  counted =
+      let version = k.index.version in
+      let store = k.index.store in
+      let s = k.index.stands in
       let e = (k.spot version store s).at.node_is in
       let u = k.in_use version store s in
       elim (cases_eq node 0) [
@@ -192,47 +188,47 @@ module _ (x key document nodes sides : List ℕ) (depth node above used old n : 
             record { below = omega (arith, some, u, before); sum = omega (arith, some, u, lines, before) }
       ]
 
-  pub used_few : IsIndex x → used ≤ 2 ^ 32
-  used_few i =
-      let s = i.stands in
+  pub used_few : used ≤ 2 ^ 32
+  used_few =
+      let s = k.index.stands in
       let a = s.arranged in
-      omega (arith, k.in_use i.version i.store s, all_lines x i.version i.store s.tree s.places s.given [] a, lines_of_places x s.places i.store a.nodes.pairs, a.end_to, a.sized.few)
+      omega (arith, k.in_use k.index.version k.index.store s, all_lines x k.index.version k.index.store s.tree s.places s.given [] a, lines_of_places x s.places k.index.store a.nodes.pairs, a.end_to, a.sized.few)
 
-  module _ (lines more : ℕ) (i : IsIndex x) (e : more ≡ pair_lines (key, document)) (size : n ≡ 8 * lines) where
+  module _ {more : ℕ} (e : more ≡ pair_lines (key, document)) where
     count_lines : line_count x ≡ lines
-    count_lines = ap (λ m. m / 8) k.long ∙ (let h : n / 8 ≡ lines = omega arith in h)
+    count_lines = ap (λ m. m / 8) k.long ∙ (let h : 8 * lines / 8 ≡ lines = omega arith in h)
 
-    total : used - old + more ≡ lines_of (with_pair key document i.store)
-    total = ap (λ m. used - old + m) e ∙ (counted i.version i.store i.stands).sum
+    total : used - old + more ≡ lines_of (with_pair key document k.index.store)
+    total = ap (λ m. used - old + m) e ∙ counted.sum
 
     pub no_room : lines - 1 < used - old + more → has_room (line_count x) (with_pair key document (store_in x)) ≡ false
     no_room l =
-        subst (λ st. has_room (line_count x) (with_pair key document st) ≡ false) (sym (store_is x i.version i.store i.stands))
-        (too_many (used - old + more) (lines_of (with_pair key document i.store)) (line_count x) total (subst (λ c. c - 1 < used - old + more) (sym count_lines) l))
+        subst (λ st. has_room (line_count x) (with_pair key document st) ≡ false) (sym (store_is x k.index.version k.index.store k.index.stands))
+        (too_many (used - old + more) (lines_of (with_pair key document k.index.store)) (line_count x) total (subst (λ c. c - 1 < used - old + more) (sym count_lines) l))
       where
         too_many : (a b c : ℕ) → a ≡ b → c - 1 < a → leb b (c - 1) ≡ false
         too_many a b c e l = grind (arith, nat_tests)
 
-    pub room : used - old + more ≤ lines - 1 → lines_of (with_pair key document i.store) + 1 ≤ line_count x
-    room l = (let t = total in let c = count_lines in let some = i.stands.arranged.sized.some in omega (arith, t, c, some, l))
+    pub room : used - old + more ≤ lines - 1 → lines_of (with_pair key document k.index.store) + 1 ≤ line_count x
+    room l = (let t = total in let c = count_lines in let some = k.index.stands.arranged.sized.some in omega (arith, t, c, some, l))
 
     pub has_some_room : used - old + more ≤ lines - 1 → has_room (line_count x) (with_pair key document (store_in x)) ≡ true
     has_some_room l =
-        subst (λ st. has_room (line_count x) (with_pair key document st) ≡ true) (sym (store_is x i.version i.store i.stands)) (enough (lines_of (with_pair key document i.store)) (line_count x) (room l))
+        subst (λ st. has_room (line_count x) (with_pair key document st) ≡ true) (sym (store_is x k.index.version k.index.store k.index.stands)) (enough (lines_of (with_pair key document k.index.store)) (line_count x) (room l))
       where
         enough : (b c : ℕ) → b + 1 ≤ c → leb b (c - 1) ≡ true
         enough b c l = grind (arith, nat_tests)
 
     pub can_add : used - old + more ≤ lines - 1 → node ≡ 0 → IsKey key → IsDocument document → CanAdd x nodes sides depth (key, document)
     can_add l z is_key is_document =
-        let s = i.stands in
-        let m = none_at x key i.version i.store s (sym z ∙ (k.spot i.version i.store s).at.node_is) in
+        let s = k.index.stands in
+        let m = none_at x key k.index.version k.index.store s (sym z ∙ (k.spot k.index.version k.index.store s).at.node_is) in
         let r = room l in
-        let lines = missing_lines x key document i.version i.store s m in
+        let lines = missing_lines x key document k.index.version k.index.store s m in
         record {
           above = above;
           spot = subst (λ d. AtSpot false key nodes sides depth d above x) z k.spot;
-          index = i;
+          index = k.index;
           room = omega (arith, r, lines);
           is_key = is_key;
           is_document = is_document;
@@ -240,16 +236,16 @@ module _ (x key document nodes sides : List ℕ) (depth node above used old n : 
 
     can_rewrite : used - old + more ≤ lines - 1 → node ≢ 0 → CanRewrite x node document
     can_rewrite l ne =
-        let s = i.stands in
-        here_can x key document i.version i.store s node (place_is_at x key i.version i.store s node (k.spot i.version i.store s).at.node_is ne) (room l)
+        let s = k.index.stands in
+        here_can x key document k.index.version k.index.store s node (place_is_at x key k.index.version k.index.store s node (k.spot k.index.version k.index.store s).at.node_is ne) (room l)
 
     -- whether the document needs as many blocks as the one that is there
     module _ (ne : node ≢ 0) where
-      old_place : HasPlace x key i.stands.places i.store (walk_end (order_in key x) i.stands.tree).0 (walk_end (order_in key x) i.stands.tree).1 node
-      old_place = place_is_at x key i.version i.store i.stands node (k.spot i.version i.store i.stands).at.node_is ne
+      old_place : HasPlace x key k.index.stands.places k.index.store (walk_end (order_in key x) k.index.stands.tree).0 (walk_end (order_in key x) k.index.stands.tree).1 node
+      old_place = place_is_at x key k.index.version k.index.store k.index.stands node (k.spot k.index.version k.index.store k.index.stands).at.node_is ne
 
       old_node : IsNodeOf x node (key, old_place.document)
-      old_node = place_node x key i.version i.store i.stands (walk_end (order_in key x) i.stands.tree).0 (walk_end (order_in key x) i.stands.tree).1 node old_place
+      old_node = place_node x key k.index.version k.index.store k.index.stands (walk_end (order_in key x) k.index.stands.tree).0 (walk_end (order_in key x) k.index.stands.tree).1 node old_place
 
       old_blocks : document_blocks node x ≡ blocks old_place.document
       unfolding document_blocks
@@ -271,7 +267,7 @@ module _ (x key document nodes sides : List ℕ) (depth node above used old n : 
     can_renew l ne other = record { can = can_rewrite l ne; unlike = unlike ne other }
 
     -- and the exact words
-    pub exact_none : lines - 1 < used - old + more → (NoRoom ≡ inserted_in key document x) × (x ≡ with_document key document x)
+    pub exact_none : lines - 1 < used - old + more → PutsDocument key document NoRoom x x
     unfolding inserted_in with_document
     exact_none l =
         let f = no_room l in (
@@ -279,33 +275,33 @@ module _ (x key document nodes sides : List ℕ) (depth node above used old n : 
           ap (λ b. cond b (cond (is_key_in key x) (with_rewritten document (node_at key x) x) (with_added (key, document) x)) x) (sym f),
         )
 
-    key_is : (b : Bool) → is_some (document_at key i.store) ≡ b → is_key_in key x ≡ b
+    key_is : (b : Bool) → is_some (document_at key k.index.store) ≡ b → is_key_in key x ≡ b
     unfolding is_key_in
-    key_is b e = ap (λ st. is_some (document_at key st)) (store_is x i.version i.store i.stands) ∙ e
+    key_is b e = ap (λ st. is_some (document_at key st)) (store_is x k.index.version k.index.store k.index.stands) ∙ e
 
-    pub exact_new : (w : List ℕ) → used - old + more ≤ lines - 1 → node ≡ 0 → IsKey key → IsDocument document → Adds nodes sides depth (key, document) x w → (New ≡ inserted_in key document x) × (w ≡ with_document key document x)
+    pub exact_new : (w : List ℕ) → used - old + more ≤ lines - 1 → node ≡ 0 → IsKey key → IsDocument document → Adds nodes sides depth (key, document) x w → PutsDocument key document New x w
     unfolding inserted_in with_document can_add
     exact_new w l z is_key is_document adds =
-        let s = i.stands in
+        let s = k.index.stands in
         let c = can_add l z is_key is_document in
         let f = has_some_room l in
-        let m = none_at x key i.version i.store s (sym z ∙ (k.spot i.version i.store s).at.node_is) in
-        let t = key_is false (missing_key x key document i.version i.store s m) in (
+        let m = none_at x key k.index.version k.index.store s (sym z ∙ (k.spot k.index.version k.index.store s).at.node_is) in
+        let t = key_is false (missing_key x key document k.index.version k.index.store s m) in (
           ap (λ b. cond b Replaced New) (sym t) ∙ ap (λ b. cond b (cond (is_key_in key x) Replaced New) NoRoom) (sym f),
-          adds above c.spot i c.room is_key is_document ∙ ap (λ b. cond b (with_rewritten document (node_at key x) x) (with_added (key, document) x)) (sym t)
+          adds above c.spot k.index c.room is_key is_document ∙ ap (λ b. cond b (with_rewritten document (node_at key x) x) (with_added (key, document) x)) (sym t)
               ∙ ap (λ b. cond b (cond (is_key_in key x) (with_rewritten document (node_at key x) x) (with_added (key, document) x)) x) (sym f),
         )
 
-    pub exact_over : (w : List ℕ) → used - old + more ≤ lines - 1 → node ≢ 0 → w ≡ with_rewritten document node x → (Replaced ≡ inserted_in key document x) × (w ≡ with_document key document x)
+    pub exact_over : (w : List ℕ) → used - old + more ≤ lines - 1 → node ≢ 0 → w ≡ with_rewritten document node x → PutsDocument key document Replaced x w
     unfolding inserted_in with_document
     exact_over w l ne g =
-        let s = i.stands in
+        let s = k.index.stands in
         let f = has_some_room l in
-        let e = (k.spot i.version i.store s).at.node_is in
-        let h = place_is_at x key i.version i.store s node e ne in
-        let t = key_is true (here_key x key document i.version i.store s node h) in (
+        let e = (k.spot k.index.version k.index.store s).at.node_is in
+        let h = place_is_at x key k.index.version k.index.store s node e ne in
+        let t = key_is true (here_key x key document k.index.version k.index.store s node h) in (
           ap (λ b. cond b Replaced New) (sym t) ∙ ap (λ b. cond b (cond (is_key_in key x) Replaced New) NoRoom) (sym f),
-          g ∙ ap (λ n. with_rewritten document n x) (e ∙ node_at_is x key document i.version i.store s)
+          g ∙ ap (λ n. with_rewritten document n x) (e ∙ node_at_is x key document k.index.version k.index.store s)
               ∙ ap (λ b. cond b (with_rewritten document (node_at key x) x) (with_added (key, document) x)) (sym t)
               ∙ ap (λ b. cond b (cond (is_key_in key x) (with_rewritten document (node_at key x) x) (with_added (key, document) x)) x) (sym f),
         )

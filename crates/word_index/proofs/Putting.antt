@@ -18,7 +18,8 @@ use Rattle.word_index.proofs.Frames.{times, times_append, times_cons, holds_same
 use Rattle.word_index.proofs.PairsGiven.{reordered, loose_within}
 use Rattle.word_index.proofs.Taking.{from_one}
 use Rattle.word_index.proofs.Writing.{fill_arranged}
-use Rattle.word_index.specs.Answers.{IsPacked, IsPackOf}
+use Rattle.word_index.specs.Answers.{IsPackOf}
+use Rattle.word_index.specs.Packed.{IsPacked}
 use Rattle.word_index.specs.Changes.{SameLine}
 use Rattle.word_index.specs.Fresh.{CanTake, LineTaken, LineFilled, IsWritten, TextWritten}
 use Rattle.word_index.specs.Insertion.{PairWritten}

@@ -3,14 +3,10 @@ use Rattle.std.specs.Prelude.{◌≡◌, ◌+◌, ◌*◌, ◌≤◌, ℕ, List,
 use Rattle.cx_base.specs.Store.{Store, IsKey, IsDocument}
 use Rattle.cx_base.specs.Packing.{packed, unpacked}
 use Rattle.doc_model.specs.Meaning.{document_at}
+use Rattle.word_index.specs.Packed.{IsPacked}
 use Rattle.word_index.specs.declared.texts.Key.{Key}
 use Rattle.avl_words.specs.Lines.{IsPartLength}
 use Rattle.index_checks.specs.Layout.{Place, IsAt, lines_at}
-
--- at most 8n bytes in n words, unused bytes 0
-pub record IsPacked (n len : ℕ) (words : List ℕ) : Type 0 where
-  pub short : len ≤ 8 * n
-  pub unused : words ≡ packed n (unpacked len words)
 
 -- these bytes, packed
 pub record IsPackOf (n len : ℕ) (words bytes : List ℕ) : Type 0 where
@@ -24,9 +20,7 @@ pub record IsPackedKey (name : Key) : Type 0 where
 
 -- a key and a document that may be, packed
 pub record IsPackedPair (name : Key) (len : ℕ) (words : List ℕ) : Type 0 where
-  pub key : IsPacked 8 name.len name.words
-  pub doc : IsPacked 128 len words
-  pub is_key : IsKey (unpacked name.len name.words)
+  pub key : IsPackedKey name
   pub is_document : IsDocument (unpacked len words)
 
 -- a node of this pair

@@ -1,5 +1,5 @@
 -- A pair is put in.
-use Rattle.std.specs.Prelude.{◌≡◌, ◌≢◌, ◌+◌, ◌≤◌, ℕ, true, false, List, [], length, is_some}
+use Rattle.std.specs.Prelude.{◌≡◌, ◌≢◌, ◌+◌, ◌*◌, ◌≤◌, ℕ, true, false, List, [], length, is_some}
 use Rattle.cx_base.specs.Store.{Store, IsKey, IsDocument, pair_lines, lines_of}
 use Rattle.doc_model.specs.Meaning.{document_at, with_pair, has_room}
 use Rattle.avl_words.specs.Tree.{Tree}
@@ -7,7 +7,7 @@ use Rattle.avl_words.specs.Lines.{line_count}
 use Rattle.avl_words.specs.Words.{IsNode}
 use Rattle.index_checks.specs.Layout.{Place, lines_at, IsAt, Arranged, StandsFor, IsIndex}
 use Rattle.word_index.specs.Answers.{IsNodeOf}
-use Rattle.word_index.specs.Exact.{with_added}
+use Rattle.word_index.specs.Exact.{with_added, inserted_in, with_document}
 use Rattle.word_index.specs.Walk.{AtSpot}
 use Rattle.word_index.specs.Fresh.{HasRoom}
 use Rattle.word_index.specs.declared.insertion.Inserted.{Inserted}
@@ -56,3 +56,15 @@ abbrev pub Adds : List ℕ → List ℕ → ℕ → List ℕ × List ℕ → Lis
 Adds nodes sides depth pair before now =
     (above : ℕ) → AtSpot false pair.0 nodes sides depth 0 above before → (i : IsIndex before) → lines_of i.store + pair_lines pair + 1 ≤ line_count before → IsKey pair.0 → IsDocument pair.1 →
     now ≡ with_added pair before
+
+-- what is known before a document is put at a key: where the walk to it ended, how many lines are in use and how many of them at its end
+pub record IsKnown (key nodes sides : List ℕ) (depth node above used old lines : ℕ) (ws : List ℕ) : Type 0 where
+  pub index : IsIndex ws
+  pub spot : AtSpot false key nodes sides depth node above ws
+  pub in_use : (version : ℕ) (store : Store) → StandsFor ws version store → used ≡ lines_of store
+  pub here : LinesAt node old ws
+  pub long : length ws ≡ 8 * lines
+
+-- the exact answer, and the exact words
+abbrev pub PutsDocument : List ℕ → List ℕ → Inserted → List ℕ → List ℕ → Type 0
+PutsDocument key document inserted before now = (inserted ≡ inserted_in key document before) × (now ≡ with_document key document before)

@@ -6,3 +6,4 @@ pub mod Changes
 pub mod Exact
 pub mod Removal
 pub mod Rewriting
+pub mod Packed

@@ -1,7 +1,8 @@
 -- A walk down the tree to the place of a key.
-use Rattle.std.specs.Prelude.{◌≡◌, ◌^◌, ◌+◌, ◌*◌, ◌≤◌, ℕ, Bool, true, false, List, [], ◌∷◌, length}
+use Rattle.std.specs.Prelude.{◌≡◌, ◌^◌, ◌+◌, ◌*◌, ◌≤◌, ℕ, Bool, true, false, List, [], ◌∷◌, length, Result}
 use Rattle.std.specs.declared.cmp.Ordering.{Ordering}
 use Rattle.std.specs.declared.cmp.Ordering.TheVariants.{Less, Equal, Greater}
+use Rattle.cx_base.specs.Calls.{Finds}
 use Rattle.cx_base.specs.Memory.{Always}
 use Rattle.cx_base.specs.Store.{Store}
 use Rattle.cx_base.specs.declared.memory.Memory.{Ghosts}
@@ -65,6 +66,11 @@ pub record AtEnd (past : Bool) (key : List ℕ) (node above : ℕ) (words : List
 -- the bound on visits
 abbrev pub FewVisits : ℕ → List ℕ → Type 0
 FewVisits visits words = (version : ℕ) (store : Store) → StandsFor words version store → 2 ^ visits ≤ 2 * ((length store + 1) * (length store + 1))
+
+-- what a walk tells and leaves, and that its visits are few
+pub record Walks {Memory T E : Type 0} (m : Ghosts Memory) (old new : Memory) (result : Result T E) (count : ℕ) (Told : T → List ℕ → Type 0) : Type 0 where
+  pub finds : Finds m old new result Told
+  pub visits : Always (m.stands new) (FewVisits count)
 
 -- the same for words that may be there
 abbrev pub Walked : {Key : Type 0} → (Key → List ℕ → Type 0) → ℕ → Type 0

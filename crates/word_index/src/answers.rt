@@ -1,15 +1,14 @@
 //! What is asked of an index by a key.
 
-ghost use Rattle.std.specs.Prelude.{◌≡◌, ◌-◌, ◌≤◌, ℕ, List, true, false, replicate};
+ghost use Rattle.std.specs.Prelude.{◌≡◌, ◌-◌, ℕ, List, replicate};
 ghost use Rattle.cx_base.specs.Calls.{Finds};
-ghost use Rattle.cx_base.specs.Memory.{Always};
 ghost use Rattle.cx_base.specs.Packing.{unpacked};
 ghost use Rattle.cx_base.specs.Store.{Store};
 ghost use Rattle.doc_model.specs.Meaning.{pairs_above};
 ghost use Rattle.avl_words.specs.Lines.{CanLoad};
 ghost use Rattle.index_checks.specs.Layout.{IsIndex, StandsFor};
 ghost use Rattle.word_index.specs.Answers.{IsFound, IsLeast, IsNodeOf, IsPackOf};
-ghost use Rattle.word_index.specs.Walk.{FewVisits, HasNode};
+ghost use Rattle.word_index.specs.Walk.{HasNode, Walks};
 
 use crate::blocks::read_text;
 use crate::nodes::key_at;
@@ -24,10 +23,8 @@ pub fn find<M: Memory, L: Ledger>(
     key: &Key,
     visits: &mut Steps<L>,
 ) -> Result<Option<u64>, Halt>
-    requires memory { CanLoad M.Memory mem.old IsIndex }
-    requires key { key.now.len ≤ 64 }
-    ensures finds { Finds M.Memory mem.old mem.new result (λ found ws. (version : ℕ) (store : Store) → StandsFor ws version store → IsFound ws (unpacked key.now.len key.now.words) found store) }
-    ensures visits { Always (M.stands mem.new) (FewVisits (visits.new - visits.old)) }
+    requires { CanLoad M.Memory mem.old IsIndex }
+    ensures { Walks M.Memory mem.old mem.new result (visits.new - visits.old) (λ found ws. (version : ℕ) (store : Store) → StandsFor ws version store → IsFound ws (unpacked key.now.len key.now.words) found store) }
 {
     let end = reach(mem, key, false, visits)?;
     if end.node == 0 {
@@ -43,10 +40,8 @@ pub fn least_above<M: Memory, L: Ledger>(
     key: &Key,
     visits: &mut Steps<L>,
 ) -> Result<Option<Key>, Halt>
-    requires memory { CanLoad M.Memory mem.old IsIndex }
-    requires key { key.now.len ≤ 64 }
-    ensures finds { Finds M.Memory mem.old mem.new result (λ found ws. (version : ℕ) (store : Store) → StandsFor ws version store → IsLeast found (pairs_above (unpacked key.now.len key.now.words) store)) }
-    ensures visits { Always (M.stands mem.new) (FewVisits (visits.new - visits.old)) }
+    requires { CanLoad M.Memory mem.old IsIndex }
+    ensures { Walks M.Memory mem.old mem.new result (visits.new - visits.old) (λ found ws. (version : ℕ) (store : Store) → StandsFor ws version store → IsLeast found (pairs_above (unpacked key.now.len key.now.words) store)) }
 {
     let end = reach(mem, key, true, visits)?;
     if end.above == 0 {

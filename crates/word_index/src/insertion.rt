@@ -1,22 +1,23 @@
 //! A pair is put in.
 
-ghost use Rattle.std.specs.Prelude.{◌≡◌, ◌≢◌, ◌-◌, ◌*◌, ◌≤◌, ℕ, List, IfOk};
+ghost use Rattle.std.specs.Prelude.{◌≡◌, ◌≢◌, ◌-◌, ◌*◌, ℕ, List, IfOk};
 ghost use Rattle.cx_base.specs.Calls.{Changes, Finds};
 ghost use Rattle.cx_base.specs.Memory.{Becomes};
 ghost use Rattle.cx_base.specs.Packing.{unpacked};
 ghost use Rattle.cx_base.specs.Store.{Store, lines_of, pair_lines};
 ghost use Rattle.avl_words.specs.Lines.{CanLoad, CanStore};
 ghost use Rattle.index_checks.specs.Layout.{IsIndex, StandsFor};
-ghost use Rattle.word_index.specs.Answers.{IsPacked, IsPackedPair, IsNodeOf};
-ghost use Rattle.word_index.specs.Exact.{with_new_pair, inserted_in, with_document};
+ghost use Rattle.word_index.specs.Answers.{IsPackedPair, IsNodeOf};
+ghost use Rattle.word_index.specs.Packed.{IsPacked};
+ghost use Rattle.word_index.specs.Exact.{with_new_pair};
 ghost use Rattle.word_index.specs.Fresh.{CanTake};
-ghost use Rattle.word_index.specs.Insertion.{PairWritten, CanAdd, Adds, LinesAt};
+ghost use Rattle.word_index.specs.Insertion.{PairWritten, CanAdd, Adds, LinesAt, IsKnown, PutsDocument};
 ghost use Rattle.word_index.specs.Walk.{HasNode, FewVisits, Walked};
 
 use crate::rewriting::{refit, rewrite};
 use crate::taken::{put_line, take_line, write_text};
 use crate::texts::{Doc, Key};
-use crate::walk::seek_place;
+use crate::walk::{End, seek_place};
 use avl_words::{Way, put, put_node, word};
 use cx_base::{Halt, Memory, Steps};
 use std::sync::ledger::Ledger;
@@ -32,8 +33,6 @@ pub enum Inserted {
 
 /// The lines that a pair takes.
 fn lines_of_pair(key: &Key, doc: &Doc<'_>) -> u64
-    requires key { key.now.len ≤ 64 }
-    requires doc { doc.now.len ≤ 1024 }
     ensures { result ≡ pair_lines (unpacked key.now.len key.now.words, unpacked doc.now.len doc.now.words.now) }
 {
     1 + key.len.div_ceil(56) + doc.len.div_ceil(56)
@@ -75,7 +74,6 @@ fn lines_in_use<M: Memory>(mem: &mut M) -> Result<u64, Halt>
 fn write_pair<M: Memory>(mem: &mut M, key: &Key, doc: &Doc<'_>) -> Result<u64, Halt>
     requires memory { CanStore M.Memory mem.old (λ ws. CanTake ws (pair_lines (unpacked key.now.len key.now.words, unpacked doc.now.len doc.now.words.now))) }
     requires key { IsPacked 8 key.now.len key.now.words }
-    requires doc { IsPacked 128 doc.now.len doc.now.words.now }
     ensures changes { Changes M.Memory mem.old mem.new result (λ node. PairWritten (unpacked key.now.len key.now.words, unpacked doc.now.len doc.now.words.now) node) }
     ensures exact { IfOk result (λ node. Becomes (M.stands mem.old) (M.stands mem.new) (λ old now. with_new_pair (unpacked key.now.len key.now.words, unpacked doc.now.len doc.now.words.now) old ≡ (node, now))) }
 {
@@ -94,7 +92,6 @@ fn write_pair<M: Memory>(mem: &mut M, key: &Key, doc: &Doc<'_>) -> Result<u64, H
 fn put_pair<M: Memory>(mem: &mut M, way: &Way, key: &Key, doc: &Doc<'_>) -> Result<(), Halt>
     requires memory { CanStore M.Memory mem.old (λ ws. CanAdd ws way.now.nodes way.now.sides way.now.depth (unpacked key.now.len key.now.words, unpacked doc.now.len doc.now.words.now)) }
     requires key { IsPacked 8 key.now.len key.now.words }
-    requires doc { IsPacked 128 doc.now.len doc.now.words.now }
     ensures { Changes M.Memory mem.old mem.new result (λ _. Adds way.now.nodes way.now.sides way.now.depth (unpacked key.now.len key.now.words, unpacked doc.now.len doc.now.words.now)) }
 {
     let node = write_pair(mem, key, doc)?;
@@ -108,7 +105,6 @@ fn put_pair<M: Memory>(mem: &mut M, way: &Way, key: &Key, doc: &Doc<'_>) -> Resu
 fn add<M: Memory>(mem: &mut M, way: &Way, key: &Key, doc: &Doc<'_>) -> Result<(), Halt>
     requires memory { CanStore M.Memory mem.old (λ ws. CanAdd ws way.now.nodes way.now.sides way.now.depth (unpacked key.now.len key.now.words, unpacked doc.now.len doc.now.words.now)) }
     requires key { IsPacked 8 key.now.len key.now.words }
-    requires doc { IsPacked 128 doc.now.len doc.now.words.now }
     ensures { Changes M.Memory mem.old mem.new result (λ _. Adds way.now.nodes way.now.sides way.now.depth (unpacked key.now.len key.now.words, unpacked doc.now.len doc.now.words.now)) }
 {
     let mut held = Held::none();
@@ -116,6 +112,39 @@ fn add<M: Memory>(mem: &mut M, way: &Way, key: &Key, doc: &Doc<'_>) -> Result<()
     put_pair(&mut buffer, way, key, doc)?;
     let WriteBuffer { .. } = buffer;
     store_held(mem, &held)
+}
+
+/// Puts a document at a key, where there is room, at the node that the walk to it ended at; of so many lines some are in use, and some are
+/// of the old pair.
+fn put_at<M: Memory>(
+    mem: &mut M,
+    lines: u64,
+    key: &Key,
+    doc: &Doc<'_>,
+    way: &Way,
+    end: End,
+    used: u64,
+    old: u64,
+) -> Result<Inserted, Halt>
+    requires memory { CanStore M.Memory mem.old (IsKnown (unpacked key.now.len key.now.words) way.now.nodes way.now.sides way.now.depth end.node end.above used old lines) }
+    requires pair { IsPackedPair key.now doc.now.len doc.now.words.now }
+    ensures { Changes M.Memory mem.old mem.new result (PutsDocument (unpacked key.now.len key.now.words) (unpacked doc.now.len doc.now.words.now)) }
+{
+    let new = lines_of_pair(key, doc);
+    let needed = used - old + new;
+    if lines - 1 < needed {
+        return Ok(Inserted::NoRoom);
+    }
+    if end.node == 0 {
+        add(mem, way, key, doc)?;
+        return Ok(Inserted::New);
+    }
+    if old == new {
+        refit(mem, end.node, doc)?;
+        return Ok(Inserted::Replaced);
+    }
+    rewrite(mem, end.node, doc)?;
+    Ok(Inserted::Replaced)
 }
 
 /// Puts a document at a key, in words of so many lines. `NoRoom` comes exactly where the store would then need more
@@ -131,7 +160,7 @@ pub fn insert<M: Memory, L: Ledger>(
     requires memory { CanStore M.Memory mem.old IsIndex }
     requires lines { M.size mem.old ≡ 8 * lines }
     requires pair { IsPackedPair key.now doc.now.len doc.now.words.now }
-    ensures changes { Changes M.Memory mem.old mem.new result (λ inserted old now. (inserted ≡ inserted_in (unpacked key.now.len key.now.words) (unpacked doc.now.len doc.now.words.now) old) × (now ≡ with_document (unpacked key.now.len key.now.words) (unpacked doc.now.len doc.now.words.now) old)) }
+    ensures changes { Changes M.Memory mem.old mem.new result (PutsDocument (unpacked key.now.len key.now.words) (unpacked doc.now.len doc.now.words.now)) }
     ensures visits { IfOk result (λ _. Becomes (M.stands mem.old) (M.stands mem.new) (λ old now. FewVisits (visits.new - visits.old) old)) }
     ensures walked { Walked (M.stands mem.old) (visits.new - visits.old) }
 {
@@ -139,19 +168,6 @@ pub fn insert<M: Memory, L: Ledger>(
     let end = seek_place(mem, key, visits, &mut way)?;
     let used = lines_in_use(mem)?;
     let old = lines_at(mem, end.node)?;
-    let new = lines_of_pair(key, doc);
-    let needed = used - old + new;
-    if lines - 1 < needed {
-        return Ok(Inserted::NoRoom);
-    }
-    if end.node == 0 {
-        add(mem, &way, key, doc)?;
-        return Ok(Inserted::New);
-    }
-    if old == new {
-        refit(mem, end.node, doc)?;
-        return Ok(Inserted::Replaced);
-    }
-    rewrite(mem, end.node, doc)?;
-    Ok(Inserted::Replaced)
+    let inserted = put_at(mem, lines, key, doc, &way, end, used, old)?;
+    Ok(inserted)
 }

@@ -1,6 +1,6 @@
 //! Nodes: the key and the document that each names, and the number of them.
 
-ghost use Rattle.std.specs.Prelude.{◌≡◌, ◌+◌, ◌≤◌, ℕ, List, length};
+ghost use Rattle.std.specs.Prelude.{◌≡◌, ◌+◌, ℕ, List, length};
 ghost use Rattle.std.specs.Ordering.{nat_cmp};
 ghost use Rattle.cx_base.specs.Calls.{Finds};
 ghost use Rattle.cx_base.specs.Packing.{unpacked};
@@ -46,8 +46,7 @@ fn order_of_lengths<M: Memory>(mem: &mut M, node: u64, len: u64) -> Result<Order
 
 /// How the key of a node compares with another key. Its words are compared where they stand, up to the first that differs.
 fn order_of_all<M: Memory>(mem: &mut M, node: u64, key: &Key) -> Result<Ordering, Halt>
-    requires memory { CanLoad M.Memory mem.old (λ ws. HasNode ws node) }
-    requires key { key.now.len ≤ 64 }
+    requires { CanLoad M.Memory mem.old (λ ws. HasNode ws node) }
     ensures { Finds M.Memory mem.old mem.new result (λ order ws. (pair : List ℕ × List ℕ) → IsNodeOf ws node pair → order ≡ key_cmp pair.0 (unpacked key.now.len key.now.words)) }
 {
     let first = word(mem, node, 3)?;
@@ -70,8 +69,7 @@ pub fn order_at<M: Memory, L: Ledger>(
     key: &Key,
     visits: &mut Steps<L>,
 ) -> Result<Ordering, Halt>
-    requires memory { CanLoad M.Memory mem.old (λ ws. HasNode ws node) }
-    requires key { key.now.len ≤ 64 }
+    requires { CanLoad M.Memory mem.old (λ ws. HasNode ws node) }
     ensures counted { visits.new ≡ visits.old + 1 }
     ensures finds { Finds M.Memory mem.old mem.new result (λ order ws. (pair : List ℕ × List ℕ) → IsNodeOf ws node pair → order ≡ key_cmp pair.0 (unpacked key.now.len key.now.words)) }
 {

@@ -1,6 +1,6 @@
 //! A pair is taken out.
 
-ghost use Rattle.std.specs.Prelude.{◌≡◌, ◌-◌, ◌≤◌, IfOk, length};
+ghost use Rattle.std.specs.Prelude.{◌≡◌, ◌-◌, IfOk};
 ghost use Rattle.cx_base.specs.Calls.{Changes};
 ghost use Rattle.cx_base.specs.Memory.{Becomes};
 ghost use Rattle.cx_base.specs.Packing.{unpacked};
@@ -20,8 +20,7 @@ use write_buffer::{Held, WriteBuffer, store_held};
 
 /// Takes the node at the end of a way out of the tree.
 fn cut<M: Memory>(mem: &mut M, way: &mut Way, node: u64) -> Result<(), Halt>
-    requires memory { CanStore M.Memory mem.old (λ ws. CanCut ws way.old.nodes way.old.sides way.old.depth node) }
-    requires arrays { (length way.old.nodes ≡ 64) × (length way.old.sides ≡ 64) }
+    requires { CanStore M.Memory mem.old (λ ws. CanCut ws way.old.nodes way.old.sides way.old.depth node) }
     ensures { Changes M.Memory mem.old mem.new result (λ _. Cuts way.old.nodes way.old.sides way.old.depth node) }
 {
     take_node(mem, way, node)?;
@@ -32,8 +31,7 @@ fn cut<M: Memory>(mem: &mut M, way: &mut Way, node: u64) -> Result<(), Halt>
 
 /// Takes the node at the end of a way out of the tree, and gives its lines back.
 fn cut_pair<M: Memory>(mem: &mut M, way: &mut Way, node: u64) -> Result<(), Halt>
-    requires memory { CanStore M.Memory mem.old (λ ws. CanCut ws way.old.nodes way.old.sides way.old.depth node) }
-    requires arrays { (length way.old.nodes ≡ 64) × (length way.old.sides ≡ 64) }
+    requires { CanStore M.Memory mem.old (λ ws. CanCut ws way.old.nodes way.old.sides way.old.depth node) }
     ensures { Changes M.Memory mem.old mem.new result (λ _. TakesOut way.old.nodes way.old.sides way.old.depth node) }
 {
     cut(mem, way, node)?;
@@ -43,8 +41,7 @@ fn cut_pair<M: Memory>(mem: &mut M, way: &mut Way, node: u64) -> Result<(), Halt
 
 /// The same over a write buffer. Its room covers each change in at most 16,384 lines, so that there each word that changes is stored once.
 fn take_out<M: Memory>(mem: &mut M, way: &mut Way, node: u64) -> Result<(), Halt>
-    requires memory { CanStore M.Memory mem.old (λ ws. CanCut ws way.old.nodes way.old.sides way.old.depth node) }
-    requires arrays { (length way.old.nodes ≡ 64) × (length way.old.sides ≡ 64) }
+    requires { CanStore M.Memory mem.old (λ ws. CanCut ws way.old.nodes way.old.sides way.old.depth node) }
     ensures { Changes M.Memory mem.old mem.new result (λ _. TakesOut way.old.nodes way.old.sides way.old.depth node) }
 {
     let mut held = Held::none();
@@ -61,8 +58,7 @@ pub fn remove<M: Memory, L: Ledger>(
     key: &Key,
     visits: &mut Steps<L>,
 ) -> Result<bool, Halt>
-    requires memory { CanStore M.Memory mem.old IsIndex }
-    requires key { key.now.len ≤ 64 }
+    requires { CanStore M.Memory mem.old IsIndex }
     ensures changes { Changes M.Memory mem.old mem.new result (λ there old now. (there ≡ is_key_in (unpacked key.now.len key.now.words) old) × (now ≡ with_key_removed (unpacked key.now.len key.now.words) old)) }
     ensures visits { IfOk result (λ _. Becomes (M.stands mem.old) (M.stands mem.new) (λ old now. FewVisits (visits.new - visits.old) old)) }
     ensures walked { Walked (M.stands mem.old) (visits.new - visits.old) }

@@ -1,9 +1,10 @@
 //! Keys and documents as packed words, and how keys are ordered.
 
-ghost use Rattle.std.specs.Prelude.{◌≡◌, ◌≢◌, ◌+◌, ◌*◌, ◌/◌, ◌%◌, ◌^◌, ◌<◌, ◌≤◌, ℕ, List, MatchOption, slice_index};
+ghost use Rattle.std.specs.Prelude.{◌≡◌, ◌≢◌, ◌*◌, ◌/◌, ◌%◌, ◌^◌, ◌<◌, ◌≤◌, ℕ, List, MatchOption, slice_index};
 ghost use Rattle.std.specs.Ordering.{nat_cmp};
 ghost use Rattle.cx_base.specs.Packing.{byte_at, unpacked};
 ghost use Rattle.cx_base.specs.Store.{key_cmp};
+ghost use Rattle.word_index.specs.Packed.{IsPacked};
 
 use std::cmp::Ordering;
 
@@ -12,6 +13,7 @@ use std::cmp::Ordering;
 pub struct Key {
     pub len: u64,
     pub words: [u64; 8],
+    pub ghost short: { len ≤ 64 },
 }
 
 /// A document where it stands: its length in bytes, at most 1,024, and its bytes packed in 128 words, unused bytes 0.
@@ -19,6 +21,7 @@ pub struct Key {
 pub struct Doc<'a> {
     pub len: u64,
     pub words: &'a [u64],
+    pub ghost packed: { IsPacked 128 len words.now },
 }
 
 /// The first byte at which two words differ.

@@ -1,15 +1,12 @@
 //! A walk down the tree to the place of a key.
 
-ghost use Rattle.std.specs.Prelude.{◌≡◌, ◌≢◌, ◌+◌, ◌-◌, ◌≤◌, ℕ, Bool, false, List, IfOk, length};
+ghost use Rattle.std.specs.Prelude.{◌≡◌, ◌-◌, false};
 ghost use Rattle.std.specs.declared.cmp.Ordering.TheVariants.{Less, Greater};
 ghost use Rattle.cx_base.specs.Calls.{Finds};
-ghost use Rattle.cx_base.specs.Memory.{Always};
 ghost use Rattle.cx_base.specs.Packing.{unpacked};
-ghost use Rattle.cx_base.specs.Store.{key_cmp};
 ghost use Rattle.avl_words.specs.Lines.{CanLoad};
 ghost use Rattle.index_checks.specs.Layout.{IsIndex};
-ghost use Rattle.word_index.specs.Answers.{IsNodeOf};
-ghost use Rattle.word_index.specs.Walk.{AtEnd, AtSpot, FewVisits, HasNode, VisitsFew, toward};
+ghost use Rattle.word_index.specs.Walk.{AtEnd, AtSpot, VisitsFew, Walks, toward};
 
 use crate::nodes::order_at;
 use crate::texts::Key;
@@ -62,10 +59,8 @@ pub fn reach<M: Memory, L: Ledger>(
     past: bool,
     visits: &mut Steps<L>,
 ) -> Result<End, Halt>
-    requires memory { CanLoad M.Memory mem.old IsIndex }
-    requires key { key.now.len ≤ 64 }
-    ensures finds { Finds M.Memory mem.old mem.new result (λ end. AtEnd past (unpacked key.now.len key.now.words) end.node end.above) }
-    ensures visits { Always (M.stands mem.new) (FewVisits (visits.new - visits.old)) }
+    requires { CanLoad M.Memory mem.old IsIndex }
+    ensures { Walks M.Memory mem.old mem.new result (visits.new - visits.old) (λ end. AtEnd past (unpacked key.now.len key.now.words) end.node end.above) }
 {
     let mut above = 0;
     let mut node = word(mem, 0, 1)?;
@@ -92,12 +87,8 @@ fn seek<M: Memory, L: Ledger>(
     visits: &mut Steps<L>,
     way: &mut Way,
 ) -> Result<End, Halt>
-    requires memory { CanLoad M.Memory mem.old IsIndex }
-    requires key { key.now.len ≤ 64 }
-    requires arrays { (length way.old.nodes ≡ 64) × (length way.old.sides ≡ 64) }
-    ensures finds { Finds M.Memory mem.old mem.new result (λ end. AtSpot past (unpacked key.now.len key.now.words) way.new.nodes way.new.sides way.new.depth end.node end.above) }
-    ensures arrays { IfOk result (λ _. (length way.new.nodes ≡ 64) × (length way.new.sides ≡ 64)) }
-    ensures visits { Always (M.stands mem.new) (FewVisits (visits.new - visits.old)) }
+    requires { CanLoad M.Memory mem.old IsIndex }
+    ensures { Walks M.Memory mem.old mem.new result (visits.new - visits.old) (λ end. AtSpot past (unpacked key.now.len key.now.words) way.new.nodes way.new.sides way.new.depth end.node end.above) }
 {
     let mut above = 0;
     let mut node = word(mem, 0, 1)?;
@@ -129,11 +120,8 @@ pub fn seek_place<M: Memory, L: Ledger>(
     visits: &mut Steps<L>,
     way: &mut Way,
 ) -> Result<End, Halt>
-    requires memory { CanLoad M.Memory mem.old IsIndex }
-    requires key { key.now.len ≤ 64 }
-    requires arrays { (length way.old.nodes ≡ 64) × (length way.old.sides ≡ 64) }
+    requires { CanLoad M.Memory mem.old IsIndex }
     ensures finds { Finds M.Memory mem.old mem.new result (λ end. AtSpot false (unpacked key.now.len key.now.words) way.new.nodes way.new.sides way.new.depth end.node end.above) }
-    ensures arrays { IfOk result (λ _. (length way.new.nodes ≡ 64) × (length way.new.sides ≡ 64)) }
     ensures visits { VisitsFew M.Memory mem.old mem.new (visits.new - visits.old) }
 {
     seek(mem, key, false, visits, way)

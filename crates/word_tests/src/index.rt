@@ -4,7 +4,7 @@ ghost use Rattle.std.specs.Prelude.{◌≡◌, ◌*◌, ◌<◌, ◌≤◌, IsTr
 ghost use Rattle.cx_base.specs.Memory.{Always};
 ghost use Rattle.cx_base.specs.Packing.{unpacked, packed};
 ghost use Rattle.cx_base.specs.Store.{IsKey, IsDocument};
-ghost use Rattle.word_index.specs.Answers.{IsPacked};
+ghost use Rattle.word_index.specs.Packed.{IsPacked};
 ghost use Rattle.index_checks.specs.Layout.{IsIndex};
 
 use crate::holds::holds;
@@ -20,7 +20,6 @@ use word_index::{
 fn key_of(bytes: &[u8]) -> Key
     requires { IsKey bytes.now }
     ensures packed { IsPacked 8 result.len result.words }
-    ensures short { result.len ≤ 64 }
     ensures is { unpacked result.len result.words ≡ bytes.now }
 {
     let mut words = [0; 8];

@@ -9,8 +9,8 @@ use Rattle.avl_words.proofs.changes.descend.Goals as goal
 pub loop-depth-init : goal.loop-depth-init
 loop-depth-init g c = record {
   done = Reads-none _ (λ first now s way l z r b. descending_begins now c.args.way.now.nodes c.args.way.now.sides c.args.way.now.depth c.args.node way l z r b);
-  nodes_long = c.requires.arrays.0;
-  sides_long = c.requires.arrays.1;
+  nodes_long = c.args.way.now.long.0;
+  sides_long = c.args.way.now.long.1;
   kept = search rules;
   sized = search rules;
   framed = Framed-same _;
@@ -20,10 +20,10 @@ pub word-requires-clause-memory : goal.word-requires-clause-memory
 word-requires-clause-memory g c =
     let l = c.loop-depth in
     let w = c.args.way.now in
-    loadable (search rules) (always_read c.requires.memory.all l.invariant.done (λ ws h o. (let d = o h.way h.left h.item h.right h.below in descending_within ws l.way.nodes l.way.sides l.depth l.least h.way h.left h.item h.right d)))
+    loadable (search rules) (always_read c.requires.all l.invariant.done (λ ws h o. (let d = o h.way h.left h.item h.right h.below in descending_within ws l.way.nodes l.way.sides l.depth l.least h.way h.left h.item h.right d)))
 
-pub returns-then-left-eq0-clause-finds : goal.returns-then-left-eq0-clause-finds
-returns-then-left-eq0-clause-finds g c =
+pub returns-then-left-eq0 : goal.returns-then-left-eq0
+returns-then-left-eq0 g c =
     let l = c.loop-depth in
     found (Reads-load l.invariant.done c.in_ok-left.ensures.done (λ ws o e way cc z d b. descending_ends ws l.way.nodes l.way.sides l.depth l.least c.in_ok-left.left way cc z d (o way cc z d b) e c.if-left-eq0.true)) (search rules) (search rules) (search rules)
 
@@ -42,9 +42,9 @@ loop-depth-preserved g c =
       framed = Framed-then i.framed w.framed;
     }
 
-pub returns-clause-finds : goal.returns-clause-finds
-returns-clause-finds g c =
+pub returns : goal.returns
+returns g c =
     let l = c.loop-depth in
     let w = c.args.way.now in
     let deep : 64 ≤ l.depth = omega (arith, c.loop-depth-test.false) in
-    found (Reads-weaker (Reads-with c.requires.memory.all l.invariant.done) (λ ws p. absurd (descending_deep ws w.nodes w.sides w.depth c.args.node l.way.nodes l.way.sides l.depth l.least p.0 deep p.1))) (search rules) (search rules) (search rules)
+    found (Reads-weaker (Reads-with c.requires.all l.invariant.done) (λ ws p. absurd (descending_deep ws w.nodes w.sides w.depth c.args.node l.way.nodes l.way.sides l.depth l.least p.0 deep p.1))) (search rules) (search rules) (search rules)

@@ -1,17 +1,11 @@
 use Rattle.std.proofs.Common.{rules}
-use Rattle.cx_base.proofs.MemoryLemmas.{Becomes-then, always_at_most}
-use Rattle.avl_words.proofs.Putting.{can_mend_leaf, put_depth, puts}
+use Rattle.cx_base.proofs.MemoryLemmas.{Becomes-then}
+use Rattle.avl_words.proofs.Putting.{can_mend_leaf, puts}
 use Rattle.avl_words.proofs.Memories.{changed, storable}
 use Rattle.avl_words.proofs.changes.put_node.Goals as goal
 
-pub mend-requires-clause-depth : goal.mend-requires-clause-depth
-mend-requires-clause-depth g c =
-    let m = c.args.mem.now in
-    let w = c.args.way.now in
-    always_at_most (g.M.Memory.stands m) (g.met.M.Memory.some_stands m) w.depth 64 (λ first now s. put_depth now w.nodes w.sides w.depth c.args.node (c.requires.all first now s))
-
-pub mend-requires-clause-memory : goal.mend-requires-clause-memory
-mend-requires-clause-memory g c =
+pub mend-requires : goal.mend-requires
+mend-requires g c =
     let w = c.args.way.now in
     storable (search rules) (search rules) (λ first now s. can_mend_leaf now w.nodes w.sides w.depth c.args.node (c.requires.all first now s))
 

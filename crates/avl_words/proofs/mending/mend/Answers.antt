@@ -11,7 +11,7 @@ begins ws nodes sides depth settled node high = (let e : depth ≡ depth - 0 = o
 pub loop-i-init : goal.loop-i-init
 loop-i-init g c = record {
   done = record { from = λ first now s. (now, s, begins now c.args.way.now.nodes c.args.way.now.sides c.args.way.now.depth c.args.settled c.args.tree.root c.args.tree.height) };
-  sized = c.requires.memory.sized;
+  sized = c.requires.sized;
   framed = Framed-same _;
 }
 
@@ -20,7 +20,7 @@ word-requires-clause-memory g c =
     let l = c.loop-i in
     let w = c.args.way.now in
     let t = c.args.tree in
-    loadable (search rules) (always_after c.requires.memory.all l.invariant.done (λ x y p m. node_within x y w.nodes w.sides w.depth c.args.settled t.root t.height (w.depth - l.i) l.top.root l.top.height p m (omega (arith, c.loop-i-test.true))))
+    loadable (search rules) (always_after c.requires.all l.invariant.done (λ x y p m. node_within x y w.nodes w.sides w.depth c.args.settled t.root t.height (w.depth - l.i) l.top.root l.top.height p m (omega (arith, c.loop-i-test.true))))
 
 pub hang-requires-clause-side : goal.hang-requires-clause-side
 hang-requires-clause-side g c =
@@ -28,14 +28,14 @@ hang-requires-clause-side g c =
     let w = c.args.way.now in
     let t = c.args.tree in
     always_below (g.M.Memory.stands l.mem) (g.met.M.Memory.some_stands l.mem) (get_or w.sides (w.depth - l.i - 1) 0) 2
-    (always_after c.requires.memory.all l.invariant.done (λ x y p m. side_below x y w.nodes w.sides w.depth c.args.settled t.root t.height (w.depth - l.i) l.top.root l.top.height p m (omega (arith, c.loop-i-test.true))))
+    (always_after c.requires.all l.invariant.done (λ x y p m. side_below x y w.nodes w.sides w.depth c.args.settled t.root t.height (w.depth - l.i) l.top.root l.top.height p m (omega (arith, c.loop-i-test.true))))
 
 pub hang-requires-clause-memory : goal.hang-requires-clause-memory
 hang-requires-clause-memory g c =
     let l = c.loop-i in
     let w = c.args.way.now in
     let t = c.args.tree in
-    storable (search rules) (search rules) (always_after c.requires.memory.all (Becomes-loaded l.invariant.done c.in_ok-high.ensures.done)
+    storable (search rules) (search rules) (always_after c.requires.all (Becomes-loaded l.invariant.done c.in_ok-high.ensures.done)
     (λ x y p m. can_go_on x y w.nodes w.sides w.depth c.args.settled t.root t.height (w.depth - l.i) l.top.root l.top.height p m.0 (omega (arith, c.loop-i-test.true))))
 
 pub relink-requires-clause-memory : goal.relink-requires-clause-memory
@@ -44,7 +44,7 @@ relink-requires-clause-memory g c =
     let w = c.args.way.now in
     let t = c.args.tree in
     let top = c.in_ok-top.top in
-    storable (search rules) (search rules) (always_after c.requires.memory.all (Becomes-both (Becomes-loaded l.invariant.done c.in_ok-high.ensures.done) c.in_ok-top.ensures.done)
+    storable (search rules) (search rules) (always_after c.requires.all (Becomes-both (Becomes-loaded l.invariant.done c.in_ok-high.ensures.done) c.in_ok-top.ensures.done)
     (λ x z p m. can_relink x m.0 z w.nodes w.sides w.depth c.args.settled t.root t.height (w.depth - l.i) l.top.root l.top.height top.root top.height c.in_ok-high.high p m.1.0
     (omega (arith, c.loop-i-test.true)) (omega (arith, c.if-last-settled.true)) m.1.1 c.if-top-high.true m.2))
 

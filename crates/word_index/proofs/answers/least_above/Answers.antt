@@ -18,29 +18,36 @@ key_of_first : (ws : List ℕ) (node len : ℕ) (words : List ℕ) (pairs : Stor
 key_of_first ws node len words [] some is packs = absurd (some is)
 key_of_first ws node len words (pair ∷ pairs) some is packs = (pair, pairs, refl, packs pair is.1)
 
-pub returns-then-end-eq0-clause-finds : goal.returns-then-end-eq0-clause-finds
-returns-then-end-eq0-clause-finds g c =
+pub returns-then-end-eq0 : goal.returns-then-end-eq0
+returns-then-end-eq0 g c =
     let end = c.in_ok-end.end in
     let key = unpacked c.args.key.now.len c.args.key.now.words in
-    found (Reads-weaker c.in_ok-end.ensures.finds.done (λ ws f version store s. none_there ws end.above (pairs_above key store) c.if-end-eq0.true (spot_above ws key f.nodes f.sides f.depth end.node end.above f.at version store s))) (search rules) (search rules) (search rules)
+    record {
+      finds = found (Reads-weaker c.in_ok-end.ensures.finds.done (λ ws f version store s. none_there ws end.above (pairs_above key store) c.if-end-eq0.true (spot_above ws key f.nodes f.sides f.depth end.node end.above f.at version store s))) (search rules) (search rules) (search rules);
+      visits = search rules;
+    }
 
 pub key_at-requires : goal.key_at-requires
 key_at-requires g c =
     let end = c.in_ok-end.end in
     let key = unpacked c.args.key.now.len c.args.key.now.words in
-    loadable (search rules) (always_read c.requires.memory.all c.in_ok-end.ensures.finds.done
+    loadable (search rules) (always_read c.requires.all c.in_ok-end.ensures.finds.done
     (λ ws i f. there_first ws end.above (pairs_above key i.store) (spot_above ws key f.nodes f.sides f.depth end.node end.above f.at i.version i.store i.stands) c.if-end-eq0.false))
 
-pub returns-clause-finds : goal.returns-clause-finds
-returns-clause-finds g c =
+pub returns : goal.returns
+returns g c =
     let end = c.in_ok-end.end in
     let key = unpacked c.args.key.now.len c.args.key.now.words in
     let least = c.in_ok-key.key in
-    found (Reads-then c.in_ok-end.ensures.finds.done c.in_ok-key.ensures.done
-    (λ ws f k version store s. key_of_first ws end.above least.len least.words (pairs_above key store) c.if-end-eq0.false (spot_above ws key f.nodes f.sides f.depth end.node end.above f.at version store s) k)) (search rules) (search rules) (search rules)
+    record {
+      finds = found (Reads-then c.in_ok-end.ensures.finds.done c.in_ok-key.ensures.done
+          (λ ws f k version store s. key_of_first ws end.above least.len least.words (pairs_above key store) c.if-end-eq0.false (spot_above ws key f.nodes f.sides f.depth end.node end.above f.at version store s) k)) (search rules) (search rules) (search rules);
+      visits = always_kept c.in_ok-end.ensures.visits c.in_ok-key.ensures.kept;
+    }
 
-pub returns-in_err-key-clause-visits : goal.returns-in_err-key-clause-visits
-returns-in_err-key-clause-visits g c = always_kept c.in_ok-end.ensures.visits c.in_err-key.ensures.kept
-
-pub returns-clause-visits : goal.returns-clause-visits
-returns-clause-visits g c = always_kept c.in_ok-end.ensures.visits c.in_ok-key.ensures.kept
+pub returns-in_err-key : goal.returns-in_err-key
+returns-in_err-key g c =
+    record {
+      finds = search rules;
+      visits = always_kept c.in_ok-end.ensures.visits c.in_err-key.ensures.kept;
+    }

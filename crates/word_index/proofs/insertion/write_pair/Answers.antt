@@ -55,7 +55,7 @@ returns-clause-changes g c =
     let other = c.div_ceil-2.result in
     changed (Becomes-then (Becomes-both (Becomes-both c.in_ok-node.ensures.changes.done c.in_ok-key_first.ensures.changes.done) c.in_ok-doc_first.ensures.changes.done) c.in_ok-put_line.ensures.changes.done (λ x w v t f.
     pair_written x t.1.0 t.0 w v c.in_ok-node.node count other c.in_ok-key_first.key_first c.in_ok-doc_first.doc_first key.len doc.len key.words doc.words.now
-    c.requires.key c.requires.doc c.div_ceil.ensures c.div_ceil-2.ensures t.1.1 t.1.2 t.2 f)) (search rules) (search rules)
+    c.requires.key c.args.doc.now.packed c.div_ceil.ensures c.div_ceil-2.ensures t.1.1 t.1.2 t.2 f)) (search rules) (search rules)
 
 pub returns-clause-exact : goal.returns-clause-exact
 returns-clause-exact g c =
@@ -65,4 +65,4 @@ returns-clause-exact g c =
     let other = c.div_ceil-2.result in
     Becomes-then (Becomes-both (Becomes-both c.in_ok-node.ensures.exact c.in_ok-key_first.ensures.exact) c.in_ok-doc_first.ensures.exact) c.in_ok-put_line.ensures.exact (λ x w v t f.
     new_pair_runs c.in_ok-node.node c.in_ok-key_first.key_first c.in_ok-doc_first.doc_first key.len doc.len count other key.words doc.words.now x t.1.0 t.0 w v
-    c.requires.key c.requires.doc c.div_ceil.ensures c.div_ceil-2.ensures t.1.1 t.1.2 t.2 f)
+    c.requires.key c.args.doc.now.packed c.div_ceil.ensures c.div_ceil-2.ensures t.1.1 t.1.2 t.2 f)

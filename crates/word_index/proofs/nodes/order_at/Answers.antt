@@ -12,7 +12,7 @@ pub loop-at-init : goal.loop-at-init
 loop-at-init g c =
     let a = c.in_ok-first.ensures in
     record {
-      done = Reads-load (Reads-none _ c.requires.memory.all) a.done (λ ws p e. begun_none c.args.node c.in_ok-first.first c.args.key.now.words ws e);
+      done = Reads-load (Reads-none _ c.requires.all) a.done (λ ws p e. begun_none c.args.node c.in_ok-first.first c.args.key.now.words ws e);
       kept = a.kept;
       sized = search rules;
       framed = a.framed;
@@ -34,7 +34,7 @@ loop-at-preserved g c =
 
 pub word-requires-in-loop-at-clause-memory : goal.word-requires-in-loop-at-clause-memory
 word-requires-in-loop-at-clause-memory g c =
-    loadable (search rules) (always_read c.requires.memory.all c.loop-at.invariant.done (λ ws h p. begun_within c.args.node c.in_ok-first.first c.loop-at.at c.args.key.now.words ws p h))
+    loadable (search rules) (always_read c.requires.all c.loop-at.invariant.done (λ ws h p. begun_within c.args.node c.in_ok-first.first c.loop-at.at c.args.key.now.words ws p h))
 
 pub returns-in-Some-clause-finds : goal.returns-in-Some-clause-finds
 returns-in-Some-clause-finds g c =

@@ -5,10 +5,10 @@ use Rattle.word_index.proofs.Cutting.{can_take, cut_count, cuts}
 use Rattle.avl_words.proofs.Memories.{changed, storable}
 use Rattle.word_index.proofs.removal.cut.Goals as goal
 
-pub take_node-requires-clause-memory : goal.take_node-requires-clause-memory
-take_node-requires-clause-memory g c =
+pub take_node-requires : goal.take_node-requires
+take_node-requires g c =
     let w = c.args.way.now in
-    storable (search rules) (search rules) (λ first now s. can_take now w.nodes w.sides w.depth c.args.node (c.requires.memory.all first now s))
+    storable (search rules) (search rules) (λ first now s. can_take now w.nodes w.sides w.depth c.args.node (c.requires.all first now s))
 
 pub overflow_sub-pairs : goal.overflow_sub-pairs
 overflow_sub-pairs g c =
@@ -16,7 +16,7 @@ overflow_sub-pairs g c =
     let m = c.word.new.mem in
     let n = c.in_ok-pairs.pairs in
     always_at_most (g.M.Memory.stands m) (g.met.M.Memory.some_stands m) 1 n
-    (always_after c.requires.memory.all (Becomes-loaded c.in_ok-take_node.ensures.done c.in_ok-pairs.ensures.done) (λ x z h r. cut_count x z w.nodes w.sides w.depth c.args.node n h r.0 r.1))
+    (always_after c.requires.all (Becomes-loaded c.in_ok-take_node.ensures.done c.in_ok-pairs.ensures.done) (λ x z h r. cut_count x z w.nodes w.sides w.depth c.args.node n h r.0 r.1))
 
 pub returns : goal.returns
 returns g c =

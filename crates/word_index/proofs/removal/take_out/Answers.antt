@@ -8,11 +8,11 @@ use Rattle.word_index.specs.Removal.{CanCut, TakesOut}
 use Rattle.avl_words.proofs.Memories.{changed, storable}
 use Rattle.word_index.proofs.removal.take_out.Goals as goal
 
-pub cut_pair-requires-clause-memory : goal.cut_pair-requires-clause-memory
-cut_pair-requires-clause-memory g c =
+pub cut_pair-requires : goal.cut_pair-requires
+cut_pair-requires g c =
     let b = c.over-buffer.result in
     storable (search rules) (search rules) (always_over (g.M.Memory.size b.inner.now) b.held.now.count b.held.now.places b.held.now.values c.over-buffer.ensures.none
-    (subst (λ m. Always (g.M.Memory.stands m) (λ ws. CanCut ws c.args.way.now.nodes c.args.way.now.sides c.args.way.now.depth c.args.node)) (sym c.over-buffer.ensures.inner) c.requires.memory.all))
+    (subst (λ m. Always (g.M.Memory.stands m) (λ ws. CanCut ws c.args.way.now.nodes c.args.way.now.sides c.args.way.now.depth c.args.node)) (sym c.over-buffer.ensures.inner) c.requires.all))
 
 pub returns : goal.returns
 returns g c =

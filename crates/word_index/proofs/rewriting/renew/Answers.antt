@@ -19,38 +19,38 @@ bared {P = P} node all s t =
     t (λ first x y m r. (r.0, ap (with_word node 6 0) r.1))
 
 pub put-requires-clause-memory : goal.put-requires-clause-memory
-put-requires-clause-memory g c = storable (search rules) (search rules) (λ first now s. node_here now c.args.node _ (c.requires.memory.all first now s).can)
+put-requires-clause-memory g c = storable (search rules) (search rules) (λ first now s. node_here now c.args.node _ (c.requires.all first now s).can)
 
 pub put-requires-2-clause-memory : goal.put-requires-2-clause-memory
 put-requires-2-clause-memory g c =
     let doc = c.args.doc.now in
-    storable (search rules) (search rules) (always_after c.requires.memory.all (Becomes-store (Becomes-from-read (Reads-none _ c.requires.memory.all)) c.in_ok-put.ensures.done (λ first x y m r. ap (with_word c.args.node 5 0) r.0))
+    storable (search rules) (search rules) (always_after c.requires.all (Becomes-store (Becomes-from-read (Reads-none _ c.requires.all)) c.in_ok-put.ensures.done (λ first x y m r. ap (with_word c.args.node 5 0) r.0))
     (λ x z h e. subst (λ u. IsWithin u c.args.node) (sym e) (bare_here x c.args.node c.args.first c.args.count (unpacked doc.len doc.words.now) h)))
 
 pub give_chain-requires : goal.give_chain-requires
 give_chain-requires g c =
     let doc = c.args.doc.now in
-    storable (search rules) (search rules) (Becomes-always (bared c.args.node c.requires.memory.all c.in_ok-put.ensures.done c.in_ok-put-2.ensures.done)
+    storable (search rules) (search rules) (Becomes-always (bared c.args.node c.requires.all c.in_ok-put.ensures.done c.in_ok-put-2.ensures.done)
     (λ x z r. subst (λ u. LooseChain u c.args.first c.args.count) (sym r.1) (renew_chain x c.args.node c.args.first c.args.count (unpacked doc.len doc.words.now) r.0)))
 
 pub write_text-requires-clause-memory : goal.write_text-requires-clause-memory
 write_text-requires-clause-memory g c =
     let doc = c.args.doc.now in
-    storable (search rules) (search rules) (Becomes-always (Becomes-both (bared c.args.node c.requires.memory.all c.in_ok-put.ensures.done c.in_ok-put-2.ensures.done) c.in_ok-give_chain.ensures.exact)
+    storable (search rules) (search rules) (Becomes-always (Becomes-both (bared c.args.node c.requires.all c.in_ok-put.ensures.done c.in_ok-put-2.ensures.done) c.in_ok-give_chain.ensures.exact)
     (λ x z r. renew_room x z c.args.node c.args.first c.args.count doc.len c.div_ceil.result doc.words.now r.1.0 (r.2 ∙ ap (with_chain_given c.args.count c.args.first) r.1.1) c.div_ceil.ensures))
 
 pub put-requires-3-clause-memory : goal.put-requires-3-clause-memory
 put-requires-3-clause-memory g c =
     let doc = c.args.doc.now in
-    storable (search rules) (search rules) (Becomes-always (Becomes-both (Becomes-both (bared c.args.node c.requires.memory.all c.in_ok-put.ensures.done c.in_ok-put-2.ensures.done) c.in_ok-give_chain.ensures.exact) c.in_ok-text.ensures.exact)
-    (λ x w r. renew_node x r.0 w c.args.node c.args.first c.args.count doc.len c.div_ceil.result c.in_ok-text.text doc.words.now c.requires.doc r.1.1.0 (r.1.2 ∙ ap (with_chain_given c.args.count c.args.first) r.1.1.1) c.div_ceil.ensures r.2))
+    storable (search rules) (search rules) (Becomes-always (Becomes-both (Becomes-both (bared c.args.node c.requires.all c.in_ok-put.ensures.done c.in_ok-put-2.ensures.done) c.in_ok-give_chain.ensures.exact) c.in_ok-text.ensures.exact)
+    (λ x w r. renew_node x r.0 w c.args.node c.args.first c.args.count doc.len c.div_ceil.result c.in_ok-text.text doc.words.now c.args.doc.now.packed r.1.1.0 (r.1.2 ∙ ap (with_chain_given c.args.count c.args.first) r.1.1.1) c.div_ceil.ensures r.2))
 
 pub put-requires-4-clause-memory : goal.put-requires-4-clause-memory
 put-requires-4-clause-memory g c =
     let doc = c.args.doc.now in
-    storable (search rules) (search rules) (Becomes-always (Becomes-store (Becomes-both (Becomes-both (bared c.args.node c.requires.memory.all c.in_ok-put.ensures.done c.in_ok-put-2.ensures.done) c.in_ok-give_chain.ensures.exact) c.in_ok-text.ensures.exact) c.in_ok-put-3.ensures.done
+    storable (search rules) (search rules) (Becomes-always (Becomes-store (Becomes-both (Becomes-both (bared c.args.node c.requires.all c.in_ok-put.ensures.done c.in_ok-put-2.ensures.done) c.in_ok-give_chain.ensures.exact) c.in_ok-text.ensures.exact) c.in_ok-put-3.ensures.done
     (λ first x w s r.
-    named_here w c.args.node c.in_ok-text.text (renew_node x r.0 w c.args.node c.args.first c.args.count doc.len c.div_ceil.result c.in_ok-text.text doc.words.now c.requires.doc r.1.1.0 (r.1.2 ∙ ap (with_chain_given c.args.count c.args.first) r.1.1.1) c.div_ceil.ensures r.2)))
+    named_here w c.args.node c.in_ok-text.text (renew_node x r.0 w c.args.node c.args.first c.args.count doc.len c.div_ceil.result c.in_ok-text.text doc.words.now c.args.doc.now.packed r.1.1.0 (r.1.2 ∙ ap (with_chain_given c.args.count c.args.first) r.1.1.1) c.div_ceil.ensures r.2)))
     (λ x v h. h))
 
 pub returns : goal.returns
@@ -58,8 +58,8 @@ returns g c =
     let doc = c.args.doc.now in
     let node = c.args.node in
     changed (Becomes-store (Becomes-store {S = λ x u. with_word node 6 doc.len u ≡ with_renewed (unpacked doc.len doc.words.now) node x}
-    (Becomes-both (Becomes-both (bared node c.requires.memory.all c.in_ok-put.ensures.done c.in_ok-put-2.ensures.done) c.in_ok-give_chain.ensures.exact) c.in_ok-text.ensures.exact) c.in_ok-put-3.ensures.done
+    (Becomes-both (Becomes-both (bared node c.requires.all c.in_ok-put.ensures.done c.in_ok-put-2.ensures.done) c.in_ok-give_chain.ensures.exact) c.in_ok-text.ensures.exact) c.in_ok-put-3.ensures.done
     (λ first x w s r.
-    renew_runs x r.0 w (with_word node 6 doc.len (with_word node 5 c.in_ok-text.text w)) node c.args.first c.args.count doc.len c.div_ceil.result c.in_ok-text.text doc.words.now c.requires.doc r.1.1.0 (r.1.2 ∙ ap (with_chain_given c.args.count c.args.first) r.1.1.1) c.div_ceil.ensures
+    renew_runs x r.0 w (with_word node 6 doc.len (with_word node 5 c.in_ok-text.text w)) node c.args.first c.args.count doc.len c.div_ceil.result c.in_ok-text.text doc.words.now c.args.doc.now.packed r.1.1.0 (r.1.2 ∙ ap (with_chain_given c.args.count c.args.first) r.1.1.1) c.div_ceil.ensures
     r.2 refl)) c.in_ok-put-4.ensures.done
     (λ first x u s q. q)) (search rules) (search rules)

@@ -10,11 +10,11 @@ use Rattle.word_index.specs.Rewriting.{CanRenew}
 use Rattle.avl_words.proofs.Memories.{changed, storable}
 use Rattle.word_index.proofs.rewriting.rewrite.Goals as goal
 
-pub replace-requires-clause-memory : goal.replace-requires-clause-memory
-replace-requires-clause-memory g c =
+pub replace-requires : goal.replace-requires
+replace-requires g c =
     let b = c.over-buffer.result in
     storable (search rules) (search rules) (always_over (g.M.Memory.size b.inner.now) b.held.now.count b.held.now.places b.held.now.values c.over-buffer.ensures.none
-    (subst (λ m. Always (g.M.Memory.stands m) (λ ws. CanRenew ws c.args.node (unpacked c.args.doc.now.len c.args.doc.now.words.now))) (sym c.over-buffer.ensures.inner) c.requires.memory.all))
+    (subst (λ m. Always (g.M.Memory.stands m) (λ ws. CanRenew ws c.args.node (unpacked c.args.doc.now.len c.args.doc.now.words.now))) (sym c.over-buffer.ensures.inner) c.requires.all))
 
 pub returns : goal.returns
 returns g c =

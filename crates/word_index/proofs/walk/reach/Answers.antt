@@ -12,58 +12,60 @@ pub loop-depth-init : goal.loop-depth-init
 loop-depth-init g c =
     let b = c.in_ok-node.ensures in
     record {
-      done = Reads-load (Reads-none _ c.requires.memory.all) b.done (λ ws p e. some_begins ws c.args.past (unpacked c.args.key.now.len c.args.key.now.words) 0 c.in_ok-node.node 0 e refl refl);
+      done = Reads-load (Reads-none _ c.requires.all) b.done (λ ws p e. some_begins ws c.args.past (unpacked c.args.key.now.len c.args.key.now.words) 0 c.in_ok-node.node 0 e refl refl);
       counted = omega arith;
       kept = b.kept;
       sized = search rules;
       framed = b.framed;
     }
 
-pub returns-then-node-eq0-clause-finds : goal.returns-then-node-eq0-clause-finds
-returns-then-node-eq0-clause-finds g c =
+pub returns-then-node-eq0 : goal.returns-then-node-eq0
+returns-then-node-eq0 g c =
     let l = c.loop-depth in
-    found (Reads-weaker l.invariant.done (λ ws w. some_ends ws c.args.past (unpacked c.args.key.now.len c.args.key.now.words) l._depth l.node l.above w c.if-node-eq0.true)) (search rules) (search rules) (search rules)
+    record {
+      finds = found (Reads-weaker l.invariant.done (λ ws w. some_ends ws c.args.past (unpacked c.args.key.now.len c.args.key.now.words) l._depth l.node l.above w c.if-node-eq0.true)) (search rules) (search rules) (search rules);
+      visits = always_said (Reads-weaker l.invariant.done (λ ws w. few_counted ws c.args.visits.now l.visits l._depth (some_few ws c.args.past (unpacked c.args.key.now.len c.args.key.now.words) l._depth l.node l.above w) l.invariant.counted));
+    }
 
-pub returns-then-node-eq0-clause-visits : goal.returns-then-node-eq0-clause-visits
-returns-then-node-eq0-clause-visits g c =
+pub order_at-requires : goal.order_at-requires
+order_at-requires g c =
     let l = c.loop-depth in
-    always_said (Reads-weaker l.invariant.done (λ ws w. few_counted ws c.args.visits.now l.visits l._depth (some_few ws c.args.past (unpacked c.args.key.now.len c.args.key.now.words) l._depth l.node l.above w) l.invariant.counted))
+    loadable (search rules) (always_read c.requires.all l.invariant.done (λ ws i w. some_has_node ws c.args.past (unpacked c.args.key.now.len c.args.key.now.words) l._depth l.node l.above w c.if-node-eq0.false i))
 
-pub order_at-requires-clause-memory : goal.order_at-requires-clause-memory
-order_at-requires-clause-memory g c =
+pub returns-in_err-order_at : goal.returns-in_err-order_at
+returns-in_err-order_at g c =
     let l = c.loop-depth in
-    loadable (search rules) (always_read c.requires.memory.all l.invariant.done (λ ws i w. some_has_node ws c.args.past (unpacked c.args.key.now.len c.args.key.now.words) l._depth l.node l.above w c.if-node-eq0.false i))
+    record {
+      finds = search rules;
+      visits = always_kept (always_said (Reads-weaker l.invariant.done (λ ws w. few_counted ws c.args.visits.now c.order_at.new.visits (l._depth + 1) (some_few_node ws c.args.past (unpacked c.args.key.now.len c.args.key.now.words) l._depth l.node l.above w c.if-node-eq0.false) (omega (arith, l.invariant.counted, c.in_err-order_at.ensures.counted)))))
+          c.in_err-order_at.ensures.finds.kept;
+    }
 
-pub returns-in_err-order_at-clause-visits : goal.returns-in_err-order_at-clause-visits
-returns-in_err-order_at-clause-visits g c =
-    let l = c.loop-depth in
-    always_kept (always_said (Reads-weaker l.invariant.done (λ ws w. few_counted ws c.args.visits.now c.order_at.new.visits (l._depth + 1) (some_few_node ws c.args.past (unpacked c.args.key.now.len c.args.key.now.words) l._depth l.node l.above w c.if-node-eq0.false) (omega (arith, l.invariant.counted, c.in_err-order_at.ensures.counted)))))
-    c.in_err-order_at.ensures.finds.kept
-
-pub returns-then-is_eq-clause-finds : goal.returns-then-is_eq-clause-finds
-returns-then-is_eq-clause-finds g c =
+pub returns-then-is_eq : goal.returns-then-is_eq
+returns-then-is_eq g c =
     let l = c.loop-depth in
     let o = c.in_ok-order_at.field-0 in
     let same = sym c.toward-order.ensures ∙ is_same c.toward-order.result (sym c.is_eq.ensures ∙ c.if-is_eq.true) in
-    found (Reads-then l.invariant.done c.in_ok-order_at.ensures.finds.done (λ ws w is. some_ends_same ws c.args.past (unpacked c.args.key.now.len c.args.key.now.words) l._depth l.node l.above o w c.if-node-eq0.false is same)) (search rules) (search rules) (search rules)
-
-pub returns-then-is_eq-clause-visits : goal.returns-then-is_eq-clause-visits
-returns-then-is_eq-clause-visits g c =
-    let l = c.loop-depth in
-    always_kept (always_said (Reads-weaker l.invariant.done (λ ws w. few_counted ws c.args.visits.now c.order_at.new.visits (l._depth + 1) (some_few_node ws c.args.past (unpacked c.args.key.now.len c.args.key.now.words) l._depth l.node l.above w c.if-node-eq0.false) (omega (arith, l.invariant.counted, c.in_ok-order_at.ensures.counted)))))
-    c.in_ok-order_at.ensures.finds.kept
+    record {
+      finds = found (Reads-then l.invariant.done c.in_ok-order_at.ensures.finds.done (λ ws w is. some_ends_same ws c.args.past (unpacked c.args.key.now.len c.args.key.now.words) l._depth l.node l.above o w c.if-node-eq0.false is same)) (search rules) (search rules) (search rules);
+      visits = always_kept (always_said (Reads-weaker l.invariant.done (λ ws w. few_counted ws c.args.visits.now c.order_at.new.visits (l._depth + 1) (some_few_node ws c.args.past (unpacked c.args.key.now.len c.args.key.now.words) l._depth l.node l.above w c.if-node-eq0.false) (omega (arith, l.invariant.counted, c.in_ok-order_at.ensures.counted)))))
+          c.in_ok-order_at.ensures.finds.kept;
+    }
 
 pub word-requires-in-loop-depth-clause-memory : goal.word-requires-in-loop-depth-clause-memory
 word-requires-in-loop-depth-clause-memory g c =
     let l = c.loop-depth in
-    loadable (search rules) (always_read c.requires.memory.all (Reads-then l.invariant.done c.in_ok-order_at.ensures.finds.done (λ ws w o. w))
+    loadable (search rules) (always_read c.requires.all (Reads-then l.invariant.done c.in_ok-order_at.ensures.finds.done (λ ws w o. w))
     (λ ws i w. node_within ws l.node (some_has_node ws c.args.past (unpacked c.args.key.now.len c.args.key.now.words) l._depth l.node l.above w c.if-node-eq0.false i)))
 
-pub returns-in_err-node-2-clause-visits : goal.returns-in_err-node-2-clause-visits
-returns-in_err-node-2-clause-visits g c =
+pub returns-in_err-node-2 : goal.returns-in_err-node-2
+returns-in_err-node-2 g c =
     let l = c.loop-depth in
-    always_kept (always_said (Reads-weaker l.invariant.done (λ ws w. few_counted ws c.args.visits.now c.order_at.new.visits (l._depth + 1) (some_few_node ws c.args.past (unpacked c.args.key.now.len c.args.key.now.words) l._depth l.node l.above w c.if-node-eq0.false) (omega (arith, l.invariant.counted, c.in_ok-order_at.ensures.counted)))))
-    (kept_then c.in_ok-order_at.ensures.finds.kept c.in_err-node-2.ensures.kept)
+    record {
+      finds = search rules;
+      visits = always_kept (always_said (Reads-weaker l.invariant.done (λ ws w. few_counted ws c.args.visits.now c.order_at.new.visits (l._depth + 1) (some_few_node ws c.args.past (unpacked c.args.key.now.len c.args.key.now.words) l._depth l.node l.above w c.if-node-eq0.false) (omega (arith, l.invariant.counted, c.in_ok-order_at.ensures.counted)))))
+          (kept_then c.in_ok-order_at.ensures.finds.kept c.in_err-node-2.ensures.kept);
+    }
 
 pub loop-depth-preserved : goal.loop-depth-preserved
 loop-depth-preserved g c =
@@ -85,12 +87,10 @@ loop-depth-preserved g c =
       framed = Framed-then (Framed-then i.framed o.framed) w.framed;
     }
 
-pub returns-clause-finds : goal.returns-clause-finds
-returns-clause-finds g c =
+pub returns : goal.returns
+returns g c =
     let l = c.loop-depth in
-    found (Reads-weaker l.invariant.done (λ ws w. some_deep ws c.args.past (unpacked c.args.key.now.len c.args.key.now.words) l._depth l.node l.above w (omega (arith, c.loop-depth-test.false)))) (search rules) (search rules) (search rules)
-
-pub returns-clause-visits : goal.returns-clause-visits
-returns-clause-visits g c =
-    let l = c.loop-depth in
-    always_said (Reads-weaker l.invariant.done (λ ws w. few_counted ws c.args.visits.now l.visits l._depth (some_few ws c.args.past (unpacked c.args.key.now.len c.args.key.now.words) l._depth l.node l.above w) l.invariant.counted))
+    record {
+      finds = found (Reads-weaker l.invariant.done (λ ws w. some_deep ws c.args.past (unpacked c.args.key.now.len c.args.key.now.words) l._depth l.node l.above w (omega (arith, c.loop-depth-test.false)))) (search rules) (search rules) (search rules);
+      visits = always_said (Reads-weaker l.invariant.done (λ ws w. few_counted ws c.args.visits.now l.visits l._depth (some_few ws c.args.past (unpacked c.args.key.now.len c.args.key.now.words) l._depth l.node l.above w) l.invariant.counted));
+    }
