@@ -1,6 +1,7 @@
 -- What one life comes to.
 use Rattle.std.specs.Prelude.{◌≡◌, ◌+◌, ◌-◌, ◌%◌, ◌^◌, ◌<◌, ◌≤◌, ℕ, List, [], ◌∷◌, ◌++◌, length, slice_index, All, Option, None, Some}
 use Rattle.cx_base.specs.Codes.{root_place_of}
+use Rattle.cx_base.specs.OldFormat.{no_old_format}
 use Rattle.cx_core.specs.Base.{LawfulBase}
 use Rattle.cx_core.specs.declared.entry.Base.{Base}
 use Rattle.cx_core.specs.declared.entry.Image.{Image}
@@ -65,7 +66,7 @@ pub record HasLost {Op Reply Store : Type 0} (m : Meaning Op Reply Store) (lines
   pub limits : IsLifeInLimits m.is_op 8 life
   pub op_values : HasOpValues m life
   pub left : IsLeftOf remains life.choice image
-  pub recovered : IsRecovered version is_lawful image next
+  pub recovered : IsRecovered version is_lawful no_old_format image next
   pub items : ℕ
   pub flags : HasFlags told (next.place - told.from) items flagged
   pub items_are : (store : Store) → m.stands (object_part next.words) store → items ≡ m.items store
@@ -91,7 +92,7 @@ pub record HasLived {Op Reply Store : Type 0} (m : Meaning Op Reply Store) (line
   pub told : IsToldBy m.encoding life ran.trail ran.told
   pub began : ran.trail.base ≡ base
   pub left : LeavesImage lines life ran.trail ran.image
-  pub recovered : IsRecovered version is_lawful ran.image ran.next
+  pub recovered : IsRecovered version is_lawful no_old_format ran.image ran.next
   pub next : BeginsLife m lines is_lawful (begun_after m begun life ran.told.journal ran.told.kept) ran.next
   pub few : ran.next.place ≤ base.place + length life.commands
 
@@ -125,7 +126,7 @@ IsNextBase m lines is_lawful (Some base) next = next ≡ base
 abbrev pub HaveEnded : {Op Reply Store : Type 0} → Meaning Op Reply Store → ℕ → ℕ → (List ℕ → Type 0) → Begun Store → List (Life Op) → Option Image → Option Base → Type 0
 HaveEnded m lines version is_lawful begun lives None None = lives ≡ []
 HaveEnded m lines version is_lawful begun lives (Some image) (Some base) =
-    (0 < length lives) × IsRecovered version is_lawful image base × BeginsLife m lines is_lawful begun base × (base.place ≤ command_count lives)
+    (0 < length lives) × IsRecovered version is_lawful no_old_format image base × BeginsLife m lines is_lawful begun base × (base.place ≤ command_count lives)
 HaveEnded m lines version is_lawful begun lives _ _ = ⊥
 
 -- the loss of power that ended the last of these lives left the image, by the last of these trails

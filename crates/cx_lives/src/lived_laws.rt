@@ -14,7 +14,9 @@ use core_runs::crash::crash_images_recover;
 use cx_core::Base;
 use life_laws::{kept_bases_begin_the_next_life, kept_lives_go_on, replies_are_the_stores};
 use life_records::laws::{flags_may_be_set, told_lives_have_ended};
-use recovery::{closed_tables_are_whole, closed_tables_recover, crash_images_are_left};
+use recovery::{
+    closed_tables_are_whole, closed_tables_recover, closed_tables_stay, crash_images_are_left,
+};
 use typed_object::TypedObject;
 
 /// Where a life was run by a service that opened from a base, what is recovered from what its closed table leaves makes its record one
@@ -33,6 +35,7 @@ pub(crate) fn lives_that_ran_have_lived<O: TypedObject>(object: &O, base: &Base)
     crash_images_are_left::<O>();
     closed_tables_are_whole::<O>();
     closed_tables_recover::<O>();
+    closed_tables_stay::<O>();
     replies_are_the_stores(object, base);
     kept_lives_go_on(object, base);
     kept_bases_begin_the_next_life(object, base);

@@ -22,8 +22,8 @@ use cx_table::{Remains, Trail};
 use life_laws::{fresh_bases_begin_with_nothing, operations_are_values, replies_are_values};
 use life_records::{BorrowedLife, LifeRecord, Script, flag_stops};
 use recovery::{
-    Image, ImageFault, closed_tables_are_whole, closed_tables_recover, crash_image, recover,
-    reopen_image,
+    Image, ImageFault, closed_tables_are_whole, closed_tables_recover, closed_tables_stay,
+    crash_image, recover, reopen_image,
 };
 use std::alloc::{AllocError, Global};
 use std::sync::Wait;
@@ -193,6 +193,7 @@ fn lose_power<O: TypedObject>(
 {
     closed_tables_are_whole::<O>();
     closed_tables_recover::<O>();
+    closed_tables_stay::<O>();
     let image = crash_image(alloc, &remains, life.choice())?;
     let next = match recover(alloc, object, &image) {
         Ok(next) => next,

@@ -1,6 +1,7 @@
 -- There is one answer for each image.
 use Rattle.std.proofs.Common.{◌≡◌, ◌≢◌, ℕ, All, List, [], ◌∷◌, map, Result, Ok, Err, IfOk, MatchResult, refl, ap, sym, subst, ◌∙◌, inl, inr, ◌⊎◌}
 use Rattle.std.proofs.lemmas.List.Elements.{All-head, All-tail}
+use Rattle.cx_base.specs.OldFormat.{OldFormat, no_old_format}
 use Rattle.cx_base.specs.Store.{Store}
 use Rattle.cx_core.specs.Region.{object_part, slot_number, slot_reply}
 use Rattle.cx_core.specs.declared.entry.Base.{Base}
@@ -60,29 +61,29 @@ the_fault : {A : Type 0} (f g : ImageFault) → ◌≡◌ {A = Result A ImageFau
 the_fault f g same = cc
 
 -- the faults of recovery
-module _ (version : ℕ) (lawful : List ℕ → Type 0) (image : Image) where
-  fault_one : (f g : ImageFault) → IsFaultOf version lawful image f → f ≢ Memory → IsFaultOf version lawful image g → g ≢ Memory → f ≡ g
+module _ (version : ℕ) (lawful : List ℕ → Type 0) (old : OldFormat) (image : Image) where
+  fault_one : (f g : ImageFault) → IsFaultOf version lawful old image f → f ≢ Memory → IsFaultOf version lawful old image g → g ≢ Memory → f ≡ g
   fault_one f (Size found) is some (same, fails) more =
-      the_fault f (Size found) ((exactly version lawful image (Err f) is (λ e. some (the_fault f Memory e))).size fails ∙ ap (λ n. Err (Size n)) (sym same))
+      the_fault f (Size found) ((exactly version lawful old image (Err f) is (λ e. some (the_fault f Memory e))).size fails ∙ ap (λ n. Err (Size n)) (sym same))
   fault_one f (Root found) is some (same, size, fails) more =
-      the_fault f (Root found) ((exactly version lawful image (Err f) is (λ e. some (the_fault f Memory e))).root size fails ∙ ap (λ n. Err (Root n)) (sym same))
+      the_fault f (Root found) ((exactly version lawful old image (Err f) is (λ e. some (the_fault f Memory e))).root size fails ∙ ap (λ n. Err (Root n)) (sym same))
   fault_one f (Version found) is some (size, root, (same, fails)) more =
-      the_fault f (Version found) ((exactly version lawful image (Err f) is (λ e. some (the_fault f Memory e))).format size root fails ∙ ap (λ n. Err (Version n)) (sym same))
+      the_fault f (Version found) ((exactly version lawful old image (Err f) is (λ e. some (the_fault f Memory e))).format size root fails ∙ ap (λ n. Err (Version n)) (sym same))
   fault_one f (Place place found) is some (size, root, (same, at, format, fails)) more =
-      the_fault f (Place place found) ((exactly version lawful image (Err f) is (λ e. some (the_fault f Memory e))).at_place size root format fails ∙ rw (same, at) refl)
+      the_fault f (Place place found) ((exactly version lawful old image (Err f) is (λ e. some (the_fault f Memory e))).at_place size root format fails ∙ rw (same, at) refl)
   fault_one f Body is some (size, root, (format, at, fails)) more =
-      the_fault f Body ((exactly version lawful image (Err f) is (λ e. some (the_fault f Memory e))).body size root format at fails)
+      the_fault f Body ((exactly version lawful old image (Err f) is (λ e. some (the_fault f Memory e))).body size root format at fails)
   fault_one f Memory is some other more = absurd (more refl)
 
-  refused_is_not_accepted : (f : ImageFault) → IsFaultOf version lawful image f → f ≢ Memory → ¬ IsAccepted version lawful image
+  refused_is_not_accepted : (f : ImageFault) → IsFaultOf version lawful old image f → f ≢ Memory → ¬ IsAccepted version lawful old image
   refused_is_not_accepted f is some accepted =
-      let wrong : ◌≡◌ {A = Result Base ImageFault} (Err f) (Ok (recovered_from image)) =
-      (exactly version lawful image (Err f) is (λ e. some (the_fault f Memory e))).accepted accepted in
+      let wrong : ◌≡◌ {A = Result Base ImageFault} (Err f) (Ok (recovered_from old image)) =
+      (exactly version lawful old image (Err f) is (λ e. some (the_fault f Memory e))).accepted accepted in
       absurd cc
 
 -- the same with the look at the slots
 kinds : (image : Image) (fault : ImageFault) → IsDocumentFault image fault
-    → IsFaultOf 1 (IsImage image.lines) image fault ⊎ ((fault ≡ Body) × IsStoreImage image × (¬ HoldsReplies (region_of image)))
+    → IsFaultOf 1 (IsImage image.lines) no_old_format image fault ⊎ ((fault ≡ Body) × IsStoreImage image × (¬ HoldsReplies (region_of image)))
 kinds image (Size found) is = inl is
 kinds image (Root found) is = inl is
 kinds image (Version found) is = inl is
@@ -94,7 +95,7 @@ kinds image Memory is = inl is
 pub tells_nothing : (image : Image) (fault : ImageFault) → IsDocumentFault image fault → fault ≢ Memory → ¬ TellsDocuments image
 tells_nothing image fault is some tells =
     elim (kinds image fault is) [
-      | inl plain ↦ refused_is_not_accepted 1 (IsImage image.lines) image fault plain some tells.accepted
+      | inl plain ↦ refused_is_not_accepted 1 (IsImage image.lines) no_old_format image fault plain some tells.accepted
       | inr slots ↦ slots.2 tells.replies
     ]
 
@@ -102,11 +103,11 @@ document_fault_one : (image : Image) (f g : ImageFault) → IsDocumentFault imag
 document_fault_one image f g x some y more =
     elim (kinds image f x) [
       | inl f_plain ↦ elim (kinds image g y) [
-        | inl g_plain ↦ fault_one 1 (IsImage image.lines) image f g f_plain some g_plain more
-        | inr g_slots ↦ absurd (refused_is_not_accepted 1 (IsImage image.lines) image f f_plain some g_slots.1)
+        | inl g_plain ↦ fault_one 1 (IsImage image.lines) no_old_format image f g f_plain some g_plain more
+        | inr g_slots ↦ absurd (refused_is_not_accepted 1 (IsImage image.lines) no_old_format image f f_plain some g_slots.1)
       ]
       | inr f_slots ↦ elim (kinds image g y) [
-        | inl g_plain ↦ absurd (refused_is_not_accepted 1 (IsImage image.lines) image g g_plain more f_slots.1)
+        | inl g_plain ↦ absurd (refused_is_not_accepted 1 (IsImage image.lines) no_old_format image g g_plain more f_slots.1)
         | inr g_slots ↦ f_slots.0 ∙ sym g_slots.0
       ]
     ]
@@ -115,14 +116,14 @@ document_fault_one image f g x some y more =
 
 pub answers_one : (image : Image) (one other : Result Recovered ImageFault) → IsAnswerTo image one → IsAnswerTo image other
     → one ≢ Err Memory → other ≢ Err Memory → one ≡ other
-answers_one image (Ok a) (Ok b) x y some more = ap Ok (told_one (recovered_from image) a b x.told y.told)
+answers_one image (Ok a) (Ok b) x y some more = ap Ok (told_one (recovered_from no_old_format image) a b x.told y.told)
 answers_one image (Ok a) (Err g) x y some more = absurd (tells_nothing image g y (λ e. more (ap Err e)) x.tells)
 answers_one image (Err f) (Ok b) x y some more = absurd (tells_nothing image f x (λ e. some (ap Err e)) y.tells)
 answers_one image (Err f) (Err g) x y some more =
     ap Err (document_fault_one image f g x (λ e. some (ap Err e)) y (λ e. more (ap Err e)))
 
 -- what is told by what recovery gives
-pub answered : (image : Image) (base : Base) (answer : Result Recovered ImageFault) → IsRecovered 1 (IsImage image.lines) image base
+pub answered : (image : Image) (base : Base) (answer : Result Recovered ImageFault) → IsRecovered 1 (IsImage image.lines) no_old_format image base
     → MatchResult answer (IsToldBy base) (IsOutcomesFault base.words) → IfOk answer (λ _. HoldsReplies base.words) → IsAnswerTo image answer
 answered image base (Ok found) is told replies = record {
   tells = record { accepted = is.accepted; replies = subst (λ (b : Base). HoldsReplies b.words) is.is replies };

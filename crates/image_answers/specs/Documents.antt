@@ -1,5 +1,6 @@
 -- What is recovered of documents from an image, and why nothing is.
 use Rattle.std.specs.Prelude.{◌≡◌, ◌⊎◌, Result, MatchResult}
+use Rattle.cx_base.specs.OldFormat.{no_old_format}
 use Rattle.cx_core.specs.Region.{object_part}
 use Rattle.cx_core.specs.declared.entry.Base.{Base}
 use Rattle.cx_core.specs.declared.entry.Image.{Image}
@@ -14,7 +15,7 @@ use Rattle.image_answers.specs.Outcomes.{AreOutcomes, HoldsReplies}
 
 -- the checks of recovery, for a store of documents in the image's lines
 abbrev pub IsStoreImage : Image → Type 0
-IsStoreImage image = IsAccepted 1 (IsImage image.lines) image
+IsStoreImage image = IsAccepted 1 (IsImage image.lines) no_old_format image
 
 -- What a base tells of documents: its place, the last command of each client with a number, in rising order of the clients, and the
 -- pairs of the store that its object part stands for, in the order of their keys.
@@ -31,13 +32,13 @@ pub record TellsDocuments (image : Image) : Type 0 where
 -- what is recovered from an image: what is told by the region that its root names, at the root's place
 pub record IsRecoveredOf (image : Image) (found : Recovered) : Type 0 where
   pub tells : TellsDocuments image
-  pub told : IsToldBy (recovered_from image) found
+  pub told : IsToldBy (recovered_from no_old_format image) found
 
 -- The fault of an image: the first check that it does not pass. That the slots hold replies is looked at last. Want of memory has no
 -- cause.
 abbrev pub IsDocumentFault : Image → ImageFault → Type 0
-IsDocumentFault image Body = IsFaultOf 1 (IsImage image.lines) image Body ⊎ (IsStoreImage image × (¬ HoldsReplies (region_of image)))
-IsDocumentFault image fault = IsFaultOf 1 (IsImage image.lines) image fault
+IsDocumentFault image Body = IsFaultOf 1 (IsImage image.lines) no_old_format image Body ⊎ (IsStoreImage image × (¬ HoldsReplies (region_of image)))
+IsDocumentFault image fault = IsFaultOf 1 (IsImage image.lines) no_old_format image fault
 
 -- an answer that is right for an image
 abbrev pub IsAnswerTo : Image → Result Recovered ImageFault → Type 0

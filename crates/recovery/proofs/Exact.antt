@@ -1,14 +1,15 @@
 -- An answer of recovery is the one that the checks of the image ask for.
 use Rattle.std.proofs.Common.{◌≢◌, ℕ, List, Result, Ok, Err, MatchResult, refl, ap, ◌∙◌}
+use Rattle.cx_base.specs.OldFormat.{OldFormat}
 use Rattle.cx_core.specs.declared.entry.Base.{Base}
 use Rattle.cx_core.specs.declared.entry.Image.{Image}
 use Rattle.recovery.specs.declared.recovering.ImageFault.{ImageFault}
 use Rattle.recovery.specs.declared.recovering.ImageFault.TheVariants.{Size, Root, Version, Place, Body, Memory}
 use Rattle.recovery.specs.Recovery.{IsExactly, IsFaultOf, IsRecovered, place_in_root}
 
-pub exactly : (version : ℕ) (lawful : List ℕ → Type 0) (image : Image) (answer : Result Base ImageFault) →
-    MatchResult answer (IsRecovered version lawful image) (IsFaultOf version lawful image) → answer ≢ Err Memory → IsExactly version lawful image answer
-exactly version lawful image (Ok base) is some = record {
+pub exactly : (version : ℕ) (lawful : List ℕ → Type 0) (old : OldFormat) (image : Image) (answer : Result Base ImageFault) →
+    MatchResult answer (IsRecovered version lawful old image) (IsFaultOf version lawful old image) → answer ≢ Err Memory → IsExactly version lawful old image answer
+exactly version lawful old image (Ok base) is some = record {
   size = λ no. absurd (no is.accepted.size);
   root = λ _ no. absurd (no is.accepted.root);
   format = λ _ _ no. absurd (no is.accepted.region.format);
@@ -16,7 +17,7 @@ exactly version lawful image (Ok base) is some = record {
   body = λ _ _ _ _ no. absurd (no is.accepted.region.body);
   accepted = λ _. ap Ok is.is;
 }
-exactly version lawful image (Err (Size found)) is some = record {
+exactly version lawful old image (Err (Size found)) is some = record {
   size = λ _. ap (λ n. Err (Size n)) is.0;
   root = λ has. absurd (is.1 has);
   format = λ has. absurd (is.1 has);
@@ -24,7 +25,7 @@ exactly version lawful image (Err (Size found)) is some = record {
   body = λ has. absurd (is.1 has);
   accepted = λ ok. absurd (is.1 ok.size);
 }
-exactly version lawful image (Err (Root found)) is some = record {
+exactly version lawful old image (Err (Root found)) is some = record {
   size = λ no. absurd (no is.1);
   root = λ _ _. ap (λ n. Err (Root n)) is.0;
   format = λ _ has. absurd (is.2 has);
@@ -32,7 +33,7 @@ exactly version lawful image (Err (Root found)) is some = record {
   body = λ _ has. absurd (is.2 has);
   accepted = λ ok. absurd (is.2 ok.root);
 }
-exactly version lawful image (Err (Version found)) is some = record {
+exactly version lawful old image (Err (Version found)) is some = record {
   size = λ no. absurd (no is.0);
   root = λ _ no. absurd (no is.1);
   format = λ _ _ _. ap (λ n. Err (Version n)) is.2.0;
@@ -40,7 +41,7 @@ exactly version lawful image (Err (Version found)) is some = record {
   body = λ _ _ has. absurd (is.2.1 has);
   accepted = λ ok. absurd (is.2.1 ok.region.format);
 }
-exactly version lawful image (Err (Place root found)) is some = record {
+exactly version lawful old image (Err (Place root found)) is some = record {
   size = λ no. absurd (no is.0);
   root = λ _ no. absurd (no is.1);
   format = λ _ _ no. absurd (no is.2.2);
@@ -48,7 +49,7 @@ exactly version lawful image (Err (Place root found)) is some = record {
   body = λ _ _ _ has. absurd (is.2.3 has);
   accepted = λ ok. absurd (is.2.3 ok.region.at_place);
 }
-exactly version lawful image (Err Body) is some = record {
+exactly version lawful old image (Err Body) is some = record {
   size = λ no. absurd (no is.0);
   root = λ _ no. absurd (no is.1);
   format = λ _ _ no. absurd (no is.2.0);
@@ -56,4 +57,4 @@ exactly version lawful image (Err Body) is some = record {
   body = λ _ _ _ _ _. refl;
   accepted = λ ok. absurd (is.2.2 ok.region.body);
 }
-exactly version lawful image (Err Memory) is some = absurd (some refl)
+exactly version lawful old image (Err Memory) is some = absurd (some refl)

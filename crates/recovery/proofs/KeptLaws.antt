@@ -1,10 +1,12 @@
 -- What is recovered from what a loss of power leaves of a closed table.
-use Rattle.std.proofs.Common.{◌≡◌, ◌+◌, ◌*◌, ◌<◌, ◌≤◌, ℕ, List, drop, length, take, slice_index, refl, sym, ap, subst, ◌∙◌, arith, Bool, Result, Ok, Err, MatchResult, add-zero}
+use Rattle.std.proofs.Common.{◌≡◌, ◌+◌, ◌*◌, ◌<◌, ◌≤◌, ◌↔◌, ℕ, List, drop, length, take, slice_index, refl, sym, ap, subst, ◌∙◌, arith, Bool, Result, Ok, Err, MatchResult, add-zero, inl}
 use Rattle.std.proofs.lemmas.List.{ext_get_or, get_or-drop, get_or-take, length-drop, length-take-le}
 use Rattle.std.proofs.lemmas.List.FromFn.{get_or-map-range_with_len, length-map-range_with_len}
 use Rattle.std.proofs.lemmas.Nat.{mod_below}
 use Rattle.std.specs.List.{slice_get}
 use Rattle.cx_base.specs.Codes.{root_place_of, root_replica_of}
+use Rattle.cx_base.specs.Memory.{Words}
+use Rattle.cx_base.specs.OldFormat.{OldFormat, TakesOver, no_old_format}
 use Rattle.cx_core.specs.declared.entry.Base.{Base}
 use Rattle.cx_core.specs.declared.entry.Entry.{Entry}
 use Rattle.cx_core.specs.declared.entry.Image.{Image}
@@ -13,10 +15,12 @@ use Rattle.cx_core.specs.Base.{LawfulBase}
 use Rattle.cx_core.specs.Crash.{IsKept, image_at, recovered}
 use Rattle.cx_core.specs.History.{full_image}
 use Rattle.cx_core.specs.Lawful.{Lawful}
+use Rattle.cx_core.specs.Recovered.{version_of}
 use Rattle.cx_core.specs.Region.{object_part, region_words}
 use Rattle.cx_core.specs.State.{Instance, State}
 use Rattle.cx_core.proofs.HistoryLemmas.{ObjectLaws}
 use Rattle.cx_core.proofs.LayoutLemmas.{replica_within}
+use Rattle.cx_core.proofs.Upgrading.{own_stays}
 use Rattle.cx_rule.specs.Running.{Running, instance_at}
 use Rattle.cx_rule.specs.Seats.{Seated}
 use Rattle.cx_table.specs.declared.remains.Remains.{Remains}
@@ -28,7 +32,7 @@ use Rattle.recovery.specs.declared.recovering.ImageFault.TheVariants.{Size, Root
 use Rattle.recovery.specs.Crashes.{IsLeftOf}
 use Rattle.recovery.specs.Images.{image_word, region_of, region_start, words_from}
 use Rattle.recovery.specs.Kept.{IsKeptAt, IsKeptBy, IsOpened, MayBeLeftOf, crash_of}
-use Rattle.recovery.specs.Recovery.{IsAccepted, IsFaultOf, IsRecovered, recovered_from}
+use Rattle.recovery.specs.Recovery.{IsAccepted, IsFaultOf, IsRecovered, place_in_root, recovered_from}
 use Rattle.recovery.proofs.Leaving.{left_crash}
 use Rattle.recovery.proofs.Shown.{behind}
 
@@ -46,17 +50,18 @@ part_from pairs count from n within =
     ∙ sym (get_or-map-range_with_len (image_word pairs) from n i (from + i) 0 inside refl)))
 
 -- an image that is accepted has no fault
-no_fault : (version : ℕ) (lawful : List ℕ → Type 0) (image : Image) (fault : ImageFault) → IsAccepted version lawful image → IsFaultOf version lawful image fault → fault ≡ Memory
-no_fault version lawful image (Size found) ok is = absurd (is.1 ok.size)
-no_fault version lawful image (Root found) ok is = absurd (is.2 ok.root)
-no_fault version lawful image (Version found) ok is = absurd (is.2.1 ok.region.format)
-no_fault version lawful image (Place root found) ok is = absurd (is.2.3 ok.region.at_place)
-no_fault version lawful image Body ok is = absurd (is.2.2 ok.region.body)
-no_fault version lawful image Memory ok is = refl
+no_fault : (version : ℕ) (lawful : List ℕ → Type 0) (old : OldFormat) (image : Image) (fault : ImageFault) → IsAccepted version lawful old image → IsFaultOf version lawful old image fault → fault ≡ Memory
+no_fault version lawful old image (Size found) ok is = absurd (is.1 ok.size)
+no_fault version lawful old image (Root found) ok is = absurd (is.2 ok.root)
+no_fault version lawful old image (Version found) ok is = absurd (is.2.1 ok.region.format)
+no_fault version lawful old image (Place root found) ok is = absurd (is.2.3 ok.region.at_place)
+no_fault version lawful old image Body ok is = absurd (is.2.2 ok.region.body)
+no_fault version lawful old image Memory ok is = refl
 
 -- what a lawful state may leave
 module _ (lines : ℕ) (lawful : List ℕ → Type 0) (version : ℕ) (instance : Instance) (laws : ObjectLaws lines lawful instance.step)
-    (shape : (words : List ℕ) → lawful words → slice_index words 0 ≡ version) (base : LawfulBase lines lawful instance.base) (s : State) (law : Lawful instance s)
+    (shape : (words : List ℕ) → lawful words → Words (8 * lines) words × (slice_index words 0 ≡ version)) (old : OldFormat) (takes : TakesOver lines version lawful old)
+    (base : LawfulBase lines lawful instance.base) (s : State) (law : Lawful instance s)
     (image : Image) (left : MayBeLeftOf instance lines s image) where
   abbrev region : ℕ
   region = length instance.base.words
@@ -87,30 +92,46 @@ module _ (lines : ℕ) (lawful : List ℕ → Type 0) (version : ℕ) (instance 
   same_place : root_place_of image.callers image.root ≡ root_place_of instance.callers image.root
   same_place = ap (λ c. root_place_of c image.root) left.callers
 
-  kept : IsKept instance law.history s (recovered_from image)
+  -- the region that the root names, as it is
+  abbrev left_base : Base
+  left_base = record { place = place_in_root image; words = region_of image }
+
+  kept : IsKept instance law.history s left_base
   kept = subst (IsKept instance law.history s) (λ i. record { place = sym same_place i; words = sym same_region i }) (crash_kept instance s law (crash_of image) left.crash)
 
-  again : LawfulBase lines lawful (recovered_from image) × ((recovered_from image).words ≡ full_image instance.step instance.base law.history (recovered_from image).place)
-  again = kept_lawful lines lawful instance law.history s (recovered_from image) laws base (entries_of instance s law base.numbers) law.tickets.below kept
+  again : LawfulBase lines lawful left_base × (left_base.words ≡ full_image instance.step instance.base law.history left_base.place)
+  again = kept_lawful lines lawful instance law.history s left_base laws base (entries_of instance s law base.numbers) law.tickets.below kept
 
-  accepted : IsAccepted version lawful image
-  accepted =
+  -- it is of the object's own version, so it is recovered as it is
+  own : version_of (region_of image) ≡ version
+  own = (shape (object_part (region_of image)) again.0.object).1
+
+  as_it_is : recovered_from old image ≡ left_base
+  as_it_is = ap (λ (ws : List ℕ). record { place = place_in_root image; words = ws }) (own_stays lines version lawful old takes shape (region_of image) own)
+
+  accepted : (any : OldFormat) → IsAccepted version lawful any image
+  accepted any =
       let next = again.0 in
       record {
         size = count_is ∙ ap (λ n. n * (2 * instance.callers)) (sym same_length) ∙ ap (λ c. region_words image.lines * (2 * c)) (sym left.callers);
         root = next.place_within;
-        region = record { format = shape (object_part (region_of image)) next.object; at_place = next.at_place; body = record { results = next.results; object = next.object } };
+        region = record { format = inl own; at_place = next.at_place; body = record { results = next.results; object = inl next.object } };
       }
 
   -- what recovery answers
-  pub accepts : (answer : Result Base ImageFault) → MatchResult answer (IsRecovered version lawful image) (IsFaultOf version lawful image) →
+  pub accepts : (answer : Result Base ImageFault) → MatchResult answer (IsRecovered version lawful old image) (IsFaultOf version lawful old image) →
       MatchResult answer (IsKeptAt lines lawful instance law.history s image.root) (λ fault. fault ≡ Memory)
-  accepts (Ok found) is = subst (IsKeptAt lines lawful instance law.history s image.root) (sym is.is) (record { place = same_place; words = again.1; kept = kept; again = again.0 })
-  accepts (Err fault) is = no_fault version lawful image fault accepted is
+  accepts (Ok found) is = subst (IsKeptAt lines lawful instance law.history s image.root) (sym (is.is ∙ as_it_is)) (record { place = same_place; words = again.1; kept = kept; again = again.0 })
+  accepts (Err fault) is = no_fault version lawful old image fault (accepted old) is
+
+  pub stays : (found : Base) → IsRecovered version lawful old image found ↔ IsRecovered version lawful no_old_format image found
+  stays found = (λ is. record { accepted = accepted no_old_format; is = is.is ∙ as_it_is }, λ is. record { accepted = accepted old; is = is.is ∙ sym as_it_is })
 
 -- what a closed table leaves by choice
 module _ {O : Type 0} (line_count : O → ℕ) (lawful : O → List ℕ → Type 0) (step : O → List ℕ → List ℕ → List ℕ × List ℕ) (reads : O → List ℕ → Bool) (version : O → ℕ)
-    (laws : (o : O) → ObjectLaws (line_count o) (lawful o) (step o)) (shape : (o : O) (words : List ℕ) → lawful o words → slice_index words 0 ≡ version o)
+    (old : O → OldFormat) (laws : (o : O) → ObjectLaws (line_count o) (lawful o) (step o))
+    (shape : (o : O) (words : List ℕ) → lawful o words → Words (8 * line_count o) words × (slice_index words 0 ≡ version o))
+    (takes : (o : O) → TakesOver (line_count o) (version o) (lawful o) (old o))
     (table : Running O) (seats : List Seated) (r : Remains) (choice : ℕ) (image : Image)
     (opened : IsOpened line_count lawful table) (leaves : Leaves table (instance_at table step reads) seats r) (left : IsLeftOf r choice image) where
   abbrev closed : State
@@ -139,11 +160,16 @@ module _ {O : Type 0} (line_count : O → ℕ) (lawful : O → List ℕ → Type
     again = is.again;
   }
 
-  abbrev found : (answer : Result Base ImageFault) → MatchResult answer (IsRecovered (version table.object) (lawful table.object) image) (IsFaultOf (version table.object) (lawful table.object) image) →
+  abbrev found : (answer : Result Base ImageFault) → MatchResult answer (IsRecovered (version table.object) (lawful table.object) (old table.object) image) (IsFaultOf (version table.object) (lawful table.object) (old table.object) image) →
       MatchResult answer (IsKeptAt (line_count table.object) (lawful table.object) (instance_at table step reads) leaves.state.history closed image.root) (λ fault. fault ≡ Memory)
-  found = accepts (line_count table.object) (lawful table.object) (version table.object) (instance_at table step reads) (laws table.object) (shape table.object) opened.base closed leaves.state image may_be_left
+  found = accepts (line_count table.object) (lawful table.object) (version table.object) (instance_at table step reads) (laws table.object) (shape table.object) (old table.object) (takes table.object)
+      opened.base closed leaves.state image may_be_left
 
-  pub recovers : (answer : Result Base ImageFault) → MatchResult answer (IsRecovered (version table.object) (lawful table.object) image) (IsFaultOf (version table.object) (lawful table.object) image) →
+  pub recovers : (answer : Result Base ImageFault) → MatchResult answer (IsRecovered (version table.object) (lawful table.object) (old table.object) image) (IsFaultOf (version table.object) (lawful table.object) (old table.object) image) →
       MatchResult answer (IsKeptBy line_count lawful step table seats r choice) (λ fault. fault ≡ Memory)
   recovers (Ok base) is = by_choice base (found (Ok base) is)
   recovers (Err fault) is = found (Err fault) is
+
+  pub recovered_as_is : (base : Base) → IsRecovered (version table.object) (lawful table.object) (old table.object) image base ↔ IsRecovered (version table.object) (lawful table.object) no_old_format image base
+  recovered_as_is = stays (line_count table.object) (lawful table.object) (version table.object) (instance_at table step reads) (laws table.object) (shape table.object) (old table.object) (takes table.object)
+      opened.base closed leaves.state image may_be_left

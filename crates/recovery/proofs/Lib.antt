@@ -3,6 +3,7 @@ pub mod Exact
 pub mod KeptLaws
 pub mod LastEntries
 pub mod Leaving
+pub mod OldParts
 pub mod Pairs
 pub mod ReopenedImages
 pub mod Shown

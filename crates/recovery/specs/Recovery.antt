@@ -1,8 +1,10 @@
 -- What is recovered from an image, and the checks that it has to pass.
-use Rattle.std.specs.Prelude.{◌≡◌, ◌≢◌, ◌^◌, ◌<◌, ◌≤◌, ℕ, List, Result, Ok, Err, replicate, slice_index}
+use Rattle.std.specs.Prelude.{◌≡◌, ◌≢◌, ◌^◌, ◌<◌, ◌≤◌, ◌⊎◌, ℕ, List, Result, Ok, Err, Some, replicate}
 use Rattle.cx_base.specs.Codes.{root_place_of}
+use Rattle.cx_base.specs.OldFormat.{OldFormat}
 use Rattle.cx_core.specs.declared.entry.Base.{Base}
 use Rattle.cx_core.specs.declared.entry.Image.{Image}
+use Rattle.cx_core.specs.Recovered.{recovered_base, version_of}
 use Rattle.cx_core.specs.Region.{LawfulResults, object_part, place_of, slot_number, slot_reply}
 use Rattle.recovery.specs.declared.recovering.ImageFault.{ImageFault}
 use Rattle.recovery.specs.declared.recovering.ImageFault.TheVariants.{Size, Root, Version, Place, Body, Memory}
@@ -23,64 +25,65 @@ HasRoot image = place_in_root image ≤ 2 ^ 40
 abbrev pub IsLawfulSlot : ℕ → List ℕ → Type 0
 IsLawfulSlot caller region = slot_number caller region ≡ 0 → slot_reply caller region ≡ replicate 144 0
 
--- the first word of a region's object part
-abbrev pub version_of : List ℕ → ℕ
-version_of region = slice_index (object_part region) 0
+-- a region's object part begins with the object's version, or with the old one
+abbrev pub IsKnown : ℕ → OldFormat → List ℕ → Type 0
+IsKnown version old region = (version_of region ≡ version) ⊎ (old.version ≡ Some (version_of region))
 
--- the checks of the region that the root names: the object's version, the root's place as place word, and lawful results with a
--- lawful object part
-pub record HasBody (lawful : List ℕ → Type 0) (region : List ℕ) : Type 0 where
+-- the checks of the region that the root names: a known version, the root's place as place word, and lawful results with an object part
+-- that is lawful for its version
+pub record HasBody (lawful : List ℕ → Type 0) (old : OldFormat) (region : List ℕ) : Type 0 where
   pub results : LawfulResults region
-  pub object : lawful (object_part region)
+  pub object : lawful (object_part region) ⊎ old.lawful (object_part region)
 
-pub record HasRegion (version : ℕ) (lawful : List ℕ → Type 0) (place : ℕ) (region : List ℕ) : Type 0 where
-  pub format : version_of region ≡ version
+pub record HasRegion (version : ℕ) (lawful : List ℕ → Type 0) (old : OldFormat) (place : ℕ) (region : List ℕ) : Type 0 where
+  pub format : IsKnown version old region
   pub at_place : place_of region ≡ place
-  pub body : HasBody lawful region
+  pub body : HasBody lawful old region
 
--- an image passes all checks for an object with this version and these lawful images
-pub record IsAccepted (version : ℕ) (lawful : List ℕ → Type 0) (image : Image) : Type 0 where
+-- an image passes all checks for an object with this version, these lawful images and this old format
+pub record IsAccepted (version : ℕ) (lawful : List ℕ → Type 0) (old : OldFormat) (image : Image) : Type 0 where
   pub size : HasSize image
   pub root : HasRoot image
-  pub region : HasRegion version lawful (place_in_root image) (region_of image)
+  pub region : HasRegion version lawful old (place_in_root image) (region_of image)
 
--- what is recovered: the region that the root names, at the root's place
-abbrev pub recovered_from : Image → Base
-recovered_from image = record { place = place_in_root image; words = region_of image }
+-- What is recovered: the region that the root names, at the root's place, with its object part upgraded where it begins with the old
+-- version. So the place and the results are those of the image.
+abbrev pub recovered_from : OldFormat → Image → Base
+recovered_from old image = recovered_base old (place_in_root image) (region_of image)
 
-pub record IsRecovered (version : ℕ) (lawful : List ℕ → Type 0) (image : Image) (base : Base) : Type 0 where
-  pub accepted : IsAccepted version lawful image
-  pub is : base ≡ recovered_from image
+pub record IsRecovered (version : ℕ) (lawful : List ℕ → Type 0) (old : OldFormat) (image : Image) (base : Base) : Type 0 where
+  pub accepted : IsAccepted version lawful old image
+  pub is : base ≡ recovered_from old image
 
 -- the fault of a region: the first check that it does not pass, with what was found there. Want of memory has no cause.
-abbrev pub IsRegionFault : ℕ → (List ℕ → Type 0) → ℕ → List ℕ → ImageFault → Type 0
-IsRegionFault version lawful place region (Size found) = ⊥
-IsRegionFault version lawful place region (Root found) = ⊥
-IsRegionFault version lawful place region (Version found) = (found ≡ version_of region) × (version_of region ≢ version)
-IsRegionFault version lawful place region (Place root found) =
-    (root ≡ place) × (found ≡ place_of region) × (version_of region ≡ version) × (place_of region ≢ place)
-IsRegionFault version lawful place region Body = (version_of region ≡ version) × (place_of region ≡ place) × (¬ HasBody lawful region)
-IsRegionFault version lawful place region Memory = Unit {0}
+abbrev pub IsRegionFault : ℕ → (List ℕ → Type 0) → OldFormat → ℕ → List ℕ → ImageFault → Type 0
+IsRegionFault version lawful old place region (Size found) = ⊥
+IsRegionFault version lawful old place region (Root found) = ⊥
+IsRegionFault version lawful old place region (Version found) = (found ≡ version_of region) × (¬ IsKnown version old region)
+IsRegionFault version lawful old place region (Place root found) =
+    (root ≡ place) × (found ≡ place_of region) × IsKnown version old region × (place_of region ≢ place)
+IsRegionFault version lawful old place region Body = IsKnown version old region × (place_of region ≡ place) × (¬ HasBody lawful old region)
+IsRegionFault version lawful old place region Memory = Unit {0}
 
 -- the fault of an image: the first check that it does not pass
-abbrev pub IsFaultOf : ℕ → (List ℕ → Type 0) → Image → ImageFault → Type 0
-IsFaultOf version lawful image (Size found) = (found ≡ image.count) × (¬ HasSize image)
-IsFaultOf version lawful image (Root found) = (found ≡ image.root) × HasSize image × (¬ HasRoot image)
-IsFaultOf version lawful image Memory = Unit {0}
-IsFaultOf version lawful image fault =
-    HasSize image × HasRoot image × IsRegionFault version lawful (place_in_root image) (region_of image) fault
+abbrev pub IsFaultOf : ℕ → (List ℕ → Type 0) → OldFormat → Image → ImageFault → Type 0
+IsFaultOf version lawful old image (Size found) = (found ≡ image.count) × (¬ HasSize image)
+IsFaultOf version lawful old image (Root found) = (found ≡ image.root) × HasSize image × (¬ HasRoot image)
+IsFaultOf version lawful old image Memory = Unit {0}
+IsFaultOf version lawful old image fault =
+    HasSize image × HasRoot image × IsRegionFault version lawful old (place_in_root image) (region_of image) fault
 
 -- no number of a result slot is above the place, as in each base that a service leaves
 abbrev pub NumbersWithin : Base → Type 0
 NumbersWithin base = (caller : ℕ) → caller < 8 → slot_number caller base.words ≤ base.place
 
 -- each check that is the first to fail is answered by its refusal, and an image that passes all by the base
-pub record IsExactly (version : ℕ) (lawful : List ℕ → Type 0) (image : Image) (answer : Result Base ImageFault) : Type 0 where
+pub record IsExactly (version : ℕ) (lawful : List ℕ → Type 0) (old : OldFormat) (image : Image) (answer : Result Base ImageFault) : Type 0 where
   pub size : ¬ HasSize image → answer ≡ Err (Size image.count)
   pub root : HasSize image → ¬ HasRoot image → answer ≡ Err (Root image.root)
-  pub format : HasSize image → HasRoot image → version_of (region_of image) ≢ version → answer ≡ Err (Version (version_of (region_of image)))
-  pub at_place : HasSize image → HasRoot image → version_of (region_of image) ≡ version → place_of (region_of image) ≢ place_in_root image →
+  pub format : HasSize image → HasRoot image → ¬ IsKnown version old (region_of image) → answer ≡ Err (Version (version_of (region_of image)))
+  pub at_place : HasSize image → HasRoot image → IsKnown version old (region_of image) → place_of (region_of image) ≢ place_in_root image →
       answer ≡ Err (Place (place_in_root image) (place_of (region_of image)))
-  pub body : HasSize image → HasRoot image → version_of (region_of image) ≡ version → place_of (region_of image) ≡ place_in_root image →
-      ¬ HasBody lawful (region_of image) → answer ≡ Err Body
-  pub accepted : IsAccepted version lawful image → answer ≡ Ok (recovered_from image)
+  pub body : HasSize image → HasRoot image → IsKnown version old (region_of image) → place_of (region_of image) ≡ place_in_root image →
+      ¬ HasBody lawful old (region_of image) → answer ≡ Err Body
+  pub accepted : IsAccepted version lawful old image → answer ≡ Ok (recovered_from old image)

@@ -11,7 +11,7 @@ use cx_base::Object;
 pub fn recovering_is_exact<O: Object>()
     ensures { (object : O) (image : _) (answer : _) →
         MatchResult answer
-        (IsRecovered (O.version_number object) (O.lawful object) image)
-        (IsFaultOf (O.version_number object) (O.lawful object) image) →
-        answer ≢ Err Memory → IsExactly (O.version_number object) (O.lawful object) image answer }
+        (IsRecovered (O.version_number object) (O.lawful object) (O.old_format object) image)
+        (IsFaultOf (O.version_number object) (O.lawful object) (O.old_format object) image) →
+        answer ≢ Err Memory → IsExactly (O.version_number object) (O.lawful object) (O.old_format object) image answer }
 {}

@@ -1,7 +1,8 @@
 //! What a loss of power leaves of a lawful state recovers, and so does what it leaves of a closed table, which is a crash image of the
 //! state that was closed. Each law is the contract of a function that does nothing.
 
-ghost use Rattle.std.specs.Prelude.{◌≡◌, ℕ, List, MatchResult};
+ghost use Rattle.std.specs.Prelude.{◌≡◌, ◌↔◌, ℕ, List, MatchResult};
+ghost use Rattle.cx_base.specs.OldFormat.{no_old_format};
 ghost use Rattle.cx_core.specs.Base.{LawfulBase};
 ghost use Rattle.cx_core.specs.Crash.{IsCrashImage};
 ghost use Rattle.cx_core.specs.Lawful.{Lawful};
@@ -26,8 +27,8 @@ pub fn crash_images_are_accepted<O: Object>()
         LawfulBase (O.line_count object) (O.lawful object) base → (law : Lawful instance s) →
         MayBeLeftOf instance (O.line_count object) s image →
         MatchResult answer
-        (IsRecovered (O.version_number object) (O.lawful object) image)
-        (IsFaultOf (O.version_number object) (O.lawful object) image) →
+        (IsRecovered (O.version_number object) (O.lawful object) (O.old_format object) image)
+        (IsFaultOf (O.version_number object) (O.lawful object) (O.old_format object) image) →
         MatchResult answer (IsKeptAt (O.line_count object) (O.lawful object) instance law.history s image.root) (λ fault. fault ≡ Memory) }
 {}
 
@@ -52,7 +53,15 @@ pub fn closed_tables_recover<O: Object>()
     ensures { (table : Running O) (seats : List Seated) (r : _) (choice : ℕ) (image : _) (answer : _) →
         IsOpened O.line_count O.lawful table → Leaves table (instance_at table O.step O.only_reads) seats r → IsLeftOf r choice image →
         MatchResult answer
-        (IsRecovered (O.version_number table.object) (O.lawful table.object) image)
-        (IsFaultOf (O.version_number table.object) (O.lawful table.object) image) →
+        (IsRecovered (O.version_number table.object) (O.lawful table.object) (O.old_format table.object) image)
+        (IsFaultOf (O.version_number table.object) (O.lawful table.object) (O.old_format table.object) image) →
         MatchResult answer (IsKeptBy O.line_count O.lawful O.step table seats r choice) (λ fault. fault ≡ Memory) }
+{}
+
+/// What is left is of the object's own version: it is recovered as it is, as by an object that had no other.
+pub fn closed_tables_stay<O: Object>()
+    ensures { (table : Running O) (seats : List Seated) (r : _) (choice : ℕ) (image : _) (base : _) →
+        IsOpened O.line_count O.lawful table → Leaves table (instance_at table O.step O.only_reads) seats r → IsLeftOf r choice image →
+        IsRecovered (O.version_number table.object) (O.lawful table.object) (O.old_format table.object) image base ↔
+        IsRecovered (O.version_number table.object) (O.lawful table.object) no_old_format image base }
 {}

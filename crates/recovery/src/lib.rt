@@ -9,13 +9,14 @@ mod outcomes;
 mod recovering;
 mod region;
 mod reopening;
+mod versions;
 
 pub use applied::Outcome;
 pub use crash::crash_image;
 pub use cx_core::Image;
 pub use exactness::recovering_is_exact;
 pub use laws::{
-    closed_tables_are_whole, closed_tables_recover, crash_images_are_accepted,
+    closed_tables_are_whole, closed_tables_recover, closed_tables_stay, crash_images_are_accepted,
     crash_images_are_left,
 };
 pub use outcomes::{full_images_tell_outcomes, kept_bases_tell_outcomes, outcome};

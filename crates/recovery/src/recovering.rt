@@ -7,6 +7,7 @@ ghost use Rattle.recovery.specs.Images.{IsReadable};
 ghost use Rattle.recovery.specs.Recovery.{HasRegion, IsFaultOf, IsRecovered, IsRegionFault, NumbersWithin};
 
 use crate::region::{has_lawful_results, image_len, object_words, read_region};
+use crate::versions::{is_known, is_lawful, upgraded};
 use cx_base::{Items, Object, root_place};
 use cx_core::{Base, Image};
 use std::alloc::Global;
@@ -21,24 +22,25 @@ pub enum ImageFault {
     Size { found: u64 },
     /// The root's place is above 2^40; the root.
     Root { found: u64 },
-    /// The first word of the region's object part is not the object's version; that word.
+    /// The first word of the region's object part is neither the object's version nor the old one; that word.
     Version { found: u64 },
     /// The region's place word is not the root's place; both.
     Place { root: u64, region: u64 },
-    /// The results or the object part are not lawful.
+    /// The results are not lawful, or the object part is not for its version.
     Body,
     /// Want of memory, which may come in place of any of them.
     Memory,
 }
 
-/// The base that an image gives for an object: the region that the image's root names, at the root's place. A refusal names the
-/// first check that the image does not pass, in the order of `ImageFault`. The base is one from which a service may start where no
-/// number of its results is above its place, as it is in what services leave.
+/// The base that an image gives for an object: the region that the image's root names, at the root's place. An object part of the old
+/// version is upgraded, which leaves the place and the results. A refusal names the first check that the image does not pass, in the
+/// order of `ImageFault`. The base is one from which a service may start where no number of its results is above its place, as it is in
+/// what services leave.
 pub fn recover<O: Object>(alloc: Global, object: &O, image: &Image) -> Result<Base, ImageFault>
     requires { IsReadable (O.line_count object.now) image.now }
     ensures recovers { MatchResult result
-        (IsRecovered (O.version_number object.now) (O.lawful object.now) image.now)
-        (IsFaultOf (O.version_number object.now) (O.lawful object.now) image.now) }
+        (IsRecovered (O.version_number object.now) (O.lawful object.now) (O.old_format object.now) image.now)
+        (IsFaultOf (O.version_number object.now) (O.lawful object.now) (O.old_format object.now) image.now) }
     ensures lawful { IfOk result (λ base. NumbersWithin base → LawfulBase (O.line_count object.now) (O.lawful object.now) base) }
 {
     if image.count != image_len(image.callers, image.lines) {
@@ -54,7 +56,7 @@ pub fn recover<O: Object>(alloc: Global, object: &O, image: &Image) -> Result<Ba
     check_region(alloc, object, place, &words)?;
     Ok(Base {
         place,
-        words: Items::of(words),
+        words: Items::of(upgraded(object, words)),
     })
 }
 
@@ -68,12 +70,12 @@ fn check_region<O: Object>(
     requires { 1169 ≤ length words.now }
     ensures words { Words (length words.now) words.now }
     ensures checks { MatchResult result
-        (λ _. HasRegion (O.version_number object.now) (O.lawful object.now) place words.now)
-        (IsRegionFault (O.version_number object.now) (O.lawful object.now) place words.now) }
+        (λ _. HasRegion (O.version_number object.now) (O.lawful object.now) (O.old_format object.now) place words.now)
+        (IsRegionFault (O.version_number object.now) (O.lawful object.now) (O.old_format object.now) place words.now) }
 {
     let part = object_words(words);
     let version = part[0];
-    if version != object.version() {
+    if !is_known(object, version) {
         return Err(ImageFault::Version { found: version });
     }
     let region = words[0];
@@ -83,7 +85,7 @@ fn check_region<O: Object>(
             region,
         });
     }
-    let Ok(lawful) = object.check(alloc, part) else {
+    let Ok(lawful) = is_lawful(alloc, object, part) else {
         return Err(ImageFault::Memory);
     };
     if !lawful {

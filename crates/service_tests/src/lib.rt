@@ -1,5 +1,5 @@
 //! Tests of the service, of recovery and of the laws of lives: callers on threads against the object alone, callers that stop, what a
-//! loss of power leaves of services that are closed at each step, and images written by hand. It has tests alone.
+//! loss of power leaves of services that are closed at each step, and images written by hand, of an old version too. It has tests alone.
 #![tactic(auto)]
 
 #[cfg(test)]
@@ -14,6 +14,8 @@ mod closing;
 mod holds;
 #[cfg(test)]
 mod kept;
+#[cfg(test)]
+mod later;
 #[cfg(test)]
 mod laws;
 #[cfg(test)]
@@ -38,5 +40,7 @@ mod submits;
 mod tasks;
 #[cfg(test)]
 mod threads;
+#[cfg(test)]
+mod upgraded;
 #[cfg(test)]
 mod written;

@@ -109,7 +109,7 @@ pub(crate) fn played_alone(
     way: Way,
 ) -> Result<Vec<Told>, AllocError> {
     let base = base_at(alloc, place)?;
-    let (service, caller) = one_started(alloc, &base)?;
+    let (service, caller) = one_started(alloc, Tally, &base)?;
     let mut log = Vec::new(alloc);
     all_asked(&service, Handed::Idle(caller), work, way, &mut log);
     Ok(log)

@@ -35,14 +35,15 @@ pub(crate) fn base_at(alloc: Global, place: u64) -> Result<Base, AllocError>
 }
 
 /// A service of one caller without a limit.
-pub(crate) fn one_started(
+pub(crate) fn one_started<O: Object>(
     alloc: Global,
+    object: O,
     base: &Base,
-) -> Result<(Service<Tally>, Caller), AllocError>
-    requires { LawfulBase 64 IsTally base.now }
+) -> Result<(Service<O>, Caller), AllocError>
+    requires { LawfulBase (O.line_count object) (O.lawful object) base.now }
     ensures { IfOk result (λ r. IsCallerOf r.0 r.1) }
 {
-    let Ok((service, callers)) = Service::start(alloc, Tally, 1, &[NO_LIMIT], base) else {
+    let Ok((service, callers)) = Service::start(alloc, object, 1, &[NO_LIMIT], base) else {
         return Err(AllocError);
     };
     match one(callers) {

@@ -2,6 +2,7 @@
 use Rattle.std.proofs.Common.{◌≡◌, ◌∙◌, ℕ, Bool, List, Result, MatchResult, sym, ap, subst, arith}
 use Rattle.bounded_counters.specs.declared.counters.Counters.{Counters}
 use Rattle.bounded_counters.specs.Counters.{IsCounters, counters_read_only, counters_step}
+use Rattle.cx_base.specs.OldFormat.{no_old_format}
 use Rattle.cx_core.specs.declared.entry.Base.{Base}
 use Rattle.cx_core.specs.declared.entry.Image.{Image}
 use Rattle.cx_core.specs.Base.{LawfulBase}
@@ -61,18 +62,18 @@ opened_of lines bound counters callers limits base service seats lines_are bound
 abbrev pub Recovers : Type 0
 Recovers =
     (table : Running Counters) (seats : List Seated) (r : Remains) (choice : ℕ) (image : Image) (answer : Result Base ImageFault) → IsOpened lines_in images table →
-    Leaves table (instance_at table steps readings) seats r → IsLeftOf r choice image → MatchResult answer (IsRecovered 1 (images table.object) image) (IsFaultOf 1 (images table.object) image) →
+    Leaves table (instance_at table steps readings) seats r → IsLeftOf r choice image → MatchResult answer (IsRecovered 1 (images table.object) no_old_format image) (IsFaultOf 1 (images table.object) no_old_format image) →
     MatchResult answer (IsKeptBy lines_in images steps table seats r choice) (λ fault. fault ≡ Memory)
 
 module _ (lines bound : ℕ) (r : Remains) (choice : ℕ) (image : Image) (closed : IsClosed lines bound r) (counters : Counters)
     (lines_are : counters.lines ≡ lines) (bound_is : counters.bound ≡ bound) where
   -- recovery that is told of equal counters answers no refusal
   pub recovered_of : Recovers → IsLeftOf r choice image → (answer : Result Base ImageFault)
-      → MatchResult answer (IsRecovered 1 (images counters) image) (IsFaultOf 1 (images counters) image)
+      → MatchResult answer (IsRecovered 1 (images counters) no_old_format image) (IsFaultOf 1 (images counters) no_old_format image)
       → MatchResult answer (IsKeptOf closed choice) (λ fault. fault ≡ Memory)
   recovered_of law left answer is =
       law closed.table closed.seats r choice image answer closed.opened.opened closed.leaves left
-      (of_equals (λ (l b : ℕ). MatchResult answer (IsRecovered 1 (IsCounters l b) image) (IsFaultOf 1 (IsCounters l b) image))
+      (of_equals (λ (l b : ℕ). MatchResult answer (IsRecovered 1 (IsCounters l b) no_old_format image) (IsFaultOf 1 (IsCounters l b) no_old_format image))
       counters.lines counters.bound closed.table.object.lines closed.table.object.bound
       (lines_are ∙ sym closed.opened.lines_are) (bound_is ∙ sym closed.opened.bound_is) is)
 

@@ -1,11 +1,12 @@
 -- What a loss of power leaves of a state is accepted.
-use Rattle.std.proofs.Common.{◌≡◌, ◌+◌, ◌*◌, ◌%◌, ◌<◌, ◌≤◌, ℕ, List, [], ◌∷◌, drop, length, take, slice_index, refl, sym, ap, subst, ◌∙◌, arith, add-zero}
+use Rattle.std.proofs.Common.{◌≡◌, ◌+◌, ◌*◌, ◌%◌, ◌<◌, ◌≤◌, ℕ, List, [], ◌∷◌, drop, length, take, slice_index, refl, sym, ap, subst, ◌∙◌, arith, add-zero, inl}
 use Rattle.std.proofs.lemmas.List.{ext_get_or, get_or-drop, get_or-take, length-drop, length-take-le}
 use Rattle.std.proofs.lemmas.List.Elements.{Contains-get_or}
 use Rattle.std.proofs.lemmas.List.FromFn.{get_or-map-range_with_len, length-map-range_with_len}
 use Rattle.std.proofs.lemmas.Nat.{mod_below}
 use Rattle.std.specs.List.{Contains}
 use Rattle.cx_base.specs.Codes.{root_place_of, root_replica_of}
+use Rattle.cx_base.specs.OldFormat.{no_old_format}
 use Rattle.cx_core.specs.declared.entry.Image.{Image}
 use Rattle.cx_core.specs.declared.local.Local.{Local}
 use Rattle.cx_core.specs.Base.{LawfulBase}
@@ -81,28 +82,28 @@ module _ (lines : ℕ) (instance : Instance) (long : length instance.base.words 
       ∙ ap (words_from image.pairs (image_at instance replica 0)) same_length
       ∙ sym (part_from image.pairs image.count (image_at instance replica 0) region inside)
 
-  same_base : recovered_from image ≡ recovered instance (crash_of image)
+  same_base : recovered_from no_old_format image ≡ recovered instance (crash_of image)
   same_base =
       let place : root_place_of image.callers image.root ≡ root_place_of instance.callers image.root = ap (λ c. root_place_of c image.root) is.callers in
       λ i. record { place = place i; words = same_region i }
 
-  kept : IsKept instance law.history s (recovered_from image)
+  kept : IsKept instance law.history s (recovered_from no_old_format image)
   kept = subst (IsKept instance law.history s) (sym same_base) (crash_kept instance s law (crash_of image) crash)
 
   module _ (version : ℕ) (lawful : List ℕ → Type 0) (laws : ObjectLaws lines lawful instance.step) (shape : (words : List ℕ) → lawful words → slice_index words 0 ≡ version) (base : LawfulBase lines lawful instance.base) where
-    again : LawfulBase lines lawful (recovered_from image) × ((recovered_from image).words ≡ full_image instance.step instance.base law.history (recovered_from image).place)
-    again = kept_lawful lines lawful instance law.history s (recovered_from image) laws base (entries_of instance s law base.numbers) law.tickets.below kept
+    again : LawfulBase lines lawful (recovered_from no_old_format image) × ((recovered_from no_old_format image).words ≡ full_image instance.step instance.base law.history (recovered_from no_old_format image).place)
+    again = kept_lawful lines lawful instance law.history s (recovered_from no_old_format image) laws base (entries_of instance s law base.numbers) law.tickets.below kept
 
-    pub accepted : IsAccepted version lawful image
+    pub accepted : IsAccepted version lawful no_old_format image
     accepted =
         let next = again.0 in
         record {
           size = is.count ∙ ap (λ n. n * (2 * instance.callers)) (sym same_length) ∙ ap (λ c. region_words image.lines * (2 * c)) (sym is.callers);
           root = next.place_within;
-          region = record { format = shape (object_part (region_of image)) next.object; at_place = next.at_place; body = record { results = next.results; object = next.object } };
+          region = record { format = inl (shape (object_part (region_of image)) next.object); at_place = next.at_place; body = record { results = next.results; object = inl next.object } };
         }
 
-    pub kept_at : IsKeptAt lines lawful instance law.history s image.root (recovered_from image)
+    pub kept_at : IsKeptAt lines lawful instance law.history s image.root (recovered_from no_old_format image)
     kept_at = record { place = ap (λ c. root_place_of c image.root) is.callers; words = again.1; kept = kept; again = again.0 }
 
   pub at_place : (place : ℕ) → LeavesPlace instance s choice place → place_in_root image ≡ place

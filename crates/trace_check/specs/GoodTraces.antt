@@ -1,5 +1,6 @@
 -- Good traces: their events are a run, and after each loss of power the named place is recovered.
 use Rattle.std.specs.Prelude.{◌≡◌, ◌++◌, ℕ, List, [], ◌∷◌, Some, slice_get, take}
+use Rattle.cx_base.specs.OldFormat.{no_old_format}
 use Rattle.cx_core.specs.declared.entry.Image.{Image}
 use Rattle.cx_core.specs.declared.kinds.Event.{Event as CoreEvent}
 use Rattle.cx_core.specs.Events.{Run}
@@ -25,7 +26,7 @@ events_of (x ∷ xs) = event_of x.what ++ events_of xs
 pub record Recovers (lines version : ℕ) (lawful : List ℕ → Type 0) (instance : Instance) (s : State) (choice place : ℕ) : Type 0 where
   pub image : Image
   pub left : IsImageOf lines instance s choice image
-  pub accepted : IsAccepted version lawful image
+  pub accepted : IsAccepted version lawful no_old_format image
   pub is : place_in_root image ≡ place
 
 -- A trace is good, over an object of so many lines with this version and these lawful images: its events are a run, and behind them
@@ -41,4 +42,4 @@ pub record IsSafeTrace (lines : ℕ) (lawful : List ℕ → Type 0) (instance : 
   pub states : (n : ℕ) (s : State) → Run instance from (events_of (take n xs)) s → Lawful instance s
   pub crashes : (n choice place : ℕ) (x : TraceLine) (s : State) (image : Image) → slice_get xs n ≡ Some x → x.what ≡ Crash choice place →
       Run instance from (events_of (take n xs)) s → (law : Lawful instance s) → IsImageOf lines instance s choice image →
-      IsKeptAt lines lawful instance law.history s image.root (recovered_from image) × (place_in_root image ≡ place)
+      IsKeptAt lines lawful instance law.history s image.root (recovered_from no_old_format image) × (place_in_root image ≡ place)

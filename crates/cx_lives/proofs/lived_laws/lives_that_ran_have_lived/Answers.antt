@@ -1,4 +1,5 @@
 use Rattle.std.proofs.Common.{sym, subst, Ok}
+use Rattle.cx_base.specs.OldFormat.{no_old_format}
 use Rattle.cx_core.specs.declared.entry.Base.{Base}
 use Rattle.cx_rule.specs.Running.{instance_at}
 use Rattle.life_records.specs.Ended.{IsEnded}
@@ -20,7 +21,10 @@ returns g c = λ life begun service told flagged remains image next based is ran
     let m = g.O.TypedObject.meaning o in
     let version = g.O.Object.version_number o in
     let opened : IsOpened lines_in images service = opened_of lines_in images o base life service lost.enough lost.few c.requires is in
-    let answers : IsRecovered (g.O.Object.version_number service.object) (images service.object) image next = subst (λ x. IsRecovered (g.O.Object.version_number x) (images x) image next) (sym is.same) lost.recovered in
+    let as_it_is : IsRecovered (g.O.Object.version_number service.object) (images service.object) no_old_format image next =
+    subst (λ x. IsRecovered (g.O.Object.version_number x) (images x) no_old_format image next) (sym is.same) lost.recovered in
+    let answers : IsRecovered (g.O.Object.version_number service.object) (images service.object) (g.O.Object.old_format service.object) image next =
+    (c.closed_tables_stay.ensures service ran.seats remains life.choice image next opened ran.leaves lost.left).1 as_it_is in
     let by : IsKeptBy lines_in images steps service ran.seats remains life.choice next =
     c.closed_tables_recover.ensures service ran.seats remains life.choice image (Ok next) opened ran.leaves lost.left answers in
     let crash = c.crash_images_are_left.ensures service ran.seats remains life.choice image opened ran.leaves lost.left in

@@ -1,5 +1,6 @@
 use Rattle.std.proofs.Common.{◌≡◌, ◌∙◌, ℕ, length, ap, subst, arith}
 use Rattle.std.proofs.lemmas.List.FromFn.{length-map-range_with_len}
+use Rattle.cx_base.specs.OldFormat.{no_old_format}
 use Rattle.cx_core.specs.declared.entry.Base.{Base}
 use Rattle.cx_core.specs.Region.{region_words}
 use Rattle.doc_store.specs.ExactStep.{IsImage}
@@ -20,6 +21,6 @@ pub returns : goal.returns
 returns c =
     let image = c.args.image.now in
     let base = c.in_ok-base.base in
-    let is : IsRecovered 1 (IsImage image.lines) image base =
-    subst (λ (n : ℕ). IsRecovered 1 (IsImage n) image base) c.of.ensures c.in_ok-base.ensures.recovers in
+    let is : IsRecovered 1 (IsImage image.lines) no_old_format image base =
+    subst (λ (n : ℕ). IsRecovered 1 (IsImage n) no_old_format image base) c.of.ensures c.in_ok-base.ensures.recovers in
     answered image base c.told_by.result is c.told_by.ensures.told c.told_by.ensures.replies

@@ -1,0 +1,73 @@
+-- A later format of the running sum: version 8, with the sum in word 2, where it was in word 1 before.
+use Rattle.std.specs.Prelude.{◌≡◌, ◌+◌, ◌%◌, ◌^◌, ◌<◌, ℕ, Bool, List, Option, Some, slice_index, slice_set, refl}
+use Rattle.std.proofs.Common.{ap, sym, subst, ◌∙◌, arith, lit<}
+use Rattle.std.proofs.lemmas.List.{get_or-set_other, get_or-set_same}
+use Rattle.cx_base.specs.Memory.{Words}
+use Rattle.cx_base.specs.OldFormat.{OldFormat, TakesOver}
+use Rattle.cx_base.specs.Tally.{tally_opening, tally_reply}
+use Rattle.cx_base.specs.TallyLaws.{tally_opens}
+use Rattle.cx_base.specs.WordLaws.{Words-at, Words-set, Words-then_zeros}
+
+-- 512 words, the first of which is the version
+pub record IsLater (image : List ℕ) : Type 0 where
+  pub words : Words 512 image
+  pub version : slice_index image 0 ≡ 8
+
+abbrev pub later_opening : List ℕ
+later_opening = slice_set tally_opening 0 8
+
+-- one step: word 0 of the operation is added to word 2 of the image, wrapping, and the reply is the sum
+abbrev pub later_sum : List ℕ → List ℕ → ℕ
+later_sum image op = (slice_index image 2 + slice_index op 0) % 2 ^ 64
+
+abbrev pub later_step : List ℕ → List ℕ → List ℕ × List ℕ
+later_step image op = (slice_set image 2 (later_sum image op), tally_reply (later_sum image op))
+
+-- Images of the format before are of version 7, with the sum in word 1, and word 2 is 0. The sum moves to word 2.
+pub record IsEarlier (image : List ℕ) : Type 0 where
+  pub words : Words 512 image
+  pub version : slice_index image 0 ≡ 7
+  pub unused : slice_index image 2 ≡ 0
+
+abbrev pub later_image : List ℕ → List ℕ
+later_image image = slice_set (slice_set (slice_set image 0 8) 2 (slice_index image 1)) 1 0
+
+abbrev pub earlier_format : OldFormat
+earlier_format = record { version = Some 7; lawful = IsEarlier; upgraded = later_image }
+
+-- a word put that is not the first, and the first
+put_later : (image : List ℕ) (at v : ℕ) → 0 < at → v < 2 ^ 64 → IsLater image → IsLater (slice_set image at v)
+put_later image at v behind small is = record {
+  words = Words-set 512 image at v small is.words;
+  version = get_or-set_other image at 0 v 0 (λ e. omega (arith, e, behind)) ∙ is.version;
+}
+
+put_version : (image : List ℕ) → Words 512 image → IsLater (slice_set image 0 8)
+put_version image ws = record {
+  words = Words-set 512 image 0 8 (lit< tt) ws;
+  version = get_or-set_same image 0 8 0 (omega (arith, ws.long));
+}
+
+sum_small : (a b : ℕ) → (a + b) % 2 ^ 64 < 2 ^ 64
+sum_small a b = omega arith
+
+pub later_opens : IsLater later_opening
+later_opens = put_version tally_opening (tally_opens tt).words
+
+pub later_keeps : (image op : List ℕ) → IsLater image → IsLater (later_step image op).0
+later_keeps image op is = put_later image 2 (later_sum image op) (lit< tt) (sum_small (slice_index image 2) (slice_index op 0)) is
+
+pub later_replies : (image op : List ℕ) → Words 144 (later_step image op).1
+unfolding tally_reply
+later_replies image op = Words-then_zeros (later_sum image op) 143 (sum_small (slice_index image 2) (slice_index op 0))
+
+some_same : (a b : ℕ) → ◌≡◌ {A = Option ℕ} (Some a) (Some b) → a ≡ b
+some_same a b same = cc
+
+pub later_takes_over : TakesOver 64 8 IsLater earlier_format
+later_takes_over = record {
+  another = λ e. omega (arith, some_same 7 8 e);
+  shape = λ image is. (is.words, ap Some (sym is.version));
+  upgrades = λ image is. put_later (slice_set (slice_set image 0 8) 2 (slice_index image 1)) 1 0 (lit< tt) (lit< tt)
+      (put_later (slice_set image 0 8) 2 (slice_index image 1) (lit< tt) (Words-at 512 image 1 is.words) (put_version image is.words));
+}

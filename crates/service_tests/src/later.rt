@@ -1,0 +1,102 @@
+//! The running sum in a later format.
+
+ghost use Rattle.std.specs.Prelude.{◌≡◌, false};
+ghost use Rattle.std.proofs.Common.{false≢true};
+ghost use Rattle.cx_base.specs.Tally.{tally_reply};
+ghost use Rattle.service_tests.specs.Later.{IsLater, earlier_format, later_keeps, later_opening, later_opens, later_replies, later_step, later_takes_over};
+
+use cx_base::tally::Tally;
+use cx_base::{Halt, Memory, Object};
+use std::alloc::{AllocError, Global};
+
+/// An object of 64 lines and version 8, with an old version 7, in which the sum stood in word 1. Word 0 of an operation is added to word 2
+/// of the image, wrapping; word 0 of the reply is the sum.
+#[derive(Drop)]
+pub(crate) struct LaterTally;
+
+const VERSION: u64 = 8;
+
+const OLD_VERSION: u64 = 7;
+
+impl Object for LaterTally {
+    ghost line_count = { λ _. 64 };
+
+    ghost version_number = { λ _. 8 };
+
+    ghost lawful = { λ _. IsLater };
+
+    ghost opening = { λ _. later_opening };
+
+    ghost step = { λ _. later_step };
+
+    ghost only_reads = { λ _ _. false };
+
+    ghost old_format = { λ _. earlier_format };
+
+    ghost opens = { λ _. later_opens };
+
+    ghost keeps = { λ _ image op is w. later_keeps image op is };
+
+    ghost shape = { λ _ image is. (is.words, is.version) };
+
+    ghost replies = { λ _ image op is w. later_replies image op };
+
+    ghost leaves = { λ _ image op is w reads. absurd (false≢true reads) };
+
+    ghost takes_over = { λ _. later_takes_over };
+
+    fn lines(&self) -> u64 {
+        64
+    }
+
+    fn version(&self) -> u64 {
+        VERSION
+    }
+
+    fn format<M: Memory>(&self, mem: &mut M) -> Result<(), Halt> {
+        Tally.format(mem)?;
+        mem.store(0, VERSION)
+    }
+
+    fn reads(&self, _op: &[u64; 144]) -> bool {
+        false
+    }
+
+    fn run<M: Memory>(&self, mem: &mut M, op: &[u64; 144]) -> Result<[u64; 144], Halt> {
+        let sum = mem.load(2)?.wrapping_add(op[0]);
+        mem.store(2, sum)?;
+        Ok(reply(sum))
+    }
+
+    fn query<M: Memory>(&self, _mem: &mut M, _op: &[u64; 144]) -> Result<[u64; 144], Halt> {
+        unreachable!()
+    }
+
+    fn check(&self, _alloc: Global, words: &[u64]) -> Result<bool, AllocError> {
+        Ok(words.len() == 512 && words[0] == VERSION)
+    }
+
+    fn old_version(&self) -> Option<u64> {
+        Some(OLD_VERSION)
+    }
+
+    fn check_old(&self, _alloc: Global, words: &[u64]) -> Result<bool, AllocError> {
+        Ok(words.len() == 512 && words[0] == OLD_VERSION && words[2] == 0)
+    }
+
+    fn upgrade(&self, words: &mut [u64]) {
+        let sum = words[1];
+        words[0] = VERSION;
+        words[2] = sum;
+        words[1] = 0;
+    }
+}
+
+// A reply with this sum.
+fn reply(sum: u64) -> [u64; 144]
+    ensures { result ≡ tally_reply sum }
+{
+    let mut words = [0; 144];
+    words[0] = sum;
+    words
+}
