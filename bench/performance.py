@@ -7,6 +7,7 @@ Build the programs first: python3 bench/build.py service_bench
                           cd bench/peers && cargo build --release --offline
 
 `--doc docs/PERFORMANCE.md` writes the page there, and the plot into `pictures` beside it; else the page is printed. All takes some 3 minutes.
+The section on a queue, which queue_performance.py writes at the end of the page, stays there.
 
 In each round the service and each peer run in turn, so that what else the machine does is met by all alike; who begins changes from
 round to round. A figure is the median over rounds of the ratio within a round. Throughput is calls by wall time in the callers'
@@ -42,6 +43,7 @@ LEAST_ROUNDS = 9
 # the updates of each caller in the short run that tells how many a longer one has; of reads alone it makes as many
 FIRST_UPDATES = 500
 PICTURE = os.path.join("pictures", "performance.svg")
+QUEUE_HEAD = "## A queue"
 
 
 @dataclass(frozen=True)
@@ -224,6 +226,15 @@ def written(name, text):
         file.write(text)
 
 
+def queue_section(name):
+    """The section on a queue of the page that is there, or nothing."""
+    if not os.path.exists(name):
+        return ""
+    with open(name, encoding="utf-8") as file:
+        _, head, rest = file.read().partition(QUEUE_HEAD)
+    return f"\n{head}{rest}" if head else ""
+
+
 def numbers(text):
     return [int(word) for word in text.split(",")]
 
@@ -259,7 +270,7 @@ def main(words):
         sys.exit("no size was measured")
     text = page(measured, options, where, [size for size in options.sizes if size not in sizes], parts(1))
     if options.doc:
-        written(options.doc, text)
+        written(options.doc, text + queue_section(options.doc))
         written(os.path.join(os.path.dirname(options.doc), PICTURE), drawn(panels(measured), FORMS, REGION))
     else:
         print(text, end="")

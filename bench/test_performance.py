@@ -2,12 +2,14 @@
 """Tests of the table, the words and the plot of performance.py, without a measurement."""
 import itertools
 import re
+import tempfile
 import unittest
 import xml.etree.ElementTree as ElementTree
 
 import performance
 import performance_plot
 import performance_words
+import queue_performance
 from performance import FORMS, OURS, REGION, Ran, Setting
 
 SVG = "{http://www.w3.org/2000/svg}"
@@ -55,6 +57,27 @@ class Measuring(unittest.TestCase):
         lines = performance.markdown(measured(SIZES, [1, 2, 4], lambda form, reads: 1 + form)).split("\n")
         self.assertEqual(2 + 45, len(lines))
         self.assertEqual({9}, {line.count("|") for line in lines})
+
+
+class Queues(unittest.TestCase):
+    OPTIONS = performance.options_of(["--rounds", "9"])
+
+    def test_what_a_line_says(self):
+        ran = queue_performance.ran_of({"moved": 90, "refused": 10, "cpu": 1800, "wall": 400}, 4)
+        self.assertEqual(queue_performance.Ran(9e8, 20.0, 10.0), ran)
+
+    def test_a_section_takes_the_place_of_an_older_one(self):
+        one = queue_performance.Ran(2e6, 400.0, 3.0)
+        rounds = [dict.fromkeys(queue_performance.FORMS, one)] * 3
+        text = queue_performance.section({(1, 1): rounds, (2, 2): rounds}, self.OPTIONS, "a machine")
+        self.assertIn("| 2 | 2 | 2,000 (400, 3) | 2,000 (400, 3) |\n", text)
+        page = queue_performance.with_section("# Performance\n\nWords.\n", text)
+        self.assertEqual(page, queue_performance.with_section(page, text))
+        self.assertEqual("# Performance\n\nWords.\n\n" + text, page)
+        with tempfile.NamedTemporaryFile("w+", encoding="utf-8") as file:
+            file.write(page)
+            file.flush()
+            self.assertEqual("\n" + text, performance.queue_section(file.name))
 
 
 class Words(unittest.TestCase):

@@ -1,11 +1,14 @@
 //! The store of a region against a map: each reply, each document, the durable copy, the tree.
 
+use crate::queue::Queue;
 use crate::region::{Answer, DOCUMENT, HEIGHT, KEY, LEFT, PAIRS, RIGHT, ROOT, Region};
 use crate::work::{Map, Random};
+use std::collections::VecDeque;
 use std::sync::atomic::Ordering::SeqCst;
 
 /// Does so many operations, half of them in a store that is often full. It panics where region and map differ.
 pub fn selftest(count: u64) {
+    check_queue(count);
     for (lines, keys) in [(64, 24), (4096, 900)] {
         let (mut region, mut map) = (Region::new(lines), Map::new());
         let mut random = Random::new(lines);
@@ -65,4 +68,21 @@ fn check_tree(region: &Region, node: u64, pairs: &mut Vec<(Vec<u8>, Vec<u8>)>) -
     let right = check_tree(region, region.word(node, RIGHT), pairs);
     assert!(left.abs_diff(right) <= 1 && region.word(node, HEIGHT) == 1 + left.max(right), "the heights at line {node}");
     1 + left.max(right)
+}
+
+// A queue of three places against a list: each answer, and the durable copy.
+fn check_queue(count: u64) {
+    let (mut queue, mut list) = (Queue::new(4), VecDeque::new());
+    let mut random = Random::new(1);
+    for i in 1..=count {
+        if random.below(2) == 0 {
+            let is_room = list.len() < 3;
+            assert_eq!(queue.push([i; 8]), is_room, "push {i}");
+            list.extend(is_room.then_some([i; 8]));
+        } else {
+            assert_eq!(queue.pop(), list.pop_front(), "pop {i}");
+        }
+        assert!(queue.kept().iter().eq(&list), "the copy after {i}");
+    }
+    println!("4 lines: {count} pushes and pops");
 }

@@ -1,27 +1,37 @@
 //! What a user would take instead of the service: one store behind a lock.
 //!
 //!     peers run --form FORM --threads T --lines L --keys K --reads P --ms M
+//!     peers queue --producers P --consumers C --ms M
 //!     peers selftest
 //!
 //! The forms: `btree_mutex` and `btree_rwlock`, a `BTreeMap` under a lock of std, not durable; `region_mutex`, the words of one region
-//! under a mutex, of which each changed word is also stored to a durable copy. P of 100 calls get a document, the others put one.
+//! under a mutex, of which each changed word is also stored to a durable copy. P of 100 calls get a document, the others put one. `queue` is
+//! a `VecDeque` of at most 1,023 texts under a mutex, with a durable copy, into which producers push and from which consumers pop.
 
 mod check;
+mod queue;
 mod region;
 mod work;
 
+use queue::Callers;
 use std::env;
 use std::process::ExitCode;
 use work::{Run, run};
 
 const USAGE: &str = "usage: peers run --form btree_mutex|btree_rwlock|region_mutex --threads T --lines L --keys K --reads P --ms M
+       peers queue --producers P --consumers C --ms M
        peers selftest
-T is 1 to 8, L 64 to 16384, P at most 100, and 3K is below L.";
+T is 1 to 8, and so is the sum of P and C, L 64 to 16384, P at most 100, and 3K is below L.";
 
 fn main() -> ExitCode {
     let words: Vec<_> = env::args().skip(1).collect();
     if words == ["selftest"] {
         check::selftest(20_000);
+        return ExitCode::SUCCESS;
+    }
+    if let Some(callers) = queue_asked(&words) {
+        let [moved, refused, cpu, wall] = queue::run(&callers);
+        println!("moved {moved} refused {refused} cpu {cpu} wall {wall}");
         return ExitCode::SUCCESS;
     }
     let tally = asked(&words).and_then(|asked| run(&asked));
@@ -34,14 +44,36 @@ fn main() -> ExitCode {
     ExitCode::SUCCESS
 }
 
+// The word behind a name.
+fn named<'a>(words: &'a [String], name: &str) -> Option<&'a str> {
+    words.chunks(2).find(|pair| pair[0] == name).map(|pair| pair[1].as_str())
+}
+
+// The number behind a name, where it is in these bounds.
+fn number_of(words: &[String], name: &str, least: u64, most: u64) -> Option<u64> {
+    named(words, name)?.parse().ok().filter(|n| (least..=most).contains(n))
+}
+
+// The run on a queue that the words ask for.
+fn queue_asked(words: &[String]) -> Option<Callers> {
+    let (first, rest) = words.split_first()?;
+    if first != "queue" || rest.len() != 6 {
+        return None;
+    }
+    let producers = number_of(rest, "--producers", 0, 8)? as usize;
+    let consumers = number_of(rest, "--consumers", 0, 8)? as usize;
+    let ms = number_of(rest, "--ms", 1, 60_000)?;
+    (1..=8).contains(&(producers + consumers)).then_some(Callers { producers, consumers, ms })
+}
+
 // The run that the words ask for.
 fn asked(words: &[String]) -> Option<Run> {
     let (first, rest) = words.split_first()?;
     if first != "run" || rest.len() != 12 {
         return None;
     }
-    let word = |name: &str| rest.chunks(2).find(|pair| pair[0] == name).map(|pair| pair[1].as_str());
-    let number = |name: &str, least: u64, most: u64| word(name)?.parse().ok().filter(|n| (least..=most).contains(n));
+    let word = |name: &str| named(rest, name);
+    let number = |name: &str, least: u64, most: u64| number_of(rest, name, least, most);
     let lines = number("--lines", 64, 16384)?;
     Some(Run {
         form: word("--form")?.to_string(),

@@ -146,7 +146,7 @@ unsafe extern "C" {
 }
 
 // Nanoseconds of the processor that the calling thread has used, on Linux with 64 bits.
-fn thread_time() -> u64 {
+pub fn thread_time() -> u64 {
     const THREAD_CPUTIME: i32 = 3;
     let mut time = Time { seconds: 0, nanoseconds: 0 };
     // SAFETY: it writes one `timespec`, which has this form there.

@@ -1,6 +1,6 @@
 -- A bounded queue of texts in a ring of lines: the images that stand for one, and the step as a function of words. Line 0 has the
 -- version, the head and the count; place s is line s + 1, and the items stand at places head, head + 1 and so on, in turn.
-use Rattle.std.specs.Prelude.{◌≡◌, ◌==◌, ◌||◌, ◌+◌, ◌-◌, ◌*◌, ◌%◌, ◌<◌, ◌≤◌, nat_le, ℕ, Bool, true, List, ◌∷◌, map, replicate, slice_index, slice_set, if◌then◌else◌}
+use Rattle.std.specs.Prelude.{◌≡◌, ◌==◌, ◌||◌, ◌⊎◌, ◌+◌, ◌-◌, ◌*◌, ◌%◌, ◌<◌, ◌≤◌, nat_le, ℕ, Bool, true, List, ◌∷◌, map, replicate, slice_index, slice_set, if◌then◌else◌}
 use Rattle.std.specs.List.{range_with_len}
 use Rattle.cx_base.specs.Memory.{Words, overwritten}
 use Rattle.fifo_model.specs.Words.{is_item, item_in, kind_in, reply_words, words_of}
@@ -81,3 +81,18 @@ fifo_step lines image op = step_by (kind_in op) lines (item_in op) image
 -- whether these are the words of an operation that only reads
 unfoldable pub fifo_reads : List ℕ → Bool
 fifo_reads op = kind_in op == 3 || kind_in op == 4
+
+-- one image has the words of another but in the header's line and in that of a place
+abbrev pub IsSameBeside : ℕ → List ℕ → List ℕ → Type 0
+IsSameBeside place one other = (at : ℕ) → 8 ≤ at → (at < 8 * (place + 1)) ⊎ (8 * (place + 2) ≤ at) → slice_index one at ≡ slice_index other at
+
+-- it has the same words in these two lines
+pub record IsSameAt (place : ℕ) (one other : List ℕ) : Type 0 where
+  pub header : (j : ℕ) → j < 8 → slice_index one j ≡ slice_index other j
+  pub item : item_at one place ≡ item_at other place
+
+-- what a step changes in an image, and what its reply is told by, are at most two lines: the header's and that of a place
+pub record TouchesTwoLines (step : List ℕ → List ℕ × List ℕ) (image : List ℕ) : Type 0 where
+  pub place : ℕ
+  pub changes : IsSameBeside place (step image).0 image
+  pub reply : (other : List ℕ) → IsSameAt place other image → (step other).1 ≡ (step image).1
