@@ -2,8 +2,9 @@
 """Says whether a report is one of legal lives of a script.
 
     check_report.py SCRIPT REPORT
+    check_report.py --fifo SCRIPT REPORT      of a queue
 
-Both are read by docs/FORMATS.md alone, and every reply is worked out anew over a plain dictionary: this program shares no line
+Both are read by docs/FORMATS.md alone, and every reply is worked out anew over a plain dictionary, or a plain list of texts: this program shares no line
 with the one that wrote the report. Any number of lives and clients is judged.
 
 Status 0 and `legal: ..` where the report is one of legal lives; status 1 and `line N: WHY` with the first line that is not;
@@ -13,7 +14,8 @@ import bisect
 import sys
 from collections import defaultdict
 
-from plain_store import Store
+from plain_queue import opening
+from queue_text import read_queue_script
 from report_text import UNANSWERED, Fault, read_report
 from script_text import LARGEST_INPUT, Refusal, TooLong, read_script
 
@@ -21,12 +23,14 @@ CELLS = 16
 
 
 def main(words):
+    of_queue = words[:1] == ["--fifo"]
+    words = words[1:] if of_queue else words
     if len(words) != 2:
-        print("usage: check_report.py SCRIPT REPORT")
+        print("usage: check_report.py [--fifo] SCRIPT REPORT")
         return 3
     try:
         script_bytes, report_bytes = (contents(path) for path in words)
-        script = read_script(script_bytes)
+        script = (read_queue_script if of_queue else read_script)(script_bytes)
         print(judge(script, read_report(report_bytes)))
         return 0
     except OSError as error:
@@ -50,7 +54,7 @@ def contents(path):
 
 def judge(script, report):
     """One line on a legal report; raises Fault at the first line of one that is not."""
-    place, store = 0, Store(script.lines)
+    place, store = 0, opening(script)
     entries = reads = 0
     for index, told in enumerate(report.lives):
         if index == len(script.lives):
@@ -64,7 +68,7 @@ def judge(script, report):
         raise report.fault
     if len(report.lives) < len(script.lives):
         raise Fault(report.end, f"the report ends before life {len(report.lives)}")
-    return f"legal: lives {len(script.lives)}, entries {entries}, reads {reads}, documents {len(store.documents)}"
+    return f"legal: lives {len(script.lives)}, entries {entries}, reads {reads}, {store.COUNTED} {store.size()}"
 
 
 class LifeJudge:
@@ -245,7 +249,7 @@ class LifeJudge:
     def judge_read(self, read, before, replies):
         reply = self.reply(read)
         if not self.command(read).reads:
-            raise Fault(read.line, f"command {read.name} is no get, next or count")
+            raise Fault(read.line, f"command {read.name} is no {self.store.READING}")
         if (read.client, read.command) in self.entry_of:
             raise Fault(read.line, f"command {read.name} has an entry already")
         if before and before.name == read.name:
@@ -358,7 +362,8 @@ class LifeJudge:
         why = self.fault_of_kept()
         if why:
             raise Fault(power.line, why)
-        self.want(power, power.documents, len(self.store_after(power.kept).documents), "the number of documents")
+        self.want(power, power.counted, self.store.COUNTED, "what the line counts")
+        self.want(power, power.size, self.store_after(power.kept).size(), f"the number of {power.counted}")
 
     def fault_of_kept(self):
         """Why the number of entries kept cannot be right, or None."""

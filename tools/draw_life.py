@@ -401,7 +401,7 @@ class Picture:
             self.pair(self.text_left(row), row.top + 18, "Power loss", power_words(power))
         else:
             self.text(row.left + self.history + 10, row.top + 35, f"kept {power.kept} of {power.entries}", "small")
-            self.text(row.left + self.history + 10, row.top + 49, counted(power.documents, "document"), "small soft")
+            self.text(row.left + self.history + 10, row.top + 49, counted(power.size, power.counted[:-1]), "small soft")
 
     def draw_legend(self):
         """One line that names each mark that the picture has."""
@@ -447,7 +447,7 @@ def legend_width(words):
 
 
 def power_words(power):
-    return f"{power.kept} of {power.entries} entries kept, {counted(power.documents, 'document')} (choice {power.choice})"
+    return f"{power.kept} of {power.entries} entries kept, {counted(power.size, power.counted[:-1])} (choice {power.choice})"
 
 
 def ended_words(item):

@@ -2,6 +2,7 @@
 """Runs a script or recovers an image, and says in words why it is refused, where it is.
 
     explain.py [--program PATH] SCRIPT
+    explain.py [--program PATH] --fifo SCRIPT_OF_A_QUEUE
     explain.py [--program PATH] --image IMAGE_TEXT
     explain.py --status NUMBER
 
@@ -18,6 +19,7 @@ import unicodedata
 from pathlib import Path
 
 from image_text import BadImage, place_of, read_image, recovered
+from queue_text import read_queue_script
 from script_text import LARGEST_INPUT, Refusal, TooLong, raw_lines, read_script, words_of
 
 BUILT = Path(__file__).resolve().parent.parent / "crates" / "cx_tool" / "out" / "cx_tool"
@@ -37,7 +39,14 @@ COMMAND_ROWS = {
     "next": "K next KEY         or K next, for the least key of all",
     "count": "K count",
 }
+QUEUE_ROWS = {
+    "push": "K push TEXT        one word",
+    "pop": "K pop",
+    "peek": "K peek",
+    "len": "K len",
+}
 KEY_RULE = "KEY                1 to 64 bytes, each 0x21 to 0x7E"
+TEXT_RULE = "TEXT               1 to 56 bytes, each 0x21 to 0x7E"
 CLIENT_RULE = "K                  a client of the life: a number below its N"
 COMMANDS_RULE = "a script           has at most 1,000 lives and 100,000 commands"
 JSON_RULE = "JSON               a value as JSON has it, nested at most 127 deep"
@@ -61,6 +70,7 @@ SENTENCES = {
     "json": "The document is no JSON from the marked place on.",
     "fraction": "A number of the document is no integer within 64 bits. Fractions, exponents and -0 are not taken.",
     "long": "The document's compact text has more than 1,024 bytes.",
+    "text": "The text is empty, longer than 56 bytes, or has a byte that a text may not have.",
     "image": "An image text begins with its image line, and this line is none.",
     "root": "The second line of an image text is its root line, and this is none.",
     "word": "This is no line of a word that is not 0. There are no comments, no empty lines, and addresses rise.",
@@ -83,11 +93,15 @@ OTHER_ENDS = {
 }
 
 
-def rows_of(reason, line):
+# the section of docs/FORMATS.md that says how a text is read
+SECTIONS = {read_script: "The script", read_queue_script: "A bounded queue of texts", read_image: "The image text"}
+
+
+def rows_of(reason, line, command_rows=COMMAND_ROWS):
     """The rows of the grammar that a line breaks which is refused for this reason."""
     words = words_of(line)
     kind = words[1].text if len(words) > 1 else ""
-    command = [COMMAND_ROWS[kind]] if kind in COMMAND_ROWS else list(COMMAND_ROWS.values())
+    command = [command_rows[kind]] if kind in command_rows else list(command_rows.values())
     return {
         "utf8": ["a line             that is not passed over is UTF-8"],
         "header": [LINES_ROW],
@@ -98,6 +112,7 @@ def rows_of(reason, line):
         "commands": [COMMANDS_RULE],
         "command": command,
         "key": command + [KEY_RULE],
+        "text": command + [TEXT_RULE],
         "number": command,
         "json": command + [JSON_RULE],
         "fraction": command + [NUMBER_RULE],
@@ -115,8 +130,9 @@ def explanation(path, data, number, reason, read=read_script):
     line, start, end = shown_line(raw, reason, start, end)
     place = f"{path}, line {number}, column {start + 1}: {reason}"
     parts = [place, "", *with_caret(line, number, start, end), "", SENTENCES.get(reason, UNKNOWN), ""]
-    parts.append(f"By the grammar (docs/FORMATS.md, {'The script' if read is read_script else 'The image text'}):")
-    parts.extend("  " + row for row in rows_of(reason, raw.decode("utf-8", "replace")))
+    parts.append(f"By the grammar (docs/FORMATS.md, {SECTIONS[read]}):")
+    command_rows = QUEUE_ROWS if read is read_queue_script else COMMAND_ROWS
+    parts.extend("  " + row for row in rows_of(reason, raw.decode("utf-8", "replace"), command_rows))
     if not agreed:
         parts.append("")
         parts.append("The place is a guess: read by docs/FORMATS.md alone, the script has another first fault, or none.")
@@ -169,14 +185,19 @@ def width(letter):
     return 2 if unicodedata.east_asian_width(letter) in "WF" else 1
 
 
-def explained(path, data, status, output):
+def explained(path, data, status, output, read=read_script):
     """The words on how the program ended, and the status of this one."""
     if status == 0:
         return f"{path}: accepted, {output.count(bytes([10]))} lines of report", 0
     refused = REFUSAL.fullmatch(output)
     if status == 3 and refused and 1 <= int(refused[1]) <= len(raw_lines(data)):
-        return explanation(path, data, int(refused[1]), refused[2].decode()), 1
+        return explanation(path, data, int(refused[1]), refused[2].decode(), read), 1
     return f"{path}: {OTHER_ENDS.get(status, f'the program ended with status {status}')}", 1 if status == 8 else 2
+
+
+def explained_queue(path, data, status, output):
+    """The same of a script of a queue."""
+    return explained(path, data, status, output, read_queue_script)
 
 
 def explained_image(path, data, status, output):
@@ -215,6 +236,10 @@ def meaning(status):
     return f"status {status}: docs/FORMATS.md has none such" if status not in (0, 3) else f"status {status}: what was written says all"
 
 
+# what the program is asked for, and how it is explained what came of it
+OTHER_TEXTS = {"--fifo": ("fifo", explained_queue), "--image": ("recover", explained_image)}
+
+
 def main(words):
     if words[:1] == ["--status"] and len(words) == 2 and words[1].isascii() and words[1].isdigit():
         print(meaning(int(words[1])))
@@ -222,22 +247,22 @@ def main(words):
     program = BUILT
     if words[:1] == ["--program"] and len(words) > 1:
         program, words = Path(words[1]), words[2:]
-    of_image = words[:1] == ["--image"]
-    words = words[1:] if of_image else words
+    asked, explain = "run", explained
+    if words and words[0] in OTHER_TEXTS:
+        (asked, explain), words = OTHER_TEXTS[words[0]], words[1:]
     if len(words) != 1:
-        print("usage: explain.py [--program PATH] [--image] FILE")
+        print("usage: explain.py [--program PATH] [--fifo | --image] FILE")
         return 2
     if not program.exists():
         print(f"no program at {program}; {HOW_TO_BUILD}")
         return 2
     try:
         data = Path(words[0]).read_bytes()
-        word = "recover" if of_image else "run"
-        ended = subprocess.run([program.resolve(), word], input=data, capture_output=True, check=False)
+        ended = subprocess.run([program.resolve(), asked], input=data, capture_output=True, check=False)
     except OSError as error:
         print(f"{error.filename}: {error.strerror}")
         return 2
-    said, status = (explained_image if of_image else explained)(words[0], data, ended.returncode, ended.stdout)
+    said, status = explain(words[0], data, ended.returncode, ended.stdout)
     print(said)
     return status
 

@@ -20,6 +20,9 @@ def room_of(key, document):
 class Store:
     """What each command answers, as the text of its reply, and does."""
 
+    COUNTED = "documents"
+    READING = "get, next or count"
+
     def __init__(self, lines):
         self.most = lines - 1
         self.taken = 0
@@ -32,6 +35,9 @@ class Store:
         other.documents = dict(self.documents)
         other.keys = list(self.keys)
         return other
+
+    def size(self):
+        return len(self.documents)
 
     def answer(self, command):
         """The reply to the command; afterwards the store is the one after it."""

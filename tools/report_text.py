@@ -13,6 +13,8 @@ UNANSWERED = "unanswered"
 NUMBER = "(0|[1-9][0-9]{0,19})"
 # a reply of `next`, with or without a key before it
 NEXT_REPLY = re.compile("none|unanswered|key [\x21-\x7e]{1,64}")
+# how many words follow the kind of a command, of documents and of a queue, where that is not in question
+WORDS_BEHIND = {"del": 1, "add": 2, "get": 1, "next": 1, "count": 0, "push": 1, "pop": 0, "peek": 0, "len": 0}
 
 
 class Fault(Exception):
@@ -83,7 +85,8 @@ class Power:
     choice: int
     kept: int
     entries: int
-    documents: int
+    counted: str
+    size: int
 
 
 # the forms of lines in the order in which they stand in a life, each with its pattern and what it is called
@@ -93,7 +96,7 @@ FORMS = (
     (Read, re.compile(f"read {NUMBER}[.]{NUMBER} at {NUMBER} (.+)"), "a read"),
     (Stop, re.compile(f"stopped {NUMBER}[.]{NUMBER} at {NUMBER} (kept|lost)"), "a stop line"),
     (Full, re.compile(f"full {NUMBER}[.]{NUMBER} holder {NUMBER} need {NUMBER} ticket {NUMBER}"), "a full line"),
-    (Power, re.compile(f"power {NUMBER} kept {NUMBER} of {NUMBER} documents {NUMBER}"), "a power line"),
+    (Power, re.compile(f"power {NUMBER} kept {NUMBER} of {NUMBER} (documents|items) {NUMBER}"), "a power line"),
 )
 ORDER = [form for form, _, _ in FORMS]
 CALLED = {form: called for form, _, called in FORMS}
@@ -198,7 +201,7 @@ def split_reply(line, rest):
     elif kind == "next" and tail.startswith("= ") and NEXT_REPLY.fullmatch(tail[2:]):
         command, answer = "next", " " + tail
     else:
-        words = {"del": 1, "add": 2, "get": 1, "next": 1, "count": 0}.get(kind)
+        words = WORDS_BEHIND.get(kind)
         if words is None:
             raise Fault(line, f"{kind} is no command")
         parts = rest.split(" ", words + 1)

@@ -53,12 +53,22 @@ class Refusal(Exception):
 
 
 @dataclass(frozen=True)
-class Command:
-    """One command of a client; `number` counts the client's commands in its life from 1."""
+class Numbered:
+    """A command of a client; `number` counts the client's commands in its life from 1."""
 
     client: int
     number: int
     kind: str
+
+    @property
+    def name(self):
+        return f"{self.client}.{self.number}"
+
+
+@dataclass(frozen=True)
+class Command(Numbered):
+    """One command on documents."""
+
     key: str = ""
     document: str = ""
     amount: int = 0
@@ -66,10 +76,6 @@ class Command:
     @property
     def reads(self):
         return self.kind in READING_KINDS
-
-    @property
-    def name(self):
-        return f"{self.client}.{self.number}"
 
     @property
     def text(self):
@@ -151,9 +157,13 @@ def raw_lines(data):
 
 def read_script(data):
     """The script that the bytes are; raises Refusal at the first line that is at fault, or TooLong."""
+    return read_by(Reader(), data)
+
+
+def read_by(reader, data):
+    """The script that a reader makes of the bytes."""
     if len(data) > LARGEST_INPUT:
         raise TooLong
-    reader = Reader()
     for number, line in enumerate(raw_lines(data), 1):
         if not line or line.startswith(b"#"):
             continue
@@ -174,10 +184,18 @@ def decoded(line):
 
 
 class Reader:
-    """Takes the lines of a script one by one, and refuses the first with which they are no script."""
+    """Takes the lines of a script one by one, and refuses the first with which they are no script.
+
+    What a reader of other commands has otherwise: the script that it fills, whether there are cut lines, how many words a line of
+    each command has, and `command`.
+    """
+
+    form = Script
+    has_cuts = True
+    word_counts = WORD_COUNTS
 
     def __init__(self):
-        self.script = Script()
+        self.script = self.form()
         self.headed = False
         self.commands = 0
         self.numbers = {}
@@ -190,7 +208,7 @@ class Reader:
             self.take_life(words)
         elif not self.script.lives:
             raise words[0].refusal("life")
-        elif words[0].text == "cut":
+        elif words[0].text == "cut" and self.has_cuts:
             self.take_cut(words)
         else:
             self.take_command(text, words)
@@ -227,11 +245,14 @@ class Reader:
         client = wanted_number(words[0], 0, life.clients - 1, "client")
         if self.commands == MOST_COMMANDS:
             raise words[0].refusal("commands")
-        kind = kind_of(words)
-        rest = parts_of(kind, text, words)
+        kind = kind_of(words, self.word_counts)
+        made = self.command(client, self.numbers.get(client, 0) + 1, kind, text, words)
         self.commands += 1
-        self.numbers[client] = self.numbers.get(client, 0) + 1
-        life.commands.append(Command(client, self.numbers[client], kind, **rest))
+        self.numbers[client] = made.number
+        life.commands.append(made)
+
+    def command(self, client, number, kind, text, words):
+        return Command(client, number, kind, **parts_of(kind, text, words))
 
 
 def wanted_words(words, count, reason):
@@ -249,12 +270,12 @@ def wanted_number(word, least, most, reason):
     return value
 
 
-def kind_of(words):
+def kind_of(words, word_counts):
     """The command's kind, where its line has as many words as that kind has."""
     if len(words) < 2:
         wanted_words(words, 2, "command")
     kind = words[1].text
-    counts = WORD_COUNTS.get(kind)
+    counts = word_counts.get(kind)
     if counts is None:
         raise words[1].refusal("command")
     if len(words) not in counts:
@@ -275,13 +296,18 @@ def parts_of(kind, text, words):
 
 
 def key_of(word):
+    return visible_in(word, LONGEST_KEY, "key")
+
+
+def visible_in(word, longest, reason):
+    """The word's text, where it is 1 to so many bytes, each 0x21 to 0x7E."""
     for at, letter in enumerate(word.text):
-        if at == LONGEST_KEY:
-            raise Refusal("key", word.start + at, word.end)
+        if at == longest:
+            raise Refusal(reason, word.start + at, word.end)
         if not "\x21" <= letter <= "\x7e":
-            raise Refusal("key", word.start + at, word.start + at + 1)
+            raise Refusal(reason, word.start + at, word.start + at + 1)
     if not word.text:
-        raise word.refusal("key")
+        raise word.refusal(reason)
     return word.text
 
 

@@ -37,11 +37,14 @@ import held_reader
 import plain_judge
 import random_faults
 import random_lives
+import random_queues
 import record_trace
 import stopped_clients
 from end_tests import Ends
 from image_tests import ImageExplanations, ProgramOnImages, ReadImages, usage
 from plain_core import Core
+from queue_tests import ProgramOnQueues, QueueTexts
+from queue_text import read_queue_script
 from report_text import Fault, read_report, split_reply
 from script_text import Refusal, TooLong, read_script
 from wrong_reports import WRONG
@@ -156,7 +159,18 @@ def legal_rows():
 
 
 def judged(script, report):
-    return check_report.judge(read_script(script), read_report(report))
+    return check_report.judge(asked_with(script).read(script), read_report(report))
+
+
+def asked_with(script):
+    """The word of the program that takes a script: `fifo`, where it is one of a queue and none of documents."""
+    try:
+        read_script(script)
+    except Refusal:
+        with contextlib.suppress(Refusal):
+            read_queue_script(script)
+            return random_queues.FIFO
+    return random_lives.RUN
 
 
 def why_refused(script, report):
@@ -227,9 +241,10 @@ class LegalReports(unittest.TestCase):
                 self.assertIsNone(why_refused((EXAMPLES / f"{report.stem}.script").read_bytes(), report.read_bytes()))
 
     def test_reports_in_documents_are_legal(self):
-        shown, _ = shown_in_documents()
-        self.assertGreaterEqual(len(shown), 2)
-        for script, report in shown:
+        of_documents, of_queues = shown_in_documents()
+        self.assertGreaterEqual(len(of_documents), 2)
+        self.assertGreaterEqual(len(of_queues), 1)
+        for script, report in of_documents + of_queues:
             with self.subTest(report[:200]):
                 self.assertIsNone(why_refused(script, report))
 
@@ -332,7 +347,7 @@ class Statuses(unittest.TestCase):
                 ([good, report], 0, "legal: lives 1, entries 23, reads 0, documents 21\n"),
                 ([good, ROWS / "nothing.report"], 1, "line 1: the report ends before life 0\n"),
                 ([bad, report], 2, "no script: line 1: header\n"),
-                ([good], 3, "usage: check_report.py SCRIPT REPORT\n"),
+                ([good], 3, "usage: check_report.py [--fifo] SCRIPT REPORT\n"),
                 ([good, Path(folder) / "none"], 3, f"{folder}/none: No such file or directory\n"),
             ]
             for words, status, said in cases:
@@ -439,7 +454,7 @@ class Scripts(unittest.TestCase):
 
 class Explanations(unittest.TestCase):
     def test_each_reason(self):
-        self.assertEqual(set(explain.SENTENCES), {*REFUSED, "image", "root", "word"})
+        self.assertEqual(set(explain.SENTENCES), {*REFUSED, "text", "image", "root", "word"})
         for reason, (script, line, marked) in REFUSED.items():
             with self.subTest(reason):
                 said, status = explain.explained("a.script", script, 3, f"refused line {line}: {reason}\n".encode())
@@ -573,7 +588,8 @@ class Program(unittest.TestCase):
         for example in EXAMPLES.glob("*.script"):
             with self.subTest(example.stem):
                 script = example.read_bytes()
-                self.assertIsNone(why_refused(script, random_lives.answer_of_program(random_lives.PROGRAM, script)))
+                answer = random_lives.answer_of_program(random_lives.PROGRAM, script, asked_with(script).word)
+                self.assertIsNone(why_refused(script, answer))
 
     def test_same_reasons_as_the_tools(self):
         for reason, (script, line, _) in REFUSED.items():
@@ -625,6 +641,7 @@ class Pictures(unittest.TestCase):
             choice = random.Random(clients * 1_000 + lives * 100 + commands)
             text = random_lives.script_text(choice, clients, lives, commands // lives, cuts=clients > 1)
             yield f"{clients} clients, {lives} lives, {commands}", random_lives.report_text(choice, read_script(text))
+            yield f"a queue, {clients} clients, {lives} lives, {commands}", random_queues.random_report(choice, clients, lives, commands // lives)[1]
 
     def test_marks(self):
         for name, report in self.reports():

@@ -5,7 +5,7 @@ itself, however slow that is, and has the reader of lines and the store in commo
 """
 from dataclasses import dataclass
 
-from plain_store import Store
+from plain_queue import opening
 from report_text import UNANSWERED
 
 CELLS = 16
@@ -22,7 +22,7 @@ class Answer:
 
 
 def is_legal(script, report):
-    place, store = 0, Store(script.lines)
+    place, store = 0, opening(script)
     if report.fault or len(report.lives) != len(script.lives):
         return False
     for index, (life, told) in enumerate(zip(script.lives, report.lives)):
@@ -55,7 +55,7 @@ class View:
             self.answers_rise,
             self.answers_are_kept,
             self.stops_tell_what_is_kept,
-            self.documents_are_counted,
+            self.what_is_kept_is_counted,
         ]
 
     # what the lines say
@@ -175,5 +175,5 @@ class View:
         kept = {(entry.client, entry.command) for entry in self.told.entries[: self.power.kept]}
         return all((stop.fate == "kept") == ((stop.client, stop.command) in kept) for stop in self.told.stops)
 
-    def documents_are_counted(self):
-        return self.power.documents == len(self.store_after(self.power.kept).documents)
+    def what_is_kept_is_counted(self):
+        return (self.power.counted, self.power.size) == (self.store.COUNTED, self.store_after(self.power.kept).size())

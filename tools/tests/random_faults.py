@@ -3,6 +3,7 @@ import random
 import re
 
 REPLIES = ["new", "replaced", "deleted", "none", "unanswered", "noroom", "notnumber", "overflow", "sum 3", "count 1", "key a", "0"]
+QUEUE_REPLIES = ["pushed", "full", "empty", "unanswered", "item x", "item =", "len 0", "len 3"]
 NUMBER = re.compile("(?<![0-9A-Za-z])[0-9]+(?![0-9A-Za-z])")
 
 
@@ -41,7 +42,18 @@ def swap_lines(choice, lines):
 def change_reply(choice, lines):
     at = choice.randrange(len(lines))
     if " = " in lines[at]:
-        lines[at] = f"{lines[at].rpartition(' = ')[0]} = {choice.choice(REPLIES)}"
+        replies = QUEUE_REPLIES if is_of_queue(lines) else REPLIES
+        lines[at] = f"{lines[at].rpartition(' = ')[0]} = {choice.choice(replies)}"
+
+
+def is_of_queue(lines):
+    return any(line.startswith("power") and " items " in line for line in lines)
+
+
+def change_counted(choice, lines):
+    """A power line counts what the other kind of report counts."""
+    at = choice.randrange(len(lines))
+    lines[at] = re.sub(" (documents|items) ", " documents " if is_of_queue(lines) else " items ", lines[at])
 
 
 def change_fate(choice, lines):
@@ -99,6 +111,7 @@ CHANGES = [
     swap_lines,
     change_reply,
     change_fate,
+    change_counted,
     swap_entries,
     turn_into_read,
     stop_client,

@@ -9,6 +9,7 @@
 import random
 import subprocess
 import sys
+from collections.abc import Callable
 from dataclasses import dataclass
 from pathlib import Path
 
@@ -16,7 +17,7 @@ TOOLS = Path(__file__).resolve().parent.parent
 sys.path.insert(0, str(TOOLS))
 
 import check_report
-from plain_store import Store
+from plain_queue import opening
 from report_text import UNANSWERED, Fault, read_report
 from script_text import Refusal, raw_lines, read_script
 
@@ -137,13 +138,13 @@ class Teller:
             fate = "lost" if at is None or at >= kept else "kept"
             lines.append(f"stopped {name} at {self.life.limit(client)} {fate}")
         store = self.stores[kept]
-        lines.append(f"power {self.life.choice} kept {kept} of {len(self.journal)} documents {len(store.documents)}")
+        lines.append(f"power {self.life.choice} kept {kept} of {len(self.journal)} {store.COUNTED} {store.size()}")
         return lines, self.place + kept, store
 
 
 def report_text(choice, script):
     """A legal report of the script."""
-    lines, place, store = [], 0, Store(script.lines)
+    lines, place, store = [], 0, opening(script)
     for index, life in enumerate(script.lives):
         told, place, store = Teller(choice, life, place, store).lines(index)
         lines.extend(told)
@@ -195,37 +196,49 @@ class Refused:
     reason: str
 
 
-def answer_of_program(program, script):
+@dataclass(frozen=True)
+class Asked:
+    """A word of the program, and how the tools read the scripts that it takes."""
+
+    word: str
+    read: Callable
+
+
+RUN = Asked("run", read_script)
+
+
+def answer_of_program(program, script, word="run"):
     """What the program says of a script: its report, or its refusal, or how else it ended."""
-    ended = subprocess.run([program, "run"], input=script, capture_output=True, check=False, timeout=MOST_SECONDS)
+    ended = subprocess.run([program, word], input=script, capture_output=True, check=False, timeout=MOST_SECONDS)
     if ended.returncode == 3:
         _, _, line, reason = ended.stdout.decode().split()
         return Refused(int(line.rstrip(":")), reason)
     return ended.stdout if ended.returncode == 0 else f"status {ended.returncode}"
 
 
-def disagreement(program, script, seen):
+def disagreement(program, script, seen, asked=RUN):
     """Where the program and the tools disagree on a script; else None."""
-    answer = answer_of_program(program, script)
+    answer = answer_of_program(program, script, asked.word)
     if isinstance(answer, str):
         return answer
     if isinstance(answer, Refused):
         seen.refused += 1
-        return None if answer in refusals(script, answer.line) else f"{answer}, not one of {refusals(script, answer.line)}"
+        own = refusals(script, answer.line, asked.read)
+        return None if answer in own else f"{answer}, not one of {own}"
     report = read_report(answer)
     try:
-        check_report.judge(read_script(script), report)
+        check_report.judge(asked.read(script), report)
     except (Refusal, Fault) as why:
         return f"{type(why).__name__} {why}"
     seen.add(report)
     return None
 
 
-def refusals(script, line):
+def refusals(script, line, read):
     """How a program may refuse the script: as docs/FORMATS.md says."""
     front = b"\n".join(raw_lines(script)[:line]) + b"\n"
     try:
-        read_script(front)
+        read(front)
         return []
     except Refusal as refusal:
         return [Refused(refusal.line, refusal.reason)]
