@@ -3,6 +3,7 @@
 
     check_report.py SCRIPT REPORT
     check_report.py --fifo SCRIPT REPORT      of a queue
+    check_report.py --pool SCRIPT REPORT      of clients that share callers
 
 Both are read by docs/FORMATS.md alone, and every reply is worked out anew over a plain dictionary, or a plain list of texts: this program shares no line
 with the one that wrote the report. Any number of lives and clients is judged.
@@ -15,23 +16,25 @@ import sys
 from collections import defaultdict
 
 from plain_queue import opening
+from pool_text import read_pool_script
 from queue_text import read_queue_script
 from report_text import UNANSWERED, Fault, read_report
 from script_text import LARGEST_INPUT, Refusal, TooLong, read_script
 
 CELLS = 16
+OTHER_SCRIPTS = {"--fifo": read_queue_script, "--pool": read_pool_script}
 
 
 def main(words):
-    of_queue = words[:1] == ["--fifo"]
-    words = words[1:] if of_queue else words
+    read = read_script
+    if words and words[0] in OTHER_SCRIPTS:
+        read, words = OTHER_SCRIPTS[words[0]], words[1:]
     if len(words) != 2:
-        print("usage: check_report.py [--fifo] SCRIPT REPORT")
+        print("usage: check_report.py [--fifo | --pool] SCRIPT REPORT")
         return 3
     try:
         script_bytes, report_bytes = (contents(path) for path in words)
-        script = (read_queue_script if of_queue else read_script)(script_bytes)
-        print(judge(script, read_report(report_bytes)))
+        print(judge(read(script_bytes), read_report(report_bytes)))
         return 0
     except OSError as error:
         print(f"{error.filename}: {error.strerror}")

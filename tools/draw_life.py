@@ -5,8 +5,8 @@
 
 The history runs downwards along one line. Each client has a lane beside it. An entry stands at its ticket, and a read at its
 place: behind all entries with lower tickets. Where power was lost the entries that were not kept stand in a hatched band, and
-the next life goes on from the last one kept. A report of more than 60 rows is drawn in columns and without texts. The picture is
-as wide as its texts, from 480 to 800.
+the next life goes on from the last one kept. A report of more than 60 rows, or of more than 24 clients, is drawn in columns and without
+texts. The picture is as wide as its texts, from 480 to 800, or as its lanes.
 
 Without -o the picture goes to standard output. It has a background of its own, so that it can be shown on a light page and on a dark one.
 Status 1 and `line N: WHY` where the report has a line that is none; status 2 where a file cannot be read or written, or the
@@ -23,6 +23,9 @@ from report_text import UNANSWERED, Entry, Fault, Full, Read, Stop, read_report,
 WIDTH = 800
 MARGIN = 16
 MOST_ROWS_WITH_TEXT = 60
+# lanes as wide as marks with texts want them, and as many as leave room for texts
+MOST_WIDE_LANES = 8
+MOST_LANES_WITH_TEXT = 24
 
 INK = "#1f2328"
 SOFT_INK = "#57606a"
@@ -71,6 +74,7 @@ class Look:
 
 
 WITH_TEXTS = Look(texts=True, row=22, head=50, cut=26, power=40, lane=24, mark=5.5)
+WITH_MANY_LANES = Look(texts=True, row=22, head=50, cut=26, power=40, lane=13, mark=4.4)
 WITHOUT_TEXTS = Look(texts=False, row=10, head=48, cut=8, power=58, lane=13, mark=3.2)
 # from a column's left edge, with texts and without
 TICKETS_END, HISTORY, FIRST_LANE = 44, 54, 96
@@ -141,6 +145,13 @@ def ticket_text(item):
     return str(item.ticket) if isinstance(item, Entry) else f"at {item.place}"
 
 
+def look_for(rows, clients):
+    """With texts where there is room for them: few rows, and lanes of not too many clients."""
+    if rows > MOST_ROWS_WITH_TEXT or clients > MOST_LANES_WITH_TEXT:
+        return WITHOUT_TEXTS
+    return WITH_TEXTS if clients <= MOST_WIDE_LANES else WITH_MANY_LANES
+
+
 class Picture:
     """Puts the rows into columns, and draws them."""
 
@@ -148,10 +159,10 @@ class Picture:
         self.report = report
         self.rows = rows_of(report)
         self.clients = max((life.head.clients for life in report.lives), default=1)
-        self.look = WITH_TEXTS if len(self.rows) <= MOST_ROWS_WITH_TEXT else WITHOUT_TEXTS
+        self.look = look_for(len(self.rows), self.clients)
         self.tickets_end, self.history, self.first_lane = self.gutter()
         self.names = max((CODE_LETTER * len(row.item.name) for row in self.rows if row.kind in NAMED), default=0) + 14
-        self.width = self.width_for_texts() if self.look.texts else WIDTH
+        self.width = self.width_for_texts() if self.look.texts else max(WIDTH, round(self.column_width()) + 2 * MARGIN)
         self.parts = []
         self.bottom = MARGIN
         self.put_rows()
@@ -544,8 +555,9 @@ def drawn(data):
         for item in life.lines()[:-1]:
             if item.client >= life.head.clients:
                 raise Fault(item.line, f"the life has no client {item.client}")
-        if life.head.clients > 8:
-            raise Fault(life.head.line, "a life has 8 clients at the most")
+        most = 64 if len(report.lives) == 1 else 8
+        if life.head.clients > most:
+            raise Fault(life.head.line, f"a life has {most} clients at the most")
     return Picture(report).draw()
 
 

@@ -186,11 +186,14 @@ def decoded(line):
 class Reader:
     """Takes the lines of a script one by one, and refuses the first with which they are no script.
 
-    What a reader of other commands has otherwise: the script that it fills, whether there are cut lines, how many words a line of
-    each command has, and `command`.
+    What another reader has otherwise: the script that it fills, the most clients of a life, the most lives and the reason why a life more
+    is refused, whether there are cut lines, how many words a line of each command has, and `command`.
     """
 
     form = Script
+    most_clients = 8
+    most_lives = MOST_LIVES
+    life_too_many = "lives"
     has_cuts = True
     word_counts = WORD_COUNTS
 
@@ -222,12 +225,12 @@ class Reader:
 
     def take_life(self, words):
         wanted_words(words, 4, "life")
-        clients = wanted_number(words[1], 1, 8, "life")
+        clients = wanted_number(words[1], 1, self.most_clients, "life")
         if words[2].text != "power":
             raise words[2].refusal("life")
         choice = wanted_number(words[3], 0, LARGEST_U64, "life")
-        if len(self.script.lives) == MOST_LIVES:
-            raise words[0].refusal("lives")
+        if len(self.script.lives) == self.most_lives:
+            raise words[0].refusal(self.life_too_many)
         self.script.lives.append(Life(clients, choice))
         self.numbers = {}
 

@@ -43,6 +43,8 @@ import stopped_clients
 from end_tests import Ends
 from image_tests import ImageExplanations, ProgramOnImages, ReadImages, usage
 from plain_core import Core
+from pool_tests import PoolTexts
+from pool_text import read_pool_script
 from queue_tests import ProgramOnQueues, QueueTexts
 from queue_text import read_queue_script
 from report_text import Fault, read_report, split_reply
@@ -159,18 +161,21 @@ def legal_rows():
 
 
 def judged(script, report):
-    return check_report.judge(asked_with(script).read(script), read_report(report))
+    return check_report.judge(reader_of(script)(script), read_report(report))
+
+
+def reader_of(script):
+    """The first of the tools' readers that takes a script; that of documents, where none does."""
+    for read in (read_script, read_queue_script, read_pool_script):
+        with contextlib.suppress(Refusal):
+            read(script)
+            return read
+    return read_script
 
 
 def asked_with(script):
     """The word of the program that takes a script: `fifo`, where it is one of a queue and none of documents."""
-    try:
-        read_script(script)
-    except Refusal:
-        with contextlib.suppress(Refusal):
-            read_queue_script(script)
-            return random_queues.FIFO
-    return random_lives.RUN
+    return random_queues.FIFO if reader_of(script) is read_queue_script else random_lives.RUN
 
 
 def why_refused(script, report):
@@ -347,7 +352,7 @@ class Statuses(unittest.TestCase):
                 ([good, report], 0, "legal: lives 1, entries 23, reads 0, documents 21\n"),
                 ([good, ROWS / "nothing.report"], 1, "line 1: the report ends before life 0\n"),
                 ([bad, report], 2, "no script: line 1: header\n"),
-                ([good], 3, "usage: check_report.py [--fifo] SCRIPT REPORT\n"),
+                ([good], 3, "usage: check_report.py [--fifo | --pool] SCRIPT REPORT\n"),
                 ([good, Path(folder) / "none"], 3, f"{folder}/none: No such file or directory\n"),
             ]
             for words, status, said in cases:
@@ -726,7 +731,9 @@ class Pictures(unittest.TestCase):
         self.assertEqual(1, self.marks(draw_life.drawn(report.encode()))["entry"])
 
     def test_wrong_reports_are_refused(self):
-        for report in (b"life 0 clients 1 from 0\n", b"life 0 clients 9 from 0\npower 0 kept 0 of 0 documents 0\n", b"x\n"):
+        empty = b"life 0 clients 9 from 0\npower 0 kept 0 of 0 documents 0\n"
+        too_many = empty.replace(b" 9 ", b" 65 ", 1), empty + empty.replace(b"life 0", b"life 1", 1)
+        for report in (b"life 0 clients 1 from 0\n", *too_many, b"x\n"):
             with self.assertRaises(Fault):
                 draw_life.drawn(report)
 

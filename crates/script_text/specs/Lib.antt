@@ -8,3 +8,4 @@ pub mod LineReading
 pub mod Reading
 pub mod Report
 pub mod ScriptGrammar
+pub mod Within

@@ -8,6 +8,7 @@ ghost use Rattle.life_records.specs.Limits.{KeepsLimits};
 ghost use Rattle.script_text.specs.Grammar.{AsksWithinLimits, MayStand, Script, last_life, no_script, with_said};
 ghost use Rattle.script_text.specs.Reading.{begun, judged, line_of, said_below, said_by};
 ghost use Rattle.script_text.specs.ScriptGrammar.{script_grammar};
+ghost use Rattle.script_text.specs.Within.{IsWithin};
 
 use crate::commands::CommandReader;
 use crate::heads::{read_client, read_cut_behind, read_header, read_life};
@@ -32,6 +33,7 @@ pub fn read_script<C: CommandReader>(
     // What is a script is read.
     ensures only { (script : Script C.Op) → IsTextOf (script_grammar C.commands) bytes.now script → IsOkOr script result }
     ensures limits { IfOk result (KeepsLimits C.is_op C.commands.limits.clients) }
+    ensures within { IfOk result (IsWithin C.commands.limits) }
     // The line refused is the first with which the lines so far are no script.
     ensures refused { IfErr result (IsFault (script_grammar C.commands) bytes.now) }
 {

@@ -1,0 +1,2 @@
+pub mod PoolLives
+pub mod Recorded

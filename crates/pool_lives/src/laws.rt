@@ -1,0 +1,30 @@
+//! What a closed service tells of clients that shared its callers.
+
+ghost use Rattle.std.specs.Prelude.{ℕ};
+ghost use Rattle.cx_core.specs.Base.{LawfulBase};
+ghost use Rattle.cx_core.specs.Lawful.{Lawful};
+ghost use Rattle.cx_core.specs.State.{State};
+ghost use Rattle.cx_core.specs.declared.entry.Base as entry_base;
+ghost use Rattle.life_laws.specs.Meanings.{object_instance};
+ghost use Rattle.life_laws.specs.Recorded.{IsKeptIn};
+ghost use Rattle.life_records.specs.Lives.{IsLegalLife};
+ghost use Rattle.life_records.specs.Records.{Life, LifeRecord};
+ghost use Rattle.pool_lives.specs.PoolLives.{AreToldIn};
+ghost use Rattle.pool_lives.specs.Recorded.{IsPoolRecorded};
+
+use cx_core::Base;
+use life_laws::steps_are_meant;
+use typed_object::TypedObject;
+
+/// Where a record is told by a lawful state of a service whose callers clients shared, each line is one of an entry or a read of a caller; and with a base that
+/// was kept of that state the record is one of a legal life.
+pub fn told_pools_have_lived<O: TypedObject>(object: &O, base: &Base)
+    requires { LawfulBase (O.line_count object.now) (O.lawful object.now) base.now }
+    ensures { (callers : ℕ) (s : State) (store : O.Store) (life : Life O.Op) (told : LifeRecord O.Reply) (next : entry_base.Base)
+        (law : Lawful (object_instance (O.step object.now) (O.only_reads object.now) callers base.now) s) →
+        (is : IsPoolRecorded (O.meaning object.now) (object_instance (O.step object.now) (O.only_reads object.now) callers base.now) s law.history store life told) →
+        IsKeptIn (O.meaning object.now) (object_instance (O.step object.now) (O.only_reads object.now) callers base.now) s law.history told next →
+        IsLegalLife (O.meaning object.now) base.now.place store life told × AreToldIn (O.meaning object.now).encoding life base.now.place law.history is.locals told }
+{
+    steps_are_meant(object);
+}
