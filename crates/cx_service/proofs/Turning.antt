@@ -220,6 +220,7 @@ module _ {O : Type 0} (r : Running O) (op : List ℕ) (s v : Seated) (caller : I
     own = ap (λ (x : Seated). x.known.local.own) rest;
     answered = ap (λ (x : Seated). x.known.local.answered) rest;
     scans = ap (λ (x : Seated). x.known.local.scans) rest;
+    front = front;
   }
 
   still : IsAtRest v.known.local → IsCallerOf r v
@@ -262,7 +263,7 @@ all_answered r s caller = ap (option_map (λ (x : Linked). x.ticket)) (slice_get
 
 module _ {O : Type 0} (r : Running O) (op : List ℕ) (n : ℕ) (s u : Seated) (before : ReadPending r n s u) where
   read_keeps_then : (v : Seated) → ReadKeeps u v → ReadKeeps s v
-  read_keeps_then v k = record { number = k.number ∙ before.keeps.number; limit = k.limit ∙ before.keeps.limit; own = k.own ∙ before.keeps.own; answered = k.answered ∙ before.keeps.answered; scans = k.scans ∙ before.keeps.scans }
+  read_keeps_then v k = record { number = k.number ∙ before.keeps.number; limit = k.limit ∙ before.keeps.limit; own = k.own ∙ before.keeps.own; answered = k.answered ∙ before.keeps.answered; scans = k.scans ∙ before.keeps.scans; front = omega (arith, before.keeps.front, k.front) }
 
   -- reads with one more, in terms of the first seat
   more_reads : (place : ℕ) (reply : List ℕ) → with_read place op reply (length u.known.local.answered) u.known.local.seen_reads ≡ with_read place op reply (length s.known.local.answered) s.known.local.seen_reads

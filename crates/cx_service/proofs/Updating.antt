@@ -91,9 +91,10 @@ module _ {O : Type 0} (r : Running O) (op : List ℕ) (s u : Seated) (same : Kee
     before_answered : l.known.local.answered ≡ s.known.local.answered
     before_answered = linked.keeps.answered ∙ same.answered
 
-    pub update_done : (v : Seated) (answer : Answer) → DriveDone r l v answer → UpdateDone r op s v answer
-    update_done v answer d = record {
+    pub update_done : (v : Seated) (answer : Answer) → s.known.local.front ≤ u.known.local.front → DriveDone r l v answer → UpdateDone r op s v answer
+    update_done v answer rise d = record {
       caller = d.caller;
+      from = (let same = same_Some answer.ticket linked.ticket (sym d.ticket ∙ linked.lends) in omega (arith, same, rise, linked.from));
       allowed = allowed_first linked.allowed;
       links = links v answer.ticket (same_Some answer.ticket linked.ticket (sym d.ticket ∙ linked.lends)) d.keeps.number d.keeps.limit d.keeps.own d.keeps.reads;
       answered = d.answered ∙ ap (with_answer answer.ticket answer.reply) before_answered;

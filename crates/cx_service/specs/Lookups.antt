@@ -15,13 +15,14 @@ use Rattle.cx_turns.specs.Answering.{with_read}
 use Rattle.cx_turns.specs.Turns.{StepsAtMost}
 use Rattle.strong_trylock.specs.Held.{all_rights, no_rights}
 
--- what each answer of a read leaves as it was
+-- what each answer of a read leaves as it was, and a front that does not fall
 pub record ReadKeeps (before after : Seated) : Type 0 where
   pub number : after.known.local.number ≡ before.known.local.number
   pub limit : after.known.local.limit ≡ before.known.local.limit
   pub own : after.known.local.own ≡ before.known.local.own
   pub answered : after.known.local.answered ≡ before.known.local.answered
   pub scans : after.known.local.scans ≡ before.known.local.scans
+  pub front : before.known.local.front ≤ after.known.local.front
 
 -- The read is answered, and nothing else: the caller has one read more, of this operation. Its place is above each ticket and not below
 -- any place that the caller was answered before. The limit allowed a step.

@@ -31,10 +31,12 @@ pub record LinksEntry {O : Type 0} (r : Running O) (op : List ℕ) (ticket : ℕ
   pub own : after.known.local.own ≡ before.known.local.own ++ entry_at r before.known.local op ticket ∷ []
   pub reads : after.known.local.seen_reads ≡ before.known.local.seen_reads
 
--- The entry is linked and answered, and nothing else: the caller has one entry more and one answer more, at the answer's ticket.
+-- The entry is linked and answered, and nothing else: the caller has one entry more and one answer more, at the answer's ticket, which is not
+-- below the caller's front.
 pub record UpdateDone {O : Type 0} (r : Running O) (op : List ℕ) (before after : Seated) (answer : Answer) : Type 0 where
   pub caller : IsCallerOf r after
   pub allowed : ¬ IsAtLimit before.known.local
+  pub from : before.known.local.front ≤ answer.ticket
   pub links : LinksEntry r op answer.ticket before after
   pub answered : after.known.local.answered ≡ with_answer answer.ticket answer.reply before.known.local.answered
 

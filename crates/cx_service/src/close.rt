@@ -46,7 +46,7 @@ impl<O: Object> Service<O> {
                 callers,
             });
         };
-        let Service { shared } = self;
+        let Service { shared, .. } = self;
         Ok(shared.gather_in(room, as_seats(callers, seats)))
     }
 }

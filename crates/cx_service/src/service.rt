@@ -12,6 +12,7 @@ use std::marker::Model;
 #[derive(Drop)]
 pub struct Service<O: Object> {
     pub(crate) shared: Shared<O>,
+    pub(crate) place: u64,
 }
 
 impl<O: Object> Model for Service<O> {
@@ -19,7 +20,11 @@ impl<O: Object> Model for Service<O> {
 
     ghost Value = { Running O };
 
+    ghost use Rattle.std.specs.Prelude.{◌≡◌};
+
     ghost view = { λ s. s.shared };
+
+    ghost invariant = { λ s. s.place ≡ s.shared.base.place };
 }
 
 impl<O: Object> Service<O> {
@@ -29,6 +34,13 @@ impl<O: Object> Service<O> {
         ensures running { IsRunning O.line_count O.lawful self.now }
     {
         self.shared.lines()
+    }
+
+    /// The place of the base from which it opened.
+    pub fn place(&self) -> u64
+        ensures { result ≡ self.now.base.place }
+    {
+        self.place
     }
 
     /// The object.

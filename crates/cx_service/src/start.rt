@@ -53,7 +53,13 @@ impl<O: Object> Service<O> {
         let Ok(callers) = as_callers(alloc, seats, room) else {
             return Err(StartFault::Memory);
         };
-        Ok((Service { shared }, callers))
+        Ok((
+            Service {
+                shared,
+                place: base.place,
+            },
+            callers,
+        ))
     }
 }
 

@@ -4,11 +4,13 @@ use Rattle.cx_service.specs.Callers.{IsCallerOf}
 use Rattle.cx_service.specs.Updates.{KeepsLists}
 use Rattle.cx_service.proofs.service.Service.update.Given as goal
 
--- the caller is in no call, its lists are as they were, and its scans are no fewer; where it was at its limit no step was made
+-- the caller is in no call, its lists are as they were, its scans are no fewer, and its front did not fall; where it was at its limit no step was
+-- made
 abbrev pub invariant-loop : goal.invariant-loop
 invariant-loop g l = record {
   caller : IsCallerOf l.self l.caller;
   keeps : KeepsLists l.fn.caller l.caller;
   scans : l.fn.caller.known.local.scans ≤ l.caller.known.local.scans;
+  front : l.fn.caller.known.local.front ≤ l.caller.known.local.front;
   stood : IsAtLimit l.fn.caller.known.local → l.caller ≡ l.fn.caller;
 }
