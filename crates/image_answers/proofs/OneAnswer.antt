@@ -122,6 +122,12 @@ answers_one image (Err f) (Ok b) x y some more = absurd (tells_nothing image f x
 answers_one image (Err f) (Err g) x y some more =
     ap Err (document_fault_one image f g x (λ e. some (ap Err e)) y (λ e. more (ap Err e)))
 
+-- its object part is an image of documents
+pub part_is_image : (image : Image) (base : Base) → IsRecovered 1 (IsImage image.lines) no_old_format image base → IsImage image.lines (object_part base.words)
+part_is_image image base is =
+    let part : IsImage image.lines (object_part (region_of image)) = elim is.accepted.region.body.object [ inl own ↦ own | inr none ↦ absurd none ] in
+    subst (λ (b : Base). IsImage image.lines (object_part b.words)) (sym is.is) part
+
 -- what is told by what recovery gives
 pub answered : (image : Image) (base : Base) (answer : Result Recovered ImageFault) → IsRecovered 1 (IsImage image.lines) no_old_format image base
     → MatchResult answer (IsToldBy base) (IsOutcomesFault base.words) → IfOk answer (λ _. HoldsReplies base.words) → IsAnswerTo image answer

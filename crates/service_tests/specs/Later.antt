@@ -1,6 +1,7 @@
 -- A later format of the running sum: version 8, with the sum in word 2, where it was in word 1 before.
-use Rattle.std.specs.Prelude.{◌≡◌, ◌+◌, ◌%◌, ◌^◌, ◌<◌, ℕ, Bool, List, Option, Some, slice_index, slice_set, refl}
-use Rattle.std.proofs.Common.{ap, sym, subst, ◌∙◌, arith, lit<}
+use Rattle.std.specs.Prelude.{◌≡◌, ◌+◌, ◌%◌, ◌^◌, ◌<◌, ℕ, List, Option, Some, slice_index, slice_set, IsTrue, false}
+use Rattle.std.proofs.Common.{ap, sym, ◌∙◌, arith, lit<}
+use Rattle.std.proofs.lemmas.Bool.{false≢true}
 use Rattle.std.proofs.lemmas.List.{get_or-set_other, get_or-set_same}
 use Rattle.cx_base.specs.Memory.{Words}
 use Rattle.cx_base.specs.OldFormat.{OldFormat, TakesOver}
@@ -60,6 +61,9 @@ later_keeps image op is = put_later image 2 (later_sum image op) (lit< tt) (sum_
 pub later_replies : (image op : List ℕ) → Words 144 (later_step image op).1
 unfolding tally_reply
 later_replies image op = Words-then_zeros (later_sum image op) 143 (sum_small (slice_index image 2) (slice_index op 0))
+
+pub later_leaves : (image op : List ℕ) → IsTrue false → (later_step image op).0 ≡ image
+later_leaves image op reads = absurd (false≢true reads)
 
 some_same : (a b : ℕ) → ◌≡◌ {A = Option ℕ} (Some a) (Some b) → a ≡ b
 some_same a b same = cc

@@ -1,9 +1,8 @@
 //! The running sum in a later format.
 
 ghost use Rattle.std.specs.Prelude.{◌≡◌, false};
-ghost use Rattle.std.proofs.Common.{false≢true};
 ghost use Rattle.cx_base.specs.Tally.{tally_reply};
-ghost use Rattle.service_tests.specs.Later.{IsLater, earlier_format, later_keeps, later_opening, later_opens, later_replies, later_step, later_takes_over};
+ghost use Rattle.service_tests.specs.Later.{IsLater, earlier_format, later_keeps, later_leaves, later_opening, later_opens, later_replies, later_step, later_takes_over};
 
 use cx_base::tally::Tally;
 use cx_base::{Halt, Memory, Object};
@@ -41,7 +40,7 @@ impl Object for LaterTally {
 
     ghost replies = { λ _ image op is w. later_replies image op };
 
-    ghost leaves = { λ _ image op is w reads. absurd (false≢true reads) };
+    ghost leaves = { λ _ image op is w reads. later_leaves image op reads };
 
     ghost takes_over = { λ _. later_takes_over };
 
