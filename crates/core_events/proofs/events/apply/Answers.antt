@@ -11,6 +11,13 @@ use Rattle.core_events.proofs.ImageLemmas.{history_few}
 use Rattle.cx_core.proofs.ListLemmas.{over_all}
 use Rattle.core_events.proofs.events.apply.Goals as goal
 
+pub step-requires-clause-code : goal.step-requires-clause-code
+step-requires-clause-code g c =
+    let s = c.state.inside in
+    let l = c.index_mut-local.result.now in
+    let within : c.args.event.now.caller < length s.locals.items = omega (arith, s.locals.ok) in
+    c.state.invariant.codes c.args.event.now.caller l (slice_get_read s.locals.items (length s.locals.items) c.args.event.now.caller l refl within c.index_mut-local.ensures.value)
+
 pub invariant_of-state : goal.invariant_of-state
 invariant_of-state g c =
     let s = c.state.inside in
