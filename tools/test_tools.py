@@ -44,6 +44,7 @@ from image_tests import ImageExplanations, ProgramOnImages, ReadImages, usage
 from plain_core import Core
 from report_text import Fault, read_report, split_reply
 from script_text import Refusal, TooLong, read_script
+from trace_tests import PlainTraces, ProgramOnTraces
 from wrong_reports import WRONG
 
 HEAD = b"lines 64\nlife 1 power 0\n"
