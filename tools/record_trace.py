@@ -3,8 +3,9 @@
     python3 tools/record_trace.py CALLERS LINES SEED [--wrong N] [--check FILE]
 
 The trace goes to standard output and what is found of it to standard error, as the program says it: `yes events E crashes K`,
-`no line N: guard` or `no line N: place P`, and `refused line N: REASON` for a text that is none. With `--wrong N` so many lines are changed,
-left out or doubled afterwards. With `--check FILE` the trace is read from that file instead."""
+`no line N: guard` or `no line N: place P`, and `refused line N: REASON` for a text that is none. With `--wrong N` so many changes are made
+afterwards: a line left out or doubled, an event swapped with the next of another caller, an argument changed, a place one too high or too
+low. With `--steps N` it has so many lines behind the first, 300 if nothing is said. With `--check FILE` the trace is read from that file instead."""
 import argparse
 import random
 import re
@@ -276,22 +277,50 @@ def wrong(lines, seed, count):
     chosen = random.Random(seed + 1)
     lines = list(lines)
     for _ in range(count):
-        crashes = [at for at, line in enumerate(lines) if line.startswith("crash")]
-        at = chosen.randrange(len(lines))
-        way = chosen.randrange(5)
-        if way == 4 and crashes:
-            at = chosen.choice(crashes)
-        if way == 0:
-            del lines[at]
-        elif way == 1:
-            lines.insert(at, lines[chosen.randrange(len(lines))])
-        else:
-            words = lines[at].split(" ")
-            numbers = [i for i, word in enumerate(words) if word.isdigit()]
-            i = chosen.choice(numbers)
-            words[i] = str(max(0, int(words[i]) + chosen.choice([-1, 1, 1, 16, WORD])))
-            lines[at] = " ".join(words)
+        chosen.choice([dropped, doubled, swapped, swapped, changed, changed, displaced])(chosen, lines)
     return lines
+
+
+def dropped(chosen, lines):
+    """Leaves a line out."""
+    del lines[chosen.randrange(len(lines))]
+
+
+def doubled(chosen, lines):
+    """Puts a line in once more, somewhere."""
+    lines.insert(chosen.randrange(len(lines)), chosen.choice(lines))
+
+
+def swapped(chosen, lines):
+    """Swaps an event with the next one of another caller."""
+    events = [at for at, line in enumerate(lines) if not line.startswith("crash")]
+    first = chosen.randrange(len(events))
+    caller = lines[events[first]].split(" ")[0]
+    others = [at for at in events[first:] if lines[at].split(" ")[0] != caller]
+    if others:
+        at, other = events[first], others[0]
+        lines[at], lines[other] = lines[other], lines[at]
+
+
+def changed(chosen, lines):
+    """Changes an argument of an event."""
+    at = chosen.randrange(len(lines))
+    words = lines[at].split(" ")
+    numbers = [i for i, word in enumerate(words) if i > 0 and word.isdigit()]
+    if numbers:
+        i = chosen.choice(numbers)
+        words[i] = str(max(0, int(words[i]) + chosen.choice([-1, -1, 1, 1, 2, 16, WORD - 1 - int(words[i]), WORD])))
+        lines[at] = " ".join(words)
+
+
+def displaced(chosen, lines):
+    """Names a place one too high, or too low, at a loss of power."""
+    crashes = [at for at, line in enumerate(lines) if line.startswith("crash")]
+    if crashes:
+        at = chosen.choice(crashes)
+        words = lines[at].split(" ")
+        words[3] = str(max(0, int(words[3]) + chosen.choice([-1, 1])))
+        lines[at] = " ".join(words)
 
 
 def main():

@@ -49,6 +49,7 @@ from queue_tests import ProgramOnQueues, QueueTexts
 from queue_text import read_queue_script
 from report_text import Fault, read_report, split_reply
 from script_text import Refusal, TooLong, read_script
+from trace_tests import PlainTraces, ProgramOnTraces
 from wrong_reports import WRONG
 
 HEAD = b"lines 64\nlife 1 power 0\n"

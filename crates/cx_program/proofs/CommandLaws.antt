@@ -6,13 +6,14 @@ use Rattle.image_answers.specs.declared.answering.ImageEnd.TheVariants as ends
 use Rattle.image_answers.proofs.Ends.{one_end}
 use Rattle.doc_text.specs.Grammar.{IsScript}
 use Rattle.fifo_text.specs.Grammar.{IsFifoScript}
+use Rattle.trace_text.specs.Traces.{IsTrace}
 use Rattle.cx_program.specs.Answer.{Calls, Owed, Read}
 use Rattle.cx_program.specs.Commands.{Command, command, command_of, load_command, recover_command, script_calls, usage_command}
 use Rattle.cx_program.specs.Input.{IsInput}
 use Rattle.cx_program.specs.Status.{status_of}
 use Rattle.cx_program.specs.Texts.{too_long_text}
 use Rattle.cx_program.specs.declared.asked.Asked.{Asked}
-use Rattle.cx_program.specs.declared.asked.Asked.TheVariants.{Run, Image, Recover, Fifo, Load}
+use Rattle.cx_program.specs.declared.asked.Asked.TheVariants.{Run, Image, Recover, Fifo, Trace, Load}
 use Rattle.cx_program.specs.declared.status.Status.{Status}
 use Rattle.cx_program.specs.declared.status.Status.TheVariants.{Fine, Usage, Refused, ReadFault, WriteFault, Memory, TooLong}
 use Rattle.cx_rule.specs.Ending.{Ending}
@@ -66,6 +67,7 @@ sound (Some Run) = record { one = script_one IsScript; plain = script_plain IsSc
 sound (Some Image) = record { one = script_one IsScript; plain = script_plain IsScript }
 sound (Some Recover) = recover_sound
 sound (Some Fifo) = record { one = script_one IsFifoScript; plain = script_plain IsFifoScript }
+sound (Some Trace) = record { one = script_one IsTrace; plain = script_plain IsTrace }
 sound (Some (Load load)) = always (load_command load.from load.clients load.ops) Fine (λ gives. gives) (λ input status calls. calls)
 sound None = always usage_command Usage (λ gives. gives) (λ input status calls. calls)
 

@@ -12,7 +12,7 @@ use Rattle.cx_program.specs.CommandLine.{HasForm, IsLone, begins_with_hyphen}
 use Rattle.cx_program.specs.Commands.{command}
 use Rattle.cx_program.specs.Words.{IsAlone, IsLoadOf}
 use Rattle.cx_program.specs.declared.asked.Asked.{Asked}
-use Rattle.cx_program.specs.declared.asked.Asked.TheVariants.{Run, Image, Recover, Fifo, Load}
+use Rattle.cx_program.specs.declared.asked.Asked.TheVariants.{Run, Image, Recover, Fifo, Trace, Load}
 
 abbrev IsPlain : List ℕ → Type 0
 IsPlain word = begins_with_hyphen word ≡ false
@@ -46,7 +46,8 @@ pub has_form : (words : List (List ℕ)) (asked : Asked) → (command asked).ask
 has_form words Run is = lone_has_form (codes "run") words (inl refl) refl is
 has_form words Image is = lone_has_form (codes "image") words (inr (inl refl)) refl is
 has_form words Recover is = lone_has_form (codes "recover") words (inr (inr (inl refl))) refl is
-has_form words Fifo is = lone_has_form (codes "fifo") words (inr (inr (inr refl))) refl is
+has_form words Fifo is = lone_has_form (codes "fifo") words (inr (inr (inr (inl refl)))) refl is
+has_form words Trace is = lone_has_form (codes "trace") words (inr (inr (inr (inr refl)))) refl is
 has_form words (Load load) is = load_has_form load.from load.clients load.ops words is
 
 -- four words that are those of no load ask for nothing
@@ -60,16 +61,19 @@ none_of_load words first second third are no_load Recover is =
     let bad : codes "load" ∷ first ∷ second ∷ third ∷ [] ≡ codes "recover" ∷ [] = sym are ∙ is in cc
 none_of_load words first second third are no_load Fifo is =
     let bad : codes "load" ∷ first ∷ second ∷ third ∷ [] ≡ codes "fifo" ∷ [] = sym are ∙ is in cc
+none_of_load words first second third are no_load Trace is =
+    let bad : codes "load" ∷ first ∷ second ∷ third ∷ [] ≡ codes "trace" ∷ [] = sym are ∙ is in cc
 none_of_load words first second third are no_load (Load load) is = no_load load.from load.clients load.ops is
 
 -- a word that is none of these asks for nothing alone
-pub none_alone : (word : List ℕ) → (word ≡ codes "run" → ⊥) → (word ≡ codes "image" → ⊥) → (word ≡ codes "recover" → ⊥) → (word ≡ codes "fifo" → ⊥)
+pub none_alone : (word : List ℕ) → (word ≡ codes "run" → ⊥) → (word ≡ codes "image" → ⊥) → (word ≡ codes "recover" → ⊥) → (word ≡ codes "fifo" → ⊥) → (word ≡ codes "trace" → ⊥)
     → (asked : Asked) → (command asked).asked (word ∷ []) → ⊥
-none_alone word no_run no_image no_recover no_fifo Run is = no_run (same_word word (codes "run") is)
-none_alone word no_run no_image no_recover no_fifo Image is = no_image (same_word word (codes "image") is)
-none_alone word no_run no_image no_recover no_fifo Recover is = no_recover (same_word word (codes "recover") is)
-none_alone word no_run no_image no_recover no_fifo Fifo is = no_fifo (same_word word (codes "fifo") is)
-none_alone word no_run no_image no_recover no_fifo (Load load) is =
+none_alone word no_run no_image no_recover no_fifo no_trace Run is = no_run (same_word word (codes "run") is)
+none_alone word no_run no_image no_recover no_fifo no_trace Image is = no_image (same_word word (codes "image") is)
+none_alone word no_run no_image no_recover no_fifo no_trace Recover is = no_recover (same_word word (codes "recover") is)
+none_alone word no_run no_image no_recover no_fifo no_trace Fifo is = no_fifo (same_word word (codes "fifo") is)
+none_alone word no_run no_image no_recover no_fifo no_trace Trace is = no_trace (same_word word (codes "trace") is)
+none_alone word no_run no_image no_recover no_fifo no_trace (Load load) is =
     let bad : word ∷ [] ≡ codes "load" ∷ decimal load.from ∷ decimal load.clients ∷ decimal load.ops ∷ [] = is.are in cc
 
 -- words of the form are one or four

@@ -36,6 +36,10 @@ fifo_taken : fault_of program (codes "fifo" ∷ []) ≡ []
 unfolding clap_on_literals
 fifo_taken = refl
 
+trace_taken : fault_of program (codes "trace" ∷ []) ≡ []
+unfolding clap_on_literals
+trace_taken = refl
+
 -- a word that does not begin with a hyphen, and one that is no flag
 abbrev IsPlain : List ℕ → Type 0
 IsPlain w = begins_with_hyphen w ≡ false
@@ -155,6 +159,10 @@ after_fifo : (rest : List (List ℕ)) → fault_of program (codes "fifo" ∷ res
 unfolding walked
 after_fifo rest e = after (codes "fifo") (lone_level (codes "fifo")) rest refl (λ past. refl) e
 
+after_trace : (rest : List (List ℕ)) → fault_of program (codes "trace" ∷ rest) ≡ [] → level_fault (lone_level (codes "trace")) [] nothing_held rest false [] ≡ []
+unfolding walked
+after_trace rest e = after (codes "trace") (lone_level (codes "trace")) rest refl (λ past. refl) e
+
 after_load : (rest : List (List ℕ)) → fault_of program (codes "load" ∷ rest) ≡ [] → level_fault load_level [] nothing_held rest false [] ≡ []
 unfolding walked
 after_load rest e = after (codes "load") load_level rest refl (λ past. refl) e
@@ -165,11 +173,12 @@ record IsOther (w : List ℕ) : Type 0 where
   image : bytes_eq (codes "image") w ≡ false
   recover : bytes_eq (codes "recover") w ≡ false
   fifo : bytes_eq (codes "fifo") w ≡ false
+  trace : bytes_eq (codes "trace") w ≡ false
   load : bytes_eq (codes "load") w ≡ false
 
 strays : (w : List ℕ) (rest : List (List ℕ)) → IsPlainWord w → IsOther w → fault_of program (w ∷ rest) ≡ UnknownArgument ∷ InvalidSubcommand ∷ []
 unfolding clap_on_literals
-strays w rest p other = rw (other.run, other.image, other.recover, other.fifo, other.load, p.dashes, p.long, p.short) refl
+strays w rest p other = rw (other.run, other.image, other.recover, other.fifo, other.trace, other.load, p.dashes, p.long, p.short) refl
 
 other_refused : (w : List ℕ) (rest : List (List ℕ)) → IsPlainWord w → IsOther w → fault_of program (w ∷ rest) ≡ [] → ⊥
 other_refused w rest p other e =
@@ -198,12 +207,15 @@ passes_only_forms (w ∷ rest) no_hyphen e =
         | inr no_image ↦ elim (cases_Bool (bytes_eq (codes "recover") w)) [
           | inl recover ↦ inl (codes "recover", inr (inr (inl refl)), named_lone (codes "recover") w rest others (is (codes "recover") recover) (after_recover rest) e)
           | inr no_recover ↦ elim (cases_Bool (bytes_eq (codes "fifo") w)) [
-            | inl fifo ↦ inl (codes "fifo", inr (inr (inr refl)), named_lone (codes "fifo") w rest others (is (codes "fifo") fifo) (after_fifo rest) e)
-            | inr no_fifo ↦ elim (cases_Bool (bytes_eq (codes "load") w)) [
-              | inl load ↦ inr (named_load w rest others (is (codes "load") load) e)
-              | inr no_load ↦
-                  let other : IsOther w = record { run = no_run; image = no_image; recover = no_recover; fifo = no_fifo; load = no_load } in
-                  absurd (other_refused w rest (plain w (All-head IsPlain w rest no_hyphen)) other e)
+            | inl fifo ↦ inl (codes "fifo", inr (inr (inr (inl refl))), named_lone (codes "fifo") w rest others (is (codes "fifo") fifo) (after_fifo rest) e)
+            | inr no_fifo ↦ elim (cases_Bool (bytes_eq (codes "trace") w)) [
+              | inl trace ↦ inl (codes "trace", inr (inr (inr (inr refl))), named_lone (codes "trace") w rest others (is (codes "trace") trace) (after_trace rest) e)
+              | inr no_trace ↦ elim (cases_Bool (bytes_eq (codes "load") w)) [
+                | inl load ↦ inr (named_load w rest others (is (codes "load") load) e)
+                | inr no_load ↦
+                    let other : IsOther w = record { run = no_run; image = no_image; recover = no_recover; fifo = no_fifo; trace = no_trace; load = no_load } in
+                    absurd (other_refused w rest (plain w (All-head IsPlain w rest no_hyphen)) other e)
+              ]
             ]
           ]
         ]
@@ -215,7 +227,8 @@ lone_taken : (word : List ℕ) → IsLone word → fault_of program (word ∷ []
 lone_taken word (inl run) = subst (λ (w : List ℕ). fault_of program (w ∷ []) ≡ []) (sym run) run_taken
 lone_taken word (inr (inl image)) = subst (λ (w : List ℕ). fault_of program (w ∷ []) ≡ []) (sym image) image_taken
 lone_taken word (inr (inr (inl recover))) = subst (λ (w : List ℕ). fault_of program (w ∷ []) ≡ []) (sym recover) recover_taken
-lone_taken word (inr (inr (inr fifo))) = subst (λ (w : List ℕ). fault_of program (w ∷ []) ≡ []) (sym fifo) fifo_taken
+lone_taken word (inr (inr (inr (inl fifo)))) = subst (λ (w : List ℕ). fault_of program (w ∷ []) ≡ []) (sym fifo) fifo_taken
+lone_taken word (inr (inr (inr (inr trace)))) = subst (λ (w : List ℕ). fault_of program (w ∷ []) ≡ []) (sym trace) trace_taken
 
 pub forms_pass : (words : List (List ℕ)) → All IsPlain words → IsForm words → fault_of program words ≡ []
 forms_pass words no_hyphen (inl lone) = subst (λ (ws : List (List ℕ)). fault_of program ws ≡ []) (sym lone.2) (lone_taken lone.0 lone.1)

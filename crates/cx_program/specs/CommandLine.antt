@@ -29,12 +29,12 @@ program = record {
     disable_help_subcommand = true;
     subcommand_required = true;
   };
-  subs = new_shape (codes "run") ∷ new_shape (codes "image") ∷ new_shape (codes "recover") ∷ new_shape (codes "fifo") ∷ load_app.top ∷ [];
+  subs = new_shape (codes "run") ∷ new_shape (codes "image") ∷ new_shape (codes "recover") ∷ new_shape (codes "fifo") ∷ new_shape (codes "trace") ∷ load_app.top ∷ [];
 }
 
 -- a word that is a command by itself
 abbrev pub IsLone : List ℕ → Type 0
-IsLone word = (word ≡ codes "run") ⊎ ((word ≡ codes "image") ⊎ ((word ≡ codes "recover") ⊎ (word ≡ codes "fifo")))
+IsLone word = (word ≡ codes "run") ⊎ ((word ≡ codes "image") ⊎ ((word ≡ codes "recover") ⊎ ((word ≡ codes "fifo") ⊎ (word ≡ codes "trace"))))
 
 -- one such word alone, or `load` and three more
 abbrev pub IsForm : List (List ℕ) → Type 0

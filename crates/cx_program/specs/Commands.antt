@@ -9,11 +9,13 @@ use Rattle.fifo_answers.specs.Texts.{IsFifoReport}
 use Rattle.fifo_text.specs.Grammar.{IsFifoScript, queue_grammar}
 use Rattle.fifo_text.specs.Reasons as queue_reasons
 use Rattle.script_answers.specs.Texts.{IsLastImage, IsReport, IsSummary}
+use Rattle.trace_answers.specs.Texts.{IsTraceVerdict}
+use Rattle.trace_text.specs.Traces.{IsTrace}
 use Rattle.cx_program.specs.Status.{status_of}
-use Rattle.cx_program.specs.Texts.{IsRefusal, usage_text}
+use Rattle.cx_program.specs.Texts.{IsRefusal, IsTraceRefusal, usage_text}
 use Rattle.cx_program.specs.Words.{IsAlone, IsLoadOf}
 use Rattle.cx_program.specs.declared.asked.Asked.{Asked}
-use Rattle.cx_program.specs.declared.asked.Asked.TheVariants.{Run, Image, Recover, Fifo, Load}
+use Rattle.cx_program.specs.declared.asked.Asked.TheVariants.{Run, Image, Recover, Fifo, Trace, Load}
 use Rattle.cx_program.specs.declared.status.Status.{Status}
 use Rattle.cx_program.specs.declared.status.Status.TheVariants.{Fine, Usage, Refused}
 
@@ -25,13 +27,13 @@ pub record Command : Type 1 where
   pub writes : List ℕ → Status → List Ending → List ℕ → Type 0
 
 module _ {Script : Type 0} (Is : List ℕ → Script → Type 0) where
-  -- a script is run, and what is none is refused
+  -- what is a script, or a trace, is told of, and what is none is refused
   abbrev pub script_calls : List ℕ → Status → Type 0
   script_calls input Fine = (script : Script) × Is input script
   script_calls input Refused = (script : Script) → Is input script → ⊥
   script_calls input _ = ⊥
 
-  -- the text tells this of the script that the input is, whose lives left these trails, or it refuses what is none
+  -- the text tells this of what the input is, and of lives that left these trails, or it refuses what is none
   abbrev pub script_writes : (List ℕ → List ℕ → Type 0) → (Script → List Ending → List ℕ → Type 0) → List ℕ → Status → List Ending → List ℕ → Type 0
   script_writes Refuses Tells input Fine trails text = (script : Script) × Is input script × Tells script trails text
   script_writes Refuses Tells input Refused trails text = Refuses input text
@@ -64,6 +66,15 @@ fifo_command = record {
   writes = script_writes IsFifoScript (IsRefusal queue_grammar queue_reasons.reason_text) IsFifoReport;
 }
 
+-- `trace` tells what is found of a recorded trace; no life is run
+abbrev pub trace_command : Command
+trace_command = record {
+  asked = IsAlone (codes "trace");
+  reads = true;
+  calls = script_calls IsTrace;
+  writes = script_writes IsTrace IsTraceRefusal (λ trace trails text. IsTraceVerdict trace text × (trails ≡ []));
+}
+
 -- `recover` tells what is recovered from an image, or refuses the image, or what is none; no life is run
 abbrev pub recover_command : Command
 recover_command = record {
@@ -87,6 +98,7 @@ command Run = run_command
 command Image = image_command
 command Recover = recover_command
 command Fifo = fifo_command
+command Trace = trace_command
 command (Load load) = load_command load.from load.clients load.ops
 
 -- words that ask for none of these are told which there are

@@ -2,9 +2,13 @@
 use Rattle.std.specs.Prelude.{◌≡◌, ℕ, List, ◌++◌, codes}
 use Rattle.std.specs.Fmt.{decimal}
 use Rattle.plain_text.specs.LineGrammar.{IsFirstFault, IsReasonAt, LineGrammar}
+use Rattle.plain_text.specs.declared.reading.TextFault.TheVariants as faults
+use Rattle.trace_text.specs.Reasons.{reason_text}
+use Rattle.trace_text.specs.Traces.{IsTraceFault}
+use Rattle.trace_text.specs.declared.trace.TraceReason.{TraceReason}
 
 abbrev pub usage_text : List ℕ
-usage_text = codes "usage: cx_tool run | image | recover | load FROM CLIENTS OPS | fifo\n"
+usage_text = codes "usage: cx_tool run | image | recover | load FROM CLIENTS OPS | fifo | trace\n"
 
 abbrev pub refused_text : ℕ → List ℕ → List ℕ
 refused_text line reason = codes "refused line " ++ decimal line ++ codes ": " ++ reason ++ codes "\n"
@@ -19,3 +23,10 @@ pub record IsRefusal {Said Reason : Type 0} (grammar : LineGrammar Said Reason) 
   pub first : IsFirstFault grammar input line
   pub because : IsReasonAt grammar input line reason
   pub refusal : text ≡ refused_text line (word_of reason)
+
+-- The text names the first line with which the lines so far are no trace, or the first where there is none, and why.
+pub record IsTraceRefusal (input text : List ℕ) : Type 0 where
+  pub line : ℕ
+  pub reason : TraceReason
+  pub first : IsTraceFault input (faults.Refused line reason)
+  pub refusal : text ≡ refused_text line (reason_text reason)

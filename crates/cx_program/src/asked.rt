@@ -53,6 +53,8 @@ pub(crate) enum Asked {
     Recover,
     /// That a script of a queue is run, and reported.
     Fifo,
+    /// That it is told whether a recorded trace is a run.
+    Trace,
     /// That a script is made and run.
     Load(Load),
 }

@@ -48,6 +48,7 @@ fn asked_alone(word: &str) -> Option<Asked>
         "image" => Some(Asked::Image),
         "recover" => Some(Asked::Recover),
         "fifo" => Some(Asked::Fifo),
+        "trace" => Some(Asked::Trace),
         _ => None,
     }
 }
@@ -127,6 +128,7 @@ fn matches<'a>(alloc: Global, words: &'a [String]) -> Result<ArgMatches<'a>, Err
     let image = Command::new(alloc, "image");
     let recover = Command::new(alloc, "recover");
     let fifo = Command::new(alloc, "fifo");
+    let trace = Command::new(alloc, "trace");
     let load = load_command(alloc)?;
     Command::new(alloc, "cx_tool")
         .no_binary_name(true)
@@ -137,6 +139,7 @@ fn matches<'a>(alloc: Global, words: &'a [String]) -> Result<ArgMatches<'a>, Err
         .subcommand(image)?
         .subcommand(recover)?
         .subcommand(fifo)?
+        .subcommand(trace)?
         .subcommand(load)?
         .try_get_matches_from(words)
 }

@@ -16,6 +16,7 @@ mod run;
 mod standard;
 mod status;
 mod top_call;
+mod trace;
 
 pub use arguments::words;
 pub use patient::Patient;

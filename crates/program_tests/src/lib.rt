@@ -1,4 +1,4 @@
-//! Tests of the program behind its `main`: its words, its gate, its images, its queue, its standard ends and their faults. It has tests alone.
+//! Tests of the program behind its `main`: its words, its gate, its images, its queue, its traces, its standard ends and their faults. It has tests alone.
 #![tactic(auto)]
 
 #[cfg(test)]
@@ -21,3 +21,5 @@ mod queues;
 mod rounds;
 #[cfg(test)]
 mod standard_ends;
+#[cfg(test)]
+mod traces;

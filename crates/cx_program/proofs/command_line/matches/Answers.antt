@@ -35,6 +35,8 @@ returns c =
     c.in_ok-subcommand-3.ensures.shape c.new-recover.ensures.local ∙ ap₂ with_subcommand with_image (ap (λ (a : App). a.top) c.new-recover.ensures.app) in
     let with_fifo : app_of c.in_ok-subcommand-4.field-0 ≡ with_subcommand (with_subcommand (with_subcommand (with_subcommand bare (new_shape (codes "run"))) (new_shape (codes "image"))) (new_shape (codes "recover"))) (new_shape (codes "fifo")) =
     c.in_ok-subcommand-4.ensures.shape c.new-fifo.ensures.local ∙ ap₂ with_subcommand with_recover (ap (λ (a : App). a.top) c.new-fifo.ensures.app) in
-    let app_is : app_of c.in_ok-subcommand-5.field-0 ≡ program =
-    c.in_ok-subcommand-5.ensures.shape c.in_ok-load.ensures.local ∙ ap₂ with_subcommand with_fifo (ap (λ (a : App). a.top) c.in_ok-load.ensures.app) in
+    let with_trace : app_of c.in_ok-subcommand-5.field-0 ≡ with_subcommand (with_subcommand (with_subcommand (with_subcommand (with_subcommand bare (new_shape (codes "run"))) (new_shape (codes "image"))) (new_shape (codes "recover"))) (new_shape (codes "fifo"))) (new_shape (codes "trace")) =
+    c.in_ok-subcommand-5.ensures.shape c.new-trace.ensures.local ∙ ap₂ with_subcommand with_fifo (ap (λ (a : App). a.top) c.new-trace.ensures.app) in
+    let app_is : app_of c.in_ok-subcommand-6.field-0 ≡ program =
+    c.in_ok-subcommand-6.ensures.shape c.in_ok-load.ensures.local ∙ ap₂ with_subcommand with_trace (ap (λ (a : App). a.top) c.in_ok-load.ensures.app) in
     subst (λ (a : App). FailsBy (fault_of a (map string_bytes c.args.words.now)) c.try_get_matches_from.result) app_is (c.try_get_matches_from.ensures.kinds (ap is_simple_and_free app_is ∙ is_simple_program))

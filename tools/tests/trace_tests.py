@@ -1,0 +1,79 @@
+"""Tests of the built program on recorded traces."""
+import json
+import unittest
+from pathlib import Path
+
+import random_lives
+import random_traces
+from record_trace import MOST_LINES, found_in
+
+ROWS = Path(__file__).resolve().parent / "rows"
+FORMATS = ROWS.parents[2] / "docs" / "FORMATS.md"
+
+
+def trace_rows():
+    """Texts with what `trace` answers: the status and the text."""
+    return json.loads((ROWS / "traces.json").read_text("utf-8"))
+
+
+def shown_traces():
+    """The traces that docs/FORMATS.md shows."""
+    blocks, block = [], []
+    for line in FORMATS.read_text("utf-8").split("\n"):
+        if line.startswith("    "):
+            block.append(line[4:])
+        elif block:
+            blocks.append(block)
+            block = []
+    return [block for block in blocks if block[0].startswith("trace ")]
+
+
+class PlainTraces(unittest.TestCase):
+    """The plain model on the rows."""
+
+    def test_rows(self):
+        for text, _, written in trace_rows():
+            with self.subTest(text):
+                self.assertEqual(written, found_in(text.encode()) + "\n")
+
+    def test_the_shown_trace(self):
+        (shown,) = shown_traces()
+        self.assertEqual("yes events 13 crashes 3", found_in("\n".join(shown).encode()))
+        shown.remove("0 persist 1 0")
+        self.assertEqual("no line 9: guard", found_in("\n".join(shown).encode()))
+
+
+class ProgramOnTraces(unittest.TestCase):
+    """The built program on traces, beside the plain model."""
+
+    def setUp(self):
+        if not random_lives.PROGRAM.exists():
+            self.skipTest("the program is not built")
+
+    def test_rows(self):
+        rows = trace_rows()
+        self.assertGreaterEqual(len(rows), 45)
+        for text, status, written in rows:
+            with self.subTest(text):
+                self.assertEqual((status, written.encode()), random_traces.ran(random_lives.PROGRAM, text.encode()))
+
+    def test_the_longest_trace(self):
+        text = b"trace 8 64\n" + b"crash 3 place 0\n" * MOST_LINES
+        self.assertEqual((0, b"yes events 0 crashes 10000\n"), random_traces.ran(random_lives.PROGRAM, text))
+        for more in (b"crash 3 place 0\n", b"nothing"):
+            self.assertEqual((3, b"refused line 10002: events\n"), random_traces.ran(random_lives.PROGRAM, text + more))
+
+    def test_random_traces(self):
+        seen = random_traces.Seen()
+        self.assertIsNone(random_traces.compare(map(random_traces.random_trace, range(1, 41)), seen))
+        self.assertEqual(set(random_traces.NUMBERS) | {"crash"}, set(seen.kinds))
+        self.assertLessEqual({"yes", "guard", "place"}, set(seen.found))
+
+    def test_arguments_at_their_ends(self):
+        seen = random_traces.Seen()
+        self.assertIsNone(random_traces.compare(random_traces.texts_of_arguments(), seen))
+        self.assertEqual({"yes", "guard"}, set(seen.found))
+
+
+if __name__ == "__main__":
+    unittest.main()
