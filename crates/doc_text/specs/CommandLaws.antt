@@ -1,7 +1,7 @@
 -- Commands on documents are read by their rules: what is read is asked for, what is asked for is read, and the reason told is the first that fits.
 use Rattle.std.specs.Prelude.{codes, is_some, ℤ}
 use Rattle.std.specs.Fmt.{signed_decimal}
-use Rattle.std.proofs.Common.{◌≡◌, ℕ, ◌≤◌, true, false, cond, leb, List, [], ◌∷◌, ◌++◌, length, Option, None, Some, Ok, Err, refl, sym, ap, subst, ◌∙◌, append_assoc, arith, inl, inr, ltb}
+use Rattle.std.proofs.Common.{◌≡◌, ℕ, ◌≤◌, ◌<◌, ◌^◌, true, false, cond, leb, List, [], ◌∷◌, ◌++◌, length, Option, None, Some, Ok, Err, refl, sym, ap, subst, ◌∙◌, append_assoc, arith, inl, inr, ltb}
 use Rattle.std.proofs.lemmas.Bool.{leb-true, le-leb, lt-ltb, leb-false}
 use Rattle.cx_base.specs.Store.{IsKey}
 use Rattle.plain_text.specs.Number.{integer_of, is_i64}
@@ -17,9 +17,12 @@ use Rattle.doc_model.specs.declared.operations.Op.TheVariants.{Put, Del, Add, Ge
 use Rattle.doc_model.proofs.WordTexts.{key_from_test, key_passes}
 use Rattle.script_text.specs.Reading.{then_ok}
 use Rattle.script_text.specs.Grammar.{ReadsCommands, Row, first_that_fits}
+use Rattle.script_text.specs.declared.lines.ScriptLimits.{ScriptLimits}
+use Rattle.script_text.specs.declared.lines.ScriptReason.{ScriptReason}
 use Rattle.script_text.specs.Choices.{chosen, then_some, ok_first, ok_second, err_second, err_first, then_err}
 use Rattle.doc_text.specs.Document.{IsJsonOf, kept_as, document_of}
-use Rattle.doc_text.specs.Grammar.{Asks, document_commands}
+use Rattle.doc_text.specs.Grammar.{Asks, commands_in, document_commands, pool_commands}
+use Rattle.doc_text.specs.Reasons.{pool_reason, script_reason}
 use Rattle.doc_text.specs.Reading.{verb_of, only_key, put_with, add_amount, add_with, op_by_verb, asked_op}
 use Rattle.doc_text.specs.declared.commands.Verb.{Verb}
 use Rattle.doc_text.specs.declared.commands.Verb.TheVariants as verbs
@@ -245,12 +248,19 @@ why : (text : Option (List ℕ)) (reason : Reason) → asked_op text ≡ Err rea
 why None reason e = ap Some cc
 why (Some text) reason e = verb_why (verb_of (first_word text)) (rest_of text) reason e
 
-pub reads_commands : ReadsCommands document_commands asked_op
-reads_commands = record {
-  clients = omega arith;
-  lives = omega arith;
+-- they are, whatever scripts may have
+reads_in : (limits : ScriptLimits) (reason : ScriptReason → Reason) → limits.clients < 2 ^ 64 → limits.lives ≤ 1000 → ReadsCommands (commands_in limits reason) asked_op
+reads_in limits reason clients lives = record {
+  clients = clients;
+  lives = lives;
   some = none_asked;
   sound = λ text op e. with_verb text (verb_of (first_word text)) (rest_of text) op refl refl e;
   complete = λ text op is. asked_again op text is;
   refused = why;
 }
+
+pub reads_commands : ReadsCommands document_commands asked_op
+reads_commands = reads_in (record { clients = 8; lives = 1000; cuts = true }) script_reason (omega arith) (omega arith)
+
+pub reads_pool_commands : ReadsCommands pool_commands asked_op
+reads_pool_commands = reads_in (record { clients = 64; lives = 1; cuts = false }) pool_reason (omega arith) (omega arith)

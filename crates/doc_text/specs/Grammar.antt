@@ -1,5 +1,5 @@
 -- The commands of documents, and what a script of them is.
-use Rattle.std.specs.Prelude.{◌≡◌, ℕ, List, [], ◌∷◌, ◌++◌, codes, true}
+use Rattle.std.specs.Prelude.{◌≡◌, ℕ, List, [], ◌∷◌, ◌++◌, codes, true, false}
 use Rattle.std.specs.Fmt.{signed_decimal}
 use Rattle.cx_base.specs.Store.{IsKey}
 use Rattle.plain_text.specs.LineGrammar.{IsTextOf, LineGrammar}
@@ -11,7 +11,9 @@ use Rattle.life_records.specs.declared.script.Script.{Script}
 use Rattle.script_text.specs.Grammar.{Commands}
 use Rattle.script_text.specs.ScriptGrammar.{script_grammar}
 use Rattle.doc_text.specs.Document.{IsJsonOf}
-use Rattle.doc_text.specs.Reasons.{script_reason}
+use Rattle.script_text.specs.declared.lines.ScriptLimits.{ScriptLimits}
+use Rattle.script_text.specs.declared.lines.ScriptReason.{ScriptReason}
+use Rattle.doc_text.specs.Reasons.{pool_reason, script_reason}
 use Rattle.doc_text.specs.CommandReasons.{command_rows}
 use Rattle.doc_text.specs.declared.script_parts.Reason.{Reason}
 
@@ -35,9 +37,17 @@ Asks (Next []) text = text ≡ command_text (Next [])
 Asks (Next (b ∷ above)) text = (text ≡ command_text (Next (b ∷ above))) × IsKey (b ∷ above)
 Asks Count text = text ≡ command_text Count
 
--- The commands of documents. A script has up to 1,000 lives of 1 to 8 clients, which may have cut lines.
+-- the commands of documents, in scripts that may have so much, each of whose refusals has such a reason
+abbrev pub commands_in : ScriptLimits → (ScriptReason → Reason) → Commands Op Reason
+commands_in limits reason = record { limits = limits; Asks = Asks; reason = reason; rows = command_rows }
+
+-- A script has up to 1,000 lives of 1 to 8 clients, which may have cut lines.
 abbrev pub document_commands : Commands Op Reason
-document_commands = record { limits = record { clients = 8; lives = 1000; cuts = true }; Asks = Asks; reason = script_reason; rows = command_rows }
+document_commands = commands_in (record { clients = 8; lives = 1000; cuts = true }) script_reason
+
+-- A script of a pool has one life at the most, of 1 to 64 clients, without cut lines.
+abbrev pub pool_commands : Commands Op Reason
+pool_commands = commands_in (record { clients = 64; lives = 1; cuts = false }) pool_reason
 
 -- scripts of documents, read line by line
 abbrev pub document_grammar : LineGrammar (Script Op) Reason
@@ -46,6 +56,13 @@ document_grammar = script_grammar document_commands
 -- the text is that of a script
 abbrev pub IsScript : List ℕ → Script Op → Type 0
 IsScript text script = IsTextOf document_grammar text script
+
+-- scripts of a pool, and the text of one
+abbrev pub pool_grammar : LineGrammar (Script Op) Reason
+pool_grammar = script_grammar pool_commands
+
+abbrev pub IsPoolScript : List ℕ → Script Op → Type 0
+IsPoolScript text script = IsTextOf pool_grammar text script
 
 -- the first line with which the lines so far are no script, counted from 1
 abbrev pub IsFirstFault : List ℕ → ℕ → Type 0

@@ -14,6 +14,11 @@ script_reason all.Cut = reasons.Cut
 script_reason all.Client = reasons.Client
 script_reason all.Commands = reasons.Commands
 
+-- a pool has one life, so that no other may begin
+abbrev pub pool_reason : ScriptReason → Reason
+pool_reason all.Lives = reasons.Life
+pool_reason reason = script_reason reason
+
 abbrev pub reason_text : Reason → List ℕ
 reason_text reasons.Utf8 = codes "utf8"
 reason_text reasons.Header = codes "header"

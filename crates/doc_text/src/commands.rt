@@ -5,8 +5,8 @@ ghost use Rattle.std.specs.Option.{option_copied};
 ghost use Rattle.plain_text.specs.Words.{first_word, rest_of};
 ghost use Rattle.cx_base.specs.Store.{IsKey};
 ghost use Rattle.doc_model.specs.Meaning.{IsOp};
-ghost use Rattle.doc_text.specs.CommandLaws.{reads_commands};
-ghost use Rattle.doc_text.specs.Grammar.{document_commands};
+ghost use Rattle.doc_text.specs.CommandLaws.{reads_commands, reads_pool_commands};
+ghost use Rattle.doc_text.specs.Grammar.{document_commands, pool_commands};
 ghost use Rattle.doc_text.specs.Reading.{verb_of, only_key, put_with, add_with, op_by_verb, asked_op};
 ghost use Rattle.script_text.specs.Reading.{then_ok};
 
@@ -65,14 +65,60 @@ impl CommandReader for Documents {
     }
 
     fn read_op(alloc: Global, text: Option<&[u8]>) -> Result<Result<Op, Reason>, AllocError> {
-        let Some(text) = text else {
-            return Ok(Err(Reason::Command));
-        };
-        let (verb, words) = split_word(text);
-        read_words(alloc, read_verb(verb), words)
+        read_asked(alloc, text)
     }
 
     ghost reads = { reads_commands };
+}
+
+/// The same commands in a script of a pool, which has one life at the most, of 64 clients, without cut lines.
+#[derive(Drop)]
+pub(crate) struct PoolDocuments;
+
+impl CommandReader for PoolDocuments {
+    type Op = Op;
+
+    type Reason = Reason;
+
+    ghost commands = { pool_commands };
+
+    ghost asked = { asked_op };
+
+    ghost is_op = { IsOp };
+
+    fn limits() -> ScriptLimits {
+        ScriptLimits {
+            clients: 64,
+            lives: 1,
+            cuts: false,
+        }
+    }
+
+    fn reason(of: ScriptReason) -> Reason {
+        match of {
+            ScriptReason::Lives => Reason::Life,
+            of => Documents::reason(of),
+        }
+    }
+
+    fn read_op(alloc: Global, text: Option<&[u8]>) -> Result<Result<Op, Reason>, AllocError> {
+        read_asked(alloc, text)
+    }
+
+    ghost reads = { reads_pool_commands };
+}
+
+/// The operation that the text behind a client asks for, or why it asks for none. `Err` is want of memory.
+fn read_asked(alloc: Global, text: Option<&[u8]>) -> Result<Result<Op, Reason>, AllocError>
+    requires { IfSome text (λ t. IsUtf8 t.now) }
+    ensures value { IfOk result (λ read. read ≡ asked_op (option_copied text.entry)) }
+    ensures limits { IfOk result (λ read. IfOk read IsOp) }
+{
+    let Some(text) = text else {
+        return Ok(Err(Reason::Command));
+    };
+    let (verb, words) = split_word(text);
+    read_words(alloc, read_verb(verb), words)
 }
 
 /// The operation that a verb and what stands behind it ask for, or why they ask for none. `Err` is want of memory.

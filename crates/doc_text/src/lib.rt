@@ -17,7 +17,7 @@ pub use life_records::{Cut, FullLine, StopLine};
 pub use load_script::generated;
 pub use load_summary::summary;
 pub use printing::report;
-pub use reading::read_script;
+pub use reading::{read_pool_script, read_script};
 pub use recovered::{Applied, Recovered, recovered_text};
 pub use script_parts::{
     Command, JournalLine, Life, LifeRecord, ReadLine, Reason, Script, ScriptLine, TextFault,

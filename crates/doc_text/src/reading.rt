@@ -6,10 +6,11 @@ ghost use Rattle.doc_model.specs.Meaning.{IsOp};
 ghost use Rattle.doc_model.specs.declared.operations.Op.{Op};
 ghost use Rattle.life_records.specs.Limits.{KeepsLimits};
 ghost use Rattle.life_records.specs.declared.script.Script.{Script};
-ghost use Rattle.doc_text.specs.Grammar.{IsScript};
-ghost use Rattle.doc_text.specs.Refusal.{IsFault};
+ghost use Rattle.script_text.specs.Within.{IsWithin};
+ghost use Rattle.doc_text.specs.Grammar.{IsPoolScript, IsScript, pool_commands};
+ghost use Rattle.doc_text.specs.Refusal.{IsFault, IsPoolFault};
 
-use crate::commands::Documents;
+use crate::commands::{Documents, PoolDocuments};
 use crate::script_parts::{Script, TextFault};
 use std::alloc::Global;
 
@@ -25,4 +26,18 @@ pub fn read_script(alloc: Global, bytes: &[u8]) -> Result<Script, TextFault>
     ensures refused { IfErr result (IsFault bytes.now) }
 {
     script_text::read_script::<Documents>(alloc, bytes)
+}
+
+/// Reads a script of a pool: one life at the most, of up to 64 clients, without cut lines. It is Ok exactly for the texts of such scripts,
+/// unless memory is wanting. Other texts are refused by the first line with which the lines so far are none.
+pub fn read_pool_script(alloc: Global, bytes: &[u8]) -> Result<Script, TextFault>
+    // What is read is what the text says.
+    ensures script { IfOk result (IsPoolScript bytes.now) }
+    // What is such a script is read.
+    ensures only { (script : Script Op) → IsPoolScript bytes.now script → IsOkOr script result }
+    ensures limits { IfOk result (λ script. KeepsLimits IsOp 64 script × IsWithin pool_commands.limits script) }
+    // The line refused is the first with which the lines so far are no such script.
+    ensures refused { IfErr result (IsPoolFault bytes.now) }
+{
+    script_text::read_script::<PoolDocuments>(alloc, bytes)
 }

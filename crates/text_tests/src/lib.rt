@@ -14,6 +14,8 @@ mod naming;
 #[cfg(test)]
 mod outcome;
 #[cfg(test)]
+mod pools;
+#[cfg(test)]
 mod records;
 #[cfg(test)]
 mod reports;

@@ -48,9 +48,14 @@ pub(crate) fn is_read_behind(
 
 /// Whether a text gives this.
 pub(crate) fn is_read(alloc: Global, text: &[u8], want: Outcome) -> bool {
-    match read_script(alloc, text) {
-        Ok(script) => is_script(&script, want),
-        Err(TextFault::Refused { line, reason }) => is_refused(line, reason, want),
+    is_told(&read_script(alloc, text), want)
+}
+
+/// Whether this is what was read.
+pub(crate) fn is_told(read: &Result<Script, TextFault>, want: Outcome) -> bool {
+    match read {
+        Ok(script) => is_script(script, want),
+        Err(TextFault::Refused { line, reason }) => is_refused(*line, *reason, want),
         Err(TextFault::Memory) => false,
     }
 }

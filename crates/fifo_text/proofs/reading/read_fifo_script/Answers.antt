@@ -1,10 +1,10 @@
-use Rattle.std.proofs.Common.{◌∙◌}
+use Rattle.std.proofs.Common.{◌∙◌, refl}
 use Rattle.fifo_text.specs.Uncut.{uncut_script}
-use Rattle.fifo_text.proofs.NoCuts.{script_uncut, uncut_one}
+use Rattle.fifo_text.proofs.NoCuts.{uncut_one}
 use Rattle.fifo_text.proofs.reading.read_fifo_script.Goals as goal
 
 pub without_cuts-requires : goal.without_cuts-requires
-without_cuts-requires c = script_uncut c.args.bytes.now c.in_ok-script.script c.in_ok-script.ensures.script
+without_cuts-requires c = c.in_ok-script.ensures.within.uncut refl
 
 pub returns-clause-only : goal.returns-clause-only
 returns-clause-only c = λ script is.
