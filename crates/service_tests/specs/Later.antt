@@ -53,7 +53,7 @@ sum_small : (a b : ℕ) → (a + b) % 2 ^ 64 < 2 ^ 64
 sum_small a b = omega arith
 
 pub later_opens : IsLater later_opening
-later_opens = put_version tally_opening (tally_opens tt).words
+later_opens = put_version tally_opening (tally_opens {O = ℕ} 0).words
 
 pub later_keeps : (image op : List ℕ) → IsLater image → IsLater (later_step image op).0
 later_keeps image op is = put_later image 2 (later_sum image op) (lit< tt) (sum_small (slice_index image 2) (slice_index op 0)) is
