@@ -3,7 +3,7 @@ use Rattle.std.proofs.Common.{◌≡◌, ◌<◌, ◌≤◌, ◌+◌, ℕ, List,
 use Rattle.std.specs.Prelude.{All, Option, Some, None}
 use Rattle.std.proofs.lemmas.List.{append-nil, length-append}
 use Rattle.std.proofs.lemmas.List.Elements.{All-append, All-nil, All-pop, All-push}
-use Rattle.cx_rule.specs.Running.{IsSeatOf, Running}
+use Rattle.cx_rule.specs.Running.{Running}
 use Rattle.cx_rule.specs.Seats.{Seated}
 use Rattle.cx_service.specs.Callers.{IsCallerOf}
 use Rattle.cx_service.specs.Closes.{seat_of}
@@ -15,7 +15,7 @@ use Rattle.atomic_table.specs.Seated.{TableId}
 use Rattle.std.specs.List.{range_with_len}
 use Rattle.std.specs.Option.{option_to_list}
 use Rattle.seat_pool.specs.declared.lent.Lent.{Lent}
-use Rattle.seat_pool.specs.Gathering.{AreSame, AreTold, Gathers, IsGathering, IsLentOf, IsRestOf, IsTakingIn, lent_told, handed_calls, if_stopped, kept_list, number_of}
+use Rattle.seat_pool.specs.Gathering.{AreSame, AreTold, Gathers, IsGathering, IsHandedOf, IsLentOf, IsRestOf, IsTakingIn, handed_calls, handed_reads, if_stopped, kept_list, lent_kept, lent_shown, lent_told, number_of}
 use Rattle.seat_pool.specs.Pooling.{IsWhole, Tells, all_parts, both, calls_of, total, with_taken}
 use Rattle.seat_pool.specs.declared.hand.Hand.{Hand}
 use Rattle.seat_pool.specs.declared.hand.Told.{Told}
@@ -28,21 +28,23 @@ module _ {O : Type 0} (r : Running O) where
 
   pub gathers_both : (a b : List Seated) (xs ys : List Handed) → Gathers r a xs → Gathers r b ys → Gathers r (a ++ b) (xs ++ ys)
   gathers_both a b xs ys g k = record {
-    of = All-append (λ (x : Handed). IsSeatOf r (seat_of x)) xs ys g.of k.of;
+    of = All-append (IsHandedOf r) xs ys g.of k.of;
     numbers = λ h. omega (arith, g.numbers h, k.numbers h, total_both (λ (x : Handed). h (number_of x)) xs ys, total_both (λ (x : Seated). h x.known.local.number) a b);
     untold = g.untold ++ k.untold;
     calls = λ h. omega (arith, g.calls h, k.calls h, total_both (handed_calls h) xs ys, total_both (λ (x : Seated). total h (calls_of x)) a b, total_both h g.untold k.untold);
     few = λ h. omega (arith, g.few h, k.few h, total_both (if_stopped h) xs ys, total_both (λ (t : Told). h t.caller) g.untold k.untold);
+    reads = λ h. omega (arith, g.reads h, k.reads h, total_both (handed_reads h) xs ys, total_both (λ (x : Seated). total h x.known.local.seen_reads) a b);
   }
 
   -- a caller comes out of the queue
   pub gathers_taken : (v : Hand) (xs : List Handed) (x : Seated) → Gathers r v.held xs → IsCallerOf r x → Gathers r (with_taken v x).held (xs ++ Idle x ∷ [])
   gathers_taken v xs x g is = record {
-    of = All-push (λ (y : Handed). IsSeatOf r (seat_of y)) xs (Idle x) g.of is.of;
+    of = All-push (IsHandedOf r) xs (Idle x) g.of is;
     numbers = λ h. omega (arith, g.numbers h, total_both (λ (y : Handed). h (number_of y)) xs (Idle x ∷ []));
     untold = g.untold;
     calls = λ h. omega (arith, g.calls h, total_both (handed_calls h) xs (Idle x ∷ []));
     few = λ h. omega (arith, g.few h, total_both (if_stopped h) xs (Idle x ∷ []));
+    reads = λ h. omega (arith, g.reads h, total_both (handed_reads h) xs (Idle x ∷ []));
   }
 
   -- a client's part, which keeps nobody
@@ -71,6 +73,7 @@ module _ {O : Type 0} (r : Running O) where
     parts = g.parts;
     placed = g.placed;
     told = g.told;
+    shown = g.shown;
     gathers = gathers_taken v xs x g.gathers is;
   })
 
@@ -93,11 +96,12 @@ no_weight f xs none = ap (total f) none
 module _ {O : Type 0} (r : Running O) (table : TableId) where
   pub gathers_none : (held : List Seated) (xs : List Handed) → held ≡ [] → xs ≡ [] → Gathers r held xs
   gathers_none held xs none empty = subst (λ l. Gathers r l xs) (sym none) (subst (λ l. Gathers r [] l) (sym empty) (record {
-    of = All-nil (λ (g : Handed). IsSeatOf r (seat_of g));
+    of = All-nil (IsHandedOf r);
     numbers = λ h. refl;
     untold = [];
     calls = λ h. refl;
     few = λ h. omega arith;
+    reads = λ h. omega arith;
   }))
 
   pub takes_in : (all : List Lent) (v : Hand) (xs : List Handed) → IsRestOf r v (length all) → All (IsLentOf r table) all → xs ≡ [] → IsTakingIn r table all v all xs
@@ -107,6 +111,8 @@ module _ {O : Type 0} (r : Running O) (table : TableId) where
     parts = rest.parts;
     placed = rest.placed;
     told = λ h. omega (arith, no_weight h v.told rest.told);
+    shown = λ h. omega (arith, no_weight h v.shown rest.shown);
+    kept = λ f. omega (arith, no_weight f xs empty);
     lents = lents;
     gathers = gathers_none v.held xs rest.held empty;
   }
@@ -116,8 +122,8 @@ module _ {O : Type 0} (r : Running O) (table : TableId) where
   last_of all v rest after found x xs k popped some = (All-pop (IsLentOf r table) rest after (Some x) (popped ∙ ap (λ (o : Option Lent). after ++ option_to_list o) some) k.lents).1
 
   pub takes_more : (all : List Lent) (v w : Hand) (rest after : List Lent) (found : Option Lent) (x : Lent) (xs ys : List Handed) → IsTakingIn r table all v rest xs → rest ≡ after ++ option_to_list found → found ≡ Some x
-      → w ≡ both v (view x.pass) → Gathers r w.held ys → IsTakingIn r table all w after ys
-  takes_more all v w rest after found x xs ys k popped some same gathers =
+      → w ≡ both v (view x.pass) → Gathers r w.held ys → ys ≡ xs ++ kept_list x.kept → IsTakingIn r table all w after ys
+  takes_more all v w rest after found x xs ys k popped some same gathers more =
       let is = last_of all v rest after found x xs k popped some in
       let u = both v (view x.pass) in
       let left : rest ≡ after ++ x ∷ [] = popped ∙ ap (λ (o : Option Lent). after ++ option_to_list o) some in
@@ -130,6 +136,13 @@ module _ {O : Type 0} (r : Running O) (table : TableId) where
         told = λ h. (
             let was : total (lent_told h) rest ≡ total (lent_told h) (after ++ x ∷ []) = ap (total (lent_told h)) left in
             omega (arith, was, k.told h, total_both (lent_told h) after (x ∷ []), total_both h v.told (view x.pass).told));
+        shown = λ h. (
+            let was : total (lent_shown h) rest ≡ total (lent_shown h) (after ++ x ∷ []) = ap (total (lent_shown h)) left in
+            omega (arith, was, k.shown h, total_both (lent_shown h) after (x ∷ []), total_both h v.shown (view x.pass).shown));
+        kept = λ f. (
+            let was : total (lent_kept f) rest ≡ total (lent_kept f) (after ++ x ∷ []) = ap (total (lent_kept f)) left in
+            let grown : total f ys ≡ total f (xs ++ kept_list x.kept) = ap (total f) more in
+            omega (arith, was, grown, k.kept f, total_both (lent_kept f) after (x ∷ []), total_both f xs (kept_list x.kept)));
         lents = (All-pop (IsLentOf r table) rest after (Some x) left k.lents).0;
         gathers = subst (λ (t : Hand). Gathers r t.held ys) same gathers;
       })
@@ -141,11 +154,18 @@ module _ {O : Type 0} (r : Running O) (table : TableId) where
       omega (arith, placed, whole.callers h, gathers.numbers h)
 
   -- and their calls are those that were told
-  pub all_told : (all : List Lent) (v w : Hand) (xs ys zs : List Handed) → IsTakingIn r table all v [] xs → w.told ≡ v.told → IsWhole w [] → Gathers r w.held ys → AreSame zs ys → AreTold all zs
-  all_told all v w xs ys zs k same whole gathers order = record {
+  pub all_told : (all : List Lent) (v w : Hand) (xs ys zs : List Handed) → IsTakingIn r table all v [] xs → w.told ≡ v.told → w.shown ≡ v.shown → IsWhole w [] → Gathers r w.held ys → ((f : Handed → ℕ) → total f xs ≤ total f ys) → ((f : Handed → ℕ) → ((s : Seated) → f (Idle s) ≡ 0) → total f ys ≡ total f xs) → AreSame zs ys → All (IsHandedOf r) zs
+      → AreTold r all zs
+  all_told all v w xs ys zs k same seen whole gathers more idle order of = record {
+    of = of;
     untold = gathers.untold;
     calls = λ h. (
         let told : total h w.told ≡ total h v.told = ap (total h) same in
         omega (arith, told, whole.calls h, gathers.calls h, order (handed_calls h), k.told h));
     few = λ h. omega (arith, gathers.few h, order (if_stopped h));
+    reads = λ h. (
+        let shown : total h w.shown ≡ total h v.shown = ap (total h) seen in
+        omega (arith, shown, whole.reads h, gathers.reads h, order (handed_reads h), k.shown h));
+    kept = λ f. omega (arith, k.kept f, more f, order f);
+    others = λ f none. omega (arith, k.kept f, idle f none, order f);
   }

@@ -5,14 +5,15 @@ use Rattle.std.specs.List.{range_with_len, remove}
 use Rattle.std.proofs.lemmas.Bool.Decides.{nat_tests}
 use Rattle.std.proofs.lemmas.List.{length-append}
 use Rattle.std.proofs.Math.Seq.{take-suc}
-use Rattle.std.proofs.lemmas.List.Elements.{All-append, All-drop, All-get_or, All-map, All-nil, All-push, All-take}
+use Rattle.std.proofs.lemmas.List.Elements.{All-append, All-drop, All-cons, All-get_or, All-head, All-nil, All-push, All-tail, All-take}
 use Rattle.std.proofs.lemmas.List.FromFn.{length-range_with_len}
 use Rattle.cx_rule.specs.Running.{IsSeatOf, Running}
 use Rattle.cx_rule.specs.Seats.{Seated}
 use Rattle.cx_service.specs.Closes.{seat_of, seats_of}
 use Rattle.cx_service.specs.declared.close.Handed.{Handed}
+use Rattle.cx_service.specs.declared.close.Handed.TheVariants.{Idle, Linked, Stopped}
 use Rattle.cx_table.specs.Remains.{AreSeats}
-use Rattle.seat_pool.specs.Gathering.{IsAt, IsOrdering, number_of, one_at}
+use Rattle.seat_pool.specs.Gathering.{IsAt, IsHandedOf, IsOrdering, number_of, one_at}
 use Rattle.seat_pool.specs.Pooling.{total}
 use Rattle.seat_pool.proofs.Poolings.{total_both, units}
 
@@ -45,7 +46,7 @@ not_below m a (suc n) most =
     let rest = not_below m (a + 1) n (omega (arith, most)) in
     omega (arith, here, rest)
 
-range_push : (a n : ℕ) → range_with_len a (suc n) ≡ range_with_len a n ++ (a + n) ∷ []
+pub range_push : (a n : ℕ) → range_with_len a (suc n) ≡ range_with_len a n ++ (a + n) ∷ []
 range_push a zero = (let same : a ≡ a + 0 = omega arith in ap (λ (k : ℕ). k ∷ []) same)
 range_push a (suc n) = (let same : a + 1 + n ≡ a + suc n = omega arith in ap (λ l. a ∷ l) (range_push (a + 1) n ∙ ap (λ (k : ℕ). range_with_len (a + 1) n ++ k ∷ []) same))
 
@@ -86,8 +87,8 @@ pub is_none : (n : ℕ) (b : Bool) → b ≡ true → b ≡ (n == 0) → n ≡ 0
 is_none n b is test = grind (arith, nat_tests)
 
 module _ {O : Type 0} (r : Running O) where
-  pub ordering_begins : (all : List Handed) → All (λ (g : Handed). IsSeatOf r (seat_of g)) all → IsOrdering r all all []
-  ordering_begins all of = record { left = of; done = All-nil (λ (g : Handed). IsSeatOf r (seat_of g)); numbers = refl; same = λ f. omega arith }
+  pub ordering_begins : (all : List Handed) → All (IsHandedOf r) all → IsOrdering r all all []
+  ordering_begins all of = record { left = of; done = All-nil (IsHandedOf r); numbers = refl; same = λ f. omega arith }
 
   pub ordering_goes_on : (all gathered out after more : List Handed) (place : ℕ) (x : Handed) → IsOrdering r all gathered out → IsAt gathered place (length out)
       → x ≡ slice_index_or gathered place x → after ≡ remove gathered place → more ≡ out ++ x ∷ [] → IsOrdering r all after more
@@ -100,7 +101,7 @@ module _ {O : Type 0} (r : Running O) where
       }))
     where
       P : Handed → Type 0
-      P g = IsSeatOf r (seat_of g)
+      P = IsHandedOf r
 
       number : number_of x ≡ 0 + length out
       number = ap number_of is ∙ at.number x ∙ omega arith
@@ -124,9 +125,21 @@ module _ {O : Type 0} (r : Running O) where
   pub room_left : (all gathered out : List Handed) → IsOrdering r all gathered out → ((h : ℕ → ℕ) → total (λ (g : Handed). h (number_of g)) all ≡ total h (range_with_len 0 r.callers)) → 0 < length gathered → length out < r.callers
   room_left all gathered out o numbers some_left = (let many = count all gathered out o numbers in omega (arith, many, some_left))
 
+  seat_handed : (g : Handed) → IsHandedOf r g → IsSeatOf r (seat_of g)
+  seat_handed (Idle seat) is = is.of
+  seat_handed (Linked seat) is = is.of
+  seat_handed (Stopped stopped) is = is.of
+
+  each_seat : (gs : List Handed) → All (IsHandedOf r) gs → All (IsSeatOf r) (seats_of gs)
+  each_seat [] all = All-nil (IsSeatOf r)
+  each_seat (g ∷ gs) all = All-cons (IsSeatOf r) (seat_of g) (seats_of gs) (seat_handed g (All-head (IsHandedOf r) g gs all)) (each_seat gs (All-tail (IsHandedOf r) g gs all))
+
   -- where none are left, all are in order
-  pub are_all : (all gathered out : List Handed) → IsOrdering r all gathered out → ((h : ℕ → ℕ) → total (λ (g : Handed). h (number_of g)) all ≡ total h (range_with_len 0 r.callers)) → length gathered ≡ 0 → AreSeats r (seats_of out)
-  are_all all gathered out o numbers none = record {
-    of = All-map (IsSeatOf r) seat_of out o.done;
-    numbers = (let many : length out ≡ r.callers = (let all_ = count all gathered out o numbers in omega (arith, all_, none)) in map_twice out ∙ o.numbers ∙ ap (range_with_len 0) many);
-  }
+  pub are_all : (all gathered out : List Handed) → IsOrdering r all gathered out → ((h : ℕ → ℕ) → total (λ (g : Handed). h (number_of g)) all ≡ total h (range_with_len 0 r.callers)) → length gathered ≡ 0 → AreSeats r (seats_of out) × All (IsHandedOf r) out
+  are_all all gathered out o numbers none = (
+    record {
+      of = each_seat out o.done;
+      numbers = (let many : length out ≡ r.callers = (let all_ = count all gathered out o numbers in omega (arith, all_, none)) in map_twice out ∙ o.numbers ∙ ap (range_with_len 0) many);
+    },
+    o.done,
+  )

@@ -8,11 +8,12 @@ use lib.ListN.{get_elem?}
 use Rattle.crossbeam_queue.specs.Fifo.{Forks, Held, Learns, Merges, Pops, Pushes}
 use Rattle.crossbeam_queue.proofs.Lists.{at_set, at_snoc}
 use Rattle.cx_core.specs.declared.entry.Base.{Base}
+use Rattle.cx_core.specs.declared.local.SeenRead.{SeenRead}
 use Rattle.cx_core.specs.Region.{slot_number}
 use Rattle.cx_rule.specs.Running.{Running}
 use Rattle.cx_rule.specs.Seats.{Seated}
 use Rattle.cx_service.specs.Callers.{IsCallerOf}
-use Rattle.seat_pool.specs.Pooling.{FitsHand, FitsHome, IsCallerAt, IsFirstOf, IsHomeOf, IsSame, IsTaken, Keeps, Pools, Shown, Tells, all_parts, both, callers_at, calls_of, calls_weigh, cut_left, cut_right, fresh, given_from, nothing, numbers_weigh, opened, shown_by, total, with_given, with_placed, with_taken}
+use Rattle.seat_pool.specs.Pooling.{FitsHand, FitsHome, GoesOn, HasLimit, IsCallerAt, IsFirstOf, IsHomeOf, IsLentBy, IsSame, IsTaken, Keeps, Pools, Shown, Tells, all_parts, both, callers_at, calls_of, calls_weigh, cut_left, cut_right, fresh, given_from, limits_at, nothing, numbers_weigh, opened, reads_weigh, shown_by, total, with_given, with_placed, with_taken}
 use Rattle.seat_pool.specs.declared.hand.Hand.{Hand}
 use Rattle.seat_pool.specs.declared.hand.Home.{Home}
 use Rattle.seat_pool.specs.declared.hand.Told.{Told}
@@ -92,22 +93,22 @@ back : {O P : Type 0} (q : Running O) (r : Running P) → IsSame q r → IsSame 
 back q r same = record { table = sym same.table; callers = sym same.callers; base = sym same.base }
 
 -- a caller of the service is one at the home that the pass knows
-at_home : {O : Type 0} (r : Running O) (home : Option Home) (x : Seated) → IsHomeOf r home → IsCallerOf r x → IsCallerAt home x
-at_home r None x of is = absurd of
-at_home r (Some home) x of is = moved r (shown_by home) x (back (shown_by home) r of) is
+at_home : {O : Type 0} (r : Running O) (home : Option Home) (x : Seated) → IsHomeOf r home → IsCallerOf r x → HasLimit (limits_at home) x → IsCallerAt home x
+at_home r None x of is limit = absurd of
+at_home r (Some home) x of is limit = (moved r (shown_by home) x (back (shown_by home) r of) is, limit)
 
-pub from_home : {O : Type 0} (r : Running O) (home : Option Home) (x : Seated) → IsHomeOf r home → IsCallerAt home x → IsCallerOf r x
+pub from_home : {O : Type 0} (r : Running O) (home : Option Home) (x : Seated) → IsHomeOf r home → IsCallerAt home x → IsCallerOf r x × HasLimit (limits_at home) x
 from_home r None x of is = absurd of
-from_home r (Some home) x of is = moved (shown_by home) r x of is
+from_home r (Some home) x of is = (moved (shown_by home) r x of is.0, is.1)
 
 -- the home of a pass is the rule's service
-to_service : {O : Type 0} (r : Running O) (s : Shown) (parts : ℕ) (home : Option Home) (x : Seated) → IsHomeOf r home → FitsHome s parts home → IsCallerAt home x → IsCallerOf s x
+to_service : {O : Type 0} (r : Running O) (s : Shown) (parts : ℕ) (home : Option Home) (x : Seated) → IsHomeOf r home → FitsHome s parts home → IsCallerAt home x → IsLentBy s x
 to_service r s parts None x of fits is = absurd of
-to_service r s parts (Some home) x of fits is = subst (λ (q : Shown). IsCallerOf q x) fits is
+to_service r s parts (Some home) x of fits is = subst (λ (q : Shown). IsLentBy q x) fits is
 
-from_service : {O : Type 0} (r : Running O) (s : Shown) (parts : ℕ) (home : Option Home) (x : Seated) → IsHomeOf r home → FitsHome s parts home → IsCallerOf s x → IsCallerAt home x
+from_service : {O : Type 0} (r : Running O) (s : Shown) (parts : ℕ) (home : Option Home) (x : Seated) → IsHomeOf r home → FitsHome s parts home → IsLentBy s x → IsCallerAt home x
 from_service r s parts None x of fits is = absurd of
-from_service r s parts (Some home) x of fits is = subst (λ (q : Shown). IsCallerOf q x) (sym fits) is
+from_service r s parts (Some home) x of fits is = subst (λ (q : Shown). IsLentBy q x) (sym fits) is
 
 count_fits : {O : Type 0} (r : Running O) (s : Shown) (parts : ℕ) (home : Option Home) → IsHomeOf r home → FitsHome s parts home → callers_at home ≡ s.callers
 count_fits r s parts None of fits = absurd of
@@ -148,9 +149,10 @@ record Balances (service : Shown) (items after : List Seated) (v w : Hand) : Typ
   pub parts : w.parts ≡ v.parts
   pub callers : (h : ℕ → ℕ) → total h w.placed + numbers_weigh h v.held + numbers_weigh h items ≡ total h v.placed + numbers_weigh h w.held + numbers_weigh h after
   pub calls : (h : Told → ℕ) → total h w.told + calls_weigh h v.held + calls_weigh h items ≡ total h v.told + calls_weigh h w.held + calls_weigh h after
+  pub reads : (h : SeenRead → ℕ) → total h w.shown + reads_weigh h v.held + reads_weigh h items ≤ total h v.shown + reads_weigh h w.held + reads_weigh h after
 
 moves : (items after : List Seated) (views : List Hand) (pass : ℕ) (v w : Hand) (k : Keeps items views) → get_elem? views pass ≡ some v
-    → FitsHand k.service w → All (IsCallerOf k.service) after → total (λ (u : Hand). length u.placed) (set views pass w) ≤ k.service.callers → Balances k.service items after v w → Keeps after (set views pass w)
+    → FitsHand k.service w → All (IsLentBy k.service) after → total (λ (u : Hand). length u.placed) (set views pass w) ≤ k.service.callers → Balances k.service items after v w → Keeps after (set views pass w)
 moves items after views pass v w k at fits are room b = record {
   service = k.service;
   items_are = are;
@@ -165,6 +167,10 @@ moves items after views pass v w k at fits are room b = record {
       let told = total_set (λ (u : Hand). total h u.told) views pass v w at in
       let held = total_set (λ (u : Hand). calls_weigh h u.held) views pass v w at in
       omega (arith, told, held, k.calls h, b.calls h));
+  reads = λ h. (
+      let shown = total_set (λ (u : Hand). total h u.shown) views pass v w at in
+      let held = total_set (λ (u : Hand). reads_weigh h u.held) views pass v w at in
+      omega (arith, shown, held, k.reads h, b.reads h));
 }
 
 -- nobody is placed
@@ -195,59 +201,66 @@ module _ {O : Type 0} where
       let w = with_taken v x in
       let fits = (k.views_are pass v at).home in (
         w,
-        inr (moves (x ∷ items) items views pass v w k at (keeps_parts k.service w fits some_part) (All-tail (IsCallerOf k.service) x items k.items_are) (same_room views pass v w k.service.callers at refl k.room) (record {
+        inr (moves (x ∷ items) items views pass v w k at (keeps_parts k.service w fits some_part) (All-tail (IsLentBy k.service) x items k.items_are) (same_room views pass v w k.service.callers at refl k.room) (record {
           parts = refl;
           callers = λ h. omega arith;
           calls = λ h. omega arith;
+          reads = λ h. omega arith;
         })),
-        (from_service r k.service v.parts v.home x of fits (All-head (IsCallerOf k.service) x items k.items_are), refl, (let most = has_room r v (x ∷ items) views pass k of at in omega (arith, most))),
+        (from_service r k.service v.parts v.home x of fits (All-head (IsLentBy k.service) x items k.items_are), refl, (let most = has_room r v (x ∷ items) views pass k of at in omega (arith, most))),
       )
 
   -- a caller without answered calls is placed, by a pass with every part
-  pub places : (n pass : ℕ) (r : Running O) (v : Hand) (x : Seated) → IsHomeOf r v.home → v.parts ≡ all_parts → length v.placed < r.callers → IsCallerOf r x → calls_of x ≡ [] → Pushes Pools n pass v x (λ w. w ≡ with_placed v x)
-  places n pass r v x of parts room is none items views short (inl new) at = absurd (is_not_new r v views pass of new.1 at)
-  places n pass r v x of parts room is none items views short (inr k) at =
+  pub places : (n pass : ℕ) (r : Running O) (v : Hand) (x : Seated) → IsHomeOf r v.home → v.parts ≡ all_parts → length v.placed < r.callers → IsCallerOf r x → HasLimit (limits_at v.home) x → calls_of x ≡ [] → Pushes Pools n pass v x (λ w. w ≡ with_placed v x)
+  places n pass r v x of parts room is limit none items views short (inl new) at = absurd (is_not_new r v views pass of new.1 at)
+  places n pass r v x of parts room is limit none items views short (inr k) at =
       let w = with_placed v x in
       let fits = (k.views_are pass v at).home in
-      let mine : IsCallerOf k.service x = to_service r k.service v.parts v.home x of fits (at_home r v.home x of is) in
+      let mine : IsLentBy k.service x = to_service r k.service v.parts v.home x of fits (at_home r v.home x of is limit) in
       let count = count_fits r k.service v.parts v.home of fits in
       let here = home_callers r v.home of in
       let alone : total (λ (u : Hand). length u.placed) views ≡ length v.placed = total_whole (λ (u : Hand). length u.placed) (λ (u : Hand). u.parts) views pass v (λ j u e z. ap length ((k.views_are j u e).idle z).placed) at (k.parts ∙ sym parts) in
       let s = total_set (λ (u : Hand). length u.placed) views pass v w at in
       let long = length-append v.placed (x.known.local.number ∷ []) in (
         w,
-        inr (moves items (items ++ x ∷ []) views pass v w k at (keeps_parts k.service w fits (omega (arith, parts))) (All-push (IsCallerOf k.service) items x k.items_are mine) (omega (arith, s, alone, long, room, count, here)) (record {
+        inr (moves items (items ++ x ∷ []) views pass v w k at (keeps_parts k.service w fits (omega (arith, parts))) (All-push (IsLentBy k.service) items x k.items_are mine) (omega (arith, s, alone, long, room, count, here)) (record {
           parts = refl;
           callers = λ h. omega (arith, total_both h v.placed (x.known.local.number ∷ []), total_both (λ (y : Seated). h y.known.local.number) items (x ∷ []));
           calls = λ h. (let zero_ : total h (calls_of x) ≡ 0 = ap (total h) none in omega (arith, zero_, total_both (λ (y : Seated). total h (calls_of y)) items (x ∷ [])));
+          reads = λ h. omega (arith, total_both (λ (y : Seated). total h y.known.local.seen_reads) items (x ∷ []));
         })),
         refl,
       )
 
   -- the first caller held is given back with further calls, which are told
-  pub gives : (n pass : ℕ) (r : Running O) (v : Hand) (x : Seated) → IsHomeOf r v.home → 0 < v.parts → IsFirstOf v.held x → IsCallerOf r x → Pushes Pools n pass v x (λ w. w ≡ with_given v x)
-  gives n pass r v x of some_part first is items views short (inl new) at = absurd (is_not_new r v views pass of new.1 at)
-  gives n pass r v x of some_part first is items views short (inr k) at =
+  pub gives : (n pass : ℕ) (r : Running O) (v : Hand) (x : Seated) → IsHomeOf r v.home → 0 < v.parts → IsFirstOf v.held x → IsCallerOf r x → HasLimit (limits_at v.home) x → Pushes Pools n pass v x (λ w. w ≡ with_given v x)
+  gives n pass r v x of some_part first is limit items views short (inl new) at = absurd (is_not_new r v views pass of new.1 at)
+  gives n pass r v x of some_part first is limit items views short (inr k) at =
       let fits = (k.views_are pass v at).home in
-      let mine : IsCallerOf k.service x = to_service r k.service v.parts v.home x of fits (at_home r v.home x of is) in
+      let mine : IsLentBy k.service x = to_service r k.service v.parts v.home x of fits (at_home r v.home x of is limit) in
       given v.held refl first fits mine
     where
-      given : (held : List Seated) → v.held ≡ held → IsFirstOf held x → FitsHome k.service v.parts v.home → IsCallerOf k.service x → (w : Hand) × Pools (items ++ x ∷ []) (set views pass w) × (w ≡ with_given v x)
+      given : (held : List Seated) → v.held ≡ held → IsFirstOf held x → FitsHome k.service v.parts v.home → IsLentBy k.service x → (w : Hand) × Pools (items ++ x ∷ []) (set views pass w) × (w ≡ with_given v x)
       given [] holds first fits mine = absurd first
       given (y ∷ rest) holds first fits mine =
           let w = given_from v (y ∷ rest) x in
-          let more = drop (length (calls_of y)) (calls_of x) in (
+          let more = drop (length (calls_of y)) (calls_of x) in
+          let new = drop (length y.known.local.seen_reads) x.known.local.seen_reads in (
             w,
-            inr (moves items (items ++ x ∷ []) views pass v w k at (keeps_parts k.service w fits some_part) (All-push (IsCallerOf k.service) items x k.items_are mine) (same_room views pass v w k.service.callers at refl k.room) (record {
+            inr (moves items (items ++ x ∷ []) views pass v w k at (keeps_parts k.service w fits some_part) (All-push (IsLentBy k.service) items x k.items_are mine) (same_room views pass v w k.service.callers at refl k.room) (record {
               parts = refl;
               callers = λ h. (
                   let was : numbers_weigh h v.held ≡ h y.known.local.number + numbers_weigh h rest = ap (numbers_weigh h) holds in
-                  let same : h x.known.local.number ≡ h y.known.local.number = ap h first.0 in
+                  let same : h x.known.local.number ≡ h y.known.local.number = ap h first.number in
                   omega (arith, was, same, total_both (λ (z : Seated). h z.known.local.number) items (x ∷ [])));
               calls = λ h. (
                   let was : calls_weigh h v.held ≡ total h (calls_of y) + calls_weigh h rest = ap (calls_weigh h) holds in
-                  let grown : total h (calls_of x) ≡ total h (calls_of y) + total h more = ap (total h) first.1 ∙ total_both h (calls_of y) more in
+                  let grown : total h (calls_of x) ≡ total h (calls_of y) + total h more = ap (total h) first.calls ∙ total_both h (calls_of y) more in
                   omega (arith, was, grown, total_both h v.told more, total_both (λ (z : Seated). total h (calls_of z)) items (x ∷ [])));
+              reads = λ h. (
+                  let was : reads_weigh h v.held ≡ total h y.known.local.seen_reads + reads_weigh h rest = ap (reads_weigh h) holds in
+                  let grown : total h x.known.local.seen_reads ≡ total h y.known.local.seen_reads + total h new = ap (total h) first.reads ∙ total_both h y.known.local.seen_reads new in
+                  omega (arith, was, grown, total_both h v.shown new, total_both (λ (z : Seated). total h z.known.local.seen_reads) items (x ∷ [])));
             })),
             ap (λ l. given_from v l x) (sym holds),
           )
@@ -270,6 +283,7 @@ module _ {O : Type 0} where
         room = omega (arith, cut (λ (u : Hand). length u.placed), k.room);
         callers = λ h. omega (arith, cut (λ (u : Hand). total h u.placed), cut (λ (u : Hand). numbers_weigh h u.held), k.callers h);
         calls = λ h. omega (arith, cut (λ (u : Hand). total h u.told), cut (λ (u : Hand). calls_weigh h u.held), k.calls h);
+        reads = λ h. omega (arith, cut (λ (u : Hand). total h u.shown), cut (λ (u : Hand). reads_weigh h u.held), k.reads h);
       })
 
   -- two passes are put together
@@ -279,7 +293,7 @@ module _ {O : Type 0} where
       let b = both v w in
       let fits = (k.views_are pass v at).home in
       let mine : FitsHand k.service b = keeps_parts k.service b (refits r k.service v.parts b.parts v.home of fits) (omega (arith, some_part)) in
-      let spent : FitsHand k.service nothing = record { home = refl; idle = λ z. record { placed = refl; held = refl; told = refl } } in
+      let spent : FitsHand k.service nothing = record { home = refl; idle = λ z. record { placed = refl; held = refl; told = refl; shown = refl } } in
       let merged : (f : Hand → ℕ) → f b ≡ f v + f w → f nothing ≡ 0 → total f (set (set views pass b) other nothing) ≡ total f views = λ f adds none. (
       let first = total_set f views pass v b at in
       let second = total_set f (set views pass b) other w nothing at' in
@@ -298,6 +312,10 @@ module _ {O : Type 0} where
             let told = merged (λ (u : Hand). total h u.told) (total_both h v.told w.told) refl in
             let held = merged (λ (u : Hand). calls_weigh h u.held) (total_both (λ (y : Seated). total h (calls_of y)) v.held w.held) refl in
             omega (arith, told, held, k.calls h));
+        reads = λ h. (
+            let shown = merged (λ (u : Hand). total h u.shown) (total_both h v.shown w.shown) refl in
+            let held = merged (λ (u : Hand). reads_weigh h u.held) (total_both (λ (y : Seated). total h y.known.local.seen_reads) v.held w.held) refl in
+            omega (arith, shown, held, k.reads h));
       })
 
   pub learns : (pass : ℕ) (r : Running O) (v : Hand) → IsHomeOf r v.home → Learns Pools pass v (Tells v)
@@ -314,6 +332,10 @@ module _ {O : Type 0} where
               let told' = total_whole (λ (u : Hand). total h u.told) (λ (u : Hand). u.parts) views pass v (λ j u e z. ap (total h) ((k.views_are j u e).idle z).told) at (k.parts ∙ sym parts) in
               let held' = total_whole (λ (u : Hand). calls_weigh h u.held) (λ (u : Hand). u.parts) views pass v (λ j u e z. ap (calls_weigh h) ((k.views_are j u e).idle z).held) at (k.parts ∙ sym parts) in
               omega (arith, told', held', k.calls h));
+          reads = λ h. (
+              let shown' = total_whole (λ (u : Hand). total h u.shown) (λ (u : Hand). u.parts) views pass v (λ j u e z. ap (total h) ((k.views_are j u e).idle z).shown) at (k.parts ∙ sym parts) in
+              let held' = total_whole (λ (u : Hand). reads_weigh h u.held) (λ (u : Hand). u.parts) views pass v (λ j u e z. ap (reads_weigh h) ((k.views_are j u e).idle z).held) at (k.parts ∙ sym parts) in
+              omega (arith, shown', held', k.reads h));
         };
       }
 
@@ -323,16 +345,17 @@ opens zero home items views (inl new) at =
     subst (λ (l : List Seated). Pools l (set views 0 (opened home) ++ nothing ∷ [])) (sym new.0)
     (subst (λ (l : List Hand). Pools [] (set l 0 (opened home) ++ nothing ∷ [])) (sym new.1) (inr (record {
       service = shown_by home;
-      items_are = All-nil (IsCallerOf (shown_by home));
+      items_are = All-nil (IsLentBy (shown_by home));
       views_are = fit_snoc (shown_by home) (opened home ∷ []) nothing spent (one (record { home = refl; idle = λ z. absurd (omega (arith, z)) }));
       parts = refl;
       room = omega arith;
       callers = λ h. refl;
       calls = λ h. refl;
+      reads = λ h. omega arith;
     })))
   where
     spent : FitsHand (shown_by home) nothing
-    spent = record { home = refl; idle = λ z. record { placed = refl; held = refl; told = refl } }
+    spent = record { home = refl; idle = λ z. record { placed = refl; held = refl; told = refl; shown = refl } }
 
     one : FitsHand (shown_by home) (opened home) → AllFit (shown_by home) (opened home ∷ [])
     one fits zero u e = subst (FitsHand (shown_by home)) (some-injective (opened home) u e) fits
@@ -350,9 +373,9 @@ is_short v cap n parts room fits (items, long, tells) = (let most = not_full v i
 
 -- what was taken out is a caller of the service
 pub taken : {O : Type 0} (r : Running O) (v w : Hand) (found : Option Seated) (none : Type 0) → IsHomeOf r v.home → MatchOption found none (λ x. IsTaken v x w)
-    → MatchOption found none (λ x. IsCallerOf r x × (w ≡ with_taken v x) × (length v.held < r.callers))
+    → MatchOption found none (λ x. IsCallerOf r x × HasLimit (limits_at v.home) x × (w ≡ with_taken v x) × (length v.held < r.callers))
 taken r v w None none of told = told
-taken r v w (Some x) none of told = (from_home r v.home x of told.0, told.1, (let count = home_callers r v.home of in let most = told.2 in omega (arith, count, most)))
+taken r v w (Some x) none of told = ((from_home r v.home x of told.0).0, (from_home r v.home x of told.0).1, told.1, (let count = home_callers r v.home of in let most = told.2 in omega (arith, count, most)))
 
 -- a pass holds no more callers than there are
 pub within : {O : Type 0} (r : Running O) (v : Hand) (items : List Seated) → IsHomeOf r v.home → Tells v items → length v.held ≤ r.callers

@@ -1,17 +1,25 @@
 -- The callers of a service are gathered from the passes that hold them.
-use Rattle.std.specs.Prelude.{◌≡◌, ◌+◌, ◌<◌, ◌≤◌, ℕ, zero, suc, List, [], ◌∷◌, All, Option, Some, None, length, map, slice_index_or}
+use Rattle.std.specs.Prelude.{◌≡◌, ◌+◌, ◌<◌, ◌≤◌, ℕ, zero, suc, List, [], ◌∷◌, ◌++◌, All, Option, Some, None, length, map, slice_index_or}
 use Rattle.std.specs.List.{range_with_len}
 use Rattle.atomic_table.specs.Seated.{TableId}
 use Rattle.crossbeam_queue.specs.Passes.{view}
-use Rattle.cx_rule.specs.Running.{IsSeatOf, Running}
+use Rattle.cx_core.specs.declared.local.SeenRead.{SeenRead}
+use Rattle.cx_rule.specs.Running.{Running}
 use Rattle.cx_rule.specs.Seats.{Seated}
+use Rattle.cx_service.specs.Callers.{IsCallerOf, IsLinkedOf, IsStoppedOf}
 use Rattle.cx_service.specs.Closes.{seat_of}
 use Rattle.cx_service.specs.declared.close.Handed.{Handed}
 use Rattle.cx_service.specs.declared.close.Handed.TheVariants.{Idle, Linked, Stopped}
-use Rattle.seat_pool.specs.Pooling.{IsHomeOf, all_parts, calls_of, calls_weigh, numbers_weigh, total}
+use Rattle.seat_pool.specs.Pooling.{IsHomeOf, all_parts, calls_of, calls_weigh, numbers_weigh, reads_weigh, total}
 use Rattle.seat_pool.specs.declared.hand.Hand.{Hand}
 use Rattle.seat_pool.specs.declared.hand.Told.{Told}
 use Rattle.seat_pool.specs.declared.lent.Lent.{Lent}
+
+-- a caller of the service, in whatever state it is
+abbrev pub IsHandedOf : {O : Type 0} → Running O → Handed → Type 0
+IsHandedOf r (Idle seat) = IsCallerOf r seat
+IsHandedOf r (Linked seat) = IsLinkedOf r seat
+IsHandedOf r (Stopped stopped) = IsStoppedOf r stopped.seat
 
 abbrev pub number_of : Handed → ℕ
 number_of g = (seat_of g).known.local.number
@@ -20,6 +28,10 @@ number_of g = (seat_of g).known.local.number
 abbrev pub handed_calls : (Told → ℕ) → Handed → ℕ
 handed_calls h g = total h (calls_of (seat_of g))
 
+-- the weight of its reads
+abbrev pub handed_reads : (SeenRead → ℕ) → Handed → ℕ
+handed_reads h g = total h (seat_of g).known.local.seen_reads
+
 -- the weight of a caller where it is stopped
 abbrev pub if_stopped : (ℕ → ℕ) → Handed → ℕ
 if_stopped h (Idle seat) = 0
@@ -27,13 +39,24 @@ if_stopped h (Linked seat) = 0
 if_stopped h (Stopped stopped) = h stopped.seat.known.local.number
 
 -- These are the callers that are held, each once, in whatever state they are now. Each has the answered calls that it had when it was taken, and a
--- stopped one at most one more, which was told to nobody.
+-- stopped one at most one more, which was told to nobody; and it has the reads that it had.
 pub record Gathers {O : Type 0} (r : Running O) (held : List Seated) (gathered : List Handed) : Type 0 where
-  pub of : All (λ (g : Handed). IsSeatOf r (seat_of g)) gathered
+  pub of : All (IsHandedOf r) gathered
   pub numbers : (h : ℕ → ℕ) → total (λ (g : Handed). h (number_of g)) gathered ≡ numbers_weigh h held
   pub untold : List Told
   pub calls : (h : Told → ℕ) → total (handed_calls h) gathered ≡ calls_weigh h held + total h untold
   pub few : (h : ℕ → ℕ) → total (λ (t : Told). h t.caller) untold ≤ total (if_stopped h) gathered
+  pub reads : (h : SeenRead → ℕ) → reads_weigh h held ≤ total (handed_reads h) gathered
+
+-- A caller that was taken out of the queue, now: one of the service in no call, of this number and limit, with no call answered since and the
+-- reads that it had.
+pub record StaysIdle {O : Type 0} (r : Running O) (taken now : Seated) : Type 0 where
+  pub caller : IsCallerOf r now
+  pub number : now.known.local.number ≡ taken.known.local.number
+  pub limit : now.known.local.limit ≡ taken.known.local.limit
+  pub calls : calls_of now ≡ calls_of taken
+  pub more : List SeenRead
+  pub reads : now.known.local.seen_reads ≡ taken.known.local.seen_reads ++ more
 
 -- what a client keeps, in a list
 abbrev pub kept_list : Option Handed → List Handed
@@ -47,9 +70,15 @@ pub record IsLentOf {O : Type 0} (r : Running O) (table : TableId) (lent : Lent)
   pub placed : (view lent.pass).placed ≡ []
   pub kept : Gathers r (view lent.pass).held (kept_list lent.kept)
 
--- the weight of the calls that were told to a client
+-- the weight of the calls that were told to a client, of the reads that it was shown, and of the caller that it keeps
 abbrev pub lent_told : (Told → ℕ) → Lent → ℕ
 lent_told h lent = total h (view lent.pass).told
+
+abbrev pub lent_shown : (SeenRead → ℕ) → Lent → ℕ
+lent_shown h lent = total h (view lent.pass).shown
+
+abbrev pub lent_kept : (Handed → ℕ) → Lent → ℕ
+lent_kept f lent = total f (kept_list lent.kept)
 
 -- the same callers, in whatever order
 abbrev pub AreSame : List Handed → List Handed → Type 0
@@ -61,6 +90,7 @@ pub record IsGathering {O : Type 0} (r : Running O) (before v : Hand) (gathered 
   pub parts : v.parts ≡ all_parts
   pub placed : v.placed ≡ before.placed
   pub told : v.told ≡ before.told
+  pub shown : v.shown ≡ before.shown
   pub gathers : Gathers r v.held gathered
 
 -- 1 at one number, and 0 at others
@@ -77,8 +107,8 @@ pub record IsAt (gathered : List Handed) (place wanted : ℕ) : Type 0 where
 
 -- the loop over the gathered callers whose first ones have been put in order
 pub record IsOrdering {O : Type 0} (r : Running O) (all gathered out : List Handed) : Type 0 where
-  pub left : All (λ (g : Handed). IsSeatOf r (seat_of g)) gathered
-  pub done : All (λ (g : Handed). IsSeatOf r (seat_of g)) out
+  pub left : All (IsHandedOf r) gathered
+  pub done : All (IsHandedOf r) out
   pub numbers : map (λ (g : Handed). number_of g) out ≡ range_with_len 0 (length out)
   pub same : (f : Handed → ℕ) → total f out + total f gathered ≡ total f all
 
@@ -90,12 +120,18 @@ pub record IsRestOf {O : Type 0} (r : Running O) (v : Hand) (lent : ℕ) : Type 
   pub placed : v.placed ≡ range_with_len 0 r.callers
   pub held : v.held ≡ []
   pub told : v.told ≡ []
+  pub shown : v.shown ≡ []
 
--- The answered calls of the callers are those that were told to clients, each once, and at most one further of each stopped caller.
-pub record AreTold (lents : List Lent) (handed : List Handed) : Type 0 where
+-- The answered calls of the callers are those that were told to clients, each once, and at most one further of each stopped caller. The reads that
+-- clients were shown are among theirs. The callers that clients keep are among them, and the others are in no call.
+pub record AreTold {O : Type 0} (r : Running O) (lents : List Lent) (handed : List Handed) : Type 0 where
+  pub of : All (IsHandedOf r) handed
   pub untold : List Told
   pub calls : (h : Told → ℕ) → total (handed_calls h) handed ≡ total (lent_told h) lents + total h untold
   pub few : (h : ℕ → ℕ) → total (λ (t : Told). h t.caller) untold ≤ total (if_stopped h) handed
+  pub reads : (h : SeenRead → ℕ) → total (lent_shown h) lents ≤ total (handed_reads h) handed
+  pub kept : (f : Handed → ℕ) → total (lent_kept f) lents ≤ total f handed
+  pub others : (f : Handed → ℕ) → ((s : Seated) → f (Idle s) ≡ 0) → total f handed ≡ total (lent_kept f) lents
 
 -- the loop over what was lent, some of which was taken in
 pub record IsTakingIn {O : Type 0} (r : Running O) (table : TableId) (all : List Lent) (v : Hand) (rest : List Lent) (gathered : List Handed) : Type 0 where
@@ -104,5 +140,7 @@ pub record IsTakingIn {O : Type 0} (r : Running O) (table : TableId) (all : List
   pub parts : v.parts + length rest ≡ all_parts
   pub placed : v.placed ≡ range_with_len 0 r.callers
   pub told : (h : Told → ℕ) → total h v.told + total (lent_told h) rest ≡ total (lent_told h) all
+  pub shown : (h : SeenRead → ℕ) → total h v.shown + total (lent_shown h) rest ≡ total (lent_shown h) all
+  pub kept : (f : Handed → ℕ) → total f gathered + total (lent_kept f) rest ≡ total (lent_kept f) all
   pub lents : All (IsLentOf r table) rest
   pub gathers : Gathers r v.held gathered

@@ -1,9 +1,10 @@
 -- The rule of a queue that lends the callers of one service: where each caller is, and to whom its calls were told.
-use Rattle.std.specs.Prelude.{◌≡◌, ◌+◌, ◌-◌, ◌<◌, ◌≤◌, ◌⊎◌, ℕ, List, [], ◌∷◌, ◌++◌, All, Option, Some, None, drop, length}
+use Rattle.std.specs.Prelude.{◌≡◌, ◌+◌, ◌-◌, ◌<◌, ◌≤◌, ◌⊎◌, ℕ, List, [], ◌∷◌, ◌++◌, All, Option, Some, None, drop, length, slice_get}
 use mathlib.Core.Option.{some}
 use lib.ListN.{get_elem?}
 use Rattle.cx_core.specs.declared.local.Answer.{Answer}
 use Rattle.cx_core.specs.declared.local.Linked.{Linked}
+use Rattle.cx_core.specs.declared.local.SeenRead.{SeenRead}
 use Rattle.cx_rule.specs.Running.{Running}
 use Rattle.cx_rule.specs.Seats.{Seated}
 use Rattle.cx_service.specs.Callers.{IsCallerOf}
@@ -11,12 +12,20 @@ use Rattle.seat_pool.specs.declared.hand.Hand.{Hand}
 use Rattle.seat_pool.specs.declared.hand.Home.{Home}
 use Rattle.seat_pool.specs.declared.hand.Told.{Told}
 
--- a service as far as its callers show it: its table, its number of callers and its base, whatever its object
+-- a service as far as its callers show it: its table, its number of callers and its base, and in the place of its object their limits
 abbrev pub Shown : Type 0
-Shown = Running (Unit {0})
+Shown = Running (List ℕ)
 
 abbrev pub shown_by : Home → Shown
-shown_by home = record { table = home.first.table; callers = home.callers; lines = 0; base = home.base; object = tt }
+shown_by home = record { table = home.first.table; callers = home.callers; lines = 0; base = home.base; object = home.limits }
+
+-- the limit of caller c is item c of the limits
+abbrev pub HasLimit : List ℕ → Seated → Type 0
+HasLimit limits x = slice_get limits x.known.local.number ≡ Some x.known.local.limit
+
+-- a caller of the service, with its limit
+abbrev pub IsLentBy : Shown → Seated → Type 0
+IsLentBy service x = IsCallerOf service x × HasLimit service.object x
 
 -- the same table, number of callers and base
 pub record IsSame {O P : Type 0} (q : Running O) (r : Running P) : Type 0 where
@@ -46,8 +55,12 @@ numbers_weigh h xs = total (λ (x : Seated). h x.known.local.number) xs
 abbrev pub calls_weigh : (Told → ℕ) → List Seated → ℕ
 calls_weigh h xs = total (λ (x : Seated). total h (calls_of x)) xs
 
-abbrev pub hand : Option Home → ℕ → List ℕ → List Seated → List Told → Hand
-hand home parts placed held told = record { home = home; parts = parts; placed = placed; held = held; told = told }
+-- the weight of the reads of callers
+abbrev pub reads_weigh : (SeenRead → ℕ) → List Seated → ℕ
+reads_weigh h xs = total (λ (x : Seated). total h x.known.local.seen_reads) xs
+
+abbrev pub hand : Option Home → ℕ → List ℕ → List Seated → List Told → List SeenRead → Hand
+hand home parts placed held told shown = record { home = home; parts = parts; placed = placed; held = held; told = told; shown = shown }
 
 -- the parts of the right to know the whole
 abbrev pub all_parts : ℕ
@@ -55,47 +68,55 @@ all_parts = 1024
 
 -- a pass with no part has done nothing
 abbrev pub nothing : Hand
-nothing = hand None 0 [] [] []
+nothing = hand None 0 [] [] [] []
 
 -- the pass of a queue that is new
 abbrev pub fresh : Hand
-fresh = hand None all_parts [] [] []
+fresh = hand None all_parts [] [] [] []
 
 -- it knows the service, once
 abbrev pub opened : Home → Hand
-opened home = hand (Some home) all_parts [] [] []
+opened home = hand (Some home) all_parts [] [] [] []
 
 -- a caller was put into the queue for the first time
 abbrev pub with_placed : Hand → Seated → Hand
-with_placed v x = hand v.home v.parts (v.placed ++ x.known.local.number ∷ []) v.held v.told
+with_placed v x = hand v.home v.parts (v.placed ++ x.known.local.number ∷ []) v.held v.told v.shown
 
 -- a caller was taken out: it is held, as it was then
 abbrev pub with_taken : Hand → Seated → Hand
-with_taken v x = hand v.home v.parts v.placed (x ∷ v.held) v.told
+with_taken v x = hand v.home v.parts v.placed (x ∷ v.held) v.told v.shown
 
--- the first of those held was given back, and the calls that it has more are told
+-- the first of those held was given back: the calls that it has more are told, and the reads that it has more are shown
 abbrev pub given_from : Hand → List Seated → Seated → Hand
 given_from v [] x = v
-given_from v (y ∷ rest) x = hand v.home v.parts v.placed rest (v.told ++ drop (length (calls_of y)) (calls_of x))
+given_from v (y ∷ rest) x =
+    hand v.home v.parts v.placed rest (v.told ++ drop (length (calls_of y)) (calls_of x)) (v.shown ++ drop (length y.known.local.seen_reads) x.known.local.seen_reads)
 
 abbrev pub with_given : Hand → Seated → Hand
 with_given v x = given_from v v.held x
 
--- it is the first of those held, with further calls behind those that it had
+-- it is a caller of this number and limit, with further calls and reads behind those that it had
+pub record GoesOn (y x : Seated) : Type 0 where
+  pub number : x.known.local.number ≡ y.known.local.number
+  pub limit : x.known.local.limit ≡ y.known.local.limit
+  pub calls : calls_of x ≡ calls_of y ++ drop (length (calls_of y)) (calls_of x)
+  pub reads : x.known.local.seen_reads ≡ y.known.local.seen_reads ++ drop (length y.known.local.seen_reads) x.known.local.seen_reads
+
+-- it is the first of those held
 abbrev pub IsFirstOf : List Seated → Seated → Type 0
 IsFirstOf [] x = ⊥
-IsFirstOf (y ∷ rest) x = (x.known.local.number ≡ y.known.local.number) × (calls_of x ≡ calls_of y ++ drop (length (calls_of y)) (calls_of x))
+IsFirstOf (y ∷ rest) x = GoesOn y x
 
 -- a pass without one part, and a pass with that part alone
 abbrev pub cut_left : Hand → Hand
-cut_left v = hand v.home (v.parts - 1) v.placed v.held v.told
+cut_left v = hand v.home (v.parts - 1) v.placed v.held v.told v.shown
 
 abbrev pub cut_right : Hand → Hand
-cut_right v = hand v.home 1 [] [] []
+cut_right v = hand v.home 1 [] [] [] []
 
 -- what two passes know and hold, in one
 abbrev pub both : Hand → Hand → Hand
-both v w = hand v.home (v.parts + w.parts) (v.placed ++ w.placed) (v.held ++ w.held) (v.told ++ w.told)
+both v w = hand v.home (v.parts + w.parts) (v.placed ++ w.placed) (v.held ++ w.held) (v.told ++ w.told) (v.shown ++ w.shown)
 
 -- it knows this service, or it has no part
 abbrev pub FitsHome : Shown → ℕ → Option Home → Type 0
@@ -106,6 +127,7 @@ pub record IsIdle (v : Hand) : Type 0 where
   pub placed : v.placed ≡ []
   pub held : v.held ≡ []
   pub told : v.told ≡ []
+  pub shown : v.shown ≡ []
 
 pub record FitsHand (r : Shown) (v : Hand) : Type 0 where
   pub home : FitsHome r v.parts v.home
@@ -113,15 +135,16 @@ pub record FitsHand (r : Shown) (v : Hand) : Type 0 where
 
 -- The queue holds callers of one service, which each pass with a part knows. However callers are weighed, those that were placed are those that
 -- passes hold and those in the queue. However calls are weighed, those that were told are the answered calls of the callers, held (as they
--- were when they were taken) or in the queue.
+-- were when they were taken) or in the queue; and however reads are weighed, those that were shown are among theirs.
 pub record Keeps (items : List Seated) (views : List Hand) : Type 0 where
   pub service : Shown
-  pub items_are : All (IsCallerOf service) items
+  pub items_are : All (IsLentBy service) items
   pub views_are : (pass : ℕ) (v : Hand) → get_elem? views pass ≡ some v → FitsHand service v
   pub parts : total (λ (v : Hand). v.parts) views ≡ all_parts
   pub room : total (λ (v : Hand). length v.placed) views ≤ service.callers
   pub callers : (h : ℕ → ℕ) → total (λ (v : Hand). total h v.placed) views ≡ total (λ (v : Hand). numbers_weigh h v.held) views + numbers_weigh h items
   pub calls : (h : Told → ℕ) → total (λ (v : Hand). total h v.told) views ≡ total (λ (v : Hand). calls_weigh h v.held) views + calls_weigh h items
+  pub reads : (h : SeenRead → ℕ) → total (λ (v : Hand). total h v.shown) views ≤ total (λ (v : Hand). reads_weigh h v.held) views + reads_weigh h items
 
 -- so it is, or the queue is new
 abbrev pub Pools : List Seated → List Hand → Type 0
@@ -137,19 +160,25 @@ abbrev pub callers_at : Option Home → ℕ
 callers_at None = 0
 callers_at (Some home) = home.callers
 
+-- the limits of the callers that the pass knows
+abbrev pub limits_at : Option Home → List ℕ
+limits_at None = []
+limits_at (Some home) = home.limits
+
 -- it is a caller of the service that the pass knows
 abbrev pub IsCallerAt : Option Home → Seated → Type 0
 IsCallerAt None x = ⊥
-IsCallerAt (Some home) x = IsCallerOf (shown_by home) x
+IsCallerAt (Some home) x = IsLentBy (shown_by home) x
 
 -- what came out is such a caller, and the pass held fewer than there are
 abbrev pub IsTaken : Hand → Seated → Hand → Type 0
 IsTaken v x w = IsCallerAt v.home x × (w ≡ with_taken v x) × (length v.held < callers_at v.home)
 
--- All that was placed is with this pass or in the queue, and the calls told to it are theirs.
+-- All that was placed is with this pass or in the queue, the calls told to it are theirs, and the reads shown to it are among theirs.
 pub record IsWhole (v : Hand) (items : List Seated) : Type 0 where
   pub callers : (h : ℕ → ℕ) → total h v.placed ≡ numbers_weigh h v.held + numbers_weigh h items
   pub calls : (h : Told → ℕ) → total h v.told ≡ calls_weigh h v.held + calls_weigh h items
+  pub reads : (h : SeenRead → ℕ) → total h v.shown ≤ reads_weigh h v.held + reads_weigh h items
 
 -- what a pass learns of the queue: there is room in it for what the pass holds, and a pass with every part learns the whole
 pub record Tells (v : Hand) (items : List Seated) : Type 0 where
@@ -157,12 +186,14 @@ pub record Tells (v : Hand) (items : List Seated) : Type 0 where
   pub whole : v.parts ≡ all_parts → IsWhole v items
 
 -- what the first pass knows before any caller is placed
-pub record IsOpened {O : Type 0} (r : Running O) (v : Hand) : Type 0 where
+pub record IsOpened {O : Type 0} (r : Running O) (limits : List ℕ) (v : Hand) : Type 0 where
   pub home : IsHomeOf r v.home
+  pub limits_are : limits_at v.home ≡ limits
   pub parts : v.parts ≡ all_parts
   pub placed : v.placed ≡ []
   pub held : v.held ≡ []
   pub told : v.told ≡ []
+  pub shown : v.shown ≡ []
 
 -- the calls that a pass was told, once it gave this caller back
 abbrev pub hand_told : Hand → Seated → List Told

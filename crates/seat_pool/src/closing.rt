@@ -36,8 +36,8 @@ pub fn close<O: Object, R: Wait>(
     requires lents { All (IsLentOf service line.table.shared.table_id) lents.items }
     requires gathered { (gathered.items ≡ []) × (service.callers ≤ vec_capacity gathered) }
     requires out { (out.items ≡ []) × (service.callers ≤ vec_capacity out) }
-    ensures remains { IfOk result (λ r. (handed : List close_handed.Handed) × Leaves service (instance_at service O.step O.only_reads) (seats_of handed) r × AreTold lents.items handed) }
-    ensures kept { IfErr result (λ k. (k.service ≡ service) × AreSeats service (seats_of k.callers.items) × AreTold lents.items k.callers.items) }
+    ensures remains { IfOk result (λ r. (handed : List close_handed.Handed) × Leaves service (instance_at service O.step O.only_reads) (seats_of handed) r × AreTold service lents.items handed) }
+    ensures kept { IfErr result (λ k. (k.service ≡ service) × AreSeats service (seats_of k.callers.items) × AreTold service lents.items k.callers.items) }
 {
     let handed = gather(rt, &service, &line, pass, lents, gathered, out);
     service.close(alloc, handed)

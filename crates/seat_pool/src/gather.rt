@@ -1,12 +1,14 @@
 //! All callers are gathered: those that clients keep and those in the queue.
 
-ghost use Rattle.std.specs.Prelude.{◌≡◌, ◌+◌, ◌<◌, ◌≤◌, ℕ, [], All, map, length, vec_capacity, vec_len};
+ghost use Rattle.std.specs.Prelude.{◌≡◌, ◌+◌, ◌<◌, ◌≤◌, ◌++◌, ℕ, [], All, map, length, vec_capacity, vec_len};
 ghost use Rattle.std.specs.List.{range_with_len};
 ghost use Rattle.crossbeam_queue.specs.Passes.{view, IsPassOf};
-ghost use Rattle.cx_rule.specs.Running.{IsSeatOf};
-ghost use Rattle.cx_service.specs.Closes.{seat_of, seats_of};
+ghost use Rattle.cx_rule.specs.Seats.{Seated};
+ghost use Rattle.cx_service.specs.Closes.{seats_of};
+ghost use Rattle.cx_service.specs.declared.close.Handed as handed_type;
+ghost use Rattle.cx_service.specs.declared.close.Handed.TheVariants as handed_cases;
 ghost use Rattle.cx_table.specs.Remains.{AreSeats};
-ghost use Rattle.seat_pool.specs.Gathering.{AreSame, AreTold, Gathers, IsAt, IsLentOf, IsRestOf, number_of, one_at};
+ghost use Rattle.seat_pool.specs.Gathering.{AreSame, AreTold, Gathers, IsAt, IsHandedOf, IsLentOf, IsRestOf, kept_list, number_of, one_at};
 ghost use Rattle.seat_pool.specs.Pooling.{IsHomeOf, IsWhole, all_parts, both, total};
 
 use crate::hand::Hand;
@@ -30,7 +32,7 @@ pub(crate) fn take_in<O: Object>(
     requires gathered { Gathers service.now (view pass.old).held gathered.items × (service.now.callers ≤ vec_capacity gathered) }
     requires lent { IsLentOf service.now line.now.table.shared.table_id lent }
     ensures pass { IsPassOf line.now pass.new × (view pass.new ≡ both (view pass.old) (view lent.pass)) }
-    ensures gathered { Gathers service.now (view pass.new).held result.items × (vec_capacity result ≡ vec_capacity gathered) }
+    ensures gathered { Gathers service.now (view pass.new).held result.items × (vec_capacity result ≡ vec_capacity gathered) × (result.items ≡ gathered.items ++ kept_list lent.kept) }
 {
     let Lent { pass: other, kept } = lent;
     merge(service, line, pass, other);
@@ -53,7 +55,9 @@ pub(crate) fn drain<O: Object, R: Wait>(
     requires gathered { Gathers service.now (view pass.old).held gathered.items × (service.now.callers ≤ vec_capacity gathered) }
     ensures gathered { Gathers service.now (view pass.new).held result.items }
     ensures whole { IsWhole (view pass.new) [] }
-    ensures same { ((view pass.new).placed ≡ (view pass.old).placed) × ((view pass.new).told ≡ (view pass.old).told) }
+    ensures same { ((view pass.new).placed ≡ (view pass.old).placed) × ((view pass.new).told ≡ (view pass.old).told) × ((view pass.new).shown ≡ (view pass.old).shown) }
+    ensures more { (f : handed_type.Handed → ℕ) → total f gathered.items ≤ total f result.items }
+    ensures idle { (f : handed_type.Handed → ℕ) → ((s : Seated) → f (handed_cases.Idle s) ≡ 0) → total f result.items ≡ total f gathered.items }
 {
     let mut gathered = gathered;
     for _ in rt.forever() {
@@ -97,10 +101,10 @@ pub(crate) fn in_order<O: Object>(
     gathered: Vec<Handed>,
     out: Vec<Handed>,
 ) -> Vec<Handed>
-    requires all { All (λ g. IsSeatOf service.now (seat_of g)) gathered.items }
+    requires all { All (IsHandedOf service.now) gathered.items }
     requires numbers { (h : ℕ → ℕ) → total (λ g. h (number_of g)) gathered.items ≡ total h (range_with_len 0 service.now.callers) }
     requires out { (out.items ≡ []) × (service.now.callers ≤ vec_capacity out) }
-    ensures all { AreSeats service.now (seats_of result.items) }
+    ensures all { AreSeats service.now (seats_of result.items) × All (IsHandedOf service.now) result.items }
     ensures same { AreSame result.items gathered.items }
 {
     let _ = service;
@@ -129,7 +133,7 @@ pub(crate) fn gather<O: Object, R: Wait>(
     requires gathered { (gathered.items ≡ []) × (service.now.callers ≤ vec_capacity gathered) }
     requires out { (out.items ≡ []) × (service.now.callers ≤ vec_capacity out) }
     ensures seats { AreSeats service.now (seats_of result.items) }
-    ensures told { AreTold lents.items result.items }
+    ensures told { AreTold service.now lents.items result.items }
 {
     let mut pass = pass;
     let mut lents = lents;

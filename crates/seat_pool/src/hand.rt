@@ -1,13 +1,14 @@
 //! What a pass of the queue knows. No value of these types is made.
 
-use cx_core::{Answer, Base, Linked};
+use cx_core::{Answer, Base, Linked, SeenRead};
 use cx_service::Caller;
 use std::collections::LinkedList;
 
-/// Of which service the callers are: its base, its number of callers, and a caller whose table is the service's.
+/// Of which service the callers are: its base, its number of callers, the limit of each, and a caller whose table is the service's.
 pub struct Home {
     pub base: Base,
     pub callers: u32,
+    pub limits: LinkedList<u64>,
     pub first: Caller,
 }
 
@@ -19,11 +20,12 @@ pub struct Told {
 }
 
 /// The service, once it is known; the parts of the right to know the whole; the callers that were placed in the queue, by number; those that
-/// are held, as they were when they were taken out; and the calls that were told.
+/// are held, as they were when they were taken out; the calls that were told; and the reads that were shown.
 pub struct Hand {
     pub home: Option<Home>,
     pub parts: u32,
     pub placed: LinkedList<u32>,
     pub held: LinkedList<Caller>,
     pub told: LinkedList<Told>,
+    pub shown: LinkedList<SeenRead>,
 }

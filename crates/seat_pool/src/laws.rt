@@ -1,17 +1,16 @@
-//! What a call's answer is to the queue.
+//! What a call's answer is to the queue, and which callers may be kept.
 
-ghost use Rattle.std.specs.Prelude.{◌≡◌, ℕ, List, [], ◌∷◌, ◌++◌};
+ghost use Rattle.std.specs.Prelude.{◌≡◌, ◌⊎◌, ℕ, List, [], ◌∷◌, ◌++◌};
 ghost use Rattle.cx_core.specs.declared.local.Answer as local_answer;
 ghost use Rattle.cx_rule.specs.Seats.{Seated};
-ghost use Rattle.cx_service.specs.Callers.{IsCallerOf};
-ghost use Rattle.cx_service.specs.Submits.{entry_at};
-ghost use Rattle.cx_service.specs.Updates.{UpdateDone};
-ghost use Rattle.seat_pool.specs.Pooling.{IsFirstOf, calls_of, hand_told, told_with};
-ghost use Rattle.seat_pool.specs.declared.hand.Hand as hand_hand;
 ghost use Rattle.cx_service.specs.Callers.{StoppedSeat};
-ghost use Rattle.cx_service.specs.Updates.{UpdateHalted};
+ghost use Rattle.cx_service.specs.Lookups.{ReadHalted};
+ghost use Rattle.cx_service.specs.Submits.{entry_at};
+ghost use Rattle.cx_service.specs.Updates.{UpdateDone, UpdateHalted};
 ghost use Rattle.cx_service.specs.declared.close.Handed.TheVariants as handed_cases;
-ghost use Rattle.seat_pool.specs.Gathering.{Gathers};
+ghost use Rattle.seat_pool.specs.Gathering.{Gathers, StaysIdle};
+ghost use Rattle.seat_pool.specs.Pooling.{IsFirstOf, hand_told, told_with, with_given};
+ghost use Rattle.seat_pool.specs.declared.hand.Hand as hand_hand;
 
 use cx_base::Object;
 use cx_service::Service;
@@ -19,17 +18,32 @@ use cx_service::Service;
 /// A caller that an update answered may be given back by the pass that took it last, also where it made calls without an answer before: what the pass is told in
 /// that push is the update's entry with its answer, and nothing else.
 pub fn answers_are_told<O: Object>(service: &Service<O>)
-    ensures { (op : List ℕ) (taken before after : Seated) (rest : List Seated) (answer : local_answer.Answer) (v : hand_hand.Hand) → v.held ≡ taken ∷ rest → before.known.local.number ≡ taken.known.local.number → calls_of before ≡ calls_of taken →
-        IsCallerOf service.now before → UpdateDone service.now op before after answer →
+    ensures { (op : List ℕ) (taken before after : Seated) (rest : List Seated) (answer : local_answer.Answer) (v : hand_hand.Hand) → v.held ≡ taken ∷ rest → StaysIdle service.now taken before → UpdateDone service.now op before after answer →
         IsFirstOf v.held after × (hand_told v after ≡ v.told ++ told_with before.known.local.number (entry_at service.now before.known.local op answer.ticket) answer ∷ []) }
 {
     let _ = service;
 }
 
-/// A caller that an update stopped is one that its client may keep until the closing: of its answered calls at most one was told to nobody.
+/// A caller without an answered call since it was taken may be given back too: the pass is told nothing in that push, and shown the reads that the caller has
+/// more.
+pub fn reads_are_shown<O: Object>(service: &Service<O>)
+    ensures { (taken now : Seated) (rest : List Seated) (v : hand_hand.Hand) → v.held ≡ taken ∷ rest → (idle : StaysIdle service.now taken now) →
+        IsFirstOf v.held now × (hand_told v now ≡ v.told) × ((with_given v now).shown ≡ v.shown ++ idle.more) }
+{
+    let _ = service;
+}
+
+/// Such a caller is one that its client may keep until the closing.
+pub fn idle_are_kept<O: Object>(service: &Service<O>)
+    ensures { (taken now : Seated) → StaysIdle service.now taken now → Gathers service.now (taken ∷ []) (handed_cases.Idle now ∷ []) }
+{
+    let _ = service;
+}
+
+/// So is a caller that an update stopped, or a read: of its answered calls at most one was told to nobody.
 pub fn stopped_are_kept<O: Object>(service: &Service<O>)
-    ensures { (op : List ℕ) (taken before : Seated) (stopped : StoppedSeat) → before.known.local.number ≡ taken.known.local.number → calls_of before ≡ calls_of taken →
-        IsCallerOf service.now before → UpdateHalted service.now op before stopped → Gathers service.now (taken ∷ []) (handed_cases.Stopped stopped ∷ []) }
+    ensures { (op : List ℕ) (taken before : Seated) (stopped : StoppedSeat) → StaysIdle service.now taken before → UpdateHalted service.now op before stopped ⊎ ReadHalted service.now op before stopped →
+        Gathers service.now (taken ∷ []) (handed_cases.Stopped stopped ∷ []) }
 {
     let _ = service;
 }

@@ -2,16 +2,18 @@
 //! part of this crate.
 //!
 //! What holds at every moment is the rule `Lends` (`Pools` and `Keeps` in `specs/Pooling.antt`): the queue holds callers of one service, in no call; each
-//! caller that was placed is in the queue or held by one pass; and the calls that passes were told are the answered calls of the callers (an entry with its
-//! answer), each once, where a held caller counts with those that it had when it was taken out. Its kinds of step are a push and a pop.
+//! caller that was placed is in the queue or held by one pass; the calls that passes were told are the answered calls of the callers (an entry with its
+//! answer), each once, where a held caller counts with those that it had when it was taken out; and the reads that passes were shown are among the callers'. Its
+//! kinds of step are a push and a pop.
 //!
 //! - `open`, `place`: a queue for a service, and its callers in it.
-//! - `take` gives a caller of the service. `give` gives the pass's last caller back, and what it was answered since is told to the pass in the same push; it
-//!   never fails, so no caller is lost. `answers_are_told`: after an update those are the update's entry with its answer.
+//! - `take` gives a caller of the service, with the limit that it was placed with. `give` gives the pass's last caller back, and what it was answered since is
+//!   told to the pass in the same push; it never fails, so no caller is lost. `answers_are_told`: after an update those are the update's entry with its answer;
+//!   `reads_are_shown`: after reads nothing is told, and they are shown.
 //! - `share` makes a further pass, and `merge` puts what another pass knows and holds to this one.
 //! - `close`: with all that was lent, the queue is emptied and the service closed. All callers are handed in, each once and of caller 0 first (also those that
 //!   are stopped), and the calls that the callers show as answered are those that were told, each once, but for at most one of each stopped caller (`AreTold`).
-//!   `stopped_are_kept`: a caller that an update stopped is one that its client may keep until then.
+//!   `idle_are_kept`, `stopped_are_kept`: a caller in no call, and one that was stopped, are such that a client may keep until then.
 #![tactic(auto)]
 
 mod closing;
@@ -24,7 +26,7 @@ mod rule;
 
 pub use closing::close;
 pub use hand::{Hand, Home, Told};
-pub use laws::{answers_are_told, stopped_are_kept};
+pub use laws::{answers_are_told, idle_are_kept, reads_are_shown, stopped_are_kept};
 pub use lent::Lent;
 pub use queue::{give, learn, merge, open, place, share, take};
 pub use rule::{Lends, Line};

@@ -1,10 +1,10 @@
 //! What a pass does with the queue.
 
-ghost use Rattle.std.specs.Prelude.{◌≡◌, ◌<◌, ◌≤◌, [], IfOk, MatchOption, length};
+ghost use Rattle.std.specs.Prelude.{◌≡◌, ◌<◌, ◌≤◌, [], IfOk, MatchOption, length, map};
 ghost use Rattle.crossbeam_queue.specs.Fifo.{Held};
 ghost use Rattle.crossbeam_queue.specs.Passes.{view, IsPassOf, ruled_capacity};
 ghost use Rattle.cx_service.specs.Callers.{IsCallerOf};
-ghost use Rattle.seat_pool.specs.Pooling.{IsFirstOf, IsHomeOf, IsOpened, IsSame, Tells, all_parts, both, calls_of, cut_left, cut_right, opened, shown_by, with_given, with_placed, with_taken};
+ghost use Rattle.seat_pool.specs.Pooling.{HasLimit, IsFirstOf, IsHomeOf, IsOpened, IsSame, Tells, all_parts, both, calls_of, cut_left, cut_right, limits_at, opened, shown_by, with_given, with_placed, with_taken};
 
 use crate::hand::Hand;
 use crate::rule::{Gives, Known, Line, Opens, Parted, Places, Takes};
@@ -15,29 +15,29 @@ use std::alloc::{AllocError, Global};
 use std::marker::Brand;
 use std::sync::Wait;
 
-/// A queue with room for so many callers of this service, and its first pass, which has every part.
+/// A queue with room for these callers of this service, and its first pass, which has every part and knows the callers' limits.
 pub fn open<O: Object>(
     alloc: Global,
     service: &Service<O>,
-    room: usize,
+    callers: &[Caller],
 ) -> Result<(Line, Pass<Caller, Hand>), AllocError>
-    requires { 0 < room }
-    ensures { IfOk result (λ q. IsPassOf q.0 q.1 × (ruled_capacity q.0 ≡ room) × IsOpened service.now (view q.1)) }
+    requires { 0 < length callers.now }
+    ensures { IfOk result (λ q. IsPassOf q.0 q.1 × (ruled_capacity q.0 ≡ length callers.now) × IsOpened service.now (map (λ c. c.known.local.limit) callers.now) (view q.1)) }
 {
-    open_for::<O, Brand>(alloc, service, room)
+    open_for::<O, Brand>(alloc, service, callers)
 }
 
 fn open_for<O: Object, K: Known>(
     alloc: Global,
     service: &Service<O>,
-    room: usize,
+    callers: &[Caller],
 ) -> Result<(Line, Pass<Caller, Hand>), AllocError>
-    requires room { 0 < room }
+    requires room { 0 < length callers.now }
     requires home { IsSame (shown_by K.home) service.now }
-    ensures { IfOk result (λ q. IsPassOf q.0 q.1 × (ruled_capacity q.0 ≡ room) × (view q.1 ≡ opened K.home)) }
+    ensures { IfOk result (λ q. IsPassOf q.0 q.1 × (ruled_capacity q.0 ≡ length callers.now) × (view q.1 ≡ opened K.home)) }
 {
     let _ = service;
-    let (line, mut pass) = Line::ruled(alloc, room)?;
+    let (line, mut pass) = Line::ruled(alloc, callers.len())?;
     let _spent = line.another::<Opens<K>>(&mut pass);
     Ok((line, pass))
 }
@@ -52,7 +52,7 @@ pub fn place<O: Object, R: Wait>(
 )
     requires pass { IsPassOf line.now pass.old × IsHomeOf service.now (view pass.old).home × ((view pass.old).parts ≡ all_parts) }
     requires room { (length (view pass.old).placed < service.now.callers) × (ruled_capacity line.now ≡ service.now.callers) }
-    requires caller { IsCallerOf service.now caller × (calls_of caller ≡ []) }
+    requires caller { IsCallerOf service.now caller × HasLimit (limits_at (view pass.old).home) caller × (calls_of caller ≡ []) }
     ensures { IsPassOf line.now pass.new × (view pass.new ≡ with_placed (view pass.old) caller) }
 {
     let _ = service;
@@ -71,13 +71,13 @@ pub fn take<O: Object, R: Wait>(
 ) -> Option<Caller>
     requires { IsPassOf line.now pass.old × IsHomeOf service.now (view pass.old).home × (0 < (view pass.old).parts) }
     ensures pass { IsPassOf line.now pass.new }
-    ensures caller { MatchOption result ((view pass.new ≡ view pass.old) × Held 0 (Tells (view pass.old))) (λ x. IsCallerOf service.now x × (view pass.new ≡ with_taken (view pass.old) x) × (length (view pass.old).held < service.now.callers)) }
+    ensures caller { MatchOption result ((view pass.new ≡ view pass.old) × Held 0 (Tells (view pass.old))) (λ x. IsCallerOf service.now x × HasLimit (limits_at (view pass.old).home) x × (view pass.new ≡ with_taken (view pass.old) x) × (length (view pass.old).held < service.now.callers)) }
 {
     let _ = service;
     line.pop_as::<Takes, R>(rt, pass)
 }
 
-/// Gives back the caller that the pass took last. The calls that it has more since are told to the pass in the same step.
+/// Gives back the caller that the pass took last. The calls that it has more since are told to the pass in the same step, and the reads are shown.
 pub fn give<O: Object, R: Wait>(
     rt: &R,
     service: &Service<O>,
@@ -87,7 +87,7 @@ pub fn give<O: Object, R: Wait>(
 )
     requires pass { IsPassOf line.now pass.old × IsHomeOf service.now (view pass.old).home × (0 < (view pass.old).parts) }
     requires room { ruled_capacity line.now ≡ service.now.callers }
-    requires caller { IsCallerOf service.now caller × IsFirstOf (view pass.old).held caller }
+    requires caller { IsCallerOf service.now caller × HasLimit (limits_at (view pass.old).home) caller × IsFirstOf (view pass.old).held caller }
     ensures { IsPassOf line.now pass.new × (view pass.new ≡ with_given (view pass.old) caller) }
 {
     let _ = service;

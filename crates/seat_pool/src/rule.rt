@@ -6,8 +6,8 @@ use crossbeam_queue::protocol::{Join, Lesson, Outcome, Protocol, Split};
 use cx_service::Caller;
 use std::marker::{Brand, PhantomData};
 
-/// The rule: the queue holds callers of one service, each caller that was placed is in the queue or held by one pass, and the calls that passes
-/// were told are the answered calls of the callers, each once.
+/// The rule: the queue holds callers of one service, each caller that was placed is in the queue or held by one pass, the calls that passes
+/// were told are the answered calls of the callers, each once, and the reads that they were shown are reads of the callers.
 pub struct Lends;
 
 impl Protocol<Caller, Hand> for Lends {
@@ -35,6 +35,7 @@ impl Known for Brand {
     ghost home = { record {
       base = record { place = 0; words = [] };
       callers = 0;
+      limits = [];
       first = record {
         table = record { words = 0; slots = 0; views_name = 0; atom = 0; block = 0; offset = 0; slot_names = [] };
         before = 0;

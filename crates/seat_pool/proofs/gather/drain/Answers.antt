@@ -1,14 +1,19 @@
-use Rattle.std.proofs.Common.{◌∙◌, ap, arith, refl, subst, sym}
+use Rattle.std.proofs.Common.{◌∙◌, ◌∷◌, [], ap, arith, refl, subst, sym}
 use Rattle.crossbeam_queue.specs.Passes.{view}
+use Rattle.cx_service.specs.declared.close.Handed.TheVariants.{Idle}
 use Rattle.seat_pool.specs.Gathering.{IsGathering}
+use Rattle.seat_pool.specs.Pooling.{total}
 use Rattle.seat_pool.specs.declared.hand.Hand.{Hand}
 use Rattle.seat_pool.proofs.Gatherings.{as_held, as_many, drained, still_gathering}
+use Rattle.seat_pool.proofs.Poolings.{total_both}
 use Rattle.seat_pool.proofs.gather.drain.Goals as goal
 
 pub loop-init : goal.loop-init
 loop-init g c = record {
   pass = c.requires.pass.0;
-  gathering = record { home = c.requires.pass.1; parts = c.requires.pass.2; placed = refl; told = refl; gathers = c.requires.gathered.0 };
+  gathering = record { home = c.requires.pass.1; parts = c.requires.pass.2; placed = refl; told = refl; shown = refl; gathers = c.requires.gathered.0 };
+  more = λ f. omega arith;
+  idle = λ f none. refl;
   room = c.requires.gathered.1;
 }
 
@@ -18,7 +23,7 @@ take-requires g c = (c.loop.invariant.pass, c.loop.invariant.gathering.home, (le
 pub push_reserved-requires : goal.push_reserved-requires
 push_reserved-requires g c =
     let many = as_many c.args.service.now (view c.loop.pass).held c.loop.gathered.items c.loop.invariant.gathering.gathers in
-    let most = c.in-Some-take.ensures.caller.2 in
+    let most = c.in-Some-take.ensures.caller.3 in
     let room = c.loop.invariant.room in
     omega (arith, many, most, room, c.loop.gathered.ok)
 
@@ -33,7 +38,9 @@ loop-preserved g c =
     let room = c.loop.invariant.room in
     let same = c.push_reserved.ensures.capacity in record {
       pass = c.take.ensures.pass;
-      gathering = subst (λ ys. IsGathering r before w ys) (sym c.push_reserved.ensures.items) (still_gathering r before v w c.loop.gathered.items x c.loop.invariant.gathering told.0 told.1);
+      gathering = subst (λ ys. IsGathering r before w ys) (sym c.push_reserved.ensures.items) (still_gathering r before v w c.loop.gathered.items x c.loop.invariant.gathering told.0 told.2);
+      more = λ f. (let grown = ap (total f) c.push_reserved.ensures.items in omega (arith, grown, c.loop.invariant.more f, total_both f c.loop.gathered.items (Idle x ∷ [])));
+      idle = λ f none. (let grown = ap (total f) c.push_reserved.ensures.items in omega (arith, grown, none x, c.loop.invariant.idle f none, total_both f c.loop.gathered.items (Idle x ∷ [])));
       room = omega (arith, room, same);
     }
 
@@ -47,4 +54,4 @@ pub returns-in-None-take-clause-same : goal.returns-in-None-take-clause-same
 returns-in-None-take-clause-same g c =
     let same = c.in-None-take.ensures.caller.0 in
     let kept = c.loop.invariant.gathering in
-    (ap (λ (u : Hand). u.placed) same ∙ kept.placed, ap (λ (u : Hand). u.told) same ∙ kept.told)
+    (ap (λ (u : Hand). u.placed) same ∙ kept.placed, ap (λ (u : Hand). u.told) same ∙ kept.told, ap (λ (u : Hand). u.shown) same ∙ kept.shown)

@@ -1,5 +1,8 @@
-use Rattle.std.proofs.Common.{◌≤◌, ◌∙◌, arith, length, refl, subst}
+use Rattle.std.proofs.Common.{◌≤◌, ◌∙◌, ◌++◌, Option, ap, arith, length, refl, subst, sym}
+use Rattle.std.proofs.lemmas.List.{append-nil}
 use Rattle.crossbeam_queue.specs.Passes.{view}
+use Rattle.cx_service.specs.declared.close.Handed.{Handed}
+use Rattle.seat_pool.specs.Gathering.{kept_list}
 use Rattle.seat_pool.specs.Pooling.{both}
 use Rattle.seat_pool.specs.declared.hand.Hand.{Hand}
 use Rattle.seat_pool.proofs.Gatherings.{as_held, gathers_kept, gathers_no_more, kept_fits}
@@ -22,6 +25,7 @@ returns-in-Some-clause-gathered g c =
       as_held c.args.service.now (both v w) (view c.learn.new.pass) _ _ (c.learn.ensures.same.1 ∙ c.merge.ensures.1) c.push_reserved.ensures.items
           (gathers_kept c.args.service.now v w c.args.gathered.items c.args.lent.kept c.in-Some.handed c.in-Some.is c.requires.gathered.0 c.requires.lent.kept),
       c.push_reserved.ensures.capacity,
+      c.push_reserved.ensures.items ∙ ap (λ (o : Option Handed). c.args.gathered.items ++ kept_list o) (sym c.in-Some.is),
     )
 
 pub returns-in_default-clause-gathered : goal.returns-in_default-clause-gathered
@@ -31,4 +35,5 @@ returns-in_default-clause-gathered g c =
       as_held c.args.service.now (both v w) (view c.learn.new.pass) _ _ (c.learn.ensures.same.1 ∙ c.merge.ensures.1) refl
           (gathers_no_more c.args.service.now v w c.args.gathered.items c.args.lent.kept c.in_default.is c.requires.gathered.0 c.requires.lent.kept),
       refl,
+      sym (append-nil c.args.gathered.items) ∙ ap (λ (o : Option Handed). c.args.gathered.items ++ kept_list o) (sym c.in_default.is),
     )
