@@ -385,10 +385,15 @@ class Core:
 
     # ---- losses of power
 
-    def place_left(self, choice):
-        """The place that is recovered by a choice: that of a code on the way of the wins from DUR up to CUR."""
+    def codes_left(self):
+        """The codes on the way of the wins from DUR up to CUR."""
         over = {l.won[1]: l.won[0] for l in self.callers if l.won is not None}
         codes = [self.dur]
         while codes[-1] in over:
             codes.append(over[codes[-1]])
+        return codes
+
+    def place_left(self, choice):
+        """The place that is recovered by a choice: that of one of these codes."""
+        codes = self.codes_left()
         return self.place_of(codes[choice % len(codes)])

@@ -5,7 +5,8 @@
 The trace goes to standard output and what is found of it to standard error, as the program says it: `yes events E crashes K`,
 `no line N: guard` or `no line N: place P`, and `refused line N: REASON` for a text that is none. With `--wrong N` so many changes are made
 afterwards: a line left out or doubled, an event swapped with the next of another caller, an argument changed, a place one too high or too
-low. With `--steps N` it has so many lines behind the first, 300 if nothing is said. With `--check FILE` the trace is read from that file instead."""
+low. With `--steps N` it has so many lines behind the first, 300 if nothing is said. With `--check FILE` the trace is
+read from that file instead, and where a line fails it is shown with what its caller knew, or with the codes that a loss of power may leave."""
 import argparse
 import random
 import re
@@ -76,19 +77,19 @@ def what_in(line, callers):
     return None if behind else ("event", caller, kind, numbers)
 
 
-def found_in(data):
-    """What is found of the text of a trace."""
+def judged(data):
+    """What is found of the text of a trace, the line that fails and what it says, and the core as the lines before it left it."""
     lines = lines_in(data)
     head = head_in(lines[0]) if lines else None
     if head is None:
-        return "refused line 1: trace"
+        return "refused line 1: trace", 1, None, None
     steps = []
     for number, line in enumerate(lines[1:], 2):
         if len(steps) == MOST_LINES:
-            return f"refused line {number}: events"
+            return f"refused line {number}: events", number, None, None
         what = what_in(line, head[0])
         if what is None:
-            return f"refused line {number}: event"
+            return f"refused line {number}: event", number, None, None
         steps.append(what)
     core = Core(*head)
     events = crashes = 0
@@ -96,13 +97,48 @@ def found_in(data):
         if what[0] == "crash":
             place = core.place_left(what[1])
             if place != what[2]:
-                return f"no line {number}: place {place}"
+                return f"no line {number}: place {place}", number, what, core
             crashes += 1
         else:
             if not core.step(*what[1:]):
-                return f"no line {number}: guard"
+                return f"no line {number}: guard", number, what, core
             events += 1
-    return f"yes events {events} crashes {crashes}"
+    return f"yes events {events} crashes {crashes}", None, None, core
+
+
+def found_in(data):
+    """What is found of the text of a trace."""
+    return judged(data)[0]
+
+
+def explanation(data):
+    """What is found of the text of a trace; where a line fails, the line, and what decided there."""
+    found, number, what, core = judged(data)
+    if number is None:
+        return found
+    said = [found, f"  {number} | " + (lines_in(data) + [b""])[number - 1].decode("utf-8", "replace")]
+    if what is not None and what[0] == "crash":
+        codes = core.codes_left()
+        said.append("codes from DUR on to CUR, by choice: " + ", ".join(f"{core.place_of(code)} on replica {core.replica_of(code)}" for code in codes))
+        said.append(f"the choice {what[1]} takes number {what[1] % len(codes)}")
+    elif what is not None:
+        said.extend(known(core, core.callers[what[1]]))
+    return "\n".join(said)
+
+
+def known(core, l):
+    """What a caller knows that decides which steps it may make."""
+    rights = [("exclusive", l.exclusive), ("shared", l.shared), ("passed", l.passer)]
+    rights.append(("downgraded", l.downgraded and l.downgraded[0]))
+    rights.append(("won over", l.won and core.replica_of(l.won[1])))
+    cells = [f"{j} with {cell['ticket']}" for j, cell in enumerate(l.cells) if cell["ticket"] is not None]
+    fresh = ", fresh" if l.fresh else ""
+    return [
+        f"caller {l.number}: front {l.front}, entries {len(l.own)}, answered {l.answered}, cells with tickets: {', '.join(cells) or 'none'}",
+        f"seen: slot and word {l.seen_slot or 'none'}, FREE {l.seen_free}, CUR at place {core.place_of(l.seen_cur)} on replica {core.replica_of(l.seen_cur)}{fresh}",
+        f"rights: {', '.join(f'{name} {r}' for name, r in rights if r is not None) or 'none'}",
+        f"protection: {l.protection if l.protection is not None else 'none'}{' confirmed' if l.confirmed else ''}, scan: {l.scan or 'none'}",
+    ]
 
 
 class Recorder:
@@ -334,7 +370,7 @@ def main():
     given = parser.parse_args()
     if given.check:
         with open(given.check, "rb") as file:
-            print(found_in(file.read()), file=sys.stderr)
+            print(explanation(file.read()))
         return
     lines = Recorder(Core(given.callers, given.lines), given.seed).record(given.steps)
     if given.wrong:

@@ -1,11 +1,12 @@
 """Tests of the built program on recorded traces."""
 import json
+import sys
 import unittest
 from pathlib import Path
 
 import random_lives
 import random_traces
-from record_trace import MOST_LINES, found_in
+from record_trace import MOST_LINES, explanation, found_in
 
 ROWS = Path(__file__).resolve().parent / "rows"
 FORMATS = ROWS.parents[2] / "docs" / "FORMATS.md"
@@ -43,11 +44,25 @@ class PlainTraces(unittest.TestCase):
         self.assertEqual("no line 9: guard", found_in("\n".join(shown).encode()))
 
 
+    def test_what_is_said_of_a_line_that_fails(self):
+        said = explanation(b"trace 2 64\n0 load_cur\n1 try_exclusive 3\n1 persist 3 0\n").split("\n")
+        self.assertEqual(["no line 4: guard", "  4 | 1 persist 3 0"], said[:2])
+        self.assertIn("rights: exclusive 3", said)
+        (shown,) = shown_traces()
+        said = explanation("\n".join(shown[:12] + ["crash 3 place 0"]).encode()).split("\n")
+        self.assertEqual(["no line 13: place 1", "  13 | crash 3 place 0"], said[:2])
+        self.assertEqual(["codes from DUR on to CUR, by choice: 0 on replica 0, 1 on replica 1", "the choice 3 takes number 1"], said[2:])
+        self.assertEqual("refused line 2: event\n  2 | 0 retire 1", explanation(b"trace 1 64\n0 retire 1"))
+        self.assertEqual("refused line 1: trace\n  1 | ", explanation(b""))
+
+
 class ProgramOnTraces(unittest.TestCase):
     """The built program on traces, beside the plain model."""
 
     def setUp(self):
         if not random_lives.PROGRAM.exists():
+            if "--with-program" in sys.argv:
+                self.fail(f"{random_lives.PROGRAM} is not there")
             self.skipTest("the program is not built")
 
     def test_rows(self):
