@@ -51,8 +51,7 @@ pub(crate) fn drain<O: Object, R: Wait>(
     pass: &mut Pass<Caller, Hand>,
     gathered: Vec<Handed>,
 ) -> Vec<Handed>
-    requires pass { IsPassOf line.now pass.old × IsHomeOf service.now (view pass.old).home × ((view pass.old).parts ≡ all_parts) }
-    requires gathered { Gathers service.now (view pass.old).held gathered.items × (service.now.callers ≤ vec_capacity gathered) }
+    requires { (IsPassOf line.now pass.old × IsHomeOf service.now (view pass.old).home × ((view pass.old).parts ≡ all_parts)) × (Gathers service.now (view pass.old).held gathered.items × (service.now.callers ≤ vec_capacity gathered)) }
     ensures gathered { Gathers service.now (view pass.new).held result.items }
     ensures whole { IsWhole (view pass.new) [] }
     ensures same { ((view pass.new).placed ≡ (view pass.old).placed) × ((view pass.new).told ≡ (view pass.old).told) × ((view pass.new).shown ≡ (view pass.old).shown) }

@@ -10,11 +10,11 @@ use Rattle.seat_pool.proofs.gather.drain.Goals as goal
 
 pub loop-init : goal.loop-init
 loop-init g c = record {
-  pass = c.requires.pass.0;
-  gathering = record { home = c.requires.pass.1; parts = c.requires.pass.2; placed = refl; told = refl; shown = refl; gathers = c.requires.gathered.0 };
+  pass = c.requires.0.0;
+  gathering = record { home = c.requires.0.1; parts = c.requires.0.2; placed = refl; told = refl; shown = refl; gathers = c.requires.1.0 };
   more = λ f. omega arith;
   idle = λ f none. refl;
-  room = c.requires.gathered.1;
+  room = c.requires.1.1;
 }
 
 pub take-requires : goal.take-requires
