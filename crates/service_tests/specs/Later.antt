@@ -1,11 +1,10 @@
 -- A later format of the running sum: version 8, with the sum in word 2, where it was in word 1 before.
-use Rattle.std.specs.Prelude.{◌≡◌, ◌+◌, ◌%◌, ◌^◌, ◌<◌, ℕ, List, Option, Some, slice_index, slice_set, IsTrue, false}
+use Rattle.std.specs.Prelude.{◌≡◌, ◌+◌, ◌%◌, ◌^◌, ◌<◌, ℕ, Bool, true, false, cond, List, Option, Some, slice_index, slice_set, IsTrue, if◌then◌else◌}
 use Rattle.std.proofs.Common.{ap, sym, ◌∙◌, arith, lit<}
-use Rattle.std.proofs.lemmas.Bool.{false≢true}
 use Rattle.std.proofs.lemmas.List.{get_or-set_other, get_or-set_same}
 use Rattle.cx_base.specs.Memory.{Words}
 use Rattle.cx_base.specs.OldFormat.{OldFormat, TakesOver}
-use Rattle.cx_base.specs.Tally.{tally_opening, tally_reply}
+use Rattle.cx_base.specs.Tally.{tally_opening, tally_reads, tally_reply}
 use Rattle.cx_base.specs.TallyLaws.{tally_opens}
 use Rattle.cx_base.specs.WordLaws.{Words-at, Words-set, Words-then_zeros}
 
@@ -17,12 +16,16 @@ pub record IsLater (image : List ℕ) : Type 0 where
 abbrev pub later_opening : List ℕ
 later_opening = slice_set tally_opening 0 8
 
--- one step: word 0 of the operation is added to word 2 of the image, wrapping, and the reply is the sum
+-- One step: word 0 of the operation is added to word 2 of the image, wrapping, and the reply is the sum. An operation whose word 1 is 1 only
+-- reads.
 abbrev pub later_sum : List ℕ → List ℕ → ℕ
 later_sum image op = (slice_index image 2 + slice_index op 0) % 2 ^ 64
 
 abbrev pub later_step : List ℕ → List ℕ → List ℕ × List ℕ
-later_step image op = (slice_set image 2 (later_sum image op), tally_reply (later_sum image op))
+later_step image op =
+    if tally_reads op
+    then (image, tally_reply (slice_index image 2))
+    else (slice_set image 2 (later_sum image op), tally_reply (later_sum image op))
 
 -- Images of the format before are of version 7, with the sum in word 1, and word 2 is 0. The sum moves to word 2.
 pub record IsEarlier (image : List ℕ) : Type 0 where
@@ -55,15 +58,31 @@ sum_small a b = omega arith
 pub later_opens : IsLater later_opening
 later_opens = put_version tally_opening (tally_opens {O = ℕ} 0).words
 
+by_case : {A : Type 0} (P : A → Type 0) (b : Bool) (x y : A) → P x → P y → P (cond b x y)
+by_case P true x y p q = p
+by_case P false x y p q = q
+
 pub later_keeps : (image op : List ℕ) → IsLater image → IsLater (later_step image op).0
-later_keeps image op is = put_later image 2 (later_sum image op) (lit< tt) (sum_small (slice_index image 2) (slice_index op 0)) is
+later_keeps image op is =
+    let sum = later_sum image op in
+    by_case (λ (p : List ℕ × List ℕ). IsLater p.0) (tally_reads op) (image, tally_reply (slice_index image 2)) (slice_set image 2 sum, tally_reply sum)
+    is
+    (put_later image 2 sum (lit< tt) (sum_small (slice_index image 2) (slice_index op 0)) is)
 
-pub later_replies : (image op : List ℕ) → Words 144 (later_step image op).1
+reply_words : (n : ℕ) → n < 2 ^ 64 → Words 144 (tally_reply n)
 unfolding tally_reply
-later_replies image op = Words-then_zeros (later_sum image op) 143 (sum_small (slice_index image 2) (slice_index op 0))
+reply_words n small = Words-then_zeros n 143 small
 
-pub later_leaves : (image op : List ℕ) → IsTrue false → (later_step image op).0 ≡ image
-later_leaves image op reads = absurd (false≢true reads)
+pub later_replies : (image op : List ℕ) → IsLater image → Words 144 (later_step image op).1
+later_replies image op is =
+    let sum = later_sum image op in
+    by_case (λ (p : List ℕ × List ℕ). Words 144 p.1) (tally_reads op) (image, tally_reply (slice_index image 2)) (slice_set image 2 sum, tally_reply sum)
+    (reply_words (slice_index image 2) (Words-at 512 image 2 is.words))
+    (reply_words sum (sum_small (slice_index image 2) (slice_index op 0)))
+
+pub later_leaves : (image op : List ℕ) → IsTrue (tally_reads op) → (later_step image op).0 ≡ image
+later_leaves image op reads =
+    ap (λ (b : Bool). (cond {A = List ℕ × List ℕ} b (image, tally_reply (slice_index image 2)) (slice_set image 2 (later_sum image op), tally_reply (later_sum image op))).0) reads
 
 some_same : (a b : ℕ) → ◌≡◌ {A = Option ℕ} (Some a) (Some b) → a ≡ b
 some_same a b same = cc

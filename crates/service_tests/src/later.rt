@@ -1,7 +1,7 @@
 //! The running sum in a later format.
 
-ghost use Rattle.std.specs.Prelude.{◌≡◌, false};
-ghost use Rattle.cx_base.specs.Tally.{tally_reply};
+ghost use Rattle.std.specs.Prelude.{◌≡◌};
+ghost use Rattle.cx_base.specs.Tally.{tally_reads, tally_reply};
 ghost use Rattle.service_tests.specs.Later.{IsLater, earlier_format, later_keeps, later_leaves, later_opening, later_opens, later_replies, later_step, later_takes_over};
 
 use cx_base::tally::Tally;
@@ -9,7 +9,7 @@ use cx_base::{Halt, Memory, Object};
 use std::alloc::{AllocError, Global};
 
 /// An object of 64 lines and version 8, with an old version 7, in which the sum stood in word 1. Word 0 of an operation is added to word 2
-/// of the image, wrapping; word 0 of the reply is the sum.
+/// of the image, wrapping; an operation whose word 1 is 1 only reads. Word 0 of the reply is the sum.
 #[derive(Drop)]
 pub(crate) struct LaterTally;
 
@@ -28,7 +28,7 @@ impl Object for LaterTally {
 
     ghost step = { λ _. later_step };
 
-    ghost only_reads = { λ _ _. false };
+    ghost only_reads = { λ _. tally_reads };
 
     ghost old_format = { λ _. earlier_format };
 
@@ -38,7 +38,7 @@ impl Object for LaterTally {
 
     ghost shape = { λ _ image is. (is.words, is.version) };
 
-    ghost replies = { λ _ image op is w. later_replies image op };
+    ghost replies = { λ _ image op is w. later_replies image op is };
 
     ghost leaves = { λ _ image op is w reads. later_leaves image op reads };
 
@@ -57,18 +57,22 @@ impl Object for LaterTally {
         mem.store(0, VERSION)
     }
 
-    fn reads(&self, _op: &[u64; 144]) -> bool {
-        false
+    fn reads(&self, op: &[u64; 144]) -> bool {
+        op[1] == 1
     }
 
     fn run<M: Memory>(&self, mem: &mut M, op: &[u64; 144]) -> Result<[u64; 144], Halt> {
+        if self.reads(op) {
+            return self.query(mem, op);
+        }
         let sum = mem.load(2)?.wrapping_add(op[0]);
         mem.store(2, sum)?;
         Ok(reply(sum))
     }
 
-    fn query<M: Memory>(&self, _mem: &mut M, _op: &[u64; 144]) -> Result<[u64; 144], Halt> {
-        unreachable!()
+    fn query<M: Memory>(&self, mem: &mut M, _op: &[u64; 144]) -> Result<[u64; 144], Halt> {
+        let sum = mem.load(2)?;
+        Ok(reply(sum))
     }
 
     fn check(&self, _alloc: Global, words: &[u64]) -> Result<bool, AllocError> {

@@ -16,18 +16,18 @@ use std::alloc::{AllocError, Global};
 use std::test::Fail;
 
 // What is recovered: the place, the number in the slot of caller 0, and the first three words of the object part; or why it is refused.
-type Wanted = Result<(u64, u64, [u64; 3]), ImageFault>;
+type Wanted = Result<(u64, u64, (u64, u64, u64)), ImageFault>;
 
 // Whether a base is that.
 fn is_base(base: &Base, want: Wanted) -> bool {
     let words = base.words.as_slice();
     match want {
-        Ok((place, number, part)) => {
+        Ok((place, number, (version, first, second))) => {
             base.place == place
                 && words.get(8).copied() == Some(number)
-                && words.get(1168).copied() == Some(part[0])
-                && words.get(1169).copied() == Some(part[1])
-                && words.get(1170).copied() == Some(part[2])
+                && words.get(1168).copied() == Some(version)
+                && words.get(1169).copied() == Some(first)
+                && words.get(1170).copied() == Some(second)
         }
         Err(_) => false,
     }
@@ -62,12 +62,12 @@ const OLD: Written = (
 
 const IMAGES: [(Written, Wanted); 8] = [
     // of the old version: nothing was done yet, and a sum
-    ((1, 3360, 0, &[(1168, 7)]), Ok((0, 0, [8, 0, 0]))),
-    (OLD, Ok((1, 1, [8, 0, 5]))),
+    ((1, 3360, 0, &[(1168, 7)]), Ok((0, 0, (8, 0, 0)))),
+    (OLD, Ok((1, 1, (8, 0, 5)))),
     // of the object's own, which stays as it is, and beside it the old one
     (
         (1, 3360, 0, &[(1168, 8), (1169, 4), (1170, 6), (2848, 7)]),
-        Ok((0, 0, [8, 4, 6])),
+        Ok((0, 0, (8, 4, 6))),
     ),
     // of none
     (
