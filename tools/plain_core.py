@@ -177,7 +177,9 @@ class Core:
             l.own.append((t, words.get(0, 0)))
             l.cells[j]["ticket"] = t
             l.front = t + 1
-            self.history.append((l.number, words.get(0, 0), words.get(1, 0)))
+            # words behind the kind that are not 0 are no operation's here
+            kind = 0 if any(word for i, word in words.items() if i > 1) else words.get(1, 0)
+            self.history.append((l.number, words.get(0, 0), kind))
         elif found != 0:
             l.front = max(l.front, self.ticket_in(found) + 1)
         return True
