@@ -13,7 +13,7 @@ use std::alloc::{AllocError, Global};
 use std::test::Fail;
 
 // The steps before the full step of the first entry: its number and its words that are not 0, which the cell does not have yet, 2
-// to link, a try, the load of the place, 2 to protect it, and 146 for the entry.
+// to link, a try, the load of the place, and 2 to protect it; the entry is the caller's own, which it has.
 fn steps_before(op: &[u64; 144]) -> u64 {
     let mut announced = 1u64;
     for word in op {
@@ -21,7 +21,7 @@ fn steps_before(op: &[u64; 144]) -> u64 {
             announced = announced.saturating_add(1);
         }
     }
-    announced.saturating_add(2 + 2 + 2 + 146)
+    announced.saturating_add(2 + 2 + 2)
 }
 
 // The accesses of the full step of an entry: the fewest with which it is done.
