@@ -17,7 +17,7 @@ use cx_table::Remains;
 use recovery::{ImageFault, closed_tables_are_whole, closed_tables_recover, crash_image, recover};
 use std::alloc::{AllocError, Global};
 use std::sync::Wait;
-use std::thread::{Threads, join};
+use std::thread::{self, Threads, join};
 
 /// No limit of steps.
 const NO_LIMIT: u64 = u64::MAX;
@@ -96,13 +96,32 @@ fn add_ten<R: Wait>(rt: &R, service: &Service<Counters>, caller: Caller) -> Hand
 {
     let mut caller = caller;
     for _ in 0..10 {
-        match service.update(rt, caller, &add_words(0, 1)) {
-            Updated::Done(back, _answer) => caller = back,
-            Updated::Full(back, _) | Updated::Worn(back) => return Handed::Idle(back),
-            Updated::Halted(stopped) => return Handed::Stopped(stopped),
+        match add_one(rt, service, caller) {
+            Handed::Idle(back) => caller = back,
+            ended => return ended,
         }
     }
     Handed::Idle(caller)
+}
+
+/// Adds 1 to counter 0. Where the other caller needs this one's cells it is tried again, since no caller of this service is ever stopped: each
+/// gives back in time what it needs. Where no ticket is left nothing is added.
+fn add_one<R: Wait>(rt: &R, service: &Service<Counters>, caller: Caller) -> Handed
+    requires { IsCallerOf service.now caller }
+    ensures { IsHandedBy service.now caller result }
+{
+    let mut caller = caller;
+    for _ in rt.forever() {
+        match service.update(rt, caller, &add_words(0, 1)) {
+            Updated::Done(back, _) | Updated::Worn(back) => return Handed::Idle(back),
+            Updated::Full(back, _) => {
+                thread::yield_now();
+                caller = back;
+            }
+            Updated::Halted(stopped) => return Handed::Stopped(stopped),
+        }
+    }
+    unreachable!()
 }
 
 /// Reads counter 0.
