@@ -1,5 +1,5 @@
 -- What was written with a status, from what was written of a text.
-use Rattle.std.proofs.Common.{sym, subst, inl, inr, ℕ, List, Option}
+use Rattle.std.proofs.Common.{◌≡◌, sym, subst, inl, inr, ℕ, List, Option}
 use Rattle.cx_program.specs.Answer.{Answers, HasCause, Owed, Wrote}
 use Rattle.cx_program.specs.Output.{Appends}
 use Rattle.cx_program.specs.declared.status.Ended.{Ended}
