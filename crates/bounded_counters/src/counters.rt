@@ -1,7 +1,8 @@
 //! The counters over the words of any memory.
 
-ghost use Rattle.std.specs.Prelude.{◌≡◌, ◌-◌, ◌*◌, ◌^◌, ◌<◌, ◌≤◌, ◌↔◌, nat_lt, IsTrue, IfOk, OnErr, Some};
-ghost use Rattle.cx_base.specs.Memory.{Always, Becomes, Framed};
+ghost use Rattle.std.specs.Prelude.{◌≡◌, ◌-◌, ◌*◌, ◌^◌, ◌<◌, ◌≤◌, ◌↔◌, nat_lt, IsTrue};
+ghost use Rattle.cx_base.specs.Calls.{Changes, Finds};
+ghost use Rattle.cx_base.specs.Memory.{Always};
 ghost use Rattle.cx_base.specs.OldFormat.{no_old_format, takes_over_nothing};
 ghost use Rattle.bounded_counters.specs.Counters.{Counts, IsCounters, counters_step, counters_read_only, counters_opening};
 ghost use Rattle.bounded_counters.specs.CounterLaws as laws;
@@ -56,9 +57,7 @@ impl Counters {
         requires size { M.size mem.old ≡ 8 * self.now.lines }
         requires writable { IsTrue (M.writable mem.old) }
         requires lawful { Always (M.stands mem.old) (IsCounters self.now.lines self.now.bound) }
-        ensures done { IfOk result (λ reply. Becomes (M.stands mem.old) (M.stands mem.new) (Counts self.now.bound op reply)) }
-        ensures halts { OnErr result (M.left mem.new ≡ Some 0) }
-        ensures framed { Framed M.size M.fixed M.writable M.left mem.old mem.new }
+        ensures { Changes M.Memory mem.old mem.new result (Counts self.now.bound op) }
     {
         match op {
             Op::Add { counter, amount } => self.add(mem, counter, amount),
@@ -72,9 +71,7 @@ impl Counters {
         requires size { M.size mem.old ≡ 8 * self.now.lines }
         requires writable { IsTrue (M.writable mem.old) }
         requires lawful { Always (M.stands mem.old) (IsCounters self.now.lines self.now.bound) }
-        ensures done { IfOk result (λ reply. Becomes (M.stands mem.old) (M.stands mem.new) (Counts self.now.bound (Add counter amount) reply)) }
-        ensures halts { OnErr result (M.left mem.new ≡ Some 0) }
-        ensures framed { Framed M.size M.fixed M.writable M.left mem.old mem.new }
+        ensures { Changes M.Memory mem.old mem.new result (Counts self.now.bound (Add counter amount)) }
     {
         if !self.has(counter) {
             return Ok(Reply::Missing);
@@ -91,10 +88,7 @@ impl Counters {
     fn read<M: Memory>(&self, mem: &mut M, counter: u64) -> Result<Reply, Halt>
         requires size { M.size mem.old ≡ 8 * self.now.lines }
         requires lawful { Always (M.stands mem.old) (IsCounters self.now.lines self.now.bound) }
-        ensures done { IfOk result (λ reply. Becomes (M.stands mem.old) (M.stands mem.new) (Counts self.now.bound (Read counter) reply)) }
-        ensures unchanged { Becomes (M.stands mem.old) (M.stands mem.new) ◌≡◌ }
-        ensures halts { OnErr result (M.left mem.new ≡ Some 0) }
-        ensures framed { Framed M.size M.fixed M.writable M.left mem.old mem.new }
+        ensures { Finds M.Memory mem.old mem.new result (λ reply now. Counts self.now.bound (Read counter) reply now now) }
     {
         if !self.has(counter) {
             return Ok(Reply::Missing);

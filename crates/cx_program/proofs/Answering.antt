@@ -1,6 +1,6 @@
 -- What was written with a status, from what was written of a text.
-use Rattle.std.proofs.Common.{sym, subst, inl, inr, ℕ, List, Option}
-use Rattle.cx_program.specs.Answer.{Answers, HasCause, HasNone, Owed, Wrote}
+use Rattle.std.proofs.Common.{◌≡◌, sym, subst, inl, inr, ℕ, List, Option}
+use Rattle.cx_program.specs.Answer.{Answers, HasCause, Owed, Wrote}
 use Rattle.cx_program.specs.Output.{Appends}
 use Rattle.cx_program.specs.declared.status.Ended.{Ended}
 use Rattle.cx_program.specs.declared.status.Status.{Status}
@@ -16,6 +16,12 @@ whole words told WriteFault trails text before after plain owed appends = absurd
 whole words told Memory trails text before after plain owed appends = absurd (plain tt)
 whole words told status trails text before after plain owed appends = (text, owed, appends)
 
+-- a text that is owed with a status and trails is owed by a run that ended with them
+pub owed_by : (words : List (List ℕ)) (told : Option (List ℕ)) (status : Status) (trails : List Ending) (text : List ℕ) (ended : Ended) → (ended.status ≡ status) × (ended.trails ≡ trails)
+    → Owed words told status trails text → Owed words told ended.status ended.trails text
+owed_by words told status trails text ended is owed =
+    subst (λ (s : Status). Owed words told s ended.trails text) (sym is.0) (subst (λ (ts : List Ending). Owed words told status ts text) (sym is.1) owed)
+
 -- what stands written where a text was owed
 pub answers_written : (words : List (List ℕ)) (told : Option (List ℕ)) (text : List ℕ) (ended result : Ended) (before after : Option (List ℕ)) (faults faults' : ℕ)
     → Owed words told ended.status ended.trails text → Wrote text ended result before after faults faults' → Answers words told result.status result.trails before after
@@ -23,7 +29,7 @@ answers_written words told text ended result before after faults faults' owed (i
     subst (λ (e : Ended). Answers words told e.status e.trails before after) (sym wrote.0)
     (whole words told ended.status ended.trails text before after (owed_plain words told ended.status ended.trails text owed) owed wrote.1)
 answers_written words told text ended result before after faults faults' owed (inr failed) =
-    subst (λ (s : Status). Answers words told s result.trails before after) (sym failed.0) (text, record { status = ended.status; trails = ended.trails; owed = owed }, failed.2)
+    subst (λ (s : Status). Answers words told s result.trails before after) (sym failed.0) (text, record { status = ended.status; trails = ended.trails; owed = owed }, failed.1)
 
 -- a status that an input calls for has no cause to tell
 no_cause : (status : Status) (reads reads' writes writes' : ℕ) → (GivesUp status → ⊥) → HasCause status reads reads' writes writes'
@@ -36,9 +42,4 @@ pub cause_written : (text : List ℕ) (ended result : Ended) (before after : Opt
 cause_written text ended result before after reads reads' faults faults' plain (inl wrote) =
     subst (λ (e : Ended). HasCause e.status reads reads' faults faults') (sym wrote.0) (no_cause ended.status reads reads' faults faults' plain)
 cause_written text ended result before after reads reads' faults faults' plain (inr failed) =
-    subst (λ (s : Status). HasCause s reads reads' faults faults') (sym failed.0) failed.3
-
--- where there is no trail of what was owed, there is none
-pub none_written : (text : List ℕ) (ended result : Ended) (before after : Option (List ℕ)) (faults faults' : ℕ) → HasNone ended → Wrote text ended result before after faults faults' → HasNone result
-none_written text ended result before after faults faults' none (inl wrote) = subst HasNone (sym wrote.0) none
-none_written text ended result before after faults faults' none (inr failed) = λ other. failed.1
+    subst (λ (s : Status). HasCause s reads reads' faults faults') (sym failed.0) failed.2

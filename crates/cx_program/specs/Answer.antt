@@ -1,5 +1,5 @@
 -- What a run answers: the status and the text that the words and the input call for.
-use Rattle.std.specs.Prelude.{◌≡◌, ◌⊎◌, ◌<◌, ◌≤◌, ℕ, List, [], length, Option, IsTrue}
+use Rattle.std.specs.Prelude.{◌≡◌, ◌⊎◌, ◌<◌, ◌≤◌, ℕ, List, length, Option, IsTrue}
 use Rattle.cx_base.specs.Outside.{Rose}
 use Rattle.cx_rule.specs.Ending.{Ending}
 use Rattle.cx_program.specs.Commands.{Command, command_of}
@@ -9,7 +9,7 @@ use Rattle.cx_program.specs.Texts.{too_long_text}
 use Rattle.cx_program.specs.declared.asked.Asked.{Asked}
 use Rattle.cx_program.specs.declared.status.Ended.{Ended}
 use Rattle.cx_program.specs.declared.status.Status.{Status}
-use Rattle.cx_program.specs.declared.status.Status.TheVariants.{Fine, ReadFault, WriteFault, Memory, TooLong}
+use Rattle.cx_program.specs.declared.status.Status.TheVariants.{ReadFault, WriteFault, Memory, TooLong}
 
 -- which status an input calls for; one of too many bytes is refused by every command
 abbrev pub Calls : Command → List ℕ → Status → Type 0
@@ -56,12 +56,8 @@ HasCause ReadFault reads reads' writes writes' = Rose reads reads'
 HasCause WriteFault reads reads' writes writes' = Rose writes writes'
 HasCause _ reads reads' writes writes' = Unit {0}
 
--- the status calls for no trail
-abbrev pub HasNone : Ended → Type 0
-HasNone ended = (ended.status ≡ Fine → ⊥) → ended.trails ≡ []
-
 -- a whole text was written, and the run ended as it calls for; or the sink failed behind a front of it
 abbrev pub Wrote : List ℕ → Ended → Ended → Option (List ℕ) → Option (List ℕ) → ℕ → ℕ → Type 0
 Wrote text owed result before after faults faults' =
     ((result ≡ owed) × Appends text before after)
-    ⊎ ((result.status ≡ WriteFault) × (result.trails ≡ []) × AppendsFront text before after × Rose faults faults')
+    ⊎ ((result.status ≡ WriteFault) × AppendsFront text before after × Rose faults faults')

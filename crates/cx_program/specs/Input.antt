@@ -4,6 +4,7 @@ use Rattle.std.specs.Global.{Vec}
 use Rattle.std.specs.declared.alloc.AllocError.{AllocError}
 use Rattle.cx_base.specs.Outside.{Rose}
 use Rattle.cx_base.specs.declared.outside.Failed.{Failed as Failure}
+use Rattle.cx_base.specs.declared.outside.Source.{Ghosts}
 use Rattle.cx_program.specs.declared.input.Input.{Input}
 use Rattle.cx_program.specs.declared.input.Input.TheVariants.{Whole, TooLong, Failed}
 
@@ -37,6 +38,11 @@ pub record Takes (most : ℕ) (all : List ℕ) (rest : Option (List ℕ)) : Type
 
 abbrev pub TookAtMost : ℕ → Option (List ℕ) → Option (List ℕ) → Type 0
 TookAtMost most before after = IfSome before (λ all. Takes most all after)
+
+-- at most so many bytes were taken from a source, by at most as many reads
+pub record Draws {Source : Type 0} (s : Ghosts Source) (most : ℕ) (old new : Source) : Type 0 where
+  pub taken : TookAtMost most (s.left old) (s.left new)
+  pub few : s.reads new ≤ s.reads old + most
 
 -- What reading one piece of at most so many bytes comes to: it stands behind the bytes read so far; or the source failed, and nothing was
 -- taken; or memory was wanting, and the piece is lost.

@@ -1,7 +1,6 @@
 //! The command `fifo`: a script of a queue that is read and run, and its report.
 
 ghost use Rattle.std.specs.Prelude.{IfOk};
-ghost use Rattle.cx_program.specs.Answer.{HasNone};
 ghost use Rattle.cx_program.specs.Commands.{fifo_command};
 
 use crate::refusal::refusal;
@@ -22,7 +21,6 @@ pub(crate) fn queue_text<R: Threads + Wait + Sync, G: Gate + Sync>(
 ) -> Result<(Vec<u8>, Ended), AllocError>
     ensures calls { IfOk result (λ made. fifo_command.calls bytes.now made.1.status) }
     ensures writes { IfOk result (λ made. fifo_command.writes bytes.now made.1.status made.1.trails made.0.items) }
-    ensures none { IfOk result (λ made. HasNone made.1) }
 {
     match read_fifo_script(alloc, bytes) {
         Ok(script) => {

@@ -1,7 +1,7 @@
 //! The input, read to its end.
 
 ghost use Rattle.std.specs.Prelude.{◌≡◌, ◌+◌, ◌<◌, ◌≤◌, IfOk, length, true, vec_len};
-ghost use Rattle.cx_program.specs.Input.{IsPiece, Shows, TookAtMost};
+ghost use Rattle.cx_program.specs.Input.{Draws, IsPiece, Shows};
 
 use cx_base::{Failed, Source};
 use std::alloc::{AllocError, Global};
@@ -53,8 +53,7 @@ fn read_piece<S: Source>(
 /// Reads a source to its end, or to one byte behind the limit. Each read but the last brings a byte. `Err` is want of memory.
 pub(crate) fn read_input<S: Source>(alloc: Global, source: &mut S) -> Result<Input, AllocError>
     ensures input { IfOk result (Shows true (S.left source.old) (S.faults source.old) (S.faults source.new)) }
-    ensures taken { TookAtMost 16777217 (S.left source.old) (S.left source.new) }
-    ensures reads { S.reads source.new ≤ S.reads source.old + 16777217 }
+    ensures drawn { Draws S.Source 16777217 source.old source.new }
     ensures count { S.faults source.old ≤ S.faults source.new }
 {
     let mut bytes = Vec::new(alloc);

@@ -2,7 +2,6 @@
 
 ghost use Rattle.std.specs.Prelude.{◌≡◌, IfOk};
 ghost use Rattle.script_answers.specs.Texts.{IsSummary};
-ghost use Rattle.cx_program.specs.Answer.{HasNone};
 ghost use Rattle.cx_program.specs.declared.status.Status.TheVariants.{Fine};
 
 use crate::asked::Load;
@@ -22,7 +21,6 @@ pub(crate) fn load_text<R: Threads + Wait + Sync, G: Gate + Sync>(
 ) -> Result<(Vec<u8>, Ended), AllocError>
     ensures calls { IfOk result (λ made. made.1.status ≡ Fine) }
     ensures writes { IfOk result (λ made. IsSummary load.now.from load.now.clients load.now.ops made.1.trails made.0.items) }
-    ensures none { IfOk result (λ made. HasNone made.1) }
 {
     let (text, trails) = summary_of_load(rt, alloc, load.from, load.clients, load.ops, gate)?;
     Ok((text, Ended::new(Status::Fine, trails)))

@@ -1,7 +1,6 @@
 //! The command `recover`: an image that is read, and what is recovered from it.
 
 ghost use Rattle.std.specs.Prelude.{◌≡◌, IfOk};
-ghost use Rattle.cx_program.specs.Answer.{HasNone};
 ghost use Rattle.cx_program.specs.Commands.{recover_command};
 ghost use Rattle.cx_program.specs.Status.{status_of};
 
@@ -13,7 +12,6 @@ use std::alloc::{AllocError, Global};
 pub(crate) fn recover_text(alloc: Global, bytes: &[u8]) -> Result<(Vec<u8>, Ended), AllocError>
     ensures calls { IfOk result (λ made. recover_command.calls bytes.now made.1.status) }
     ensures writes { IfOk result (λ made. recover_command.writes bytes.now made.1.status made.1.trails made.0.items) }
-    ensures none { IfOk result (λ made. HasNone made.1) }
 {
     let answer = answer_image(alloc, bytes)?;
     let ended = Ended::without_lives(alloc, status_of(answer.end));

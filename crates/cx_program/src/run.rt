@@ -1,7 +1,6 @@
 //! The command `run`: a script that is read and run, and its report.
 
 ghost use Rattle.std.specs.Prelude.{◌≤◌, length, IfOk};
-ghost use Rattle.cx_program.specs.Answer.{HasNone};
 ghost use Rattle.cx_program.specs.Commands.{run_command};
 
 use crate::refusal::refusal;
@@ -23,7 +22,6 @@ pub(crate) fn run_text<R: Threads + Wait + Sync, G: Gate + Sync>(
     requires { length bytes.now ≤ 16777216 }
     ensures calls { IfOk result (λ made. run_command.calls bytes.now made.1.status) }
     ensures writes { IfOk result (λ made. run_command.writes bytes.now made.1.status made.1.trails made.0.items) }
-    ensures none { IfOk result (λ made. HasNone made.1) }
 {
     match read_script(alloc, bytes) {
         Ok(script) => {

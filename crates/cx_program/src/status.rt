@@ -2,6 +2,7 @@
 
 ghost use Rattle.std.specs.Prelude.{◌≡◌, []};
 ghost use Rattle.cx_program.specs.Status.{code_of};
+ghost use Rattle.cx_program.specs.declared.status.Status.TheVariants.{Fine};
 
 use cx_base::Items;
 use cx_table::Trail;
@@ -52,19 +53,21 @@ impl Status {
 pub struct Ended {
     pub status: Status,
     pub trails: Items<Trail>,
+    pub ghost none: { (status ≡ Fine → ⊥) → trails ≡ [] },
 }
 
 impl Ended {
     /// A run that ended so, with the trails of its lives. Every run ends by this.
     pub(crate) fn new(status: Status, trails: Items<Trail>) -> Ended
-        ensures { result ≡ record { status = status; trails = trails } }
+        requires { (status ≡ Fine → ⊥) → trails ≡ [] }
+        ensures { (result.status ≡ status) × (result.trails ≡ trails) }
     {
         Ended { status, trails }
     }
 
     /// A run that ended without lives.
     pub(crate) fn without_lives(alloc: Global, status: Status) -> Ended
-        ensures { result ≡ record { status = status; trails = [] } }
+        ensures { (result.status ≡ status) × (result.trails ≡ []) }
     {
         Ended::new(status, Items::new(alloc))
     }

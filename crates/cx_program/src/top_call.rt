@@ -1,9 +1,9 @@
 //! The top call: words and input in, status and text out.
 
-ghost use Rattle.std.specs.Prelude.{◌≡◌, ◌+◌, ◌≤◌, ℕ, List, Option, map, string_bytes, length, false, IfOk, Some};
-ghost use Rattle.cx_program.specs.Answer.{Answers, HasCause, HasNone, Read, Wrote};
+ghost use Rattle.std.specs.Prelude.{◌≡◌, ◌≤◌, ℕ, List, Option, map, string_bytes, length, false, IfOk, Some};
+ghost use Rattle.cx_program.specs.Answer.{Answers, HasCause, Read, Wrote};
 ghost use Rattle.cx_program.specs.Commands.{command};
-ghost use Rattle.cx_program.specs.Input.{IsInput, Shows, TookAtMost};
+ghost use Rattle.cx_program.specs.Input.{Draws, IsInput, Shows};
 
 use crate::asked::Asked;
 use crate::command_line::read_words;
@@ -44,11 +44,9 @@ pub fn cx_run<R: Threads + Wait + Sync, S: Source, K: Sink, G: Gate + Sync>(
     // `image` the image from which the base is recovered that such lives end with; for `recover` what is recovered from the input; for
     // `fifo` the report of legal lives of a queue, each told by such a trail; for `trace` the one verdict that is of the trace.
     ensures answer { Answers (map string_bytes words.now) (S.left source.old) result.status result.trails (K.written sink.old) (K.written sink.new) }
-    ensures none { HasNone result }
     // A fault is told only where the object that was handed in counted one.
     ensures cause { HasCause result.status (S.faults source.old) (S.faults source.new) (K.faults sink.old) (K.faults sink.new) }
-    ensures taken { TookAtMost 16777217 (S.left source.old) (S.left source.new) }
-    ensures reads { S.reads source.new ≤ S.reads source.old + 16777217 }
+    ensures drawn { Draws S.Source 16777217 source.old source.new }
     ensures unread { (Read (map string_bytes words.now) → ⊥) → source.new ≡ source.old }
 {
     match read_words(alloc, words) {
@@ -81,10 +79,8 @@ fn run_asked<R: Threads + Wait + Sync, S: Source, K: Sink, G: Gate + Sync>(
     gate: &G,
 ) -> Ended
     ensures answer { (words : List (List ℕ)) → (command asked.now).asked words → Answers words (S.left source.old) result.status result.trails (K.written sink.old) (K.written sink.new) }
-    ensures none { HasNone result }
     ensures cause { HasCause result.status (S.faults source.old) (S.faults source.new) (K.faults sink.old) (K.faults sink.new) }
-    ensures taken { TookAtMost 16777217 (S.left source.old) (S.left source.new) }
-    ensures reads { S.reads source.new ≤ S.reads source.old + 16777217 }
+    ensures drawn { Draws S.Source 16777217 source.old source.new }
     ensures unread { (command asked.now).reads ≡ false → source.new ≡ source.old }
 {
     match input_of(alloc, asked, source) {
@@ -115,8 +111,7 @@ fn reads(asked: &Asked) -> bool
 // The input of a command: all of the source, or nothing. `Err` is want of memory.
 fn input_of<S: Source>(alloc: Global, asked: &Asked, source: &mut S) -> Result<Input, AllocError>
     ensures input { IfOk result (Shows (command asked.now).reads (S.left source.old) (S.faults source.old) (S.faults source.new)) }
-    ensures taken { TookAtMost 16777217 (S.left source.old) (S.left source.new) }
-    ensures reads { S.reads source.new ≤ S.reads source.old + 16777217 }
+    ensures drawn { Draws S.Source 16777217 source.old source.new }
     ensures unread { (command asked.now).reads ≡ false → source.new ≡ source.old }
 {
     if reads(asked) {
@@ -137,7 +132,6 @@ fn run_input<R: Threads + Wait + Sync, K: Sink, G: Gate + Sync>(
 ) -> Ended
     requires { length bytes.now ≤ 16777216 }
     ensures answer { (words : List (List ℕ)) (told : Option (List ℕ)) → (command asked.now).asked words → IsInput (command asked.now).reads told bytes.now → Answers words told result.status result.trails (K.written sink.old) (K.written sink.new) }
-    ensures none { HasNone result }
     ensures cause { (reads reads' : ℕ) → HasCause result.status reads reads' (K.faults sink.old) (K.faults sink.new) }
 {
     match text_of(rt, alloc, asked, bytes, gate) {
@@ -157,7 +151,6 @@ fn text_of<R: Threads + Wait + Sync, G: Gate + Sync>(
     requires { length bytes.now ≤ 16777216 }
     ensures calls { IfOk result (λ made. (command asked.now).calls bytes.now made.1.status) }
     ensures writes { IfOk result (λ made. (command asked.now).writes bytes.now made.1.status made.1.trails made.0.items) }
-    ensures none { IfOk result (λ made. HasNone made.1) }
 {
     match asked {
         Asked::Run => run_text(rt, alloc, bytes, gate),

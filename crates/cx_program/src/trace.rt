@@ -1,7 +1,6 @@
 //! The command `trace`: a recorded trace that is read, and what is found of it.
 
 ghost use Rattle.std.specs.Prelude.{IfOk};
-ghost use Rattle.cx_program.specs.Answer.{HasNone};
 ghost use Rattle.cx_program.specs.Commands.{trace_command};
 
 use crate::refusal::refusal;
@@ -14,7 +13,6 @@ use trace_text::{TraceFault, read_trace};
 pub(crate) fn verdict_text(alloc: Global, bytes: &[u8]) -> Result<(Vec<u8>, Ended), AllocError>
     ensures calls { IfOk result (λ made. trace_command.calls bytes.now made.1.status) }
     ensures writes { IfOk result (λ made. trace_command.writes bytes.now made.1.status made.1.trails made.0.items) }
-    ensures none { IfOk result (λ made. HasNone made.1) }
 {
     match read_trace(alloc, bytes) {
         Ok(trace) => {

@@ -14,6 +14,6 @@ mod words;
 pub use laws::{fifo_words_are_one_to_one, queues_keep_their_order};
 pub use operations::{FifoOp, FifoReply};
 pub use words::{
-    FifoFault, fifo_of, fifo_reply_of, fifo_reply_words, fifo_words, is_item, item_of_number,
-    kind_in, words_of,
+    FifoFault, fifo_of, fifo_reply_of, fifo_reply_words, fifo_words, is_item, is_text,
+    item_of_number, kind_in, words_of,
 };

@@ -162,7 +162,8 @@ fn copied_text(alloc: Global, item: &[u64]) -> Result<Bytes, AllocError>
     Bytes::of(alloc, text)
 }
 
-fn is_text(text: &[u8]) -> bool
+/// Whether bytes are a text: 1 to 56, each 0x21 to 0x7E.
+pub fn is_text(text: &[u8]) -> bool
     ensures { result ≡ spec.is_text text.now }
 {
     !text.is_empty() && text.len() <= 56 && are_visible(text)

@@ -1,5 +1,5 @@
 -- A step touches the header's line and at most one more.
-use Rattle.std.proofs.Common.{◌≡◌, ◌==◌, ◌+◌, ◌-◌, ◌*◌, ◌<◌, inl, inr, nat_le, ℕ, Bool, true, false, cond, List, length, replicate, slice_index, slice_set, refl, sym, ap, ◌∙◌, arith}
+use Rattle.std.proofs.Common.{◌≡◌, ◌==◌, ◌+◌, ◌-◌, ◌*◌, ◌<◌, inl, inr, nat_le, ℕ, Bool, true, false, cond, List, length, replicate, slice_set, refl, sym, ap, ◌∙◌, arith}
 use Rattle.std.proofs.lemmas.Bool.{eqb-true}
 use Rattle.std.proofs.lemmas.List.{get_or-set_other}
 use Rattle.cx_base.specs.Memory.{overwritten}

@@ -2,7 +2,8 @@
 -- version, the head and the count; place s is line s + 1, and the items stand at places head, head + 1 and so on, in turn.
 use Rattle.std.specs.Prelude.{◌≡◌, ◌==◌, ◌||◌, ◌⊎◌, ◌+◌, ◌-◌, ◌*◌, ◌%◌, ◌<◌, ◌≤◌, nat_le, ℕ, Bool, true, List, ◌∷◌, map, replicate, slice_index, slice_set, if◌then◌else◌}
 use Rattle.std.specs.List.{range_with_len}
-use Rattle.cx_base.specs.Memory.{Words, overwritten}
+use Rattle.cx_base.specs.Memory.{Always, Words, overwritten}
+use Rattle.cx_base.specs.declared.memory.Memory.{Ghosts}
 use Rattle.fifo_model.specs.Words.{is_item, item_in, kind_in, reply_words, words_of}
 use Rattle.fifo_model.specs.declared.operations.FifoReply.TheVariants.{Empty, Full, Length, Pushed}
 
@@ -37,6 +38,11 @@ pub record IsFifo (lines : ℕ) (image : List ℕ) : Type 0 where
   pub words : Words (8 * lines) image
   pub header : IsHeader lines image
   pub items : HasItems lines image
+
+-- a memory whose words stand for a queue of so many lines
+pub record HoldsFifo {Memory : Type 0} (m : Ghosts Memory) (lines : ℕ) (mem : Memory) : Type 0 where
+  pub size : m.size mem ≡ 8 * lines
+  pub lawful : Always (m.stands mem) (IsFifo lines)
 
 -- the image of the empty queue
 abbrev pub fifo_opening : ℕ → List ℕ

@@ -2,10 +2,9 @@
 
 ghost use Rattle.std.specs.Prelude.{◌≡◌, ◌+◌, ◌-◌, ◌*◌, ◌^◌, ◌<◌, ◌≤◌, ◌↔◌, IsTrue, IfOk, length};
 ghost use Rattle.cx_base.specs.Calls.{Changes, Finds};
-ghost use Rattle.cx_base.specs.Memory.{Always};
 ghost use Rattle.cx_base.specs.OldFormat.{no_old_format, takes_over_nothing};
 ghost use Rattle.fifo_model.specs.Words as spec;
-ghost use Rattle.fifo_object.specs.Fifo.{HasItems, IsFifo, IsHeader, count_in, fifo_opening, fifo_reads, fifo_step, front_words, head_in, item_at, pop_step, push_step};
+ghost use Rattle.fifo_object.specs.Fifo.{HasItems, HoldsFifo, IsFifo, IsHeader, count_in, fifo_opening, fifo_reads, fifo_step, front_words, head_in, item_at, pop_step, push_step};
 ghost use Rattle.fifo_object.specs.FifoLaws as laws;
 
 use cx_base::{Halt, Memory, Object, store_words};
@@ -50,8 +49,7 @@ impl Fifo {
 
     /// Loads the header's words.
     fn ends<M: Memory>(&self, mem: &mut M) -> Result<Ends, Halt>
-        requires size { M.size mem.old ≡ 8 * self.now.lines }
-        requires lawful { Always (M.stands mem.old) (IsFifo self.now.lines) }
+        requires { HoldsFifo M.Memory self.now.lines mem.old }
         ensures finds { Finds M.Memory mem.old mem.new result (λ ends now. (head_in now ≡ ends.head) × (count_in now ≡ ends.count)) }
         ensures bounds { IfOk result (λ ends. (ends.head < self.now.lines - 1) × (ends.count ≤ self.now.lines - 1)) }
     {
@@ -62,9 +60,8 @@ impl Fifo {
 
     /// Puts an item behind the last.
     fn push<M: Memory>(&self, mem: &mut M, item: &[u64]) -> Result<[u64; 144], Halt>
-        requires size { M.size mem.old ≡ 8 * self.now.lines }
+        requires holds { HoldsFifo M.Memory self.now.lines mem.old }
         requires writable { IsTrue (M.writable mem.old) }
-        requires lawful { Always (M.stands mem.old) (IsFifo self.now.lines) }
         requires item { length item.now ≡ 8 }
         ensures { Changes M.Memory mem.old mem.new result (λ reply before now. push_step self.now.lines item.now before ≡ (now, reply)) }
     {
@@ -80,9 +77,8 @@ impl Fifo {
 
     /// Takes the item at the front.
     fn pop<M: Memory>(&self, mem: &mut M) -> Result<[u64; 144], Halt>
-        requires size { M.size mem.old ≡ 8 * self.now.lines }
+        requires holds { HoldsFifo M.Memory self.now.lines mem.old }
         requires writable { IsTrue (M.writable mem.old) }
-        requires lawful { Always (M.stands mem.old) (IsFifo self.now.lines) }
         ensures { Changes M.Memory mem.old mem.new result (λ reply before now. pop_step self.now.lines before ≡ (now, reply)) }
     {
         let ends = self.ends(mem)?;
@@ -97,8 +93,7 @@ impl Fifo {
 
     /// Tells the item at the front.
     fn peek<M: Memory>(&self, mem: &mut M) -> Result<[u64; 144], Halt>
-        requires size { M.size mem.old ≡ 8 * self.now.lines }
-        requires lawful { Always (M.stands mem.old) (IsFifo self.now.lines) }
+        requires { HoldsFifo M.Memory self.now.lines mem.old }
         ensures { Finds M.Memory mem.old mem.new result (λ reply now. reply ≡ front_words now) }
     {
         let ends = self.ends(mem)?;

@@ -1,4 +1,4 @@
-//! Tests of the queue: its operations and replies in words, the ring of places, and its lives. It has tests alone.
+//! Tests of the queue: its operations and replies in words, the ring of places, the queue on a service, and its lives. It has tests alone.
 #![tactic(auto)]
 
 #[cfg(test)]
@@ -7,5 +7,7 @@ mod holds;
 mod lives;
 #[cfg(test)]
 mod ring;
+#[cfg(test)]
+mod service;
 #[cfg(test)]
 mod words;

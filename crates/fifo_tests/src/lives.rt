@@ -43,7 +43,7 @@ const SECOND_TOLD: [Told; 1] = [(5, 1, 1, 0)];
 const THIRD_TOLD: [Told; 1] = [(6, 1, 3, 0x78)];
 
 /// The operation of a row; one without a text where the row has none.
-fn op_of(alloc: Global, row: &Row) -> Result<FifoOp, AllocError>
+pub(crate) fn op_of(alloc: Global, row: &Row) -> Result<FifoOp, AllocError>
     ensures { IfOk result IsOp }
 {
     let (kind, byte) = *row;
@@ -101,7 +101,7 @@ fn script(alloc: Global) -> Result<FifoScript, AllocError>
 }
 
 /// Whether a reply is of a kind, with the byte of a text of one, or with a number.
-fn is_reply(reply: &FifoReply, kind: u64, value: u64) -> bool {
+pub(crate) fn is_reply(reply: &FifoReply, kind: u64, value: u64) -> bool {
     match reply {
         FifoReply::Pushed => kind == 1,
         FifoReply::Full => kind == 2,

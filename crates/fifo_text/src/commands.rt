@@ -1,17 +1,15 @@
 //! The commands of a queue, read from the text behind a client.
 
-ghost use Rattle.std.specs.Prelude.{◌≡◌, ◌&&◌, nat_le, IfOk, IfSome, IsUtf8};
-ghost use Rattle.std.specs.List.{list_all};
+ghost use Rattle.std.specs.Prelude.{◌≡◌, IfOk, IfSome, IsUtf8};
 ghost use Rattle.std.specs.Option.{option_copied};
 ghost use Rattle.fifo_model.specs.Queue.{IsOp};
-ghost use Rattle.fifo_model.specs.Words.{is_text};
 ghost use Rattle.fifo_text.specs.CommandLaws.{reads_commands};
 ghost use Rattle.fifo_text.specs.Grammar.{queue_commands};
 ghost use Rattle.fifo_text.specs.Reading.{asked_op, op_by_verb, push_of, verb_of};
 
 use crate::reasons::FifoReason;
 use cx_base::Bytes;
-use fifo_model::FifoOp;
+use fifo_model::{FifoOp, is_text};
 use plain_text::{is_one_word, is_word, split_word};
 use script_text::{CommandReader, ScriptLimits, ScriptReason};
 use std::alloc::{AllocError, Global};
@@ -123,17 +121,4 @@ fn read_verb(word: &[u8]) -> Option<Verb>
     } else {
         None
     }
-}
-
-/// Whether the bytes are 1 to 56, each 0x21 to 0x7E.
-fn is_text(text: &[u8]) -> bool
-    ensures { result ≡ is_text text.now }
-{
-    !text.is_empty() && text.len() <= 56 && are_visible(text)
-}
-
-fn are_visible(bytes: &[u8]) -> bool
-    ensures { result ≡ list_all (λ b. nat_le 33 b && nat_le b 126) bytes.now }
-{
-    bytes.iter().all(|byte| *byte >= 0x21 && *byte <= 0x7E)
 }

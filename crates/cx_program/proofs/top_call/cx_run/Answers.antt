@@ -1,9 +1,7 @@
-use Rattle.std.proofs.Common.{refl, map, sym, subst, string_bytes, [], None, List, ℕ, arith}
-use Rattle.cx_program.specs.Answer.{Owed}
+use Rattle.std.proofs.Common.{refl, map, string_bytes, [], None, List, ℕ, arith}
 use Rattle.cx_program.specs.Texts.{usage_text}
-use Rattle.cx_program.specs.declared.status.Ended.{Ended}
 use Rattle.cx_program.specs.declared.status.Status.TheVariants.{Usage}
-use Rattle.cx_program.proofs.Answering.{answers_written}
+use Rattle.cx_program.proofs.Answering.{answers_written, owed_by}
 use Rattle.cx_program.proofs.CommandLaws.{none_read, owed_short}
 use Rattle.cx_program.proofs.top_call.cx_run.Goals as goal
 
@@ -21,5 +19,5 @@ returns-in-Ok-None-clause-answer g c =
     let told = g.S.Source.left c.args.source.now in
     answers_written words told usage_text c.without_lives-ended.result c.write_answer.result (g.K.Sink.written c.args.sink.now) (g.K.Sink.written c.write_answer.new.sink)
     (g.K.Sink.faults c.args.sink.now) (g.K.Sink.faults c.write_answer.new.sink)
-    (subst (λ (e : Ended). Owed words told e.status e.trails usage_text) (sym c.without_lives-ended.ensures)
+    (owed_by words told Usage [] usage_text c.without_lives-ended.result c.without_lives-ended.ensures
     (owed_short None words told [] Usage [] usage_text (rw c.in-Ok-None.field-0-is at c.in-Ok-None.ensures) refl (omega arith) refl refl)) c.write_answer.ensures.wrote

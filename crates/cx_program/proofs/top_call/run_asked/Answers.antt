@@ -1,11 +1,11 @@
-use Rattle.std.proofs.Common.{rules, ap, subst, sym, Some, List, ℕ}
+use Rattle.std.proofs.Common.{rules, subst, sym, Some, List, ℕ, []}
 use Rattle.cx_base.specs.Outside.{Rose}
-use Rattle.cx_program.specs.Answer.{Owed, Read}
+use Rattle.cx_program.specs.Answer.{Read}
 use Rattle.cx_program.specs.Commands.{command}
 use Rattle.cx_program.specs.Input.{IsInput}
 use Rattle.cx_program.specs.Texts.{too_long_text}
-use Rattle.cx_program.specs.declared.status.Ended.{Ended}
-use Rattle.cx_program.proofs.Answering.{answers_written, cause_written, none_written}
+use Rattle.cx_program.specs.declared.status.Status.TheVariants.{TooLong}
+use Rattle.cx_program.proofs.Answering.{answers_written, cause_written, owed_by}
 use Rattle.cx_program.proofs.CommandLaws.{GivesUp, owed_long}
 use Rattle.cx_program.proofs.top_call.run_asked.Goals as goal
 
@@ -25,19 +25,14 @@ returns-in-Ok-TooLong-clause-answer g c words asks =
     let shows = rw c.in-Ok-TooLong.field-0-is at c.in-Ok-TooLong.ensures.input in
     answers_written words told too_long_text c.without_lives-ended.result c.write_answer.result (g.K.Sink.written c.args.sink.now) (g.K.Sink.written c.write_answer.new.sink)
     (g.K.Sink.faults c.args.sink.now) (g.K.Sink.faults c.write_answer.new.sink)
-    (subst (λ (e : Ended). Owed words told e.status e.trails too_long_text) (sym c.without_lives-ended.ensures)
+    (owed_by words told TooLong [] too_long_text c.without_lives-ended.result c.without_lives-ended.ensures
     (owed_long (Some c.args.asked.now) words told shows.0 asks shows.2 shows.1)) c.write_answer.ensures.wrote
-
-pub returns-in-Ok-TooLong-clause-none : goal.returns-in-Ok-TooLong-clause-none
-returns-in-Ok-TooLong-clause-none g c =
-    none_written too_long_text c.without_lives-ended.result c.write_answer.result (g.K.Sink.written c.args.sink.now) (g.K.Sink.written c.write_answer.new.sink)
-    (g.K.Sink.faults c.args.sink.now) (g.K.Sink.faults c.write_answer.new.sink) (λ other. ap (λ (e : Ended). e.trails) c.without_lives-ended.ensures) c.write_answer.ensures.wrote
 
 pub returns-in-Ok-TooLong-clause-cause : goal.returns-in-Ok-TooLong-clause-cause
 returns-in-Ok-TooLong-clause-cause g c =
     cause_written too_long_text c.without_lives-ended.result c.write_answer.result (g.K.Sink.written c.args.sink.now) (g.K.Sink.written c.write_answer.new.sink)
     (g.S.Source.faults c.args.source.now) (g.S.Source.faults c.input_of.new.source) (g.K.Sink.faults c.args.sink.now) (g.K.Sink.faults c.write_answer.new.sink)
-    (λ gives. subst (λ (e : Ended). GivesUp e.status) c.without_lives-ended.ensures gives) c.write_answer.ensures.wrote
+    (λ gives. subst GivesUp c.without_lives-ended.ensures.0 gives) c.write_answer.ensures.wrote
 
 pub returns-in-Ok-Whole-clause-answer : goal.returns-in-Ok-Whole-clause-answer
 returns-in-Ok-Whole-clause-answer g c words asks =

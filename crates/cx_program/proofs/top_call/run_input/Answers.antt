@@ -1,6 +1,6 @@
 use Rattle.std.proofs.Common.{subst, sym, Some, List, ℕ}
 use Rattle.cx_program.specs.Commands.{command}
-use Rattle.cx_program.proofs.Answering.{answers_written, cause_written, none_written}
+use Rattle.cx_program.proofs.Answering.{answers_written, cause_written}
 use Rattle.cx_program.proofs.CommandLaws.{owed_short, sound}
 use Rattle.cx_program.proofs.top_call.run_input.Goals as goal
 
@@ -11,11 +11,6 @@ returns-in-Ok-clause-answer g c words told asks is =
     (owed_short (Some c.args.asked.now) words told c.args.bytes.now c.in-Ok.ended.status c.in-Ok.ended.trails c.deref.result.now asks is c.requires c.in-Ok.ensures.calls
     (subst (λ (text : List ℕ). (command c.args.asked.now).writes c.args.bytes.now c.in-Ok.ended.status c.in-Ok.ended.trails text) (sym c.deref.ensures.value) c.in-Ok.ensures.writes))
     c.write_answer.ensures.wrote
-
-pub returns-in-Ok-clause-none : goal.returns-in-Ok-clause-none
-returns-in-Ok-clause-none g c =
-    none_written c.deref.result.now c.in-Ok.ended c.write_answer.result (g.K.Sink.written c.args.sink.now) (g.K.Sink.written c.write_answer.new.sink)
-    (g.K.Sink.faults c.args.sink.now) (g.K.Sink.faults c.write_answer.new.sink) c.in-Ok.ensures.none c.write_answer.ensures.wrote
 
 pub returns-in-Ok-clause-cause : goal.returns-in-Ok-clause-cause
 returns-in-Ok-clause-cause g c reads reads' =
