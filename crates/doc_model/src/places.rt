@@ -38,7 +38,10 @@ pub(crate) fn revision_of(pairs: &[Pair], key: &[u8]) -> u64
     ensures { (last : ℕ) → result ≡ meaning.standing_revision key.now (record { last = last; triples = pairs.now }) }
 {
     match place_of(pairs, key) {
-        Ok(at) => pairs[at].revision,
+        Ok(at) => {
+            let pair = &pairs[at];
+            pair.revision
+        }
         Err(_) => 0,
     }
 }

@@ -207,7 +207,10 @@ fn rev(table: &Table, key: &[u8]) -> Reply
     ensures { result ≡ option_map_or Reply.Revision (revision_at key.now table.now) Reply.Absent }
 {
     match place_of(&table.pairs, key) {
-        Ok(at) => Reply::Revision(table.pairs[at].revision),
+        Ok(at) => {
+            let pair = &table.pairs[at];
+            Reply::Revision(pair.revision)
+        }
         Err(_) => Reply::Absent,
     }
 }
