@@ -189,17 +189,3 @@ module _ (triples : List ((List ℕ × List ℕ) × ℕ)) (rising : KeysRise (pa
   pub searched : (r : Result ℕ ℕ) → IsSearchInRange r (length triples) → IsBinarySearchResult (λ t. key_cmp t.0.0 key) triples r → IfOk r (IsAtPlace triples key) × IfErr r (IsGapFor triples key)
   searched (Ok at) within ties = (is_at at within ties, tt)
   searched (Err at) within parted = (tt, is_gap at within (parted comparisons_rise))
-
--- the triples with a write at a key's place
-pub put_at : (lines last : ℕ) (triples : List ((List ℕ × List ℕ) × ℕ)) (key document : List ℕ) (at : ℕ) → IsAtPlace triples key at →
-    has_room lines (pairs_of (take at triples) ++ (key, document) ∷ pairs_of (drop (at + 1) triples)) ≡ true →
-    record { last = next_revision last; triples = set triples at ((key, document), next_revision last) } ≡ store_after_put lines (record { last = last; triples = triples }) key document
-put_at lines last triples key document at here room =
-    let store : RevisedStore = record { last = last; triples = triples } in
-    let new : (List ℕ × List ℕ) × ℕ = ((key, document), next_revision last) in
-    let whole : take at triples ++ new ∷ drop (at + 1) triples ≡ triples_below key triples ++ new ∷ triples_above key triples = rw (here.below, here.above) refl in
-    let pairs : pairs_of (take at triples) ++ (key, document) ∷ pairs_of (drop (at + 1) triples) ≡ with_pair key document (pairs_of triples) =
-    sym (map-append (λ t. t.0) (take at triples) (new ∷ drop (at + 1) triples)) ∙ ap pairs_of whole ∙ pairs_written key document store in
-    let fits = subst (λ s. has_room lines s ≡ true) pairs room in
-    ap (λ s. record { last = next_revision last; triples = s }) (rw (set_split triples at new here.within, ← add-one at) whole)
-    ∙ sym (ap (λ b. cond b (written key document store) store) fits)

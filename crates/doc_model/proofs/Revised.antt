@@ -13,7 +13,7 @@ use Rattle.doc_model.specs.Revisions.{RevisedStore, IsRevisedStore, pairs_in, ne
 use Rattle.doc_model.proofs.Stores.{IsStore-with_pair, IsStore-without_key}
 
 -- what a test of pairs keeps of triples
-kept_pairs : (test : List ℕ × List ℕ → Bool) (triples : List ((List ℕ × List ℕ) × ℕ)) → pairs_of (filter (λ t. test t.0) triples) ≡ filter test (pairs_of triples)
+pub kept_pairs : (test : List ℕ × List ℕ → Bool) (triples : List ((List ℕ × List ℕ) × ℕ)) → pairs_of (filter (λ t. test t.0) triples) ≡ filter test (pairs_of triples)
 kept_pairs test [] = refl
 kept_pairs test (t ∷ triples) =
     let rest = kept_pairs test triples in
