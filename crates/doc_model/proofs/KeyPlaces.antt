@@ -1,5 +1,5 @@
 -- What stands before a key's place, and what behind it.
-use Rattle.std.proofs.Common.{◌≡◌, ℕ, ◌+◌, ◌<◌, ◌≤◌, Bool, true, false, cond, List, [], ◌∷◌, ◌++◌, length, get_or, set, take, drop, Some, None, Result, Ok, Err, refl, sym, ap, ◌∙◌, arith, subst, inl, inr, IfOk, IfErr, add-one}
+use Rattle.std.proofs.Common.{◌≡◌, ℕ, ◌+◌, ◌<◌, ◌≤◌, Bool, true, false, List, [], ◌∷◌, ◌++◌, length, get_or, take, drop, Some, None, Result, Ok, Err, refl, sym, ap, ◌∙◌, arith, subst, inl, inr, IfOk, IfErr}
 use Rattle.std.specs.List.{All, AllPairs, HoldsAt, find}
 use Rattle.std.specs.List.Sorted.{IsSearchInRange, IsBinarySearchResult, IsNonDecreasingBy, IsPartitionPoint}
 use Rattle.std.specs.Option.{option_map}
@@ -11,11 +11,10 @@ use Rattle.std.proofs.lemmas.List.{take-append-drop, drop_more, set_split, get_o
 use Rattle.std.proofs.lemmas.List.Elements.{All-head, All-tail, filter-append}
 use Rattle.std.proofs.lemmas.List.Folds.{find-append}
 use Rattle.std.proofs.lemmas.List.Sorted.{IsNonDecreasingBy-from_default}
-use Rattle.cx_base.specs.Store.{Store, KeysRise, key_cmp}
-use Rattle.doc_model.specs.Meaning.{with_pair, has_room, store_after_put}
+use Rattle.cx_base.specs.Store.{KeysRise, key_cmp}
 use Rattle.doc_model.specs.Place.{IsAtPlace, IsGapFor, pairs_of}
-use Rattle.doc_model.specs.Revisions.{RevisedStore, triples_below, triples_above, next_revision, written, pairs_in}
-use Rattle.doc_model.proofs.Revised.{pairs_written, document_of_found}
+use Rattle.doc_model.specs.Revisions.{triples_below, triples_above}
+use Rattle.doc_model.proofs.Revised.{document_of_found}
 use Rattle.doc_model.proofs.Order.{IsBelow, IsAbove, same_key, ties_itself, above_from_greater, greater_from_above, below_both, keys_apart, filter_all, filter_none}
 
 -- what is said of triples by the key

@@ -6,7 +6,6 @@ ghost use Rattle.cx_base.specs.Store as store;
 ghost use Rattle.doc_model.specs.Meaning as meaning;
 ghost use Rattle.doc_model.specs.Place.{IsAtPlace, IsGapFor, pairs_of};
 
-
 use crate::operations::Pair;
 
 /// The place of a key, or the place where it would go.

@@ -1,4 +1,4 @@
-use Rattle.std.proofs.Common.{◌≡◌, true, false, sym, ap, ◌∙◌, rules}
+use Rattle.std.proofs.Common.{true, false, sym, ap, ◌∙◌, rules}
 use Rattle.std.proofs.lemmas.List.{take_rest}
 use Rattle.doc_model.specs.Revisions.{next_revision}
 use Rattle.doc_model.proofs.Puts.{room_in, no_room, is_put, written_in}

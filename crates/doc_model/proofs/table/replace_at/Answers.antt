@@ -1,4 +1,4 @@
-use Rattle.std.proofs.Common.{◌≡◌, true, false, sym, ap, ap₂, ◌∙◌, rules, slice_index_or}
+use Rattle.std.proofs.Common.{true, false, sym, ap, ◌∙◌, rules, slice_index_or}
 use Rattle.std.proofs.lemmas.List.{take_rest}
 use Rattle.doc_model.specs.Revisions.{next_revision}
 use Rattle.doc_model.proofs.Puts.{room_at, no_room, is_put, written_at}
