@@ -6,6 +6,8 @@ use Rattle.std.proofs.lemmas.Bool.Decides.{nat_tests}
 use Rattle.std.proofs.lemmas.List.{append-nil, length-set, length-replicate, get_or-set_same, get_or-set_other, get_or_past}
 use Rattle.std.proofs.lemmas.List.Elements.{All-from_get_or, All-head, All-tail}
 use Rattle.cx_base.specs.Store.{Store, IsKey, IsDocument}
+use Rattle.avl_words.specs.Tree.{items}
+use Rattle.avl_words.specs.Exact.{tree_in}
 use Rattle.avl_words.specs.Lines.{word_of, line_count}
 use Rattle.index_checks.proofs.Orders.{items_count, shape_lines, in_order_root}
 use Rattle.index_checks.specs.Layout.{Place, lines_at, Placed, nodes_of, head_of, IsHead, AreRevisions, StandsFor}
@@ -215,8 +217,10 @@ pairs_are ws (p ∷ places) (q ∷ store) n keys documents =
     ap (λ x. x ∷ map (pair_at ws) (nodes_of places)) (two_parts (text_at p.node 3 ws) (text_at p.node 5 ws) q key document)
     ∙ ap (λ s. q ∷ s) (pairs_are ws places store n.1 (All-tail (λ p. IsKey p.0) q store keys) (All-tail (λ p. IsDocument p.1) q store documents))
 
+pub nodes_read : (ws : List ℕ) (version : ℕ) (store : Store) (s : StandsFor ws version store) → items (tree_in ws) ≡ nodes_of s.places
+nodes_read ws version store s = sym (in_order_root ws) ∙ sym (arranged_nodes ws (head_of version s.last) store s.tree s.places s.given [] s.arranged)
+
 pub store_is : (ws : List ℕ) (version : ℕ) (store : Store) → StandsFor ws version store → store_in ws ≡ store
 unfolding store_in
 store_is ws version store s =
-    let a = s.arranged in
-    ap (map (pair_at ws)) (sym (in_order_root ws) ∙ sym (arranged_nodes ws (head_of version s.last) store s.tree s.places s.given [] a)) ∙ pairs_are ws s.places store a.nodes.pairs s.lawful.keys s.lawful.documents
+    ap (map (pair_at ws)) (nodes_read ws version store s) ∙ pairs_are ws s.places store s.arranged.nodes.pairs s.lawful.keys s.lawful.documents

@@ -26,9 +26,13 @@ pair_at words node = (text_at node 3 words, text_at node 5 words)
 unfoldable pub store_in : List ℕ → Store
 store_in words = map (pair_at words) (items (tree_in words))
 
--- the same with the revision of each pair, and the last one given
+-- the pair of a node, with its revision
+abbrev pub triple_at : List ℕ → ℕ → (List ℕ × List ℕ) × ℕ
+triple_at words node = (pair_at words node, word_of words node 7)
+
+-- the store with the revision of each pair, and the last one given
 unfoldable pub revised_in : List ℕ → RevisedStore
-revised_in words = record { last = word_of words 0 6; triples = map (λ node. (pair_at words node, word_of words node 7)) (items (tree_in words)) }
+revised_in words = record { last = word_of words 0 6; triples = map (triple_at words) (items (tree_in words)) }
 
 -- words of version 2 stand for a store whose pairs have revisions
 pub record StandsForRevised (words : List ℕ) (store : RevisedStore) : Type 0 where
