@@ -359,6 +359,12 @@ module _ (x : List ℕ) (node : ℕ) (document : List ℕ) (c : CanRewrite x nod
   unfolding with_rewritten
   rewritten_is short = rewritten_by (document_blocks node x == blocks document) refl short
 
+  pub rewritten_here : length document ≤ 1024 → IsWithin (with_rewritten document node x) node
+  rewritten_here short =
+      let y = with_rewritten document node x in
+      let w = rewritten_is short in
+      subst (IsWithin y) (sym c.here) (All-head (IsWithin y) c.place.node (c.place.key_lines ++ w.lines) (node_within y c.head (c.lower ++ (c.pair.0, document) ∷ c.after) w.tree c.front c.rest (moved w.lines) w.given [] w.arranged))
+
   -- with a revision
   pub replaced_is : (revision : ℕ) → length document ≤ 1024 → IsRewritten (with_replaced document node revision x) c.head c.lower c.after (c.pair.0, document) c.front c.rest c.place revision
   unfolding with_replaced

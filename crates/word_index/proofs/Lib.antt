@@ -1,6 +1,7 @@
 pub mod ExactGiving
 pub mod ExactRuns
 pub mod ExactTaking
+pub mod Finding
 pub mod Frames
 pub mod Giving
 pub mod NodeReads

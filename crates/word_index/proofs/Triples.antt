@@ -1,19 +1,21 @@
 -- The pairs at places with their revisions, and what a change of a pair does to them.
-use Rattle.std.proofs.Common.{◌≡◌, ◌≢◌, ◌-◌, ◌+◌, ◌^◌, ◌/◌, ◌≤◌, ℕ, cond, ltb, leb, ◌&&◌, List, [], ◌∷◌, ◌++◌, length, get_or, inr, refl, sym, ap, ap₂, subst, ◌∙◌, arith}
-use Rattle.std.specs.List.{flat_map, All}
+use Rattle.std.proofs.Common.{◌≡◌, ◌≢◌, ◌-◌, ◌+◌, ◌^◌, ◌/◌, ◌≤◌, ℕ, cond, ltb, leb, ◌&&◌, List, [], ◌∷◌, ◌++◌, length, get_or, inr, Some, None, refl, sym, ap, ap₂, subst, ◌∙◌, arith}
+use Rattle.std.specs.List.{flat_map, All, find}
+use Rattle.std.specs.Option.{option_map}
+use Rattle.std.specs.Ordering.{is_eq}
 use Rattle.std.specs.declared.cmp.Ordering.TheVariants.{Less}
 use Rattle.std.proofs.lemmas.Bool.Decides.{nat_tests}
 use Rattle.std.proofs.lemmas.List.{get_or-set_same, get_or-set_other, length-set}
 use Rattle.std.proofs.lemmas.List.Elements.{All-nil, All-cons, All-head, All-tail, All-append, All-filter, All-weaker}
 use Rattle.cx_base.specs.Store.{Store, IsStore, key_cmp}
-use Rattle.doc_model.specs.Revisions.{RevisedStore, next_revision, triples_below, triples_above}
+use Rattle.doc_model.specs.Revisions.{RevisedStore, revision_at, next_revision, triples_below, triples_above}
 use Rattle.avl_words.specs.Tree.{Tree}
 use Rattle.avl_words.specs.Lines.{word_of, with_word, IsPartLength}
 use Rattle.index_checks.specs.Layout.{IsChain, Place, lines_at, Placed, Nodes, Head, head_of, IsRevision, Arranged, StandsFor}
 use Rattle.index_checks.specs.Reading.{revised_in}
 use Rattle.index_checks.proofs.Revisions.{triples_of, all_triples, all_places, triples_read, last_read}
 use Rattle.word_index.proofs.Frames.{chain_same, nodes_same}
-use Rattle.word_index.proofs.Splits.{over_split, under_split, over_behind, under_behind}
+use Rattle.word_index.proofs.Splits.{missing_in, there_in, over_split, under_split, over_behind, under_behind}
 use Rattle.word_index.proofs.Taking.{from_one, header_stored}
 
 abbrev pub Triple : Type 0
@@ -72,6 +74,11 @@ module _ (ws key : List ℕ) (front rest : List Place) (lower others : Store) (p
       let make : ℕ → Triple = λ r. ((key, document), r) in
       triples_append ws front (place ∷ rest) lower ((key, document) ∷ others) placed ∙ ap (λ r. left ++ make r ∷ right) e ∙ sym (ap₂ (λ a b. a ++ make revision ∷ b) apart_below apart_above)
 
+  pub revision_missing : (store : RevisedStore) → store.triples ≡ triples_of (front ++ rest) (lower ++ others) → revision_at key store ≡ None
+  revision_missing store e =
+      ap (λ (ts : List Triple). option_map (λ (t : Triple). t.1) (find (λ (t : Triple). is_eq (key_cmp t.0.0 key)) ts)) (e ∙ triples_append ws front rest lower others placed)
+      ∙ ap (λ o. option_map (λ (t : Triple). t.1) o) (missing_in key_of_triple key left right left_under right_over)
+
   -- or the pair with this document
   module _ (old : List ℕ) (place : Place) where
     abbrev whole : List Triple
@@ -88,6 +95,11 @@ module _ (ws key : List ℕ) (front rest : List Place) (lower others : Store) (p
 
     pub triples_without : triples_of (front ++ rest) (lower ++ others) ≡ removed_at key whole
     triples_without = triples_append ws front rest lower others placed ∙ sym (ap₂ (λ a b. a ++ b) behind_below behind_above)
+
+    pub revision_there : (store : RevisedStore) → store.triples ≡ whole → revision_at key store ≡ Some place.revision
+    revision_there store e =
+        ap (λ (ts : List Triple). option_map (λ (t : Triple). t.1) (find (λ (t : Triple). is_eq (key_cmp t.0.0 key)) ts)) (e ∙ triples_append ws front (place ∷ rest) lower ((key, old) ∷ others) placed)
+        ∙ ap (λ o. option_map (λ (t : Triple). t.1) o) (there_in key_of_triple key here refl left right left_under)
 
     pub triples_replaced : (document : List ℕ) (other : Place) → triples_of (front ++ other ∷ rest) (lower ++ (key, document) ∷ others) ≡ written_at key document other.revision whole
     triples_replaced document other =
