@@ -108,7 +108,7 @@ module _ (v y : List ℕ) (head : Head) (lower after : Store) (pair : List ℕ �
         told = get_or-set_same y (8 * n + 7) revision 0 (omega arith);
       }
 
-  told_is : Arranged (with_word place.node 7 revision y) head (lower ++ pair ∷ after) tree (front ++ with_lines place place.document_lines revision ∷ rest) given []
+  pub told_is : Arranged (with_word place.node 7 revision y) head (lower ++ pair ∷ after) tree (front ++ with_lines place place.document_lines revision ∷ rest) given []
   told_is =
       renewed v y head lower after pair tree front rest place given [] shape a (with_word place.node 7 revision y) place.document_lines pair.1 [] revision told_words
       (λ k. balanced k front rest place (with_lines place place.document_lines revision) given [] [] refl)

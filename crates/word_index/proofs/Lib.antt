@@ -9,6 +9,7 @@ pub mod PairsGiven
 pub mod Putting
 pub mod Taking
 pub mod Triples
+pub mod Upgrades
 pub mod Writing
 pub mod Arrangements
 pub mod Splits
