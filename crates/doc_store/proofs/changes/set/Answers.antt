@@ -2,7 +2,7 @@ use Rattle.std.proofs.Common.{◌≡◌, ℕ, List, rules}
 use Rattle.cx_base.specs.Memory.{Becomes}
 use Rattle.cx_base.specs.Packing.{unpacked}
 use Rattle.cx_base.proofs.MemoryLemmas.{Becomes-then}
-use Rattle.cx_base.proofs.ReadLemmas.{Becomes-from-read, Reads-with, always_read}
+use Rattle.cx_base.proofs.ReadLemmas.{Becomes-from-read, always_read}
 use Rattle.doc_model.specs.Revisions.{next_revision}
 use Rattle.index_checks.specs.Reading.{revised_in}
 use Rattle.word_index.specs.Insertion.{PutsDocument}
