@@ -1,3 +1,4 @@
+pub mod AfterSteps
 pub mod Order
 pub mod KeyPlaces
 pub mod OpKinds
@@ -5,5 +6,6 @@ pub mod PackedTexts
 pub mod PartsHeld
 pub mod PartPlaces
 pub mod ReplyKinds
+pub mod Revised
 pub mod Stores
 pub mod WordTexts
