@@ -119,8 +119,8 @@ put_if_by_is words text (Some json) op rest behind e =
     subst (λ (o : Op). Asks o (codes "putif " ++ words)) same (
       json,
       ap (λ (t : List ℕ). codes "putif " ++ t) (spaced words text rest
-        ∙ ap (λ (t : List ℕ). key ++ 32 ∷ t) (spaced text json behind ∙ ap (λ (t : List ℕ). t ++ 32 ∷ json) number.0)
-        ∙ sym (three_words key (decimal r) json)),
+          ∙ ap (λ (t : List ℕ). key ++ 32 ∷ t) (spaced text json behind ∙ ap (λ (t : List ℕ). t ++ 32 ∷ json) number.0)
+          ∙ sym (three_words key (decimal r) json)),
       key_from_test key is.0,
       number.1,
       kept,
