@@ -65,7 +65,7 @@ ONE_OF_MANY = {
     "two_stopped",
 }
 # how often a script with several reports is run
-TIMES = 20
+TIMES = 64
 # of each reason: a script, its line at fault, and what is marked there
 REFUSED = {
     "utf8": (HEAD + b'0 put a "\xff"\n', 3, "\ufffd"),
@@ -239,14 +239,14 @@ def said_by(main, words):
 class LegalReports(unittest.TestCase):
     def test_every_row_is_legal(self):
         rows = list(legal_rows())
-        self.assertGreaterEqual(len(rows), 37)
+        self.assertGreaterEqual(len(rows), 41)
         for name, script, report in rows:
             with self.subTest(name):
                 self.assertTrue(judged(script, report).startswith("legal: "))
 
     def test_every_refusal_is_the_first(self):
         refusals = sorted(ROWS.glob("*.refusal"))
-        self.assertGreaterEqual(len(refusals), 25)
+        self.assertGreaterEqual(len(refusals), 26)
         for refusal in refusals:
             with self.subTest(refusal.stem):
                 line, reason = first_refusal(refusal.with_suffix(".script").read_bytes())
@@ -539,7 +539,7 @@ class Program(unittest.TestCase):
 
     def test_each_row(self):
         scripts = sorted(ROWS.glob("*.script"))
-        self.assertGreaterEqual(len(scripts), 56)
+        self.assertGreaterEqual(len(scripts), 60)
         for path in scripts:
             name, script = path.stem, path.read_bytes()
             refusal, reports = path.with_suffix(".refusal"), reports_of(name)
