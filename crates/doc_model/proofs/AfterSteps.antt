@@ -4,10 +4,10 @@ use Rattle.std.specs.Prelude.{ℤ, ◌+ℤ◌}
 use Rattle.std.specs.Fmt.{signed_decimal}
 use Rattle.cx_base.specs.Store.{KeysRise}
 use Rattle.doc_model.specs.Meaning.{IsOp, with_pair, has_room, number_at, standing_revision, store_after_put, store_after_put_if, store_after_sum, store_after_add, store_after, only_reads}
-use Rattle.doc_model.specs.Revisions.{RevisedStore, IsRevisedStore, pairs_in, written, removed}
+use Rattle.doc_model.specs.Revisions.{RevisedStore, IsRevisedStore, pairs_in, written}
 use Rattle.plain_text.specs.Number.{is_i64}
 use Rattle.doc_model.specs.declared.operations.Op.{Op}
-use Rattle.doc_model.specs.declared.operations.Op.TheVariants.{Put, Del, Add, Get, Next, Count, PutIf, Rev}
+use Rattle.doc_model.specs.declared.operations.Op.TheVariants.{Put, Del, Add, PutIf}
 use Rattle.doc_model.specs.declared.operations.Reply.{Reply}
 use Rattle.doc_model.proofs.Revised.{pairs_written, pairs_removed, IsRevisedStore-written, IsRevisedStore-removed}
 use Rattle.doc_model.proofs.Stores.{with_pair_rises, without_key_rises, IsDocument-signed_decimal}

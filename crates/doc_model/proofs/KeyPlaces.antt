@@ -1,5 +1,5 @@
 -- What stands before a key's place, and what behind it.
-use Rattle.std.proofs.Common.{◌≡◌, ℕ, ◌+◌, ◌<◌, ◌≤◌, Bool, true, false, cond, List, [], ◌∷◌, ◌++◌, length, get_or, set, take, drop, Some, None, Result, Ok, Err, refl, sym, ap, ◌∙◌, arith, subst, inl, inr, IfOk, IfErr, add-one}
+use Rattle.std.proofs.Common.{◌≡◌, ℕ, ◌+◌, ◌<◌, ◌≤◌, Bool, true, false, List, [], ◌∷◌, ◌++◌, length, get_or, take, drop, Some, None, Result, Ok, Err, refl, sym, ap, ◌∙◌, arith, subst, inl, inr, IfOk, IfErr}
 use Rattle.std.specs.List.{All, AllPairs, HoldsAt, find}
 use Rattle.std.specs.List.Sorted.{IsSearchInRange, IsBinarySearchResult, IsNonDecreasingBy, IsPartitionPoint}
 use Rattle.std.specs.Option.{option_map}
@@ -11,11 +11,10 @@ use Rattle.std.proofs.lemmas.List.{take-append-drop, drop_more, set_split, get_o
 use Rattle.std.proofs.lemmas.List.Elements.{All-head, All-tail, filter-append}
 use Rattle.std.proofs.lemmas.List.Folds.{find-append}
 use Rattle.std.proofs.lemmas.List.Sorted.{IsNonDecreasingBy-from_default}
-use Rattle.cx_base.specs.Store.{Store, KeysRise, key_cmp}
-use Rattle.doc_model.specs.Meaning.{with_pair, has_room, store_after_put}
+use Rattle.cx_base.specs.Store.{KeysRise, key_cmp}
 use Rattle.doc_model.specs.Place.{IsAtPlace, IsGapFor, pairs_of}
-use Rattle.doc_model.specs.Revisions.{RevisedStore, triples_below, triples_above, next_revision, written, pairs_in}
-use Rattle.doc_model.proofs.Revised.{pairs_written, document_of_found}
+use Rattle.doc_model.specs.Revisions.{triples_below, triples_above}
+use Rattle.doc_model.proofs.Revised.{document_of_found}
 use Rattle.doc_model.proofs.Order.{IsBelow, IsAbove, same_key, ties_itself, above_from_greater, greater_from_above, below_both, keys_apart, filter_all, filter_none}
 
 -- what is said of triples by the key
@@ -189,17 +188,3 @@ module _ (triples : List ((List ℕ × List ℕ) × ℕ)) (rising : KeysRise (pa
   pub searched : (r : Result ℕ ℕ) → IsSearchInRange r (length triples) → IsBinarySearchResult (λ t. key_cmp t.0.0 key) triples r → IfOk r (IsAtPlace triples key) × IfErr r (IsGapFor triples key)
   searched (Ok at) within ties = (is_at at within ties, tt)
   searched (Err at) within parted = (tt, is_gap at within (parted comparisons_rise))
-
--- the triples with a write at a key's place
-pub put_at : (lines last : ℕ) (triples : List ((List ℕ × List ℕ) × ℕ)) (key document : List ℕ) (at : ℕ) → IsAtPlace triples key at →
-    has_room lines (pairs_of (take at triples) ++ (key, document) ∷ pairs_of (drop (at + 1) triples)) ≡ true →
-    record { last = next_revision last; triples = set triples at ((key, document), next_revision last) } ≡ store_after_put lines (record { last = last; triples = triples }) key document
-put_at lines last triples key document at here room =
-    let store : RevisedStore = record { last = last; triples = triples } in
-    let new : (List ℕ × List ℕ) × ℕ = ((key, document), next_revision last) in
-    let whole : take at triples ++ new ∷ drop (at + 1) triples ≡ triples_below key triples ++ new ∷ triples_above key triples = rw (here.below, here.above) refl in
-    let pairs : pairs_of (take at triples) ++ (key, document) ∷ pairs_of (drop (at + 1) triples) ≡ with_pair key document (pairs_of triples) =
-    sym (map-append (λ t. t.0) (take at triples) (new ∷ drop (at + 1) triples)) ∙ ap pairs_of whole ∙ pairs_written key document store in
-    let fits = subst (λ s. has_room lines s ≡ true) pairs room in
-    ap (λ s. record { last = next_revision last; triples = s }) (rw (set_split triples at new here.within, ← add-one at) whole)
-    ∙ sym (ap (λ b. cond b (written key document store) store) fits)

@@ -5,6 +5,7 @@ pub mod OpKinds
 pub mod PackedTexts
 pub mod PartsHeld
 pub mod PartPlaces
+mod Puts
 pub mod ReplyKinds
 pub mod Revised
 pub mod Stores

@@ -1,5 +1,5 @@
 -- Which parts operations have.
-use Rattle.std.proofs.Common.{get_or, cond, eqb, ◌⊎◌, inl, inr, ◌≡◌, ℕ, ◌^◌, ◌<◌, Bool, true, false, ◌&&◌, ◌||◌, ◌==◌, nat_le, List, [], ◌∷◌, length, All, refl, sym, ap, ap₂, ◌∙◌, subst, arith}
+use Rattle.std.proofs.Common.{get_or, cond, eqb, ◌⊎◌, inl, inr, ◌≡◌, ℕ, ◌^◌, ◌<◌, Bool, true, false, ◌&&◌, ◌||◌, ◌==◌, List, [], ◌∷◌, length, All, refl, sym, ap, ap₂, ◌∙◌, subst, arith}
 use borrow.Author.Gap.{read_sfits}
 use Rattle.std.specs.Bool.{MatchBool}
 use Rattle.std.specs.Int.{w64, cast_unsigned}

@@ -1,19 +1,19 @@
 -- Stores whose pairs have revisions, by their pairs.
-use Rattle.std.proofs.Common.{◌≡◌, ℕ, ◌+◌, ◌-◌, ◌^◌, ◌<◌, ◌≤◌, Bool, true, false, cond, List, [], ◌∷◌, ◌++◌, map, filter, Option, Some, None, refl, ap, ◌∙◌, ltb, arith, subst, sym}
-use Rattle.std.specs.List.{All, find}
+use Rattle.std.proofs.Common.{◌≡◌, ℕ, ◌+◌, ◌-◌, ◌^◌, ◌<◌, ◌≤◌, Bool, true, false, cond, List, [], ◌∷◌, ◌++◌, filter, Option, Some, refl, ap, ◌∙◌, ltb, arith, subst, sym}
+use Rattle.std.specs.List.{find}
 use Rattle.std.specs.Option.{option_map}
 use Rattle.std.specs.Ordering.{is_lt, is_eq}
 use Rattle.std.proofs.lemmas.Bool.{ltb-true, ltb-false}
 use Rattle.std.proofs.lemmas.List.{map-append}
 use Rattle.std.proofs.lemmas.List.Elements.{All-append, All-cons, All-filter, All-weaker}
-use Rattle.cx_base.specs.Store.{Store, key_cmp, IsKey, IsDocument, IsStore}
-use Rattle.doc_model.specs.Meaning.{document_at, pairs_below, pairs_above, with_pair, without_key}
+use Rattle.cx_base.specs.Store.{key_cmp, IsKey, IsDocument, IsStore}
+use Rattle.doc_model.specs.Meaning.{document_at, pairs_below, with_pair, without_key}
 use Rattle.doc_model.specs.Place.{pairs_of}
 use Rattle.doc_model.specs.Revisions.{RevisedStore, IsRevisedStore, pairs_in, next_revision, triples_below, triples_above, written, removed}
 use Rattle.doc_model.proofs.Stores.{IsStore-with_pair, IsStore-without_key}
 
 -- what a test of pairs keeps of triples
-kept_pairs : (test : List ℕ × List ℕ → Bool) (triples : List ((List ℕ × List ℕ) × ℕ)) → pairs_of (filter (λ t. test t.0) triples) ≡ filter test (pairs_of triples)
+pub kept_pairs : (test : List ℕ × List ℕ → Bool) (triples : List ((List ℕ × List ℕ) × ℕ)) → pairs_of (filter (λ t. test t.0) triples) ≡ filter test (pairs_of triples)
 kept_pairs test [] = refl
 kept_pairs test (t ∷ triples) =
     let rest = kept_pairs test triples in

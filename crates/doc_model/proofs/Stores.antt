@@ -1,6 +1,6 @@
 -- What an operation keeps of a store.
-use Rattle.std.proofs.Common.{◌≡◌, ℕ, suc, ◌^◌, ◌<◌, ◌≤◌, Bool, true, false, cond, List, ◌∷◌, Option, Some, None, Result, Ok, Err, OnOk, OnErr, refl, sym, arith, subst}
-use Rattle.std.specs.Prelude.{ℤ, pos, negsuc, ◌+ℤ◌}
+use Rattle.std.proofs.Common.{◌≡◌, ℕ, suc, ◌^◌, ◌<◌, ◌≤◌, true, List, ◌∷◌, refl, arith}
+use Rattle.std.specs.Prelude.{ℤ, pos, negsuc}
 use Rattle.std.specs.List.{All}
 use Rattle.std.specs.Fmt.{decimal, signed_decimal}
 use Rattle.std.specs.Ordering.{is_lt}
@@ -11,11 +11,8 @@ use Rattle.std.proofs.lemmas.Fmt.{digits_decimal, decimal_nonempty, length-decim
 use Rattle.std.proofs.lemmas.Str.Parse.{digit_at}
 use Rattle.std.proofs.lemmas.List.Elements.{All-append, All-cons, All-filter, All-from_get_or, filter_passes}
 use Rattle.cx_base.specs.Store.{Store, KeysRise, key_cmp, IsKey, IsDocument, IsStore}
-use Rattle.doc_model.specs.Meaning.{IsOp, pairs_below, pairs_above, with_pair, without_key, has_room, number_at, store_after_put, store_after_sum, store_after_add, store_after, only_reads}
+use Rattle.doc_model.specs.Meaning.{pairs_below, pairs_above, with_pair, without_key}
 use Rattle.plain_text.specs.Number.{is_i64}
-use Rattle.doc_model.specs.declared.operations.Op.{Op}
-use Rattle.doc_model.specs.declared.operations.Op.TheVariants.{Put, Del, Add, Get, Next, Count}
-use Rattle.doc_model.specs.declared.operations.Reply.{Reply}
 use Rattle.plain_text.proofs.Numerals.{numerals}
 use Rattle.doc_model.proofs.Order.{IsBelow, IsAbove, KeysRise-filter, KeysRise-append, KeysRise-between}
 

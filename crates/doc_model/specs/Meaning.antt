@@ -65,11 +65,16 @@ store_after_put lines store key document =
 abbrev pub standing_revision : List ℕ → RevisedStore → ℕ
 standing_revision key store = option_map_or (λ r. r) (revision_at key store) 0
 
+-- the reply to a put that tells the revision it gives
+abbrev pub set_reply : ℕ → RevisedStore → List ℕ → List ℕ → Reply
+set_reply lines store key document =
+    if has_room lines (with_pair key document (pairs_in store)) then Set (next_revision store.last) else NoRoom
+
 -- the reply to a put on condition of the revision, and the store after it
 abbrev pub put_if_reply : ℕ → RevisedStore → List ℕ → ℕ → List ℕ → Reply
 put_if_reply lines store key revision document =
     if standing_revision key store == revision
-    then (if has_room lines (with_pair key document (pairs_in store)) then Set (next_revision store.last) else NoRoom)
+    then set_reply lines store key document
     else Stale (standing_revision key store)
 
 abbrev pub store_after_put_if : ℕ → RevisedStore → List ℕ → ℕ → List ℕ → RevisedStore

@@ -9,15 +9,27 @@ use std::marker::Model;
 #[derive(Drop)]
 pub enum Op {
     /// Sets the document of a key.
-    Put { key: Bytes, doc: Bytes },
+    Put {
+        key: Bytes,
+        doc: Bytes,
+    },
     /// Removes a key.
-    Del { key: Bytes },
+    Del {
+        key: Bytes,
+    },
     /// Adds to the number that is the document of a key. A missing key counts as 0.
-    Add { key: Bytes, amount: i64 },
+    Add {
+        key: Bytes,
+        amount: i64,
+    },
     /// Asks for the document of a key.
-    Get { key: Bytes },
+    Get {
+        key: Bytes,
+    },
     /// Asks for the least key above this one. It may be empty, and then any key is above it.
-    Next { above: Bytes },
+    Next {
+        above: Bytes,
+    },
     /// Asks for the number of pairs.
     Count,
     /// Sets the document of a key whose revision is this one. A missing key counts as one of revision 0.
@@ -27,7 +39,9 @@ pub enum Op {
         doc: Bytes,
     },
     /// Asks for the revision of a key.
-    Rev { key: Bytes },
+    Rev {
+        key: Bytes,
+    },
 }
 
 impl Op {

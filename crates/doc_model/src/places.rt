@@ -1,11 +1,10 @@
 //! Where a key stands among sorted pairs, and whether there is room for one more.
 
-ghost use Rattle.std.specs.Prelude.{◌≡◌, ◌-◌, ◌^◌, ◌∷◌, ◌++◌, List, ℕ, min, IfOk, IfErr};
+ghost use Rattle.std.specs.Prelude.{◌≡◌, ◌-◌, ◌^◌, ◌∷◌, ◌++◌, List, ℕ, min, IfOk, IfErr, ◌≤◌, length, drop};
 ghost use Rattle.std.specs.Option.{option_copied};
 ghost use Rattle.cx_base.specs.Store as store;
 ghost use Rattle.doc_model.specs.Meaning as meaning;
 ghost use Rattle.doc_model.specs.Place.{IsAtPlace, IsGapFor, pairs_of};
-
 
 use crate::operations::Pair;
 
@@ -16,6 +15,18 @@ pub(crate) fn place_of(pairs: &[Pair], key: &[u8]) -> Result<usize, usize>
     ensures missing { IfErr result (IsGapFor pairs.now key.now) }
 {
     pairs.binary_search_by(|pair| pair.key.as_slice().cmp(&key))
+}
+
+/// The place from which the keys are above this one.
+pub(crate) fn place_above(pairs: &[Pair], key: &[u8]) -> usize
+    requires { store.KeysRise (pairs_of pairs.now) }
+    ensures within { result ≤ length pairs.now }
+    ensures above { meaning.pairs_above key.now (pairs_of pairs.now) ≡ pairs_of (drop result pairs.now) }
+{
+    match place_of(pairs, key) {
+        Ok(at) => at + 1,
+        Err(at) => at,
+    }
 }
 
 /// The document of a key.

@@ -4,11 +4,11 @@ ghost use Rattle.std.specs.Prelude.{◌≡◌, IfOk, is_some, if◌then◌else�
 ghost use Rattle.std.specs.Option.{option_map_or};
 ghost use Rattle.cx_base.specs.Store.{KeysRise};
 ghost use Rattle.doc_model.specs.Meaning as meaning;
-ghost use Rattle.doc_model.specs.Place.{DoesOp, IsAtPlace, IsGapFor};
+ghost use Rattle.doc_model.specs.Place.{DoesOp, IsAtPlace, IsGapFor, pairs_of};
 ghost use Rattle.doc_model.specs.Revisions.{pairs_in, next_revision, removed, revision_at};
 
 use crate::operations::{Op, Pair, Reply};
-use crate::places::{document_of, has_room, place_of, revision_of};
+use crate::places::{document_of, has_room, place_above, place_of, revision_of};
 use cx_base::Bytes;
 use plain_text::integer_of;
 use std::alloc::{AllocError, Global};
@@ -103,6 +103,24 @@ fn put(
     }
 }
 
+/// Sets the document of a key, and tells the revision that this gives.
+fn set(
+    table: &mut Table,
+    alloc: Global,
+    lines: u64,
+    key: &[u8],
+    doc: &[u8],
+) -> Result<Reply, AllocError>
+    requires { KeysRise (pairs_in table.old) }
+    ensures { DoesOp (meaning.set_reply lines table.old key.now doc.now) (meaning.store_after_put lines table.old key.now doc.now) table.old table.new result }
+{
+    let revision = revision_after(table.last);
+    match put(table, alloc, lines, key, doc)? {
+        Reply::NoRoom => Ok(Reply::NoRoom),
+        _ => Ok(Reply::Set(revision)),
+    }
+}
+
 /// Sets the document of a key that has a revision. An `Err` leaves the pairs as they were.
 fn put_if(
     table: &mut Table,
@@ -119,11 +137,7 @@ fn put_if(
     if standing != revision {
         return Ok(Reply::Stale(standing));
     }
-    let given = revision_after(table.last);
-    match put(table, alloc, lines, key, doc)? {
-        Reply::NoRoom => Ok(Reply::NoRoom),
-        _ => Ok(Reply::Set(given)),
-    }
+    set(table, alloc, lines, key, doc)
 }
 
 /// Removes a key.
@@ -215,19 +229,23 @@ fn rev(table: &Table, key: &[u8]) -> Reply
     }
 }
 
+/// A copy of the least key of some pairs.
+fn least(alloc: Global, pairs: &[Pair]) -> Result<Reply, AllocError>
+    ensures { IfOk result (λ reply. reply ≡ meaning.least_key (pairs_of pairs.now)) }
+{
+    match pairs {
+        [pair, ..] => Ok(Reply::Key(Bytes::of(alloc, pair.key.as_slice())?)),
+        [] => Ok(Reply::Absent),
+    }
+}
+
 /// A copy of the least key above this one.
 fn next(alloc: Global, table: &Table, above: &[u8]) -> Result<Reply, AllocError>
     requires { KeysRise (pairs_in table.now) }
     ensures { IfOk result (λ reply. reply ≡ meaning.least_key (meaning.pairs_above above.now (pairs_in table.now))) }
 {
-    let from = match place_of(&table.pairs, above) {
-        Ok(at) => at + 1,
-        Err(at) => at,
-    };
-    match &table.pairs[from..] {
-        [pair, ..] => Ok(Reply::Key(Bytes::of(alloc, pair.key.as_slice())?)),
-        [] => Ok(Reply::Absent),
-    }
+    let from = place_above(&table.pairs, above);
+    least(alloc, &table.pairs[from..])
 }
 
 /// Does one operation. An `Err` leaves the pairs as they were.

@@ -61,7 +61,12 @@ pub fn op_words(op: &Op) -> [u64; 144]
         Op::Get { key } => words_with(4, key.as_slice(), &[], 0),
         Op::Next { above } => words_with(5, above.as_slice(), &[], 0),
         Op::Count => words_with(6, &[], &[], 0),
-        Op::PutIf { key, revision, doc } => words_with(7, key.as_slice(), doc.as_slice(), *revision),
+        Op::PutIf { key, revision, doc } => words_with(
+            7,
+            key.as_slice(),
+            doc.as_slice(),
+            *revision,
+        ),
         Op::Rev { key } => words_with(8, key.as_slice(), &[], 0),
     }
 }

@@ -14,7 +14,7 @@ use Rattle.avl_words.specs.Lines.{word_of, IsWithin}
 use Rattle.index_checks.specs.Order.{in_order, HasTree}
 use Rattle.index_checks.proofs.Orders.{tree_of, in_order_root}
 use Rattle.index_checks.specs.Lawful.{HasBlocks, IsContent}
-use Rattle.index_checks.specs.Layout.{IsChain, Place, lines_at, Placed, nodes_of, IsIndex}
+use Rattle.index_checks.specs.Layout.{head_of, IsChain, Place, lines_at, Placed, nodes_of, IsIndex}
 use Rattle.index_checks.specs.Listing.{HasPlainText}
 use Rattle.index_checks.specs.Reading.{text_at, pair_at, store_in}
 use Rattle.index_checks.proofs.Arranging.{arranged_tree, arranged_nodes}
@@ -100,8 +100,8 @@ nodes_name_pairs : (ws : List ℕ) → IsIndex ws → All (NamesPair ws) (in_ord
 nodes_name_pairs ws i =
     let s = i.stands in
     let a = s.arranged in
-    let within = all_left (IsWithin ws) (flat_map lines_at s.places) s.given (all_left (IsWithin ws) (flat_map lines_at s.places ++ s.given) [] (lines_within ws i.version i.store s.tree s.places s.given [] a)) in
-    subst (All (NamesPair ws)) (arranged_nodes ws i.version i.store s.tree s.places s.given [] a) (names_pairs ws s.places i.store a.nodes.pairs within s.lawful.keys s.lawful.documents)
+    let within = all_left (IsWithin ws) (flat_map lines_at s.places) s.given (all_left (IsWithin ws) (flat_map lines_at s.places ++ s.given) [] (lines_within ws (head_of 2 s.last) i.store s.tree s.places s.given [] a)) in
+    subst (All (NamesPair ws)) (arranged_nodes ws (head_of 2 s.last) i.store s.tree s.places s.given [] a) (names_pairs ws s.places i.store a.nodes.pairs within s.lawful.keys s.lawful.documents)
 
 -- the pairs listed so far, and the nodes that are left
 pub record ListedSoFar (ws more : List ℕ) (pairs : Store) : Type 0 where
@@ -128,13 +128,13 @@ pub index_tree : (ws : List ℕ) → IsIndex ws → HasTree ws (word_of ws 0 1) 
 index_tree ws i =
     let s = i.stands in
     let a = s.arranged in
-    let t = arranged_tree ws i.version i.store s.tree s.places s.given [] a in
+    let t = arranged_tree ws (head_of 2 s.last) i.store s.tree s.places s.given [] a in
     tree_of ws (word_of ws 0 1) (size s.tree) (record { tree = s.tree; stands = t.stands; balanced = t.balanced; root_is = sym t.root_is; counted = refl }) t.few
 
 pub index_count : (ws : List ℕ) → IsIndex ws → length (in_order (word_of ws 0 1) ws) ≡ word_of ws 0 5
 index_count ws i =
     let s = i.stands in
     let a = s.arranged in
-    let nodes = ap length (arranged_nodes ws i.version i.store s.tree s.places s.given [] a) in
+    let nodes = ap length (arranged_nodes ws (head_of 2 s.last) i.store s.tree s.places s.given [] a) in
     let pairs = a.pair_count in
     omega (arith, nodes, pairs, placed_count ws s.places i.store a.nodes.pairs)
