@@ -50,12 +50,12 @@ pub document_of_found : (key : List ℕ) (triples : List ((List ℕ × List ℕ)
 document_of_found key triples found e = ap (option_map (λ p. p.1)) (found_pair (λ p. is_eq (key_cmp p.0 key)) triples ∙ ap (option_map (λ t. t.0)) e)
 
 -- the next revision
-record IsNext (last next : ℕ) : Type 0 where
-  some : 1 ≤ next
-  no_less : last ≤ next
-  fits : next < 2 ^ 64
+pub record IsNext (last next : ℕ) : Type 0 where
+  pub some : 1 ≤ next
+  pub no_less : last ≤ next
+  pub fits : next < 2 ^ 64
 
-next_is : (last : ℕ) → last < 2 ^ 64 → IsNext last (next_revision last)
+pub next_is : (last : ℕ) → last < 2 ^ 64 → IsNext last (next_revision last)
 next_is last small = by (ltb last (2 ^ 64 - 1)) refl
   where
     by : (b : Bool) → ltb last (2 ^ 64 - 1) ≡ b → IsNext last (cond b (last + 1) last)

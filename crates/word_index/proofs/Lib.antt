@@ -7,6 +7,7 @@ pub mod NodeReads
 pub mod PairsGiven
 pub mod Putting
 pub mod Taking
+pub mod Triples
 pub mod Writing
 pub mod Arrangements
 pub mod Splits
