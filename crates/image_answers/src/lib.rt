@@ -1,7 +1,7 @@
 //! What an image text tells of documents: the place, each client's last command and the pairs, or why there is nothing to tell.
 //!
 //! - From an image is recovered the place of its root, the last command of each client with a number, in rising order of the clients, and
-//!   the pairs of the store, in the order of their keys. A fault names the first check that the image does not pass; a slot with a number
+//!   the pairs of the store with their revisions, in the order of their keys; an image of version 1 is upgraded. A fault names the first check that the image does not pass; a slot with a number
 //!   that holds no reply of documents is of the last of them: `recovered`. By these clauses there is one answer for each image, want of
 //!   memory aside: `answers_are_one`.
 //! - Bytes are answered by what is recovered from the image that they say, by its fault, or by their first line at fault, each exactly
