@@ -22,7 +22,7 @@ words_in_front front part at n within =
 
 -- another object part
 module _ (region part : List ℕ) (long : 1168 ≤ length region) where
-  part_there : object_part (take 1168 region ++ part) ≡ part
+  pub part_there : object_part (take 1168 region ++ part) ≡ part
   unfolding object_part
   part_there = drop_at (take 1168 region) part 1168 (length-take-le 1168 region long)
 
@@ -38,6 +38,11 @@ module _ (region part : List ℕ) (long : 1168 ≤ length region) where
   whole_front : 1168 ≤ length (take 1168 region ++ part)
   whole_front = omega (arith, length-append (take 1168 region) part, length-take-le 1168 region long)
 
+pub upgraded_old : (old : OldFormat) (region : List ℕ) → old.version ≡ Some (version_of region)
+    → upgraded_region old region ≡ take 1168 region ++ old.upgraded (object_part region)
+upgraded_old old region begins =
+    ap (λ (b : Bool). cond b (take 1168 region ++ old.upgraded (object_part region)) region) (begins_old old region begins)
+
 -- an image of documents in either version becomes one of its own
 pub recovered_part : (lines : ℕ) (region : List ℕ) → 1168 ≤ length region → IsImage lines (object_part region) ⊎ (first_format lines).lawful (object_part region)
     → IsImage lines (object_part (upgraded_region (first_format lines) region))
@@ -48,8 +53,7 @@ recovered_part lines region long (inr was) =
     let old = first_format lines in
     let takes = takes_over_first lines in
     let part : List ℕ = old.upgraded (object_part region) in
-    let same : upgraded_region old region ≡ take 1168 region ++ part =
-    ap (λ (b : Bool). cond b (take 1168 region ++ part) region) (begins_old old region (takes.shape (object_part region) was).1) in
+    let same = upgraded_old old region (takes.shape (object_part region) was).1 in
     subst (λ (ws : List ℕ). IsImage lines (object_part ws)) (sym same)
     (subst (IsImage lines) (sym (part_there region part long)) (takes.upgrades (object_part region) was))
 

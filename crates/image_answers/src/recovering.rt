@@ -1,12 +1,15 @@
 //! What is recovered of documents from an image.
 
 ghost use Rattle.std.specs.Prelude.{◌≡◌, ◌≢◌, ◌≤◌, ℕ, Result, Err, IfOk, MatchResult, length};
+ghost use Rattle.cx_base.specs.Store.{Store};
 ghost use Rattle.cx_core.specs.Region.{object_part};
 ghost use Rattle.doc_store.specs.ExactStep.{IsImage};
-ghost use Rattle.recovery.specs.Images.{IsReadable};
+ghost use Rattle.index_checks.specs.Layout.{StandsFor};
+ghost use Rattle.recovery.specs.Images.{IsReadable, region_of};
 ghost use Rattle.recovery.specs.declared.recovering.ImageFault.TheVariants.{Memory};
-ghost use Rattle.image_answers.specs.Documents.{HaveDocuments, IsAnswerTo, IsToldBy};
+ghost use Rattle.image_answers.specs.Documents.{HaveDocuments, IsAnswerTo, IsRecoveredOf, IsToldBy};
 ghost use Rattle.image_answers.specs.Outcomes.{HoldsReplies, IsOutcomesFault};
+ghost use Rattle.word_index.specs.Upgrading.{first_revisions};
 
 use crate::replies::outcomes_of;
 use cx_base::Items;
@@ -59,4 +62,9 @@ fn pairs_of(alloc: Global, base: &Base) -> Result<Vec<Pair>, AllocError>
 /// The law that there is one answer for each image, want of memory aside.
 pub fn answers_are_one()
     ensures { (image : Image) (one other : Result Recovered ImageFault) → IsAnswerTo image one → IsAnswerTo image other → one ≢ Err Memory → other ≢ Err Memory → one ≡ other }
+{}
+
+/// The law that of an image of version 1 are recovered the pairs that it stands for, each with revision 1.
+pub fn old_pairs_have_first_revisions()
+    ensures { (image : Image) (found : Recovered) (store : Store) → IsRecoveredOf image found → StandsFor (object_part (region_of image)) 1 store → found.documents ≡ (first_revisions store).triples }
 {}

@@ -1,19 +1,13 @@
-use Rattle.std.proofs.Common.{◌≡◌, ◌≤◌, ℕ, length, subst, sym, arith}
-use Rattle.std.proofs.lemmas.List.FromFn.{length-map-range_with_len}
+use Rattle.std.proofs.Common.{◌≡◌, ◌≤◌, ℕ, length, subst, sym}
 use Rattle.cx_core.specs.declared.entry.Base.{Base}
 use Rattle.cx_core.specs.declared.entry.Image.{Image}
-use Rattle.cx_core.specs.Region.{region_words}
 use Rattle.doc_store.specs.ExactStep.{IsImage, first_format}
-use Rattle.recovery.specs.Images.{image_word, region_of, region_start}
+use Rattle.recovery.specs.Images.{region_of}
 use Rattle.recovery.specs.Recovery.{IsRecovered}
+use Rattle.image_answers.proofs.FirstRevisions.{region_long}
 use Rattle.image_answers.proofs.OneAnswer.{answered, part_is_image}
 use Rattle.image_answers.proofs.Upgraded.{recovered_long}
 use Rattle.image_answers.proofs.recovering.recovered.Goals as goal
-
-region_long : (image : Image) → 64 ≤ image.lines → 1168 ≤ length (region_of image)
-region_long image enough =
-    let long = length-map-range_with_len (image_word image.pairs) (region_start image) (region_words image.lines) in
-    omega (arith, long, enough)
 
 recovered_here : (image : Image) (base : Base) (lines : ℕ) → lines ≡ image.lines → IsRecovered 2 (IsImage lines) (first_format lines) image base
     → IsRecovered 2 (IsImage image.lines) (first_format image.lines) image base
@@ -23,16 +17,16 @@ pub told_by-requires-clause-words : goal.told_by-requires-clause-words
 told_by-requires-clause-words c =
     let image = c.args.image.now in
     let is = recovered_here image c.in_ok-base.base c.of.result.lines c.of.ensures c.in_ok-base.ensures.recovers in
-    subst (λ (b : Base). 1168 ≤ length b.words) (sym is.is) (recovered_long (first_format image.lines) (region_of image) (region_long image c.requires.enough))
+    subst (λ (b : Base). 1168 ≤ length b.words) (sym is.is) (recovered_long (first_format image.lines) (region_of image) (region_long image))
 
 pub told_by-requires-clause-lawful : goal.told_by-requires-clause-lawful
 told_by-requires-clause-lawful c =
     let image = c.args.image.now in
     let is = recovered_here image c.in_ok-base.base c.of.result.lines c.of.ensures c.in_ok-base.ensures.recovers in
-    (image.lines, part_is_image image c.in_ok-base.base (region_long image c.requires.enough) is)
+    (image.lines, part_is_image image c.in_ok-base.base (region_long image) is)
 
 pub returns : goal.returns
 returns c =
     let image = c.args.image.now in
     let is = recovered_here image c.in_ok-base.base c.of.result.lines c.of.ensures c.in_ok-base.ensures.recovers in
-    answered image c.in_ok-base.base c.told_by.result (region_long image c.requires.enough) is c.told_by.ensures.told c.told_by.ensures.replies
+    answered image c.in_ok-base.base c.told_by.result (region_long image) is c.told_by.ensures.told c.told_by.ensures.replies
