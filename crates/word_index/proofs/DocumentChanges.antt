@@ -108,7 +108,7 @@ module _ (v y : List ℕ) (head : Head) (lower after : Store) (pair : List ℕ �
         told = get_or-set_same y (8 * n + 7) revision 0 (omega arith);
       }
 
-  told_is : Arranged (with_word place.node 7 revision y) head (lower ++ pair ∷ after) tree (front ++ with_lines place place.document_lines revision ∷ rest) given []
+  pub told_is : Arranged (with_word place.node 7 revision y) head (lower ++ pair ∷ after) tree (front ++ with_lines place place.document_lines revision ∷ rest) given []
   told_is =
       renewed v y head lower after pair tree front rest place given [] shape a (with_word place.node 7 revision y) place.document_lines pair.1 [] revision told_words
       (λ k. balanced k front rest place (with_lines place place.document_lines revision) given [] [] refl)
@@ -358,6 +358,12 @@ module _ (x : List ℕ) (node : ℕ) (document : List ℕ) (c : CanRewrite x nod
   pub rewritten_is : length document ≤ 1024 → IsRewritten (with_rewritten document node x) c.head c.lower c.after (c.pair.0, document) c.front c.rest c.place c.place.revision
   unfolding with_rewritten
   rewritten_is short = rewritten_by (document_blocks node x == blocks document) refl short
+
+  pub rewritten_here : length document ≤ 1024 → IsWithin (with_rewritten document node x) node
+  rewritten_here short =
+      let y = with_rewritten document node x in
+      let w = rewritten_is short in
+      subst (IsWithin y) (sym c.here) (All-head (IsWithin y) c.place.node (c.place.key_lines ++ w.lines) (node_within y c.head (c.lower ++ (c.pair.0, document) ∷ c.after) w.tree c.front c.rest (moved w.lines) w.given [] w.arranged))
 
   -- with a revision
   pub replaced_is : (revision : ℕ) → length document ≤ 1024 → IsRewritten (with_replaced document node revision x) c.head c.lower c.after (c.pair.0, document) c.front c.rest c.place revision

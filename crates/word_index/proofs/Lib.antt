@@ -1,6 +1,7 @@
 pub mod ExactGiving
 pub mod ExactRuns
 pub mod ExactTaking
+pub mod Finding
 pub mod Frames
 pub mod Giving
 pub mod NodeReads
@@ -8,6 +9,7 @@ pub mod PairsGiven
 pub mod Putting
 pub mod Taking
 pub mod Triples
+pub mod Upgrades
 pub mod Writing
 pub mod Arrangements
 pub mod Splits

@@ -25,7 +25,7 @@ links_same ws now line left right high long same n = record {
   height_is = same 2 (omega arith) ∙ n.height_is;
 }
 
-stands_linked : (ws now : List ℕ) (t : Tree ℕ) → length now ≡ length ws → ((line : ℕ) → tree_times line t ≢ 0 → (i : ℕ) → i < 3 → word_of now line i ≡ word_of ws line i) → Stands ws t → Stands now t
+pub stands_linked : (ws now : List ℕ) (t : Tree ℕ) → length now ≡ length ws → ((line : ℕ) → tree_times line t ≢ 0 → (i : ℕ) → i < 3 → word_of now line i ≡ word_of ws line i) → Stands ws t → Stands now t
 stands_linked ws now Empty long same s = tt
 stands_linked ws now (Node l x r) long same s = (
   links_same ws now x (root l) (root r) (height (Node l x r)) long (same x (λ z. absurd (omega (arith, times_self x, z)))) s.0,

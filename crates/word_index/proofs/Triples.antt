@@ -1,19 +1,23 @@
 -- The pairs at places with their revisions, and what a change of a pair does to them.
-use Rattle.std.proofs.Common.{◌≡◌, ◌≢◌, ◌-◌, ◌+◌, ◌^◌, ◌/◌, ◌≤◌, ℕ, cond, ltb, leb, ◌&&◌, List, [], ◌∷◌, ◌++◌, length, get_or, inr, refl, sym, ap, ap₂, subst, ◌∙◌, arith}
-use Rattle.std.specs.List.{flat_map, All}
+use Rattle.std.proofs.Common.{◌≡◌, ◌≢◌, ◌-◌, ◌+◌, ◌^◌, ◌/◌, ◌≤◌, ℕ, cond, ltb, leb, ◌&&◌, List, [], ◌∷◌, ◌++◌, length, get_or, inr, Some, None, refl, sym, ap, ap₂, subst, ◌∙◌, arith}
+use Rattle.std.specs.List.{flat_map, All, find}
+use Rattle.std.specs.Option.{option_map}
+use Rattle.std.specs.Ordering.{is_eq}
 use Rattle.std.specs.declared.cmp.Ordering.TheVariants.{Less}
 use Rattle.std.proofs.lemmas.Bool.Decides.{nat_tests}
 use Rattle.std.proofs.lemmas.List.{get_or-set_same, get_or-set_other, length-set}
 use Rattle.std.proofs.lemmas.List.Elements.{All-nil, All-cons, All-head, All-tail, All-append, All-filter, All-weaker}
 use Rattle.cx_base.specs.Store.{Store, IsStore, key_cmp}
-use Rattle.doc_model.specs.Revisions.{RevisedStore, next_revision, triples_below, triples_above}
+use Rattle.doc_model.specs.Revisions.{RevisedStore, revision_at, next_revision, triples_below, triples_above}
 use Rattle.avl_words.specs.Tree.{Tree}
 use Rattle.avl_words.specs.Lines.{word_of, with_word, IsPartLength}
 use Rattle.index_checks.specs.Layout.{IsChain, Place, lines_at, Placed, Nodes, Head, head_of, IsRevision, Arranged, StandsFor}
+use Rattle.index_checks.specs.Lawful.{head_in}
 use Rattle.index_checks.specs.Reading.{revised_in}
 use Rattle.index_checks.proofs.Revisions.{triples_of, all_triples, all_places, triples_read, last_read}
+use Rattle.word_index.specs.Changes.{SameLine}
 use Rattle.word_index.proofs.Frames.{chain_same, nodes_same}
-use Rattle.word_index.proofs.Splits.{over_split, under_split, over_behind, under_behind}
+use Rattle.word_index.proofs.Splits.{missing_in, there_in, over_split, under_split, over_behind, under_behind}
 use Rattle.word_index.proofs.Taking.{from_one, header_stored}
 
 abbrev pub Triple : Type 0
@@ -72,6 +76,11 @@ module _ (ws key : List ℕ) (front rest : List Place) (lower others : Store) (p
       let make : ℕ → Triple = λ r. ((key, document), r) in
       triples_append ws front (place ∷ rest) lower ((key, document) ∷ others) placed ∙ ap (λ r. left ++ make r ∷ right) e ∙ sym (ap₂ (λ a b. a ++ make revision ∷ b) apart_below apart_above)
 
+  pub revision_missing : (store : RevisedStore) → store.triples ≡ triples_of (front ++ rest) (lower ++ others) → revision_at key store ≡ None
+  revision_missing store e =
+      ap (λ (ts : List Triple). option_map (λ (t : Triple). t.1) (find (λ (t : Triple). is_eq (key_cmp t.0.0 key)) ts)) (e ∙ triples_append ws front rest lower others placed)
+      ∙ ap (λ o. option_map (λ (t : Triple). t.1) o) (missing_in key_of_triple key left right left_under right_over)
+
   -- or the pair with this document
   module _ (old : List ℕ) (place : Place) where
     abbrev whole : List Triple
@@ -89,6 +98,11 @@ module _ (ws key : List ℕ) (front rest : List Place) (lower others : Store) (p
     pub triples_without : triples_of (front ++ rest) (lower ++ others) ≡ removed_at key whole
     triples_without = triples_append ws front rest lower others placed ∙ sym (ap₂ (λ a b. a ++ b) behind_below behind_above)
 
+    pub revision_there : (store : RevisedStore) → store.triples ≡ whole → revision_at key store ≡ Some place.revision
+    revision_there store e =
+        ap (λ (ts : List Triple). option_map (λ (t : Triple). t.1) (find (λ (t : Triple). is_eq (key_cmp t.0.0 key)) ts)) (e ∙ triples_append ws front (place ∷ rest) lower ((key, old) ∷ others) placed)
+        ∙ ap (λ o. option_map (λ (t : Triple). t.1) o) (there_in key_of_triple key here refl left right left_under)
+
     pub triples_replaced : (document : List ℕ) (other : Place) → triples_of (front ++ other ∷ rest) (lower ++ (key, document) ∷ others) ≡ written_at key document other.revision whole
     triples_replaced document other =
         triples_append ws front (other ∷ rest) lower ((key, document) ∷ others) placed ∙ sym (ap₂ (λ a b. a ++ ((key, document), other.revision) ∷ b) behind_below behind_above)
@@ -101,28 +115,38 @@ pub record HasTriples (words : List ℕ) (head : Head) (store : Store) (triples 
   pub arranged : Arranged words head store tree places given []
   pub told : triples_of places store ≡ triples
 
--- another last revision in the header
+-- another version or last revision in the header
+pub record IsHeaded (before now : List ℕ) : Type 0 where
+  pub long : length now ≡ length before
+  pub header : (i : ℕ) → i ≢ 0 → i ≢ 6 → get_or now i 0 ≡ get_or before i 0
+  pub lines : (lines : List ℕ) → All (λ x. 1 ≤ x) lines → All (SameLine before now) lines
+
+pub headed_arranged : (x y : List ℕ) (head : Head) (store : Store) (tree : Tree ℕ) (places : List Place) (given loose : List ℕ) → IsHeaded x y → Arranged x head store tree places given loose → Arranged y (head_in y) store tree places given loose
+headed_arranged x y head store tree places given loose h a =
+    let some = from_one x head store tree places given loose a in
+    let end = h.header 3 (omega arith) (omega arith) in
+    record {
+      sized = subst IsPartLength (sym h.long) a.sized;
+      version_word = refl;
+      nodes = subst (λ r. Nodes y r tree places store) (sym (h.header 1 (omega arith) (omega arith))) (nodes_same x y (word_of x 0 1) tree places store h.long (h.lines (flat_map lines_at places) some.0) a.nodes);
+      given_back = subst (λ f. IsChain y f given) (sym (h.header 2 (omega arith) (omega arith))) (chain_same x y given (word_of x 0 2) (h.lines given some.1) a.given_back);
+      end_from = subst (λ e. 1 ≤ e) (sym end) a.end_from;
+      end_to = subst (λ n. word_of y 0 3 ≤ n / 8) (sym h.long) (subst (λ e. e ≤ length x / 8) (sym end) a.end_to);
+      once = λ k. a.once k ∙ ap (λ e. cond (leb 1 k && ltb k e) 1 0) (sym end);
+      given_count = h.header 4 (omega arith) (omega arith) ∙ a.given_count;
+      pair_count = h.header 5 (omega arith) (omega arith) ∙ a.pair_count;
+      last_word = refl;
+      no_seventh = h.header 7 (omega arith) (omega arith) ∙ a.no_seventh;
+    }
+
 raised_arranged : (x : List ℕ) (head : Head) (store : Store) (tree : Tree ℕ) (places : List Place) (given loose : List ℕ) (last : ℕ) → Arranged x head store tree places given loose →
     Arranged (with_word 0 6 last x) (head_of head.version last) store tree places given loose
 raised_arranged x head store tree places given loose last a =
     let y = with_word 0 6 last x in
-    let some = from_one x head store tree places given loose a in
-    let header : (i : ℕ) → i ≢ 6 → get_or y i 0 ≡ get_or x i 0 = λ i ne. get_or-set_other x 6 i last 0 ne in
-    let long : length y ≡ length x = length-set x 6 last in
-    let end = header 3 (omega arith) in
-    record {
-      sized = subst IsPartLength (sym long) a.sized;
-      version_word = header 0 (omega arith) ∙ a.version_word;
-      nodes = subst (λ r. Nodes y r tree places store) (sym (header 1 (omega arith))) (nodes_same x y (word_of x 0 1) tree places store long (header_stored x 6 last (flat_map lines_at places) (omega arith) some.0) a.nodes);
-      given_back = subst (λ f. IsChain y f given) (sym (header 2 (omega arith))) (chain_same x y given (word_of x 0 2) (header_stored x 6 last given (omega arith) some.1) a.given_back);
-      end_from = subst (λ e. 1 ≤ e) (sym end) a.end_from;
-      end_to = subst (λ n. word_of y 0 3 ≤ n / 8) (sym long) (subst (λ e. e ≤ length x / 8) (sym end) a.end_to);
-      once = λ k. a.once k ∙ ap (λ e. cond (leb 1 k && ltb k e) 1 0) (sym end);
-      given_count = header 4 (omega arith) ∙ a.given_count;
-      pair_count = header 5 (omega arith) ∙ a.pair_count;
-      last_word = get_or-set_same x 6 last 0 (let sized = a.sized.whole in let lines = a.sized.some in omega arith);
-      no_seventh = header 7 (omega arith) ∙ a.no_seventh;
-    }
+    let version : word_of y 0 0 ≡ head.version = get_or-set_other x 6 0 last 0 (omega arith) ∙ a.version_word in
+    let raised : word_of y 0 6 ≡ last = get_or-set_same x 6 last 0 (let whole = a.sized.whole in let some = a.sized.some in omega arith) in
+    subst (λ h. Arranged y h store tree places given loose) (ap₂ head_of version raised) (headed_arranged x y head store tree places given loose
+    (record { long = length-set x 6 last; header = λ i zero six. get_or-set_other x 6 i last 0 six; lines = λ lines some. header_stored x 6 last lines (omega arith) some }) a)
 
 pub raised : (x : List ℕ) (head : Head) (store : Store) (triples : List Triple) (last : ℕ) → HasTriples x head store triples → HasTriples (with_word 0 6 last x) (head_of head.version last) store triples
 raised x head store triples last h = record { tree = h.tree; places = h.places; given = h.given; arranged = raised_arranged x head store h.tree h.places h.given [] last h.arranged; told = h.told }
