@@ -1,5 +1,6 @@
 pub mod Meaning
 pub mod Place
+pub mod Revisions
 pub mod WordParts
 pub mod Words
 pub use Rattle.cx_base.specs.Store

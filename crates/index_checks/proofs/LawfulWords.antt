@@ -1,15 +1,17 @@
 -- Words of which all lines are checked stand for a store, and only such words.
-use Rattle.std.proofs.Common.{◌≡◌, ◌≢◌, ◌+◌, ◌^◌, ◌<◌, ◌≤◌, ℕ, zero, suc, Bool, true, false, cond, eqb, ltb, leb, ◌&&◌, List, [], ◌∷◌, ◌++◌, length, get_or, map, set, replicate, refl, sym, ap, subst, ◌∙◌, inl, inr, arith}
+use Rattle.std.proofs.Common.{◌≡◌, ◌≢◌, ◌+◌, ◌^◌, ◌<◌, ◌≤◌, ℕ, zero, suc, Bool, true, false, cond, eqb, ltb, leb, ◌&&◌, List, [], ◌∷◌, ◌++◌, length, get_or, map, set, replicate, refl, sym, ap, ap₂, subst, ◌∙◌, inl, inr, arith}
 use Rattle.std.specs.List.{All, flat_map}
 use Rattle.std.proofs.lemmas.Bool.{cases_eq, cases_lt}
 use Rattle.std.proofs.lemmas.Bool.Decides.{nat_tests}
 use Rattle.std.proofs.lemmas.List.{append-nil, length-set, length-replicate, get_or-set_same, get_or-set_other, get_or_past}
 use Rattle.std.proofs.lemmas.List.Elements.{All-from_get_or, All-head, All-tail}
 use Rattle.cx_base.specs.Store.{Store, IsKey, IsDocument}
+use Rattle.avl_words.specs.Tree.{items}
+use Rattle.avl_words.specs.Exact.{tree_in}
 use Rattle.avl_words.specs.Lines.{word_of, line_count}
 use Rattle.index_checks.proofs.Orders.{items_count, shape_lines, in_order_root}
-use Rattle.index_checks.specs.Layout.{Place, lines_at, Placed, nodes_of, StandsFor}
-use Rattle.index_checks.specs.Lawful.{IsLawful, HasOneStore, count_of, mark_of, CanMark, HasChain, NoChain, HasNodes, NoNodes, IsHeader, HasRoot, AreLinesLawful}
+use Rattle.index_checks.specs.Layout.{Place, lines_at, Placed, nodes_of, head_of, IsHead, AreRevisions, StandsFor}
+use Rattle.index_checks.specs.Lawful.{head_in, IsLawful, HasOneStore, count_of, mark_of, CanMark, HasChain, NoChain, HasNodes, NoNodes, IsHeader, HasRoot, AreLinesLawful}
 use Rattle.index_checks.specs.Reading.{text_at, pair_at, store_in}
 use Rattle.index_checks.proofs.Arranging.{tree_few, arranged_count, arranged_nodes, arranged_shape}
 use Rattle.index_checks.proofs.Counts.{count_append}
@@ -22,7 +24,7 @@ all_can : (ws : List ℕ) (marks : List Bool) (a : AreLinesLawful ws marks) → 
 all_can ws marks a = record { once = λ x. omega (arith, a.once x) }
 
 pub no_lines_nodes : (ws : List ℕ) (old : List Bool) → NoNodes ws old → AreLinesLawful ws old → ⊥
-no_lines_nodes ws old none a = none a.places a.store a.placed a.nodes a.lawful (can_mark_front old (flat_map lines_at a.places) a.given (all_can ws old a))
+no_lines_nodes ws old none a = none a.places a.store a.placed a.nodes a.lawful a.revisions (can_mark_front old (flat_map lines_at a.places) a.given (all_can ws old a))
 
 -- the places of all nodes are found
 same_places : (ws : List ℕ) (old now : List Bool) (h : HasNodes ws old now) (a : AreLinesLawful ws old) → a.places ≡ h.places
@@ -54,6 +56,7 @@ lines_all ws old now end h g all =
       placed = h.placed;
       nodes = h.nodes;
       lawful = h.lawful;
+      revisions = h.revisions;
       given_back = g.chain;
       given_counted = g.counted;
       once = λ x. sym (marked_times ws old now end h g x) ∙ all_marked end all x ∙ ap (λ n. cond (ltb x n) 1 0) long;
@@ -115,6 +118,7 @@ lawful_from ws version end is h r a =
         tree = t.tree;
         places = a.places;
         given = a.given;
+        last = word_of ws 0 6;
         arranged = record {
           sized = h.sized;
           version_word = h.version_word;
@@ -127,18 +131,37 @@ lawful_from ws version end is h r a =
               ap (λ ls. count_of x ls) (append-nil (flat_map lines_at a.places ++ a.given)) ∙ once_from x end _ _ some whole (header_mark end x some) ∙ ap (λ n. cond (leb 1 x && ltb x n) 1 0) is);
           given_count = sym a.given_counted;
           pair_count = sym t.counted ∙ sym (items_count t.tree) ∙ ap length nodes ∙ placed_count ws a.places a.store a.placed;
-          no_sixth = h.no_sixth;
+          last_word = refl;
           no_seventh = h.no_seventh;
         };
         lawful = a.lawful;
+        known = subst (λ n. IsHead (head_of n (word_of ws 0 6))) h.version_word h.known;
+        revisions = subst (λ n. AreRevisions (head_of n (word_of ws 0 6)) a.places) h.version_word a.revisions;
       },
     )
+
+-- what the header says
+pub head_is : (ws : List ℕ) (version : ℕ) (store : Store) (s : StandsFor ws version store) → head_of version s.last ≡ head_in ws
+head_is ws version store s = ap₂ head_of (sym s.arranged.version_word) (sym s.arranged.last_word)
+
+pub header_from : (ws : List ℕ) (version : ℕ) → IsLawful ws version → IsHeader ws version
+header_from ws version l =
+    let a = l.1.arranged in
+    record {
+      sized = a.sized;
+      version_word = a.version_word;
+      end_from = a.end_from;
+      end_to = a.end_to;
+      known = subst IsHead (head_is ws version l.0 l.1) l.1.known;
+      no_seventh = a.no_seventh;
+    }
 
 pub root_from : (ws : List ℕ) (version : ℕ) → IsLawful ws version → HasRoot ws
 root_from ws version l =
     let s = l.1 in
-    let shape = arranged_shape ws version l.0 s.tree s.places s.given [] s.arranged in
-    record { few = subst (λ n. n < word_of ws 0 3) (arranged_count ws version l.0 s.tree s.places s.given [] s.arranged) (tree_few ws version l.0 s.tree s.places s.given [] s.arranged); shape = shape }
+    let head = head_of version s.last in
+    let shape = arranged_shape ws head l.0 s.tree s.places s.given [] s.arranged in
+    record { few = subst (λ n. n < word_of ws 0 3) (arranged_count ws head l.0 s.tree s.places s.given [] s.arranged) (tree_few ws head l.0 s.tree s.places s.given [] s.arranged); shape = shape }
 
 pub lines_from : (ws : List ℕ) (version end : ℕ) → end ≡ word_of ws 0 3 → IsLawful ws version → AreLinesLawful ws (set (replicate end false) 0 true)
 lines_from ws version end is l =
@@ -151,8 +174,9 @@ lines_from ws version end is l =
       store = l.0;
       given = given;
       placed = a.nodes.pairs;
-      nodes = arranged_nodes ws version l.0 l.1.tree places given [] a;
+      nodes = arranged_nodes ws (head_of version l.1.last) l.0 l.1.tree places given [] a;
       lawful = l.1.lawful;
+      revisions = subst (λ h. AreRevisions h places) (head_is ws version l.0 l.1) l.1.revisions;
       given_back = a.given_back;
       given_counted = sym a.given_count;
       once = λ x. (
@@ -164,8 +188,8 @@ lines_from ws version end is l =
 -- words stand for at most one store
 pub one_store : (ws : List ℕ) (version other : ℕ) (store more : Store) → StandsFor ws version store → StandsFor ws other more → store ≡ more
 one_store ws version other store more s t =
-    let nodes = arranged_nodes ws version store s.tree s.places s.given [] s.arranged in
-    let nodes_too = arranged_nodes ws other more t.tree t.places t.given [] t.arranged in
+    let nodes = arranged_nodes ws (head_of version s.last) store s.tree s.places s.given [] s.arranged in
+    let nodes_too = arranged_nodes ws (head_of other t.last) more t.tree t.places t.given [] t.arranged in
     (placed_one ws s.places t.places store more s.arranged.nodes.pairs t.arranged.nodes.pairs (nodes ∙ sym nodes_too) s.lawful t.lawful).store_is
 
 -- lawful words have one store
@@ -193,8 +217,10 @@ pairs_are ws (p ∷ places) (q ∷ store) n keys documents =
     ap (λ x. x ∷ map (pair_at ws) (nodes_of places)) (two_parts (text_at p.node 3 ws) (text_at p.node 5 ws) q key document)
     ∙ ap (λ s. q ∷ s) (pairs_are ws places store n.1 (All-tail (λ p. IsKey p.0) q store keys) (All-tail (λ p. IsDocument p.1) q store documents))
 
+pub nodes_read : (ws : List ℕ) (version : ℕ) (store : Store) (s : StandsFor ws version store) → items (tree_in ws) ≡ nodes_of s.places
+nodes_read ws version store s = sym (in_order_root ws) ∙ sym (arranged_nodes ws (head_of version s.last) store s.tree s.places s.given [] s.arranged)
+
 pub store_is : (ws : List ℕ) (version : ℕ) (store : Store) → StandsFor ws version store → store_in ws ≡ store
 unfolding store_in
 store_is ws version store s =
-    let a = s.arranged in
-    ap (map (pair_at ws)) (sym (in_order_root ws) ∙ sym (arranged_nodes ws version store s.tree s.places s.given [] a)) ∙ pairs_are ws s.places store a.nodes.pairs s.lawful.keys s.lawful.documents
+    ap (map (pair_at ws)) (nodes_read ws version store s) ∙ pairs_are ws s.places store s.arranged.nodes.pairs s.lawful.keys s.lawful.documents

@@ -10,6 +10,7 @@ pub mod NodeChecks
 pub mod OneStore
 pub mod Orders
 pub mod PairChecks
+pub mod Revisions
 pub mod Shapes
 pub mod TextChecks
 pub mod Texts

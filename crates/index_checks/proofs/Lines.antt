@@ -9,7 +9,7 @@ use Rattle.std.proofs.lemmas.List.Sums.{get_or-le-sum_by}
 use Rattle.cx_base.specs.Store.{Store}
 use Rattle.avl_words.specs.Tree.{Tree}
 use Rattle.avl_words.specs.Lines.{IsWithin, word_of}
-use Rattle.index_checks.specs.Layout.{Place, lines_at, Arranged}
+use Rattle.index_checks.specs.Layout.{Place, lines_at, Head, Arranged}
 
 -- parts of a list
 pub all_left : {X : Type 0} (P : X → Type 0) (xs ys : List X) → All P (xs ++ ys) → All P xs
@@ -25,9 +25,9 @@ all_middle P xs ys y h = All-head P y ys (all_right P xs (y ∷ ys) h)
 counted_once : (line end n : ℕ) → cond (eqb line line) 1 0 ≤ n → n ≡ cond (leb 1 line && ltb line end) 1 0 → (1 ≤ line) × (line < end)
 counted_once line end n least e = (grind (arith, nat_tests), grind (arith, nat_tests))
 
-pub lines_there : (ws : List ℕ) (version : ℕ) (store : Store) (tree : Tree ℕ) (places : List Place) (given loose : List ℕ) → Arranged ws version store tree places given loose →
+pub lines_there : (ws : List ℕ) (head : Head) (store : Store) (tree : Tree ℕ) (places : List Place) (given loose : List ℕ) → Arranged ws head store tree places given loose →
     All (λ line. (1 ≤ line) × (line < word_of ws 0 3)) (flat_map lines_at places ++ given ++ loose)
-lines_there ws version store tree places given loose a k d l =
+lines_there ws head store tree places given loose a k d l =
     let lines = flat_map lines_at places ++ given ++ loose in
     let line = get_or lines k d in
     counted_once line (word_of ws 0 3) (count_by (λ x. eqb x line) lines) (get_or-le-sum_by (λ x. cond (eqb x line) 1 0) lines k d l) (a.once line)
@@ -35,10 +35,10 @@ lines_there ws version store tree places given loose a k d l =
 below_end : (n end line : ℕ) → n ≡ 8 * (n / 8) → end ≤ n / 8 → line < end → 8 * line + 8 ≤ n
 below_end n end line whole e l = omega arith
 
-pub lines_within : (ws : List ℕ) (version : ℕ) (store : Store) (tree : Tree ℕ) (places : List Place) (given loose : List ℕ) → Arranged ws version store tree places given loose →
+pub lines_within : (ws : List ℕ) (head : Head) (store : Store) (tree : Tree ℕ) (places : List Place) (given loose : List ℕ) → Arranged ws head store tree places given loose →
     All (IsWithin ws) (flat_map lines_at places ++ given ++ loose)
-lines_within ws version store tree places given loose a =
-    All-weaker (λ line. (1 ≤ line) × (line < word_of ws 0 3)) (IsWithin ws) (λ line h. below_end (length ws) (word_of ws 0 3) line a.sized.whole a.end_to h.1) _ (lines_there ws version store tree places given loose a)
+lines_within ws head store tree places given loose a =
+    All-weaker (λ line. (1 ≤ line) × (line < word_of ws 0 3)) (IsWithin ws) (λ line h. below_end (length ws) (word_of ws 0 3) line a.sized.whole a.end_to h.1) _ (lines_there ws head store tree places given loose a)
 
 -- the lines of one place among others
 pub place_lines : (P : ℕ → Type 0) (front rest : List Place) (place : Place) → All P (flat_map lines_at (front ++ place ∷ rest)) → All P (lines_at place)

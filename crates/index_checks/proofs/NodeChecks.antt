@@ -9,8 +9,8 @@ use Rattle.cx_base.specs.Store.{Store, IsStore, IsKey, IsDocument, KeysRise, key
 use Rattle.doc_model.proofs.Order.{below_both}
 use Rattle.avl_words.specs.Lines.{word_of}
 use Rattle.index_checks.specs.Order.{in_order}
-use Rattle.index_checks.specs.Layout.{Place, lines_at, Placed, nodes_of}
-use Rattle.index_checks.specs.Lawful.{Marks, CanMark, HasPair, NoPair, HasNodes, NoNodes}
+use Rattle.index_checks.specs.Layout.{Place, lines_at, Placed, nodes_of, IsRevision, AreRevisions}
+use Rattle.index_checks.specs.Lawful.{head_in, Marks, CanMark, HasPair, NoPair, HasNodes, NoNodes}
 use Rattle.index_checks.proofs.Lines.{all_middle}
 use Rattle.index_checks.proofs.Marking.{marks_none, marks_then, marks_same, can_mark_rest, can_mark_front}
 use Rattle.index_checks.proofs.OneStore.{IsPair, pairs_of, IsFront, placed_front, placed_append}
@@ -54,6 +54,7 @@ pub record FoundSoFar (ws more : List ℕ) (last : List ℕ) (old now : List Boo
   pub placed : Placed ws front lower
   pub nodes : nodes_of front ++ more ≡ in_order (word_of ws 0 1) ws
   pub lawful : IsStore lower
+  pub revisions : AreRevisions (head_in ws) front
   pub is_last : IsLast last lower
   pub marks : Marks old (flat_map lines_at front) now
 
@@ -64,6 +65,7 @@ found_none ws more marks e = record {
   placed = tt;
   nodes = e;
   lawful = record { rising = tt; keys = All-nil _; documents = All-nil _ };
+  revisions = All-nil _;
   is_last = last_none;
   marks = marks_none marks;
 }
@@ -84,6 +86,7 @@ found_more ws more node last key old now after f h =
         keys = All-push (λ p. IsKey p.0) f.lower pair f.lawful.keys h.is_key;
         documents = All-push (λ p. IsDocument p.1) f.lower pair f.lawful.documents h.is_document;
       };
+      revisions = All-push (λ (p : Place). IsRevision (head_in ws) p.revision) f.front h.place f.revisions h.is_revision;
       is_last = last_more last f.lower key h.document f.is_last h.rises;
       marks = marks_same old after (flat_map lines_at f.front ++ (lines_at h.place ++ [])) (flat_map lines_at (f.front ++ h.place ∷ [])) (sym (flat_map-append lines_at f.front (h.place ∷ [])))
           (marks_then old now after (flat_map lines_at f.front) (lines_at h.place ++ []) f.marks (marks_same now after (lines_at h.place) (lines_at h.place ++ []) (sym (append-nil (lines_at h.place))) h.marks));
@@ -96,24 +99,26 @@ found_all ws more last old now f e = record {
   placed = f.placed;
   nodes = sym (append-nil (nodes_of f.front)) ∙ ap (λ u. nodes_of f.front ++ u) (sym e) ∙ f.nodes;
   lawful = f.lawful;
+  revisions = f.revisions;
   marks = f.marks;
 }
 
 -- what stands behind the nodes found, of any pairs at the tree's nodes
-next_is_no_pair : (ws more : List ℕ) (node : ℕ) (last : List ℕ) (old now : List Bool) (f : FoundSoFar ws (node ∷ more) last old now) → NoPair ws node last now → (places : List Place) (store : Store) → IsStore store → CanMark old (flat_map lines_at places) →
+next_is_no_pair : (ws more : List ℕ) (node : ℕ) (last : List ℕ) (old now : List Bool) (f : FoundSoFar ws (node ∷ more) last old now) → NoPair ws node last now → (places : List Place) (store : Store) → IsStore store → AreRevisions (head_in ws) places → CanMark old (flat_map lines_at places) →
     (b : IsFront ws (node ∷ more) f.front places f.lower store) (rest : List Place) (others : Store) → rest ≡ b.rest → others ≡ b.others → nodes_of rest ≡ node ∷ more → Placed ws rest others → ⊥
-next_is_no_pair ws more node last old now f none places store lawful can b [] others e g n p = absurd (omega (arith, ap length n))
-next_is_no_pair ws more node last old now f none places store lawful can b (place ∷ rest) [] e g n p = absurd p
-next_is_no_pair ws more node last old now f none places store lawful can b (place ∷ rest) (pair ∷ others) e g n p =
+next_is_no_pair ws more node last old now f none places store lawful revisions can b [] others e g n p = absurd (omega (arith, ap length n))
+next_is_no_pair ws more node last old now f none places store lawful revisions can b (place ∷ rest) [] e g n p = absurd p
+next_is_no_pair ws more node last old now f none places store lawful revisions can b (place ∷ rest) (pair ∷ others) e g n p =
     let here : place.node ≡ node = cc in
     let places_are : places ≡ f.front ++ place ∷ rest = b.places_are ∙ ap (λ u. f.front ++ u) (sym e) in
     let store_is : store ≡ f.lower ++ pair ∷ others = b.store_is ∙ ap (λ u. f.lower ++ u) (sym g) in
     let is = all_middle IsPair f.lower others pair (subst (All IsPair) store_is (pairs_of store lawful)) in
     let lines = subst (CanMark old) (flat_map-append lines_at f.front (place ∷ rest)) (subst (λ ps. CanMark old (flat_map lines_at ps)) places_are can) in
     let left = can_mark_rest old now (flat_map lines_at f.front) (lines_at place ++ flat_map lines_at rest) f.marks lines in
-    none place pair (sym here) p.0 is.0 is.1 (f.is_last.below pair.0 is.0.some (rises_at f.lower others pair (subst KeysRise store_is lawful.rising))) (can_mark_front now (lines_at place) (flat_map lines_at rest) left)
+    let revision = all_middle (λ (p : Place). IsRevision (head_in ws) p.revision) f.front rest place (subst (AreRevisions (head_in ws)) places_are revisions) in
+    none place pair (sym here) p.0 revision is.0 is.1 (f.is_last.below pair.0 is.0.some (rises_at f.lower others pair (subst KeysRise store_is lawful.rising))) (can_mark_front now (lines_at place) (flat_map lines_at rest) left)
 
 pub no_nodes_next : (ws more : List ℕ) (node : ℕ) (last : List ℕ) (old now : List Bool) → FoundSoFar ws (node ∷ more) last old now → NoPair ws node last now → NoNodes ws old
-no_nodes_next ws more node last old now f none places store placed nodes lawful can =
+no_nodes_next ws more node last old now f none places store placed nodes lawful revisions can =
     let b = placed_front ws (node ∷ more) f.front places f.lower store f.placed placed (nodes ∙ sym f.nodes) (pairs_of f.lower f.lawful) (pairs_of store lawful) in
-    next_is_no_pair ws more node last old now f none places store lawful can b b.rest b.others refl refl b.nodes b.placed
+    next_is_no_pair ws more node last old now f none places store lawful revisions can b b.rest b.others refl refl b.nodes b.placed

@@ -59,10 +59,11 @@ pub record SamePair (p q : Place) (a b : List ℕ × List ℕ) : Type 0 where
   pub place : p ≡ q
   pub pair : a ≡ b
 
-place_one : (p q : Place) → p.node ≡ q.node → p.key_lines ≡ q.key_lines → p.document_lines ≡ q.document_lines → p ≡ q
-place_one p q e f g =
-    let make : ℕ → List ℕ → List ℕ → Place = λ n k d. record { node = n; key_lines = k; document_lines = d } in
-    ap (λ n. make n p.key_lines p.document_lines) e ∙ ap (λ k. make q.node k p.document_lines) f ∙ ap (λ d. make q.node q.key_lines d) g
+place_one : (p q : Place) → p.node ≡ q.node → p.key_lines ≡ q.key_lines → p.document_lines ≡ q.document_lines → p.revision ≡ q.revision → p ≡ q
+place_one p q e f g h =
+    let make : ℕ → List ℕ → List ℕ → ℕ → Place = λ n k d r. record { node = n; key_lines = k; document_lines = d; revision = r } in
+    ap (λ n. make n p.key_lines p.document_lines p.revision) e ∙ ap (λ k. make q.node k p.document_lines p.revision) f ∙ ap (λ d. make q.node q.key_lines d p.revision) g
+    ∙ ap (λ r. make q.node q.key_lines q.document_lines r) h
 
 two_parts : (a b : List ℕ × List ℕ) → a.0 ≡ b.0 → a.1 ≡ b.1 → a ≡ b
 two_parts a b e f =
@@ -85,7 +86,7 @@ pair_one ws p q a b at at_too here is is_too =
     let document = text_one ws (word_of ws p.node 5) p.document_lines q.document_lines a.1 b.1 at.document
     (subst (λ n. Holds ws (word_of ws n 5) q.document_lines b.1) (sym here) at_too.document) document_long (document_small a.1 is.1) (document_small b.1 is_too.1) in
     record {
-      place = place_one p q here key.in_lines document.in_lines;
+      place = place_one p q here key.in_lines document.in_lines (sym at.revised ∙ ap (λ n. word_of ws n 7) here ∙ at_too.revised);
       pair = two_parts a b key.of_bytes document.of_bytes;
     }
 

@@ -4,8 +4,8 @@ use Rattle.std.specs.declared.cmp.Ordering.TheVariants.{Less}
 use Rattle.std.proofs.lemmas.List.Elements.{All-head}
 use Rattle.cx_base.specs.Store.{IsKey, key_cmp}
 use Rattle.avl_words.specs.Lines.{word_of}
-use Rattle.index_checks.specs.Layout.{Holds, Place, lines_at, IsAt}
-use Rattle.index_checks.specs.Lawful.{Marks, CanMark, HasKey, HasDocument, NoDocument, HasPair, NoPair}
+use Rattle.index_checks.specs.Layout.{Holds, Place, lines_at, IsAt, IsRevision}
+use Rattle.index_checks.specs.Lawful.{head_in, Marks, CanMark, HasKey, HasDocument, NoDocument, HasPair, NoPair}
 use Rattle.index_checks.proofs.Marking.{marks_then, can_mark_rest, marked_there}
 use Rattle.index_checks.proofs.Texts.{key_small}
 use Rattle.index_checks.proofs.OneStore.{SameText, text_one}
@@ -22,20 +22,25 @@ key_same ws node old now key h place pair here is is_key =
     (sym h.long ∙ ap (λ n. word_of ws n 4) here ∙ is.key_length) (key_small key h.is_key) (key_small pair.0 is_key)
 
 pub no_pair_document : (ws : List ℕ) (node : ℕ) (last : List ℕ) (old now after : List Bool) (key : List ℕ) → Marks old (node ∷ []) now → HasKey ws node now after key → NoDocument ws node after → NoPair ws node last old
-no_pair_document ws node last old now after key m h none place pair here is is_key is_document rises can =
+no_pair_document ws node last old now after key m h none place pair here is revision is_key is_document rises can =
     let same = (key_same ws node now after key h place pair here is is_key).in_lines in
     let left = subst (λ ls. CanMark now (ls ++ place.document_lines)) (sym same) (behind_node node old now place m here can) in
     none place.document_lines pair.1 (subst (λ n. Holds ws (word_of ws n 5) place.document_lines pair.1) (sym here) is.document) (ap (λ n. word_of ws n 6) here ∙ is.document_length) is_document
     (can_mark_rest now after h.lines place.document_lines h.marks left)
 
+-- the node's word 7 is the pair's revision
+pub no_pair_revision : (ws : List ℕ) (node : ℕ) (last : List ℕ) (old : List Bool) → (IsRevision (head_in ws) (word_of ws node 7) → ⊥) → NoPair ws node last old
+no_pair_revision ws node last old none place pair here is revision is_key is_document rises can =
+    none (subst (IsRevision (head_in ws)) (sym (ap (λ n. word_of ws n 7) here ∙ is.revised)) revision)
+
 pub no_pair_order : (ws : List ℕ) (node : ℕ) (last : List ℕ) (old now after : List Bool) (key : List ℕ) → HasKey ws node now after key → (key_cmp last key ≡ Less → ⊥) → NoPair ws node last old
-no_pair_order ws node last old now after key h none place pair here is is_key is_document rises can =
+no_pair_order ws node last old now after key h none place pair here is revision is_key is_document rises can =
     none (subst (λ k. key_cmp last k ≡ Less) (sym (key_same ws node now after key h place pair here is is_key).of_bytes) rises)
 
-pub pair_there : (ws : List ℕ) (node : ℕ) (last : List ℕ) (old now after end : List Bool) (key : List ℕ) → Marks old (node ∷ []) now → word_of ws node 7 ≡ 0 → HasKey ws node now after key → HasDocument ws node after end → key_cmp last key ≡ Less →
+pub pair_there : (ws : List ℕ) (node : ℕ) (last : List ℕ) (old now after end : List Bool) (key : List ℕ) → Marks old (node ∷ []) now → IsRevision (head_in ws) (word_of ws node 7) → HasKey ws node now after key → HasDocument ws node after end → key_cmp last key ≡ Less →
     HasPair ws node last old end key
-pair_there ws node last old now after end key m plain k d rises = record {
-  place = record { node = node; key_lines = k.lines; document_lines = d.lines };
+pair_there ws node last old now after end key m revision k d rises = record {
+  place = record { node = node; key_lines = k.lines; document_lines = d.lines; revision = word_of ws node 7 };
   document = d.document;
   here = refl;
   is = record {
@@ -43,8 +48,9 @@ pair_there ws node last old now after end key m plain k d rises = record {
     key_length = k.long;
     document = d.holds;
     document_length = d.long;
-    no_more = plain;
+    revised = refl;
   };
+  is_revision = revision;
   is_key = k.is_key;
   is_document = d.is_document;
   rises = rises;

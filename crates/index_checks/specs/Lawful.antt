@@ -6,7 +6,11 @@ use Rattle.cx_base.specs.Store.{Store, IsStore, IsKey, IsDocument, key_cmp}
 use Rattle.index_checks.specs.Order.{in_order}
 use Rattle.index_checks.specs.Shape.{HasShape}
 use Rattle.avl_words.specs.Lines.{word_of, line_count, IsPartLength, IsWithin}
-use Rattle.index_checks.specs.Layout.{IsChain, Holds, Place, lines_at, IsAt, Placed, nodes_of, StandsFor}
+use Rattle.index_checks.specs.Layout.{IsChain, Holds, Place, lines_at, IsAt, Placed, nodes_of, Head, head_of, IsHead, IsRevision, AreRevisions, StandsFor}
+
+-- what the header says of revisions, whatever the words are
+abbrev pub head_in : List ℕ → Head
+head_in words = head_of (word_of words 0 0) (word_of words 0 6)
 
 -- words stand for some store with this version
 abbrev pub IsLawful : List ℕ → ℕ → Type 0
@@ -111,6 +115,7 @@ pub record HasPair (words : List ℕ) (node : ℕ) (last : List ℕ) (old now : 
   pub document : List ℕ
   pub here : node ≡ place.node
   pub is : IsAt words place (key, document)
+  pub is_revision : IsRevision (head_in words) place.revision
   pub is_key : IsKey key
   pub is_document : IsDocument document
   pub rises : key_cmp last key ≡ Less
@@ -118,7 +123,7 @@ pub record HasPair (words : List ℕ) (node : ℕ) (last : List ℕ) (old now : 
 
 abbrev pub NoPair : List ℕ → ℕ → List ℕ → List Bool → Type 0
 NoPair words node last old =
-    (place : Place) (pair : List ℕ × List ℕ) → node ≡ place.node → IsAt words place pair → IsKey pair.0 → IsDocument pair.1 → key_cmp last pair.0 ≡ Less → CanMark old (lines_at place) → ⊥
+    (place : Place) (pair : List ℕ × List ℕ) → node ≡ place.node → IsAt words place pair → IsRevision (head_in words) place.revision → IsKey pair.0 → IsDocument pair.1 → key_cmp last pair.0 ≡ Less → CanMark old (lines_at place) → ⊥
 
 -- the nodes of the tree, in order, are those of the pairs of a store, with all their lines marked
 pub record HasNodes (words : List ℕ) (old now : List Bool) : Type 0 where
@@ -127,11 +132,12 @@ pub record HasNodes (words : List ℕ) (old now : List Bool) : Type 0 where
   pub placed : Placed words places store
   pub nodes : nodes_of places ≡ in_order (word_of words 0 1) words
   pub lawful : IsStore store
+  pub revisions : AreRevisions (head_in words) places
   pub marks : Marks old (flat_map lines_at places) now
 
 abbrev pub NoNodes : List ℕ → List Bool → Type 0
 NoNodes words old =
-    (places : List Place) (store : Store) → Placed words places store → nodes_of places ≡ in_order (word_of words 0 1) words → IsStore store → CanMark old (flat_map lines_at places) → ⊥
+    (places : List Place) (store : Store) → Placed words places store → nodes_of places ≡ in_order (word_of words 0 1) words → IsStore store → AreRevisions (head_in words) places → CanMark old (flat_map lines_at places) → ⊥
 
 -- the words of a header that name no line
 pub record IsHeader (words : List ℕ) (version : ℕ) : Type 0 where
@@ -139,7 +145,7 @@ pub record IsHeader (words : List ℕ) (version : ℕ) : Type 0 where
   pub version_word : word_of words 0 0 ≡ version
   pub end_from : 1 ≤ word_of words 0 3
   pub end_to : word_of words 0 3 ≤ line_count words
-  pub no_sixth : word_of words 0 6 ≡ 0
+  pub known : IsHead (head_in words)
   pub no_seventh : word_of words 0 7 ≡ 0
 
 -- a balanced tree of as many nodes as the header says, fewer than there are lines
@@ -163,6 +169,7 @@ pub record AreLinesLawful (words : List ℕ) (marks : List Bool) : Type 0 where
   pub placed : Placed words places store
   pub nodes : nodes_of places ≡ in_order (word_of words 0 1) words
   pub lawful : IsStore store
+  pub revisions : AreRevisions (head_in words) places
   pub given_back : IsChain words (word_of words 0 2) given
   pub given_counted : length given ≡ word_of words 0 4
   pub once : (line : ℕ) → count_of line (flat_map lines_at places ++ given) + mark_of marks line ≡ (if nat_lt line (length marks) then 1 else 0)

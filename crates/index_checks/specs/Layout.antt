@@ -1,6 +1,6 @@
 -- How words stand for a store: a header, a balanced tree of nodes, chains of blocks, and a chain of given-back lines.
 -- A line is 8 words; line 0 is the header, and a word that names no line is 0.
-use Rattle.std.specs.Prelude.{◌≡◌, ◌+◌, ◌*◌, ◌/◌, ◌%◌, ◌<◌, ◌≤◌, ◌==◌, ◌&&◌, nat_le, nat_lt, ℕ, List, [], ◌∷◌, ◌++◌, length, map, slice_index, count_by, if◌then◌else◌}
+use Rattle.std.specs.Prelude.{◌≡◌, ◌+◌, ◌*◌, ◌/◌, ◌%◌, ◌<◌, ◌≤◌, ◌==◌, ◌&&◌, ◌⊎◌, nat_le, nat_lt, ℕ, List, [], ◌∷◌, ◌++◌, length, map, slice_index, count_by, if◌then◌else◌, All}
 use Rattle.std.specs.List.{flat_map}
 use Rattle.cx_base.specs.Store.{Store, IsStore, blocks}
 use Rattle.cx_base.specs.Packing.{packed_at}
@@ -20,11 +20,12 @@ pub record Holds (words : List ℕ) (first : ℕ) (lines bytes : List ℕ) : Typ
   pub enough : length lines ≡ blocks bytes
   pub packed : (i : ℕ) → i < 7 * length lines → word_of words (slice_index lines (i / 7)) (1 + i % 7) ≡ packed_at bytes i
 
--- the lines of a pair: its node, and the blocks of its key and of its document
+-- the lines of a pair: its node, and the blocks of its key and of its document; and its revision
 pub record Place : Type 0 where
   pub node : ℕ
   pub key_lines : List ℕ
   pub document_lines : List ℕ
+  pub revision : ℕ
 
 abbrev pub lines_at : Place → List ℕ
 lines_at place = place.node ∷ place.key_lines ++ place.document_lines
@@ -35,7 +36,7 @@ pub record IsAt (words : List ℕ) (place : Place) (pair : List ℕ × List ℕ)
   pub key_length : word_of words place.node 4 ≡ length pair.0
   pub document : Holds words (word_of words place.node 5) place.document_lines pair.1
   pub document_length : word_of words place.node 6 ≡ length pair.1
-  pub no_more : word_of words place.node 7 ≡ 0
+  pub revised : word_of words place.node 7 ≡ place.revision
 
 -- the pairs of a store stand at places
 abbrev pub Placed : List ℕ → List Place → Store → Type 0
@@ -56,10 +57,29 @@ pub record Nodes (words : List ℕ) (from : ℕ) (tree : Tree ℕ) (places : Lis
   pub in_order : items tree ≡ nodes_of places
   pub pairs : Placed words places store
 
+-- what a header says of the pairs' revisions: the version of the format, and the last revision that was given
+pub record Head : Type 0 where
+  pub version : ℕ
+  pub last : ℕ
+
+abbrev pub head_of : ℕ → ℕ → Head
+head_of version last = record { version = version; last = last }
+
+-- A header that may be: in version 1 no revision was given, and there is no version but 1 and 2.
+abbrev pub IsHead : Head → Type 0
+IsHead head = ((head.version ≡ 1) × (head.last ≡ 0)) ⊎ (head.version ≡ 2)
+
+-- a revision that a pair may have: in version 1 it is 0, and in version 2 it is from 1 to the last one given
+abbrev pub IsRevision : Head → ℕ → Type 0
+IsRevision head revision = (head.version ≤ revision + 1) × (revision ≤ head.last)
+
+abbrev pub AreRevisions : Head → List Place → Type 0
+AreRevisions head places = All (λ place. IsRevision head place.revision) places
+
 -- Words in which the pairs of a store stand in a tree at places, and lines are given back. While a change is made, some lines are loose: neither in use nor given back.
-pub record Arranged (words : List ℕ) (version : ℕ) (store : Store) (tree : Tree ℕ) (places : List Place) (given loose : List ℕ) : Type 0 where
+pub record Arranged (words : List ℕ) (head : Head) (store : Store) (tree : Tree ℕ) (places : List Place) (given loose : List ℕ) : Type 0 where
   pub sized : IsPartLength (length words)
-  pub version_word : word_of words 0 0 ≡ version
+  pub version_word : word_of words 0 0 ≡ head.version
   pub nodes : Nodes words (word_of words 0 1) tree places store
   pub given_back : IsChain words (word_of words 0 2) given
   pub end_from : 1 ≤ word_of words 0 3
@@ -68,19 +88,21 @@ pub record Arranged (words : List ℕ) (version : ℕ) (store : Store) (tree : T
   pub once : (line : ℕ) → count_by (λ x. x == line) (flat_map lines_at places ++ given ++ loose) ≡ (if nat_le 1 line && nat_lt line (word_of words 0 3) then 1 else 0)
   pub given_count : word_of words 0 4 ≡ length given
   pub pair_count : word_of words 0 5 ≡ length store
-  pub no_sixth : word_of words 0 6 ≡ 0
+  pub last_word : word_of words 0 6 ≡ head.last
   pub no_seventh : word_of words 0 7 ≡ 0
 
--- words stand for a store
+-- words of a version stand for a store
 pub record StandsFor (words : List ℕ) (version : ℕ) (store : Store) : Type 0 where
   pub tree : Tree ℕ
   pub places : List Place
   pub given : List ℕ
-  pub arranged : Arranged words version store tree places given []
+  pub last : ℕ
+  pub arranged : Arranged words (head_of version last) store tree places given []
   pub lawful : IsStore store
+  pub known : IsHead (head_of version last)
+  pub revisions : AreRevisions (head_of version last) places
 
--- words that stand for some store
+-- words of version 2 that stand for some store
 pub record IsIndex (words : List ℕ) : Type 0 where
-  pub version : ℕ
   pub store : Store
-  pub stands : StandsFor words version store
+  pub stands : StandsFor words 2 store

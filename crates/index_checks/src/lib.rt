@@ -23,6 +23,9 @@ mod words;
 
 pub use checking::lawful;
 pub use in_order::InOrder;
-pub use laws::{lawful_words_have_one_store, words_stand_for_one_store, words_tell_their_store};
+pub use laws::{
+    lawful_words_have_one_revised_store, lawful_words_have_one_store, words_stand_for_one_store,
+    words_tell_their_store,
+};
 pub use listing::pairs_of;
 pub use shape::is_balanced;

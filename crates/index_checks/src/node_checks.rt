@@ -6,7 +6,8 @@ ghost use Rattle.std.specs.declared.cmp.Ordering.TheVariants.{Less};
 ghost use Rattle.cx_base.specs.Store.{key_cmp};
 ghost use Rattle.index_checks.specs.Shape.{HasShape};
 ghost use Rattle.avl_words.specs.Lines.{word_of, IsPartLength};
-ghost use Rattle.index_checks.specs.Lawful.{CanCheck, HasKey, NoKey, HasDocument, NoDocument, HasPair, NoPair, HasNodes, NoNodes};
+ghost use Rattle.index_checks.specs.Layout.{IsRevision};
+ghost use Rattle.index_checks.specs.Lawful.{head_in, CanCheck, HasKey, NoKey, HasDocument, NoDocument, HasPair, NoPair, HasNodes, NoNodes};
 
 use crate::in_order::InOrder;
 use crate::marks::mark;
@@ -68,6 +69,14 @@ fn is_above(key: &[u8], other: &[u8]) -> bool
     other.cmp(key).is_lt()
 }
 
+/// Whether a revision is right for the header: 0 in version 1, and from 1 to the last one given in version 2.
+fn is_revision(words: &[u64], revision: u64) -> bool
+    requires { 8 ≤ length words.now }
+    ensures { IsTrue result ↔ IsRevision (head_in words.now) revision }
+{
+    words[0].saturating_sub(1) <= revision && revision <= words[6]
+}
+
 /// Marks the lines of the pair of a node and reads its key: false where it is no node of a pair with a key above the
 /// last one.
 fn pair_at(words: &[u64], marks: &mut [bool], node: u64, last: &[u8], key: &mut [u8; 112]) -> bool
@@ -77,7 +86,7 @@ fn pair_at(words: &[u64], marks: &mut [bool], node: u64, last: &[u8], key: &mut 
     if !mark(marks, node) {
         return false;
     }
-    if word_at(words, node, 7) != 0 {
+    if !is_revision(words, word_at(words, node, 7)) {
         return false;
     }
     if !key_of_node(words, marks, node, key) {

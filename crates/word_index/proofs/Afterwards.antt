@@ -13,15 +13,15 @@ use Rattle.word_index.proofs.ExactChanges.{removed_is}
 use Rattle.word_index.proofs.Inserting.{inserted_is}
 
 after_insert : (inserted : Inserted) (x y key document : List ℕ) → IsIndex x → Inserts key document inserted x y → IsIndex y
-after_insert NoRoom x y key document i r = subst IsIndex (sym (r i.version i.store i.stands).1) i
-after_insert New x y key document i r = record { version = i.version; store = with_pair key document i.store; stands = (r i.version i.store i.stands).2 }
-after_insert Replaced x y key document i r = record { version = i.version; store = with_pair key document i.store; stands = (r i.version i.store i.stands).2 }
+after_insert NoRoom x y key document i r = subst IsIndex (sym (r i.store i.stands).1) i
+after_insert New x y key document i r = record { store = with_pair key document i.store; stands = (r i.store i.stands).2 }
+after_insert Replaced x y key document i r = record { store = with_pair key document i.store; stands = (r i.store i.stands).2 }
 
 pub index_after_insert : (x y key document : List ℕ) → IsKey key → IsDocument document → IsIndex x → y ≡ with_document key document x → IsIndex y
 index_after_insert x y key document k d i e = subst IsIndex (sym e) (after_insert _ x _ key document i (inserted_is key document x k d))
 
 pub index_after_remove : (x y key : List ℕ) → IsIndex x → y ≡ with_key_removed key x → IsIndex y
-index_after_remove x y key i e = subst IsIndex (sym e) (record { version = i.version; store = without_key key i.store; stands = (removed_is key x i.version i.store i.stands).after })
+index_after_remove x y key i e = subst IsIndex (sym e) (record { store = without_key key i.store; stands = (removed_is key x i.store i.stands).after })
 
 pub found_node : (ws key : List ℕ) (node : ℕ) → IsIndex ws → ((version : ℕ) (store : Store) → StandsFor ws version store → IsFound ws key (Some node) store) → HasNode ws node
-found_node ws key node i r = (let f = r i.version i.store i.stands in record { pair = (key, f.0); is = f.2 })
+found_node ws key node i r = (let f = r 2 i.store i.stands in record { pair = (key, f.0); is = f.2 })

@@ -1,5 +1,5 @@
 -- Words that stand for a store.
-use Rattle.std.proofs.Common.{◌≡◌, ◌<◌, ◌+◌, ◌++◌, ℕ, drop, set, refl, subst, cond, ltb, leb, ◌&&◌, List, [], ◌∷◌, length, get_or, take, replicate, sym, ap, ◌∙◌, arith}
+use Rattle.std.proofs.Common.{◌≡◌, ◌<◌, ◌+◌, ◌++◌, ℕ, drop, set, refl, subst, cond, ltb, leb, ◌&&◌, List, [], ◌∷◌, length, get_or, take, replicate, sym, ap, inr, ◌∙◌, arith}
 use Rattle.std.proofs.lemmas.Bool.Decides.{nat_tests}
 use Rattle.std.proofs.lemmas.List.{get_or-take, take-append-drop, take_more, take_more_set, drop-set-lt}
 use Rattle.std.proofs.lemmas.List.Elements.{All-nil}
@@ -17,14 +17,15 @@ header_word ws front i e l = sym (get_or-take 8 ws i 0 l) ∙ ap (λ s. get_or s
 none_below : (line end : ℕ) → end ≡ 1 → ◌≡◌ {A = ℕ} 0 (cond (leb 1 line && ltb line end) 1 0)
 none_below line end e = grind (arith, nat_tests)
 
-pub stands_empty : (ws : List ℕ) (version : ℕ) → IsPartLength (length ws) → take 8 ws ≡ version ∷ 0 ∷ 0 ∷ 1 ∷ replicate 4 0 → StandsFor ws version []
-stands_empty ws version sized header =
+pub stands_empty : (ws : List ℕ) (version : ℕ) → version ≡ 2 → IsPartLength (length ws) → take 8 ws ≡ version ∷ 0 ∷ 0 ∷ 1 ∷ replicate 4 0 → StandsFor ws version []
+stands_empty ws version two sized header =
     let front : List ℕ = version ∷ 0 ∷ 0 ∷ 1 ∷ replicate 4 0 in
     let end : get_or ws 3 0 ≡ 1 = header_word ws front 3 header (omega arith) in
     record {
       tree = Empty;
       places = [];
       given = [];
+      last = 0;
       arranged = record {
         sized = sized;
         version_word = header_word ws front 0 header (omega arith);
@@ -35,10 +36,12 @@ stands_empty ws version sized header =
         once = λ line. none_below line (get_or ws 3 0) end;
         given_count = header_word ws front 4 header (omega arith);
         pair_count = header_word ws front 5 header (omega arith);
-        no_sixth = header_word ws front 6 header (omega arith);
+        last_word = header_word ws front 6 header (omega arith);
         no_seventh = header_word ws front 7 header (omega arith);
       };
       lawful = record { rising = tt; keys = All-nil _; documents = All-nil _ };
+      known = inr two;
+      revisions = All-nil _;
     }
 
 -- so many words of the header are stored, and those behind the header are as they were
@@ -61,13 +64,13 @@ empty_more version at v x y below sized is so =
 whole_header : (version at : ℕ) (x y : List ℕ) → at ≡ 8 → EmptySoFar version at x y → take 8 y ≡ version ∷ 0 ∷ 0 ∷ 1 ∷ replicate 4 0
 whole_header version at x y e so = subst (λ n. take n y ≡ take n (version ∷ 0 ∷ 0 ∷ 1 ∷ replicate 4 0)) e so.front
 
-pub empty_stands : (version at : ℕ) (x y : List ℕ) → at ≡ 8 → IsPartLength (length y) → EmptySoFar version at x y → StandsFor y version []
-empty_stands version at x y e sized so = stands_empty y version sized (whole_header version at x y e so)
+pub empty_stands : (version at : ℕ) (x y : List ℕ) → version ≡ 2 → at ≡ 8 → IsPartLength (length y) → EmptySoFar version at x y → StandsFor y version []
+empty_stands version at x y two e sized so = stands_empty y version two sized (whole_header version at x y e so)
 
 pub empty_done : (version at : ℕ) (x y : List ℕ) → at ≡ 8 → EmptySoFar version at x y → y ≡ with_empty_header version x
 unfolding with_empty_header
 empty_done version at x y e so = sym (take-append-drop 8 y) ∙ ap (λ s. s ++ drop 8 y) (whole_header version at x y e so) ∙ ap (λ s. (version ∷ 0 ∷ 0 ∷ 1 ∷ replicate 4 0) ++ s) so.behind
 
 -- an index stands for the store that is read off its words
-pub stands_read : (ws : List ℕ) (i : IsIndex ws) → StandsFor ws i.version (store_in ws)
-stands_read ws i = subst (StandsFor ws i.version) (sym (store_is ws i.version i.store i.stands)) i.stands
+pub stands_read : (ws : List ℕ) (i : IsIndex ws) → StandsFor ws 2 (store_in ws)
+stands_read ws i = subst (StandsFor ws 2) (sym (store_is ws 2 i.store i.stands)) i.stands

@@ -1,5 +1,5 @@
 -- The node of a key is taken out of the tree, and its lines are loose.
-use Rattle.std.proofs.Common.{◌≡◌, ◌≢◌, ◌^◌, ◌+◌, ◌-◌, ◌≤◌, ℕ, true, false, cond, List, [], ◌∷◌, ◌++◌, length, is_some, sym, ap, subst, ◌∙◌, append_assoc, length-append, arith}
+use Rattle.std.proofs.Common.{◌≡◌, ◌≢◌, ◌^◌, ◌+◌, ◌-◌, ◌≤◌, ℕ, true, false, cond, List, [], ◌∷◌, ◌++◌, length, is_some, sym, ap, ap₂, subst, ◌∙◌, append_assoc, length-append, arith}
 use Rattle.std.specs.List.{flat_map, All}
 use Rattle.std.specs.declared.cmp.Ordering.TheVariants.{Less}
 use Rattle.std.proofs.lemmas.List.Elements.{All-append, All-head, All-tail}
@@ -19,7 +19,7 @@ use Rattle.avl_words.specs.Words.{root, times as tree_times}
 use Rattle.avl_words.specs.Exact.{with_tree}
 use Rattle.avl_words.proofs.ExactWords.{tree_in_is}
 use Rattle.avl_words.proofs.ExactTrees.{AreThere, tree_header}
-use Rattle.index_checks.specs.Layout.{Place, lines_at, nodes_of, Arranged, StandsFor, IsIndex}
+use Rattle.index_checks.specs.Layout.{Place, lines_at, nodes_of, Arranged, StandsFor, IsIndex, head_of}
 use Rattle.index_checks.proofs.LawfulWords.{store_is}
 use Rattle.index_checks.proofs.Lines.{all_left, all_right}
 use Rattle.index_checks.proofs.OneStore.{placed_append}
@@ -32,6 +32,8 @@ use Rattle.word_index.proofs.Frames.{times, times_append, at_same}
 use Rattle.word_index.proofs.Relaying.{IsRelaid, relaid_words, relaid_once, relaid_there, loose_same, relaid}
 use Rattle.word_index.proofs.Splits.{document_there, without_itself, without_nothing}
 use Rattle.word_index.proofs.KeyPlaces.{tree_of, map_append, walk_end, HasPlace, spot_place, spot_none, spot_missing}
+use Rattle.index_checks.proofs.Revisions.{triples_of}
+use Rattle.word_index.proofs.Triples.{HasTriples, removed_at, triples_without}
 
 -- how often a line stands in places with one place among them
 pub times_middle : (x : ℕ) (front rest : List Place) (place : Place) →
@@ -42,21 +44,6 @@ times_middle x front rest place =
 
 pub times_parts : (x : ℕ) (front rest : List Place) → times x (flat_map lines_at (front ++ rest)) ≡ times x (flat_map lines_at front) + times x (flat_map lines_at rest)
 times_parts x front rest = ap (times x) (flat_map-append lines_at front rest) ∙ times_append x (flat_map lines_at front) (flat_map lines_at rest)
-
--- a store without a pair in its middle
-all_without : {X : Type 0} (P : X → Type 0) (xs ys : List X) (y : X) → All P (xs ++ y ∷ ys) → All P (xs ++ ys)
-all_without P xs ys y h = All-append P xs ys (all_left P xs (y ∷ ys) h) (All-tail P y ys (all_right P xs (y ∷ ys) h))
-
-rises_without : (lower after : Store) (pair : List ℕ × List ℕ) → KeysRise (lower ++ pair ∷ after) → KeysRise (lower ++ after)
-rises_without [] after pair r = r.1
-rises_without (q ∷ lower) after pair r = (all_without (λ p. key_cmp q.0 p.0 ≡ Less) lower after pair r.0, rises_without lower after pair r.1)
-
-pub store_without : (lower after : Store) (pair : List ℕ × List ℕ) → IsStore (lower ++ pair ∷ after) → IsStore (lower ++ after)
-store_without lower after pair s = record {
-  rising = rises_without lower after pair s.rising;
-  keys = all_without (λ p. IsKey p.0) lower after pair s.keys;
-  documents = all_without (λ p. IsDocument p.1) lower after pair s.documents;
-}
 
 -- the words without a node
 module _ (ws key : List ℕ) (version : ℕ) (store : Store) (s : StandsFor ws version store) (node : ℕ) (h : HasPlace ws key s.places store (walk_end (order_in key ws) s.tree).0 (walk_end (order_in key ws) s.tree).1 node) where
@@ -76,8 +63,8 @@ module _ (ws key : List ℕ) (version : ℕ) (store : Store) (s : StandsFor ws v
       let b = subst Balanced (sym (spot_whole (order_in key ws) [] s.tree)) s.arranged.nodes.balanced in
       subst (λ u. Balanced (with_out way u)) (sym h.here_is) (out_balanced way h.left node h.right (subst (λ u. Balanced (whole way u)) h.here_is b))
 
-  arranged : Arranged ws version (h.at.lower ++ h.at.pair ∷ h.at.after) s.tree (h.at.front ++ h.at.place ∷ h.at.rest) s.given []
-  arranged = subst (λ ps. Arranged ws version (h.at.lower ++ h.at.pair ∷ h.at.after) s.tree ps s.given []) h.at.places_are (subst (λ st. Arranged ws version st s.tree s.places s.given []) h.at.store_is s.arranged)
+  arranged : Arranged ws (head_of version s.last) (h.at.lower ++ h.at.pair ∷ h.at.after) s.tree (h.at.front ++ h.at.place ∷ h.at.rest) s.given []
+  arranged = subst (λ ps. Arranged ws (head_of version s.last) (h.at.lower ++ h.at.pair ∷ h.at.after) s.tree ps s.given []) h.at.places_are (subst (λ st. Arranged ws (head_of version s.last) st s.tree s.places s.given []) h.at.store_is s.arranged)
 
   same_lines : (x : ℕ) → times x (flat_map lines_at (h.at.front ++ h.at.rest) ++ s.given ++ (lines_at h.at.place ++ [])) ≡ times x (flat_map lines_at (h.at.front ++ h.at.place ∷ h.at.rest) ++ s.given ++ [])
   same_lines x =
@@ -96,10 +83,10 @@ module _ (ws key : List ℕ) (version : ℕ) (store : Store) (s : StandsFor ws v
   header_there = (let some = s.arranged.sized.some in omega arith)
 
   once : (x : ℕ) → tree_times x out ≤ 1
-  once = relaid_once ws version (h.at.lower ++ h.at.pair ∷ h.at.after) (h.at.lower ++ h.at.after) s.tree out (h.at.front ++ h.at.place ∷ h.at.rest) (h.at.front ++ h.at.rest) s.given [] (lines_at h.at.place ++ []) arranged out_order same_lines
+  once = relaid_once ws (head_of version s.last) (h.at.lower ++ h.at.pair ∷ h.at.after) (h.at.lower ++ h.at.after) s.tree out (h.at.front ++ h.at.place ∷ h.at.rest) (h.at.front ++ h.at.rest) s.given [] (lines_at h.at.place ++ []) arranged out_order same_lines
 
   there : AreThere ws out
-  there = relaid_there ws version (h.at.lower ++ h.at.pair ∷ h.at.after) (h.at.lower ++ h.at.after) s.tree out (h.at.front ++ h.at.place ∷ h.at.rest) (h.at.front ++ h.at.rest) s.given [] (lines_at h.at.place ++ []) arranged out_order same_lines
+  there = relaid_there ws (head_of version s.last) (h.at.lower ++ h.at.pair ∷ h.at.after) (h.at.lower ++ h.at.after) s.tree out (h.at.front ++ h.at.place ∷ h.at.rest) (h.at.front ++ h.at.rest) s.given [] (lines_at h.at.place ++ []) arranged out_order same_lines
 
   pub count_kept : word_of (with_tree (without (order_in key ws) s.tree) ws) 0 5 ≡ length (h.at.lower ++ h.at.after) + 1
   count_kept =
@@ -113,15 +100,15 @@ module _ (ws key : List ℕ) (version : ℕ) (store : Store) (s : StandsFor ws v
       let e : n - 1 ≡ length (h.at.lower ++ h.at.after) = (let c = count_kept in omega arith) in
       subst (IsRelaid ws (with_word 0 5 (n - 1) (with_tree out ws)) out) e (relaid_words ws out (n - 1) header_there once there)
 
-  pub cut_loose : LoosePair (with_one_less (with_tree (without (order_in key ws) s.tree) ws)) node version (h.at.lower ++ h.at.after) (without (order_in key ws) s.tree) (h.at.front ++ h.at.rest) h.at.place h.at.pair
+  pub cut_loose : LoosePair (with_one_less (with_tree (without (order_in key ws) s.tree) ws)) node (head_of version s.last) (h.at.lower ++ h.at.after) (without (order_in key ws) s.tree) (h.at.front ++ h.at.rest) h.at.place h.at.pair
   cut_loose =
       let now = with_one_less (with_tree out ws) in
-      let lo = loose_same ws version (h.at.lower ++ h.at.pair ∷ h.at.after) (h.at.lower ++ h.at.after) s.tree out (h.at.front ++ h.at.place ∷ h.at.rest) (h.at.front ++ h.at.rest) s.given [] (lines_at h.at.place ++ []) arranged out_order same_lines now relaid_now in
+      let lo = loose_same ws (head_of version s.last) (h.at.lower ++ h.at.pair ∷ h.at.after) (h.at.lower ++ h.at.after) s.tree out (h.at.front ++ h.at.place ∷ h.at.rest) (h.at.front ++ h.at.rest) s.given [] (lines_at h.at.place ++ []) arranged out_order same_lines now relaid_now in
       let lines = all_left (SameLine ws now) (lines_at h.at.place) [] lo in
       record {
         loose = record {
           given = s.given;
-          arranged = relaid ws version (h.at.lower ++ h.at.pair ∷ h.at.after) (h.at.lower ++ h.at.after) s.tree out (h.at.front ++ h.at.place ∷ h.at.rest) (h.at.front ++ h.at.rest) s.given [] (lines_at h.at.place ++ []) arranged out_order same_lines now relaid_now
+          arranged = relaid ws (head_of version s.last) (h.at.lower ++ h.at.pair ∷ h.at.after) (h.at.lower ++ h.at.after) s.tree out (h.at.front ++ h.at.place ∷ h.at.rest) (h.at.front ++ h.at.rest) s.given [] (lines_at h.at.place ++ []) arranged out_order same_lines now relaid_now
               out_even (placed_append ws h.at.front h.at.rest h.at.lower h.at.after h.at.placed_front h.at.placed_rest);
         };
         here = h.at.node_is;
@@ -136,25 +123,27 @@ module _ (ws key : List ℕ) (version : ℕ) (store : Store) (s : StandsFor ws v
   cut_size =
       let now = with_one_less (with_tree (without (order_in key ws) s.tree) ws) in
       let a = cut_loose.loose.arranged in
-      let few = tree_few now version (h.at.lower ++ h.at.after) (without (order_in key ws) s.tree) (h.at.front ++ h.at.rest) cut_loose.loose.given (lines_at h.at.place ++ []) a in
+      let few = tree_few now (head_of version s.last) (h.at.lower ++ h.at.after) (without (order_in key ws) s.tree) (h.at.front ++ h.at.rest) cut_loose.loose.given (lines_at h.at.place ++ []) a in
       let end = a.end_to in
       let lines = a.sized.few in
       omega (arith, few, end, lines)
 
   -- and with its lines given back
-  pub removed_stands : (w : List ℕ) → w ≡ with_pair_given node (with_one_less (with_tree (without (order_in key ws) s.tree) ws)) → StandsFor w version (without_key key store)
+  pub removed_stands : (w : List ℕ) → w ≡ with_pair_given node (with_one_less (with_tree (without (order_in key ws) s.tree) ws)) →
+      HasTriples w (head_of version s.last) (without_key key store) (removed_at key (triples_of s.places store))
   removed_stands w e =
       let now = with_one_less (with_tree out ws) in
-      let g = pair_is_given node now version (h.at.lower ++ h.at.after) out (h.at.front ++ h.at.rest) h.at.place h.at.pair cut_loose in
+      let g = pair_is_given node now (head_of version s.last) (h.at.lower ++ h.at.after) out (h.at.front ++ h.at.rest) h.at.place h.at.pair cut_loose in
       let is : store ≡ h.at.lower ++ (key, h.document) ∷ h.at.after = h.at.store_is ∙ ap (λ p. h.at.lower ++ p ∷ h.at.after) h.pair_is in
       let same : h.at.lower ++ h.at.after ≡ without_key key store = without_itself key h.document h.at.lower h.at.after h.below h.above ∙ ap (without_key key) (sym is) in
-      subst (λ v. StandsFor v version (without_key key store)) (sym e)
-      (subst (StandsFor (with_pair_given node now) version) same (record {
+      let told = triples_without ws key h.at.front h.at.rest h.at.lower h.at.after h.at.placed_front h.below h.above h.document h.at.place in
+      subst (λ v. HasTriples v (head_of version s.last) (without_key key store) (removed_at key (triples_of s.places store))) (sym e)
+      (subst (λ st. HasTriples (with_pair_given node now) (head_of version s.last) st (removed_at key (triples_of s.places store))) same (record {
         tree = out;
         places = h.at.front ++ h.at.rest;
         given = g.given;
         arranged = g.arranged;
-        lawful = store_without h.at.lower h.at.after h.at.pair (subst IsStore h.at.store_is s.lawful);
+        told = told ∙ ap (removed_at key) (sym (ap₂ triples_of h.at.places_are is));
       }))
 
   pub removed_there : true ≡ is_some (document_at key store)
@@ -176,7 +165,7 @@ there_of ws key nodes sides depth node above version store s spot n = record {
 
 pub can_take : (ws nodes sides : List ℕ) (depth node : ℕ) → CanCut ws nodes sides depth node → CanTake ws nodes sides depth node
 can_take ws nodes sides depth node c =
-    record { order = order_in c.key ws; tree = c.index.stands.tree; there = there_of ws c.key nodes sides depth node c.above c.index.version c.index.store c.index.stands c.spot c.some }
+    record { order = order_in c.key ws; tree = c.index.stands.tree; there = there_of ws c.key nodes sides depth node c.above 2 c.index.store c.index.stands c.spot c.some }
 
 place_in : (ws key nodes sides : List ℕ) (depth node above version : ℕ) (store : Store) (s : StandsFor ws version store) → AtSpot false key nodes sides depth node above ws → node ≢ 0 →
     HasPlace ws key s.places store (walk_end (order_in key ws) s.tree).0 (walk_end (order_in key ws) s.tree).1 node
@@ -185,8 +174,8 @@ place_in ws key nodes sides depth node above version store s spot n = spot_place
 pub cut_count : (x z nodes sides : List ℕ) (depth node n : ℕ) → CanCut x nodes sides depth node → Takes nodes sides depth node x z → word_of z 0 5 ≡ n → 1 ≤ n
 cut_count x z nodes sides depth node n c t e =
     let s = c.index.stands in
-    let i = there_of x c.key nodes sides depth node c.above c.index.version c.index.store s c.spot c.some in
-    let k = count_kept x c.key c.index.version c.index.store s node (place_in x c.key nodes sides depth node c.above c.index.version c.index.store s c.spot c.some) in
+    let i = there_of x c.key nodes sides depth node c.above 2 c.index.store s c.spot c.some in
+    let k = count_kept x c.key 2 c.index.store s node (place_in x c.key nodes sides depth node c.above 2 c.index.store s c.spot c.some) in
     let w = ap (λ v. word_of v 0 5) (t (order_in c.key x) s.tree i) in
     omega (arith, e, w, k)
 
@@ -194,9 +183,9 @@ pub cuts : (x z w nodes sides : List ℕ) (depth node n : ℕ) → Takes nodes s
 unfolding with_cut with_one_less
 cuts x z w nodes sides depth node n t e f key above spot i some =
     let s = i.stands in
-    let there = there_of x key nodes sides depth node above i.version i.store s spot some in
+    let there = there_of x key nodes sides depth node above 2 i.store s spot some in
     f ∙ ap (λ m. with_word 0 5 (m - 1) z) (sym e)
-    ∙ ap (λ v. with_word 0 5 (word_of v 0 5 - 1) v) (t (order_in key x) s.tree there ∙ ap (λ u. with_tree (without (order_in key x) u) x) (sym (tree_in_is x s.tree (tree_of x i.version i.store s))))
+    ∙ ap (λ v. with_word 0 5 (word_of v 0 5 - 1) v) (t (order_in key x) s.tree there ∙ ap (λ u. with_tree (without (order_in key x) u) x) (sym (tree_in_is x s.tree (tree_of x 2 i.store s))))
 
 -- the words that the cut leaves
 pub cut_is : (x key : List ℕ) (version : ℕ) (store : Store) (s : StandsFor x version store) → with_cut key x ≡ with_one_less (with_tree (without (order_in key x) s.tree) x)
@@ -206,49 +195,29 @@ cut_is x key version store s = ap (λ u. with_one_less (with_tree (without (orde
 pub cut_pair : (x w nodes sides : List ℕ) (depth node : ℕ) → CanCut x nodes sides depth node → Cuts nodes sides depth node x w → HasLoosePair w node
 cut_pair x w nodes sides depth node c t =
     let s = c.index.stands in
-    let h = place_in x c.key nodes sides depth node c.above c.index.version c.index.store s c.spot c.some in
-    let e : w ≡ with_one_less (with_tree (without (order_in c.key x) s.tree) x) = t c.key c.above c.spot c.index c.some ∙ cut_is x c.key c.index.version c.index.store s in
+    let h = place_in x c.key nodes sides depth node c.above 2 c.index.store s c.spot c.some in
+    let e : w ≡ with_one_less (with_tree (without (order_in c.key x) s.tree) x) = t c.key c.above c.spot c.index c.some ∙ cut_is x c.key 2 c.index.store s in
     subst (λ v. HasLoosePair v node) (sym e) (record {
-      version = c.index.version;
+      head = head_of 2 s.last;
       store = h.at.lower ++ h.at.after;
       tree = without (order_in c.key x) s.tree;
       places = h.at.front ++ h.at.rest;
       place = h.at.place;
       pair = h.at.pair;
-      there = cut_loose x c.key c.index.version c.index.store s node h;
+      there = cut_loose x c.key 2 c.index.store s node h;
     })
-
-pub removed : (x y w v key nodes sides : List ℕ) (depth node above : ℕ) → y ≡ x → AtSpot false key nodes sides depth node above y → node ≢ 0 → Cuts nodes sides depth node y w → v ≡ with_pair_given node w → IsRemoved key true x v
-removed x y w v key nodes sides depth node above e spot n t g =
-    subst (λ u. IsRemoved key true u v) e (λ version store s. (
-    let h = place_in y key nodes sides depth node above version store s spot n in
-    let i : IsIndex y = record { version = version; store = store; stands = s } in
-    record {
-      after = removed_stands y key version store s node h v (g ∙ ap (with_pair_given node) (t key above spot i n ∙ cut_is y key version store s));
-      there = removed_there y key version store s node h;
-    }))
-
-pub not_removed : (x y key nodes sides : List ℕ) (depth node above : ℕ) → y ≡ x → AtSpot false key nodes sides depth node above y → node ≡ 0 → IsRemoved key false x y
-not_removed x y key nodes sides depth node above e spot z =
-    subst (λ u. IsRemoved key false u y) e (λ version store s. (
-    let m = spot_none y key nodes sides depth node above version store s (spot version store s) z in
-    let same : store ≡ without_key key store = m.split.store_is ∙ without_nothing key m.split.lower m.split.others m.below m.above ∙ ap (without_key key) (sym m.split.store_is) in
-    record {
-      after = subst (StandsFor y version) same s;
-      there = sym (ap is_some (spot_missing y key nodes sides depth node above spot z version store s));
-    }))
 
 -- and the exact words
 node_is : (y key nodes sides : List ℕ) (depth node above : ℕ) → AtSpot false key nodes sides depth node above y → IsIndex y → node ≡ node_at key y
 unfolding node_at
 node_is y key nodes sides depth node above spot i =
-    (spot i.version i.store i.stands).at.node_is ∙ ap (λ u. root (walk_end (order_in key y) u).1) (sym (tree_in_is y i.stands.tree (tree_of y i.version i.store i.stands)))
+    (spot 2 i.store i.stands).at.node_is ∙ ap (λ u. root (walk_end (order_in key y) u).1) (sym (tree_in_is y i.stands.tree (tree_of y 2 i.store i.stands)))
 
 pub removal_runs : (x y w v key nodes sides : List ℕ) (depth node above : ℕ) → IsIndex y → y ≡ x → AtSpot false key nodes sides depth node above y → node ≢ 0 → Cuts nodes sides depth node y w → v ≡ with_pair_given node w → (true ≡ is_key_in key x) × (v ≡ with_key_removed key x)
 unfolding is_key_in with_key_removed
 removal_runs x y w v key nodes sides depth node above i e spot n t g =
-    let h = place_in y key nodes sides depth node above i.version i.store i.stands spot n in
-    let here : true ≡ is_key_in key x = removed_there y key i.version i.store i.stands node h ∙ ap (λ st. is_some (document_at key st)) (sym (store_is y i.version i.store i.stands)) ∙ ap (is_key_in key) e in (
+    let h = place_in y key nodes sides depth node above 2 i.store i.stands spot n in
+    let here : true ≡ is_key_in key x = removed_there y key 2 i.store i.stands node h ∙ ap (λ st. is_some (document_at key st)) (sym (store_is y 2 i.store i.stands)) ∙ ap (is_key_in key) e in (
       here,
       g ∙ ap (with_pair_given node) (t key above spot i n) ∙ ap (λ m. with_pair_given m (with_cut key y)) (node_is y key nodes sides depth node above spot i)
           ∙ ap (λ u. with_pair_given (node_at key u) (with_cut key u)) e ∙ ap (λ b. cond b (with_pair_given (node_at key x) (with_cut key x)) x) here,
@@ -257,7 +226,7 @@ removal_runs x y w v key nodes sides depth node above i e spot n t g =
 pub no_removal_runs : (x y key nodes sides : List ℕ) (depth node above : ℕ) → IsIndex y → y ≡ x → AtSpot false key nodes sides depth node above y → node ≡ 0 → (false ≡ is_key_in key x) × (y ≡ with_key_removed key x)
 unfolding is_key_in with_key_removed
 no_removal_runs x y key nodes sides depth node above i e spot z =
-    let here : false ≡ is_key_in key x = sym (ap is_some (spot_missing y key nodes sides depth node above spot z i.version i.store i.stands)) ∙ ap (λ st. is_some (document_at key st)) (sym (store_is y i.version i.store i.stands)) ∙ ap (is_key_in key) e in
+    let here : false ≡ is_key_in key x = sym (ap is_some (spot_missing y key nodes sides depth node above spot z 2 i.store i.stands)) ∙ ap (λ st. is_some (document_at key st)) (sym (store_is y 2 i.store i.stands)) ∙ ap (is_key_in key) e in
     (here, e ∙ ap (λ b. cond b (with_pair_given (node_at key x) (with_cut key x)) x) here)
 
 pub can_cut : (ws key nodes sides : List ℕ) (depth node above : ℕ) → AtSpot false key nodes sides depth node above ws → IsIndex ws → node ≢ 0 → CanCut ws nodes sides depth node

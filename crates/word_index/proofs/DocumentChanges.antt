@@ -8,11 +8,11 @@ use Rattle.cx_base.specs.Packing.{packed}
 use Rattle.cx_base.specs.Store.{Store, blocks}
 use Rattle.avl_words.specs.Tree.{Tree}
 use Rattle.avl_words.specs.Lines.{word_of, with_word, IsWithin}
-use Rattle.index_checks.specs.Layout.{IsChain, Holds, Place, lines_at, Arranged}
+use Rattle.index_checks.specs.Layout.{IsChain, Holds, Place, lines_at, Arranged, Head, Placed}
 use Rattle.index_checks.proofs.Lines.{all_left, all_right, lines_within, place_lines}
 use Rattle.index_checks.proofs.Texts.{blocks_are}
 use Rattle.word_index.specs.Changes.{SameLine, with_given, LooseChain, IsGiven}
-use Rattle.word_index.specs.Exact.{with_chain_given, with_chain_filled, with_text, document_blocks, with_refilled, with_emptied, with_renewed, with_rewritten}
+use Rattle.word_index.specs.Exact.{with_chain_given, with_chain_filled, with_text, document_blocks, with_refilled, with_emptied, with_renewed, with_rewritten, with_replaced}
 use Rattle.word_index.specs.Fresh.{HasRoom, CanTake, IsWritten}
 use Rattle.word_index.specs.Rewriting.{HasLines, CanRewrite}
 use Rattle.word_index.proofs.Cutting.{times_middle}
@@ -74,26 +74,58 @@ balanced k front rest place other given loose now_loose e =
     )
 
 -- the pairs with a document in place of another
-pub record IsRewritten (now : List ℕ) (version : ℕ) (lower after : Store) (pair : List ℕ × List ℕ) : Type 0 where
+pub record IsRewritten (now : List ℕ) (head : Head) (lower after : Store) (pair : List ℕ × List ℕ) (front rest : List Place) (place : Place) (revision : ℕ) : Type 0 where
   pub tree : Tree ℕ
-  pub places : List Place
+  pub lines : List ℕ
   pub given : List ℕ
-  pub arranged : Arranged now version (lower ++ pair ∷ after) tree places given []
+  pub arranged : Arranged now head (lower ++ pair ∷ after) tree (front ++ with_lines place lines revision ∷ rest) given []
 
-node_within : (x : List ℕ) (version : ℕ) (store : Store) (tree : Tree ℕ) (front rest : List Place) (place : Place) (given loose : List ℕ) → Arranged x version store tree (front ++ place ∷ rest) given loose → All (IsWithin x) (lines_at place)
-node_within x version store tree front rest place given loose a =
+node_within : (x : List ℕ) (head : Head) (store : Store) (tree : Tree ℕ) (front rest : List Place) (place : Place) (given loose : List ℕ) → Arranged x head store tree (front ++ place ∷ rest) given loose → All (IsWithin x) (lines_at place)
+node_within x head store tree front rest place given loose a =
     place_lines (IsWithin x) front rest place (all_left (IsWithin x) (flat_map lines_at (front ++ place ∷ rest)) given
-    (all_left (IsWithin x) (flat_map lines_at (front ++ place ∷ rest) ++ given) loose (lines_within x version store tree (front ++ place ∷ rest) given loose a)))
+    (all_left (IsWithin x) (flat_map lines_at (front ++ place ∷ rest) ++ given) loose (lines_within x head store tree (front ++ place ∷ rest) given loose a)))
+
+-- a pair gets a revision
+module _ (v y : List ℕ) (head : Head) (lower after : Store) (pair : List ℕ × List ℕ) (tree : Tree ℕ) (front rest : List Place) (place : Place) (given : List ℕ) (shape : Placed v front lower)
+    (a : Arranged y head (lower ++ pair ∷ after) tree (front ++ place ∷ rest) given []) (revision : ℕ) where
+  told_words : IsRenewed y (with_word place.node 7 revision y) place place.document_lines pair.1 revision
+  told_words =
+      let n = place.node in
+      let lines = place.document_lines in
+      let now = with_word n 7 revision y in
+      let r = around v y front rest lower after place pair shape a.nodes.pairs in
+      let within : IsWithin y n = All-head (IsWithin y) n (place.key_lines ++ lines) (node_within y head (lower ++ pair ∷ after) tree front rest place given [] a) in
+      let m = most v y head lower after pair tree front rest place given [] shape a n in
+      let p = parts v y head lower after pair tree front rest place given [] shape a n in
+      let apart = absent n lines (omega (arith, m, p, times_self n)) in
+      record {
+        long = length-set y (8 * n + 7) revision;
+        others = λ k ne z. stored_elsewhere y n 7 revision k (omega arith) ne;
+        node = λ i l five six seven. get_or-set_other y (8 * n + 7) (8 * n + i) revision 0 (omega arith);
+        holds = subst (λ f. Holds now f lines pair.1) (sym (get_or-set_other y (8 * n + 7) (8 * n + 5) revision 0 (omega arith)))
+            (holds_same y now (word_of y n 5) lines pair.1 (λ k d l. stored_elsewhere y n 7 revision (get_or lines k d) (omega arith) (apart k d l)) r.is.document);
+        counted = get_or-set_other y (8 * n + 7) (8 * n + 6) revision 0 (omega arith) ∙ r.is.document_length;
+        told = get_or-set_same y (8 * n + 7) revision 0 (omega arith);
+      }
+
+  pub told_is : Arranged (with_word place.node 7 revision y) head (lower ++ pair ∷ after) tree (front ++ with_lines place place.document_lines revision ∷ rest) given []
+  told_is =
+      renewed v y head lower after pair tree front rest place given [] shape a (with_word place.node 7 revision y) place.document_lines pair.1 [] revision told_words
+      (λ k. balanced k front rest place (with_lines place place.document_lines revision) given [] [] refl)
 
 module _ (x : List ℕ) (node : ℕ) (document : List ℕ) (c : CanRewrite x node document) where
   abbrev old : List ℕ
   old = c.place.document_lines
 
+  -- the pair's place with its document in other lines
+  abbrev moved : List ℕ → Place
+  moved lines = with_lines c.place lines c.place.revision
+
   r : IsAround x c.front c.rest c.lower c.after c.place c.pair
   r = around x x c.front c.rest c.lower c.after c.place c.pair c.placed_front c.arranged.nodes.pairs
 
   lines_here : All (IsWithin x) (lines_at c.place)
-  lines_here = node_within x c.version (c.lower ++ c.pair ∷ c.after) c.tree c.front c.rest c.place c.given [] c.arranged
+  lines_here = node_within x c.head (c.lower ++ c.pair ∷ c.after) c.tree c.front c.rest c.place c.given [] c.arranged
 
   place_here : IsWithin x c.place.node
   place_here = All-head (IsWithin x) c.place.node (c.place.key_lines ++ old) lines_here
@@ -120,10 +152,10 @@ module _ (x : List ℕ) (node : ℕ) (document : List ℕ) (c : CanRewrite x nod
   }
 
   once_most : (k : ℕ) → times k (lines_at c.place) ≤ 1
-  once_most k = (let m = most x x c.version c.lower c.after c.pair c.tree c.front c.rest c.place c.given [] c.placed_front c.arranged k in omega (arith, m))
+  once_most k = (let m = most x x c.head c.lower c.after c.pair c.tree c.front c.rest c.place c.given [] c.placed_front c.arranged k in omega (arith, m))
 
   once_parts : (k : ℕ) → times k (lines_at c.place) ≡ cond (eqb c.place.node k) 1 0 + times k c.place.key_lines + times k old
-  once_parts k = parts x x c.version c.lower c.after c.pair c.tree c.front c.rest c.place c.given [] c.placed_front c.arranged k
+  once_parts k = parts x x c.head c.lower c.after c.pair c.tree c.front c.rest c.place c.given [] c.placed_front c.arranged k
 
   apart : times c.place.node old ≡ 0
   apart = (let m = once_most c.place.node in let p = once_parts c.place.node in let s = times_self c.place.node in omega (arith, m, p, s))
@@ -133,7 +165,7 @@ module _ (x : List ℕ) (node : ℕ) (document : List ℕ) (c : CanRewrite x nod
     filled : IsFilled x (with_chain_filled (packed 128 document) (length old) 0 (word_of x c.place.node 5) x) old (packed 128 document) 0
     filled = chain_filled (packed 128 document) old x 0 (word_of x c.place.node 5) r.is.document.chain old_within (λ k. (let m = once_most k in let p = once_parts k in omega (arith, m, p)))
 
-    refilled_words : IsRenewed x (with_word c.place.node 6 (length document) (with_chain_filled (packed 128 document) (length old) 0 (word_of x c.place.node 5) x)) c.place old document
+    refilled_words : IsRenewed x (with_word c.place.node 6 (length document) (with_chain_filled (packed 128 document) (length old) 0 (word_of x c.place.node 5) x)) c.place old document c.place.revision
     refilled_words =
         let n = c.place.node in
         let y = with_chain_filled (packed 128 document) (length old) 0 (word_of x n 5) x in
@@ -148,7 +180,7 @@ module _ (x : List ℕ) (node : ℕ) (document : List ℕ) (c : CanRewrite x nod
         record {
           long = length-set y (8 * n + 6) v ∙ long;
           others = λ k m z. same_then x y now k (f.others k z) (stored_elsewhere y n 6 v k (omega arith) m);
-          node = λ i l five six. get_or-set_other y (8 * n + 6) (8 * n + i) v 0 (omega arith) ∙ f.others n apart i l;
+          node = λ i l five six seven. get_or-set_other y (8 * n + 6) (8 * n + i) v 0 (omega arith) ∙ f.others n apart i l;
           holds = record {
             chain = subst (λ m. IsChain now m old) (sym first) (chain_on x now old (word_of x n 5) next r.is.document.chain);
             enough = same;
@@ -157,24 +189,25 @@ module _ (x : List ℕ) (node : ℕ) (document : List ℕ) (c : CanRewrite x nod
                 stored_elsewhere y n 6 v k (omega arith) (ne (i / 7) 0 (omega arith)) (1 + i % 7) (omega arith) ∙ f.content i l ∙ ap (λ m. get_or (packed 128 document) m 0) (zero-add i) ∙ packed_word 128 i document (omega arith));
           };
           counted = get_or-set_same y (8 * n + 6) v 0 (omega arith);
+          told = get_or-set_other y (8 * n + 6) (8 * n + 7) v 0 (omega arith) ∙ f.others n apart 7 (omega arith) ∙ r.is.revised;
         }
 
-    refilled_at : IsRewritten (with_word c.place.node 6 (length document) (with_chain_filled (packed 128 document) (length old) 0 (word_of x c.place.node 5) x)) c.version c.lower c.after (c.pair.0, document)
+    refilled_at : IsRewritten (with_word c.place.node 6 (length document) (with_chain_filled (packed 128 document) (length old) 0 (word_of x c.place.node 5) x)) c.head c.lower c.after (c.pair.0, document) c.front c.rest c.place c.place.revision
     refilled_at =
         let now = with_word c.place.node 6 (length document) (with_chain_filled (packed 128 document) (length old) 0 (word_of x c.place.node 5) x) in
         record {
           tree = c.tree;
-          places = c.front ++ with_lines c.place old ∷ c.rest;
+          lines = old;
           given = c.given;
-          arranged = renewed x x c.version c.lower c.after c.pair c.tree c.front c.rest c.place c.given [] c.placed_front c.arranged now old document [] refilled_words
-              (λ k. balanced k c.front c.rest c.place (with_lines c.place old) c.given [] [] refl);
+          arranged = renewed x x c.head c.lower c.after c.pair c.tree c.front c.rest c.place c.given [] c.placed_front c.arranged now old document [] c.place.revision refilled_words
+              (λ k. balanced k c.front c.rest c.place (moved old) c.given [] [] refl);
         }
 
-    pub refilled_is : IsRewritten (with_refilled document node x) c.version c.lower c.after (c.pair.0, document)
+    pub refilled_is : IsRewritten (with_refilled document node x) c.head c.lower c.after (c.pair.0, document) c.front c.rest c.place c.place.revision
     unfolding with_refilled
     refilled_is =
-        subst (λ n. IsRewritten (with_word n 6 (length document) (with_chain_filled (packed 128 document) (blocks document) 0 (word_of x n 5) x)) c.version c.lower c.after (c.pair.0, document)) (sym c.here)
-        (subst (λ m. IsRewritten (with_word c.place.node 6 (length document) (with_chain_filled (packed 128 document) m 0 (word_of x c.place.node 5) x)) c.version c.lower c.after (c.pair.0, document)) same refilled_at)
+        subst (λ n. IsRewritten (with_word n 6 (length document) (with_chain_filled (packed 128 document) (blocks document) 0 (word_of x n 5) x)) c.head c.lower c.after (c.pair.0, document) c.front c.rest c.place c.place.revision) (sym c.here)
+        (subst (λ m. IsRewritten (with_word c.place.node 6 (length document) (with_chain_filled (packed 128 document) m 0 (word_of x c.place.node 5) x)) c.head c.lower c.after (c.pair.0, document) c.front c.rest c.place c.place.revision) same refilled_at)
 
   -- the node without its document
   abbrev bare : List ℕ
@@ -183,21 +216,22 @@ module _ (x : List ℕ) (node : ℕ) (document : List ℕ) (c : CanRewrite x nod
   abbrev emptied : List ℕ
   emptied = with_chain_given (length old) (word_of x c.place.node 5) bare
 
-  bare_words : IsRenewed x bare c.place [] []
+  bare_words : IsRenewed x bare c.place [] [] c.place.revision
   bare_words =
       let m = named x c.place.node 0 0 place_here in
       record {
         long = m.long;
         others = λ k ne z. m.others k ne;
-        node = m.rest;
+        node = λ i l five six seven. m.rest i l five six;
         holds = record { chain = m.first; enough = refl; packed = λ i l. absurd (omega arith) };
         counted = m.last;
+        told = m.rest 7 (omega arith) (omega arith) (omega arith) ∙ r.is.revised;
       }
 
-  bare_is : Arranged bare c.version (c.lower ++ (c.pair.0, []) ∷ c.after) c.tree (c.front ++ with_lines c.place [] ∷ c.rest) c.given (old ++ [])
+  bare_is : Arranged bare c.head (c.lower ++ (c.pair.0, []) ∷ c.after) c.tree (c.front ++ moved [] ∷ c.rest) c.given (old ++ [])
   bare_is =
-      renewed x x c.version c.lower c.after c.pair c.tree c.front c.rest c.place c.given [] c.placed_front c.arranged bare [] [] (old ++ []) bare_words
-      (λ k. balanced k c.front c.rest c.place (with_lines c.place []) c.given [] (old ++ []) (
+      renewed x x c.head c.lower c.after c.pair c.tree c.front c.rest c.place c.given [] c.placed_front c.arranged bare [] [] (old ++ []) c.place.revision bare_words
+      (λ k. balanced k c.front c.rest c.place (moved []) c.given [] (old ++ []) (
       let p = once_parts k in
       omega (arith, p, times_cons k c.place.node (c.place.key_lines ++ []), times_append k c.place.key_lines [], times_append k old [])))
 
@@ -206,10 +240,10 @@ module _ (x : List ℕ) (node : ℕ) (document : List ℕ) (c : CanRewrite x nod
 
   bare_loose : LooseChain bare (word_of x c.place.node 5) (length old)
   bare_loose = record {
-    version = c.version;
+    head = c.head;
     store = c.lower ++ (c.pair.0, []) ∷ c.after;
     tree = c.tree;
-    places = c.front ++ with_lines c.place [] ∷ c.rest;
+    places = c.front ++ moved [] ∷ c.rest;
     lines = old;
     others = [];
     loose = record { given = c.given; arranged = bare_is };
@@ -217,17 +251,17 @@ module _ (x : List ℕ) (node : ℕ) (document : List ℕ) (c : CanRewrite x nod
     counted = refl;
   }
 
-  given_is : IsGiven bare emptied c.version (c.lower ++ (c.pair.0, []) ∷ c.after) c.tree (c.front ++ with_lines c.place [] ∷ c.rest) []
+  given_is : IsGiven bare emptied c.head (c.lower ++ (c.pair.0, []) ∷ c.after) c.tree (c.front ++ moved [] ∷ c.rest) []
   given_is =
-      chain_is_given (word_of x c.place.node 5) (length old) bare c.version (c.lower ++ (c.pair.0, []) ∷ c.after) c.tree (c.front ++ with_lines c.place [] ∷ c.rest) old []
+      chain_is_given (word_of x c.place.node 5) (length old) bare c.head (c.lower ++ (c.pair.0, []) ∷ c.after) c.tree (c.front ++ moved [] ∷ c.rest) old []
       (record { given = c.given; arranged = bare_is }) bare_chain refl
 
   emptied_long : length emptied ≡ length x
   emptied_long = chain_keeps (length old) (word_of x c.place.node 5) bare ∙ (named x c.place.node 0 0 place_here).long
 
-  emptied_room : HasRoom emptied (c.front ++ with_lines c.place [] ∷ c.rest) [] (blocks document)
+  emptied_room : HasRoom emptied (c.front ++ moved [] ∷ c.rest) [] (blocks document)
   emptied_room =
-      let lines = lines_of_places emptied (c.front ++ with_lines c.place [] ∷ c.rest) (c.lower ++ (c.pair.0, []) ∷ c.after) given_is.loose.arranged.nodes.pairs in
+      let lines = lines_of_places emptied (c.front ++ moved [] ∷ c.rest) (c.lower ++ (c.pair.0, []) ∷ c.after) given_is.loose.arranged.nodes.pairs in
       let total = lines_of_append c.lower ((c.pair.0, []) ∷ c.after) in
       let cons = lines_of_cons (c.pair.0, []) c.after in
       let count = ap (λ n. n / 8) emptied_long in
@@ -236,10 +270,10 @@ module _ (x : List ℕ) (node : ℕ) (document : List ℕ) (c : CanRewrite x nod
 
   emptied_can : CanTake emptied (blocks document)
   emptied_can = record {
-    version = c.version;
+    head = c.head;
     store = c.lower ++ (c.pair.0, []) ∷ c.after;
     tree = c.tree;
-    places = c.front ++ with_lines c.place [] ∷ c.rest;
+    places = c.front ++ moved [] ∷ c.rest;
     given = given_is.loose.given;
     loose = [];
     arranged = given_is.loose.arranged;
@@ -249,50 +283,51 @@ module _ (x : List ℕ) (node : ℕ) (document : List ℕ) (c : CanRewrite x nod
   abbrev text : ℕ × List ℕ
   text = with_text (packed 128 document) (blocks document) 0 emptied
 
-  text_is : IsWritten emptied text.1 c.version (c.lower ++ (c.pair.0, []) ∷ c.after) c.tree (c.front ++ with_lines c.place [] ∷ c.rest) text.0 (blocks document) 0 (packed 128 document) []
+  text_is : IsWritten emptied text.1 c.head (c.lower ++ (c.pair.0, []) ∷ c.after) c.tree (c.front ++ moved [] ∷ c.rest) text.0 (blocks document) 0 (packed 128 document) []
   text_is =
-      text_is_written (packed 128 document) (blocks document) emptied emptied_can c.version (c.lower ++ (c.pair.0, []) ∷ c.after) c.tree (c.front ++ with_lines c.place [] ∷ c.rest) given_is.loose.given []
+      text_is_written (packed 128 document) (blocks document) emptied emptied_can c.head (c.lower ++ (c.pair.0, []) ∷ c.after) c.tree (c.front ++ moved [] ∷ c.rest) given_is.loose.given []
       given_is.loose.arranged emptied_room
 
   written_here : IsWithin text.1 c.place.node
   written_here =
       All-head (IsWithin text.1) c.place.node (c.place.key_lines ++ [])
-      (node_within text.1 c.version (c.lower ++ (c.pair.0, []) ∷ c.after) c.tree c.front c.rest (with_lines c.place []) text_is.taken.given (text_is.lines ++ []) text_is.taken.arranged)
+      (node_within text.1 c.head (c.lower ++ (c.pair.0, []) ∷ c.after) c.tree c.front c.rest (moved []) text_is.taken.given (text_is.lines ++ []) text_is.taken.arranged)
 
   module _ (short : length document ≤ 1024) where
     abbrev done : List ℕ
     done = with_word c.place.node 6 (length document) (with_word c.place.node 5 text.0 text.1)
 
-    renewed_words : IsRenewed text.1 done (with_lines c.place []) text_is.lines document
+    renewed_words : IsRenewed text.1 done (moved []) text_is.lines document c.place.revision
     renewed_words =
         let m = named text.1 c.place.node text.0 (length document) written_here in
         let w = text_is in
         let apart_from : (k : ℕ) → times k w.lines ≢ 0 → k ≢ c.place.node = λ k n. (
-        let o = most x text.1 c.version c.lower c.after (c.pair.0, []) c.tree c.front c.rest (with_lines c.place []) w.taken.given (w.lines ++ []) c.placed_front w.taken.arranged k in
-        let p = parts x text.1 c.version c.lower c.after (c.pair.0, []) c.tree c.front c.rest (with_lines c.place []) w.taken.given (w.lines ++ []) c.placed_front w.taken.arranged k in
+        let o = most x text.1 c.head c.lower c.after (c.pair.0, []) c.tree c.front c.rest (moved []) w.taken.given (w.lines ++ []) c.placed_front w.taken.arranged k in
+        let p = parts x text.1 c.head c.lower c.after (c.pair.0, []) c.tree c.front c.rest (moved []) w.taken.given (w.lines ++ []) c.placed_front w.taken.arranged k in
         let q = times_append k w.lines [] in
         let some : times k w.lines ≢ 0 = n in
-        not_here x text.1 c.version c.lower c.after (c.pair.0, []) c.tree c.front c.rest (with_lines c.place []) w.taken.given (w.lines ++ []) c.placed_front w.taken.arranged k (omega (arith, o, p, q, some))) in
+        not_here x text.1 c.head c.lower c.after (c.pair.0, []) c.tree c.front c.rest (moved []) w.taken.given (w.lines ++ []) c.placed_front w.taken.arranged k (omega (arith, o, p, q, some))) in
         let same = all_present (SameLine text.1 done) w.lines (λ k n. m.others k (apart_from k n)) in
         record {
           long = m.long;
           others = λ k ne z. m.others k ne;
-          node = m.rest;
+          node = λ i l five six seven. m.rest i l five six;
           holds = subst (λ f. Holds done f w.lines document) (sym m.first) (holds_same text.1 done text.0 w.lines document same
-              (written_holds emptied text.1 c.version (c.lower ++ (c.pair.0, []) ∷ c.after) c.tree (c.front ++ with_lines c.place [] ∷ c.rest) text.0 (blocks document) 128 (length document) (packed 128 document) document []
+              (written_holds emptied text.1 c.head (c.lower ++ (c.pair.0, []) ∷ c.after) c.tree (c.front ++ moved [] ∷ c.rest) text.0 (blocks document) 128 (length document) (packed 128 document) document []
               (record { long = refl; packs = refl }) (omega arith) (blocks_are (length document)) w));
           counted = m.last;
+          told = m.rest 7 (omega arith) (omega arith) (omega arith) ∙ (around x text.1 c.front c.rest c.lower c.after (moved []) (c.pair.0, []) c.placed_front w.taken.arranged.nodes.pairs).is.revised;
         }
 
-    renewed_at : IsRewritten done c.version c.lower c.after (c.pair.0, document)
+    renewed_at : IsRewritten done c.head c.lower c.after (c.pair.0, document) c.front c.rest c.place c.place.revision
     renewed_at =
         let w = text_is in
         record {
           tree = c.tree;
-          places = c.front ++ with_lines (with_lines c.place []) w.lines ∷ c.rest;
+          lines = w.lines;
           given = w.taken.given;
-          arranged = renewed x text.1 c.version c.lower c.after (c.pair.0, []) c.tree c.front c.rest (with_lines c.place []) w.taken.given (w.lines ++ []) c.placed_front w.taken.arranged done w.lines document [] renewed_words
-              (λ k. balanced k c.front c.rest (with_lines c.place []) (with_lines (with_lines c.place []) w.lines) w.taken.given (w.lines ++ []) [] (omega (
+          arranged = renewed x text.1 c.head c.lower c.after (c.pair.0, []) c.tree c.front c.rest (moved []) w.taken.given (w.lines ++ []) c.placed_front w.taken.arranged done w.lines document [] c.place.revision renewed_words
+              (λ k. balanced k c.front c.rest (moved []) (moved w.lines) w.taken.given (w.lines ++ []) [] (omega (
                 arith,
                 times_cons k c.place.node (c.place.key_lines ++ w.lines),
                 times_append k c.place.key_lines w.lines,
@@ -309,20 +344,39 @@ module _ (x : List ℕ) (node : ℕ) (document : List ℕ) (c : CanRewrite x nod
       ap (λ n. with_chain_given n (word_of x node 5) (with_word node 6 0 (with_word node 5 0 x))) blocks_counted
       ∙ ap (λ n. with_chain_given (length old) (word_of x n 5) (with_word n 6 0 (with_word n 5 0 x))) c.here
 
-  pub renewed_is : length document ≤ 1024 → IsRewritten (with_renewed document node x) c.version c.lower c.after (c.pair.0, document)
+  pub renewed_is : length document ≤ 1024 → IsRewritten (with_renewed document node x) c.head c.lower c.after (c.pair.0, document) c.front c.rest c.place c.place.revision
   unfolding with_renewed
   renewed_is short =
       let put : ℕ → List ℕ → List ℕ = λ n e. with_word n 6 (length document) (with_word n 5 (with_text (packed 128 document) (blocks document) 0 e).0 (with_text (packed 128 document) (blocks document) 0 e).1) in
-      subst (λ e. IsRewritten (put node e) c.version c.lower c.after (c.pair.0, document)) (sym emptied_is)
-      (subst (λ n. IsRewritten (put n emptied) c.version c.lower c.after (c.pair.0, document)) (sym c.here) (renewed_at short))
+      subst (λ e. IsRewritten (put node e) c.head c.lower c.after (c.pair.0, document) c.front c.rest c.place c.place.revision) (sym emptied_is)
+      (subst (λ n. IsRewritten (put n emptied) c.head c.lower c.after (c.pair.0, document) c.front c.rest c.place c.place.revision) (sym c.here) (renewed_at short))
 
-  rewritten_by : (b : Bool) → (document_blocks node x == blocks document) ≡ b → length document ≤ 1024 → IsRewritten (cond b (with_refilled document node x) (with_renewed document node x)) c.version c.lower c.after (c.pair.0, document)
+  rewritten_by : (b : Bool) → (document_blocks node x == blocks document) ≡ b → length document ≤ 1024 → IsRewritten (cond b (with_refilled document node x) (with_renewed document node x)) c.head c.lower c.after (c.pair.0, document) c.front c.rest c.place c.place.revision
   rewritten_by true e short = refilled_is (sym blocks_counted ∙ eqb-true (document_blocks node x) (blocks document) e) short
   rewritten_by false e short = renewed_is short
 
-  pub rewritten_is : length document ≤ 1024 → IsRewritten (with_rewritten document node x) c.version c.lower c.after (c.pair.0, document)
+  pub rewritten_is : length document ≤ 1024 → IsRewritten (with_rewritten document node x) c.head c.lower c.after (c.pair.0, document) c.front c.rest c.place c.place.revision
   unfolding with_rewritten
   rewritten_is short = rewritten_by (document_blocks node x == blocks document) refl short
+
+  pub rewritten_here : length document ≤ 1024 → IsWithin (with_rewritten document node x) node
+  rewritten_here short =
+      let y = with_rewritten document node x in
+      let w = rewritten_is short in
+      subst (IsWithin y) (sym c.here) (All-head (IsWithin y) c.place.node (c.place.key_lines ++ w.lines) (node_within y c.head (c.lower ++ (c.pair.0, document) ∷ c.after) w.tree c.front c.rest (moved w.lines) w.given [] w.arranged))
+
+  -- with a revision
+  pub replaced_is : (revision : ℕ) → length document ≤ 1024 → IsRewritten (with_replaced document node revision x) c.head c.lower c.after (c.pair.0, document) c.front c.rest c.place revision
+  unfolding with_replaced
+  replaced_is revision short =
+      let y = with_rewritten document node x in
+      let w = rewritten_is short in
+      subst (λ n. IsRewritten (with_word n 7 revision y) c.head c.lower c.after (c.pair.0, document) c.front c.rest c.place revision) (sym c.here) (record {
+        tree = w.tree;
+        lines = w.lines;
+        given = w.given;
+        arranged = told_is x y c.head c.lower c.after (c.pair.0, document) w.tree c.front c.rest (moved w.lines) w.given c.placed_front w.arranged revision;
+      })
 
   -- as the code runs
   pub chain_loose : (first count : ℕ) → word_of x node 5 ≡ first → document_blocks node x ≡ count → LooseChain (with_word node 6 0 (with_word node 5 0 x)) first count

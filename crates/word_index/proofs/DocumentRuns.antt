@@ -9,10 +9,10 @@ use Rattle.avl_words.specs.Lines.{word_of, with_word, IsWithin}
 use Rattle.index_checks.proofs.Texts.{blocks_are}
 use Rattle.word_index.specs.Packed.{IsPacked}
 use Rattle.word_index.specs.Changes.{LooseChain}
-use Rattle.word_index.specs.Exact.{with_chain_given, with_chain_filled, with_text, document_blocks, with_refilled, with_emptied, with_renewed, with_rewritten}
+use Rattle.word_index.specs.Exact.{with_chain_given, with_chain_filled, with_text, document_blocks, with_refilled, with_emptied, with_renewed, with_rewritten, with_replaced}
 use Rattle.word_index.specs.Fresh.{CanTake}
-use Rattle.word_index.specs.Rewriting.{HasLines, IsOld}
-use Rattle.word_index.proofs.DocumentChanges.{node_here, old_lines, chain_loose, renew_can, renew_here}
+use Rattle.word_index.specs.Rewriting.{HasLines, CanRewrite, IsOld}
+use Rattle.word_index.proofs.DocumentChanges.{node_here, old_lines, rewritten_here, chain_loose, renew_can, renew_here}
 use Rattle.word_index.proofs.Putting.{length_unpacked}
 use Rattle.word_index.proofs.Refilling.{filled_long}
 
@@ -75,6 +75,14 @@ unfolding with_renewed
 renew_runs x z w v node first count len more text words p o e m t f =
     let d = unpacked len words in
     f ∙ ap₂ (λ n (q : ℕ × List ℕ). with_word node 6 n (with_word node 5 q.0 q.1)) (sym (length_unpacked len words)) (sym (text_runs_on x z w node first count len more text words p o e m t))
+
+-- and the pair's revision
+pub replaced_here : (x : List ℕ) (node len : ℕ) (words : List ℕ) → IsPacked 128 len words → CanRewrite x node (unpacked len words) → IsWithin (with_rewritten (unpacked len words) node x) node
+replaced_here x node len words p c = rewritten_here x node (unpacked len words) c (subst (λ n. n ≤ 1024) (sym (length_unpacked len words)) p.short)
+
+pub replaced_runs : (x w : List ℕ) (node revision : ℕ) (document : List ℕ) → w ≡ with_rewritten document node x → with_word node 7 revision w ≡ with_replaced document node revision x
+unfolding with_replaced
+replaced_runs x w node revision document e = ap (with_word node 7 revision) e
 
 -- one or the other
 same_test : (n m : ℕ) → n ≡ m → (n == m) ≡ true

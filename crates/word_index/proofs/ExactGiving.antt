@@ -46,7 +46,7 @@ text_is_given node at x =
 
 loose_chain : (x : List ℕ) (node at : ℕ) → LooseText x node at → LooseChain x (word_of x node at) ((word_of x node (at + 1) + 55) / 56)
 loose_chain x node at t = record {
-  version = t.version;
+  head = t.head;
   store = t.store;
   tree = t.tree;
   places = t.places;

@@ -96,11 +96,11 @@ pub text_ends : (text : List ℕ) (count j next : ℕ) (y : List ℕ) (target : 
 text_ends text count j next y target e r = (let none : count - j ≡ 0 = omega arith in sym r ∙ ap (λ n. with_text text n next y) none)
 
 -- a pair written
-pub new_pair_runs : (node key_first doc_first key_len doc_len count other : ℕ) (key_words doc_words x y z w v : List ℕ) → IsPacked 8 key_len key_words → IsPacked 128 doc_len doc_words → count ≡ div_ceil key_len 56 → other ≡ div_ceil doc_len 56 →
+pub new_pair_runs : (node key_first doc_first key_len doc_len revision count other : ℕ) (key_words doc_words x y z w v : List ℕ) → IsPacked 8 key_len key_words → IsPacked 128 doc_len doc_words → count ≡ div_ceil key_len 56 → other ≡ div_ceil doc_len 56 →
     (node ≡ line_to_take x) × (y ≡ with_line_taken x) → with_text key_words count 0 y ≡ (key_first, z) → with_text doc_words other 0 z ≡ (doc_first, w) →
-    v ≡ overwritten (8 * node) (0 ∷ 0 ∷ 1 ∷ key_first ∷ key_len ∷ doc_first ∷ doc_len ∷ 0 ∷ []) w → with_new_pair (unpacked key_len key_words, unpacked doc_len doc_words) x ≡ (node, v)
+    v ≡ overwritten (8 * node) (0 ∷ 0 ∷ 1 ∷ key_first ∷ key_len ∷ doc_first ∷ doc_len ∷ revision ∷ []) w → with_new_pair (unpacked key_len key_words, unpacked doc_len doc_words) revision x ≡ (node, v)
 unfolding with_new_pair
-new_pair_runs node key_first doc_first key_len doc_len count other key_words doc_words x y z w v key_packed doc_packed counted other_counted t k d f =
+new_pair_runs node key_first doc_first key_len doc_len revision count other key_words doc_words x y z w v key_packed doc_packed counted other_counted t k d f =
     let key = unpacked key_len key_words in
     let doc = unpacked doc_len doc_words in
     let key_long : length key ≡ key_len = length_unpacked key_len key_words in
@@ -112,7 +112,7 @@ new_pair_runs node key_first doc_first key_len doc_len count other key_words doc
     let after : (with_text (packed 8 key) (blocks key) 0 (with_line_taken x)).1 ≡ z = ap (λ p. p.1) key_text in
     let doc_text : with_text (packed 128 doc) (blocks doc) 0 (with_text (packed 8 key) (blocks key) 0 (with_line_taken x)).1 ≡ (doc_first, w) =
     ap (with_text (packed 128 doc) (blocks doc) 0) after ∙ ap₂ (λ s n. with_text s n 0 z) (sym doc_packed.unused) doc_blocks ∙ d in
-    let row : ℕ × List ℕ → ℕ × List ℕ → ℕ → ℕ → ℕ → ℕ × List ℕ = λ a b m i j. (m, overwritten (8 * m) (0 ∷ 0 ∷ 1 ∷ a.0 ∷ i ∷ b.0 ∷ j ∷ 0 ∷ []) b.1) in
+    let row : ℕ × List ℕ → ℕ × List ℕ → ℕ → ℕ → ℕ → ℕ × List ℕ = λ a b m i j. (m, overwritten (8 * m) (0 ∷ 0 ∷ 1 ∷ a.0 ∷ i ∷ b.0 ∷ j ∷ revision ∷ []) b.1) in
     ap₂ (λ a b. row a b (line_to_take x) (length key) (length doc)) key_text doc_text
     ∙ ap (λ m. row (key_first, z) (doc_first, w) m (length key) (length doc)) (sym t.0)
     ∙ ap₂ (λ i j. row (key_first, z) (doc_first, w) node i j) key_long doc_long

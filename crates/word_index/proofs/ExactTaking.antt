@@ -122,21 +122,21 @@ pub packed_small : (n : ℕ) (bytes : List ℕ) → ((i : ℕ) → get_or bytes 
 packed_small n bytes small i = Words-at n (packed n bytes) i (record { long = length-map-range_with_len (packed_at bytes) 0 n; fit = packed_fit n bytes small })
 
 -- the words of a node
-node_fits : (d e f g : ℕ) → d < 2 ^ 64 → e < 2 ^ 64 → f < 2 ^ 64 → g < 2 ^ 64 → All (λ v. v < 2 ^ 64) (0 ∷ 0 ∷ 1 ∷ d ∷ e ∷ f ∷ g ∷ 0 ∷ [])
-node_fits d e f g q r s t =
+node_fits : (d e f g h : ℕ) → d < 2 ^ 64 → e < 2 ^ 64 → f < 2 ^ 64 → g < 2 ^ 64 → h < 2 ^ 64 → All (λ v. v < 2 ^ 64) (0 ∷ 0 ∷ 1 ∷ d ∷ e ∷ f ∷ g ∷ h ∷ [])
+node_fits d e f g h q r s t u =
     let zero_fits : 0 < 2 ^ 64 = lit< tt in
     let one_fits : 1 < 2 ^ 64 = lit< tt in
     let fits : ℕ → Type 0 = λ v. v < 2 ^ 64 in
-    let l7 = All-cons fits 0 [] zero_fits (All-nil fits) in
-    let l6 = All-cons fits g (0 ∷ []) t l7 in
-    let l5 = All-cons fits f (g ∷ 0 ∷ []) s l6 in
-    let l4 = All-cons fits e (f ∷ g ∷ 0 ∷ []) r l5 in
-    let l3 = All-cons fits d (e ∷ f ∷ g ∷ 0 ∷ []) q l4 in
-    let l2 = All-cons fits 1 (d ∷ e ∷ f ∷ g ∷ 0 ∷ []) one_fits l3 in
-    let l1 = All-cons fits 0 (1 ∷ d ∷ e ∷ f ∷ g ∷ 0 ∷ []) zero_fits l2 in
-    All-cons fits 0 (0 ∷ 1 ∷ d ∷ e ∷ f ∷ g ∷ 0 ∷ []) zero_fits l1
+    let l7 = All-cons fits h [] u (All-nil fits) in
+    let l6 = All-cons fits g (h ∷ []) t l7 in
+    let l5 = All-cons fits f (g ∷ h ∷ []) s l6 in
+    let l4 = All-cons fits e (f ∷ g ∷ h ∷ []) r l5 in
+    let l3 = All-cons fits d (e ∷ f ∷ g ∷ h ∷ []) q l4 in
+    let l2 = All-cons fits 1 (d ∷ e ∷ f ∷ g ∷ h ∷ []) one_fits l3 in
+    let l1 = All-cons fits 0 (1 ∷ d ∷ e ∷ f ∷ g ∷ h ∷ []) zero_fits l2 in
+    All-cons fits 0 (0 ∷ 1 ∷ d ∷ e ∷ f ∷ g ∷ h ∷ []) zero_fits l1
 
-module _ (pair : List ℕ × List ℕ) (x : List ℕ) (is : IsPlain pair) (can : CanTake x (pair_lines pair)) where
+module _ (pair : List ℕ × List ℕ) (revision : ℕ) (x : List ℕ) (is : IsPlain pair) (can : CanTake x (pair_lines pair)) where
   room_for_all : CanTake x (1 + (blocks pair.0 + blocks pair.1))
   room_for_all = room_less x (pair_lines pair) (1 + (blocks pair.0 + blocks pair.1)) (omega arith) can
 
@@ -158,27 +158,27 @@ module _ (pair : List ℕ × List ℕ) (x : List ℕ) (is : IsPlain pair) (can :
       let k = with_text (packed 8 pair.0) (blocks pair.0) 0 y in
       room_after_text y k.1 (packed 8 pair.0) (blocks pair.0) k.0 (blocks pair.1) room_for_key key_is
 
-  pub new_pair_is : PairWritten pair (with_new_pair pair x).0 x (with_new_pair pair x).1
+  pub new_pair_is : PairWritten pair revision (with_new_pair pair revision x).0 x (with_new_pair pair revision x).1
   unfolding with_new_pair
   new_pair_is =
       let node = line_to_take x in
       let y = with_line_taken x in
       let k = with_text (packed 8 pair.0) (blocks pair.0) 0 y in
       let d = with_text (packed 128 pair.1) (blocks pair.1) 0 k.1 in
-      let content : List ℕ = 0 ∷ 0 ∷ 1 ∷ k.0 ∷ length pair.0 ∷ d.0 ∷ length pair.1 ∷ 0 ∷ [] in
+      let content : List ℕ = 0 ∷ 0 ∷ 1 ∷ k.0 ∷ length pair.0 ∷ d.0 ∷ length pair.1 ∷ revision ∷ [] in
       let d_is = text_is_written (packed 128 pair.1) (blocks pair.1) k.1 document_can in
       let still = node_still x y k.1 d.1 node (blocks pair.0) (blocks pair.1) k.0 d.0 (packed 8 pair.0) (packed 128 pair.1) room_for_all (line_is_taken x) key_is d_is in
       let f = row_is_filled node content d.1 refl still in
       let key_same = unpacked-packed 8 pair.0 is.key_bytes is.key_short in
       let document_same = unpacked-packed 128 pair.1 is.document_bytes is.document_short in
-      let made = pair_written x y k.1 d.1 (overwritten (8 * node) content d.1) node (blocks pair.0) (blocks pair.1) k.0 d.0 (length pair.0) (length pair.1) (packed 8 pair.0) (packed 128 pair.1)
+      let made = pair_written x y k.1 d.1 (overwritten (8 * node) content d.1) node (blocks pair.0) (blocks pair.1) k.0 d.0 (length pair.0) (length pair.1) revision (packed 8 pair.0) (packed 128 pair.1)
       (packs_itself 8 pair.0 is.key_short is.key_bytes) (packs_itself 128 pair.1 is.document_short is.document_bytes) (blocks_are (length pair.0)) (blocks_are (length pair.1)) (line_is_taken x) key_is d_is f in
-      subst (λ b. PairWritten (pair.0, b) node x (overwritten (8 * node) content d.1)) document_same
-      (subst (λ a. PairWritten (a, unpacked (length pair.1) (packed 128 pair.1)) node x (overwritten (8 * node) content d.1)) key_same made)
+      subst (λ b. PairWritten (pair.0, b) revision node x (overwritten (8 * node) content d.1)) document_same
+      (subst (λ a. PairWritten (a, unpacked (length pair.1) (packed 128 pair.1)) revision node x (overwritten (8 * node) content d.1)) key_same made)
 
-  pub new_pair_words : (k : ℕ) → Words k x → ((with_new_pair pair x).0 < 2 ^ 64) × Words k (with_new_pair pair x).1
+  pub new_pair_words : (k : ℕ) → revision < 2 ^ 64 → Words k x → ((with_new_pair pair revision x).0 < 2 ^ 64) × Words k (with_new_pair pair revision x).1
   unfolding with_new_pair
-  new_pair_words n w =
+  new_pair_words n small w =
       let y = with_line_taken x in
       let k = with_text (packed 8 pair.0) (blocks pair.0) 0 y in
       let t = line_taken_words x n (pair_lines pair) can w in
@@ -188,7 +188,7 @@ module _ (pair : List ℕ × List ℕ) (x : List ℕ) (is : IsPlain pair) (can :
       let key_short = is.key_short in
       let document_short = is.document_short in (
         t.0,
-        Words-overwritten n (0 ∷ 0 ∷ 1 ∷ k.0 ∷ length pair.0 ∷ d.0 ∷ length pair.1 ∷ 0 ∷ []) d.1 (8 * line_to_take x)
-            (node_fits k.0 (length pair.0) d.0 (length pair.1) kw.0 (omega arith) dw.0 (omega arith))
+        Words-overwritten n (0 ∷ 0 ∷ 1 ∷ k.0 ∷ length pair.0 ∷ d.0 ∷ length pair.1 ∷ revision ∷ []) d.1 (8 * line_to_take x)
+            (node_fits k.0 (length pair.0) d.0 (length pair.1) revision kw.0 (omega arith) dw.0 (omega arith) small)
             dw.1,
       )

@@ -70,7 +70,7 @@ at_same ws now place pair node blocks is = record {
   document = subst (λ x. Holds now x place.document_lines pair.1) (sym (node 5 (omega arith) (omega arith)))
       (holds_same ws now (word_of ws place.node 5) place.document_lines pair.1 (all_right (SameLine ws now) place.key_lines place.document_lines blocks) is.document);
   document_length = node 6 (omega arith) (omega arith) ∙ is.document_length;
-  no_more = node 7 (omega arith) (omega arith) ∙ is.no_more;
+  revised = node 7 (omega arith) (omega arith) ∙ is.revised;
 }
 
 -- the blocks of places

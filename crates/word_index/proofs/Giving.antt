@@ -8,7 +8,7 @@ use Rattle.cx_base.specs.Store.{Store}
 use Rattle.avl_words.specs.Lines.{IsWithin, with_word, word_of, IsPartLength}
 use Rattle.index_checks.proofs.Lines.{all_left, all_right, lines_there, lines_within}
 use Rattle.index_checks.proofs.Totals.{few_given}
-use Rattle.index_checks.specs.Layout.{IsChain, Place, lines_at, Nodes, Arranged}
+use Rattle.index_checks.specs.Layout.{IsChain, Place, lines_at, Nodes, Arranged, Head}
 use Rattle.word_index.proofs.Frames.{times, times_append, times_cons, times_self, absent, stored_elsewhere, same_then, chain_same, nodes_same}
 use Rattle.word_index.specs.Changes.{SameLine, with_given, CanGive, IsLoose, LooseChain, ChainGiven}
 use Rattle.avl_words.specs.Tree.{Tree}
@@ -104,16 +104,16 @@ moved_line x line used given loose =
 one_more : (n : ℕ) → n + 1 ≡ suc n
 one_more n = omega arith
 
-pub give_arranged : (ws : List ℕ) (version : ℕ) (store : Store) (tree : Tree ℕ) (places : List Place) (given loose : List ℕ) (line : ℕ) → Arranged ws version store tree places given (line ∷ loose) →
-    Arranged (with_given line ws) version store tree places (line ∷ given) loose × All (SameLine ws (with_given line ws)) loose
-give_arranged ws version store tree places given loose line a =
+pub give_arranged : (ws : List ℕ) (head : Head) (store : Store) (tree : Tree ℕ) (places : List Place) (given loose : List ℕ) (line : ℕ) → Arranged ws head store tree places given (line ∷ loose) →
+    Arranged (with_given line ws) head store tree places (line ∷ given) loose × All (SameLine ws (with_given line ws)) loose
+give_arranged ws head store tree places given loose line a =
     let used = flat_map lines_at places in
     let alone = stands_alone line (word_of ws 0 3) used given loose (a.once line) in
-    let there = All-weaker (λ x. (1 ≤ x) × (x < word_of ws 0 3)) (λ x. 1 ≤ x) (λ x h. h.0) (used ++ given ++ (line ∷ loose)) (lines_there ws version store tree places given (line ∷ loose) a) in
+    let there = All-weaker (λ x. (1 ≤ x) × (x < word_of ws 0 3)) (λ x. 1 ≤ x) (λ x h. h.0) (used ++ given ++ (line ∷ loose)) (lines_there ws head store tree places given (line ∷ loose) a) in
     let front = all_left (λ x. 1 ≤ x) (used ++ given) (line ∷ loose) there in
     let back = all_right (λ x. 1 ≤ x) (used ++ given) (line ∷ loose) there in
     let some = All-head (λ x. 1 ≤ x) line loose back in
-    let within = All-head (IsWithin ws) line loose (all_right (IsWithin ws) (used ++ given) (line ∷ loose) (lines_within ws version store tree places given (line ∷ loose) a)) in
+    let within = All-head (IsWithin ws) line loose (all_right (IsWithin ws) (used ++ given) (line ∷ loose) (lines_within ws head store tree places given (line ∷ loose) a)) in
     let now = with_given line ws in
     let header = given_header ws line some within in
     let same_used = others_same ws line used some within alone.not_used (all_left (λ x. 1 ≤ x) used given front) in
@@ -131,28 +131,28 @@ give_arranged ws version store tree places given loose line a =
         once = λ x. moved_line x line used given loose ∙ a.once x ∙ ap (λ e. cond (leb 1 x && ltb x e) 1 0) (sym end);
         given_count = given_number ws line some within ∙ ap (λ n. n + 1) a.given_count ∙ one_more (length given);
         pair_count = header 5 (omega arith) (omega arith) (omega arith) ∙ a.pair_count;
-        no_sixth = header 6 (omega arith) (omega arith) (omega arith) ∙ a.no_sixth;
+        last_word = header 6 (omega arith) (omega arith) (omega arith) ∙ a.last_word;
         no_seventh = header 7 (omega arith) (omega arith) (omega arith) ∙ a.no_seventh;
       },
       same_loose,
     )
 
 -- a chain of loose lines, some of which are given back
-pub record Partly (before now : List ℕ) (version : ℕ) (store : Store) (tree : Tree ℕ) (places : List Place) (others : List ℕ) (i line count : ℕ) : Type 0 where
+pub record Partly (before now : List ℕ) (head : Head) (store : Store) (tree : Tree ℕ) (places : List Place) (others : List ℕ) (i line count : ℕ) : Type 0 where
   pub rest : List ℕ
-  pub loose : IsLoose now version store tree places rest others
+  pub loose : IsLoose now head store tree places rest others
   pub chain : IsChain now line rest
   pub left : i + length rest ≡ count
   pub same : All (SameLine before now) others
 
 abbrev pub ChainSoFar : ℕ → ℕ → ℕ → ℕ → List ℕ → List ℕ → Type 0
 ChainSoFar first count i line before now =
-    (version : ℕ) (store : Store) (tree : Tree ℕ) (places : List Place) (lines others : List ℕ) → IsLoose before version store tree places lines others → IsChain before first lines → count ≡ length lines →
-    Partly before now version store tree places others i line count
+    (head : Head) (store : Store) (tree : Tree ℕ) (places : List Place) (lines others : List ℕ) → IsLoose before head store tree places lines others → IsChain before first lines → count ≡ length lines →
+    Partly before now head store tree places others i line count
 
 pub so_far_none : (first count : ℕ) (x y : List ℕ) → x ≡ y → ChainSoFar first count 0 first x y
-so_far_none first count x y e version store tree places lines others loose chain counted =
-    subst (λ w. Partly x w version store tree places others 0 first count) e (record {
+so_far_none first count x y e head store tree places lines others loose chain counted =
+    subst (λ w. Partly x w head store tree places others 0 first count) e (record {
       rest = lines;
       loose = loose;
       chain = chain;
@@ -161,34 +161,34 @@ so_far_none first count x y e version store tree places lines others loose chain
     })
 
 -- the next line is there
-part_within : (x y : List ℕ) (version : ℕ) (store : Store) (tree : Tree ℕ) (places : List Place) (others rest given : List ℕ) (i line count : ℕ) → i < count → i + length rest ≡ count →
-    Arranged y version store tree places given (rest ++ others) → IsChain y line rest → CanGive y line
-part_within x y version store tree places others [] given i line count l e a c = absurd (omega arith)
-part_within x y version store tree places others (r ∷ rest) given i line count l e a c = record {
-  there = subst (IsWithin y) (sym c.0) (All-head (IsWithin y) r (rest ++ others) (all_right (IsWithin y) (flat_map lines_at places ++ given) (r ∷ (rest ++ others)) (lines_within y version store tree places given (r ∷ (rest ++ others)) a)));
-  few = few_given y version store tree places given (r ∷ (rest ++ others)) a;
+part_within : (x y : List ℕ) (head : Head) (store : Store) (tree : Tree ℕ) (places : List Place) (others rest given : List ℕ) (i line count : ℕ) → i < count → i + length rest ≡ count →
+    Arranged y head store tree places given (rest ++ others) → IsChain y line rest → CanGive y line
+part_within x y head store tree places others [] given i line count l e a c = absurd (omega arith)
+part_within x y head store tree places others (r ∷ rest) given i line count l e a c = record {
+  there = subst (IsWithin y) (sym c.0) (All-head (IsWithin y) r (rest ++ others) (all_right (IsWithin y) (flat_map lines_at places ++ given) (r ∷ (rest ++ others)) (lines_within y head store tree places given (r ∷ (rest ++ others)) a)));
+  few = few_given y head store tree places given (r ∷ (rest ++ others)) a;
 }
 
 pub next_can_be_given : (first count i line : ℕ) (x y : List ℕ) → i < count → LooseChain x first count → ChainSoFar first count i line x y → CanGive y line
 next_can_be_given first count i line x y l h r =
-    let p = r h.version h.store h.tree h.places h.lines h.others h.loose h.chain h.counted in
-    part_within x y h.version h.store h.tree h.places h.others p.rest p.loose.given i line count l p.left p.loose.arranged p.chain
+    let p = r h.head h.store h.tree h.places h.lines h.others h.loose h.chain h.counted in
+    part_within x y h.head h.store h.tree h.places h.others p.rest p.loose.given i line count l p.left p.loose.arranged p.chain
 
 -- one line more is given back
 pub all_same_then : (x y z lines : List ℕ) → All (SameLine x y) lines → All (SameLine y z) lines → All (SameLine x z) lines
 all_same_then x y z lines p q = λ k d l. same_then x y z (get_or lines k d) (p k d l) (q k d l)
 
-part_more : (x y z : List ℕ) (version : ℕ) (store : Store) (tree : Tree ℕ) (places : List Place) (others rest given : List ℕ) (i line next count : ℕ) → i < count → i + length rest ≡ count →
-    Arranged y version store tree places given (rest ++ others) → IsChain y line rest → All (SameLine x y) others → word_of y line 0 ≡ next → z ≡ with_given line y →
-    Partly x z version store tree places others (i + 1) next count
-part_more x y z version store tree places others [] given i line next count l e a c same word is = absurd (omega arith)
-part_more x y z version store tree places others (r ∷ rest) given i line next count l e a c same word is =
-    let given_now = give_arranged y version store tree places given (rest ++ others) r a in
+part_more : (x y z : List ℕ) (head : Head) (store : Store) (tree : Tree ℕ) (places : List Place) (others rest given : List ℕ) (i line next count : ℕ) → i < count → i + length rest ≡ count →
+    Arranged y head store tree places given (rest ++ others) → IsChain y line rest → All (SameLine x y) others → word_of y line 0 ≡ next → z ≡ with_given line y →
+    Partly x z head store tree places others (i + 1) next count
+part_more x y z head store tree places others [] given i line next count l e a c same word is = absurd (omega arith)
+part_more x y z head store tree places others (r ∷ rest) given i line next count l e a c same word is =
+    let given_now = give_arranged y head store tree places given (rest ++ others) r a in
     let now : z ≡ with_given r y = is ∙ ap (λ q. with_given q y) c.0 in
     let rest_same = all_left (SameLine y (with_given r y)) rest others given_now.1 in
     let others_same = all_right (SameLine y (with_given r y)) rest others given_now.1 in
     let after : word_of y r 0 ≡ next = ap (λ q. word_of y q 0) (sym c.0) ∙ word in
-    subst (λ w. Partly x w version store tree places others (i + 1) next count) (sym now) (record {
+    subst (λ w. Partly x w head store tree places others (i + 1) next count) (sym now) (record {
       rest = rest;
       loose = record { given = r ∷ given; arranged = given_now.0 };
       chain = subst (λ q. IsChain (with_given r y) q rest) after (chain_same y (with_given r y) rest (word_of y r 0) rest_same c.1);
@@ -197,16 +197,16 @@ part_more x y z version store tree places others (r ∷ rest) given i line next 
     })
 
 pub so_far_more : (first count i line next : ℕ) (x y z : List ℕ) → i < count → ChainSoFar first count i line x y → word_of y line 0 ≡ next → z ≡ with_given line y → ChainSoFar first count (i + 1) next x z
-so_far_more first count i line next x y z l r word is version store tree places lines others loose chain counted =
-    let p = r version store tree places lines others loose chain counted in
-    part_more x y z version store tree places others p.rest p.loose.given i line next count l p.left p.loose.arranged p.chain p.same word is
+so_far_more first count i line next x y z l r word is head store tree places lines others loose chain counted =
+    let p = r head store tree places lines others loose chain counted in
+    part_more x y z head store tree places others p.rest p.loose.given i line next count l p.left p.loose.arranged p.chain p.same word is
 
-none_left : (x y : List ℕ) (version : ℕ) (store : Store) (tree : Tree ℕ) (places : List Place) (others rest given : List ℕ) (i count : ℕ) → i ≡ count → i + length rest ≡ count →
-    Arranged y version store tree places given (rest ++ others) → Arranged y version store tree places given (others ++ [])
-none_left x y version store tree places others [] given i count e l a = subst (Arranged y version store tree places given) (sym (append-nil others)) a
-none_left x y version store tree places others (r ∷ rest) given i count e l a = absurd (omega arith)
+none_left : (x y : List ℕ) (head : Head) (store : Store) (tree : Tree ℕ) (places : List Place) (others rest given : List ℕ) (i count : ℕ) → i ≡ count → i + length rest ≡ count →
+    Arranged y head store tree places given (rest ++ others) → Arranged y head store tree places given (others ++ [])
+none_left x y head store tree places others [] given i count e l a = subst (Arranged y head store tree places given) (sym (append-nil others)) a
+none_left x y head store tree places others (r ∷ rest) given i count e l a = absurd (omega arith)
 
 pub so_far_all : (first count i line : ℕ) (x y : List ℕ) → i ≡ count → ChainSoFar first count i line x y → ChainGiven first count x y
-so_far_all first count i line x y e r version store tree places lines others loose chain counted =
-    let p = r version store tree places lines others loose chain counted in
-    record { loose = record { given = p.loose.given; arranged = none_left x y version store tree places others p.rest p.loose.given i count e p.left p.loose.arranged }; same = p.same }
+so_far_all first count i line x y e r head store tree places lines others loose chain counted =
+    let p = r head store tree places lines others loose chain counted in
+    record { loose = record { given = p.loose.given; arranged = none_left x y head store tree places others p.rest p.loose.given i count e p.left p.loose.arranged }; same = p.same }

@@ -16,7 +16,7 @@ use Rattle.avl_words.proofs.Spots.{IsBetween, parted, spot_whole, spot_ends, spo
 use Rattle.avl_words.specs.Lines.{word_of, IsWithin}
 use Rattle.avl_words.specs.Words.{root, Stands, IsTree}
 use Rattle.avl_words.proofs.Walks.{stands_at, goes_right, goes_left, way_ends, way_ended, way_ends_same, way_ended_same, few_on_way, few_at_node, deep_none}
-use Rattle.index_checks.specs.Layout.{Place, lines_at, nodes_of, IsAt, Placed, Arranged, StandsFor, IsIndex}
+use Rattle.index_checks.specs.Layout.{Place, lines_at, nodes_of, IsAt, Placed, Arranged, StandsFor, IsIndex, Head, head_of}
 use Rattle.index_checks.proofs.Arranging.{arranged_tree}
 use Rattle.index_checks.proofs.Lines.{all_left, all_right, all_middle, lines_there, lines_within, place_lines}
 use Rattle.index_checks.proofs.OneStore.{placed_count}
@@ -115,14 +115,14 @@ split_at ws (p ∷ places) (q ∷ store) (x ∷ xs) ys n e =
     }
 
 -- a pair of a store at a place
-pub node_there : (ws : List ℕ) (version : ℕ) (store lower others : Store) (tree : Tree ℕ) (places front rest : List Place) (given loose : List ℕ) (node : ℕ) (place : Place) (pair : List ℕ × List ℕ) →
-    Arranged ws version store tree places given loose → IsStore store → places ≡ front ++ place ∷ rest → store ≡ lower ++ pair ∷ others → node ≡ place.node → IsAt ws place pair → IsNodeOf ws node pair
-node_there ws version store lower others tree places front rest given loose node place pair a lawful p s e is = record {
+pub node_there : (ws : List ℕ) (head : Head) (store lower others : Store) (tree : Tree ℕ) (places front rest : List Place) (given loose : List ℕ) (node : ℕ) (place : Place) (pair : List ℕ × List ℕ) →
+    Arranged ws head store tree places given loose → IsStore store → places ≡ front ++ place ∷ rest → store ≡ lower ++ pair ∷ others → node ≡ place.node → IsAt ws place pair → IsNodeOf ws node pair
+node_there ws head store lower others tree places front rest given loose node place pair a lawful p s e is = record {
   place = place;
   here = e;
   holds = is;
   within =
-      (let within = all_left (IsWithin ws) (flat_map lines_at places) given (all_left (IsWithin ws) (flat_map lines_at places ++ given) loose (lines_within ws version store tree places given loose a)) in
+      (let within = all_left (IsWithin ws) (flat_map lines_at places) given (all_left (IsWithin ws) (flat_map lines_at places ++ given) loose (lines_within ws head store tree places given loose a)) in
       place_lines (IsWithin ws) front rest place (subst (λ ps. All (IsWithin ws) (flat_map lines_at ps)) p within));
   sized = a.sized;
   is_key = all_middle (λ q. IsKey q.0) lower others pair (subst (All (λ q. IsKey q.0)) s lawful.keys);
@@ -130,16 +130,16 @@ node_there ws version store lower others tree places front rest given loose node
 }
 
 -- the first of some pairs
-pub first_node : (ws : List ℕ) (version : ℕ) (store lower others : Store) (tree : Tree ℕ) (places front rest : List Place) (given loose : List ℕ) (node : ℕ) (nodes : List ℕ) →
-    Arranged ws version store tree places given loose → IsStore store → places ≡ front ++ rest → store ≡ lower ++ others → Placed ws rest others → nodes_of rest ≡ nodes → IsFirst node nodes → All (λ n. 1 ≤ n) nodes → IsFirstNode ws node others
-first_node ws version store lower [] tree places front [] given loose node [] a lawful p s n e f some = f
-first_node ws version store lower [] tree places front [] given loose node (m ∷ nodes) a lawful p s n e f some = absurd (let g : ⊥ = cc in g)
-first_node ws version store lower [] tree places front (q ∷ rest) given loose node nodes a lawful p s n e f some = absurd n
-first_node ws version store lower (pair ∷ others) tree places front [] given loose node nodes a lawful p s n e f some = absurd n
-first_node ws version store lower (pair ∷ others) tree places front (q ∷ rest) given loose node [] a lawful p s n e f some = absurd (let g : ⊥ = cc in g)
-first_node ws version store lower (pair ∷ others) tree places front (q ∷ rest) given loose node (m ∷ nodes) a lawful p s n e f some =
+pub first_node : (ws : List ℕ) (head : Head) (store lower others : Store) (tree : Tree ℕ) (places front rest : List Place) (given loose : List ℕ) (node : ℕ) (nodes : List ℕ) →
+    Arranged ws head store tree places given loose → IsStore store → places ≡ front ++ rest → store ≡ lower ++ others → Placed ws rest others → nodes_of rest ≡ nodes → IsFirst node nodes → All (λ n. 1 ≤ n) nodes → IsFirstNode ws node others
+first_node ws head store lower [] tree places front [] given loose node [] a lawful p s n e f some = f
+first_node ws head store lower [] tree places front [] given loose node (m ∷ nodes) a lawful p s n e f some = absurd (let g : ⊥ = cc in g)
+first_node ws head store lower [] tree places front (q ∷ rest) given loose node nodes a lawful p s n e f some = absurd n
+first_node ws head store lower (pair ∷ others) tree places front [] given loose node nodes a lawful p s n e f some = absurd n
+first_node ws head store lower (pair ∷ others) tree places front (q ∷ rest) given loose node [] a lawful p s n e f some = absurd (let g : ⊥ = cc in g)
+first_node ws head store lower (pair ∷ others) tree places front (q ∷ rest) given loose node (m ∷ nodes) a lawful p s n e f some =
     let h = same_head q.node m (nodes_of rest) nodes e in
-    (subst (λ x. 1 ≤ x) (sym f) (All-head (λ n. 1 ≤ n) m nodes some), node_there ws version store lower others tree places front rest given loose node q pair a lawful p s (f ∙ sym h.0) n.0)
+    (subst (λ x. 1 ≤ x) (sym f) (All-head (λ n. 1 ≤ n) m nodes some), node_there ws head store lower others tree places front rest given loose node q pair a lawful p s (f ∙ sym h.0) n.0)
 
 -- a node of a tree in order, and its place
 pub record IsHere (ws : List ℕ) (places : List Place) (store : Store) (xs : List ℕ) (x : ℕ) (ys : List ℕ) : Type 0 where
@@ -209,7 +209,7 @@ cut_by true order xs c = cut_past order xs c
 -- The tree of words that stand for a store.
 module _ (ws : List ℕ) (version : ℕ) (store : Store) (s : StandsFor ws version store) where
   pub tree_of : IsTree ws s.tree
-  tree_of = arranged_tree ws version store s.tree s.places s.given [] s.arranged
+  tree_of = arranged_tree ws (head_of version s.last) store s.tree s.places s.given [] s.arranged
 
   pub pairs_counted : size s.tree ≡ length store
   pairs_counted = size_is s.tree ∙ ap length s.arranged.nodes.in_order ∙ placed_count ws s.places store s.arranged.nodes.pairs
@@ -223,7 +223,7 @@ module _ (ws : List ℕ) (version : ℕ) (store : Store) (s : StandsFor ws versi
     at_node way Empty node w e n = absurd (n e)
     at_node way (Node l x r) node w e n =
         let h = here_at ws s.places store (before way ++ items l) x (items r ++ behind way) s.arranged.nodes.pairs (sym s.arranged.nodes.in_order ∙ ap items (sym w) ∙ parted way l x r) in
-        (h.pair, node_there ws version store h.lower h.after s.tree s.places h.front h.rest s.given [] node h.place h.pair s.arranged s.lawful h.places_are h.store_is (e ∙ h.node_is) h.is)
+        (h.pair, node_there ws (head_of version s.last) store h.lower h.after s.tree s.places h.front h.rest s.given [] node h.place h.pair s.arranged s.lawful h.places_are h.store_is (e ∙ h.node_is) h.is)
 
     pub passing_node : (nodes sides : List ℕ) (d node above : ℕ) → IsPassing nodes sides (walk_order past key ws) d node above s.tree → node ≢ 0 → (pair : List ℕ × List ℕ) × IsNodeOf ws node pair
     passing_node nodes sides d node above o n = at_node o.on.way o.on.here node o.on.whole_is o.on.node_is n
@@ -309,7 +309,7 @@ module _ (ws : List ℕ) (past : Bool) (key nodes sides : List ℕ) (d node abov
       subst (λ m. 2 ^ (d + 1) ≤ 2 * ((m + 1) * (m + 1))) (pairs_counted ws version store s) (few_at_node ws (walk_order past key ws) s.tree (tree_of ws version store s) nodes sides d node (w version store s).on n)
 
   pub passing_has_node : OnWay past key nodes sides d node above ws → node ≢ 0 → IsIndex ws → HasNode ws node
-  passing_has_node w n i = (let p = passing_node ws i.version i.store i.stands past key nodes sides d node above (w i.version i.store i.stands) n in record { pair = p.0; is = p.1 })
+  passing_has_node w n i = (let p = passing_node ws 2 i.store i.stands past key nodes sides d node above (w 2 i.store i.stands) n in record { pair = p.0; is = p.1 })
 
   pub passing_ends : OnWay past key nodes sides d node above ws → node ≡ 0 → AtSpot past key nodes sides d node above ws
   passing_ends w z version store s = ends_none ws version store s past key nodes sides d node above (w version store s) z
@@ -415,7 +415,7 @@ never_same key ws (Node l x r) node e n = absurd (by_order (order_in key ws x) n
 nodes_some : (ws : List ℕ) (version : ℕ) (store : Store) (s : StandsFor ws version store) → All (λ n. 1 ≤ n) (nodes_of s.places)
 nodes_some ws version store s =
     all_nodes (λ n. 1 ≤ n) s.places (All-weaker (λ l. (1 ≤ l) × (l < word_of ws 0 3)) (λ l. 1 ≤ l) (λ l h. h.0) (flat_map lines_at s.places)
-    (all_left (λ l. (1 ≤ l) × (l < word_of ws 0 3)) (flat_map lines_at s.places) s.given (all_left (λ l. (1 ≤ l) × (l < word_of ws 0 3)) (flat_map lines_at s.places ++ s.given) [] (lines_there ws version store s.tree s.places s.given [] s.arranged))))
+    (all_left (λ l. (1 ≤ l) × (l < word_of ws 0 3)) (flat_map lines_at s.places) s.given (all_left (λ l. (1 ≤ l) × (l < word_of ws 0 3)) (flat_map lines_at s.places ++ s.given) [] (lines_there ws (head_of version s.last) store s.tree s.places s.given [] s.arranged))))
 
 pub map_append : (f : Place → ℕ) (xs ys : List Place) → map f (xs ++ ys) ≡ map f xs ++ map f ys
 map_append f [] ys = refl
@@ -429,7 +429,7 @@ spot_missing ws key nodes sides d node above spot z version store s =
 
 pub place_node : (ws key : List ℕ) (version : ℕ) (store : Store) (s : StandsFor ws version store) (way : List (Turn ℕ)) (here : Tree ℕ) (node : ℕ) (h : HasPlace ws key s.places store way here node) → IsNodeOf ws node (key, h.document)
 place_node ws key version store s way here node h =
-    subst (IsNodeOf ws node) h.pair_is (node_there ws version store h.at.lower h.at.after s.tree s.places h.at.front h.at.rest s.given [] node h.at.place h.at.pair s.arranged s.lawful h.at.places_are h.at.store_is h.at.node_is h.at.is)
+    subst (IsNodeOf ws node) h.pair_is (node_there ws (head_of version s.last) store h.at.lower h.at.after s.tree s.places h.at.front h.at.rest s.given [] node h.at.place h.at.pair s.arranged s.lawful h.at.places_are h.at.store_is h.at.node_is h.at.is)
 
 pub spot_found : (ws key nodes sides : List ℕ) (d node above : ℕ) → AtSpot false key nodes sides d node above ws → node ≢ 0 → (version : ℕ) (store : Store) → StandsFor ws version store → IsFound ws key (Some node) store
 spot_found ws key nodes sides d node above spot n version store s =
@@ -442,7 +442,7 @@ spot_found ws key nodes sides d node above spot n version store s =
 
 pub spot_node : (ws key nodes sides : List ℕ) (d node above : ℕ) → AtSpot false key nodes sides d node above ws → node ≢ 0 → IsIndex ws → HasNode ws node
 spot_node ws key nodes sides d node above spot n i =
-    let f = spot_found ws key nodes sides d node above spot n i.version i.store i.stands in
+    let f = spot_found ws key nodes sides d node above spot n 2 i.store i.stands in
     record { pair = (key, f.0); is = f.2 }
 
 -- past a key
@@ -480,7 +480,7 @@ spot_above ws key nodes sides d node above spot version store s =
     let are : pairs_above key store ≡ sp.others = ap (pairs_above key) sp.store_is ∙ filter-append (λ p. is_lt (key_cmp key p.0)) sp.lower sp.others ∙ ap (λ u. u ++ pairs_above key sp.others) none ∙ all_above key sp.others others in
     let some = all_right (λ n. 1 ≤ n) (nodes_of sp.front) (nodes_of sp.rest) (subst (All (λ n. 1 ≤ n)) (ap nodes_of sp.places_are ∙ map_append (λ p. p.node) sp.front sp.rest) (nodes_some ws version store s)) in
     subst (IsFirstNode ws above) (sym are)
-    (first_node ws version store sp.lower sp.others s.tree s.places sp.front sp.rest s.given [] above (nodes_of sp.rest) s.arranged s.lawful sp.places_are sp.store_is sp.placed_rest refl (subst (IsFirst above) (sym sp.rest_nodes) e.above_is) some)
+    (first_node ws (head_of version s.last) store sp.lower sp.others s.tree s.places sp.front sp.rest s.given [] above (nodes_of sp.rest) s.arranged s.lawful sp.places_are sp.store_is sp.placed_rest refl (subst (IsFirst above) (sym sp.rest_nodes) e.above_is) some)
 
 pub there_first : (ws : List ℕ) (node : ℕ) (pairs : Store) → IsFirstNode ws node pairs → (node ≡ 0 → ⊥) → HasNode ws node
 there_first ws node [] is some = absurd (some is)

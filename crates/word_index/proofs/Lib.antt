@@ -1,12 +1,15 @@
 pub mod ExactGiving
 pub mod ExactRuns
 pub mod ExactTaking
+pub mod Finding
 pub mod Frames
 pub mod Giving
 pub mod NodeReads
 pub mod PairsGiven
 pub mod Putting
 pub mod Taking
+pub mod Triples
+pub mod Upgrades
 pub mod Writing
 pub mod Arrangements
 pub mod Splits

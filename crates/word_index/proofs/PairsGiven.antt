@@ -8,16 +8,16 @@ use Rattle.avl_words.specs.Lines.{IsWithin, word_of}
 use Rattle.index_checks.proofs.Lines.{all_left, all_right, lines_within}
 use Rattle.index_checks.proofs.Totals.{few_given}
 use Rattle.index_checks.specs.Blocks.{IsText}
-use Rattle.index_checks.specs.Layout.{IsChain, Holds, Place, lines_at, Arranged}
+use Rattle.index_checks.specs.Layout.{IsChain, Holds, Place, lines_at, Arranged, Head}
 use Rattle.word_index.proofs.Frames.{times, times_append, times_cons, holds_same}
 use Rattle.word_index.proofs.Giving.{give_arranged}
 use Rattle.word_index.specs.Changes.{SameLine, with_given, CanGive, IsLoose, ChainGiven, LooseText, TextGiven, LoosePair, HasLoosePair, PairGiven}
 use Rattle.avl_words.specs.Tree.{Tree}
 
 -- loose lines in another order
-pub reordered : (ws : List ℕ) (version : ℕ) (store : Store) (tree : Tree ℕ) (places : List Place) (given loose other : List ℕ) → ((x : ℕ) → times x other ≡ times x loose) →
-    Arranged ws version store tree places given loose → Arranged ws version store tree places given other
-reordered ws version store tree places given loose other same a = record {
+pub reordered : (ws : List ℕ) (head : Head) (store : Store) (tree : Tree ℕ) (places : List Place) (given loose other : List ℕ) → ((x : ℕ) → times x other ≡ times x loose) →
+    Arranged ws head store tree places given loose → Arranged ws head store tree places given other
+reordered ws head store tree places given loose other same a = record {
   sized = a.sized;
   version_word = a.version_word;
   nodes = a.nodes;
@@ -27,23 +27,23 @@ reordered ws version store tree places given loose other same a = record {
   once = λ x. (let used = flat_map lines_at places ++ given in times_append x used other ∙ ap (λ n. times x used + n) (same x) ∙ sym (times_append x used loose) ∙ a.once x);
   given_count = a.given_count;
   pair_count = a.pair_count;
-  no_sixth = a.no_sixth;
+  last_word = a.last_word;
   no_seventh = a.no_seventh;
 }
 
-pub loose_within : (ws : List ℕ) (version : ℕ) (store : Store) (tree : Tree ℕ) (places : List Place) (given loose : List ℕ) → Arranged ws version store tree places given loose → All (IsWithin ws) loose
-loose_within ws version store tree places given loose a = all_right (IsWithin ws) (flat_map lines_at places ++ given) loose (lines_within ws version store tree places given loose a)
+pub loose_within : (ws : List ℕ) (head : Head) (store : Store) (tree : Tree ℕ) (places : List Place) (given loose : List ℕ) → Arranged ws head store tree places given loose → All (IsWithin ws) loose
+loose_within ws head store tree places given loose a = all_right (IsWithin ws) (flat_map lines_at places ++ given) loose (lines_within ws head store tree places given loose a)
 
 -- the blocks of a text
 block_count : (len count bytes lines : ℕ) → count ≡ len / 56 + min 1 (len % 56) → len ≡ bytes → lines ≡ (bytes + 55) / 56 → count ≡ lines
 block_count len count bytes lines c e l = omega arith
 
 pub text_given : (node at first len count : ℕ) (x y z : List ℕ) → y ≡ x → word_of y node at ≡ first → word_of y node (at + 1) ≡ len → count ≡ div_ceil len 56 → ChainGiven first count y z → TextGiven node at x z
-text_given node at first len count x y z e first_is len_is counted given version store tree places lines others bytes loose text =
+text_given node at first len count x y z e first_is len_is counted given head store tree places lines others bytes loose text =
     let chain = subst (λ w. ChainGiven first count w z) e given in
     let first_here : word_of x node at ≡ first = subst (λ w. word_of w node at ≡ first) e first_is in
     let len_here : word_of x node (at + 1) ≡ len = subst (λ w. word_of w node (at + 1) ≡ len) e len_is in
-    chain version store tree places lines others loose (subst (λ f. IsChain x f lines) first_here text.holds.chain)
+    chain head store tree places lines others loose (subst (λ f. IsChain x f lines) first_here text.holds.chain)
     (block_count len count (length bytes) (length lines) counted (sym len_here ∙ text.long) text.holds.enough)
 
 -- the document's blocks, then the key's, then the node
@@ -58,11 +58,11 @@ document_first x place =
       times_append x place.key_lines place.document_lines,
     )
 
-pub loose_document : (ws : List ℕ) (node version : ℕ) (store : Store) (tree : Tree ℕ) (places : List Place) (place : Place) (pair : List ℕ × List ℕ) → LoosePair ws node version store tree places place pair →
-    IsLoose ws version store tree places place.document_lines (place.node ∷ place.key_lines) × IsText ws node 5 place.document_lines pair.1
-loose_document ws node version store tree places place pair p =
-    let a = reordered ws version store tree places p.loose.given (lines_at place ++ []) (place.document_lines ++ (place.node ∷ place.key_lines)) (λ x. document_first x place) p.loose.arranged in
-    let within = loose_within ws version store tree places p.loose.given (place.document_lines ++ (place.node ∷ place.key_lines)) a in
+pub loose_document : (ws : List ℕ) (node : ℕ) (head : Head) (store : Store) (tree : Tree ℕ) (places : List Place) (place : Place) (pair : List ℕ × List ℕ) → LoosePair ws node head store tree places place pair →
+    IsLoose ws head store tree places place.document_lines (place.node ∷ place.key_lines) × IsText ws node 5 place.document_lines pair.1
+loose_document ws node head store tree places place pair p =
+    let a = reordered ws head store tree places p.loose.given (lines_at place ++ []) (place.document_lines ++ (place.node ∷ place.key_lines)) (λ x. document_first x place) p.loose.arranged in
+    let within = loose_within ws head store tree places p.loose.given (place.document_lines ++ (place.node ∷ place.key_lines)) a in
     let others = all_right (IsWithin ws) place.document_lines (place.node ∷ place.key_lines) within in (
       record { given = p.loose.given; arranged = a },
       subst (λ n. IsText ws n 5 place.document_lines pair.1) (sym p.here) (record {
@@ -77,13 +77,13 @@ key_first : (x : ℕ) (place : Place) → times x (place.key_lines ++ (place.nod
 key_first x place =
     omega (arith, times_append x place.key_lines (place.node ∷ []), times_cons x place.node [], times_append x (place.node ∷ place.key_lines) [], times_cons x place.node place.key_lines)
 
-pub loose_key : (x y : List ℕ) (node version : ℕ) (store : Store) (tree : Tree ℕ) (places : List Place) (place : Place) (pair : List ℕ × List ℕ) → LoosePair x node version store tree places place pair → TextGiven node 5 x y →
-    IsLoose y version store tree places place.key_lines (place.node ∷ []) × IsText y node 3 place.key_lines pair.0
-loose_key x y node version store tree places place pair p t =
-    let d = loose_document x node version store tree places place pair p in
-    let g = t version store tree places place.document_lines (place.node ∷ place.key_lines) pair.1 d.0 d.1 in
-    let a = reordered y version store tree places g.loose.given ((place.node ∷ place.key_lines) ++ []) (place.key_lines ++ (place.node ∷ [])) (λ n. key_first n place) g.loose.arranged in
-    let within = loose_within y version store tree places g.loose.given (place.key_lines ++ (place.node ∷ [])) a in
+pub loose_key : (x y : List ℕ) (node : ℕ) (head : Head) (store : Store) (tree : Tree ℕ) (places : List Place) (place : Place) (pair : List ℕ × List ℕ) → LoosePair x node head store tree places place pair → TextGiven node 5 x y →
+    IsLoose y head store tree places place.key_lines (place.node ∷ []) × IsText y node 3 place.key_lines pair.0
+loose_key x y node head store tree places place pair p t =
+    let d = loose_document x node head store tree places place pair p in
+    let g = t head store tree places place.document_lines (place.node ∷ place.key_lines) pair.1 d.0 d.1 in
+    let a = reordered y head store tree places g.loose.given ((place.node ∷ place.key_lines) ++ []) (place.key_lines ++ (place.node ∷ [])) (λ n. key_first n place) g.loose.arranged in
+    let within = loose_within y head store tree places g.loose.given (place.key_lines ++ (place.node ∷ [])) a in
     let node_same = All-head (SameLine x y) place.node place.key_lines g.same in
     let key_same = All-tail (SameLine x y) place.node place.key_lines g.same in (
       record { given = g.loose.given; arranged = a },
@@ -95,33 +95,33 @@ loose_key x y node version store tree places place pair p t =
       }),
     )
 
-pub loose_node : (x y z : List ℕ) (node version : ℕ) (store : Store) (tree : Tree ℕ) (places : List Place) (place : Place) (pair : List ℕ × List ℕ) → LoosePair x node version store tree places place pair →
-    TextGiven node 5 x y → TextGiven node 3 y z → IsLoose z version store tree places (place.node ∷ []) []
-loose_node x y z node version store tree places place pair p t u =
-    let k = loose_key x y node version store tree places place pair p t in
-    (u version store tree places place.key_lines (place.node ∷ []) pair.0 k.0 k.1).loose
+pub loose_node : (x y z : List ℕ) (node : ℕ) (head : Head) (store : Store) (tree : Tree ℕ) (places : List Place) (place : Place) (pair : List ℕ × List ℕ) → LoosePair x node head store tree places place pair →
+    TextGiven node 5 x y → TextGiven node 3 y z → IsLoose z head store tree places (place.node ∷ []) []
+loose_node x y z node head store tree places place pair p t u =
+    let k = loose_key x y node head store tree places place pair p t in
+    (u head store tree places place.key_lines (place.node ∷ []) pair.0 k.0 k.1).loose
 
 pub node_can_be_given : (x y z : List ℕ) (node : ℕ) → HasLoosePair x node → TextGiven node 5 x y → TextGiven node 3 y z → CanGive z node
 node_can_be_given x y z node h t u =
-    let l = loose_node x y z node h.version h.store h.tree h.places h.place h.pair h.there t u in
+    let l = loose_node x y z node h.head h.store h.tree h.places h.place h.pair h.there t u in
     record {
-      there = subst (IsWithin z) (sym h.there.here) (All-head (IsWithin z) h.place.node [] (loose_within z h.version h.store h.tree h.places l.given (h.place.node ∷ []) l.arranged));
-      few = few_given z h.version h.store h.tree h.places l.given (h.place.node ∷ []) l.arranged;
+      there = subst (IsWithin z) (sym h.there.here) (All-head (IsWithin z) h.place.node [] (loose_within z h.head h.store h.tree h.places l.given (h.place.node ∷ []) l.arranged));
+      few = few_given z h.head h.store h.tree h.places l.given (h.place.node ∷ []) l.arranged;
     }
 
 pub pair_given : (x y z w : List ℕ) (node : ℕ) → TextGiven node 5 x y → TextGiven node 3 y z → w ≡ with_given node z → PairGiven node x w
-pair_given x y z w node t u is version store tree places place pair p =
-    let l = loose_node x y z node version store tree places place pair p t u in
-    let g = give_arranged z version store tree places l.given [] place.node l.arranged in
+pair_given x y z w node t u is head store tree places place pair p =
+    let l = loose_node x y z node head store tree places place pair p t u in
+    let g = give_arranged z head store tree places l.given [] place.node l.arranged in
     let now : w ≡ with_given place.node z = is ∙ ap (λ n. with_given n z) p.here in
-    subst (λ v. IsLoose v version store tree places [] []) (sym now) (record { given = place.node ∷ l.given; arranged = g.0 })
+    subst (λ v. IsLoose v head store tree places [] []) (sym now) (record { given = place.node ∷ l.given; arranged = g.0 })
 
 pub has_document_text : (ws : List ℕ) (node : ℕ) → HasLoosePair ws node → LooseText ws node 5
 has_document_text ws node h =
-    let d = loose_document ws node h.version h.store h.tree h.places h.place h.pair h.there in
-    record { version = h.version; store = h.store; tree = h.tree; places = h.places; lines = h.place.document_lines; others = h.place.node ∷ h.place.key_lines; bytes = h.pair.1; loose = d.0; text = d.1 }
+    let d = loose_document ws node h.head h.store h.tree h.places h.place h.pair h.there in
+    record { head = h.head; store = h.store; tree = h.tree; places = h.places; lines = h.place.document_lines; others = h.place.node ∷ h.place.key_lines; bytes = h.pair.1; loose = d.0; text = d.1 }
 
 pub has_key_text : (x y : List ℕ) (node : ℕ) → HasLoosePair x node → TextGiven node 5 x y → LooseText y node 3
 has_key_text x y node h t =
-    let k = loose_key x y node h.version h.store h.tree h.places h.place h.pair h.there t in
-    record { version = h.version; store = h.store; tree = h.tree; places = h.places; lines = h.place.key_lines; others = h.place.node ∷ []; bytes = h.pair.0; loose = k.0; text = k.1 }
+    let k = loose_key x y node h.head h.store h.tree h.places h.place h.pair h.there t in
+    record { head = h.head; store = h.store; tree = h.tree; places = h.places; lines = h.place.key_lines; others = h.place.node ∷ []; bytes = h.pair.0; loose = k.0; text = k.1 }

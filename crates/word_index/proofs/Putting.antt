@@ -13,7 +13,7 @@ use Rattle.avl_words.specs.Lines.{IsWithin, word_of}
 use Rattle.index_checks.proofs.BlockReads.{word_at_past}
 use Rattle.index_checks.proofs.Lines.{all_left, all_right}
 use Rattle.index_checks.proofs.Totals.{all_lines}
-use Rattle.index_checks.specs.Layout.{Holds, Place, lines_at, Placed, Arranged}
+use Rattle.index_checks.specs.Layout.{Holds, Place, lines_at, Placed, Arranged, Head}
 use Rattle.word_index.proofs.Frames.{times, times_append, times_cons, holds_same}
 use Rattle.word_index.proofs.PairsGiven.{reordered, loose_within}
 use Rattle.word_index.proofs.Taking.{from_one}
@@ -66,9 +66,9 @@ pub count_blocks : (len count bytes : ℕ) → count ≡ len / 56 + min 1 (len %
 count_blocks len count bytes c e = omega arith
 
 -- written words hold the bytes packed in them
-pub written_holds : (x y : List ℕ) (version : ℕ) (store : Store) (tree : Tree ℕ) (places : List Place) (first count n len : ℕ) (words bytes loose : List ℕ) → IsPackOf n len words bytes → length bytes ≤ 8 * n → count ≡ div_ceil len 56 →
-    (w : IsWritten x y version store tree places first count 0 words loose) → Holds y first w.lines bytes
-written_holds x y version store tree places first count n len words bytes loose p short counted w = record {
+pub written_holds : (x y : List ℕ) (head : Head) (store : Store) (tree : Tree ℕ) (places : List Place) (first count n len : ℕ) (words bytes loose : List ℕ) → IsPackOf n len words bytes → length bytes ≤ 8 * n → count ≡ div_ceil len 56 →
+    (w : IsWritten x y head store tree places first count 0 words loose) → Holds y first w.lines bytes
+written_holds x y head store tree places first count n len words bytes loose p short counted w = record {
   chain = w.chain;
   enough = w.counted ∙ count_blocks len count (length bytes) counted p.long;
   packed = λ i l. w.content i (omega (arith, w.counted)) ∙ ap (λ k. get_or words k 0) (zero-add i) ∙ ap (λ ws. get_or ws i 0) p.packs ∙ packed_word n i bytes short;
@@ -79,14 +79,14 @@ pairs_of_lines : (store : Store) → length store ≤ lines_of store
 pairs_of_lines [] = omega arith
 pairs_of_lines (q ∷ store) = omega (arith, pairs_of_lines store, sum_by-cons pair_lines q store)
 
-pub few_pairs : (ws : List ℕ) (version : ℕ) (store : Store) (tree : Tree ℕ) (places : List Place) (given loose : List ℕ) → Arranged ws version store tree places given loose → word_of ws 0 5 ≤ 2 ^ 32
-few_pairs ws version store tree places given loose a =
-    omega (arith, pairs_of_lines store, lines_of_places ws places store a.nodes.pairs, all_lines ws version store tree places given loose a, a.pair_count, a.end_to, a.sized.few)
+pub few_pairs : (ws : List ℕ) (head : Head) (store : Store) (tree : Tree ℕ) (places : List Place) (given loose : List ℕ) → Arranged ws head store tree places given loose → word_of ws 0 5 ≤ 2 ^ 32
+few_pairs ws head store tree places given loose a =
+    omega (arith, pairs_of_lines store, lines_of_places ws places store a.nodes.pairs, all_lines ws head store tree places given loose a, a.pair_count, a.end_to, a.sized.few)
 
 -- room for what comes next
 pub room_less : (ws : List ℕ) (more less : ℕ) → less ≤ more → CanTake ws more → CanTake ws less
 room_less ws more less l c = record {
-  version = c.version;
+  head = c.head;
   store = c.store;
   tree = c.tree;
   places = c.places;
@@ -99,9 +99,9 @@ room_less ws more less l c = record {
 pub room_after_line : (x y : List ℕ) (line more : ℕ) → CanTake x (1 + more) → LineTaken line x y → CanTake y more
 room_after_line x y line more c t =
     let room = c.room in
-    let q = t c.version c.store c.tree c.places c.given c.loose c.arranged (omega (arith, room)) in
+    let q = t c.head c.store c.tree c.places c.given c.loose c.arranged (omega (arith, room)) in
     record {
-      version = c.version;
+      head = c.head;
       store = c.store;
       tree = c.tree;
       places = c.places;
@@ -114,9 +114,9 @@ room_after_line x y line more c t =
 pub room_after_text : (x y words : List ℕ) (count first more : ℕ) → CanTake x (count + more) → TextWritten words count first x y → CanTake y more
 room_after_text x y words count first more c t =
     let room = c.room in
-    let q = t c.version c.store c.tree c.places c.given c.loose c.arranged (omega (arith, room)) in
+    let q = t c.head c.store c.tree c.places c.given c.loose c.arranged (omega (arith, room)) in
     record {
-      version = c.version;
+      head = c.head;
       store = c.store;
       tree = c.tree;
       places = c.places;
@@ -130,12 +130,12 @@ room_after_text x y words count first more c t =
 pub node_still : (x y z w : List ℕ) (node count other key_first doc_first : ℕ) (key doc : List ℕ) → CanTake x (1 + (count + other)) → LineTaken node x y → TextWritten key count key_first y z → TextWritten doc other doc_first z w → IsWithin w node
 node_still x y z w node count other key_first doc_first key doc c t k d =
     let room = c.room in
-    let p = t c.version c.store c.tree c.places c.given c.loose c.arranged (omega (arith, room)) in
+    let p = t c.head c.store c.tree c.places c.given c.loose c.arranged (omega (arith, room)) in
     let long_y = ap (λ n. n / 8) p.long in
-    let q = k c.version c.store c.tree c.places p.given (node ∷ c.loose) p.arranged (omega (arith, room, long_y)) in
+    let q = k c.head c.store c.tree c.places p.given (node ∷ c.loose) p.arranged (omega (arith, room, long_y)) in
     let long_z = ap (λ n. n / 8) q.taken.long in
-    let r = d c.version c.store c.tree c.places q.taken.given (q.lines ++ (node ∷ c.loose)) q.taken.arranged (omega (arith, room, long_y, long_z, q.counted, length-append q.lines (node ∷ c.loose))) in
-    let within = loose_within w c.version c.store c.tree c.places r.taken.given (r.lines ++ (q.lines ++ (node ∷ c.loose))) r.taken.arranged in
+    let r = d c.head c.store c.tree c.places q.taken.given (q.lines ++ (node ∷ c.loose)) q.taken.arranged (omega (arith, room, long_y, long_z, q.counted, length-append q.lines (node ∷ c.loose))) in
+    let within = loose_within w c.head c.store c.tree c.places r.taken.given (r.lines ++ (q.lines ++ (node ∷ c.loose))) r.taken.arranged in
     All-head (IsWithin w) node c.loose (all_right (IsWithin w) q.lines (node ∷ c.loose) (all_right (IsWithin w) r.lines (q.lines ++ (node ∷ c.loose)) within))
 
 -- the blocks and the node in the order of a place
@@ -143,10 +143,10 @@ place_order : (x node : ℕ) (key_lines doc_lines : List ℕ) → times x (node 
 place_order x node key_lines doc_lines =
     omega (arith, times_cons x node (key_lines ++ doc_lines), times_append x key_lines doc_lines, times_append x doc_lines (key_lines ++ (node ∷ [])), times_append x key_lines (node ∷ []), times_cons x node [])
 
-pub pair_written : (x y z w v : List ℕ) (node count other key_first doc_first key_len doc_len : ℕ) (key_words doc_words : List ℕ) → IsPacked 8 key_len key_words → IsPacked 128 doc_len doc_words →
+pub pair_written : (x y z w v : List ℕ) (node count other key_first doc_first key_len doc_len revision : ℕ) (key_words doc_words : List ℕ) → IsPacked 8 key_len key_words → IsPacked 128 doc_len doc_words →
     count ≡ div_ceil key_len 56 → other ≡ div_ceil doc_len 56 → LineTaken node x y → TextWritten key_words count key_first y z → TextWritten doc_words other doc_first z w →
-    LineFilled node (0 ∷ 0 ∷ 1 ∷ key_first ∷ key_len ∷ doc_first ∷ doc_len ∷ 0 ∷ []) w v → PairWritten (unpacked key_len key_words, unpacked doc_len doc_words) node x v
-pair_written x y z w v node count other key_first doc_first key_len doc_len key_words doc_words key_packed doc_packed key_count doc_count t k d f version store tree places given a room =
+    LineFilled node (0 ∷ 0 ∷ 1 ∷ key_first ∷ key_len ∷ doc_first ∷ doc_len ∷ revision ∷ []) w v → PairWritten (unpacked key_len key_words, unpacked doc_len doc_words) revision node x v
+pair_written x y z w v node count other key_first doc_first key_len doc_len revision key_words doc_words key_packed doc_packed key_count doc_count t k d f head store tree places given a room =
     let key = unpacked key_len key_words in
     let doc = unpacked doc_len doc_words in
     let key_long = length_unpacked key_len key_words in
@@ -155,35 +155,36 @@ pair_written x y z w v node count other key_first doc_first key_len doc_len key_
     let doc_short = doc_packed.short in
     let key_blocks = count_blocks key_len count (length key) key_count (sym key_long) in
     let doc_blocks = count_blocks doc_len other (length doc) doc_count (sym doc_long) in
-    let p = t version store tree places given [] a (omega (arith, room)) in
+    let p = t head store tree places given [] a (omega (arith, room)) in
     let long_y = ap (λ n. n / 8) p.long in
-    let q = k version store tree places p.given (node ∷ []) p.arranged (omega (arith, room, long_y, key_blocks, doc_blocks)) in
+    let q = k head store tree places p.given (node ∷ []) p.arranged (omega (arith, room, long_y, key_blocks, doc_blocks)) in
     let long_z = ap (λ n. n / 8) q.taken.long in
-    let r = d version store tree places q.taken.given (q.lines ++ (node ∷ [])) q.taken.arranged (omega (arith, room, long_y, long_z, key_blocks, doc_blocks, q.counted, length-append q.lines (node ∷ []))) in
-    let ordered = reordered w version store tree places r.taken.given (r.lines ++ (q.lines ++ (node ∷ []))) (node ∷ (q.lines ++ r.lines)) (λ n. place_order n node q.lines r.lines) r.taken.arranged in
-    let u = fill_arranged w v version store tree places r.taken.given (q.lines ++ r.lines) (0 ∷ 0 ∷ 1 ∷ key_first ∷ key_len ∷ doc_first ∷ doc_len ∷ 0 ∷ []) node ordered f in
+    let r = d head store tree places q.taken.given (q.lines ++ (node ∷ [])) q.taken.arranged (omega (arith, room, long_y, long_z, key_blocks, doc_blocks, q.counted, length-append q.lines (node ∷ []))) in
+    let ordered = reordered w head store tree places r.taken.given (r.lines ++ (q.lines ++ (node ∷ []))) (node ∷ (q.lines ++ r.lines)) (λ n. place_order n node q.lines r.lines) r.taken.arranged in
+    let u = fill_arranged w v head store tree places r.taken.given (q.lines ++ r.lines) (0 ∷ 0 ∷ 1 ∷ key_first ∷ key_len ∷ doc_first ∷ doc_len ∷ revision ∷ []) node ordered f in
     let key_same_w = all_left (SameLine z w) q.lines (node ∷ []) r.taken.same in
     let key_same = all_left (SameLine w v) q.lines r.lines u.1 in
     let doc_same = all_right (SameLine w v) q.lines r.lines u.1 in
     let key_holds = holds_same w v key_first q.lines key key_same (holds_same z w key_first q.lines key key_same_w
-    (written_holds y z version store tree places key_first count 8 key_len key_words key (node ∷ []) (packs 8 key_len key_words key_packed) (omega arith) key_count q)) in
+    (written_holds y z head store tree places key_first count 8 key_len key_words key (node ∷ []) (packs 8 key_len key_words key_packed) (omega arith) key_count q)) in
     let doc_holds = holds_same w v doc_first r.lines doc doc_same
-    (written_holds z w version store tree places doc_first other 128 doc_len doc_words doc (q.lines ++ (node ∷ [])) (packs 128 doc_len doc_words doc_packed) (omega arith) doc_count r) in
+    (written_holds z w head store tree places doc_first other 128 doc_len doc_words doc (q.lines ++ (node ∷ [])) (packs 128 doc_len doc_words doc_packed) (omega arith) doc_count r) in
     record {
       given = r.taken.given;
-      place = record { node = node; key_lines = q.lines; document_lines = r.lines };
+      place = record { node = node; key_lines = q.lines; document_lines = r.lines; revision = revision };
       here = refl;
+      revised = refl;
       arranged = u.0;
       is = record {
         key = subst (λ n. Holds v n q.lines key) (sym (f.here 3 (omega arith))) key_holds;
         key_length = f.here 4 (omega arith) ∙ sym key_long;
         document = subst (λ n. Holds v n r.lines doc) (sym (f.here 5 (omega arith))) doc_holds;
         document_length = f.here 6 (omega arith) ∙ sym doc_long;
-        no_more = f.here 7 (omega arith);
+        revised = f.here 7 (omega arith);
       };
       leaf = record {
-        some = All-head (λ l. 1 ≤ l) node (q.lines ++ r.lines) (from_one v version store tree places r.taken.given (node ∷ (q.lines ++ r.lines)) u.0).2;
-        within = All-head (IsWithin v) node (q.lines ++ r.lines) (loose_within v version store tree places r.taken.given (node ∷ (q.lines ++ r.lines)) u.0);
+        some = All-head (λ l. 1 ≤ l) node (q.lines ++ r.lines) (from_one v head store tree places r.taken.given (node ∷ (q.lines ++ r.lines)) u.0).2;
+        within = All-head (IsWithin v) node (q.lines ++ r.lines) (loose_within v head store tree places r.taken.given (node ∷ (q.lines ++ r.lines)) u.0);
         left_is = f.here 0 (omega arith);
         right_is = f.here 1 (omega arith);
         height_is = f.here 2 (omega arith);

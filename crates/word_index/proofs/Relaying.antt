@@ -12,7 +12,7 @@ use Rattle.avl_words.specs.Words.{root, Stands, times as tree_times}
 use Rattle.avl_words.specs.Exact.{with_tree}
 use Rattle.avl_words.proofs.ExactTrees.{AreThere, tree_long, tree_header, tree_words_far, tree_words_other, tree_root, tree_stands}
 use Rattle.avl_words.proofs.Frames.{stands_same}
-use Rattle.index_checks.specs.Layout.{IsChain, Place, lines_at, nodes_of, Placed, Arranged}
+use Rattle.index_checks.specs.Layout.{IsChain, Place, lines_at, nodes_of, Placed, Arranged, Head}
 use Rattle.index_checks.proofs.Lines.{lines_there, lines_within}
 use Rattle.word_index.specs.Changes.{SameLine}
 use Rattle.word_index.proofs.Frames.{times, times_append, times_cons, times_self, chain_same, placed_same, nodes_and_blocks, blocks_of, SameNode, found, tree_lines}
@@ -51,13 +51,13 @@ pub at_most_once : (x end n : ℕ) → n ≡ cond (leb 1 x && ltb x end) 1 0 →
 at_most_once x end n e = grind (arith, nat_tests)
 
 -- other places of the same lines, and another tree over their nodes
-module _ (ws : List ℕ) (version : ℕ) (store more : Store) (tree t : Tree ℕ) (places others : List Place) (given loose now_loose : List ℕ)
-    (a : Arranged ws version store tree places given loose) (in_order : items t ≡ nodes_of others) (same : (x : ℕ) → times x (flat_map lines_at others ++ given ++ now_loose) ≡ times x (flat_map lines_at places ++ given ++ loose)) where
+module _ (ws : List ℕ) (head : Head) (store more : Store) (tree t : Tree ℕ) (places others : List Place) (given loose now_loose : List ℕ)
+    (a : Arranged ws head store tree places given loose) (in_order : items t ≡ nodes_of others) (same : (x : ℕ) → times x (flat_map lines_at others ++ given ++ now_loose) ≡ times x (flat_map lines_at places ++ given ++ loose)) where
   pub present : (x : ℕ) → times x (flat_map lines_at others ++ given ++ now_loose) ≢ 0 → (1 ≤ x) × IsWithin ws x
   present x n =
       let m : times x (flat_map lines_at places ++ given ++ loose) ≢ 0 = λ z. n (same x ∙ z) in (
-        (found (λ l. (1 ≤ l) × (l < word_of ws 0 3)) x (flat_map lines_at places ++ given ++ loose) (lines_there ws version store tree places given loose a) m).0,
-        found (IsWithin ws) x (flat_map lines_at places ++ given ++ loose) (lines_within ws version store tree places given loose a) m,
+        (found (λ l. (1 ≤ l) × (l < word_of ws 0 3)) x (flat_map lines_at places ++ given ++ loose) (lines_there ws head store tree places given loose a) m).0,
+        found (IsWithin ws) x (flat_map lines_at places ++ given ++ loose) (lines_within ws head store tree places given loose a) m,
       )
 
   counted : (x : ℕ) → times x (nodes_of others) + times x (blocks_of others) + times x given + times x now_loose ≤ 1
@@ -87,7 +87,7 @@ module _ (ws : List ℕ) (version : ℕ) (store more : Store) (tree t : Tree ℕ
       (let c = counted x in let m : times x now_loose ≢ 0 = n in omega (arith, c, m)),
     ))
 
-    pub relaid : Balanced t → Placed ws others more → Arranged now version more t others given now_loose
+    pub relaid : Balanced t → Placed ws others more → Arranged now head more t others given now_loose
     relaid balanced placed =
         let nodes = all_present (SameNode ws now) (nodes_of others) (λ x n i l far. (let q = present x (λ z. n (let w = whole_count x in omega (arith, w, z))) in r.far x i q.0 q.1 l far)) in
         let blocks = kept (blocks_of others) (λ x n. (
@@ -109,6 +109,6 @@ module _ (ws : List ℕ) (version : ℕ) (store more : Store) (tree t : Tree ℕ
           once = λ x. same x ∙ a.once x ∙ ap (λ e. cond (leb 1 x && ltb x e) 1 0) (sym end);
           given_count = r.header 4 (omega arith) (omega arith) (omega arith) ∙ a.given_count;
           pair_count = r.counted;
-          no_sixth = r.header 6 (omega arith) (omega arith) (omega arith) ∙ a.no_sixth;
+          last_word = r.header 6 (omega arith) (omega arith) (omega arith) ∙ a.last_word;
           no_seventh = r.header 7 (omega arith) (omega arith) (omega arith) ∙ a.no_seventh;
         }

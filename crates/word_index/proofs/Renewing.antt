@@ -7,7 +7,7 @@ use Rattle.avl_words.specs.Tree.{Tree, Empty, Node, height}
 use Rattle.avl_words.specs.Lines.{word_of, IsPartLength}
 use Rattle.avl_words.specs.Words.{root, IsNode, Stands, times as tree_times}
 use Rattle.avl_words.proofs.Frames.{times_other}
-use Rattle.index_checks.specs.Layout.{IsChain, Holds, Place, lines_at, nodes_of, IsAt, Placed, Arranged}
+use Rattle.index_checks.specs.Layout.{IsChain, Holds, Place, lines_at, nodes_of, IsAt, Placed, Arranged, Head}
 use Rattle.index_checks.proofs.OneStore.{placed_append}
 use Rattle.word_index.specs.Changes.{SameLine}
 use Rattle.word_index.proofs.Cutting.{times_middle}
@@ -25,7 +25,7 @@ links_same ws now line left right high long same n = record {
   height_is = same 2 (omega arith) ∙ n.height_is;
 }
 
-stands_linked : (ws now : List ℕ) (t : Tree ℕ) → length now ≡ length ws → ((line : ℕ) → tree_times line t ≢ 0 → (i : ℕ) → i < 3 → word_of now line i ≡ word_of ws line i) → Stands ws t → Stands now t
+pub stands_linked : (ws now : List ℕ) (t : Tree ℕ) → length now ≡ length ws → ((line : ℕ) → tree_times line t ≢ 0 → (i : ℕ) → i < 3 → word_of now line i ≡ word_of ws line i) → Stands ws t → Stands now t
 stands_linked ws now Empty long same s = tt
 stands_linked ws now (Node l x r) long same s = (
   links_same ws now x (root l) (root r) (height (Node l x r)) long (same x (λ z. absurd (omega (arith, times_self x, z)))) s.0,
@@ -47,20 +47,21 @@ around v ws (p ∷ front) rest (q ∷ lower) after place pair n m =
     let r = around v ws front rest lower after place pair n.1 m.1 in
     record { placed_front = (m.0, r.placed_front); is = r.is; placed_rest = r.placed_rest }
 
--- the place of the pair with its document in other lines
-abbrev pub with_lines : Place → List ℕ → Place
-with_lines place lines = record { node = place.node; key_lines = place.key_lines; document_lines = lines }
+-- the place of the pair with its document in other lines, and with a revision
+abbrev pub with_lines : Place → List ℕ → ℕ → Place
+with_lines place lines revision = record { node = place.node; key_lines = place.key_lines; document_lines = lines; revision = revision }
 
--- the words after: those of the pair's node that name its document, and the old lines of the document, may be others
-pub record IsRenewed (x now : List ℕ) (place : Place) (lines document : List ℕ) : Type 0 where
+-- the words after: those of the pair's node that name its document and its revision, and the old lines of the document, may be others
+pub record IsRenewed (x now : List ℕ) (place : Place) (lines document : List ℕ) (revision : ℕ) : Type 0 where
   pub long : length now ≡ length x
   pub others : (k : ℕ) → k ≢ place.node → times k place.document_lines ≡ 0 → SameLine x now k
-  pub node : (i : ℕ) → i < 8 → i ≢ 5 → i ≢ 6 → word_of now place.node i ≡ word_of x place.node i
+  pub node : (i : ℕ) → i < 8 → i ≢ 5 → i ≢ 6 → i ≢ 7 → word_of now place.node i ≡ word_of x place.node i
   pub holds : Holds now (word_of now place.node 5) lines document
   pub counted : word_of now place.node 6 ≡ length document
+  pub told : word_of now place.node 7 ≡ revision
 
-module _ (v x : List ℕ) (version : ℕ) (lower after : Store) (pair : List ℕ × List ℕ) (tree : Tree ℕ) (front rest : List Place) (place : Place) (given loose : List ℕ) (shape : Placed v front lower)
-    (a : Arranged x version (lower ++ pair ∷ after) tree (front ++ place ∷ rest) given loose) where
+module _ (v x : List ℕ) (head : Head) (lower after : Store) (pair : List ℕ × List ℕ) (tree : Tree ℕ) (front rest : List Place) (place : Place) (given loose : List ℕ) (shape : Placed v front lower)
+    (a : Arranged x head (lower ++ pair ∷ after) tree (front ++ place ∷ rest) given loose) where
   whole : (k : ℕ) → times k (flat_map lines_at front) + times k (lines_at place) + times k (flat_map lines_at rest) + times k given + times k loose ≡ times k (flat_map lines_at (front ++ place ∷ rest) ++ given ++ loose)
   whole k =
       omega (arith, times_append k (flat_map lines_at (front ++ place ∷ rest) ++ given) loose, times_append k (flat_map lines_at (front ++ place ∷ rest)) given, times_middle k front rest place)
@@ -84,8 +85,8 @@ module _ (v x : List ℕ) (version : ℕ) (lower after : Store) (pair : List ℕ
   nodes_middle : (k : ℕ) → times k (nodes_of (front ++ place ∷ rest)) ≡ times k (nodes_of front) + (cond (eqb place.node k) 1 0 + times k (nodes_of rest))
   nodes_middle k = ap (times k) (map_append (λ p. p.node) front (place ∷ rest)) ∙ omega (arith, times_append k (nodes_of front) (place.node ∷ nodes_of rest), times_cons k place.node (nodes_of rest))
 
-  module _ (now lines document now_loose : List ℕ) (c : IsRenewed x now place lines document)
-      (same : (k : ℕ) → times k (flat_map lines_at (front ++ with_lines place lines ∷ rest) ++ given ++ now_loose) ≡ times k (flat_map lines_at (front ++ place ∷ rest) ++ given ++ loose)) where
+  module _ (now lines document now_loose : List ℕ) (revision : ℕ) (c : IsRenewed x now place lines document revision)
+      (same : (k : ℕ) → times k (flat_map lines_at (front ++ with_lines place lines revision ∷ rest) ++ given ++ now_loose) ≡ times k (flat_map lines_at (front ++ place ∷ rest) ++ given ++ loose)) where
     elsewhere : (k : ℕ) → times k (lines_at place) ≡ 0 → SameLine x now k
     elsewhere k z = (let p = parts k in c.others k (not_here k (omega (arith, p, z))) (omega (arith, p, z)))
 
@@ -114,19 +115,19 @@ module _ (v x : List ℕ) (version : ℕ) (lower after : Store) (pair : List ℕ
     placed_on : (places : List Place) (store : Store) → All (SameLine x now) (flat_map lines_at places) → Placed x places store → Placed now places store
     placed_on places store s n = placed_same x now places store (λ k d l i b far. all_nodes (SameLine x now) places s k d l i b) (all_blocks (SameLine x now) places s) n
 
-    is_now : IsAround x front rest lower after place pair → IsAt now (with_lines place lines) (pair.0, document)
+    is_now : IsAround x front rest lower after place pair → IsAt now (with_lines place lines revision) (pair.0, document)
     is_now r = record {
-      key = subst (λ n. Holds now n place.key_lines pair.0) (sym (c.node 3 (omega arith) (omega arith) (omega arith))) (holds_same x now (word_of x place.node 3) place.key_lines pair.0 key_same r.is.key);
-      key_length = c.node 4 (omega arith) (omega arith) (omega arith) ∙ r.is.key_length;
+      key = subst (λ n. Holds now n place.key_lines pair.0) (sym (c.node 3 (omega arith) (omega arith) (omega arith) (omega arith))) (holds_same x now (word_of x place.node 3) place.key_lines pair.0 key_same r.is.key);
+      key_length = c.node 4 (omega arith) (omega arith) (omega arith) (omega arith) ∙ r.is.key_length;
       document = c.holds;
       document_length = c.counted;
-      no_more = c.node 7 (omega arith) (omega arith) (omega arith) ∙ r.is.no_more;
+      revised = c.told;
     }
 
     linked : (k : ℕ) → tree_times k tree ≢ 0 → (i : ℕ) → i < 3 → word_of now k i ≡ word_of x k i
     linked k n i l =
         elim (cases_eq k place.node) [
-          | inl e ↦ subst (λ m. word_of now m i ≡ word_of x m i) (sym e) (c.node i (omega arith) (omega arith) (omega arith))
+          | inl e ↦ subst (λ m. word_of now m i ≡ word_of x m i) (sym e) (c.node i (omega arith) (omega arith) (omega arith) (omega arith))
           | inr ne ↦
               let o = times_other place.node k (λ e. ne (sym e)) in
               let t = tree_lines k tree ∙ ap (times k) a.nodes.in_order ∙ nodes_middle k in
@@ -137,10 +138,10 @@ module _ (v x : List ℕ) (version : ℕ) (lower after : Store) (pair : List ℕ
               elsewhere k (omega (arith, o, t, f, r, m, some)) i (omega arith)
         ]
 
-    pub renewed : Arranged now version (lower ++ (pair.0, document) ∷ after) tree (front ++ with_lines place lines ∷ rest) given now_loose
+    pub renewed : Arranged now head (lower ++ (pair.0, document) ∷ after) tree (front ++ with_lines place lines revision ∷ rest) given now_loose
     renewed =
         let r = around v x front rest lower after place pair shape a.nodes.pairs in
-        let nodes : nodes_of (front ++ place ∷ rest) ≡ nodes_of (front ++ with_lines place lines ∷ rest) = map_append (λ p. p.node) front (place ∷ rest) ∙ sym (map_append (λ p. p.node) front (with_lines place lines ∷ rest)) in
+        let nodes : nodes_of (front ++ place ∷ rest) ≡ nodes_of (front ++ with_lines place lines revision ∷ rest) = map_append (λ p. p.node) front (place ∷ rest) ∙ sym (map_append (λ p. p.node) front (with_lines place lines revision ∷ rest)) in
         let end = header 3 (omega arith) in
         record {
           sized = subst IsPartLength (sym c.long) a.sized;
@@ -150,7 +151,7 @@ module _ (v x : List ℕ) (version : ℕ) (lower after : Store) (pair : List ℕ
             shape = stands_linked x now tree c.long linked a.nodes.shape;
             balanced = a.nodes.balanced;
             in_order = a.nodes.in_order ∙ nodes;
-            pairs = placed_append now front (with_lines place lines ∷ rest) lower ((pair.0, document) ∷ after) (placed_on front lower front_same r.placed_front) (is_now r, placed_on rest after rest_same r.placed_rest);
+            pairs = placed_append now front (with_lines place lines revision ∷ rest) lower ((pair.0, document) ∷ after) (placed_on front lower front_same r.placed_front) (is_now r, placed_on rest after rest_same r.placed_rest);
           };
           given_back = subst (λ f. IsChain now f given) (sym (header 2 (omega arith))) (chain_same x now given (word_of x 0 2) given_same a.given_back);
           end_from = subst (λ e. 1 ≤ e) (sym end) a.end_from;
@@ -158,6 +159,6 @@ module _ (v x : List ℕ) (version : ℕ) (lower after : Store) (pair : List ℕ
           once = λ k. same k ∙ a.once k ∙ ap (λ e. cond (leb 1 k && ltb k e) 1 0) (sym end);
           given_count = header 4 (omega arith) ∙ a.given_count;
           pair_count = header 5 (omega arith) ∙ a.pair_count ∙ length-append lower (pair ∷ after) ∙ sym (length-append lower ((pair.0, document) ∷ after));
-          no_sixth = header 6 (omega arith) ∙ a.no_sixth;
+          last_word = header 6 (omega arith) ∙ a.last_word;
           no_seventh = header 7 (omega arith) ∙ a.no_seventh;
         }

@@ -2,6 +2,7 @@
 use Rattle.std.proofs.Common.{◌≡◌, ◌≢◌, ◌^◌, ◌+◌, ◌*◌, ◌/◌, ◌%◌, ◌<◌, ◌≤◌, ◌==◌, ℕ, zero, suc, Bool, true, false, cond, eqb, List, [], length, get_or, map, is_some, inl, inr, refl, sym, ap, subst, ◌∙◌, lit<, arith}
 use Rattle.std.specs.List.{range_with_len, All}
 use Rattle.std.proofs.lemmas.Bool.{cases_eq}
+use Rattle.std.proofs.lemmas.Bool.Decides.{nat_tests}
 use Rattle.std.proofs.lemmas.List.Elements.{All-cons, All-map}
 use Rattle.cx_base.specs.Memory.{Words}
 use Rattle.cx_base.specs.Packing.{packed}
@@ -15,12 +16,12 @@ use Rattle.avl_words.specs.Words.{root, times as tree_times}
 use Rattle.avl_words.specs.Exact.{node_word, link_of, with_links, with_tree}
 use Rattle.avl_words.proofs.ExactTrees.{AreThere, links_long}
 use Rattle.avl_words.proofs.ExactWords.{tree_in_is}
-use Rattle.index_checks.specs.Layout.{StandsFor, IsIndex}
+use Rattle.index_checks.specs.Layout.{StandsFor, IsIndex, head_of}
 use Rattle.index_checks.specs.Reading.{store_in}
 use Rattle.index_checks.proofs.LawfulWords.{store_is}
 use Rattle.index_checks.proofs.Texts.{document_small}
 use Rattle.word_index.specs.Changes.{HasLoosePair}
-use Rattle.word_index.specs.Exact.{order_in, node_at, block_words, with_chain_filled, document_blocks, with_refilled, with_emptied, with_renewed, with_rewritten, with_new_pair, with_one_more, with_added, with_one_less, with_cut, with_pair_given, is_key_in, with_document, with_key_removed}
+use Rattle.word_index.specs.Exact.{order_in, node_at, block_words, with_chain_filled, document_blocks, with_refilled, with_emptied, with_renewed, with_rewritten, with_replaced, with_written, with_new_pair, with_one_more, with_added, with_one_less, with_cut, with_pair_given, is_key_in, with_document, with_key_removed}
 use Rattle.word_index.specs.Fresh.{CanTake}
 use Rattle.word_index.specs.Rewriting.{CanRewrite}
 use Rattle.word_index.proofs.Adding.{add_room, plain_of, added_there, added_size, added_pairs}
@@ -33,6 +34,7 @@ use Rattle.word_index.proofs.Inserting.{missing_lines, missing_key, here_key, he
 use Rattle.word_index.proofs.NodeReads.{node_within}
 use Rattle.word_index.proofs.KeyPlaces.{tree_of, walk_end, none_at, place_is_at, place_node}
 use Rattle.cx_base.proofs.WordLemmas.{Words-at, Words-overwritten, Words-set}
+use Rattle.doc_model.specs.Revisions.{next_revision}
 
 -- a tree's links
 height_size : (t : Tree ℕ) → height t ≤ size t
@@ -115,35 +117,42 @@ module _ (k : ℕ) (x : List ℕ) (node : ℕ) (document : List ℕ) (c : CanRew
   by_blocks true = refilled_words
   by_blocks false = renewed_words
 
-  pub rewritten_words : Words k (with_rewritten document node x)
+  rewritten_words : Words k (with_rewritten document node x)
   unfolding with_rewritten
   rewritten_words = by_blocks (document_blocks node x == blocks document)
 
-module _ (k : ℕ) (x key document : List ℕ) (version : ℕ) (store : Store) (s : StandsFor x version store) (w : Words k x) where
+  pub replaced_words : (revision : ℕ) → revision < 2 ^ 64 → Words k (with_replaced document node revision x)
+  unfolding with_replaced
+  replaced_words revision fits = Words-set k (with_rewritten document node x) (8 * node + 7) revision fits rewritten_words
+
+next_fits : (last : ℕ) → last < 2 ^ 64 → next_revision last < 2 ^ 64
+next_fits last l = grind (arith, nat_tests)
+
+module _ (k : ℕ) (x key document : List ℕ) (revision : ℕ) (fits : revision < 2 ^ 64) (version : ℕ) (store : Store) (s : StandsFor x version store) (w : Words k x) where
   short_words : length x ≤ 2 ^ 40
   short_words = (let whole = s.arranged.sized.whole in let few = s.arranged.sized.few in omega (arith, whole, few))
 
   -- a new pair
-  added_words : 0 ≡ root (walk_end (order_in key x) s.tree).1 → IsKey key → IsDocument document → lines_of store + pair_lines (key, document) + 1 ≤ line_count x → Words k (with_added (key, document) x)
+  added_words : 0 ≡ root (walk_end (order_in key x) s.tree).1 → IsKey key → IsDocument document → lines_of store + pair_lines (key, document) + 1 ≤ line_count x → Words k (with_added (key, document) revision x)
   unfolding with_added with_one_more
   added_words none is_key is_document room =
       let pair : List ℕ × List ℕ = (key, document) in
       let here = add_room x version store s pair room in
-      let can : CanTake x (pair_lines pair) = record { version = version; store = store; tree = s.tree; places = s.places; given = s.given; loose = []; arranged = s.arranged; room = here } in
-      let new = with_new_pair pair x in
+      let can : CanTake x (pair_lines pair) = record { head = head_of version s.last; store = store; tree = s.tree; places = s.places; given = s.given; loose = []; arranged = s.arranged; room = here } in
+      let new = with_new_pair pair revision x in
       let plain = plain_of pair is_key is_document in
-      let p = new_pair_is pair x plain can version store s.tree s.places s.given s.arranged here in
-      let n = new_pair_words pair x plain can k w in
+      let p = new_pair_is pair revision x plain can (head_of version s.last) store s.tree s.places s.given s.arranged here in
+      let n = new_pair_words pair revision x plain can k fits w in
       let t = with_new (order_in key x) new.0 s.tree in
       let long : length new.1 ≡ length x = n.1.long ∙ sym w.long in
       let short = short_words in
-      let size = added_size x pair version store s none new.1 new.0 p is_key is_document in
-      let pairs = added_pairs x pair version store s none new.1 new.0 p in
-      let tree = tree_words k t new.1 (added_there x pair version store s none new.1 new.0 p) (omega (arith, long, short)) (omega (arith, size)) n.1 in
+      let size = added_size x pair version store s none new.1 revision new.0 p in
+      let pairs = added_pairs x pair version store s none new.1 revision new.0 p in
+      let tree = tree_words k t new.1 (added_there x pair version store s none new.1 revision new.0 p) (omega (arith, long, short)) (omega (arith, size)) n.1 in
       subst (λ u. Words k (with_one_more (with_tree (with_new (order_in key x) new.0 u) new.1))) (sym (tree_in_is x s.tree (tree_of x version store s)))
       (Words-set k (with_tree t new.1) (8 * 0 + 5) (word_of (with_tree t new.1) 0 5 + 1) (omega (arith, pairs)) tree)
 
-  pub put_words : IsKey key → IsDocument document → lines_of (with_pair key document store) + 1 ≤ line_count x → (b : Bool) → is_some (document_at key store) ≡ b → Words k (cond b (with_rewritten document (node_at key x) x) (with_added (key, document) x))
+  pub put_words : IsKey key → IsDocument document → lines_of (with_pair key document store) + 1 ≤ line_count x → (b : Bool) → is_some (document_at key store) ≡ b → Words k (cond b (with_replaced document (node_at key x) revision x) (with_added (key, document) revision x))
   put_words is_key is_document room b e =
       let node = root (walk_end (order_in key x) s.tree).1 in
       elim (cases_eq node 0) [
@@ -151,22 +160,24 @@ module _ (k : ℕ) (x key document : List ℕ) (version : ℕ) (store : Store) (
             let m = none_at x key version store s (sym z) in
             let lines = missing_lines x key document version store s m in
             let f : false ≡ b = sym (missing_key x key document version store s m) ∙ e in
-            subst (λ b. Words k (cond b (with_rewritten document (node_at key x) x) (with_added (key, document) x))) f (added_words (sym z) is_key is_document (omega (arith, lines, room)))
+            subst (λ b. Words k (cond b (with_replaced document (node_at key x) revision x) (with_added (key, document) revision x))) f (added_words (sym z) is_key is_document (omega (arith, lines, room)))
         | inr n ↦
             let h = place_is_at x key version store s node refl n in
             let t : true ≡ b = sym (here_key x key document version store s node h) ∙ e in
-            subst (λ b. Words k (cond b (with_rewritten document (node_at key x) x) (with_added (key, document) x))) t
-            (subst (λ n. Words k (with_rewritten document n x)) (node_at_is x key document version store s) (rewritten_words k x node document (here_can x key document version store s node h room) is_document w))
+            subst (λ b. Words k (cond b (with_replaced document (node_at key x) revision x) (with_added (key, document) revision x))) t
+            (subst (λ n. Words k (with_replaced document n revision x)) (node_at_is x key document version store s) (replaced_words k x node document (here_can x key document version store s node h room) is_document w revision fits))
       ]
 
 module _ (key document x : List ℕ) (i : IsIndex x) (is_key : IsKey key) (is_document : IsDocument document) (k : ℕ) (w : Words k x) where
-  words_by : (b : Bool) → has_room (line_count x) (with_pair key document (store_in x)) ≡ b → Words k (cond b (cond (is_key_in key x) (with_rewritten document (node_at key x) x) (with_added (key, document) x)) x)
-  unfolding is_key_in
+  words_by : (b : Bool) → has_room (line_count x) (with_pair key document (store_in x)) ≡ b → Words k (cond b (with_word 0 6 (next_revision (word_of x 0 6)) (with_written key document (next_revision (word_of x 0 6)) x)) x)
+  unfolding is_key_in with_written
   words_by true e =
-      let same = store_is x i.version i.store i.stands in
+      let same = store_is x 2 i.store i.stands in
       let room = subst (λ st. has_room (line_count x) (with_pair key document st) ≡ true) same e in
-      put_words k x key document i.version i.store i.stands w is_key is_document (room_parts (lines_of (with_pair key document i.store)) (line_count x) room i.stands.arranged.sized.some) (is_key_in key x)
-      (ap (λ st. is_some (document_at key st)) (sym same))
+      let revision = next_revision (word_of x 0 6) in
+      let fits = next_fits (word_of x 0 6) (Words-at k x 6 w) in
+      Words-set k (with_written key document revision x) 6 revision fits (put_words k x key document revision fits 2 i.store i.stands w is_key is_document (room_parts (lines_of (with_pair key document i.store)) (line_count x) room i.stands.arranged.sized.some) (is_key_in key x)
+      (ap (λ st. is_some (document_at key st)) (sym same)))
   words_by false e = w
 
   pub document_words : Words k (with_document key document x)
@@ -181,10 +192,10 @@ module _ (key x : List ℕ) (k : ℕ) (w : Words k x) (version : ℕ) (store : S
       let h = place_is_at x key version store s node e n in
       let t = without (order_in key x) s.tree in
       let now = with_one_less (with_tree t x) in
-      let short = short_words k x key key version store s w in
+      let short = short_words k x key key 0 (lit< tt) version store s w in
       let size = cut_size x key version store s node h in
       let pairs = count_kept x key version store s node h in
-      let loose : HasLoosePair now node = record { version = version; store = _; tree = t; places = _; place = _; pair = _; there = cut_loose x key version store s node h } in
+      let loose : HasLoosePair now node = record { head = head_of version s.last; store = _; tree = t; places = _; place = _; pair = _; there = cut_loose x key version store s node h } in
       let within = node_within x node (record { pair = (key, h.document); is = place_node x key version store s (walk_end (order_in key x) s.tree).0 (walk_end (order_in key x) s.tree).1 node h }) in
       let tree = tree_words k t x (cut_there x key version store s node h) short (omega (arith, size)) w in
       let fits = Words-at k (with_tree t x) 5 tree in
@@ -200,4 +211,4 @@ module _ (key x : List ℕ) (k : ℕ) (w : Words k x) (version : ℕ) (store : S
 
 pub removed_words : (key x : List ℕ) → IsIndex x → (k : ℕ) → Words k x → Words k (with_key_removed key x)
 unfolding is_key_in with_key_removed
-removed_words key x i k w = removed_by key x k w i.version i.store i.stands (is_key_in key x) (ap (λ st. is_some (document_at key st)) (sym (store_is x i.version i.store i.stands)))
+removed_words key x i k w = removed_by key x k w 2 i.store i.stands (is_key_in key x) (ap (λ st. is_some (document_at key st)) (sym (store_is x 2 i.store i.stands)))

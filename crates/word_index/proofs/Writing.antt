@@ -6,7 +6,7 @@ use Rattle.std.proofs.lemmas.List.Elements.{All-head}
 use Rattle.cx_base.specs.Store.{Store}
 use Rattle.avl_words.specs.Lines.{IsWithin, word_of, IsPartLength}
 use Rattle.index_checks.proofs.Lines.{all_left, all_right}
-use Rattle.index_checks.specs.Layout.{IsChain, Place, lines_at, Nodes, Arranged}
+use Rattle.index_checks.specs.Layout.{IsChain, Place, lines_at, Nodes, Arranged, Head}
 use Rattle.word_index.proofs.Frames.{chain_same, nodes_same}
 use Rattle.word_index.proofs.Giving.{stands_alone, all_same_then}
 use Rattle.word_index.proofs.PairsGiven.{loose_within}
@@ -16,12 +16,12 @@ use Rattle.word_index.specs.Fresh.{HasRoom, CanTake, LineTaken, LineFilled, IsBl
 use Rattle.avl_words.specs.Tree.{Tree}
 
 -- a loose line that is filled
-pub fill_arranged : (x y : List ℕ) (version : ℕ) (store : Store) (tree : Tree ℕ) (places : List Place) (given loose content : List ℕ) (line : ℕ) → Arranged x version store tree places given (line ∷ loose) → LineFilled line content x y →
-    Arranged y version store tree places given (line ∷ loose) × All (SameLine x y) loose
-fill_arranged x y version store tree places given loose content line a f =
+pub fill_arranged : (x y : List ℕ) (head : Head) (store : Store) (tree : Tree ℕ) (places : List Place) (given loose content : List ℕ) (line : ℕ) → Arranged x head store tree places given (line ∷ loose) → LineFilled line content x y →
+    Arranged y head store tree places given (line ∷ loose) × All (SameLine x y) loose
+fill_arranged x y head store tree places given loose content line a f =
     let used = flat_map lines_at places in
     let alone = stands_alone line (word_of x 0 3) used given loose (a.once line) in
-    let some = All-head (λ l. 1 ≤ l) line loose (from_one x version store tree places given (line ∷ loose) a).2 in
+    let some = All-head (λ l. 1 ≤ l) line loose (from_one x head store tree places given (line ∷ loose) a).2 in
     let zero_apart : 0 ≢ line = omega arith in
     let header : (i : ℕ) → i < 8 → word_of y 0 i ≡ word_of x 0 i = f.others 0 zero_apart in
     let same : (lines : List ℕ) → All (λ l. l ≢ line) lines → All (SameLine x y) lines = λ lines apart k d l. f.others (get_or lines k d) (apart k d l) in (
@@ -35,7 +35,7 @@ fill_arranged x y version store tree places given loose content line a f =
         once = λ k. a.once k ∙ ap (λ e. cond (leb 1 k && ltb k e) 1 0) (sym (header 3 (omega arith)));
         given_count = header 4 (omega arith) ∙ a.given_count;
         pair_count = header 5 (omega arith) ∙ a.pair_count;
-        no_sixth = header 6 (omega arith) ∙ a.no_sixth;
+        last_word = header 6 (omega arith) ∙ a.last_word;
         no_seventh = header 7 (omega arith) ∙ a.no_seventh;
       },
       same loose alone.not_loose,
@@ -44,12 +44,12 @@ fill_arranged x y version store tree places given loose content line a f =
 -- words of which the last blocks are written
 abbrev pub WrittenSoFar : List ℕ → ℕ → ℕ → ℕ → List ℕ → List ℕ → Type 0
 WrittenSoFar words count j next before now =
-    (version : ℕ) (store : Store) (tree : Tree ℕ) (places : List Place) (given loose : List ℕ) → Arranged before version store tree places given loose → HasRoom before places loose count →
-    IsWritten before now version store tree places next j (7 * (count - j)) words loose
+    (head : Head) (store : Store) (tree : Tree ℕ) (places : List Place) (given loose : List ℕ) → Arranged before head store tree places given loose → HasRoom before places loose count →
+    IsWritten before now head store tree places next j (7 * (count - j)) words loose
 
 pub written_none : (words : List ℕ) (count : ℕ) (x y : List ℕ) → x ≡ y → WrittenSoFar words count 0 0 x y
-written_none words count x y e version store tree places given loose a room =
-    subst (λ w. IsWritten x w version store tree places 0 0 (7 * (count - 0)) words loose) e (record {
+written_none words count x y e head store tree places given loose a room =
+    subst (λ w. IsWritten x w head store tree places 0 0 (7 * (count - 0)) words loose) e (record {
       lines = [];
       taken = record { given = given; arranged = a; same = λ k d l i b. refl; long = refl };
       chain = refl;
@@ -60,9 +60,9 @@ written_none words count x y e version store tree places given loose a room =
 -- what the next block needs
 pub can_take_next : (words : List ℕ) (count j next : ℕ) (x y : List ℕ) → j < count → CanTake x count → WrittenSoFar words count j next x y → CanTake y 1
 can_take_next words count j next x y l c r =
-    let p = r c.version c.store c.tree c.places c.given c.loose c.arranged c.room in
+    let p = r c.head c.store c.tree c.places c.given c.loose c.arranged c.room in
     record {
-      version = c.version;
+      head = c.head;
       store = c.store;
       tree = c.tree;
       places = c.places;
@@ -75,8 +75,8 @@ can_take_next words count j next x y l c r =
 pub taken_within : (words : List ℕ) (count j next line : ℕ) (x y z : List ℕ) → j < count → CanTake x count → WrittenSoFar words count j next x y → LineTaken line y z → IsWithin z line
 taken_within words count j next line x y z l c r t =
     let n = can_take_next words count j next x y l c r in
-    let q = t n.version n.store n.tree n.places n.given n.loose n.arranged n.room in
-    All-head (IsWithin z) line n.loose (loose_within z n.version n.store n.tree n.places q.given (line ∷ n.loose) q.arranged)
+    let q = t n.head n.store n.tree n.places n.given n.loose n.arranged n.room in
+    All-head (IsWithin z) line n.loose (loose_within z n.head n.store n.tree n.places q.given (line ∷ n.loose) q.arranged)
 
 -- the content of a chain with one block more in front
 place_in_front : (line : ℕ) (lines : List ℕ) (i : ℕ) → 7 ≤ i → get_or (line ∷ lines) (i / 7) 0 ≡ get_or lines ((i - 7) / 7) 0
@@ -86,12 +86,12 @@ place_in_front line lines i l =
 
 pub written_more : (words : List ℕ) (count j next line : ℕ) (content x y z w : List ℕ) → j < count → WrittenSoFar words count j next x y → LineTaken line y z → IsBlock next words (7 * (count - 1 - j)) content → LineFilled line content z w →
     WrittenSoFar words count (j + 1) line x w
-written_more words count j next line content x y z w l r t b f version store tree places given loose a room =
-    let p = r version store tree places given loose a room in
+written_more words count j next line content x y z w l r t b f head store tree places given loose a room =
+    let p = r head store tree places given loose a room in
     let long_y = ap (λ n. n / 8) p.taken.long in
     let room_y : HasRoom y places (p.lines ++ loose) 1 = omega (arith, room, long_y, p.counted, length-append p.lines loose) in
-    let q = t version store tree places p.taken.given (p.lines ++ loose) p.taken.arranged room_y in
-    let v = fill_arranged z w version store tree places q.given (p.lines ++ loose) content line q.arranged f in
+    let q = t head store tree places p.taken.given (p.lines ++ loose) p.taken.arranged room_y in
+    let v = fill_arranged z w head store tree places q.given (p.lines ++ loose) content line q.arranged f in
     let all_same = all_same_then y z w (p.lines ++ loose) q.same v.1 in
     let lines_same = all_left (SameLine y w) p.lines loose all_same in
     let first : word_of w line 0 ≡ next = f.here 0 (omega arith) ∙ b.first in
@@ -123,7 +123,7 @@ written_more words count j next line content x y z w l r t b f version store tre
     }
 
 pub written_all : (words : List ℕ) (count j next : ℕ) (x y : List ℕ) → j ≡ count → WrittenSoFar words count j next x y → TextWritten words count next x y
-written_all words count j next x y e r version store tree places given loose a room =
-    let p = r version store tree places given loose a room in
+written_all words count j next x y e r head store tree places given loose a room =
+    let p = r head store tree places given loose a room in
     let none : 7 * (count - j) ≡ 0 = omega arith in
-    subst (λ n. IsWritten x y version store tree places next n 0 words loose) e (subst (λ n. IsWritten x y version store tree places next j n words loose) none p)
+    subst (λ n. IsWritten x y head store tree places next n 0 words loose) e (subst (λ n. IsWritten x y head store tree places next j n words loose) none p)

@@ -2,11 +2,14 @@
 use Rattle.std.specs.Prelude.{◌≡◌, ◌+◌, ◌*◌, ◌≤◌, ℕ, List, length, All, [], ◌∷◌, Option, Some, None, MatchOption}
 use Rattle.cx_base.specs.Store.{Store, IsKey, IsDocument}
 use Rattle.cx_base.specs.Packing.{packed, unpacked}
+use Rattle.std.specs.Option.{option_map}
 use Rattle.doc_model.specs.Meaning.{document_at}
+use Rattle.doc_model.specs.Revisions.{revision_at}
 use Rattle.word_index.specs.Packed.{IsPacked}
 use Rattle.word_index.specs.declared.texts.Key.{Key}
-use Rattle.avl_words.specs.Lines.{IsPartLength}
-use Rattle.index_checks.specs.Layout.{Place, IsAt, lines_at}
+use Rattle.avl_words.specs.Lines.{word_of, IsPartLength}
+use Rattle.index_checks.specs.Layout.{Place, IsAt, lines_at, StandsFor}
+use Rattle.index_checks.specs.Reading.{revised_in}
 
 -- these bytes, packed
 pub record IsPackOf (n len : ℕ) (words bytes : List ℕ) : Type 0 where
@@ -38,6 +41,11 @@ abbrev pub IsFound : List ℕ → List ℕ → Option ℕ → Store → Type 0
 IsFound words key found store =
     MatchOption found (document_at key store ≡ None)
     (λ node. (document : List ℕ) × (document_at key store ≡ Some document) × IsNodeOf words node (key, document))
+
+-- the same for each store that the words stand for, and the node's word 7 is the key's revision
+pub record IsFoundIn (words key : List ℕ) (found : Option ℕ) : Type 0 where
+  pub node : (version : ℕ) (store : Store) → StandsFor words version store → IsFound words key found store
+  pub revision : revision_at key (revised_in words) ≡ option_map (λ at. word_of words at 7) found
 
 -- the first key of the pairs above a key, and none exactly where there are no such pairs
 abbrev pub IsLeast : Option Key → Store → Type 0

@@ -3,7 +3,7 @@ use Rattle.std.specs.Prelude.{◌≡◌, ◌^◌, ◌+◌, ◌<◌, ◌≤◌, �
 use Rattle.cx_base.specs.Store.{Store}
 use Rattle.avl_words.specs.Lines.{IsWithin, word_of, with_word}
 use Rattle.index_checks.specs.Blocks.{IsText}
-use Rattle.index_checks.specs.Layout.{IsChain, Place, lines_at, IsAt, Arranged, StandsFor}
+use Rattle.index_checks.specs.Layout.{IsChain, Place, lines_at, IsAt, Head, Arranged, StandsFor}
 use Rattle.doc_model.specs.Meaning.{document_at, without_key}
 use Rattle.avl_words.specs.Tree.{Tree}
 
@@ -21,72 +21,72 @@ pub record CanGive (words : List ℕ) (line : ℕ) : Type 0 where
   pub few : word_of words 0 4 ≤ 2 ^ 32
 
 -- the first lines of a chain are loose, and so are others
-pub record IsLoose (words : List ℕ) (version : ℕ) (store : Store) (tree : Tree ℕ) (places : List Place) (lines others : List ℕ) : Type 0 where
+pub record IsLoose (words : List ℕ) (head : Head) (store : Store) (tree : Tree ℕ) (places : List Place) (lines others : List ℕ) : Type 0 where
   pub given : List ℕ
-  pub arranged : Arranged words version store tree places given (lines ++ others)
+  pub arranged : Arranged words head store tree places given (lines ++ others)
 
 -- a chain of loose lines
 pub record LooseChain (words : List ℕ) (first count : ℕ) : Type 0 where
-  pub version : ℕ
+  pub head : Head
   pub store : Store
   pub tree : Tree ℕ
   pub places : List Place
   pub lines : List ℕ
   pub others : List ℕ
-  pub loose : IsLoose words version store tree places lines others
+  pub loose : IsLoose words head store tree places lines others
   pub chain : IsChain words first lines
   pub counted : count ≡ length lines
 
 -- a chain of loose lines is given back, and the other loose lines are as they were
-pub record IsGiven (before now : List ℕ) (version : ℕ) (store : Store) (tree : Tree ℕ) (places : List Place) (others : List ℕ) : Type 0 where
-  pub loose : IsLoose now version store tree places others []
+pub record IsGiven (before now : List ℕ) (head : Head) (store : Store) (tree : Tree ℕ) (places : List Place) (others : List ℕ) : Type 0 where
+  pub loose : IsLoose now head store tree places others []
   pub same : All (SameLine before now) others
 
 abbrev pub ChainGiven : ℕ → ℕ → List ℕ → List ℕ → Type 0
 ChainGiven first count before now =
-    (version : ℕ) (store : Store) (tree : Tree ℕ) (places : List Place) (lines others : List ℕ) → IsLoose before version store tree places lines others → IsChain before first lines → count ≡ length lines →
-    IsGiven before now version store tree places others
+    (head : Head) (store : Store) (tree : Tree ℕ) (places : List Place) (lines others : List ℕ) → IsLoose before head store tree places lines others → IsChain before first lines → count ≡ length lines →
+    IsGiven before now head store tree places others
 
 -- the blocks that a node names by its words at and at + 1, all loose
 pub record LooseText (words : List ℕ) (node at : ℕ) : Type 0 where
-  pub version : ℕ
+  pub head : Head
   pub store : Store
   pub tree : Tree ℕ
   pub places : List Place
   pub lines : List ℕ
   pub others : List ℕ
   pub bytes : List ℕ
-  pub loose : IsLoose words version store tree places lines others
+  pub loose : IsLoose words head store tree places lines others
   pub text : IsText words node at lines bytes
 
 abbrev pub TextGiven : ℕ → ℕ → List ℕ → List ℕ → Type 0
 TextGiven node at before now =
-    (version : ℕ) (store : Store) (tree : Tree ℕ) (places : List Place) (lines others bytes : List ℕ) → IsLoose before version store tree places lines others → IsText before node at lines bytes →
-    IsGiven before now version store tree places others
+    (head : Head) (store : Store) (tree : Tree ℕ) (places : List Place) (lines others bytes : List ℕ) → IsLoose before head store tree places lines others → IsText before node at lines bytes →
+    IsGiven before now head store tree places others
 
 -- a pair that stands at a place of its own, beside the pairs of a store
-pub record LoosePair (words : List ℕ) (node : ℕ) (version : ℕ) (store : Store) (tree : Tree ℕ) (places : List Place) (place : Place) (pair : List ℕ × List ℕ) : Type 0 where
-  pub loose : IsLoose words version store tree places (lines_at place) []
+pub record LoosePair (words : List ℕ) (node : ℕ) (head : Head) (store : Store) (tree : Tree ℕ) (places : List Place) (place : Place) (pair : List ℕ × List ℕ) : Type 0 where
+  pub loose : IsLoose words head store tree places (lines_at place) []
   pub here : node ≡ place.node
   pub is : IsAt words place pair
 
 pub record HasLoosePair (words : List ℕ) (node : ℕ) : Type 0 where
-  pub version : ℕ
+  pub head : Head
   pub store : Store
   pub tree : Tree ℕ
   pub places : List Place
   pub place : Place
   pub pair : List ℕ × List ℕ
-  pub there : LoosePair words node version store tree places place pair
+  pub there : LoosePair words node head store tree places place pair
 
 abbrev pub PairGiven : ℕ → List ℕ → List ℕ → Type 0
 PairGiven node before now =
-    (version : ℕ) (store : Store) (tree : Tree ℕ) (places : List Place) (place : Place) (pair : List ℕ × List ℕ) → LoosePair before node version store tree places place pair → IsLoose now version store tree places [] []
+    (head : Head) (store : Store) (tree : Tree ℕ) (places : List Place) (place : Place) (pair : List ℕ × List ℕ) → LoosePair before node head store tree places place pair → IsLoose now head store tree places [] []
 
 -- The words after stand for the store without the key, and the answer is whether the key was there.
-pub record IsWithout (now : List ℕ) (version : ℕ) (store : Store) (key : List ℕ) (found : Bool) : Type 0 where
-  pub after : StandsFor now version (without_key key store)
+pub record IsWithout (now : List ℕ) (store : Store) (key : List ℕ) (found : Bool) : Type 0 where
+  pub after : StandsFor now 2 (without_key key store)
   pub there : found ≡ is_some (document_at key store)
 
 abbrev pub IsRemoved : List ℕ → Bool → List ℕ → List ℕ → Type 0
-IsRemoved key found before now = (version : ℕ) (store : Store) → StandsFor before version store → IsWithout now version store key found
+IsRemoved key found before now = (store : Store) → StandsFor before 2 store → IsWithout now store key found

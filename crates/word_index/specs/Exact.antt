@@ -6,6 +6,7 @@ use Rattle.cx_base.specs.Memory.{overwritten}
 use Rattle.cx_base.specs.Store.{blocks, key_cmp}
 use Rattle.cx_base.specs.Packing.{packed}
 use Rattle.doc_model.specs.Meaning.{document_at, with_pair, has_room}
+use Rattle.doc_model.specs.Revisions.{next_revision}
 use Rattle.avl_words.specs.Ways.{spot, with_new}
 use Rattle.avl_words.specs.Removal.{without}
 use Rattle.avl_words.specs.Exact.{tree_in, with_tree}
@@ -53,13 +54,13 @@ abbrev pub with_text : List ℕ → ℕ → ℕ → List ℕ → ℕ × List ℕ
 with_text text zero next words = (next, words)
 with_text text (suc n) next words = with_text text n (line_to_take words) (overwritten (8 * line_to_take words) (block_words next text (7 * n)) (with_line_taken words))
 
--- a pair is written into new lines, its node first, as a leaf; with the node
-unfoldable pub with_new_pair : List ℕ × List ℕ → List ℕ → ℕ × List ℕ
-with_new_pair pair words =
+-- a pair is written into new lines, its node first, as a leaf, with a revision; with the node
+unfoldable pub with_new_pair : List ℕ × List ℕ → ℕ → List ℕ → ℕ × List ℕ
+with_new_pair pair revision words =
     let node = line_to_take words in
     let key = with_text (packed 8 pair.0) (blocks pair.0) 0 (with_line_taken words) in
     let document = with_text (packed 128 pair.1) (blocks pair.1) 0 key.1 in
-    (node, overwritten (8 * node) (0 ∷ 0 ∷ 1 ∷ key.0 ∷ length pair.0 ∷ document.0 ∷ length pair.1 ∷ 0 ∷ []) document.1)
+    (node, overwritten (8 * node) (0 ∷ 0 ∷ 1 ∷ key.0 ∷ length pair.0 ∷ document.0 ∷ length pair.1 ∷ revision ∷ []) document.1)
 
 -- how the key of a node compares with a key
 abbrev pub order_in : List ℕ → List ℕ → ℕ → Ordering
@@ -73,9 +74,9 @@ unfoldable pub with_one_less : List ℕ → List ℕ
 with_one_less words = with_word 0 5 (word_of words 0 5 - 1) words
 
 -- a new pair: its node goes where the walk to its key ends
-unfoldable pub with_added : List ℕ × List ℕ → List ℕ → List ℕ
-with_added pair words =
-    let new = with_new_pair pair words in
+unfoldable pub with_added : List ℕ × List ℕ → ℕ → List ℕ → List ℕ
+with_added pair revision words =
+    let new = with_new_pair pair revision words in
     with_one_more (with_tree (with_new (order_in pair.0 words) new.0 (tree_in words)) new.1)
 
 -- the node at which the walk to a key ends
@@ -118,11 +119,20 @@ with_rewritten document node words =
 unfoldable pub is_key_in : List ℕ → List ℕ → Bool
 is_key_in key words = is_some (document_at key (store_in words))
 
--- a document is put at a key, where there is room
+-- a document takes another's place, and the pair gets a revision
+unfoldable pub with_replaced : List ℕ → ℕ → ℕ → List ℕ → List ℕ
+with_replaced document node revision words = with_word node 7 revision (with_rewritten document node words)
+
+-- a document with a revision is put at a key
+unfoldable pub with_written : List ℕ → List ℕ → ℕ → List ℕ → List ℕ
+with_written key document revision words =
+    if is_key_in key words then with_replaced document (node_at key words) revision words else with_added (key, document) revision words
+
+-- a document is put at a key, where there is room, with the next revision, which becomes the last one given
 unfoldable pub with_document : List ℕ → List ℕ → List ℕ → List ℕ
 with_document key document words =
     if has_room (line_count words) (with_pair key document (store_in words))
-    then (if is_key_in key words then with_rewritten document (node_at key words) words else with_added (key, document) words)
+    then with_word 0 6 (next_revision (word_of words 0 6)) (with_written key document (next_revision (word_of words 0 6)) words)
     else words
 
 -- what this answers

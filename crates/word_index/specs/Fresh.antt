@@ -3,7 +3,7 @@ use Rattle.std.specs.Prelude.{◌≡◌, ◌≢◌, ◌+◌, ◌*◌, ◌/◌, �
 use Rattle.std.specs.List.{flat_map}
 use Rattle.cx_base.specs.Store.{Store}
 use Rattle.avl_words.specs.Lines.{word_of, line_count}
-use Rattle.index_checks.specs.Layout.{IsChain, Place, lines_at, Arranged}
+use Rattle.index_checks.specs.Layout.{IsChain, Place, lines_at, Head, Arranged}
 use Rattle.word_index.specs.Changes.{SameLine}
 use Rattle.avl_words.specs.Tree.{Tree}
 
@@ -12,25 +12,25 @@ abbrev pub HasRoom : List ℕ → List Place → List ℕ → ℕ → Type 0
 HasRoom words places loose more = length (flat_map lines_at places) + length loose + more + 1 ≤ line_count words
 
 pub record CanTake (words : List ℕ) (more : ℕ) : Type 0 where
-  pub version : ℕ
+  pub head : Head
   pub store : Store
   pub tree : Tree ℕ
   pub places : List Place
   pub given : List ℕ
   pub loose : List ℕ
-  pub arranged : Arranged words version store tree places given loose
+  pub arranged : Arranged words head store tree places given loose
   pub room : HasRoom words places loose more
 
 -- lines are loose now, and the other loose lines are as they were
-pub record IsTaken (before now : List ℕ) (version : ℕ) (store : Store) (tree : Tree ℕ) (places : List Place) (taken loose : List ℕ) : Type 0 where
+pub record IsTaken (before now : List ℕ) (head : Head) (store : Store) (tree : Tree ℕ) (places : List Place) (taken loose : List ℕ) : Type 0 where
   pub given : List ℕ
-  pub arranged : Arranged now version store tree places given (taken ++ loose)
+  pub arranged : Arranged now head store tree places given (taken ++ loose)
   pub same : All (SameLine before now) loose
   pub long : length now ≡ length before
 
 abbrev pub LineTaken : ℕ → List ℕ → List ℕ → Type 0
 LineTaken line before now =
-    (version : ℕ) (store : Store) (tree : Tree ℕ) (places : List Place) (given loose : List ℕ) → Arranged before version store tree places given loose → HasRoom before places loose 1 → IsTaken before now version store tree places (line ∷ []) loose
+    (head : Head) (store : Store) (tree : Tree ℕ) (places : List Place) (given loose : List ℕ) → Arranged before head store tree places given loose → HasRoom before places loose 1 → IsTaken before now head store tree places (line ∷ []) loose
 
 -- what a line is filled with, and that nothing else changes
 pub record LineFilled (line : ℕ) (content before now : List ℕ) : Type 0 where
@@ -45,14 +45,14 @@ pub record IsBlock (next : ℕ) (words : List ℕ) (from : ℕ) (content : List 
   pub long : length content ≡ 8
 
 -- words stand in a chain of so many new lines
-pub record IsWritten (before now : List ℕ) (version : ℕ) (store : Store) (tree : Tree ℕ) (places : List Place) (first count from : ℕ) (words loose : List ℕ) : Type 0 where
+pub record IsWritten (before now : List ℕ) (head : Head) (store : Store) (tree : Tree ℕ) (places : List Place) (first count from : ℕ) (words loose : List ℕ) : Type 0 where
   pub lines : List ℕ
-  pub taken : IsTaken before now version store tree places lines loose
+  pub taken : IsTaken before now head store tree places lines loose
   pub chain : IsChain now first lines
   pub counted : length lines ≡ count
   pub content : (i : ℕ) → i < 7 * count → word_of now (slice_index lines (i / 7)) (1 + i % 7) ≡ slice_index words (from + i)
 
 abbrev pub TextWritten : List ℕ → ℕ → ℕ → List ℕ → List ℕ → Type 0
 TextWritten words count first before now =
-    (version : ℕ) (store : Store) (tree : Tree ℕ) (places : List Place) (given loose : List ℕ) → Arranged before version store tree places given loose → HasRoom before places loose count →
-    IsWritten before now version store tree places first count 0 words loose
+    (head : Head) (store : Store) (tree : Tree ℕ) (places : List Place) (given loose : List ℕ) → Arranged before head store tree places given loose → HasRoom before places loose count →
+    IsWritten before now head store tree places first count 0 words loose

@@ -7,3 +7,4 @@ pub mod Exact
 pub mod Removal
 pub mod Rewriting
 pub mod Packed
+pub mod Upgrading

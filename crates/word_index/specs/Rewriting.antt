@@ -1,9 +1,9 @@
 -- A document is put in another's place.
-use Rattle.std.specs.Prelude.{◌≡◌, ◌≢◌, ◌+◌, ◌≤◌, ℕ, List, [], ◌∷◌, ◌++◌, length, All}
+use Rattle.std.specs.Prelude.{◌≡◌, ◌≢◌, ◌↔◌, ◌+◌, ◌≤◌, ℕ, Bool, IsTrue, List, [], ◌∷◌, ◌++◌, length, All}
 use Rattle.cx_base.specs.Store.{Store, blocks, pair_lines, lines_of}
 use Rattle.avl_words.specs.Tree.{Tree}
 use Rattle.avl_words.specs.Lines.{word_of, line_count, IsWithin}
-use Rattle.index_checks.specs.Layout.{IsChain, Place, Placed, Arranged}
+use Rattle.index_checks.specs.Layout.{IsChain, Place, Placed, Head, Arranged}
 use Rattle.word_index.specs.Exact.{document_blocks}
 
 -- a chain of so many lines that are there
@@ -15,7 +15,7 @@ pub record HasLines (words : List ℕ) (first count : ℕ) : Type 0 where
 
 -- the pair of a node, with room for a document in place of its own
 pub record CanRewrite (words : List ℕ) (node : ℕ) (document : List ℕ) : Type 0 where
-  pub version : ℕ
+  pub head : Head
   pub tree : Tree ℕ
   pub lower : Store
   pub after : Store
@@ -25,7 +25,7 @@ pub record CanRewrite (words : List ℕ) (node : ℕ) (document : List ℕ) : Ty
   pub place : Place
   pub given : List ℕ
   pub here : node ≡ place.node
-  pub arranged : Arranged words version (lower ++ pair ∷ after) tree (front ++ place ∷ rest) given []
+  pub arranged : Arranged words head (lower ++ pair ∷ after) tree (front ++ place ∷ rest) given []
   pub placed_front : Placed words front lower
   pub room : lines_of lower + pair_lines (pair.0, document) + lines_of after + 1 ≤ line_count words
 
@@ -38,6 +38,11 @@ pub record CanRefit (words : List ℕ) (node : ℕ) (document : List ℕ) : Type
 pub record CanRenew (words : List ℕ) (node : ℕ) (document : List ℕ) : Type 0 where
   pub can : CanRewrite words node document
   pub unlike : document_blocks node words ≢ blocks document
+
+-- the same, and whether it needs as many
+pub record CanExchange (words : List ℕ) (node : ℕ) (alike : Bool) (document : List ℕ) : Type 0 where
+  pub can : CanRewrite words node document
+  pub told : IsTrue alike ↔ (document_blocks node words ≡ blocks document)
 
 -- where its document stands
 pub record IsOld (words : List ℕ) (node first count : ℕ) (document : List ℕ) : Type 0 where

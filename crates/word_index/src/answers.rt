@@ -7,7 +7,7 @@ ghost use Rattle.cx_base.specs.Store.{Store};
 ghost use Rattle.doc_model.specs.Meaning.{pairs_above};
 ghost use Rattle.avl_words.specs.Lines.{CanLoad};
 ghost use Rattle.index_checks.specs.Layout.{IsIndex, StandsFor};
-ghost use Rattle.word_index.specs.Answers.{IsFound, IsLeast, IsNodeOf, IsPackOf};
+ghost use Rattle.word_index.specs.Answers.{IsFoundIn, IsLeast, IsNodeOf, IsPackOf};
 ghost use Rattle.word_index.specs.Walk.{HasNode, Walks};
 
 use crate::blocks::read_text;
@@ -17,14 +17,14 @@ use crate::walk::reach;
 use cx_base::{Halt, Memory, Steps};
 use std::sync::ledger::Ledger;
 
-/// The node of a key: `None` exactly where the key is not there. `Halt` comes only where no access is left.
+/// The node of a key, whose word 7 is the key's revision: `None` exactly where the key is not there. `Halt` comes only where no access is left.
 pub fn find<M: Memory, L: Ledger>(
     mem: &mut M,
     key: &Key,
     visits: &mut Steps<L>,
 ) -> Result<Option<u64>, Halt>
     requires { CanLoad M.Memory mem.old IsIndex }
-    ensures { Walks M.Memory mem.old mem.new result (visits.new - visits.old) (λ found ws. (version : ℕ) (store : Store) → StandsFor ws version store → IsFound ws (unpacked key.now.len key.now.words) found store) }
+    ensures { Walks M.Memory mem.old mem.new result (visits.new - visits.old) (λ found ws. IsFoundIn ws (unpacked key.now.len key.now.words) found) }
 {
     let end = reach(mem, key, false, visits)?;
     if end.node == 0 {

@@ -9,9 +9,10 @@ ghost use Rattle.word_index.specs.Exact.{with_empty_header};
 
 use cx_base::{Halt, Memory};
 
-/// Makes the words an index of no pairs, with a version of the caller's own. The words behind the header are left as
+/// Makes the words an index of no pairs, of which no revision was given. The words behind the header are left as
 /// they are. `Halt` comes only where no access is left; the words may then be anything.
 pub fn format_index<M: Memory>(mem: &mut M, version: u64) -> Result<(), Halt>
+    requires version { version ≡ 2 }
     requires size { IsPartLength (M.size mem.old) }
     requires writable { IsTrue (M.writable mem.old) }
     ensures changes { Changes M.Memory mem.old mem.new result (λ _ _ now. StandsFor now version []) }

@@ -5,16 +5,17 @@ ghost use Rattle.cx_base.specs.Calls.{Changes, Finds};
 ghost use Rattle.cx_base.specs.Memory.{Becomes};
 ghost use Rattle.cx_base.specs.Packing.{unpacked};
 ghost use Rattle.cx_base.specs.Store.{Store, lines_of, pair_lines};
-ghost use Rattle.avl_words.specs.Lines.{CanLoad, CanStore};
+ghost use Rattle.doc_model.specs.Revisions.{next_revision};
+ghost use Rattle.avl_words.specs.Lines.{CanLoad, CanStore, word_of};
 ghost use Rattle.index_checks.specs.Layout.{IsIndex, StandsFor};
 ghost use Rattle.word_index.specs.Answers.{IsPackedPair, IsNodeOf};
 ghost use Rattle.word_index.specs.Packed.{IsPacked};
 ghost use Rattle.word_index.specs.Exact.{with_new_pair};
 ghost use Rattle.word_index.specs.Fresh.{CanTake};
-ghost use Rattle.word_index.specs.Insertion.{PairWritten, CanAdd, Adds, LinesAt, IsKnown, PutsDocument};
+ghost use Rattle.word_index.specs.Insertion.{PairWritten, CanAdd, Adds, CanWrite, WritesAt, LinesAt, IsKnown, PutsDocument};
 ghost use Rattle.word_index.specs.Walk.{HasNode, FewVisits, Walked};
 
-use crate::rewriting::{refit, rewrite};
+use crate::rewriting::exchange;
 use crate::taken::{put_line, take_line, write_text};
 use crate::texts::{Doc, Key};
 use crate::walk::{End, seek_place};
@@ -70,12 +71,17 @@ fn lines_in_use<M: Memory>(mem: &mut M) -> Result<u64, Halt>
     Ok(end - 1 - given)
 }
 
-/// Writes a node, as a leaf, and the blocks of a pair into new lines, and gives the node.
-fn write_pair<M: Memory>(mem: &mut M, key: &Key, doc: &Doc<'_>) -> Result<u64, Halt>
+/// Writes a node, as a leaf, and the blocks of a pair with a revision into new lines, and gives the node.
+fn write_pair<M: Memory>(
+    mem: &mut M,
+    key: &Key,
+    doc: &Doc<'_>,
+    revision: u64,
+) -> Result<u64, Halt>
     requires memory { CanStore M.Memory mem.old (λ ws. CanTake ws (pair_lines (unpacked key.now.len key.now.words, unpacked doc.now.len doc.now.words.now))) }
     requires key { IsPacked 8 key.now.len key.now.words }
-    ensures changes { Changes M.Memory mem.old mem.new result (λ node. PairWritten (unpacked key.now.len key.now.words, unpacked doc.now.len doc.now.words.now) node) }
-    ensures exact { IfOk result (λ node. Becomes (M.stands mem.old) (M.stands mem.new) (λ old now. with_new_pair (unpacked key.now.len key.now.words, unpacked doc.now.len doc.now.words.now) old ≡ (node, now))) }
+    ensures changes { Changes M.Memory mem.old mem.new result (λ node. PairWritten (unpacked key.now.len key.now.words, unpacked doc.now.len doc.now.words.now) revision node) }
+    ensures exact { IfOk result (λ node. Becomes (M.stands mem.old) (M.stands mem.new) (λ old now. with_new_pair (unpacked key.now.len key.now.words, unpacked doc.now.len doc.now.words.now) revision old ≡ (node, now))) }
 {
     let node = take_line(mem)?;
     let key_first = write_text(mem, &key.words, key.len.div_ceil(56) as usize)?;
@@ -83,18 +89,24 @@ fn write_pair<M: Memory>(mem: &mut M, key: &Key, doc: &Doc<'_>) -> Result<u64, H
     put_line(
         mem,
         node,
-        &[0, 0, 1, key_first, key.len, doc_first, doc.len, 0],
+        &[0, 0, 1, key_first, key.len, doc_first, doc.len, revision],
     )?;
     Ok(node)
 }
 
 /// Puts a new pair where the walk to its key ended at nothing.
-fn put_pair<M: Memory>(mem: &mut M, way: &Way, key: &Key, doc: &Doc<'_>) -> Result<(), Halt>
+fn put_pair<M: Memory>(
+    mem: &mut M,
+    way: &Way,
+    key: &Key,
+    doc: &Doc<'_>,
+    revision: u64,
+) -> Result<(), Halt>
     requires memory { CanStore M.Memory mem.old (λ ws. CanAdd ws way.now.nodes way.now.sides way.now.depth (unpacked key.now.len key.now.words, unpacked doc.now.len doc.now.words.now)) }
     requires key { IsPacked 8 key.now.len key.now.words }
-    ensures { Changes M.Memory mem.old mem.new result (λ _. Adds way.now.nodes way.now.sides way.now.depth (unpacked key.now.len key.now.words, unpacked doc.now.len doc.now.words.now)) }
+    ensures { Changes M.Memory mem.old mem.new result (λ _. Adds way.now.nodes way.now.sides way.now.depth (unpacked key.now.len key.now.words, unpacked doc.now.len doc.now.words.now) revision) }
 {
-    let node = write_pair(mem, key, doc)?;
+    let node = write_pair(mem, key, doc, revision)?;
     put_node(mem, way, node)?;
     let pairs = word(mem, 0, 5)?;
     put(mem, 0, 5, pairs + 1)?;
@@ -102,16 +114,54 @@ fn put_pair<M: Memory>(mem: &mut M, way: &Way, key: &Key, doc: &Doc<'_>) -> Resu
 }
 
 /// The same over a write buffer. Its room covers each change in at most 16,384 lines, so that there each word that changes is stored once.
-fn add<M: Memory>(mem: &mut M, way: &Way, key: &Key, doc: &Doc<'_>) -> Result<(), Halt>
+fn add<M: Memory>(
+    mem: &mut M,
+    way: &Way,
+    key: &Key,
+    doc: &Doc<'_>,
+    revision: u64,
+) -> Result<(), Halt>
     requires memory { CanStore M.Memory mem.old (λ ws. CanAdd ws way.now.nodes way.now.sides way.now.depth (unpacked key.now.len key.now.words, unpacked doc.now.len doc.now.words.now)) }
     requires key { IsPacked 8 key.now.len key.now.words }
-    ensures { Changes M.Memory mem.old mem.new result (λ _. Adds way.now.nodes way.now.sides way.now.depth (unpacked key.now.len key.now.words, unpacked doc.now.len doc.now.words.now)) }
+    ensures { Changes M.Memory mem.old mem.new result (λ _. Adds way.now.nodes way.now.sides way.now.depth (unpacked key.now.len key.now.words, unpacked doc.now.len doc.now.words.now) revision) }
 {
     let mut held = Held::none();
     let mut buffer = WriteBuffer::over(mem, 0, &mut held);
-    put_pair(&mut buffer, way, key, doc)?;
+    put_pair(&mut buffer, way, key, doc, revision)?;
     let WriteBuffer { .. } = buffer;
     store_held(mem, &held)
+}
+
+/// The revision that the next write gives.
+fn next_revision<M: Memory>(mem: &mut M) -> Result<u64, Halt>
+    requires { CanLoad M.Memory mem.old IsIndex }
+    ensures { Finds M.Memory mem.old mem.new result (λ revision ws. revision ≡ next_revision (word_of ws 0 6)) }
+{
+    let last = word(mem, 0, 6)?;
+    Ok(last.saturating_add(1))
+}
+
+/// Puts a document with a revision at a key, at the node that the walk to it ended at; it needs as many lines as the old one or not.
+fn write_at<M: Memory>(
+    mem: &mut M,
+    key: &Key,
+    doc: &Doc<'_>,
+    way: &Way,
+    node: u64,
+    alike: bool,
+    revision: u64,
+) -> Result<Inserted, Halt>
+    requires memory { CanStore M.Memory mem.old (λ ws. CanWrite ws way.now.nodes way.now.sides way.now.depth node alike (unpacked key.now.len key.now.words, unpacked doc.now.len doc.now.words.now)) }
+    requires key { IsPacked 8 key.now.len key.now.words }
+    ensures { Changes M.Memory mem.old mem.new result (WritesAt way.now.nodes way.now.sides way.now.depth node (unpacked key.now.len key.now.words, unpacked doc.now.len doc.now.words.now) revision) }
+{
+    if node == 0 {
+        add(mem, way, key, doc, revision)?;
+        return Ok(Inserted::New);
+    }
+    exchange(mem, node, doc, alike)?;
+    put(mem, node, 7, revision)?;
+    Ok(Inserted::Replaced)
 }
 
 /// Puts a document at a key, where there is room, at the node that the walk to it ended at; of so many lines some are in use, and some are
@@ -135,20 +185,14 @@ fn put_at<M: Memory>(
     if lines - 1 < needed {
         return Ok(Inserted::NoRoom);
     }
-    if end.node == 0 {
-        add(mem, way, key, doc)?;
-        return Ok(Inserted::New);
-    }
-    if old == new {
-        refit(mem, end.node, doc)?;
-        return Ok(Inserted::Replaced);
-    }
-    rewrite(mem, end.node, doc)?;
-    Ok(Inserted::Replaced)
+    let revision = next_revision(mem)?;
+    let inserted = write_at(mem, key, doc, way, end.node, old == new, revision)?;
+    put(mem, 0, 6, revision)?;
+    Ok(inserted)
 }
 
 /// Puts a document at a key, in words of so many lines. `NoRoom` comes exactly where the store would then need more
-/// than `lines - 1` lines. `Halt` comes only where no access is left; the words may then be anything. The bound on
+/// than `lines - 1` lines. Any other answer gives the pair the next revision, which becomes the last one given. `Halt` comes only where no access is left; the words may then be anything. The bound on
 /// visits holds of the words before, and where the call halts of some words that may have been there.
 pub fn insert<M: Memory, L: Ledger>(
     mem: &mut M,

@@ -29,16 +29,18 @@ mod removal;
 mod rewriting;
 mod taken;
 mod texts;
+mod upgrading;
 mod walk;
 
 pub use answers::{find, least_above, read_document};
 pub use format::format_index;
 pub use index_checks::{
-    lawful, lawful_words_have_one_store, pairs_of, words_stand_for_one_store,
+    lawful, lawful_words_have_one_revised_store, lawful_words_have_one_store, pairs_of, words_stand_for_one_store,
     words_tell_their_store,
 };
 pub use insertion::{Inserted, insert};
 pub use laws::{documents_are_put, keys_are_removed};
-pub use nodes::count;
+pub use nodes::{count, last_revision, rev_at};
 pub use removal::remove;
 pub use texts::{Doc, Key};
+pub use upgrading::upgrade_index;

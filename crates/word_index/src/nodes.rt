@@ -5,8 +5,9 @@ ghost use Rattle.std.specs.Ordering.{nat_cmp};
 ghost use Rattle.cx_base.specs.Calls.{Finds};
 ghost use Rattle.cx_base.specs.Packing.{unpacked};
 ghost use Rattle.cx_base.specs.Store.{Store, key_cmp};
-ghost use Rattle.avl_words.specs.Lines.{CanLoad};
+ghost use Rattle.avl_words.specs.Lines.{CanLoad, word_of};
 ghost use Rattle.index_checks.specs.Layout.{IsIndex, StandsFor};
+ghost use Rattle.index_checks.specs.Reading.{revised_in};
 ghost use Rattle.word_index.specs.Answers.{IsPackOf, IsNodeOf};
 ghost use Rattle.word_index.specs.Walk.{HasNode};
 
@@ -23,6 +24,22 @@ pub fn count<M: Memory>(mem: &mut M) -> Result<u64, Halt>
     ensures { Finds M.Memory mem.old mem.new result (λ n ws. (version : ℕ) (store : Store) → StandsFor ws version store → n ≡ length store) }
 {
     word(mem, 0, 5)
+}
+
+/// The last revision that was given.
+pub fn last_revision<M: Memory>(mem: &mut M) -> Result<u64, Halt>
+    requires { CanLoad M.Memory mem.old IsIndex }
+    ensures { Finds M.Memory mem.old mem.new result (λ last ws. last ≡ (revised_in ws).last) }
+{
+    word(mem, 0, 6)
+}
+
+/// The revision of the pair of a node that `find` gave on these words.
+pub fn rev_at<M: Memory>(mem: &mut M, node: u64) -> Result<u64, Halt>
+    requires { CanLoad M.Memory mem.old (λ ws. HasNode ws node) }
+    ensures { Finds M.Memory mem.old mem.new result (λ revision ws. revision ≡ word_of ws node 7) }
+{
+    word(mem, node, 7)
 }
 
 /// The key of a node.

@@ -6,7 +6,7 @@ ghost use Rattle.cx_base.specs.Packing.{unpacked};
 ghost use Rattle.cx_base.specs.Store.{blocks};
 ghost use Rattle.avl_words.specs.Lines.{CanStore};
 ghost use Rattle.word_index.specs.Exact.{with_refilled, with_renewed, with_rewritten};
-ghost use Rattle.word_index.specs.Rewriting.{CanRefit, CanRenew, IsOld};
+ghost use Rattle.word_index.specs.Rewriting.{CanExchange, CanRefit, CanRenew, IsOld};
 
 use crate::filling::fill_chain;
 use crate::given_back::give_chain;
@@ -47,7 +47,7 @@ fn renew<M: Memory>(
 }
 
 /// Puts a document in place of a node's own of as many blocks, into the same blocks. No word is stored twice, so none has to be held back.
-pub fn refit<M: Memory>(mem: &mut M, node: u64, doc: &Doc<'_>) -> Result<(), Halt>
+fn refit<M: Memory>(mem: &mut M, node: u64, doc: &Doc<'_>) -> Result<(), Halt>
     requires { CanStore M.Memory mem.old (λ ws. CanRefit ws node (unpacked doc.now.len doc.now.words.now)) }
     ensures { Changes M.Memory mem.old mem.new result (λ _ old now. now ≡ with_rewritten (unpacked doc.now.len doc.now.words.now) node old) }
 {
@@ -66,7 +66,7 @@ fn replace<M: Memory>(mem: &mut M, node: u64, doc: &Doc<'_>) -> Result<(), Halt>
 }
 
 /// The same over a write buffer. Its room covers each change in at most 16,384 lines, so that there each word that changes is stored once.
-pub fn rewrite<M: Memory>(mem: &mut M, node: u64, doc: &Doc<'_>) -> Result<(), Halt>
+fn rewrite<M: Memory>(mem: &mut M, node: u64, doc: &Doc<'_>) -> Result<(), Halt>
     requires { CanStore M.Memory mem.old (λ ws. CanRenew ws node (unpacked doc.now.len doc.now.words.now)) }
     ensures { Changes M.Memory mem.old mem.new result (λ _ old now. now ≡ with_rewritten (unpacked doc.now.len doc.now.words.now) node old) }
 {
@@ -75,4 +75,16 @@ pub fn rewrite<M: Memory>(mem: &mut M, node: u64, doc: &Doc<'_>) -> Result<(), H
     replace(&mut buffer, node, doc)?;
     let WriteBuffer { .. } = buffer;
     store_held(mem, &held)
+}
+
+/// Puts a document in place of a node's own, of as many blocks or not.
+pub fn exchange<M: Memory>(mem: &mut M, node: u64, doc: &Doc<'_>, alike: bool) -> Result<(), Halt>
+    requires { CanStore M.Memory mem.old (λ ws. CanExchange ws node alike (unpacked doc.now.len doc.now.words.now)) }
+    ensures { Changes M.Memory mem.old mem.new result (λ _ old now. now ≡ with_rewritten (unpacked doc.now.len doc.now.words.now) node old) }
+{
+    if alike {
+        refit(mem, node, doc)
+    } else {
+        rewrite(mem, node, doc)
+    }
 }

@@ -2,8 +2,11 @@ use Rattle.std.proofs.Common.{◌≡◌, true, false, set, replicate, refl, sym,
 use Rattle.std.proofs.lemmas.Bool.{false≢true}
 use Rattle.avl_words.specs.Lines.{word_of}
 use Rattle.index_checks.specs.Lawful.{AreLinesLawful}
-use Rattle.index_checks.proofs.LawfulWords.{lawful_from, root_from, lines_from}
+use Rattle.index_checks.proofs.LawfulWords.{lawful_from, header_from, root_from, lines_from}
 use Rattle.index_checks.proofs.checking.lawful.Goals as goal
+
+pub returns-then-not-is_header : goal.returns-then-not-is_header
+returns-then-not-is_header c = (λ e. absurd (false≢true e), λ l. absurd (false≢true (c.if-not-is_header.ensures.1 (header_from c.args.words.now c.args.version l))))
 
 pub returns-then-not-has_root : goal.returns-then-not-has_root
 returns-then-not-has_root c = (λ e. absurd (false≢true e), λ l. absurd (false≢true (c.if-not-has_root.ensures.1 (root_from c.args.words.now c.args.version l))))

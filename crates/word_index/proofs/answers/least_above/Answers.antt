@@ -32,7 +32,7 @@ key_at-requires g c =
     let end = c.in_ok-end.end in
     let key = unpacked c.args.key.now.len c.args.key.now.words in
     loadable (search rules) (always_read c.requires.all c.in_ok-end.ensures.finds.done
-    (λ ws i f. there_first ws end.above (pairs_above key i.store) (spot_above ws key f.nodes f.sides f.depth end.node end.above f.at i.version i.store i.stands) c.if-end-eq0.false))
+    (λ ws i f. there_first ws end.above (pairs_above key i.store) (spot_above ws key f.nodes f.sides f.depth end.node end.above f.at 2 i.store i.stands) c.if-end-eq0.false))
 
 pub returns : goal.returns
 returns g c =

@@ -29,7 +29,7 @@ pub returns-clause-changes : goal.returns-clause-changes
 returns-clause-changes g c =
     let i = c.loop-at.invariant in
     changed (Becomes-weaker i.done (λ first x y s r.
-    empty_stands c.args.version c.loop-at.at x y (omega arith) (subst IsPartLength (sym (g.met.M.Memory.words c.loop-at.mem first y s).long) i.sized) r)) (search rules) (search rules)
+    empty_stands c.args.version c.loop-at.at x y c.requires.version (omega arith) (subst IsPartLength (sym (g.met.M.Memory.words c.loop-at.mem first y s).long) i.sized) r)) (search rules) (search rules)
 
 pub returns-clause-exact : goal.returns-clause-exact
 returns-clause-exact g c =

@@ -25,7 +25,7 @@ returns g c =
     let same_held : c.held-2-1.given.0 ≡ f.held.now = search rules in
     let size : g.M.Memory.size new ≡ g.M.Memory.size f.inner.now = c.store_held.ensures.framed.size_kept ∙ ap g.M.Memory.size same in
     changed (IfOk-weaker c.store_held.result (λ _. Becomes (g.M.Memory.stands c.mem-2-1.given.0) (g.M.Memory.stands new) (Covers h.count h.places h.values)) _
-    (λ _ d. subst (λ m. Becomes (g.M.Memory.stands m) (g.M.Memory.stands new) (Adds c.args.way.now.nodes c.args.way.now.sides c.args.way.now.depth (unpacked c.args.key.now.len c.args.key.now.words, unpacked c.args.doc.now.len c.args.doc.now.words.now))) c.over-buffer.ensures.inner
+    (λ _ d. subst (λ m. Becomes (g.M.Memory.stands m) (g.M.Memory.stands new) (Adds c.args.way.now.nodes c.args.way.now.sides c.args.way.now.depth (unpacked c.args.key.now.len c.args.key.now.words, unpacked c.args.doc.now.len c.args.doc.now.words.now) c.args.revision)) c.over-buffer.ensures.inner
     (becomes_behind (g.M.Memory.size b.inner.now) (g.M.Memory.size f.inner.now) b.held.now.count f.held.now.count b.held.now.places b.held.now.values f.held.now.places f.held.now.values c.over-buffer.ensures.none
     (λ key now s. subst (λ n. Words n now) size (g.met.M.Memory.words new key now s))
     c.in_ok-put_pair.ensures.done

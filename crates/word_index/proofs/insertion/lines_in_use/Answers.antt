@@ -4,7 +4,7 @@ use Rattle.cx_base.proofs.MemoryLemmas.{always_at_most}
 use Rattle.cx_base.proofs.ReadLemmas.{Reads-none, Reads-loaded, Reads-weaker}
 use Rattle.avl_words.specs.Lines.{word_of}
 use Rattle.index_checks.proofs.Totals.{all_lines}
-use Rattle.index_checks.specs.Layout.{StandsFor, IsIndex}
+use Rattle.index_checks.specs.Layout.{StandsFor, IsIndex, head_of}
 use Rattle.word_index.proofs.Putting.{lines_of_places}
 use Rattle.avl_words.proofs.Memories.{found}
 use Rattle.word_index.proofs.insertion.lines_in_use.Goals as goal
@@ -12,13 +12,13 @@ use Rattle.word_index.proofs.insertion.lines_in_use.Goals as goal
 used : (ws : List ℕ) (version : ℕ) (store : Store) → StandsFor ws version store → lines_of store + word_of ws 0 4 + 1 ≡ word_of ws 0 3
 used ws version store s =
     let a = s.arranged in
-    omega (arith, all_lines ws version store s.tree s.places s.given [] a, lines_of_places ws s.places store a.nodes.pairs, a.given_count)
+    omega (arith, all_lines ws (head_of version s.last) store s.tree s.places s.given [] a, lines_of_places ws s.places store a.nodes.pairs, a.given_count)
 
 some : (ws : List ℕ) (end : ℕ) → IsIndex ws → word_of ws 0 3 ≡ end → 1 ≤ end
-some ws end i e = omega (arith, used ws i.version i.store i.stands)
+some ws end i e = omega (arith, used ws 2 i.store i.stands)
 
 fewer : (ws : List ℕ) (end given : ℕ) → IsIndex ws → word_of ws 0 3 ≡ end → word_of ws 0 4 ≡ given → given ≤ end - 1
-fewer ws end given i e f = omega (arith, used ws i.version i.store i.stands)
+fewer ws end given i e f = omega (arith, used ws 2 i.store i.stands)
 
 is : (ws : List ℕ) (end given version : ℕ) (store : Store) → StandsFor ws version store → word_of ws 0 3 ≡ end → word_of ws 0 4 ≡ given → end - 1 - given ≡ lines_of store
 is ws end given version store s e f = omega (arith, used ws version store s)

@@ -1,9 +1,12 @@
-use Rattle.std.proofs.Common.{◌^◌, ◌≤◌, arith, rules}
+use Rattle.std.proofs.Common.{◌^◌, ◌≤◌, ◌==◌, eq-eqb, subst, arith, rules}
+use Rattle.std.proofs.lemmas.Bool.{eqb-true}
 use Rattle.cx_base.specs.Packing.{unpacked}
-use Rattle.cx_base.proofs.MemoryLemmas.{always_at_most}
-use Rattle.cx_base.proofs.ReadLemmas.{Reads-none}
-use Rattle.word_index.proofs.Inserting.{counted, used_few, can_add, can_refit, can_renew, exact_none, exact_new, exact_over}
-use Rattle.avl_words.proofs.Memories.{Becomes-behind, changed, storable}
+use Rattle.cx_base.proofs.MemoryLemmas.{always_at_most, Becomes-store, Becomes-both}
+use Rattle.cx_base.proofs.ReadLemmas.{always_read, Reads-with, Becomes-from-read}
+use Rattle.word_index.proofs.Inserting.{counted, used_few, can_write, exact_none, exact_put}
+use Rattle.avl_words.proofs.Memories.{changed, storable}
+use Rattle.avl_words.specs.Lines.{with_word}
+use Rattle.word_index.specs.Insertion.{PutsDocument}
 use Rattle.word_index.proofs.insertion.put_at.Goals as goal
 
 pub overflow_sub-needed : goal.overflow_sub-needed
@@ -30,32 +33,20 @@ returns-then-lines-needed g c =
     let doc = unpacked c.args.doc.now.len c.args.doc.now.words.now in
     changed (record { from = λ first now s. (now, s, exact_none doc (c.requires.memory.all first now s) c.lines_of_pair-new.ensures c.if-lines-needed.true) }) (search rules) (search rules)
 
-pub add-requires-clause-memory : goal.add-requires-clause-memory
-add-requires-clause-memory g c =
+pub write_at-requires-clause-memory : goal.write_at-requires-clause-memory
+write_at-requires-clause-memory g c =
     let doc = unpacked c.args.doc.now.len c.args.doc.now.words.now in
-    storable (search rules) (search rules) (λ first ws s. can_add doc (c.requires.memory.all first ws s) c.lines_of_pair-new.ensures c.if-lines-needed.false c.if-end-eq0.true c.requires.pair.key.is_key c.requires.pair.is_document)
-
-pub returns-then-end-eq0 : goal.returns-then-end-eq0
-returns-then-end-eq0 g c =
-    let doc = unpacked c.args.doc.now.len c.args.doc.now.words.now in
-    changed (Becomes-behind _ (Reads-none _ c.requires.memory.all) c.in_ok-add.ensures.done (λ x w k a. exact_new doc k c.lines_of_pair-new.ensures w c.if-lines-needed.false c.if-end-eq0.true c.requires.pair.key.is_key c.requires.pair.is_document a)) (search rules) (search rules)
-
-pub refit-requires : goal.refit-requires
-refit-requires g c =
-    let doc = unpacked c.args.doc.now.len c.args.doc.now.words.now in
-    storable (search rules) (search rules) (λ first ws s. can_refit doc (c.requires.memory.all first ws s) c.lines_of_pair-new.ensures c.if-lines-needed.false c.if-end-eq0.false c.if-old-new.true)
-
-pub returns-then-old-new : goal.returns-then-old-new
-returns-then-old-new g c =
-    let doc = unpacked c.args.doc.now.len c.args.doc.now.words.now in
-    changed (Becomes-behind _ (Reads-none _ c.requires.memory.all) c.in_ok-refit.ensures.done (λ x w k a. exact_over doc k c.lines_of_pair-new.ensures w c.if-lines-needed.false c.if-end-eq0.false a)) (search rules) (search rules)
-
-pub rewrite-requires : goal.rewrite-requires
-rewrite-requires g c =
-    let doc = unpacked c.args.doc.now.len c.args.doc.now.words.now in
-    storable (search rules) (search rules) (λ first ws s. can_renew doc (c.requires.memory.all first ws s) c.lines_of_pair-new.ensures c.if-lines-needed.false c.if-end-eq0.false c.if-old-new.false)
+    let old = c.args.old in
+    let new = c.lines_of_pair-new.result in
+    storable (search rules) (search rules) (always_read c.requires.memory.all c.in_ok-revision.ensures.done
+    (λ ws k r. can_write doc k c.lines_of_pair-new.ensures (old == new) (eqb-true old new, eq-eqb old new) c.if-lines-needed.false c.requires.pair.key.is_key c.requires.pair.is_document))
 
 pub returns : goal.returns
 returns g c =
+    let key = unpacked c.args.key.now.len c.args.key.now.words in
     let doc = unpacked c.args.doc.now.len c.args.doc.now.words.now in
-    changed (Becomes-behind _ (Reads-none _ c.requires.memory.all) c.in_ok-rewrite.ensures.done (λ x w k a. exact_over doc k c.lines_of_pair-new.ensures w c.if-lines-needed.false c.if-end-eq0.false a)) (search rules) (search rules)
+    let revision = c.in_ok-revision.revision in
+    let inserted = c.in_ok-inserted.inserted in
+    changed (Becomes-store (Becomes-both (Becomes-from-read (Reads-with c.requires.memory.all c.in_ok-revision.ensures.done)) c.in_ok-inserted.ensures.done) c.in_ok-put.ensures.done
+    (λ first x w s r. subst (λ u. PutsDocument key doc inserted u (with_word 0 6 revision w)) r.1.0
+    (exact_put doc r.1.1.0 c.lines_of_pair-new.ensures inserted revision w c.if-lines-needed.false c.requires.pair.key.is_key c.requires.pair.is_document r.1.1.1 r.2))) (search rules) (search rules)

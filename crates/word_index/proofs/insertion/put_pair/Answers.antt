@@ -15,7 +15,7 @@ pub put_node-requires : goal.put_node-requires
 put_node-requires g c =
     let w = c.args.way.now in
     storable (search rules) (search rules) (always_after c.requires.memory.all c.in_ok-node.ensures.changes.done (λ x z h p.
-    can_put_node x z w.nodes w.sides w.depth c.in_ok-node.node (unpacked c.args.key.now.len c.args.key.now.words, unpacked c.args.doc.now.len c.args.doc.now.words.now) h p))
+    can_put_node x z w.nodes w.sides w.depth c.args.revision c.in_ok-node.node (unpacked c.args.key.now.len c.args.key.now.words, unpacked c.args.doc.now.len c.args.doc.now.words.now) h p))
 
 pub overflow_add-pairs : goal.overflow_add-pairs
 overflow_add-pairs g c =
@@ -24,7 +24,7 @@ overflow_add-pairs g c =
     let n = c.in_ok-pairs.pairs in
     let few : n ≤ 2 ^ 32 = always_at_most (g.M.Memory.stands m) (g.met.M.Memory.some_stands m) n (2 ^ 32)
     (always_after c.requires.memory.all (Becomes-loaded (Becomes-both c.in_ok-node.ensures.changes.done c.in_ok-put_node.ensures.done) c.in_ok-pairs.ensures.done)
-    (λ x y h r. add_few x r.0.0 y w.nodes w.sides w.depth c.in_ok-node.node n (unpacked c.args.key.now.len c.args.key.now.words, unpacked c.args.doc.now.len c.args.doc.now.words.now) h r.0.1 r.0.2 r.1)) in
+    (λ x y h r. add_few x r.0.0 y w.nodes w.sides w.depth c.args.revision c.in_ok-node.node n (unpacked c.args.key.now.len c.args.key.now.words, unpacked c.args.doc.now.len c.args.doc.now.words.now) h r.0.1 r.0.2 r.1)) in
     omega arith
 
 pub returns : goal.returns
@@ -32,4 +32,4 @@ returns g c =
     let w = c.args.way.now in
     let n = c.in_ok-pairs.pairs in
     changed (Becomes-store (Becomes-loaded (Becomes-both c.in_ok-node.ensures.exact c.in_ok-put_node.ensures.done) c.in_ok-pairs.ensures.done) c.in_ok-put.ensures.done
-    (λ first x y s r. adds x r.0.0 y (with_word 0 5 (n + 1) y) w.nodes w.sides w.depth c.in_ok-node.node n (unpacked c.args.key.now.len c.args.key.now.words, unpacked c.args.doc.now.len c.args.doc.now.words.now) r.0.1 r.0.2 r.1 refl)) (search rules) (search rules)
+    (λ first x y s r. adds x r.0.0 y (with_word 0 5 (n + 1) y) w.nodes w.sides w.depth c.args.revision c.in_ok-node.node n (unpacked c.args.key.now.len c.args.key.now.words, unpacked c.args.doc.now.len c.args.doc.now.words.now) r.0.1 r.0.2 r.1 refl)) (search rules) (search rules)

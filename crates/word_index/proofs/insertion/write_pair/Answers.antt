@@ -54,7 +54,7 @@ returns-clause-changes g c =
     let count = c.div_ceil.result in
     let other = c.div_ceil-2.result in
     changed (Becomes-then (Becomes-both (Becomes-both c.in_ok-node.ensures.changes.done c.in_ok-key_first.ensures.changes.done) c.in_ok-doc_first.ensures.changes.done) c.in_ok-put_line.ensures.changes.done (λ x w v t f.
-    pair_written x t.1.0 t.0 w v c.in_ok-node.node count other c.in_ok-key_first.key_first c.in_ok-doc_first.doc_first key.len doc.len key.words doc.words.now
+    pair_written x t.1.0 t.0 w v c.in_ok-node.node count other c.in_ok-key_first.key_first c.in_ok-doc_first.doc_first key.len doc.len c.args.revision key.words doc.words.now
     c.requires.key c.args.doc.now.packed c.div_ceil.ensures c.div_ceil-2.ensures t.1.1 t.1.2 t.2 f)) (search rules) (search rules)
 
 pub returns-clause-exact : goal.returns-clause-exact
@@ -64,5 +64,5 @@ returns-clause-exact g c =
     let count = c.div_ceil.result in
     let other = c.div_ceil-2.result in
     Becomes-then (Becomes-both (Becomes-both c.in_ok-node.ensures.exact c.in_ok-key_first.ensures.exact) c.in_ok-doc_first.ensures.exact) c.in_ok-put_line.ensures.exact (λ x w v t f.
-    new_pair_runs c.in_ok-node.node c.in_ok-key_first.key_first c.in_ok-doc_first.doc_first key.len doc.len count other key.words doc.words.now x t.1.0 t.0 w v
+    new_pair_runs c.in_ok-node.node c.in_ok-key_first.key_first c.in_ok-doc_first.doc_first key.len doc.len c.args.revision count other key.words doc.words.now x t.1.0 t.0 w v
     c.requires.key c.args.doc.now.packed c.div_ceil.ensures c.div_ceil-2.ensures t.1.1 t.1.2 t.2 f)
