@@ -3,10 +3,10 @@
 
 Build the program first: cd crates/cx_tool && rt run -- run < ../../examples/first.script
 
-Many commands are made in one life, by one client and by 8, and in many lives of 8 clients, each with a service that is started and closed, and a
-loss of power. Lives without commands show what that costs alone; a script of the same size in comments shows what reading its bytes
-costs alone. The texts of one line are as long as an input may be, and no documents, or short ones; of some the value would take many times
-the memory of its text.
+Many commands are made in one life, by one client and by 8, with all 8 raising one number by its revision, and in many lives of 8 clients, each
+with a service that is started and closed, and a loss of power. Lives without commands show what that costs alone; a script of the same size in
+comments shows what reading its bytes costs alone. The texts of one line are as long as an input may be, and no documents, or short ones; of some
+the value would take many times the memory of its text.
 """
 import os
 import subprocess
@@ -59,7 +59,15 @@ def every_command(i):
         b"next " + key,
         b"del " + key,
         b"count",
-    ][i % 6]
+        b"putif %s 0 %d" % (key, i),
+        b"rev " + key,
+    ][i % 8]
+
+
+def raise_one(i):
+    """All clients name each revision in turn, so that one of them writes it and the others are refused; then each asks for the revision."""
+    turn, asks = divmod(i // CLIENTS, 2)
+    return b"rev n" if asks else b"putif n %d %d" % (turn, turn + 1)
 
 
 def long_document(i):
@@ -105,6 +113,7 @@ if __name__ == "__main__":
     measure("1,000 lives of one client and one command, 64 lines", lives(64, 1000, 1, one_command))
     measure("a life of one client with 100,000 short updates, 1,024 lines", lives(1024, 1, 1, of_clients(1, 100_000, short_update)))
     measure("a life of 8 clients with 12,500 short updates, 1,024 lines", lives(1024, 1, CLIENTS, of_clients(CLIENTS, 12_500, short_update)))
+    measure("a life of 8 clients that raise one number 6,250 times, 1,024 lines", lives(1024, 1, CLIENTS, of_clients(CLIENTS, 12_500, raise_one)))
     measure("100,000 commands of all kinds over 1,000 keys, 781 lives, 4,096 lines", lives(4096, 781, CLIENTS, of_all_clients(every_command)))
     measure("16 MiB of long documents, 130 lives", long_documents())
     measure("16,777,216 line feeds", b"\n" * 16_777_216)

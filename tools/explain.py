@@ -33,9 +33,11 @@ LIFE_ROW = "life N power C     N is 1 to 8, C at most 2^64 - 1; begins a life, a
 CUT_ROW = "cut K S            K is below N, S at most 2^64 - 1; in a life, one for each client"
 COMMAND_ROWS = {
     "put": "K put KEY JSON     JSON is the rest of the line",
+    "putif": "K putif KEY REV JSON  REV is at most 2^64 - 1, JSON the rest of the line",
     "del": "K del KEY",
     "add": "K add KEY INTEGER  an integer within 64 bits, without leading zeros",
     "get": "K get KEY",
+    "rev": "K rev KEY",
     "next": "K next KEY         or K next, for the least key of all",
     "count": "K count",
 }
@@ -66,7 +68,7 @@ SENTENCES = {
     "commands": "This would be the 100,001st command.",
     "command": "This is no command, or a command with too few or too many words. Words are separated by exactly one space.",
     "key": "The key is empty, longer than 64 bytes, or has a byte that a key may not have.",
-    "number": "The amount is no integer within 64 bits. It has no plus sign and no leading zeros, and -0 is none.",
+    "number": "This is no integer within 64 bits, or no revision. Neither has a plus sign or leading zeros, -0 is none, and a revision has no sign.",
     "json": "The document is no JSON from the marked place on.",
     "fraction": "A number of the document is no integer within 64 bits. Fractions, exponents and -0 are not taken.",
     "long": "The document's compact text has more than 1,024 bytes.",

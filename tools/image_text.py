@@ -14,12 +14,14 @@ LINE_WORDS = 8
 PART = 1168
 REPLY_WORDS = 144
 SLOTS = 8
-VERSION = 1
+OLD_VERSION, VERSION = 1, 2
 BLOCK_BYTES = 56
 LONGEST_KEY = 64
 LONGEST_DOCUMENT = 1_024
 BARE_REPLIES = {1: "new", 2: "replaced", 3: "deleted", 4: "none", 7: "notnumber", 8: "overflow", 9: "noroom"}
-DOCUMENT, SUM, KEY, NUMBER = 5, 6, 10, 11
+DOCUMENT, SUM, KEY = 5, 6, 10
+LAST_KIND = 14
+NUMBERED_REPLIES = {6: "sum", 11: "count", 12: "set", 13: "stale", 14: "rev"}
 
 
 @dataclass
@@ -56,8 +58,11 @@ class Image:
 
 @dataclass
 class Recovered:
+    """What a loss of power left: `last` is the last revision given, and each document has its key before it and its revision behind it."""
+
     place: int
     outcomes: list
+    last: int
     documents: list
 
 
@@ -137,20 +142,21 @@ def recovered(image):
     if image.place > GREATEST_PLACE:
         raise BadImage(f"root {image.root}", None, f"the place {image.place}", "a place of at most 2^40")
     version = image.words.get(image.start + PART, 0)
-    if version != VERSION:
-        raise BadImage(f"version {version}", image.start + PART, version, f"{VERSION}, the version of the store")
+    if version not in (OLD_VERSION, VERSION):
+        raise BadImage(f"version {version}", image.start + PART, version, f"{VERSION}, the version of the store, or {OLD_VERSION}, its old one")
     place = image.words.get(image.start, 0)
     if place != image.place:
         raise BadImage(f"place {image.place} {place}", image.start, place, f"{image.place}, the place that the root names")
     outcomes = outcomes_of(image)
-    return Recovered(place, outcomes, Part(image).pairs())
+    part = Part(image)
+    return Recovered(place, outcomes, part.last, part.documents())
 
 
 def recovered_text(found):
     """What `recover` writes of it."""
     lines = [f"recovered place {found.place} documents {len(found.documents)}".encode()]
     lines.extend(b"client %d applied %d = %s" % outcome for outcome in found.outcomes)
-    lines.extend(b"document %s %s" % pair for pair in found.documents)
+    lines.extend(b"document %s rev %d %s" % (key, revision, document) for key, document, revision in found.documents)
     return b"".join(line + b"\n" for line in lines)
 
 
@@ -196,7 +202,7 @@ def outcomes_of(image):
 def reply_of(reply):
     """The text of the reply that 144 words are."""
     kind, length = reply.get(0), 0
-    reply.want(1 <= kind <= NUMBER, 0, "the kind of a reply, 1 to 11")
+    reply.want(1 <= kind <= LAST_KIND, 0, f"the kind of a reply, 1 to {LAST_KIND}")
     reply.want_zeros(4, 8, "as words 4 to 7 of a reply are")
     if kind != KEY:
         reply.want_zeros(1, 2, "since a reply of this kind has no key")
@@ -204,7 +210,7 @@ def reply_of(reply):
     if kind != DOCUMENT:
         reply.want_zeros(2, 3, "since a reply of this kind has no document")
         reply.want_zeros(16, REPLY_WORDS, "since a reply of this kind has no document")
-    if kind not in (SUM, NUMBER):
+    if kind not in NUMBERED_REPLIES:
         reply.want_zeros(3, 4, "since a reply of this kind has no number")
     if kind == KEY:
         length = reply.get(1)
@@ -215,9 +221,9 @@ def reply_of(reply):
         reply.want(1 <= length <= LONGEST_DOCUMENT, 2, "the length of a document, 1 to 1,024")
         return text_in(reply, 16, reply.packed(16, 128), length, is_of_document, "a document")
     number = reply.get(3)
-    if kind == SUM:
-        return b"sum %d" % (number - 2**64 if number >= 2**63 else number)
-    return b"count %d" % number if kind == NUMBER else BARE_REPLIES[kind].encode()
+    if kind == SUM and number >= 2**63:
+        number -= 2**64
+    return f"{NUMBERED_REPLIES[kind]} {number}".encode() if kind in NUMBERED_REPLIES else BARE_REPLIES[kind].encode()
 
 
 def is_of_key(byte):
@@ -251,29 +257,36 @@ class Node:
 
 
 class Part(Words):
-    """The object part of the region that the root names. Each line is claimed once: by the tree, a text, or the given-back ones."""
+    """The object part of the region that the root names. Each line is claimed once: by the tree, a text, or the given-back ones.
+
+    A part of the old version has no revisions: 1 is the last one given, and that of each document.
+    """
 
     def __init__(self, image):
         super().__init__(image, image.start + PART)
         self.lines = image.lines
         self.end = self.get(3)
+        self.old = self.get(0) == OLD_VERSION
+        self.last = 1 if self.old else self.get(6)
         self.claimed = {}
 
-    def pairs(self):
-        """The pairs of key and document, by keys; refuses a part that is no lawful one."""
+    def documents(self):
+        """Each key with its document and its revision, by keys; refuses a part that is no lawful one."""
         self.want(1 <= self.end <= self.lines, 3, f"the first line never given, 1 to {self.lines}")
-        self.want_zeros(6, 8, "as words 6 and 7 of the header are")
+        if self.old:
+            self.want_zeros(6, 7, "as word 6 of the header is in this version")
+        self.want_zeros(7, 8, "as word 7 of the header is")
         nodes = self.nodes_in_order()
-        pairs = [self.pair_of(node) for node in nodes]
-        for (one, _), (other, _), node in zip(pairs, pairs[1:], nodes[1:]):
+        documents = [self.document_of(node) for node in nodes]
+        for (one, _, _), (other, _, _), node in zip(documents, documents[1:], nodes[1:]):
             found = f"the key {shown(other)} behind {shown(one)}"
             self.want(one < other, LINE_WORDS * node.line + 3, "keys that rise from node to node", found)
-        self.want(self.get(5) == len(pairs), 5, f"{len(pairs)}, the number of nodes of the tree")
+        self.want(self.get(5) == len(documents), 5, f"{len(documents)}, the number of nodes of the tree")
         self.claim_given_back()
         for line in range(1, self.end):
             what = "a line below the first never given that is a node, a block or given back"
             self.want(line in self.claimed, LINE_WORDS * line, what, f"line {line}, which is none of these")
-        return pairs
+        return documents
 
     def claim(self, index, what):
         """Claims the line that the word at `index` names; None where it names none."""
@@ -315,12 +328,19 @@ class Part(Words):
         self.want(self.get(height) == 1 + max(left, right), height, f"{1 + max(left, right)}, the height above {left} and {right}")
         self.want(abs(left - right) <= 1, height, "siblings whose heights differ by at most 1", f"the heights {left} and {right}")
 
-    def pair_of(self, node):
+    def document_of(self, node):
         first = LINE_WORDS * node.line
         key = self.text_at(first + 3, LONGEST_KEY, is_of_key, "a key")
         document = self.text_at(first + 5, LONGEST_DOCUMENT, is_of_document, "a document")
-        self.want_zeros(first + 7, first + 8, "as word 7 of a node is")
-        return key, document
+        return key, document, self.revision_at(first + 7)
+
+    def revision_at(self, index):
+        """The revision that stands at `index`; in the old version 0 stands there."""
+        if self.old:
+            self.want_zeros(index, index + 1, "as word 7 of a node is in this version")
+            return self.last
+        self.want(1 <= self.get(index) <= self.last, index, f"a revision, 1 to {self.last}, the last one given")
+        return self.get(index)
 
     def text_at(self, index, longest, may_have, what):
         """The text whose first line and length stand at `index` and behind it."""

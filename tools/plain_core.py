@@ -12,6 +12,7 @@ SET_WORDS = 513
 CELLS = 16
 SLOTS = 8
 OBJECT_START = 8 + CELL_WORDS * SLOTS
+VERSION = 2
 
 # The first word of the reply to each kind of entry in a store of no documents.
 REPLY_KINDS = {0: 0, 5: 4, 6: 11}
@@ -57,7 +58,7 @@ class Core:
         self.q = CELLS * callers
         self.region = 8 * (146 + lines)
         self.base = [0] * self.region
-        self.base[OBJECT_START] = 1
+        self.base[OBJECT_START] = VERSION
         self.base[OBJECT_START + 3] = 1
         self.cur = self.dur = self.low = self.free = 0
         self.need = [NO_NEED] * callers

@@ -1,7 +1,7 @@
-"""The document store on one thread: a dictionary of keys to documents, and the room that they take."""
+"""The document store on one thread: dictionaries of keys to documents and to revisions, and the room that they take."""
 import bisect
 
-from script_text import integer_in
+from script_text import LARGEST_U64, integer_in
 
 BYTES_OF_A_LINE = 56
 NONE = "none"
@@ -21,18 +21,22 @@ class Store:
     """What each command answers, as the text of its reply, and does."""
 
     COUNTED = "documents"
-    READING = "get, next or count"
+    READING = "get, rev, next or count"
 
     def __init__(self, lines):
         self.most = lines - 1
         self.taken = 0
+        self.last = 0
         self.documents = {}
+        self.revisions = {}
         self.keys = []
 
     def copy(self):
         other = Store(self.most + 1)
         other.taken = self.taken
+        other.last = self.last
         other.documents = dict(self.documents)
+        other.revisions = dict(self.revisions)
         other.keys = list(self.keys)
         return other
 
@@ -52,7 +56,9 @@ class Store:
         if not before:
             bisect.insort(self.keys, key)
         self.taken = taken
+        self.last = min(self.last + 1, LARGEST_U64)
         self.documents[key] = document
+        self.revisions[key] = self.last
         return True
 
     def answer_put(self, command):
@@ -61,10 +67,17 @@ class Store:
             return "noroom"
         return "replaced" if there else "new"
 
+    def answer_putif(self, command):
+        found = self.revisions.get(command.key, 0)
+        if found != command.revision:
+            return f"stale {found}"
+        return f"set {self.last}" if self.set(command.key, command.document) else "noroom"
+
     def answer_del(self, command):
         document = self.documents.pop(command.key, None)
         if document is None:
             return NONE
+        del self.revisions[command.key]
         self.taken -= room_of(command.key, document)
         del self.keys[bisect.bisect_left(self.keys, command.key)]
         return "deleted"
@@ -80,6 +93,9 @@ class Store:
 
     def answer_get(self, command):
         return self.documents.get(command.key, NONE)
+
+    def answer_rev(self, command):
+        return f"rev {self.revisions[command.key]}" if command.key in self.revisions else NONE
 
     def answer_next(self, command):
         at = bisect.bisect_right(self.keys, command.key) if command.key else 0

@@ -23,7 +23,7 @@ NUMBERS = {
     "write_cell": 3, "read_cell": 3, "store_word": 3, "write_set": 3, "read_set": 3,
 }
 KEY = r"[\x21-\x7e]{1,64}"
-COMMAND = re.compile(rf"get {KEY}|next|next {KEY}|count")
+COMMAND = re.compile(rf"get {KEY}|rev {KEY}|next|next {KEY}|count")
 MOST_LINES = 10_000
 
 
@@ -245,7 +245,7 @@ class Recorder:
                 yield
             elif self.tries(l, "load_word", r, 0):
                 yield
-                command = self.random.choice(["count", "next", "next k", "get k"])
+                command = self.random.choice(["count", "next", "next k", "get k", "rev k"])
                 self.tries(l, "raise", l.seen_cur, text=f" read {command}")
                 yield
             while not self.tries(l, "back_off", r):

@@ -14,7 +14,10 @@ NUMBER = "(0|[1-9][0-9]{0,19})"
 # a reply of `next`, with or without a key before it
 NEXT_REPLY = re.compile("none|unanswered|key [\x21-\x7e]{1,64}")
 # how many words follow the kind of a command, of documents and of a queue, where that is not in question
-WORDS_BEHIND = {"del": 1, "add": 2, "get": 1, "next": 1, "count": 0, "push": 1, "pop": 0, "peek": 0, "len": 0}
+WORDS_BEHIND = {"del": 1, "add": 2, "get": 1, "rev": 1, "next": 1, "count": 0, "push": 1, "pop": 0, "peek": 0, "len": 0}
+
+# how many words stand before the document of a command that has one
+DOCUMENT_BEHIND = {"put": 1, "putif": 2}
 
 
 class Fault(Exception):
@@ -194,10 +197,10 @@ def part_of(number, part):
 def split_reply(line, rest):
     """The command and the reply of `COMMAND = REPLY`, which no script is needed for."""
     kind, _, tail = rest.partition(" ")
-    if kind == "put":
-        key, _, tail = tail.partition(" ")
-        end = end_of_document(line, tail)
-        command, answer = f"put {key} {tail[:end]}", tail[end:]
+    if kind in DOCUMENT_BEHIND:
+        tail = tail.split(" ", DOCUMENT_BEHIND[kind])
+        end = end_of_document(line, tail[-1])
+        command, answer = " ".join([kind, *tail[:-1], tail[-1][:end]]), tail[-1][end:]
     elif kind == "next" and tail.startswith("= ") and NEXT_REPLY.fullmatch(tail[2:]):
         command, answer = "next", " " + tail
     else:

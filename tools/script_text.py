@@ -15,13 +15,15 @@ DEEPEST_DOCUMENT = 127
 LARGEST_U64 = 2**64 - 1
 NO_LIMIT = LARGEST_U64
 
-READING_KINDS = ("get", "next", "count")
+READING_KINDS = ("get", "rev", "next", "count")
 # how many words a line of each command may have, its client counted; a document may hold spaces
 WORD_COUNTS = {
     "put": range(4, 2**62),
+    "putif": range(5, 2**62),
     "del": range(3, 4),
     "add": range(4, 5),
     "get": range(3, 4),
+    "rev": range(3, 4),
     "next": range(2, 4),
     "count": range(2, 3),
 }
@@ -72,6 +74,7 @@ class Command(Numbered):
     key: str = ""
     document: str = ""
     amount: int = 0
+    revision: int = 0
 
     @property
     def reads(self):
@@ -82,6 +85,8 @@ class Command(Numbered):
         """The command as a report writes it."""
         if self.kind == "put":
             return f"put {self.key} {self.document}"
+        if self.kind == "putif":
+            return f"putif {self.key} {self.revision} {self.document}"
         if self.kind == "add":
             return f"add {self.key} {self.amount}"
         return f"{self.kind} {self.key}" if self.key else self.kind
@@ -287,12 +292,15 @@ def kind_of(words, word_counts):
 
 
 def parts_of(kind, text, words):
-    """Key, document and amount of a command."""
+    """Key, document, amount and revision of a command."""
     if len(words) == 2:
         return {}
     parts = {"key": key_of(words[2])}
     if kind == "put":
         parts["document"] = document_of(text, words[3].start)
+    if kind == "putif":
+        parts["revision"] = wanted_number(words[3], 0, LARGEST_U64, "number")
+        parts["document"] = document_of(text, words[4].start)
     if kind == "add":
         parts["amount"] = amount_of(words[3])
     return parts

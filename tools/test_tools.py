@@ -65,7 +65,7 @@ ONE_OF_MANY = {
     "two_stopped",
 }
 # how often a script with several reports is run
-TIMES = 20
+TIMES = 64
 # of each reason: a script, its line at fault, and what is marked there
 REFUSED = {
     "utf8": (HEAD + b'0 put a "\xff"\n', 3, "\ufffd"),
@@ -124,6 +124,19 @@ IN_A_LIFE = {
     "0 put a": ("command", ""),
     "0 put a ": ("json", ""),
     "0 put a  1": (None, ""),
+    "0 putif a 1": ("command", ""),
+    "0 putif a 0 ": ("json", ""),
+    "0 putif a  0 1": ("number", " "),
+    "0 putif a 18446744073709551615 [1, 2]": (None, ""),
+    "0 putif a 18446744073709551616 1": ("number", "18446744073709551616"),
+    "0 putif a -1 1": ("number", "-1"),
+    "0 putif a 01 1.5": ("number", "01"),
+    "0 putif a\tb 01 1": ("key", "\t"),
+    "0 putif a 0 1.5": ("fraction", "1.5"),
+    "0 rev a": (None, ""),
+    "0 rev": ("command", ""),
+    "0 rev a 1": ("command", "1"),
+    "0 rev ": ("key", ""),
     "0 next a b c": ("command", "b c"),
     "0 get ": ("key", ""),
     "0 next ": ("key", ""),
@@ -226,14 +239,14 @@ def said_by(main, words):
 class LegalReports(unittest.TestCase):
     def test_every_row_is_legal(self):
         rows = list(legal_rows())
-        self.assertGreaterEqual(len(rows), 37)
+        self.assertGreaterEqual(len(rows), 41)
         for name, script, report in rows:
             with self.subTest(name):
                 self.assertTrue(judged(script, report).startswith("legal: "))
 
     def test_every_refusal_is_the_first(self):
         refusals = sorted(ROWS.glob("*.refusal"))
-        self.assertGreaterEqual(len(refusals), 25)
+        self.assertGreaterEqual(len(refusals), 26)
         for refusal in refusals:
             with self.subTest(refusal.stem):
                 line, reason = first_refusal(refusal.with_suffix(".script").read_bytes())
@@ -334,7 +347,7 @@ class WrongReports(unittest.TestCase):
 
     def test_each_changed_number_of_a_report_without_choice(self):
         """Where nothing is free, no number of a report can be another."""
-        for name in ("written_read_back", "room", "next_and_count", "two_clients", "stopped_linked_kept"):
+        for name in ("written_read_back", "room", "next_and_count", "revisions", "two_clients", "stopped_linked_kept"):
             script, report = row(name)
             text = report.decode()
             for found in re.finditer(r"(?<![A-Za-z0-9])[0-9]+(?![A-Za-z0-9])", text):
@@ -450,10 +463,12 @@ class Scripts(unittest.TestCase):
             "get = = =": ("get =", "="),
             "count = count 1": ("count", "count 1"),
             "add = 1 = sum 1": ("add = 1", "sum 1"),
+            'putif = 0 "x = new" = set 1': ('putif = 0 "x = new"', "set 1"),
+            "rev = = rev 1": ("rev =", "rev 1"),
         }
         for rest, parts in cases.items():
             self.assertEqual(parts, split_reply(1, rest))
-        for rest in ("put a { = new", "look a = 1", "get a", "get a = "):
+        for rest in ("put a { = new", "putif a 1 = set 1", "look a = 1", "get a", "get a = "):
             with self.assertRaises(Fault):
                 split_reply(1, rest)
 
@@ -524,7 +539,7 @@ class Program(unittest.TestCase):
 
     def test_each_row(self):
         scripts = sorted(ROWS.glob("*.script"))
-        self.assertGreaterEqual(len(scripts), 56)
+        self.assertGreaterEqual(len(scripts), 60)
         for path in scripts:
             name, script = path.stem, path.read_bytes()
             refusal, reports = path.with_suffix(".refusal"), reports_of(name)

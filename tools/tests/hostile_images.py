@@ -1,5 +1,5 @@
-"""Images that no run leaves: every word of a good one changed, several things wrong, trees and texts with one thing wrong, and texts that
-are none of an image.
+"""Images that no run leaves: every word of a good one changed, and of old ones that a run left, several things wrong, trees and texts with
+one thing wrong, and texts that are none of an image.
 
     hostile_images.py [PROGRAM]
 
@@ -15,9 +15,10 @@ from pathlib import Path
 TOOLS = Path(__file__).resolve().parent.parent
 sys.path[:0] = [str(TOOLS)]
 
-from image_text import PART, SLOT_WORDS, BadImage, Image, image_text, read_image, recovered, recovered_text
+from image_text import OLD_VERSION, PART, SLOT_WORDS, VERSION, BadImage, Image, image_text, read_image, recovered, recovered_text
 from script_text import Refusal
 
+OLD_IMAGES = Path(__file__).resolve().parent / "old_images"
 PROGRAM = TOOLS.parent / "crates" / "cx_tool" / "out" / "cx_tool"
 MOST_SECONDS = 20
 VALUES = (0, 1, 2**63, 2**64 - 1)
@@ -27,9 +28,10 @@ SEVEN = [(key, b"%d" % at) for at, key in enumerate((b"a", b"b", b"c", b"d", b"e
 
 @dataclass
 class Layout:
-    """An image under way: its words by address, and the lines of the nodes by key."""
+    """An image under way: its words by address, and the lines of the nodes by key; an old one has no revisions."""
 
     image: Image
+    old: bool = False
     next_line: int = 1
     nodes: dict = field(default_factory=dict)
 
@@ -61,13 +63,21 @@ class Layout:
                 self.put(8 * line + 1 + word, int.from_bytes(text[start + 8 * word :][:8][: 56 - 8 * word], "little"))
             index = 8 * line
 
+    def put_node(self, index, key):
+        """Puts a node whose line stands at `index`. Its revision is the number of the nodes so far."""
+        line = self.take()
+        self.put(index, line)
+        self.nodes[key] = line
+        if not self.old:
+            self.put(8 * line + 7, len(self.nodes))
+        return line
+
     def put_tree(self, index, pairs):
         """Puts a tree of pairs whose root's line stands at `index`, and gives its height."""
         if not pairs:
             return 0
-        line, middle = self.take(), len(pairs) // 2
-        self.put(index, line)
-        self.nodes[pairs[middle][0]] = line
+        middle = len(pairs) // 2
+        line = self.put_node(index, pairs[middle][0])
         heights = [self.put_tree(8 * line, pairs[:middle]), self.put_tree(8 * line + 1, pairs[middle + 1 :])]
         self.put(8 * line + 2, 1 + max(heights))
         self.put_text(8 * line + 3, pairs[middle][0])
@@ -83,14 +93,15 @@ class Layout:
         self.put(4, count)
 
     def close(self, pairs):
-        self.put(0, 1)
+        self.put(0, OLD_VERSION if self.old else VERSION)
         self.put(3, self.next_line)
         self.put(5, len(pairs))
+        self.put(6, 0 if self.old else len(pairs))
 
 
-def layout_of(pairs, given_back=2):
+def layout_of(pairs, given_back=2, old=False):
     """A good image: of one caller at place 9, with replies in the slots of callers 0 and 7."""
-    made = Layout(Image(callers=1, lines=64, count=2 * 8 * 210, root=9 * 2 + 1))
+    made = Layout(Image(callers=1, lines=64, count=2 * 8 * 210, root=9 * 2 + 1), old)
     made.image.words[made.image.start] = 9
     made.put_slot(0, [4, 10, 5, 0, 0, 0, 0, 0, 0, int.from_bytes(b"apple", "little")])
     made.put_slot(7, [2**64 - 1, 6, 0, 0, 2**64 - 3])
@@ -128,12 +139,24 @@ def with_word(image, at, value):
 
 
 def changed_words():
-    """The good image with each of its words set in turn to each value that it does not have, with a name: 10,217 images."""
+    """The good image with each of its words set in turn to each value that it does not have, with a name: 10,225 images."""
     good = good_image()
     for at in range(good.count):
         value = good.words.get(at, 0)
         for other in sorted({*VALUES, (value + 1) % 2**64} - {value}):
             yield f"word {at} is {other}", with_word(good, at, other)
+
+
+def old_images():
+    """What runs left when there were no revisions yet: images of no document, of one, and of 60, each with its name."""
+    return [(path.stem, read_image(path.read_bytes())) for path in sorted(OLD_IMAGES.glob("*.image"))]
+
+
+def changed_old_words():
+    """Each old image with each word of the region that the root names raised by 1 in turn, with a name."""
+    for name, image in old_images():
+        for at in range(image.start, image.start + image.region_words):
+            yield f"{name} with word {at} raised", with_word(image, at, (image.words.get(at, 0) + 1) % 2**64)
 
 
 def node(key, word):
@@ -221,11 +244,30 @@ TREES = {
     "line given back beyond": ([(2, at_word(3))], False),
     "one pair too many": ([(5, 8)], False),
     "one pair too few": ([(5, 6)], False),
-    "word 6 of the header": ([(6, 1)], False),
+    "last revision below another": ([(6, 6)], False),
+    "last revision above all": ([(6, 8)], True),
+    "last revision of all ones": ([(6, 2**64 - 1)], True),
+    "no revision was given": ([(6, 0)], False),
     "word 7 of the header": ([(7, 1)], False),
-    "word 7 of a node": ([(node(b"e", 7), 1)], False),
+    "revision of 0": ([(node(b"e", 7), 0)], False),
+    "revision above the last": ([(node(b"e", 7), 8)], False),
+    "revision of all ones": ([(node(b"e", 7), 2**64 - 1)], False),
+    "revision of another": ([(node(b"e", 7), at_word(node(b"a", 7)))], True),
+    "revisions in the old version": ([(0, OLD_VERSION)], False),
     "words of a line given back": ([(lambda made, word=word: 8 * made.get(2) + word, 2**64 - 1) for word in range(1, 8)], True),
     "words of lines never given": ([(lambda made, word=word: 8 * made.get(3) + word, 2**64 - 1) for word in range(8)], True),
+}
+# the same of the seven in the old version
+OLD_TREES = {
+    "old seven": ([], True),
+    "old word 6 of the header": ([(6, 1)], False),
+    "old word 7 of the header": ([(7, 1)], False),
+    "old word 7 of a node": ([(node(b"e", 7), 1)], False),
+    "old height of a leaf is 0": ([(node(b"a", 2), 0)], False),
+    "old key of the root again": ([(block(b"e", 1, 3), ord("d"))], False),
+    "old part in the new version": ([(0, VERSION)], False),
+    "old part in the new version, with a last revision": ([(0, VERSION), (6, 1)], False),
+    "old part with all that is new": ([(0, VERSION), (6, 1), *((node(key, 7), 1) for key, _ in SEVEN)], True),
 }
 
 
@@ -235,8 +277,7 @@ def leaning(side):
     made.image.words = {at: value for at, value in made.image.words.items() if at < made.image.start + PART}
     index, pairs = 1, SEVEN[:3] if side else SEVEN[2::-1]
     for height, (key, document) in zip((3, 2, 1), pairs):
-        line = made.take()
-        made.put(index, line)
+        line = made.put_node(index, key)
         made.put(8 * line + 2, height)
         made.put_text(8 * line + 3, key)
         made.put_text(8 * line + 5, document)
@@ -250,8 +291,8 @@ def trees():
     yield "seven", image_text(layout_of(SEVEN).image), True
     yield "leans to the left", image_text(leaning(0)), False
     yield "leans to the right", image_text(leaning(1)), False
-    for name, (changes, good) in TREES.items():
-        made = layout_of(SEVEN)
+    for name, (changes, good) in [*TREES.items(), *OLD_TREES.items()]:
+        made = layout_of(SEVEN, old=name in OLD_TREES)
         done = [(index(made) if callable(index) else index, value(made) if callable(value) else value) for index, value in changes]
         for index, value in done:
             made.put(index, value)
@@ -262,7 +303,7 @@ def trees():
 SLOTS = {
     "number without a reply": ([1], None),
     "reply without a number": ([0, 1], None),
-    "kind 12": ([1, 12], None),
+    "kind 15": ([1, 15], None),
     "kind of all ones": ([1, 2**64 - 1], None),
     "new": ([1, 1], "new"),
     "new with a number": ([1, 1, 0, 0, 1], None),
@@ -282,6 +323,12 @@ SLOTS = {
     "key of 64 bytes": ([1, 10, 64, 0, 0, 0, 0, 0, 0] + [0x6B6B6B6B6B6B6B6B] * 8, "key " + "k" * 64),
     "key of 65 bytes": ([1, 10, 65, 0, 0, 0, 0, 0, 0] + [0x6B6B6B6B6B6B6B6B] * 8, None),
     "count": ([2**64 - 1, 11, 0, 0, 2**64 - 1], "count 18446744073709551615"),
+    "set": ([1, 12, 0, 0, 2**64 - 1], "set 18446744073709551615"),
+    "set with a key": ([1, 12, 1, 0, 1, 0, 0, 0, 0, ord("k")], None),
+    "stale": ([1, 13, 0, 0, 2**63], "stale 9223372036854775808"),
+    "stale with a document": ([1, 13, 0, 1, 1] + [0] * 12 + [ord("7")], None),
+    "revision": ([1, 14, 0, 0, 0], "rev 0"),
+    "revision with word 7": ([1, 14, 0, 0, 1, 0, 0, 0, 1], None),
 }
 
 
@@ -294,7 +341,7 @@ def slots():
 
 
 IMAGE, ROOT = b"image 1 64 3360\n", b"root 3\n"
-EMPTY = IMAGE + b"root 0\n1168 1\n1171 1\n"
+EMPTY = IMAGE + b"root 0\n1168 2\n1171 1\n"
 # texts that are refused, with the line and the reason, or with None those that are read
 TEXTS = {
     b"": (1, "image"),
@@ -406,7 +453,7 @@ def mixed(count=400):
 
 def every_image():
     """Each image with a name, its text, and what is owed: the whole table."""
-    yield from ((name, image_text(image), answer_to(image)) for name, image in [*changed_words(), *mixed()])
+    yield from ((name, image_text(image), answer_to(image)) for name, image in [*changed_words(), *changed_old_words(), *mixed()])
     yield from ((name, data, answer_of(data)) for name, data, _ in [*trees(), *slots()])
     yield from ((repr(data[:60]), data, answer_of(data)) for data in TEXTS)
 

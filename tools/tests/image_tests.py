@@ -76,12 +76,12 @@ class ReadImages(unittest.TestCase):
     def test_changed_words(self):
         """Words of the region that the root does not name change nothing, and the checks come in their order."""
         images = list(hostile_images.changed_words())
-        self.assertEqual(10_217, len(images))
+        self.assertEqual(10_225, len(images))
         good, words = answer_to(good_image()), good_image().region_words
         for name, image in images[:: 97]:
             if any(at < words for at in image.words):
                 self.assertEqual(good, answer_to(image), name)
-        for word, value, fault in ((0, 1, "place 9 1"), (1168, 2, "version 2"), (1168 + 3, 0, "body"), (7, 1, "body")):
+        for word, value, fault in ((0, 1, "place 9 1"), (1168, 3, "version 3"), (1168 + 3, 0, "body"), (7, 1, "body")):
             image = hostile_images.with_word(good_image(), words + word, value)
             self.assertEqual((7, f"image refused: {fault}\n".encode()), answer_to(image))
 
@@ -222,14 +222,15 @@ class ProgramOnImages(unittest.TestCase):
         self.assertEqual((script.lives[-1].clients, script.lines, text), (image.callers, image.lines, image_text(image)))
         self.assertEqual(answer_of(text), self.ran("recover", text))
         if all(life.clients == 1 and not life.cuts for life in script.lives):
-            self.assertEqual(kept_alone(script), (found.place, found.outcomes, dict(found.documents)))
+            self.assertEqual(kept_alone(script), (found.place, found.outcomes, found.last, found.documents))
 
 
 def kept_alone(script):
-    """The place, the outcome and the documents that one client's commands leave, which all are answered."""
+    """The place, the outcome, the last revision and the documents that one client's commands leave, which all are answered."""
     store = Store(script.lines)
     commands = [command for life in script.lives for command in life.commands]
     replies = [(command, store.answer(command)) for command in commands]
     answers = [reply.encode() for command, reply in replies if not command.reads]
     outcomes = [(0, len(answers), answers[-1])] if answers else []
-    return len(answers), outcomes, {key.encode(): document.encode() for key, document in store.documents.items()}
+    documents = [(key.encode(), store.documents[key].encode(), store.revisions[key]) for key in store.keys]
+    return len(answers), outcomes, store.last, documents

@@ -2,7 +2,7 @@
 import random
 import re
 
-REPLIES = ["new", "replaced", "deleted", "none", "unanswered", "noroom", "notnumber", "overflow", "sum 3", "count 1", "key a", "0"]
+REPLIES = ["new", "replaced", "deleted", "none", "unanswered", "noroom", "notnumber", "overflow", "sum 3", "count 1", "key a", "0", "set 2", "stale 0", "rev 1"]
 QUEUE_REPLIES = ["pushed", "full", "empty", "unanswered", "item x", "item =", "len 0", "len 3"]
 NUMBER = re.compile("(?<![0-9A-Za-z])[0-9]+(?![0-9A-Za-z])")
 

@@ -18,6 +18,7 @@ sys.path.insert(0, str(TOOLS))
 
 import check_report
 from plain_queue import opening
+from plain_store import Store
 from report_text import UNANSWERED, Fault, read_report
 from script_text import Refusal, raw_lines, read_script
 
@@ -25,7 +26,7 @@ PROGRAM = TOOLS.parent / "crates" / "cx_tool" / "out" / "cx_tool"
 MOST_COMMANDS = 200
 MOST_SECONDS = 120
 DOCUMENTS = ["0", "-3", "12", '"a text"', '{"name": "pear", "price": 95}', "[ 1, 2,3 ]", "null", "9223372036854775807", '"x = new"']
-PIECES = ["0", "1", " ", "  ", "put", "add", "-0", "01", "1.5", "{", "}", "[", '"', "key", "cut", "life", "lines", "\t", "\r", "#", "\x7f"]
+PIECES = ["0", "1", " ", "  ", "put", "putif", "add", "-0", "01", "1.5", "{", "}", "[", '"', "key", "cut", "life", "lines", "\t", "\r", "#", "\x7f"]
 
 
 def key(choice):
@@ -38,10 +39,15 @@ def document(choice):
     return choice.choice(DOCUMENTS)
 
 
-def command(choice):
-    kind = choice.choice(["put", "put", "add", "add", "del", "get", "next", "count"])
+def command(choice, store):
+    """A command; of those that stand on a revision about half stand on the one that the key has in the store."""
+    kind = choice.choice(["put", "put", "putif", "putif", "add", "add", "del", "get", "rev", "next", "count"])
     if kind == "put":
         return f"put {key(choice)} {document(choice)}"
+    if kind == "putif":
+        own = key(choice)
+        found = store.revisions.get(own, 0)
+        return f"putif {own} {choice.choice([found, found, found + 1, store.last, 0, 2**64 - 1])} {document(choice)}"
     if kind == "add":
         return f"add {key(choice)} {choice.choice([1, 3, -5, 2**63 - 1, -(2**63)])}"
     if kind == "count" or kind == "next" and choice.random() < 0.3:
@@ -51,7 +57,8 @@ def command(choice):
 
 def script_text(choice, clients=1, lives=1, commands=20, cuts=False, most=None, steps=999):
     """A script of so many lives; where it is said, with at most so many commands of one client in a life."""
-    lines = [f"lines {choice.choice([64, 64, 70, 1024])}"]
+    store = Store(choice.choice([64, 64, 70, 1024]))
+    lines = [f"lines {store.most + 1}"]
     cut = choice.choice([0.4, 0.4, 1]) if cuts else 0
     for _ in range(lives):
         lines.append(f"life {clients} power {choice.randint(0, 9)}")
@@ -61,7 +68,9 @@ def script_text(choice, clients=1, lives=1, commands=20, cuts=False, most=None, 
             client = choice.randrange(clients)
             if made[client] != most:
                 made[client] += 1
-                lines.append(f"{client} {command(choice)}")
+                asked = command(choice, store)
+                lines.append(f"{client} {asked}")
+                store.answer(read_script(f"{lines[0]}\nlife 1 power 0\n0 {asked}".encode()).lives[0].commands[0])
     return ("\n".join(lines) + "\n").encode()
 
 

@@ -38,7 +38,7 @@ def is_report(script, written):
 
 def is_image(script, written):
     """Whether the image of the last life holds the three documents of the two shops."""
-    return [key for key, _ in recovered(read_image(written)).documents] == [b"sold", b"stock:apple", b"stock:pear"]
+    return [key for key, _, _ in recovered(read_image(written)).documents] == [b"sold", b"stock:apple", b"stock:pear"]
 
 
 # words, an input, and what a text written with status 0 is held to

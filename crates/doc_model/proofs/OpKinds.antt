@@ -1,5 +1,5 @@
 -- Which parts operations have.
-use Rattle.std.proofs.Common.{get_or, cond, eqb, ◌⊎◌, inl, inr, ◌≡◌, ℕ, ◌^◌, ◌<◌, Bool, true, false, ◌&&◌, ◌||◌, ◌==◌, nat_le, List, [], ◌∷◌, length, All, refl, sym, ap, ap₂, ◌∙◌, subst, arith}
+use Rattle.std.proofs.Common.{get_or, cond, eqb, ◌⊎◌, inl, inr, ◌≡◌, ℕ, ◌^◌, ◌<◌, Bool, true, false, ◌&&◌, ◌||◌, ◌==◌, List, [], ◌∷◌, length, All, refl, sym, ap, ap₂, ◌∙◌, subst, arith}
 use borrow.Author.Gap.{read_sfits}
 use Rattle.std.specs.Bool.{MatchBool}
 use Rattle.std.specs.Int.{w64, cast_unsigned}
@@ -8,16 +8,16 @@ use Rattle.std.proofs.lemmas.Bool.{false≢true, and_parts, and_from, or_cases, 
 use Rattle.std.proofs.lemmas.Bool.Decides.{nat_tests}
 use Rattle.cx_base.specs.Store.{IsKey}
 use Rattle.doc_model.specs.Meaning.{IsOp, only_reads}
-use Rattle.doc_model.specs.Words.{words_in, words_with, op_words, HasIntegerAmount, IsOpOf, AreOfAnOp, AreOfNoOp}
+use Rattle.doc_model.specs.Words.{words_in, words_with, op_words, HasIntegerAmount, IsOpOf, AreOfAnOp, AreOfNoOp, is_reading_kind}
 use Rattle.doc_model.specs.WordParts.{IsShortText, is_key, is_document, has_key_only, has_no_text, has_op, op_with}
 use Rattle.doc_model.specs.declared.operations.Op.{Op}
-use Rattle.doc_model.specs.declared.operations.Op.TheVariants.{Put, Del, Add, Get, Next, Count}
+use Rattle.doc_model.specs.declared.operations.Op.TheVariants.{Put, Del, Add, Get, Next, Count, PutIf, Rev}
 use Rattle.doc_model.proofs.PartPlaces.{parts_same, carried, length-words, words_fit}
 use Rattle.doc_model.proofs.WordTexts.{below, key_from_test, key_passes, document_from_test, document_passes, no_text, key_text, document_text, only_key, neither}
 
-op_kind_small : (kind : ℕ) (a b c d e f : Bool) →
-    cond (eqb kind 1) a (cond (eqb kind 2 || eqb kind 4) b (cond (eqb kind 3) c (cond (eqb kind 5) d ((eqb kind 6 && e) && f)))) ≡ true → kind < 7
-op_kind_small kind a b c d e f passes = grind (arith, nat_tests)
+op_kind_small : (kind : ℕ) (a b c d e f g : Bool) →
+    cond (eqb kind 1) a (cond ((eqb kind 2 || eqb kind 4) || eqb kind 8) b (cond (eqb kind 3) c (cond (eqb kind 5) d (cond (eqb kind 7) g ((eqb kind 6 && e) && f))))) ≡ true → kind < 9
+op_kind_small kind a b c d e f g passes = grind (arith, nat_tests)
 
 next_op : (key : List ℕ) → IsKey key ⊎ (key ≡ []) → IsOp (Next key)
 next_op [] either = tt
@@ -78,10 +78,21 @@ module _ (key document : List ℕ) (number : ℕ) (small : number < 2 ^ 64) (doc
       let number_is = eqb-true number 0 parts.1 in
       record { limits = tt; amount = tt; has = cc }
 
+  read_put_if : Read 7
+  read_put_if passes =
+      let texts = and_parts (is_key key) (is_document document) passes in
+      record { limits = (key_from_test key texts.0, document_from_test document document_is texts.1); amount = small; has = refl }
+
+  read_rev : Read 8
+  read_rev passes =
+      let parts = and_parts (has_key_only key document) (number == 0) passes in
+      let texts = only_key key document parts.0 in
+      record { limits = texts.0; amount = tt; has = ap₂ (words_with 8 key) (sym texts.1) (sym (eqb-true number 0 parts.1)) }
+
   pub op_read : (kind : ℕ) → Read kind
   op_read kind passes =
-      below Read 7 (((((((tt, λ no. absurd (false≢true no)), read_put), read_del), read_add), read_get), read_next), read_count) kind
-      (op_kind_small kind (is_key key && is_document document && number == 0) (has_key_only key document && number == 0) (has_key_only key document) ((has_key_only key document || has_no_text key document) && number == 0) (has_no_text key document) (number == 0) passes)
+      below Read 9 (((((((((tt, λ no. absurd (false≢true no)), read_put), read_del), read_add), read_get), read_next), read_count), read_put_if), read_rev) kind
+      (op_kind_small kind (is_key key && is_document document && number == 0) (has_key_only key document && number == 0) (has_key_only key document) ((has_key_only key document || has_no_text key document) && number == 0) (has_no_text key document) (number == 0) (is_key key && is_document document) passes)
       passes
 
 -- the parts of an operation
@@ -92,6 +103,8 @@ op_kind (Add key amount) = 3
 op_kind (Get key) = 4
 op_kind (Next above) = 5
 op_kind Count = 6
+op_kind (PutIf key revision document) = 7
+op_kind (Rev key) = 8
 
 abbrev pub op_key : Op → List ℕ
 op_key (Put key document) = key
@@ -100,13 +113,17 @@ op_key (Add key amount) = key
 op_key (Get key) = key
 op_key (Next above) = above
 op_key Count = []
+op_key (PutIf key revision document) = key
+op_key (Rev key) = key
 
 abbrev pub op_document : Op → List ℕ
 op_document (Put key document) = document
+op_document (PutIf key revision document) = document
 op_document _ = []
 
 abbrev pub op_number : Op → ℕ
 op_number (Add key amount) = cast_unsigned w64 amount
+op_number (PutIf key revision document) = revision
 op_number _ = 0
 
 pub op_words_are : (op : Op) → op_words op ≡ words_with (op_kind op) (op_key op) (op_document op) (op_number op)
@@ -121,9 +138,12 @@ op_key_text (Get key) is = key_text key is
 op_key_text (Next []) is = no_text 64
 op_key_text (Next (b ∷ above)) is = key_text (b ∷ above) is
 op_key_text Count is = no_text 64
+op_key_text (PutIf key revision document) is = key_text key is.0
+op_key_text (Rev key) is = key_text key is
 
 pub op_document_text : (op : Op) → IsOp op → IsShortText 1024 (op_document op)
 op_document_text (Put key document) is = document_text document is.1
+op_document_text (PutIf key revision document) is = document_text document is.1
 op_document_text op is = no_text 1024
 
 only_key_passes : (key : List ℕ) → IsKey key → has_key_only key [] ≡ true
@@ -141,6 +161,8 @@ op_has (Next (b ∷ above)) is =
     let key = b ∷ above in
     and_from (has_key_only key [] || has_no_text key []) true (or_left (has_key_only key []) (has_no_text key []) (only_key_passes key is)) refl
 op_has Count is = refl
+op_has (PutIf key revision document) is = and_from (is_key key) (is_document document) (key_passes key is.0) (document_passes document is.1)
+op_has (Rev key) is = and_from (has_key_only key []) true (only_key_passes key is) refl
 
 -- and of this one
 pub op_again : (op : Op) → HasIntegerAmount op → op_with (op_kind op) (op_key op) (op_document op) (op_number op) ≡ op
@@ -186,6 +208,7 @@ module _ (words : List ℕ) (kind : ℕ) (key document : List ℕ) (number : ℕ
 
 number_small : (op : Op) → HasIntegerAmount op → op_number op < 2 ^ 64
 number_small (Add key amount) fits = omega (arith, ints)
+number_small (PutIf key revision document) fits = fits
 number_small op fits = omega arith
 
 kind_small : (op : Op) → op_kind op < 2 ^ 64
@@ -201,7 +224,7 @@ op_words_fit op is amount =
     )
 
 -- which operations only read
-pub reads_by_kind : (op : Op) → only_reads op ≡ (nat_le 4 (get_or (op_words op) 0 0) && nat_le (get_or (op_words op) 0 0) 6)
+pub reads_by_kind : (op : Op) → only_reads op ≡ is_reading_kind (get_or (op_words op) 0 0)
 unfolding words_in
 reads_by_kind (Put key document) = refl
 reads_by_kind op = refl

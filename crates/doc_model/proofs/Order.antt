@@ -89,10 +89,10 @@ KeysRise-between key document (p ∷ front) back rises rest below above =
     )
 
 -- a test that passes all keeps all, and one that passes none keeps none
-pub filter_all : (test : List ℕ × List ℕ → Bool) (store : Store) → All (λ p. test p ≡ true) store → filter test store ≡ store
+pub filter_all : {A : Type 0} (test : A → Bool) (store : List A) → All (λ p. test p ≡ true) store → filter test store ≡ store
 filter_all test [] h = refl
 filter_all test (p ∷ store) h = rw (All-head (λ p. test p ≡ true) p store h) (ap (λ s. p ∷ s) (filter_all test store (All-tail (λ p. test p ≡ true) p store h)))
 
-pub filter_none : (test : List ℕ × List ℕ → Bool) (store : Store) → All (λ p. test p ≡ false) store → filter test store ≡ []
+pub filter_none : {A : Type 0} (test : A → Bool) (store : List A) → All (λ p. test p ≡ false) store → filter test store ≡ []
 filter_none test [] h = refl
 filter_none test (p ∷ store) h = rw (All-head (λ p. test p ≡ false) p store h) (filter_none test store (All-tail (λ p. test p ≡ false) p store h))

@@ -9,12 +9,12 @@ use Rattle.std.proofs.lemmas.Bool.Decides.{nat_tests}
 use Rattle.doc_model.specs.Words.{words_with, reply_words, IsReply, HasWordNumber, AreOfNoReply}
 use Rattle.doc_model.specs.WordParts.{IsShortText, is_key, is_document, has_key_only, has_no_text, has_reply, reply_with}
 use Rattle.doc_model.specs.declared.operations.Reply.{Reply}
-use Rattle.doc_model.specs.declared.operations.Reply.TheVariants.{New, Replaced, Deleted, Absent, Doc, Sum, NotNumber, Overflow, NoRoom, Key, Number}
+use Rattle.doc_model.specs.declared.operations.Reply.TheVariants.{New, Replaced, Deleted, Absent, Doc, Sum, NotNumber, Overflow, NoRoom, Key, Number, Set, Stale, Revision}
 use Rattle.doc_model.proofs.PartPlaces.{parts_same, carried, length-words, words_fit}
 use Rattle.doc_model.proofs.WordTexts.{below, key_passes, document_from_test, document_passes, no_text, key_text, document_text, only_key, neither}
 
 reply_kind_small : (kind : ℕ) (a b c e f : Bool) →
-    cond (eqb kind 5) a (cond (eqb kind 10) b (cond (eqb kind 6 || eqb kind 11) c (((leb 1 kind && leb kind 9) && e) && f))) ≡ true → kind < 12
+    cond (eqb kind 5) a (cond (eqb kind 10) b (cond (eqb kind 6 || (leb 11 kind && leb kind 14)) c (((leb 1 kind && leb kind 9) && e) && f))) ≡ true → kind < 15
 reply_kind_small kind a b c e f passes = grind (arith, nat_tests)
 
 -- a reply that is within the limits and has these words
@@ -58,15 +58,15 @@ module _ (key document : List ℕ) (number : ℕ) (small : number < 2 ^ 64) (doc
       let texts = only_key key document parts.0 in
       record { limits = texts.0; number = tt; has = ap₂ (words_with 10 key) (sym texts.1) (sym (eqb-true number 0 parts.1)) }
 
-  read_number : Read 11
-  read_number passes =
+  numbered : (kind : ℕ) → has_no_text key document ≡ true → words_with kind [] [] number ≡ words_with kind key document number
+  numbered kind passes =
       let texts = neither key document passes in
-      record { limits = tt; number = small; has = ap₂ (λ k d. words_with 11 k d number) (sym texts.0) (sym texts.1) }
+      ap₂ (λ k d. words_with kind k d number) (sym texts.0) (sym texts.1)
 
   pub reply_read : (kind : ℕ) → Read kind
   reply_read kind passes =
       let plain : (kind : ℕ) → (has_no_text key document && number == 0) ≡ true → words_with kind [] [] 0 ≡ words_with kind key document number = plain_words in
-      below Read 12 (
+      below Read 15 (
         (
           (
             (
@@ -78,30 +78,39 @@ module _ (key document : List ℕ) (number : ℕ) (small : number < 2 ^ 64) (doc
                         (
                           (
                             (
-                              tt,
-                              λ no. absurd (false≢true no),
+                              (
+                                (
+                                  (
+                                    tt,
+                                    λ no. absurd (false≢true no),
+                                  ),
+                                  λ p. record { limits = tt; number = tt; has = plain 1 p },
+                                ),
+                                λ p. record { limits = tt; number = tt; has = plain 2 p },
+                              ),
+                              λ p. record { limits = tt; number = tt; has = plain 3 p },
                             ),
-                            λ p. record { limits = tt; number = tt; has = plain 1 p },
+                            λ p. record { limits = tt; number = tt; has = plain 4 p },
                           ),
-                          λ p. record { limits = tt; number = tt; has = plain 2 p },
+                          read_document,
                         ),
-                        λ p. record { limits = tt; number = tt; has = plain 3 p },
+                        read_sum,
                       ),
-                      λ p. record { limits = tt; number = tt; has = plain 4 p },
+                      λ p. record { limits = tt; number = tt; has = plain 7 p },
                     ),
-                    read_document,
+                    λ p. record { limits = tt; number = tt; has = plain 8 p },
                   ),
-                  read_sum,
+                  λ p. record { limits = tt; number = tt; has = plain 9 p },
                 ),
-                λ p. record { limits = tt; number = tt; has = plain 7 p },
+                read_key,
               ),
-              λ p. record { limits = tt; number = tt; has = plain 8 p },
+              λ p. record { limits = tt; number = small; has = numbered 11 p },
             ),
-            λ p. record { limits = tt; number = tt; has = plain 9 p },
+            λ p. record { limits = tt; number = small; has = numbered 12 p },
           ),
-          read_key,
+          λ p. record { limits = tt; number = small; has = numbered 13 p },
         ),
-        read_number,
+        λ p. record { limits = tt; number = small; has = numbered 14 p },
       ) kind
       (reply_kind_small kind ((length key == 0 && is_document document) && number == 0) (has_key_only key document && number == 0) (has_no_text key document) (has_no_text key document) (number == 0) passes)
       passes
@@ -119,6 +128,9 @@ reply_kind Overflow = 8
 reply_kind NoRoom = 9
 reply_kind (Key key) = 10
 reply_kind (Number number) = 11
+reply_kind (Set revision) = 12
+reply_kind (Stale revision) = 13
+reply_kind (Revision revision) = 14
 
 abbrev pub reply_key : Reply → List ℕ
 reply_key (Key key) = key
@@ -131,6 +143,9 @@ reply_document _ = []
 abbrev pub reply_number : Reply → ℕ
 reply_number (Sum sum) = cast_unsigned w64 sum
 reply_number (Number number) = number
+reply_number (Set revision) = revision
+reply_number (Stale revision) = revision
+reply_number (Revision revision) = revision
 reply_number _ = 0
 
 pub reply_words_are : (reply : Reply) → reply_words reply ≡ words_with (reply_kind reply) (reply_key reply) (reply_document reply) (reply_number reply)
@@ -191,6 +206,9 @@ module _ (words : List ℕ) (kind : ℕ) (key document : List ℕ) (number : ℕ
 number_small : (reply : Reply) → HasWordNumber reply → reply_number reply < 2 ^ 64
 number_small (Sum sum) fits = omega (arith, ints)
 number_small (Number number) fits = fits
+number_small (Set revision) fits = fits
+number_small (Stale revision) fits = fits
+number_small (Revision revision) fits = fits
 number_small reply fits = omega arith
 
 kind_small : (reply : Reply) → reply_kind reply < 2 ^ 64

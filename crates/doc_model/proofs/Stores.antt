@@ -1,6 +1,6 @@
 -- What an operation keeps of a store.
-use Rattle.std.proofs.Common.{◌≡◌, ℕ, suc, ◌^◌, ◌<◌, ◌≤◌, Bool, true, false, cond, List, ◌∷◌, Option, Some, None, Result, Ok, Err, OnOk, OnErr, refl, sym, arith, subst}
-use Rattle.std.specs.Prelude.{ℤ, pos, negsuc, ◌+ℤ◌}
+use Rattle.std.proofs.Common.{◌≡◌, ℕ, suc, ◌^◌, ◌<◌, ◌≤◌, true, List, ◌∷◌, refl, arith}
+use Rattle.std.specs.Prelude.{ℤ, pos, negsuc}
 use Rattle.std.specs.List.{All}
 use Rattle.std.specs.Fmt.{decimal, signed_decimal}
 use Rattle.std.specs.Ordering.{is_lt}
@@ -11,11 +11,8 @@ use Rattle.std.proofs.lemmas.Fmt.{digits_decimal, decimal_nonempty, length-decim
 use Rattle.std.proofs.lemmas.Str.Parse.{digit_at}
 use Rattle.std.proofs.lemmas.List.Elements.{All-append, All-cons, All-filter, All-from_get_or, filter_passes}
 use Rattle.cx_base.specs.Store.{Store, KeysRise, key_cmp, IsKey, IsDocument, IsStore}
-use Rattle.doc_model.specs.Meaning.{IsOp, pairs_below, pairs_above, with_pair, without_key, has_room, number_at, store_after_put, store_after_sum, store_after_add, store_after, only_reads}
+use Rattle.doc_model.specs.Meaning.{pairs_below, pairs_above, with_pair, without_key}
 use Rattle.plain_text.specs.Number.{is_i64}
-use Rattle.doc_model.specs.declared.operations.Op.{Op}
-use Rattle.doc_model.specs.declared.operations.Op.TheVariants.{Put, Del, Add, Get, Next, Count}
-use Rattle.doc_model.specs.declared.operations.Reply.{Reply}
 use Rattle.plain_text.proofs.Numerals.{numerals}
 use Rattle.doc_model.proofs.Order.{IsBelow, IsAbove, KeysRise-filter, KeysRise-append, KeysRise-between}
 
@@ -43,38 +40,6 @@ with_pair_rises key document store rising = KeysRise-between key document (pairs
 
 pub without_key_rises : (key : List ℕ) (store : Store) → KeysRise store → KeysRise (without_key key store)
 without_key_rises key store rising = KeysRise-append key (pairs_below key store) (pairs_above key store) (below_rises key store rising) (above_rises key store rising) (all_below key store) (all_above key store)
-
--- one of two stores, both of which have a property
-either : (P : Store → Type 0) (b : Bool) (x y : Store) → P x → P y → P (cond b x y)
-either P true x y p q = p
-either P false x y p q = q
-
--- what holds of the store, and of each store with a lawful pair more or a key less, holds after each operation
-module _ (P : Store → Type 0) (lines : ℕ) (store : Store) (before : P store) where
-  after_put : (key document : List ℕ) → P (with_pair key document store) → P (store_after_put lines store key document)
-  after_put key document changed = either P (has_room lines (with_pair key document store)) (with_pair key document store) store changed before
-
-  after_sum : (key : List ℕ) (sum : ℤ) → (is_i64 sum ≡ true → P (with_pair key (signed_decimal sum) store)) → P (store_after_sum lines store key sum)
-  after_sum key sum changed =
-      elim (is_i64 sum) as (λ b. (b ≡ true → P (with_pair key (signed_decimal sum) store)) → P (cond b (store_after_put lines store key (signed_decimal sum)) store)) [
-        | true ↦ λ f. after_put key (signed_decimal sum) (f refl)
-        | false ↦ λ f. before
-      ] changed
-
-  after_add : (key : List ℕ) (amount : ℤ) (number : Option ℤ) → ((sum : ℤ) → is_i64 sum ≡ true → P (with_pair key (signed_decimal sum) store)) → P (store_after_add lines store key amount number)
-  after_add key amount None changed = before
-  after_add key amount (Some number) changed = after_sum key (number +ℤ amount) (changed (number +ℤ amount))
-
-pub keys_rise_after : (lines : ℕ) (store : Store) (op : Op) → KeysRise store → KeysRise (store_after lines store op)
-keys_rise_after lines store (Put key document) rising = after_put KeysRise lines store rising key document (with_pair_rises key document store rising)
-keys_rise_after lines store (Del key) rising = without_key_rises key store rising
-keys_rise_after lines store (Add key amount) rising = after_add KeysRise lines store rising key amount (number_at key store) (λ sum fits. with_pair_rises key (signed_decimal sum) store rising)
-keys_rise_after lines store op rising = rising
-
--- so they do after a step that may have failed
-pub rise_after_step : {E : Type 0} (lines : ℕ) (store new : Store) (op : Op) (r : Result Reply E) → KeysRise store → OnOk r (new ≡ store_after lines store op) → OnErr r (new ≡ store) → KeysRise new
-rise_after_step lines store new op (Ok reply) rising next err = subst KeysRise (sym next) (keys_rise_after lines store op rising)
-rise_after_step lines store new op (Err e) rising next err = subst KeysRise (sym err) rising
 
 -- a pair within the limits keeps the limits
 All-with_pair : (P : List ℕ × List ℕ → Type 0) (key document : List ℕ) (store : Store) → P (key, document) → All P store → All P (with_pair key document store)
@@ -119,16 +84,3 @@ IsDocument-signed_decimal (negsuc n) h =
       short = omega (arith, length-decimal-le 20 (suc n) (omega arith) (omega arith) small);
       plain = All-cons (λ b. (32 ≤ b) × (b < 256)) 45 (decimal (suc n)) (omega arith, omega arith) (decimal_plain (suc n) small);
     }
-
-pub IsStore-after : (lines : ℕ) (store : Store) (op : Op) → IsStore store → IsOp op → IsStore (store_after lines store op)
-IsStore-after lines store (Put key document) lawful within = after_put IsStore lines store lawful key document (IsStore-with_pair key document store within.0 within.1 lawful)
-IsStore-after lines store (Del key) lawful within = IsStore-without_key key store lawful
-IsStore-after lines store (Add key amount) lawful within = after_add IsStore lines store lawful key amount (number_at key store) (λ sum fits. IsStore-with_pair key (signed_decimal sum) store within (IsDocument-signed_decimal sum fits) lawful)
-IsStore-after lines store op lawful within = lawful
-
--- an operation that only reads leaves the store
-pub reading_leaves : (lines : ℕ) (store : Store) (op : Op) → only_reads op ≡ true → store_after lines store op ≡ store
-reading_leaves lines store (Put key document) h = cc
-reading_leaves lines store (Del key) h = cc
-reading_leaves lines store (Add key amount) h = cc
-reading_leaves lines store op h = refl

@@ -1,15 +1,16 @@
--- What each operation of the document store means: its reply, and the store after it.
-use Rattle.std.specs.Prelude.{◌-◌, ℕ, Bool, true, false, nat_le, List, [], ◌∷◌, ◌++◌, length, filter, Option, None, Some, is_some, if◌then◌else◌, ℤ, pos, ◌+ℤ◌}
+-- What each operation of the document store means: its reply, and the store after it. Replies are told by pairs, but for those with a revision.
+use Rattle.std.specs.Prelude.{◌-◌, ℕ, Bool, true, false, nat_le, ◌==◌, List, [], ◌∷◌, ◌++◌, length, filter, Option, None, Some, is_some, if◌then◌else◌, ℤ, pos, ◌+ℤ◌}
 use Rattle.std.specs.Option.{option_map, option_map_or}
 use Rattle.std.specs.Ordering.{is_lt, is_eq}
 use Rattle.std.specs.List.{find}
 use Rattle.std.specs.Fmt.{signed_decimal}
 use Rattle.cx_base.specs.Store.{Store, key_cmp, lines_of, IsKey, IsDocument}
 use Rattle.plain_text.specs.Number.{integer_of, is_i64}
+use Rattle.doc_model.specs.Revisions.{RevisedStore, pairs_in, revision_at, next_revision, written, removed}
 use Rattle.doc_model.specs.declared.operations.Op.{Op}
-use Rattle.doc_model.specs.declared.operations.Op.TheVariants.{Put, Del, Add, Get, Next, Count}
+use Rattle.doc_model.specs.declared.operations.Op.TheVariants.{Put, Del, Add, Get, Next, Count, PutIf, Rev}
 use Rattle.doc_model.specs.declared.operations.Reply.{Reply}
-use Rattle.doc_model.specs.declared.operations.Reply.TheVariants.{New, Replaced, Deleted, Absent, Doc, Sum, NotNumber, Overflow, NoRoom, Key, Number}
+use Rattle.doc_model.specs.declared.operations.Reply.TheVariants.{New, Replaced, Deleted, Absent, Doc, Sum, NotNumber, Overflow, NoRoom, Key, Number, Set, Stale, Revision}
 
 -- an operation whose key and document are within the limits
 abbrev pub IsOp : Op → Type 0
@@ -20,6 +21,8 @@ IsOp (Get key) = IsKey key
 IsOp (Next []) = Unit {0}
 IsOp (Next (b ∷ above)) = IsKey (b ∷ above)
 IsOp Count = Unit {0}
+IsOp (PutIf key revision document) = IsKey key × IsDocument document
+IsOp (Rev key) = IsKey key
 
 -- the document of a key
 abbrev pub document_at : List ℕ → Store → Option (List ℕ)
@@ -54,9 +57,29 @@ put_reply lines store key document =
     then (if is_some (document_at key store) then Replaced else New)
     else NoRoom
 
-abbrev pub store_after_put : ℕ → Store → List ℕ → List ℕ → Store
+abbrev pub store_after_put : ℕ → RevisedStore → List ℕ → List ℕ → RevisedStore
 store_after_put lines store key document =
-    if has_room lines (with_pair key document store) then with_pair key document store else store
+    if has_room lines (with_pair key document (pairs_in store)) then written key document store else store
+
+-- the revision of a key, and 0 where it is missing
+abbrev pub standing_revision : List ℕ → RevisedStore → ℕ
+standing_revision key store = option_map_or (λ r. r) (revision_at key store) 0
+
+-- the reply to a put that tells the revision it gives
+abbrev pub set_reply : ℕ → RevisedStore → List ℕ → List ℕ → Reply
+set_reply lines store key document =
+    if has_room lines (with_pair key document (pairs_in store)) then Set (next_revision store.last) else NoRoom
+
+-- the reply to a put on condition of the revision, and the store after it
+abbrev pub put_if_reply : ℕ → RevisedStore → List ℕ → ℕ → List ℕ → Reply
+put_if_reply lines store key revision document =
+    if standing_revision key store == revision
+    then set_reply lines store key document
+    else Stale (standing_revision key store)
+
+abbrev pub store_after_put_if : ℕ → RevisedStore → List ℕ → ℕ → List ℕ → RevisedStore
+store_after_put_if lines store key revision document =
+    if standing_revision key store == revision then store_after_put lines store key document else store
 
 -- the reply to an addition that makes this sum, and the store after it
 abbrev pub sum_reply : ℕ → Store → List ℕ → ℤ → Reply
@@ -65,7 +88,7 @@ sum_reply lines store key sum =
     then (if has_room lines (with_pair key (signed_decimal sum) store) then Sum sum else NoRoom)
     else Overflow
 
-abbrev pub store_after_sum : ℕ → Store → List ℕ → ℤ → Store
+abbrev pub store_after_sum : ℕ → RevisedStore → List ℕ → ℤ → RevisedStore
 store_after_sum lines store key sum =
     if is_i64 sum then store_after_put lines store key (signed_decimal sum) else store
 
@@ -74,7 +97,7 @@ abbrev pub add_reply : ℕ → Store → List ℕ → ℤ → Option ℤ → Rep
 add_reply lines store key amount None = NotNumber
 add_reply lines store key amount (Some before) = sum_reply lines store key (before +ℤ amount)
 
-abbrev pub store_after_add : ℕ → Store → List ℕ → ℤ → Option ℤ → Store
+abbrev pub store_after_add : ℕ → RevisedStore → List ℕ → ℤ → Option ℤ → RevisedStore
 store_after_add lines store key amount None = store
 store_after_add lines store key amount (Some before) = store_after_sum lines store key (before +ℤ amount)
 
@@ -84,28 +107,28 @@ least_key [] = Absent
 least_key (p ∷ store) = Key p.0
 
 -- the reply to an operation, in a store that has so many lines
-abbrev pub reply_to : ℕ → Store → Op → Reply
-reply_to lines store (Put key document) = put_reply lines store key document
-reply_to lines store (Del key) = if is_some (document_at key store) then Deleted else Absent
-reply_to lines store (Add key amount) = add_reply lines store key amount (number_at key store)
-reply_to lines store (Get key) = option_map_or Doc (document_at key store) Absent
-reply_to lines store (Next above) = least_key (pairs_above above store)
-reply_to lines store Count = Number (length store)
+abbrev pub reply_to : ℕ → RevisedStore → Op → Reply
+reply_to lines store (Put key document) = put_reply lines (pairs_in store) key document
+reply_to lines store (Del key) = if is_some (document_at key (pairs_in store)) then Deleted else Absent
+reply_to lines store (Add key amount) = add_reply lines (pairs_in store) key amount (number_at key (pairs_in store))
+reply_to lines store (Get key) = option_map_or Doc (document_at key (pairs_in store)) Absent
+reply_to lines store (Next above) = least_key (pairs_above above (pairs_in store))
+reply_to lines store Count = Number (length (pairs_in store))
+reply_to lines store (PutIf key revision document) = put_if_reply lines store key revision document
+reply_to lines store (Rev key) = option_map_or Revision (revision_at key store) Absent
 
 -- the store after it
-abbrev pub store_after : ℕ → Store → Op → Store
+abbrev pub store_after : ℕ → RevisedStore → Op → RevisedStore
 store_after lines store (Put key document) = store_after_put lines store key document
-store_after lines store (Del key) = without_key key store
-store_after lines store (Add key amount) = store_after_add lines store key amount (number_at key store)
-store_after lines store (Get key) = store
-store_after lines store (Next above) = store
-store_after lines store Count = store
+store_after lines store (Del key) = removed key store
+store_after lines store (Add key amount) = store_after_add lines store key amount (number_at key (pairs_in store))
+store_after lines store (PutIf key revision document) = store_after_put_if lines store key revision document
+store_after lines store op = store
 
 -- whether an operation only reads
 abbrev pub only_reads : Op → Bool
 only_reads (Put key document) = false
 only_reads (Del key) = false
 only_reads (Add key amount) = false
-only_reads (Get key) = true
-only_reads (Next above) = true
-only_reads Count = true
+only_reads (PutIf key revision document) = false
+only_reads op = true

@@ -5,9 +5,9 @@ use Rattle.std.specs.Int.{w64, cast_signed}
 use Rattle.cx_base.specs.Packing.{byte_at, unpacked}
 use Rattle.doc_model.specs.Words.{words_with}
 use Rattle.doc_model.specs.declared.operations.Op.{Op}
-use Rattle.doc_model.specs.declared.operations.Op.TheVariants.{Put, Del, Add, Get, Next, Count}
+use Rattle.doc_model.specs.declared.operations.Op.TheVariants.{Put, Del, Add, Get, Next, Count, PutIf, Rev}
 use Rattle.doc_model.specs.declared.operations.Reply.{Reply}
-use Rattle.doc_model.specs.declared.operations.Reply.TheVariants.{New, Replaced, Deleted, Absent, Doc, Sum, NotNumber, Overflow, NoRoom, Key, Number}
+use Rattle.doc_model.specs.declared.operations.Reply.TheVariants.{New, Replaced, Deleted, Absent, Doc, Sum, NotNumber, Overflow, NoRoom, Key, Number, Set, Stale, Revision}
 
 -- from one number to another
 abbrev pub IsBetween : ℕ → ℕ → ℕ → Type 0
@@ -55,10 +55,11 @@ has_no_text key document = length key == 0 && length document == 0
 abbrev pub has_op : ℕ → List ℕ → List ℕ → ℕ → Bool
 has_op kind key document number =
     if kind == 1 then is_key key && is_document document && number == 0
-    else (if kind == 2 || kind == 4 then has_key_only key document && number == 0
+    else (if kind == 2 || kind == 4 || kind == 8 then has_key_only key document && number == 0
     else (if kind == 3 then has_key_only key document
     else (if kind == 5 then (has_key_only key document || has_no_text key document) && number == 0
-    else kind == 6 && has_no_text key document && number == 0)))
+    else (if kind == 7 then is_key key && is_document document
+    else kind == 6 && has_no_text key document && number == 0))))
 
 -- the operation that has them
 abbrev pub op_with : ℕ → List ℕ → List ℕ → ℕ → Op
@@ -67,14 +68,16 @@ op_with kind key document number =
     else (if kind == 1 then Put key document
     else (if kind == 2 then Del key
     else (if kind == 3 then Add key (cast_signed w64 number)
-    else (if kind == 4 then Get key else Next key))))
+    else (if kind == 4 then Get key
+    else (if kind == 5 then Next key
+    else (if kind == 7 then PutIf key number document else Rev key))))))
 
 -- whether a reply has these parts
 abbrev pub has_reply : ℕ → List ℕ → List ℕ → ℕ → Bool
 has_reply kind key document number =
     if kind == 5 then length key == 0 && is_document document && number == 0
     else (if kind == 10 then has_key_only key document && number == 0
-    else (if kind == 6 || kind == 11 then has_no_text key document
+    else (if kind == 6 || nat_le 11 kind && nat_le kind 14 then has_no_text key document
     else nat_le 1 kind && nat_le kind 9 && has_no_text key document && number == 0))
 
 -- the reply that has them
@@ -89,4 +92,7 @@ reply_with kind key document number =
     else (if kind == 7 then NotNumber
     else (if kind == 8 then Overflow
     else (if kind == 9 then NoRoom
-    else (if kind == 10 then Key key else Number number)))))))))
+    else (if kind == 10 then Key key
+    else (if kind == 11 then Number number
+    else (if kind == 12 then Set number
+    else (if kind == 13 then Stale number else Revision number))))))))))))

@@ -1,13 +1,13 @@
 -- Operations and replies as words: a kind, a key, a document and a number.
-use Rattle.std.specs.Prelude.{◌≡◌, ◌≢◌, ◌^◌, ◌<◌, ℕ, List, [], ◌∷◌, ◌++◌, length, FitsSigned}
+use Rattle.std.specs.Prelude.{◌≡◌, ◌≢◌, ◌^◌, ◌<◌, ℕ, Bool, ◌&&◌, ◌||◌, ◌==◌, nat_le, List, [], ◌∷◌, ◌++◌, length, FitsSigned}
 use Rattle.std.specs.Int.{w64, cast_unsigned}
 use Rattle.cx_base.specs.Store.{IsKey, IsDocument}
 use Rattle.cx_base.specs.Packing.{packed}
 use Rattle.doc_model.specs.Meaning.{IsOp}
 use Rattle.doc_model.specs.declared.operations.Op.{Op}
-use Rattle.doc_model.specs.declared.operations.Op.TheVariants.{Put, Del, Add, Get, Next, Count}
+use Rattle.doc_model.specs.declared.operations.Op.TheVariants.{Put, Del, Add, Get, Next, Count, PutIf, Rev}
 use Rattle.doc_model.specs.declared.operations.Reply.{Reply}
-use Rattle.doc_model.specs.declared.operations.Reply.TheVariants.{New, Replaced, Deleted, Absent, Doc, Sum, NotNumber, Overflow, NoRoom, Key, Number}
+use Rattle.doc_model.specs.declared.operations.Reply.TheVariants.{New, Replaced, Deleted, Absent, Doc, Sum, NotNumber, Overflow, NoRoom, Key, Number, Set, Stale, Revision}
 
 -- the first eight words
 abbrev pub head_words : ℕ → List ℕ → List ℕ → ℕ → List ℕ
@@ -30,6 +30,12 @@ op_words (Add key amount) = words_with 3 key [] (cast_unsigned w64 amount)
 op_words (Get key) = words_with 4 key [] 0
 op_words (Next above) = words_with 5 above [] 0
 op_words Count = words_with 6 [] [] 0
+op_words (PutIf key revision document) = words_with 7 key document revision
+op_words (Rev key) = words_with 8 key [] 0
+
+-- the kinds of the operations that only read
+abbrev pub is_reading_kind : ℕ → Bool
+is_reading_kind kind = nat_le 4 kind && nat_le kind 6 || kind == 8
 
 -- the words of a reply
 abbrev pub reply_words : Reply → List ℕ
@@ -44,6 +50,9 @@ reply_words Overflow = words_with 8 [] [] 0
 reply_words NoRoom = words_with 9 [] [] 0
 reply_words (Key key) = words_with 10 key [] 0
 reply_words (Number number) = words_with 11 [] [] number
+reply_words (Set revision) = words_with 12 [] [] revision
+reply_words (Stale revision) = words_with 13 [] [] revision
+reply_words (Revision revision) = words_with 14 [] [] revision
 
 -- a reply whose key or document is within the limits
 abbrev pub IsReply : Reply → Type 0
@@ -51,15 +60,19 @@ IsReply (Doc document) = IsDocument document
 IsReply (Key key) = IsKey key
 IsReply _ = Unit {0}
 
--- the amount of an operation is a 64-bit integer, as each amount of the program is
+-- the amount of an operation is a 64-bit integer and its revision has 64 bits, as each of the program does
 abbrev pub HasIntegerAmount : Op → Type 0
 HasIntegerAmount (Add key amount) = FitsSigned w64 amount
+HasIntegerAmount (PutIf key revision document) = revision < 2 ^ 64
 HasIntegerAmount _ = Unit {0}
 
 -- the number of a reply has 64 bits
 abbrev pub HasWordNumber : Reply → Type 0
 HasWordNumber (Sum sum) = FitsSigned w64 sum
 HasWordNumber (Number number) = number < 2 ^ 64
+HasWordNumber (Set revision) = revision < 2 ^ 64
+HasWordNumber (Stale revision) = revision < 2 ^ 64
+HasWordNumber (Revision revision) = revision < 2 ^ 64
 HasWordNumber _ = Unit {0}
 
 -- an operation within the limits, which has these words

@@ -9,17 +9,39 @@ use std::marker::Model;
 #[derive(Drop)]
 pub enum Op {
     /// Sets the document of a key.
-    Put { key: Bytes, doc: Bytes },
+    Put {
+        key: Bytes,
+        doc: Bytes,
+    },
     /// Removes a key.
-    Del { key: Bytes },
+    Del {
+        key: Bytes,
+    },
     /// Adds to the number that is the document of a key. A missing key counts as 0.
-    Add { key: Bytes, amount: i64 },
+    Add {
+        key: Bytes,
+        amount: i64,
+    },
     /// Asks for the document of a key.
-    Get { key: Bytes },
+    Get {
+        key: Bytes,
+    },
     /// Asks for the least key above this one. It may be empty, and then any key is above it.
-    Next { above: Bytes },
+    Next {
+        above: Bytes,
+    },
     /// Asks for the number of pairs.
     Count,
+    /// Sets the document of a key whose revision is this one. A missing key counts as one of revision 0.
+    PutIf {
+        key: Bytes,
+        revision: u64,
+        doc: Bytes,
+    },
+    /// Asks for the revision of a key.
+    Rev {
+        key: Bytes,
+    },
 }
 
 impl Op {
@@ -29,7 +51,10 @@ impl Op {
     pub fn only_reads(&self) -> bool
         ensures { result ≡ only_reads self.now }
     {
-        matches!(self, Op::Get { .. } | Op::Next { .. } | Op::Count)
+        matches!(
+            self,
+            Op::Get { .. } | Op::Next { .. } | Op::Count | Op::Rev { .. }
+        )
     }
 }
 
@@ -58,19 +83,26 @@ pub enum Reply {
     Key(Bytes),
     /// The number of pairs.
     Number(u64),
+    /// The document was set, and has this revision.
+    Set(u64),
+    /// The key has this revision and not the one that was asked for, and 0 where it is missing. Nothing has changed.
+    Stale(u64),
+    /// The revision of the key.
+    Revision(u64),
 }
 
-/// A key and its document.
+/// A key and its document, and the revision that its last write gave it.
 #[derive(Drop)]
 pub struct Pair {
     pub key: Bytes,
     pub doc: Bytes,
+    pub revision: u64,
 }
 
 impl Model for Pair {
     ghost use Rattle.std.specs.Prelude.{List, ℕ};
 
-    ghost Value = { List ℕ × List ℕ };
+    ghost Value = { (List ℕ × List ℕ) × ℕ };
 
-    ghost view = { λ p. (p.key, p.doc) };
+    ghost view = { λ p. ((p.key, p.doc), p.revision) };
 }

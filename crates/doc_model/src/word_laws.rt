@@ -1,9 +1,9 @@
 //! What holds of the words of operations and replies.
 
-ghost use Rattle.std.specs.Prelude.{◌≡◌, ◌+◌, ◌^◌, ◌<◌, ℕ, List, All, ◌&&◌, nat_le, length, slice_index};
+ghost use Rattle.std.specs.Prelude.{◌≡◌, ◌+◌, ◌^◌, ◌<◌, ℕ, List, All, length, slice_index};
 ghost use Rattle.cx_base.specs.Packing.{packed_at};
 ghost use Rattle.doc_model.specs.Meaning.{IsOp, only_reads};
-ghost use Rattle.doc_model.specs.Words.{words_with, op_words, reply_words, IsReply, HasIntegerAmount, HasWordNumber};
+ghost use Rattle.doc_model.specs.Words.{words_with, op_words, reply_words, IsReply, HasIntegerAmount, HasWordNumber, is_reading_kind};
 ghost use Rattle.doc_model.specs.declared.operations.Op.{Op};
 ghost use Rattle.doc_model.specs.declared.operations.Reply.{Reply};
 
@@ -24,9 +24,9 @@ pub fn words_are_words()
     ensures replies { (reply : Reply) → IsReply reply → HasWordNumber reply → (length (reply_words reply) ≡ 144) × All (λ w. w < 2 ^ 64) (reply_words reply) }
 {}
 
-/// The kinds of the operations that only read are 4 to 6, and those of the others are not.
+/// The kinds of the operations that only read are 4 to 6 and 8, and those of the others are not.
 pub fn kinds_tell_readings()
-    ensures { (op : Op) → only_reads op ≡ (nat_le 4 (slice_index (op_words op) 0) && nat_le (slice_index (op_words op) 0) 6) }
+    ensures { (op : Op) → only_reads op ≡ is_reading_kind (slice_index (op_words op) 0) }
 {}
 
 /// Where the parts stand in their words.

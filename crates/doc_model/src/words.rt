@@ -61,6 +61,13 @@ pub fn op_words(op: &Op) -> [u64; 144]
         Op::Get { key } => words_with(4, key.as_slice(), &[], 0),
         Op::Next { above } => words_with(5, above.as_slice(), &[], 0),
         Op::Count => words_with(6, &[], &[], 0),
+        Op::PutIf { key, revision, doc } => words_with(
+            7,
+            key.as_slice(),
+            doc.as_slice(),
+            *revision,
+        ),
+        Op::Rev { key } => words_with(8, key.as_slice(), &[], 0),
     }
 }
 
@@ -81,6 +88,9 @@ pub fn reply_words(reply: &Reply) -> [u64; 144]
         Reply::NoRoom => words_with(9, &[], &[], 0),
         Reply::Key(key) => words_with(10, key.as_slice(), &[], 0),
         Reply::Number(number) => words_with(11, &[], &[], *number),
+        Reply::Set(revision) => words_with(12, &[], &[], *revision),
+        Reply::Stale(revision) => words_with(13, &[], &[], *revision),
+        Reply::Revision(revision) => words_with(14, &[], &[], *revision),
     }
 }
 
@@ -172,10 +182,11 @@ fn has_op(parts: &Parts) -> bool
     let no_text = parts.key.is_empty() && parts.document.is_empty();
     match parts.kind {
         1 => is_key && parts.document.is_document() && no_number,
-        2 | 4 => only_key && no_number,
+        2 | 4 | 8 => only_key && no_number,
         3 => only_key,
         5 => (only_key || no_text) && no_number,
         6 => no_text && no_number,
+        7 => is_key && parts.document.is_document(),
         _ => false,
     }
 }
@@ -199,7 +210,13 @@ fn op_with(alloc: Global, parts: &Parts) -> Result<Op, AllocError>
             amount: parts.number.cast_signed(),
         }),
         4 => Ok(Op::Get { key }),
-        _ => Ok(Op::Next { above: key }),
+        5 => Ok(Op::Next { above: key }),
+        7 => Ok(Op::PutIf {
+            key,
+            revision: parts.number,
+            doc: parts.document.bytes(alloc)?,
+        }),
+        _ => Ok(Op::Rev { key }),
     }
 }
 
@@ -212,7 +229,7 @@ fn has_reply(parts: &Parts) -> bool
     match parts.kind {
         1..=4 | 7..=9 => no_text && no_number,
         5 => parts.key.is_empty() && parts.document.is_document() && no_number,
-        6 | 11 => no_text,
+        6 | 11..=14 => no_text,
         10 => parts.key.is_key() && parts.document.is_empty() && no_number,
         _ => false,
     }
@@ -233,6 +250,9 @@ fn reply_with(alloc: Global, parts: &Parts) -> Result<Reply, AllocError>
         8 => Ok(Reply::Overflow),
         9 => Ok(Reply::NoRoom),
         10 => Ok(Reply::Key(parts.key.bytes(alloc)?)),
-        _ => Ok(Reply::Number(parts.number)),
+        11 => Ok(Reply::Number(parts.number)),
+        12 => Ok(Reply::Set(parts.number)),
+        13 => Ok(Reply::Stale(parts.number)),
+        _ => Ok(Reply::Revision(parts.number)),
     }
 }

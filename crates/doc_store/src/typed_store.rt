@@ -2,7 +2,7 @@
 
 ghost use Rattle.std.specs.Prelude.{◌^◌, ◌<◌, All, FitsSigned};
 ghost use Rattle.std.specs.Int.{w64};
-ghost use Rattle.cx_base.specs.Store.{Store};
+ghost use Rattle.doc_model.specs.Revisions.{RevisedStore};
 ghost use Rattle.doc_store.specs.DocumentMeaning.{document_meaning};
 ghost use Rattle.doc_store.specs.MeaningLaws.{documents_have_meaning};
 
@@ -17,7 +17,7 @@ impl TypedObject for DocStore {
 
     type Reply = Reply;
 
-    ghost Store = { Store };
+    ghost Store = { RevisedStore };
 
     ghost meaning = { λ s. document_meaning s.lines };
 
@@ -45,8 +45,9 @@ impl TypedObject for DocStore {
 
     fn op_is_a_value(&self, op: &Op) {
         match op {
-            Op::Put { .. } | Op::Del { .. } | Op::Get { .. } | Op::Next { .. } | Op::Count => {}
             Op::Add { amount, .. } => has_64_bits(*amount),
+            Op::PutIf { revision, .. } => is_below(*revision),
+            _ => {}
         }
     }
 
@@ -54,7 +55,10 @@ impl TypedObject for DocStore {
         match reply {
             Reply::Doc(text) | Reply::Key(text) => are_bytes(text.as_slice()),
             Reply::Sum(sum) => has_64_bits(*sum),
-            Reply::Number(number) => is_below(*number),
+            Reply::Number(number)
+            | Reply::Set(number)
+            | Reply::Stale(number)
+            | Reply::Revision(number) => is_below(*number),
             _ => {}
         }
     }

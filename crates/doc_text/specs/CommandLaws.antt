@@ -1,19 +1,19 @@
 -- Commands on documents are read by their rules: what is read is asked for, what is asked for is read, and the reason told is the first that fits.
 use Rattle.std.specs.Prelude.{codes, is_some, ℤ}
-use Rattle.std.specs.Fmt.{signed_decimal}
-use Rattle.std.proofs.Common.{◌≡◌, ℕ, ◌≤◌, ◌<◌, ◌^◌, true, false, cond, leb, List, [], ◌∷◌, ◌++◌, length, Option, None, Some, Ok, Err, refl, sym, ap, subst, ◌∙◌, append_assoc, arith, inl, inr, ltb}
+use Rattle.std.specs.Fmt.{decimal, signed_decimal}
+use Rattle.std.proofs.Common.{◌≡◌, ℕ, ◌≤◌, ◌<◌, ◌^◌, true, false, cond, leb, List, [], ◌∷◌, ◌++◌, length, Option, None, Some, Ok, Err, refl, sym, ap, subst, ◌∙◌, append_assoc, arith, inl, inr, ltb, not}
 use Rattle.std.proofs.lemmas.Bool.{leb-true, le-leb, lt-ltb, leb-false}
 use Rattle.cx_base.specs.Store.{IsKey}
-use Rattle.plain_text.specs.Number.{integer_of, is_i64}
+use Rattle.plain_text.specs.Number.{integer_of, is_i64, number_of}
 use Rattle.plain_text.specs.Words.{first_word, rest_of, is_word}
-use Rattle.plain_text.proofs.Numerals.{signed_decimal-integer_of, integer_of-signed_decimal}
-use Rattle.plain_text.proofs.WordCuts.{word_is, spaced, unspaced, word_cut, word_alone, visible_unspaced, signed_unspaced, whole_word}
+use Rattle.plain_text.proofs.Numerals.{signed_decimal-integer_of, integer_of-signed_decimal, decimal-number_of, number_of-decimal}
+use Rattle.plain_text.proofs.WordCuts.{word_is, spaced, unspaced, word_cut, word_alone, visible_unspaced, decimal_unspaced, signed_unspaced, whole_word}
 use Rattle.serde_json.specs.Data.{Data}
 use Rattle.serde_json.specs.Read.{read as read_json}
 use Rattle.serde_json.specs.Written.{has_float, compact_text}
 use Rattle.doc_model.specs.WordParts.{is_key}
 use Rattle.doc_model.specs.declared.operations.Op.{Op}
-use Rattle.doc_model.specs.declared.operations.Op.TheVariants.{Put, Del, Add, Get, Next, Count}
+use Rattle.doc_model.specs.declared.operations.Op.TheVariants.{Put, Del, Add, Get, Next, Count, PutIf, Rev}
 use Rattle.doc_model.proofs.WordTexts.{key_from_test, key_passes}
 use Rattle.script_text.specs.Reading.{then_ok}
 use Rattle.script_text.specs.Grammar.{ReadsCommands, Row, first_that_fits}
@@ -23,7 +23,7 @@ use Rattle.script_text.specs.Choices.{chosen, then_some, ok_first, ok_second, er
 use Rattle.doc_text.specs.Document.{IsJsonOf, kept_as, document_of}
 use Rattle.doc_text.specs.Grammar.{Asks, commands_in, document_commands, pool_commands}
 use Rattle.doc_text.specs.Reasons.{pool_reason, script_reason}
-use Rattle.doc_text.specs.Reading.{verb_of, only_key, put_with, add_amount, add_with, op_by_verb, asked_op}
+use Rattle.doc_text.specs.Reading.{verb_of, only_key, put_with, put_if_at, put_if_by, put_if_with, add_amount, add_with, op_by_verb, asked_op}
 use Rattle.doc_text.specs.declared.commands.Verb.{Verb}
 use Rattle.doc_text.specs.declared.commands.Verb.TheVariants as verbs
 use Rattle.doc_text.specs.declared.script_parts.Reason.TheVariants as reasons
@@ -37,6 +37,8 @@ verb_name verbs.Add = codes "add"
 verb_name verbs.Get = codes "get"
 verb_name verbs.Next = codes "next"
 verb_name verbs.Count = codes "count"
+verb_name verbs.PutIf = codes "putif"
+verb_name verbs.Rev = codes "rev"
 
 -- one of the names, or a later one
 verb_or : (name word : List ℕ) (v verb : Verb) (others : Option Verb) → verb_name v ≡ name → (others ≡ Some verb → word ≡ verb_name verb)
@@ -55,7 +57,9 @@ verb_is word verb e =
     (verb_or (codes "add") word verbs.Add verb _ refl
     (verb_or (codes "get") word verbs.Get verb _ refl
     (verb_or (codes "next") word verbs.Next verb _ refl
-    (verb_or (codes "count") word verbs.Count verb None refl (λ none. absurd cc)))))) e
+    (verb_or (codes "count") word verbs.Count verb _ refl
+    (verb_or (codes "putif") word verbs.PutIf verb _ refl
+    (verb_or (codes "rev") word verbs.Rev verb None refl (λ none. absurd cc)))))))) e
 
 only_key_is : (text key : List ℕ) → only_key text ≡ Ok key → (text ≡ key) × IsKey key
 only_key_is text key e =
@@ -90,6 +94,41 @@ put_is words (Some json) op rest e =
       key_from_test key is.0,
       kept_is json document.0 (read_json json) refl document.1,
     )
+
+-- a key, a number and JSON, cut at the first two spaces
+three_words : (key number json : List ℕ) → key ++ codes " " ++ number ++ codes " " ++ json ≡ key ++ 32 ∷ (number ++ 32 ∷ json)
+three_words key number json =
+    append_assoc (key ++ codes " " ++ number) (codes " ") json ∙ append_assoc (key ++ codes " ") number (32 ∷ json)
+    ∙ append_assoc key (codes " ") (number ++ 32 ∷ json)
+
+put_if_at_is : (key json : List ℕ) (revision : Option ℕ) (op : Op) → put_if_at key revision json ≡ Ok op
+    → (r : ℕ) × (document : List ℕ) × (revision ≡ Some r) × IsJsonOf json document × (PutIf key r document ≡ op)
+put_if_at_is key json None op e = absurd cc
+put_if_at_is key json (Some r) op e =
+    let document = then_some (PutIf key r) (document_of json) op e in
+    (r, document.0, refl, kept_is json document.0 (read_json json) refl document.1, document.2)
+
+put_if_by_is : (words text : List ℕ) (json : Option (List ℕ)) (op : Op) → rest_of words ≡ Some text → rest_of text ≡ json
+    → put_if_by (first_word words) (first_word text) json ≡ Ok op → Asks op (codes "putif " ++ words)
+put_if_by_is words text None op rest behind e = absurd cc
+put_if_by_is words text (Some json) op rest behind e =
+    let key = first_word words in
+    let is = ok_first (is_key key) reasons.Key (put_if_at key (number_of (first_word text)) json) op e in
+    let (r, document, read, kept, same) = put_if_at_is key json (number_of (first_word text)) op is.1 in
+    let number = decimal-number_of (first_word text) r read in
+    subst (λ (o : Op). Asks o (codes "putif " ++ words)) same (
+      json,
+      ap (λ (t : List ℕ). codes "putif " ++ t) (spaced words text rest
+          ∙ ap (λ (t : List ℕ). key ++ 32 ∷ t) (spaced text json behind ∙ ap (λ (t : List ℕ). t ++ 32 ∷ json) number.0)
+          ∙ sym (three_words key (decimal r) json)),
+      key_from_test key is.0,
+      number.1,
+      kept,
+    )
+
+put_if_is : (words : List ℕ) (text : Option (List ℕ)) (op : Op) → rest_of words ≡ text → put_if_with (first_word words) text ≡ Ok op → Asks op (codes "putif " ++ words)
+put_if_is words None op rest e = absurd cc
+put_if_is words (Some text) op rest e = put_if_by_is words text (rest_of text) op rest refl e
 
 amount_is : (key : List ℕ) (amount : Option ℤ) (op : Op) → add_amount key amount ≡ Ok op → (z : ℤ) × (amount ≡ Some z) × (Add key z ≡ op)
 amount_is key None op e = absurd cc
@@ -139,6 +178,8 @@ with_verb text (Some verbs.Next) (Some words) op v rest e = subst (Asks op) (sym
 with_verb text (Some verbs.Count) None op v rest e =
     let is : Count ≡ op = let h : Ok Count ≡ Ok op = e in cc in
     subst (λ (o : Op). Asks o text) is (alone text verbs.Count v rest)
+with_verb text (Some verbs.PutIf) (Some words) op v rest e = subst (Asks op) (sym (behind text words verbs.PutIf v rest)) (put_if_is words (rest_of words) op refl e)
+with_verb text (Some verbs.Rev) (Some words) op v rest e = subst (Asks op) (sym (behind text words verbs.Rev v rest)) (keyed_is Rev (codes "rev ") words op (λ key same k. (ap (λ (t : List ℕ). codes "rev " ++ t) same, k)) e)
 with_verb text _ words op v rest e = absurd cc
 
 only_key_again : (key : List ℕ) → IsKey key → only_key key ≡ Ok key
@@ -155,6 +196,14 @@ put_again key json document k is =
     let cut = word_cut key json (visible_unspaced key k.visible) in
     rw (cut.0, cut.1, key_passes key k) (ap (then_ok (Put key)) (document_again json document is))
 
+put_if_again : (key : List ℕ) (revision : ℕ) (json document : List ℕ) → IsKey key → revision < 2 ^ 64 → IsJsonOf json document
+    → asked_op (Some (codes "putif " ++ (key ++ 32 ∷ (decimal revision ++ 32 ∷ json)))) ≡ Ok (PutIf key revision document)
+unfolding verb_of
+put_if_again key revision json document k fits is =
+    let cut = word_cut key (decimal revision ++ 32 ∷ json) (visible_unspaced key k.visible) in
+    let next = word_cut (decimal revision) json (decimal_unspaced revision fits) in
+    rw (cut.0, cut.1, next.0, next.1, key_passes key k, number_of-decimal revision fits) (ap (then_ok (PutIf key revision)) (document_again json document is))
+
 add_again : (key : List ℕ) (amount : ℤ) → IsKey key → is_i64 amount ≡ true → asked_op (Some (codes "add " ++ (key ++ 32 ∷ signed_decimal amount))) ≡ Ok (Add key amount)
 unfolding verb_of
 add_again key amount k fits =
@@ -168,6 +217,8 @@ asked_again (Put key document) text (json, spelled, k, is) = rw (spelled, append
 asked_again (Del key) text (spelled, k) = rw spelled (ap (then_ok Del) (only_key_again key k))
 asked_again (Add key amount) text (spelled, k, fits) = rw (spelled, append_assoc key (codes " ") (signed_decimal amount)) (add_again key amount k fits)
 asked_again (Get key) text (spelled, k) = rw spelled (ap (then_ok Get) (only_key_again key k))
+asked_again (PutIf key revision document) text (json, spelled, k, fits, is) = rw (spelled, three_words key (decimal revision) json) (put_if_again key revision json document k fits is)
+asked_again (Rev key) text (spelled, k) = rw spelled (ap (then_ok Rev) (only_key_again key k))
 asked_again (Next (b ∷ above)) text (spelled, k) = rw spelled (ap (then_ok Next) (only_key_again (b ∷ above) k))
 asked_again _ text spelled = rw spelled refl
 
@@ -231,12 +282,33 @@ put_why words (Some json) reason rest e =
       | inr (good, e2) ↦ rw (rest, good) (kept_why json (read_json json) reason refl (then_err (Put (first_word words)) (document_of json) reason e2))
     ]
 
+put_if_at_why : (key json : List ℕ) (revision : Option ℕ) (reason : Reason) → put_if_at key revision json ≡ Err reason
+    → Fits ((not (is_some revision), reasons.Number) ∷ (is_no_value json, reasons.Json) ∷ (has_fraction json, reasons.Fraction) ∷ (is_too_long json, reasons.Long) ∷ []) reason
+put_if_at_why key json None reason e = let same : reasons.Number ≡ reason = cc in rw same refl
+put_if_at_why key json (Some r) reason e = kept_why json (read_json json) reason refl (then_err (PutIf key r) (document_of json) reason e)
+
+put_if_by_why : (words text : List ℕ) (json : Option (List ℕ)) (reason : Reason) → rest_of words ≡ Some text → rest_of text ≡ json
+    → put_if_by (first_word words) (first_word text) json ≡ Err reason → Fits (word_rows (Some verbs.PutIf) (Some words)) reason
+put_if_by_why words text None reason rest behind e = let same : reasons.Command ≡ reason = cc in rw (rest, behind, same) refl
+put_if_by_why words text (Some json) reason rest behind e =
+    elim (err_first (is_key (first_word words)) reasons.Key (put_if_at (first_word words) (number_of (first_word text)) json) reason e) [
+      | inl (bad, same) ↦ rw (rest, behind, bad, same) refl
+      | inr (good, e2) ↦ rw (rest, behind, good) (put_if_at_why (first_word words) json (number_of (first_word text)) reason e2)
+    ]
+
+put_if_why : (words : List ℕ) (text : Option (List ℕ)) (reason : Reason) → rest_of words ≡ text → put_if_with (first_word words) text ≡ Err reason
+    → Fits (word_rows (Some verbs.PutIf) (Some words)) reason
+put_if_why words None reason rest e = let same : reasons.Command ≡ reason = cc in rw (rest, same) refl
+put_if_why words (Some text) reason rest e = put_if_by_why words text (rest_of text) reason rest refl e
+
 pub verb_why : (verb : Option Verb) (words : Option (List ℕ)) (reason : Reason) → op_by_verb verb words ≡ Err reason → Fits (word_rows verb words) reason
 verb_why (Some verbs.Put) (Some words) reason e = put_why words (rest_of words) reason refl e
 verb_why (Some verbs.Del) (Some words) reason e = key_why Del words reason e
 verb_why (Some verbs.Add) (Some words) reason e = add_why words (rest_of words) reason refl e
 verb_why (Some verbs.Get) (Some words) reason e = key_why Get words reason e
 verb_why (Some verbs.Next) (Some words) reason e = key_why Next words reason e
+verb_why (Some verbs.PutIf) (Some words) reason e = put_if_why words (rest_of words) reason refl e
+verb_why (Some verbs.Rev) (Some words) reason e = key_why Rev words reason e
 verb_why (Some verbs.Next) None reason e = absurd cc
 verb_why (Some verbs.Count) None reason e = absurd cc
 verb_why verb words reason e = ap Some cc

@@ -1,7 +1,7 @@
 -- Why a command is refused: the first reason of a table that fits.
 use Rattle.std.specs.Prelude.{ℕ, Bool, true, false, not, nat_lt, List, [], ◌∷◌, length, Option, None, Some, is_some, option_and_then}
 use Rattle.std.specs.Option.{option_map_or}
-use Rattle.plain_text.specs.Number.{integer_of}
+use Rattle.plain_text.specs.Number.{integer_of, number_of}
 use Rattle.plain_text.specs.Words.{first_word, rest_of}
 use Rattle.serde_json.specs.Read.{read as read_json}
 use Rattle.serde_json.specs.Written.{has_float, compact_text}
@@ -17,11 +17,19 @@ use Rattle.doc_text.specs.declared.commands.Verb.TheVariants as verbs
 abbrev pub is_one_word : List ℕ → Bool
 is_one_word text = not (is_some (rest_of text))
 
--- whether the words behind the verb are as many as it takes; JSON is what follows the key to the end of the line
+-- what stands behind the key, and behind the word after it
+abbrev pub behind_key : Option (List ℕ) → Option (List ℕ)
+behind_key words = option_and_then rest_of words
+
+abbrev pub behind_two : Option (List ℕ) → Option (List ℕ)
+behind_two words = option_and_then rest_of (behind_key words)
+
+-- whether the words behind the verb are as many as it takes; JSON goes on to the end of the line
 abbrev pub has_words : Option Verb → Option (List ℕ) → Bool
 has_words None words = false
-has_words (Some verbs.Put) words = is_some (option_and_then rest_of words)
-has_words (Some verbs.Add) words = option_map_or is_one_word (option_and_then rest_of words) false
+has_words (Some verbs.Put) words = is_some (behind_key words)
+has_words (Some verbs.PutIf) words = is_some (behind_two words)
+has_words (Some verbs.Add) words = option_map_or is_one_word (behind_key words) false
 has_words (Some verbs.Next) words = option_map_or is_one_word words true
 has_words (Some verbs.Count) words = not (is_some words)
 has_words _ words = option_map_or is_one_word words false
@@ -30,17 +38,23 @@ has_words _ words = option_map_or is_one_word words false
 abbrev pub has_no_key : Option (List ℕ) → Bool
 has_no_key words = option_map_or (λ text. not (is_key (first_word text))) words false
 
--- the amount of an addition, and the JSON of a put
-abbrev pub amount_in : Option Verb → Option (List ℕ) → Option (List ℕ)
-amount_in (Some verbs.Add) words = option_and_then rest_of words
-amount_in _ words = None
-
-abbrev pub json_in : Option Verb → Option (List ℕ) → Option (List ℕ)
-json_in (Some verbs.Put) words = option_and_then rest_of words
-json_in _ words = None
-
+-- whether the amount of an addition is no integer, or the revision of a put no number
 abbrev pub is_no_integer : List ℕ → Bool
 is_no_integer amount = not (is_some (integer_of amount))
+
+abbrev pub is_no_revision : List ℕ → Bool
+is_no_revision text = not (is_some (number_of (first_word text)))
+
+abbrev pub has_no_number : Option Verb → Option (List ℕ) → Bool
+has_no_number (Some verbs.Add) words = option_map_or is_no_integer (behind_key words) false
+has_no_number (Some verbs.PutIf) words = option_map_or is_no_revision (behind_key words) false
+has_no_number _ words = false
+
+-- the JSON of a put
+abbrev pub json_in : Option Verb → Option (List ℕ) → Option (List ℕ)
+json_in (Some verbs.Put) words = behind_key words
+json_in (Some verbs.PutIf) words = behind_two words
+json_in _ words = None
 
 abbrev pub is_no_value : List ℕ → Bool
 is_no_value json = not (is_some (read_json json))
@@ -55,7 +69,7 @@ abbrev pub word_rows : Option Verb → Option (List ℕ) → List (Row Reason)
 word_rows verb words =
     (not (has_words verb words), reasons.Command)
     ∷ (has_no_key words, reasons.Key)
-    ∷ (option_map_or is_no_integer (amount_in verb words) false, reasons.Number)
+    ∷ (has_no_number verb words, reasons.Number)
     ∷ (option_map_or is_no_value (json_in verb words) false, reasons.Json)
     ∷ (option_map_or has_fraction (json_in verb words) false, reasons.Fraction)
     ∷ (option_map_or is_too_long (json_in verb words) false, reasons.Long)

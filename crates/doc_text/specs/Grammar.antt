@@ -1,12 +1,12 @@
 -- The commands of documents, and what a script of them is.
-use Rattle.std.specs.Prelude.{◌≡◌, ℕ, List, [], ◌∷◌, ◌++◌, codes, true, false}
-use Rattle.std.specs.Fmt.{signed_decimal}
+use Rattle.std.specs.Prelude.{◌≡◌, ◌<◌, ◌^◌, ℕ, List, [], ◌∷◌, ◌++◌, codes, true, false}
+use Rattle.std.specs.Fmt.{decimal, signed_decimal}
 use Rattle.cx_base.specs.Store.{IsKey}
 use Rattle.plain_text.specs.LineGrammar.{IsTextOf, LineGrammar}
 use Rattle.plain_text.specs.LineGrammar as lines
 use Rattle.plain_text.specs.Number.{is_i64}
 use Rattle.doc_model.specs.declared.operations.Op.{Op}
-use Rattle.doc_model.specs.declared.operations.Op.TheVariants.{Put, Del, Add, Get, Next, Count}
+use Rattle.doc_model.specs.declared.operations.Op.TheVariants.{Put, Del, Add, Get, Next, Count, PutIf, Rev}
 use Rattle.life_records.specs.declared.script.Script.{Script}
 use Rattle.script_text.specs.Grammar.{Commands}
 use Rattle.script_text.specs.ScriptGrammar.{script_grammar}
@@ -26,6 +26,8 @@ command_text (Get key) = codes "get " ++ key
 command_text (Next []) = codes "next"
 command_text (Next (b ∷ above)) = codes "next " ++ (b ∷ above)
 command_text Count = codes "count"
+command_text (PutIf key revision document) = codes "putif " ++ key ++ codes " " ++ decimal revision ++ codes " " ++ document
+command_text (Rev key) = codes "rev " ++ key
 
 -- a client asks for an operation by this text
 abbrev pub Asks : Op → List ℕ → Type 0
@@ -36,6 +38,9 @@ Asks (Get key) text = (text ≡ command_text (Get key)) × IsKey key
 Asks (Next []) text = text ≡ command_text (Next [])
 Asks (Next (b ∷ above)) text = (text ≡ command_text (Next (b ∷ above))) × IsKey (b ∷ above)
 Asks Count text = text ≡ command_text Count
+Asks (PutIf key revision document) text =
+    (json : List ℕ) × (text ≡ codes "putif " ++ key ++ codes " " ++ decimal revision ++ codes " " ++ json) × IsKey key × (revision < 2 ^ 64) × IsJsonOf json document
+Asks (Rev key) text = (text ≡ command_text (Rev key)) × IsKey key
 
 -- the commands of documents, in scripts that may have so much, each of whose refusals has such a reason
 abbrev pub commands_in : ScriptLimits → (ScriptReason → Reason) → Commands Op Reason

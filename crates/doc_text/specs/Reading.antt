@@ -1,10 +1,10 @@
 -- How a command is read, or why it is refused.
 use Rattle.std.specs.Prelude.{ℕ, ℤ, List, [], codes, Option, None, Some, is_some, Result, Ok, Err, if◌then◌else◌}
-use Rattle.plain_text.specs.Number.{integer_of}
+use Rattle.plain_text.specs.Number.{integer_of, number_of}
 use Rattle.plain_text.specs.Words.{first_word, rest_of, is_word}
 use Rattle.doc_model.specs.WordParts.{is_key}
 use Rattle.doc_model.specs.declared.operations.Op.{Op}
-use Rattle.doc_model.specs.declared.operations.Op.TheVariants.{Put, Del, Add, Get, Next, Count}
+use Rattle.doc_model.specs.declared.operations.Op.TheVariants.{Put, Del, Add, Get, Next, Count, PutIf, Rev}
 use Rattle.script_text.specs.Reading.{then_ok}
 use Rattle.doc_text.specs.Document.{document_of}
 use Rattle.doc_text.specs.declared.script_parts.Reason.{Reason}
@@ -21,6 +21,8 @@ verb_of word =
     else if is_word (codes "get") word then Some verbs.Get
     else if is_word (codes "next") word then Some verbs.Next
     else if is_word (codes "count") word then Some verbs.Count
+    else if is_word (codes "putif") word then Some verbs.PutIf
+    else if is_word (codes "rev") word then Some verbs.Rev
     else None
 
 -- the key that is the only word left
@@ -43,6 +45,19 @@ add_with key (Some text) =
     if is_some (rest_of text) then Err reasons.Command
     else (if is_key key then add_amount key (integer_of text) else Err reasons.Key)
 
+-- what a put on condition asks for: a key, a revision, and JSON to the end of the line
+abbrev pub put_if_at : List ℕ → Option ℕ → List ℕ → Result Op Reason
+put_if_at key None json = Err reasons.Number
+put_if_at key (Some revision) json = then_ok (PutIf key revision) (document_of json)
+
+abbrev pub put_if_by : List ℕ → List ℕ → Option (List ℕ) → Result Op Reason
+put_if_by key revision None = Err reasons.Command
+put_if_by key revision (Some json) = if is_key key then put_if_at key (number_of revision) json else Err reasons.Key
+
+abbrev pub put_if_with : List ℕ → Option (List ℕ) → Result Op Reason
+put_if_with key None = Err reasons.Command
+put_if_with key (Some text) = put_if_by key (first_word text) (rest_of text)
+
 -- what a command asks for, by its verb and what stands behind it
 abbrev pub op_by_verb : Option Verb → Option (List ℕ) → Result Op Reason
 op_by_verb None words = Err reasons.Command
@@ -58,6 +73,10 @@ op_by_verb (Some verbs.Next) None = Ok (Next [])
 op_by_verb (Some verbs.Next) (Some text) = then_ok Next (only_key text)
 op_by_verb (Some verbs.Count) None = Ok Count
 op_by_verb (Some verbs.Count) (Some text) = Err reasons.Command
+op_by_verb (Some verbs.PutIf) None = Err reasons.Command
+op_by_verb (Some verbs.PutIf) (Some text) = put_if_with (first_word text) (rest_of text)
+op_by_verb (Some verbs.Rev) None = Err reasons.Command
+op_by_verb (Some verbs.Rev) (Some text) = then_ok Rev (only_key text)
 
 -- what is asked for by the words behind the client
 abbrev pub asked_op : Option (List ℕ) → Result Op Reason

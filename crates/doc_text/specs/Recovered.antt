@@ -10,9 +10,9 @@ abbrev pub applied_text : Applied → List ℕ
 applied_text applied =
     codes "client " ++ decimal applied.client ++ codes " applied " ++ decimal applied.number ++ codes " = " ++ reply_text applied.reply ++ codes "\n"
 
--- a key and its document
-abbrev pub document_text : List ℕ × List ℕ → List ℕ
-document_text pair = codes "document " ++ pair.0 ++ codes " " ++ pair.1 ++ codes "\n"
+-- a key, its revision and its document
+abbrev pub document_text : (List ℕ × List ℕ) × ℕ → List ℕ
+document_text triple = codes "document " ++ triple.0.0 ++ codes " rev " ++ decimal triple.1 ++ codes " " ++ triple.0.1 ++ codes "\n"
 
 unfoldable pub place_text : ℕ → List ℕ
 place_text place = codes "recovered place " ++ decimal place

@@ -3,7 +3,7 @@ use Rattle.std.specs.Prelude.{ℕ, List, ◌++◌, codes}
 use Rattle.std.specs.Fmt.{decimal, signed_decimal}
 use Rattle.doc_model.specs.declared.operations.Op.{Op}
 use Rattle.doc_model.specs.declared.operations.Reply.{Reply}
-use Rattle.doc_model.specs.declared.operations.Reply.TheVariants.{New, Replaced, Deleted, Absent, Doc, Sum, NotNumber, Overflow, NoRoom, Key, Number}
+use Rattle.doc_model.specs.declared.operations.Reply.TheVariants.{New, Replaced, Deleted, Absent, Doc, Sum, NotNumber, Overflow, NoRoom, Key, Number, Set, Stale, Revision}
 use Rattle.life_records.specs.Records.{LifeRecord, Script}
 use Rattle.script_text.specs.Report as reports
 use Rattle.script_text.specs.Report.{Wording}
@@ -21,6 +21,9 @@ reply_text Overflow = codes "overflow"
 reply_text NoRoom = codes "noroom"
 reply_text (Key key) = codes "key " ++ key
 reply_text (Number count) = codes "count " ++ decimal count
+reply_text (Set revision) = codes "set " ++ decimal revision
+reply_text (Stale revision) = codes "stale " ++ decimal revision
+reply_text (Revision revision) = codes "rev " ++ decimal revision
 
 abbrev pub document_wording : Wording Op Reply
 document_wording = record { command_text = command_text; reply_text = reply_text; items = codes " documents " }

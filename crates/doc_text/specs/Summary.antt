@@ -1,22 +1,21 @@
 -- What a load came to as text.
 use Rattle.std.specs.Prelude.{ℕ, ℤ, pos, ◌+ℤ◌, List, [], ◌∷◌, ◌++◌, length, codes, unwrap_or}
 use Rattle.std.specs.Fmt.{decimal, signed_decimal}
-use Rattle.cx_base.specs.Store.{Store}
 use Rattle.plain_text.specs.Number.{integer_of}
 use Rattle.doc_model.specs.declared.operations.Reply.{Reply}
 use Rattle.life_records.specs.declared.record.LifeRecord.{LifeRecord}
 
--- the 64-bit integer that the document of a pair is, and 0 where it is none
-abbrev pub number_in : List ℕ × List ℕ → ℤ
-number_in pair = unwrap_or (integer_of pair.1) (pos 0)
+-- the 64-bit integer that the document of a triple is, and 0 where it is none
+abbrev pub number_in : (List ℕ × List ℕ) × ℕ → ℤ
+number_in triple = unwrap_or (integer_of triple.0.1) (pos 0)
 
 -- the sum of the documents that are integers
-abbrev pub integer_sum : Store → ℤ
+abbrev pub integer_sum : List ((List ℕ × List ℕ) × ℕ) → ℤ
 integer_sum [] = pos 0
-integer_sum (pair ∷ store) = number_in pair +ℤ integer_sum store
+integer_sum (triple ∷ triples) = number_in triple +ℤ integer_sum triples
 
--- the four lines on a life that left this store
-abbrev pub summary_text : LifeRecord Reply → Store → List ℕ
-summary_text told store =
+-- the four lines on a life that left a store of these triples
+abbrev pub summary_text : LifeRecord Reply → List ((List ℕ × List ℕ) × ℕ) → List ℕ
+summary_text told triples =
     codes "clients " ++ decimal told.clients ++ codes "\nupdates " ++ decimal (length told.journal)
-    ++ codes "\ndocuments " ++ decimal (length store) ++ codes "\nsum " ++ signed_decimal (integer_sum store) ++ codes "\n"
+    ++ codes "\ndocuments " ++ decimal (length triples) ++ codes "\nsum " ++ signed_decimal (integer_sum triples) ++ codes "\n"

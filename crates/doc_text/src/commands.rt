@@ -7,14 +7,14 @@ ghost use Rattle.cx_base.specs.Store.{IsKey};
 ghost use Rattle.doc_model.specs.Meaning.{IsOp};
 ghost use Rattle.doc_text.specs.CommandLaws.{reads_commands, reads_pool_commands};
 ghost use Rattle.doc_text.specs.Grammar.{document_commands, pool_commands};
-ghost use Rattle.doc_text.specs.Reading.{verb_of, only_key, put_with, add_with, op_by_verb, asked_op};
+ghost use Rattle.doc_text.specs.Reading.{verb_of, only_key, put_with, put_if_with, add_with, op_by_verb, asked_op};
 ghost use Rattle.script_text.specs.Reading.{then_ok};
 
 use crate::document::read_document;
 use crate::script_parts::Reason;
 use cx_base::Bytes;
 use doc_model::{Op, is_key};
-use plain_text::{integer_of, is_one_word, is_word, split_word};
+use plain_text::{integer_of, is_one_word, is_word, number_of, split_word};
 use script_text::{CommandReader, ScriptLimits, ScriptReason};
 use std::alloc::{AllocError, Global};
 
@@ -27,6 +27,8 @@ pub(crate) enum Verb {
     Get,
     Next,
     Count,
+    PutIf,
+    Rev,
 }
 
 /// The commands of documents. A script has up to 1,000 lives of 8 clients, which may have cut lines.
@@ -141,6 +143,8 @@ fn read_words(
             above: Bytes::of(alloc, b"")?,
         })),
         (Some(Verb::Count), None) => Ok(Ok(Op::Count)),
+        (Some(Verb::PutIf), Some(words)) => read_put_if(alloc, words),
+        (Some(Verb::Rev), Some(words)) => read_rev(alloc, words),
         _ => Ok(Err(Reason::Command)),
     }
 }
@@ -163,6 +167,33 @@ fn read_put(alloc: Global, words: &[u8]) -> Result<Result<Op, Reason>, AllocErro
     };
     let key = Bytes::of(alloc, key)?;
     Ok(Ok(Op::Put { key, doc }))
+}
+
+fn read_put_if(alloc: Global, words: &[u8]) -> Result<Result<Op, Reason>, AllocError>
+    requires { IsUtf8 words.now }
+    ensures value { IfOk result (λ read. read ≡ put_if_with (first_word words.now) (rest_of words.now)) }
+    ensures limits { IfOk result (λ read. IfOk read IsOp) }
+{
+    let (key, text) = split_word(words);
+    let Some(text) = text else {
+        return Ok(Err(Reason::Command));
+    };
+    let (revision, json) = split_word(text);
+    let Some(json) = json else {
+        return Ok(Err(Reason::Command));
+    };
+    if !is_key(key) {
+        return Ok(Err(Reason::Key));
+    }
+    let Some(revision) = number_of(revision) else {
+        return Ok(Err(Reason::Number));
+    };
+    let doc = match read_document(alloc, json)? {
+        Ok(doc) => doc,
+        Err(reason) => return Ok(Err(reason)),
+    };
+    let key = Bytes::of(alloc, key)?;
+    Ok(Ok(Op::PutIf { key, revision, doc }))
 }
 
 fn read_del(alloc: Global, words: &[u8]) -> Result<Result<Op, Reason>, AllocError>
@@ -202,6 +233,16 @@ fn read_get(alloc: Global, words: &[u8]) -> Result<Result<Op, Reason>, AllocErro
 {
     Ok(match read_key(alloc, words)? {
         Ok(key) => Ok(Op::Get { key }),
+        Err(reason) => Err(reason),
+    })
+}
+
+fn read_rev(alloc: Global, words: &[u8]) -> Result<Result<Op, Reason>, AllocError>
+    ensures value { IfOk result (λ read. read ≡ then_ok Op.Rev (only_key words.now)) }
+    ensures limits { IfOk result (λ read. IfOk read IsOp) }
+{
+    Ok(match read_key(alloc, words)? {
+        Ok(key) => Ok(Op::Rev { key }),
         Err(reason) => Err(reason),
     })
 }
@@ -247,6 +288,10 @@ fn read_verb(word: &[u8]) -> Option<Verb>
         Some(Verb::Next)
     } else if is_word(b"count", word) {
         Some(Verb::Count)
+    } else if is_word(b"putif", word) {
+        Some(Verb::PutIf)
+    } else if is_word(b"rev", word) {
+        Some(Verb::Rev)
     } else {
         None
     }

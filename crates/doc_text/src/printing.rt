@@ -55,6 +55,17 @@ impl ReportWriter for Documents {
             }
             Op::Next { above } => write_next(out, above.as_slice()),
             Op::Count => out.extend_from_slice(b"count"),
+            Op::PutIf { key, revision, doc } => {
+                out.extend_from_slice(b"putif ")?;
+                out.extend_from_slice(key.as_slice())?;
+                write_labelled(out, b" ", *revision)?;
+                out.extend_from_slice(b" ")?;
+                out.extend_from_slice(doc.as_slice())
+            }
+            Op::Rev { key } => {
+                out.extend_from_slice(b"rev ")?;
+                out.extend_from_slice(key.as_slice())
+            }
         }
     }
 
@@ -77,6 +88,9 @@ impl ReportWriter for Documents {
                 out.extend_from_slice(key.as_slice())
             }
             Reply::Number(count) => write_labelled(out, b"count ", *count),
+            Reply::Set(revision) => write_labelled(out, b"set ", *revision),
+            Reply::Stale(revision) => write_labelled(out, b"stale ", *revision),
+            Reply::Revision(revision) => write_labelled(out, b"rev ", *revision),
         }
     }
 

@@ -89,6 +89,7 @@ fn write_document(out: &mut Vec<u8>, pair: &Pair) -> Result<(), AllocError>
 {
     out.extend_from_slice(b"document ")?;
     out.extend_from_slice(pair.key.as_slice())?;
+    write_labelled(out, b" rev ", pair.revision)?;
     out.extend_from_slice(b" ")?;
     out.extend_from_slice(pair.doc.as_slice())?;
     out.extend_from_slice(b"\n")

@@ -50,7 +50,7 @@ pub enum Reason {
     Command,
     /// The key is not 1 to 64 bytes from 0x21 to 0x7E.
     Key,
-    /// The amount is no 64-bit integer.
+    /// The amount is no 64-bit integer, or the revision no number of 64 bits.
     Number,
     /// The document is no JSON.
     Json,

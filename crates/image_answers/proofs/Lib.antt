@@ -1,3 +1,5 @@
 pub mod Commands
 pub mod Ends
+pub mod FirstRevisions
 pub mod OneAnswer
+pub mod Upgraded

@@ -1,17 +1,16 @@
 -- There is one answer for each image.
-use Rattle.std.proofs.Common.{◌≡◌, ◌≢◌, ℕ, All, List, [], ◌∷◌, map, Result, Ok, Err, IfOk, MatchResult, refl, ap, sym, subst, ◌∙◌, inl, inr, ◌⊎◌}
+use Rattle.std.proofs.Common.{◌≡◌, ◌≢◌, ◌≤◌, ℕ, length, All, List, [], ◌∷◌, map, Result, Ok, Err, IfOk, MatchResult, refl, ap, sym, subst, ◌∙◌, inl, inr, ◌⊎◌}
 use Rattle.std.proofs.lemmas.List.Elements.{All-head, All-tail}
-use Rattle.cx_base.specs.OldFormat.{OldFormat, no_old_format}
-use Rattle.cx_base.specs.Store.{Store}
+use Rattle.cx_base.specs.OldFormat.{OldFormat}
 use Rattle.cx_core.specs.Region.{object_part, slot_number, slot_reply}
 use Rattle.cx_core.specs.declared.entry.Base.{Base}
 use Rattle.cx_core.specs.declared.entry.Image.{Image}
 use Rattle.doc_model.proofs.ReplyKinds.{replies_same}
+use Rattle.doc_model.specs.Revisions.{RevisedStore}
 use Rattle.doc_model.specs.declared.operations.Reply.{Reply}
-use Rattle.doc_store.specs.ExactStep.{IsImage}
+use Rattle.doc_store.specs.ExactStep.{IsImage, first_format}
 use Rattle.doc_text.specs.declared.recovered.Applied.{Applied}
 use Rattle.doc_text.specs.declared.recovered.Recovered.{Recovered}
-use Rattle.index_checks.proofs.LawfulWords.{store_is}
 use Rattle.recovery.specs.Images.{region_of}
 use Rattle.recovery.proofs.Exact.{exactly}
 use Rattle.recovery.specs.Recovery.{IsAccepted, IsFaultOf, IsRecovered, recovered_from}
@@ -19,6 +18,7 @@ use Rattle.recovery.specs.declared.recovering.ImageFault.{ImageFault}
 use Rattle.recovery.specs.declared.recovering.ImageFault.TheVariants.{Size, Root, Version, Place, Body, Memory}
 use Rattle.image_answers.specs.Documents.{IsAnswerTo, IsDocumentFault, IsStoreImage, IsToldBy, TellsDocuments}
 use Rattle.image_answers.specs.Outcomes.{HoldsReplies, IsLastCommand, IsOutcomesFault, IsReplyOf}
+use Rattle.image_answers.proofs.Upgraded.{recovered_part, replies_go_on, replies_stay}
 
 -- ---- what is recovered
 
@@ -47,12 +47,12 @@ all_commands_one region (a ∷ one) (b ∷ other) same xs ys =
 
 told_one : (base : Base) (one other : Recovered) → IsToldBy base one → IsToldBy base other → one ≡ other
 told_one base one other x y =
-    let made : ℕ → List Applied → Store → Recovered = λ place outcomes documents. record { place = place; outcomes = outcomes; documents = documents } in
+    let made : ℕ → List Applied → List ((List ℕ × List ℕ) × ℕ) → Recovered = λ place outcomes documents. record { place = place; outcomes = outcomes; documents = documents } in
     let place : one.place ≡ other.place = x.place ∙ sym y.place in
     let outcomes : one.outcomes ≡ other.outcomes =
     all_commands_one base.words one.outcomes other.outcomes (x.outcomes.clients ∙ sym y.outcomes.clients) x.outcomes.commands y.outcomes.commands in
     let documents : one.documents ≡ other.documents =
-    sym (store_is (object_part base.words) 1 one.documents x.documents) ∙ store_is (object_part base.words) 1 other.documents y.documents in
+    ap (λ (s : RevisedStore). s.triples) (sym x.documents.1.revised ∙ y.documents.1.revised) in
     ap (λ p. made p one.outcomes one.documents) place ∙ ap (λ o. made other.place o one.documents) outcomes ∙ ap (made other.place other.outcomes) documents
 
 -- ---- faults
@@ -83,7 +83,7 @@ module _ (version : ℕ) (lawful : List ℕ → Type 0) (old : OldFormat) (image
 
 -- the same with the look at the slots
 kinds : (image : Image) (fault : ImageFault) → IsDocumentFault image fault
-    → IsFaultOf 1 (IsImage image.lines) no_old_format image fault ⊎ ((fault ≡ Body) × IsStoreImage image × (¬ HoldsReplies (region_of image)))
+    → IsFaultOf 2 (IsImage image.lines) (first_format image.lines) image fault ⊎ ((fault ≡ Body) × IsStoreImage image × (¬ HoldsReplies (region_of image)))
 kinds image (Size found) is = inl is
 kinds image (Root found) is = inl is
 kinds image (Version found) is = inl is
@@ -95,7 +95,7 @@ kinds image Memory is = inl is
 pub tells_nothing : (image : Image) (fault : ImageFault) → IsDocumentFault image fault → fault ≢ Memory → ¬ TellsDocuments image
 tells_nothing image fault is some tells =
     elim (kinds image fault is) [
-      | inl plain ↦ refused_is_not_accepted 1 (IsImage image.lines) no_old_format image fault plain some tells.accepted
+      | inl plain ↦ refused_is_not_accepted 2 (IsImage image.lines) (first_format image.lines) image fault plain some tells.accepted
       | inr slots ↦ slots.2 tells.replies
     ]
 
@@ -103,11 +103,11 @@ document_fault_one : (image : Image) (f g : ImageFault) → IsDocumentFault imag
 document_fault_one image f g x some y more =
     elim (kinds image f x) [
       | inl f_plain ↦ elim (kinds image g y) [
-        | inl g_plain ↦ fault_one 1 (IsImage image.lines) no_old_format image f g f_plain some g_plain more
-        | inr g_slots ↦ absurd (refused_is_not_accepted 1 (IsImage image.lines) no_old_format image f f_plain some g_slots.1)
+        | inl g_plain ↦ fault_one 2 (IsImage image.lines) (first_format image.lines) image f g f_plain some g_plain more
+        | inr g_slots ↦ absurd (refused_is_not_accepted 2 (IsImage image.lines) (first_format image.lines) image f f_plain some g_slots.1)
       ]
       | inr f_slots ↦ elim (kinds image g y) [
-        | inl g_plain ↦ absurd (refused_is_not_accepted 1 (IsImage image.lines) no_old_format image g g_plain more f_slots.1)
+        | inl g_plain ↦ absurd (refused_is_not_accepted 2 (IsImage image.lines) (first_format image.lines) image g g_plain more f_slots.1)
         | inr g_slots ↦ f_slots.0 ∙ sym g_slots.0
       ]
     ]
@@ -116,25 +116,30 @@ document_fault_one image f g x some y more =
 
 pub answers_one : (image : Image) (one other : Result Recovered ImageFault) → IsAnswerTo image one → IsAnswerTo image other
     → one ≢ Err Memory → other ≢ Err Memory → one ≡ other
-answers_one image (Ok a) (Ok b) x y some more = ap Ok (told_one (recovered_from no_old_format image) a b x.told y.told)
+answers_one image (Ok a) (Ok b) x y some more = ap Ok (told_one (recovered_from (first_format image.lines) image) a b x.told y.told)
 answers_one image (Ok a) (Err g) x y some more = absurd (tells_nothing image g y (λ e. more (ap Err e)) x.tells)
 answers_one image (Err f) (Ok b) x y some more = absurd (tells_nothing image f x (λ e. some (ap Err e)) y.tells)
 answers_one image (Err f) (Err g) x y some more =
     ap Err (document_fault_one image f g x (λ e. some (ap Err e)) y (λ e. more (ap Err e)))
 
 -- its object part is an image of documents
-pub part_is_image : (image : Image) (base : Base) → IsRecovered 1 (IsImage image.lines) no_old_format image base → IsImage image.lines (object_part base.words)
-part_is_image image base is =
-    let part : IsImage image.lines (object_part (region_of image)) = elim is.accepted.region.body.object [ inl own ↦ own | inr none ↦ absurd none ] in
-    subst (λ (b : Base). IsImage image.lines (object_part b.words)) (sym is.is) part
+pub part_is_image : (image : Image) (base : Base) → 1168 ≤ length (region_of image) → IsRecovered 2 (IsImage image.lines) (first_format image.lines) image base
+    → IsImage image.lines (object_part base.words)
+part_is_image image base long is =
+    subst (λ (b : Base). IsImage image.lines (object_part b.words)) (sym is.is) (recovered_part image.lines (region_of image) long is.accepted.region.body.object)
 
 -- what is told by what recovery gives
-pub answered : (image : Image) (base : Base) (answer : Result Recovered ImageFault) → IsRecovered 1 (IsImage image.lines) no_old_format image base
+pub answered : (image : Image) (base : Base) (answer : Result Recovered ImageFault) → 1168 ≤ length (region_of image)
+    → IsRecovered 2 (IsImage image.lines) (first_format image.lines) image base
     → MatchResult answer (IsToldBy base) (IsOutcomesFault base.words) → IfOk answer (λ _. HoldsReplies base.words) → IsAnswerTo image answer
-answered image base (Ok found) is told replies = record {
-  tells = record { accepted = is.accepted; replies = subst (λ (b : Base). HoldsReplies b.words) is.is replies };
+answered image base (Ok found) long is told replies = record {
+  tells = record {
+    accepted = is.accepted;
+    replies = replies_stay (first_format image.lines) (region_of image) long (subst (λ (b : Base). HoldsReplies b.words) is.is replies);
+  };
   told = subst (λ b. IsToldBy b found) is.is told;
 }
-answered image base (Err Body) is told replies = inr (is.accepted, subst (λ (b : Base). ¬ HoldsReplies b.words) is.is told)
-answered image base (Err Memory) is told replies = tt
-answered image base (Err fault) is told replies = absurd told
+answered image base (Err Body) long is told replies =
+    inr (is.accepted, λ holds. subst (λ (b : Base). ¬ HoldsReplies b.words) is.is told (replies_go_on (first_format image.lines) (region_of image) long holds))
+answered image base (Err Memory) long is told replies = tt
+answered image base (Err fault) long is told replies = absurd told

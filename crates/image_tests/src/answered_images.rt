@@ -10,6 +10,23 @@ type Row = (&'static [u8], ImageEnd, &'static [u8]);
 
 const ANSWERS: &[Row] = &[
     (
+        b"image 1 64 3360\nroot 0\n1168 2\n1171 1\n",
+        ImageEnd::Fine,
+        b"recovered place 0 documents 0\n",
+    ),
+    (
+        b"image 1 64 3360\nroot 3\n1680 1\n1688 1\n1689 1\n2848 2\n2849 1\n2851 4\n2853 1\n2854 5\n2858 1\n2859 2\n2860 1\n2861 3\n2862 1\n2863 2\n2865 97\n2873 49\n",
+        ImageEnd::Fine,
+        b"recovered place 1 documents 1\nclient 0 applied 1 = new\ndocument a rev 2 1\n",
+    ),
+    // the greatest revision
+    (
+        b"image 1 64 3360\nroot 3\n1680 1\n1688 1\n1689 1\n2848 2\n2849 1\n2851 4\n2853 1\n2854 18446744073709551615\n2858 1\n2859 2\n2860 1\n2861 3\n2862 1\n2863 18446744073709551615\n2865 97\n2873 49\n",
+        ImageEnd::Fine,
+        b"recovered place 1 documents 1\nclient 0 applied 1 = new\ndocument a rev 18446744073709551615 1\n",
+    ),
+    // images of the old version
+    (
         b"image 1 64 3360\nroot 0\n1168 1\n1171 1\n",
         ImageEnd::Fine,
         b"recovered place 0 documents 0\n",
@@ -17,7 +34,7 @@ const ANSWERS: &[Row] = &[
     (
         b"image 1 64 3360\nroot 3\n1680 1\n1688 1\n1689 1\n2848 1\n2849 1\n2851 4\n2853 1\n2858 1\n2859 2\n2860 1\n2861 3\n2862 1\n2865 97\n2873 49\n",
         ImageEnd::Fine,
-        b"recovered place 1 documents 1\nclient 0 applied 1 = new\ndocument a 1\n",
+        b"recovered place 1 documents 1\nclient 0 applied 1 = new\ndocument a rev 1 1\n",
     ),
     // the greatest place, and no last line feed
     (
@@ -27,9 +44,9 @@ const ANSWERS: &[Row] = &[
     ),
     // clients and keys in rising order
     (
-        b"image 2 64 6720\nroot 23\n5040 5\n5048 3\n5049 6\n5052 7\n5193 2\n5194 3\n6208 1\n6209 4\n6211 10\n6213 3\n6218 1\n6219 2\n6220 1\n6221 3\n6222 1\n6225 97\n6233 49\n6240 1\n6241 7\n6242 2\n6243 5\n6244 1\n6245 6\n6246 3\n6249 98\n6257 2258978\n6266 1\n6267 8\n6268 1\n6269 9\n6270 8\n6273 99\n6281 9033476732818760315\n",
+        b"image 2 64 6720\nroot 23\n5040 5\n5048 3\n5049 6\n5052 7\n5193 2\n5194 3\n6208 2\n6209 4\n6211 10\n6213 3\n6214 3\n6218 1\n6219 2\n6220 1\n6221 3\n6222 1\n6223 1\n6225 97\n6233 49\n6240 1\n6241 7\n6242 2\n6243 5\n6244 1\n6245 6\n6246 3\n6247 2\n6249 98\n6257 2258978\n6266 1\n6267 8\n6268 1\n6269 9\n6270 8\n6271 3\n6273 99\n6281 9033476732818760315\n",
         ImageEnd::Fine,
-        b"recovered place 5 documents 3\nclient 0 applied 3 = sum 7\nclient 1 applied 2 = deleted\ndocument a 1\ndocument b \"x\"\ndocument c {\"k\":[]}\n",
+        b"recovered place 5 documents 3\nclient 0 applied 3 = sum 7\nclient 1 applied 2 = deleted\ndocument a rev 1 1\ndocument b rev 2 \"x\"\ndocument c rev 3 {\"k\":[]}\n",
     ),
     (
         b"image 1 64 3359\nroot 0\n",
@@ -56,6 +73,32 @@ const ANSWERS: &[Row] = &[
         ImageEnd::BadImage,
         b"image refused: body\n",
     ),
+    (
+        b"image 1 64 3360\nroot 0\n1168 2\n",
+        ImageEnd::BadImage,
+        b"image refused: body\n",
+    ),
+    // no revision, one above the last, none given, and revisions in the old version
+    (
+        b"image 1 64 3360\nroot 3\n1680 1\n1688 1\n1689 1\n2848 2\n2849 1\n2851 4\n2853 1\n2854 1\n2858 1\n2859 2\n2860 1\n2861 3\n2862 1\n2865 97\n2873 49\n",
+        ImageEnd::BadImage,
+        b"image refused: body\n",
+    ),
+    (
+        b"image 1 64 3360\nroot 3\n1680 1\n1688 1\n1689 1\n2848 2\n2849 1\n2851 4\n2853 1\n2854 1\n2858 1\n2859 2\n2860 1\n2861 3\n2862 1\n2863 2\n2865 97\n2873 49\n",
+        ImageEnd::BadImage,
+        b"image refused: body\n",
+    ),
+    (
+        b"image 1 64 3360\nroot 3\n1680 1\n1688 1\n1689 1\n2848 2\n2849 1\n2851 4\n2853 1\n2858 1\n2859 2\n2860 1\n2861 3\n2862 1\n2863 1\n2865 97\n2873 49\n",
+        ImageEnd::BadImage,
+        b"image refused: body\n",
+    ),
+    (
+        b"image 1 64 3360\nroot 3\n1680 1\n1688 1\n1689 1\n2848 1\n2849 1\n2851 4\n2853 1\n2854 1\n2858 1\n2859 2\n2860 1\n2861 3\n2862 1\n2863 1\n2865 97\n2873 49\n",
+        ImageEnd::BadImage,
+        b"image refused: body\n",
+    ),
     // the checks in their order: a size, a root, a version and a place that are all wrong, and a body
     (
         b"image 1 64 3361\nroot 18446744073709551615\n0 5\n",
@@ -68,9 +111,9 @@ const ANSWERS: &[Row] = &[
         b"image refused: root 18446744073709551615\n",
     ),
     (
-        b"image 1 64 3360\nroot 0\n0 5\n8 1\n1168 2\n",
+        b"image 1 64 3360\nroot 0\n0 5\n8 1\n1168 3\n",
         ImageEnd::BadImage,
-        b"image refused: version 2\n",
+        b"image refused: version 3\n",
     ),
     (
         b"image 1 64 3360\nroot 0\n0 5\n8 1\n1168 1\n",
@@ -80,49 +123,49 @@ const ANSWERS: &[Row] = &[
     // words of three pairs that stand for no store
     // a node below itself
     (
-        b"image 2 64 6720\nroot 23\n5040 5\n5048 3\n5049 6\n5052 7\n5193 2\n5194 3\n6208 1\n6209 4\n6211 10\n6213 3\n6218 1\n6219 2\n6220 1\n6221 3\n6222 1\n6225 97\n6233 49\n6240 1\n6241 7\n6242 2\n6243 5\n6244 1\n6245 6\n6246 3\n6249 98\n6257 2258978\n6264 4\n6266 1\n6267 8\n6268 1\n6269 9\n6270 8\n6273 99\n6281 9033476732818760315\n",
+        b"image 2 64 6720\nroot 23\n5040 5\n5048 3\n5049 6\n5052 7\n5193 2\n5194 3\n6208 2\n6209 4\n6211 10\n6213 3\n6214 3\n6218 1\n6219 2\n6220 1\n6221 3\n6222 1\n6223 1\n6225 97\n6233 49\n6240 1\n6241 7\n6242 2\n6243 5\n6244 1\n6245 6\n6246 3\n6247 2\n6249 98\n6257 2258978\n6264 4\n6266 1\n6267 8\n6268 1\n6269 9\n6270 8\n6271 3\n6273 99\n6281 9033476732818760315\n",
         ImageEnd::BadImage,
         b"image refused: body\n",
     ),
     // a node twice
     (
-        b"image 2 64 6720\nroot 23\n5040 5\n5048 3\n5049 6\n5052 7\n5193 2\n5194 3\n6208 1\n6209 4\n6211 10\n6213 3\n6218 1\n6219 2\n6220 1\n6221 3\n6222 1\n6225 97\n6233 49\n6240 1\n6241 1\n6242 2\n6243 5\n6244 1\n6245 6\n6246 3\n6249 98\n6257 2258978\n6266 1\n6267 8\n6268 1\n6269 9\n6270 8\n6273 99\n6281 9033476732818760315\n",
+        b"image 2 64 6720\nroot 23\n5040 5\n5048 3\n5049 6\n5052 7\n5193 2\n5194 3\n6208 2\n6209 4\n6211 10\n6213 3\n6214 3\n6218 1\n6219 2\n6220 1\n6221 3\n6222 1\n6223 1\n6225 97\n6233 49\n6240 1\n6241 1\n6242 2\n6243 5\n6244 1\n6245 6\n6246 3\n6247 2\n6249 98\n6257 2258978\n6266 1\n6267 8\n6268 1\n6269 9\n6270 8\n6271 3\n6273 99\n6281 9033476732818760315\n",
         ImageEnd::BadImage,
         b"image refused: body\n",
     ),
     // another height
     (
-        b"image 2 64 6720\nroot 23\n5040 5\n5048 3\n5049 6\n5052 7\n5193 2\n5194 3\n6208 1\n6209 4\n6211 10\n6213 3\n6218 1\n6219 2\n6220 1\n6221 3\n6222 1\n6225 97\n6233 49\n6240 1\n6241 7\n6242 3\n6243 5\n6244 1\n6245 6\n6246 3\n6249 98\n6257 2258978\n6266 1\n6267 8\n6268 1\n6269 9\n6270 8\n6273 99\n6281 9033476732818760315\n",
+        b"image 2 64 6720\nroot 23\n5040 5\n5048 3\n5049 6\n5052 7\n5193 2\n5194 3\n6208 2\n6209 4\n6211 10\n6213 3\n6214 3\n6218 1\n6219 2\n6220 1\n6221 3\n6222 1\n6223 1\n6225 97\n6233 49\n6240 1\n6241 7\n6242 3\n6243 5\n6244 1\n6245 6\n6246 3\n6247 2\n6249 98\n6257 2258978\n6266 1\n6267 8\n6268 1\n6269 9\n6270 8\n6271 3\n6273 99\n6281 9033476732818760315\n",
         ImageEnd::BadImage,
         b"image refused: body\n",
     ),
     // keys that do not rise
     (
-        b"image 2 64 6720\nroot 23\n5040 5\n5048 3\n5049 6\n5052 7\n5193 2\n5194 3\n6208 1\n6209 4\n6211 10\n6213 3\n6218 1\n6219 2\n6220 1\n6221 3\n6222 1\n6225 98\n6233 49\n6240 1\n6241 7\n6242 2\n6243 5\n6244 1\n6245 6\n6246 3\n6249 98\n6257 2258978\n6266 1\n6267 8\n6268 1\n6269 9\n6270 8\n6273 99\n6281 9033476732818760315\n",
+        b"image 2 64 6720\nroot 23\n5040 5\n5048 3\n5049 6\n5052 7\n5193 2\n5194 3\n6208 2\n6209 4\n6211 10\n6213 3\n6214 3\n6218 1\n6219 2\n6220 1\n6221 3\n6222 1\n6223 1\n6225 98\n6233 49\n6240 1\n6241 7\n6242 2\n6243 5\n6244 1\n6245 6\n6246 3\n6247 2\n6249 98\n6257 2258978\n6266 1\n6267 8\n6268 1\n6269 9\n6270 8\n6271 3\n6273 99\n6281 9033476732818760315\n",
         ImageEnd::BadImage,
         b"image refused: body\n",
     ),
     // a chain in two pairs
     (
-        b"image 2 64 6720\nroot 23\n5040 5\n5048 3\n5049 6\n5052 7\n5193 2\n5194 3\n6208 1\n6209 4\n6211 10\n6213 3\n6218 1\n6219 2\n6220 1\n6221 3\n6222 1\n6225 97\n6233 49\n6240 1\n6241 7\n6242 2\n6243 2\n6244 1\n6245 6\n6246 3\n6249 98\n6257 2258978\n6266 1\n6267 8\n6268 1\n6269 9\n6270 8\n6273 99\n6281 9033476732818760315\n",
+        b"image 2 64 6720\nroot 23\n5040 5\n5048 3\n5049 6\n5052 7\n5193 2\n5194 3\n6208 2\n6209 4\n6211 10\n6213 3\n6214 3\n6218 1\n6219 2\n6220 1\n6221 3\n6222 1\n6223 1\n6225 97\n6233 49\n6240 1\n6241 7\n6242 2\n6243 2\n6244 1\n6245 6\n6246 3\n6247 2\n6249 98\n6257 2258978\n6266 1\n6267 8\n6268 1\n6269 9\n6270 8\n6271 3\n6273 99\n6281 9033476732818760315\n",
         ImageEnd::BadImage,
         b"image refused: body\n",
     ),
     // a chain that leaves the part
     (
-        b"image 2 64 6720\nroot 23\n5040 5\n5048 3\n5049 6\n5052 7\n5193 2\n5194 3\n6208 1\n6209 4\n6211 10\n6213 3\n6218 1\n6219 2\n6220 1\n6221 3\n6222 1\n6225 97\n6233 49\n6240 1\n6241 7\n6242 2\n6243 64\n6244 1\n6245 6\n6246 3\n6249 98\n6257 2258978\n6266 1\n6267 8\n6268 1\n6269 9\n6270 8\n6273 99\n6281 9033476732818760315\n",
+        b"image 2 64 6720\nroot 23\n5040 5\n5048 3\n5049 6\n5052 7\n5193 2\n5194 3\n6208 2\n6209 4\n6211 10\n6213 3\n6214 3\n6218 1\n6219 2\n6220 1\n6221 3\n6222 1\n6223 1\n6225 97\n6233 49\n6240 1\n6241 7\n6242 2\n6243 64\n6244 1\n6245 6\n6246 3\n6247 2\n6249 98\n6257 2258978\n6266 1\n6267 8\n6268 1\n6269 9\n6270 8\n6271 3\n6273 99\n6281 9033476732818760315\n",
         ImageEnd::BadImage,
         b"image refused: body\n",
     ),
     // a line that is in no pair
     (
-        b"image 2 64 6720\nroot 23\n5040 5\n5048 3\n5049 6\n5052 7\n5193 2\n5194 3\n6208 1\n6209 4\n6211 11\n6213 3\n6218 1\n6219 2\n6220 1\n6221 3\n6222 1\n6225 97\n6233 49\n6240 1\n6241 7\n6242 2\n6243 5\n6244 1\n6245 6\n6246 3\n6249 98\n6257 2258978\n6266 1\n6267 8\n6268 1\n6269 9\n6270 8\n6273 99\n6281 9033476732818760315\n",
+        b"image 2 64 6720\nroot 23\n5040 5\n5048 3\n5049 6\n5052 7\n5193 2\n5194 3\n6208 2\n6209 4\n6211 11\n6213 3\n6214 3\n6218 1\n6219 2\n6220 1\n6221 3\n6222 1\n6223 1\n6225 97\n6233 49\n6240 1\n6241 7\n6242 2\n6243 5\n6244 1\n6245 6\n6246 3\n6247 2\n6249 98\n6257 2258978\n6266 1\n6267 8\n6268 1\n6269 9\n6270 8\n6271 3\n6273 99\n6281 9033476732818760315\n",
         ImageEnd::BadImage,
         b"image refused: body\n",
     ),
     // another number of pairs
     (
-        b"image 2 64 6720\nroot 23\n5040 5\n5048 3\n5049 6\n5052 7\n5193 2\n5194 3\n6208 1\n6209 4\n6211 10\n6213 2\n6218 1\n6219 2\n6220 1\n6221 3\n6222 1\n6225 97\n6233 49\n6240 1\n6241 7\n6242 2\n6243 5\n6244 1\n6245 6\n6246 3\n6249 98\n6257 2258978\n6266 1\n6267 8\n6268 1\n6269 9\n6270 8\n6273 99\n6281 9033476732818760315\n",
+        b"image 2 64 6720\nroot 23\n5040 5\n5048 3\n5049 6\n5052 7\n5193 2\n5194 3\n6208 2\n6209 4\n6211 10\n6213 2\n6214 3\n6218 1\n6219 2\n6220 1\n6221 3\n6222 1\n6223 1\n6225 97\n6233 49\n6240 1\n6241 7\n6242 2\n6243 5\n6244 1\n6245 6\n6246 3\n6247 2\n6249 98\n6257 2258978\n6266 1\n6267 8\n6268 1\n6269 9\n6270 8\n6271 3\n6273 99\n6281 9033476732818760315\n",
         ImageEnd::BadImage,
         b"image refused: body\n",
     ),
@@ -163,7 +206,7 @@ type SlotRow = (&'static [u8], &'static [u8]);
 const SLOTS: &[SlotRow] = &[
     // numbers without a reply: zeros, a kind above the last, a kind 0 with a number
     (b"8 1\n", b""),
-    (b"8 1\n9 12\n", b""),
+    (b"8 1\n9 15\n", b""),
     (b"8 1\n12 1\n", b""),
     (b"8 1\n9 18446744073709551615\n", b""),
     // a word behind the reply that is not 0: a number, a head word, the last word, a byte behind the key
@@ -186,7 +229,7 @@ const SLOTS: &[SlotRow] = &[
     (b"9 1\n", b""),
     (b"1 1\n", b""),
     // only the last slot is wrong, and only the first
-    (b"8 1\n9 1\n1023 1\n1024 12\n", b""),
+    (b"8 1\n9 1\n1023 1\n1024 15\n", b""),
     (b"8 1\n1023 1\n1024 1\n", b""),
     // each kind of reply, and the first and the last slot
     (b"8 1\n9 1\n", b"client 0 applied 1 = new\n"),
@@ -209,6 +252,13 @@ const SLOTS: &[SlotRow] = &[
         b"8 1\n9 11\n12 18446744073709551615\n",
         b"client 0 applied 1 = count 18446744073709551615\n",
     ),
+    (
+        b"8 1\n9 12\n12 18446744073709551615\n",
+        b"client 0 applied 1 = set 18446744073709551615\n",
+    ),
+    (b"8 1\n9 13\n", b"client 0 applied 1 = stale 0\n"),
+    (b"8 1\n9 14\n12 7\n", b"client 0 applied 1 = rev 7\n"),
+    (b"8 1\n9 14\n10 1\n12 7\n", b""),
     // clients in rising order, and those without a number left out
     (
         b"8 2\n9 4\n298 9\n299 9\n1023 1\n1024 1\n",
@@ -229,7 +279,7 @@ fn first_slot_wrong(alloc: Global, rows: &[SlotRow]) -> Result<Option<usize>, Al
             alloc,
             b"image 1 64 3360\nroot 0\n",
             words,
-            b"1168 1\n1171 1\n",
+            b"1168 2\n1171 1\n",
         )?;
         let want = if told.is_empty() {
             joined(alloc, b"image refused: ", b"body\n", b"")?

@@ -16,7 +16,7 @@ use Rattle.index_checks.proofs.Orders.{tree_of, in_order_root}
 use Rattle.index_checks.specs.Lawful.{HasBlocks, IsContent}
 use Rattle.index_checks.specs.Layout.{head_of, IsChain, Place, lines_at, Placed, nodes_of, IsIndex}
 use Rattle.index_checks.specs.Listing.{HasPlainText}
-use Rattle.index_checks.specs.Reading.{text_at, pair_at, store_in}
+use Rattle.index_checks.specs.Reading.{text_at, triple_at, revised_in}
 use Rattle.index_checks.proofs.Arranging.{arranged_tree, arranged_nodes}
 use Rattle.index_checks.proofs.BlockReads.{word_at_past}
 use Rattle.index_checks.proofs.Lines.{all_left, all_right, lines_within}
@@ -104,25 +104,25 @@ nodes_name_pairs ws i =
     subst (All (NamesPair ws)) (arranged_nodes ws (head_of 2 s.last) i.store s.tree s.places s.given [] a) (names_pairs ws s.places i.store a.nodes.pairs within s.lawful.keys s.lawful.documents)
 
 -- the pairs listed so far, and the nodes that are left
-pub record ListedSoFar (ws more : List ℕ) (pairs : Store) : Type 0 where
-  pub all : pairs ++ map (pair_at ws) more ≡ store_in ws
+pub record ListedSoFar (ws more : List ℕ) (pairs : List ((List ℕ × List ℕ) × ℕ)) : Type 0 where
+  pub all : pairs ++ map (triple_at ws) more ≡ (revised_in ws).triples
   pub left : All (NamesPair ws) more
 
 pub list_begins : (ws more : List ℕ) → IsIndex ws → more ≡ in_order (word_of ws 0 1) ws → ListedSoFar ws more []
-unfolding store_in
-list_begins ws more i e = record { all = ap (map (pair_at ws)) (e ∙ in_order_root ws); left = subst (All (NamesPair ws)) (sym e) (nodes_name_pairs ws i) }
+unfolding revised_in
+list_begins ws more i e = record { all = ap (map (triple_at ws)) (e ∙ in_order_root ws); left = subst (All (NamesPair ws)) (sym e) (nodes_name_pairs ws i) }
 
-pub list_next : (ws more : List ℕ) (node : ℕ) (pairs : Store) → ListedSoFar ws (node ∷ more) pairs → NamesPair ws node
+pub list_next : (ws more : List ℕ) (node : ℕ) (pairs : List ((List ℕ × List ℕ) × ℕ)) → ListedSoFar ws (node ∷ more) pairs → NamesPair ws node
 list_next ws more node pairs s = All-head (NamesPair ws) node more s.left
 
-pub list_more : (ws more : List ℕ) (node : ℕ) (pairs : Store) (pair : List ℕ × List ℕ) → ListedSoFar ws (node ∷ more) pairs → pair ≡ pair_at ws node → ListedSoFar ws more (pairs ++ pair ∷ [])
+pub list_more : (ws more : List ℕ) (node : ℕ) (pairs : List ((List ℕ × List ℕ) × ℕ)) (pair : (List ℕ × List ℕ) × ℕ) → ListedSoFar ws (node ∷ more) pairs → pair ≡ triple_at ws node → ListedSoFar ws more (pairs ++ pair ∷ [])
 list_more ws more node pairs pair s is = record {
-  all = append_assoc pairs (pair ∷ []) (map (pair_at ws) more) ∙ ap (λ q. pairs ++ (q ∷ map (pair_at ws) more)) is ∙ s.all;
+  all = append_assoc pairs (pair ∷ []) (map (triple_at ws) more) ∙ ap (λ q. pairs ++ (q ∷ map (triple_at ws) more)) is ∙ s.all;
   left = All-tail (NamesPair ws) node more s.left;
 }
 
-pub list_ends : (ws more : List ℕ) (pairs : Store) → ListedSoFar ws more pairs → more ≡ [] → pairs ≡ store_in ws
-list_ends ws more pairs s e = sym (append-nil pairs) ∙ ap (λ u. pairs ++ map (pair_at ws) u) (sym e) ∙ s.all
+pub list_ends : (ws more : List ℕ) (pairs : List ((List ℕ × List ℕ) × ℕ)) → ListedSoFar ws more pairs → more ≡ [] → pairs ≡ (revised_in ws).triples
+list_ends ws more pairs s e = sym (append-nil pairs) ∙ ap (λ u. pairs ++ map (triple_at ws) u) (sym e) ∙ s.all
 
 pub index_tree : (ws : List ℕ) → IsIndex ws → HasTree ws (word_of ws 0 1) 0
 index_tree ws i =

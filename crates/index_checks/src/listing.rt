@@ -4,7 +4,7 @@ ghost use Rattle.std.specs.Prelude.{◌≡◌, ◌+◌, ◌*◌, ◌<◌, ◌≤
 ghost use Rattle.cx_base.specs.Packing.{unpacked};
 ghost use Rattle.index_checks.specs.Layout.{IsIndex};
 ghost use Rattle.index_checks.specs.Listing.{HasPlainText};
-ghost use Rattle.index_checks.specs.Reading.{text_at, pair_at, store_in};
+ghost use Rattle.index_checks.specs.Reading.{text_at, triple_at, revised_in};
 
 use crate::in_order::InOrder;
 use crate::node_checks::word_at;
@@ -37,21 +37,22 @@ fn text_of(alloc: Global, words: &[u64], node: u64, at: usize) -> Result<Bytes, 
     bytes_of(alloc, &content, len as usize)
 }
 
-/// The pair of a node.
+/// The pair of a node, with its revision.
 fn pair_of(alloc: Global, words: &[u64], node: u64) -> Result<Pair, AllocError>
     requires key { HasPlainText words.now node 3 }
     requires document { HasPlainText words.now node 5 }
-    ensures { IfOk result (λ pair. pair ≡ pair_at words.now node) }
+    ensures { IfOk result (λ pair. pair ≡ triple_at words.now node) }
 {
     let key = text_of(alloc, words, node, 3)?;
     let doc = text_of(alloc, words, node, 5)?;
-    Ok(Pair { key, doc })
+    let revision = word_at(words, node, 7);
+    Ok(Pair { key, doc, revision })
 }
 
-/// The pairs that words stand for, in the order of their keys. `Err` is want of memory.
+/// The pairs that words stand for, each with its revision, in the order of their keys. `Err` is want of memory.
 pub fn pairs_of(alloc: Global, words: &[u64]) -> Result<Vec<Pair>, AllocError>
     requires { IsIndex words.now }
-    ensures { IfOk result (λ pairs. pairs.items ≡ store_in words.now) }
+    ensures { IfOk result (λ pairs. pairs.items ≡ (revised_in words.now).triples) }
 {
     let mut pairs = Vec::new(alloc);
     let mut walk = InOrder::of(words, words[1]);

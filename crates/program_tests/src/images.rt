@@ -11,7 +11,7 @@ use std::thread::Threads;
 /// A run: its word, its input, its exit code, how many trails it leaves, and what it writes.
 pub(crate) type Row = (&'static str, &'static str, u8, usize, &'static str);
 
-const ROWS: [Row; 14] = [
+const ROWS: [Row; 16] = [
     ("image", "", 0, 0, ""),
     ("image", "lines 64\n", 0, 0, ""),
     (
@@ -19,7 +19,7 @@ const ROWS: [Row; 14] = [
         "lines 64\nlife 1 power 0\n",
         0,
         1,
-        "image 1 64 3360\nroot 0\n1168 1\n1171 1\n2848 1\n2851 1\n",
+        "image 1 64 3360\nroot 0\n1168 2\n1171 1\n2848 2\n2851 1\n",
     ),
     // the last life's alone
     (
@@ -27,7 +27,7 @@ const ROWS: [Row; 14] = [
         "lines 64\nlife 2 power 0\nlife 1 power 0\n",
         0,
         2,
-        "image 1 64 3360\nroot 0\n1168 1\n1171 1\n2848 1\n2851 1\n",
+        "image 1 64 3360\nroot 0\n1168 2\n1171 1\n2848 2\n2851 1\n",
     ),
     (
         "image",
@@ -36,6 +36,7 @@ const ROWS: [Row; 14] = [
         0,
         "refused line 2: life\n",
     ),
+    // an image of the old version, one of the new, and a document of each
     (
         "recover",
         "image 1 64 3360\nroot 0\n1168 1\n1171 1\n",
@@ -45,10 +46,24 @@ const ROWS: [Row; 14] = [
     ),
     (
         "recover",
+        "image 1 64 3360\nroot 0\n1168 2\n1171 1\n",
+        0,
+        0,
+        "recovered place 0 documents 0\n",
+    ),
+    (
+        "recover",
         "image 1 64 3360\nroot 3\n1680 1\n1688 1\n1689 1\n2848 1\n2849 1\n2851 4\n2853 1\n2858 1\n2859 2\n2860 1\n2861 3\n2862 1\n2865 97\n2873 49\n",
         0,
         0,
-        "recovered place 1 documents 1\nclient 0 applied 1 = new\ndocument a 1\n",
+        "recovered place 1 documents 1\nclient 0 applied 1 = new\ndocument a rev 1 1\n",
+    ),
+    (
+        "recover",
+        "image 1 64 3360\nroot 3\n1680 1\n1688 1\n1689 1\n2848 2\n2849 1\n2851 4\n2853 1\n2854 9\n2858 1\n2859 2\n2860 1\n2861 3\n2862 1\n2863 7\n2865 97\n2873 49\n",
+        0,
+        0,
+        "recovered place 1 documents 1\nclient 0 applied 1 = new\ndocument a rev 7 1\n",
     ),
     (
         "recover",
@@ -127,7 +142,7 @@ pub(crate) fn first_wrong<R: Threads + Wait + Sync + AllocGlobal>(
 fn is_recovered<R: Threads + Wait + Sync + AllocGlobal>(rt: &R) -> Result<bool, AllocError> {
     let (code, trails, image) = ran(rt, "image", SCRIPT.as_bytes())?;
     let (again, none, sink) = ran(rt, "recover", image.written())?;
-    let text = b"recovered place 2 documents 1\nclient 0 applied 2 = replaced\ndocument a 2\n";
+    let text = b"recovered place 2 documents 1\nclient 0 applied 2 = replaced\ndocument a rev 2 2\n";
     Ok(code == 0 && trails == 1 && again == 0 && none == 0 && sink.written() == text.as_slice())
 }
 

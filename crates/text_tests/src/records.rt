@@ -20,6 +20,9 @@ pub(crate) enum Told {
     NoRoom,
     Key(&'static [u8]),
     Number(u64),
+    Set(u64),
+    Stale(u64),
+    Revision(u64),
 }
 
 /// Ticket, client, command, and the reply, if there is one.
@@ -157,5 +160,8 @@ fn reply_of(alloc: Global, told: Told) -> Result<Reply, AllocError> {
         Told::NoRoom => Reply::NoRoom,
         Told::Key(key) => Reply::Key(Bytes::of(alloc, key)?),
         Told::Number(count) => Reply::Number(count),
+        Told::Set(revision) => Reply::Set(revision),
+        Told::Stale(revision) => Reply::Stale(revision),
+        Told::Revision(revision) => Reply::Revision(revision),
     })
 }

@@ -158,6 +158,47 @@ power 0 kept 2 of 2 documents 2
 ",
 };
 
+const REVISIONS: Worked = Worked {
+    script: b"\
+lines 64
+life 1 power 0
+0 putif a 0 1
+0 putif a 0 2
+0 put a 3
+0 rev a
+0 putif a 2 4
+0 del a
+0 put a 5
+0 rev a
+",
+    lives: &[(
+        (1, 0),
+        &[
+            (0, 0, 1, Some(Told::Set(1))),
+            (1, 0, 2, Some(Told::Stale(1))),
+            (2, 0, 3, Some(Told::Replaced)),
+            (3, 0, 5, Some(Told::Set(3))),
+            (4, 0, 6, Some(Told::Deleted)),
+            (5, 0, 7, Some(Told::New)),
+        ],
+        &[(4, 3, Told::Revision(2)), (8, 6, Told::Revision(4))],
+        (&[], &[]),
+        (0, 6, 1),
+    )],
+    report: b"\
+life 0 clients 1 from 0
+0 0.1 putif a 0 1 = set 1
+1 0.2 putif a 0 2 = stale 1
+2 0.3 put a 3 = replaced
+3 0.5 putif a 2 4 = set 3
+4 0.6 del a = deleted
+5 0.7 put a 5 = new
+read 0.4 at 3 rev a = rev 2
+read 0.8 at 6 rev a = rev 4
+power 0 kept 6 of 6 documents 1
+",
+};
+
 const TWO_CLIENTS: Worked = Worked {
     script: b"\
 lines 64
@@ -340,13 +381,14 @@ power 1 kept 0 of 0 documents 0
 ",
 };
 
-static ROWS: [Worked; 12] = [
+static ROWS: [Worked; 13] = [
     NOTHING,
     WRITTEN_AND_READ,
     EMPTY_STORE,
     END_OF_TYPE,
     COMPACT_TEXT,
     KEYS_AND_COUNT,
+    REVISIONS,
     TWO_CLIENTS,
     TWO_LIVES,
     WITHOUT_ROOM,

@@ -124,7 +124,7 @@ const COMMANDS: [Row; 12] = [
     ),
     (
         Outcome::Script(64, 1, 1),
-        b"0 del a|0 del a\r\n|0 add a 1|0 add a 0|0 add a -1|0 add a 9223372036854775807|0 add a -9223372036854775808|0 get a|0 get #|0 get 0123456789012345678901234567890123456789012345678901234567890123|0 next|0 next a|0 count|\n#\n0 get a\n\n",
+        b"0 del a|0 del a\r\n|0 add a 1|0 add a 0|0 add a -1|0 add a 9223372036854775807|0 add a -9223372036854775808|0 get a|0 get #|0 get 0123456789012345678901234567890123456789012345678901234567890123|0 next|0 next a|0 count|0 rev a|0 rev ~|0 putif a 0 1|0 putif a 18446744073709551615 [ 1, 2 ]|0 putif a 9  1|\n#\n0 get a\n\n",
     ),
     (
         Outcome::Refused(3, Reason::Utf8),
@@ -140,23 +140,23 @@ const COMMANDS: [Row; 12] = [
     ),
     (
         Outcome::Refused(3, Reason::Command),
-        b"0|0 |0 push a 1|0 push a 1\n|0 Put a 1|0  put a 1|0 put|0 put a|0 put\ta 1|0 del|0 del a b|0 del a |0 add a|0 add a 1 |0 add a  1|0 get|0 get a b|0 get  a|0 next a |0 count |0 count a|0 count\r",
+        b"0|0 |0 push a 1|0 push a 1\n|0 Put a 1|0  put a 1|0 put|0 put a|0 put\ta 1|0 del|0 del a b|0 del a |0 add a|0 add a 1 |0 add a  1|0 get|0 get a b|0 get  a|0 next a |0 count |0 count a|0 count\r|0 putif|0 putif a|0 putif a 1|0 putif  1|0 putif\ta 0 1|0 PutIf a 0 1|0 rev|0 rev a b|0 rev a |0 revs a",
     ),
     (
         Outcome::Refused(3, Reason::Key),
-        b"0 get 01234567890123456789012345678901234567890123456789012345678901234|0 put 01234567890123456789012345678901234567890123456789012345678901234 x|0 put  a 1|0 put  1|0 put a\r 1|0 get a\r|0 get a\r\r\n|0 get |0 next |0 get \x7f|0 del \xc3\xa4|0 add \x1f x|0 get a\rb",
+        b"0 get 01234567890123456789012345678901234567890123456789012345678901234|0 put 01234567890123456789012345678901234567890123456789012345678901234 x|0 put  a 1|0 put  1|0 put a\r 1|0 get a\r|0 get a\r\r\n|0 get |0 next |0 get \x7f|0 del \xc3\xa4|0 add \x1f x|0 get a\rb|0 rev |0 rev \x7f|0 putif  0 1|0 putif \x1f x x|0 putif  x x",
     ),
     (
         Outcome::Refused(3, Reason::Number),
-        b"0 add a 01|0 add a 01\n|0 add a -0|0 add a +1|0 add a 1.0|0 add a |0 add a x|0 add a 9223372036854775808|0 add a -9223372036854775809|0 add a 1\r",
+        b"0 add a 01|0 add a 01\n|0 add a -0|0 add a +1|0 add a 1.0|0 add a |0 add a x|0 add a 9223372036854775808|0 add a -9223372036854775809|0 add a 1\r|0 putif a x x|0 putif a -1 1|0 putif a 01 1|0 putif a  1|0 putif a 18446744073709551616 1.5",
     ),
     (
         Outcome::Refused(3, Reason::Json),
-        b"0 put a |0 put a  |0 put a x|0 put a {|0 put a {\n|0 put a 01|0 put a +1|0 put a 1 2|0 put a [1,]|0 put a {\"a\":1,}|0 put a {a:1}|0 put a 'a'|0 put a \"\x01\"|0 put a \"\t\"|0 put a \"\\ud800\"|0 put a \"\\ude00\\ud83d\"|0 put a \"\\x\"|0 put a 1e400|0 put a -1e999|0 put a NaN",
+        b"0 put a |0 put a  |0 put a x|0 put a {|0 put a {\n|0 put a 01|0 put a +1|0 put a 1 2|0 put a [1,]|0 put a {\"a\":1,}|0 put a {a:1}|0 put a 'a'|0 put a \"\x01\"|0 put a \"\t\"|0 put a \"\\ud800\"|0 put a \"\\ude00\\ud83d\"|0 put a \"\\x\"|0 put a 1e400|0 put a -1e999|0 put a NaN|0 putif a 0 |0 putif a 0 x|0 putif a 0 1 2",
     ),
     (
         Outcome::Refused(3, Reason::Fraction),
-        b"0 put a 1.5|0 put a 1.5\n|0 put a 1.0|0 put a 1e2|0 put a -0|0 put a -0.0|0 put a 18446744073709551616|0 put a -9223372036854775809|0 put a [1,{\"a\":[0.5]}]|0 put a {\"a\":-0}",
+        b"0 put a 1.5|0 put a 1.5\n|0 put a 1.0|0 put a 1e2|0 put a -0|0 put a -0.0|0 put a 18446744073709551616|0 put a -9223372036854775809|0 put a [1,{\"a\":[0.5]}]|0 put a {\"a\":-0}|0 putif a 0 1.5",
     ),
     // empty lines are counted
     (
@@ -171,13 +171,13 @@ fn commands_are_read_or_refused(rt: HostRuntime) -> Result<(), Fail> {
     Ok(())
 }
 
-/// The first letter of an operation's name, its key, its document and its amount. What it lacks is empty or 0.
-type Parts = (u8, &'static [u8], &'static [u8], i64);
+/// A letter for the operation's name, its key, its document, and its amount or revision. What it lacks is empty or 0.
+type Parts = (u8, &'static [u8], &'static [u8], i128);
 
 const OPERATIONS: &[u8] =
-    b"lines 128\nlife 1 power 7\n0 put key -12\n0 add sum -3\n0 next\n0 next above\n0 count\n0 del k\n0 get other\n0 put a {\"b\":1, \"a\":[]}\n0 put a  [ 1 , -2 ]  \n0 put a {\"a\":1,\"a\":2}\n0 put a {\"b\":1,\"aa\":2,\"a\":3,\"\":4}\n0 put a \"\\u0041\\/\\n\\u0001\\u007f\"\n0 put a \"\\ud83d\\ude00\"\n0 put a 18446744073709551615\n0 put a\x20\ttrue\r";
+    b"lines 128\nlife 1 power 7\n0 put key -12\n0 add sum -3\n0 next\n0 next above\n0 count\n0 del k\n0 get other\n0 put a {\"b\":1, \"a\":[]}\n0 put a  [ 1 , -2 ]  \n0 put a {\"a\":1,\"a\":2}\n0 put a {\"b\":1,\"aa\":2,\"a\":3,\"\":4}\n0 put a \"\\u0041\\/\\n\\u0001\\u007f\"\n0 put a \"\\ud83d\\ude00\"\n0 put a 18446744073709551615\n0 put a\x20\ttrue\r\n0 putif key 18446744073709551615 [ 1 ]\n0 rev key";
 
-const PARTS: [Parts; 15] = [
+const PARTS: [Parts; 17] = [
     (b'p', b"key", b"-12", 0),
     (b'a', b"sum", b"", -3),
     (b'n', b"", b"", 0),
@@ -193,6 +193,8 @@ const PARTS: [Parts; 15] = [
     (b'p', b"a", b"\"\xf0\x9f\x98\x80\"", 0),
     (b'p', b"a", b"18446744073709551615", 0),
     (b'p', b"a", b"true", 0),
+    (b'i', b"key", b"[1]", 18_446_744_073_709_551_615),
+    (b'r', b"key", b"", 0),
 ];
 
 #[test]
@@ -242,11 +244,22 @@ fn has_parts(op: &Op, want: &Parts) -> bool {
         Op::Add {
             key: own,
             amount: sum,
-        } => { letter == b'a' && own.as_slice() == key && *sum == amount }
+        } => { letter == b'a' && own.as_slice() == key && i128::from(*sum) == amount }
         Op::Del { key: own } => letter == b'd' && own.as_slice() == key,
         Op::Get { key: own } => letter == b'g' && own.as_slice() == key,
         Op::Next { above } => letter == b'n' && above.as_slice() == key,
         Op::Count => letter == b'c',
+        Op::PutIf {
+            key: own,
+            revision,
+            doc,
+        } => {
+            letter == b'i'
+                && own.as_slice() == key
+                && i128::from(*revision) == amount
+                && doc.as_slice() == document
+        }
+        Op::Rev { key: own } => letter == b'r' && own.as_slice() == key,
     }
 }
 

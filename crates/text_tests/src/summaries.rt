@@ -74,5 +74,9 @@ fn pairs_of(alloc: Global, documents: &[&[u8]]) -> Result<Vec<Pair>, AllocError>
 fn pair_of(alloc: Global, document: &[u8]) -> Result<Pair, AllocError> {
     let key = Bytes::of(alloc, b"k")?;
     let doc = Bytes::of(alloc, document)?;
-    Ok(Pair { key, doc })
+    Ok(Pair {
+        key,
+        doc,
+        revision: 1,
+    })
 }

@@ -21,7 +21,7 @@ static TEXTS: [StepsRow; 4] = [
     ),
     (
         1,
-        b"trace 1 64\n0 raise 1 read get k|trace 1 64\n0 raise 1 read next|trace 1 64\n0 raise 1 read next k|trace 1 64\n0 raise 18446744073709551615 read count|trace 1 64\n0 load_word 0 0 refused",
+        b"trace 1 64\n0 raise 1 read get k|trace 1 64\n0 raise 1 read rev k|trace 1 64\n0 raise 1 read next|trace 1 64\n0 raise 1 read next k|trace 1 64\n0 raise 18446744073709551615 read count|trace 1 64\n0 load_word 0 0 refused",
     ),
     // each kind
     (
@@ -86,13 +86,13 @@ static FAULTS: [FaultRow; 13] = [
     (
         2,
         TraceReason::Event,
-        b"trace 1 64\n0 raise|trace 1 64\n0 raise 0 |trace 1 64\n0 raise 0 0|trace 1 64\n0 raise 0 read|trace 1 64\n0 raise 0 read |trace 1 64\n0 raise 0 read get|trace 1 64\n0 raise 0 read get |trace 1 64\n0 raise 0 read get a b|trace 1 64\n0 raise 0 read next |trace 1 64\n0 raise 0 read count 0|trace 1 64\n0 raise 0 read count |trace 1 64\n0 raise read count|trace 1 64\n0 raise 0 write count",
+        b"trace 1 64\n0 raise|trace 1 64\n0 raise 0 |trace 1 64\n0 raise 0 0|trace 1 64\n0 raise 0 read|trace 1 64\n0 raise 0 read |trace 1 64\n0 raise 0 read get|trace 1 64\n0 raise 0 read get |trace 1 64\n0 raise 0 read get a b|trace 1 64\n0 raise 0 read rev|trace 1 64\n0 raise 0 read rev |trace 1 64\n0 raise 0 read rev a b|trace 1 64\n0 raise 0 read next |trace 1 64\n0 raise 0 read count 0|trace 1 64\n0 raise 0 read count |trace 1 64\n0 raise read count|trace 1 64\n0 raise 0 write count",
     ),
     // commands that do more than read, and a key that is too long
     (
         2,
         TraceReason::Event,
-        b"trace 1 64\n0 raise 0 read del k|trace 1 64\n0 raise 0 read add k 1|trace 1 64\n0 raise 0 read put k 1|trace 1 64\n0 raise 0 read get aaaaaaaaaaaaaaaaaaaaaaaaaaaaaaaaaaaaaaaaaaaaaaaaaaaaaaaaaaaaaaaaa",
+        b"trace 1 64\n0 raise 0 read del k|trace 1 64\n0 raise 0 read add k 1|trace 1 64\n0 raise 0 read put k 1|trace 1 64\n0 raise 0 read putif k 0 1|trace 1 64\n0 raise 0 read get aaaaaaaaaaaaaaaaaaaaaaaaaaaaaaaaaaaaaaaaaaaaaaaaaaaaaaaaaaaaaaaaa",
     ),
     // losses of power
     (

@@ -81,9 +81,9 @@ static WORKED: [Row; 16] = [
         },
     ),
     (
-        b"trace 1 64\n0 load_cur\n0 try_shared 0\n0 load_word 0 0\n0 raise 0 read get k\n0 load_cur\n0 raise 0 read next\n0 load_cur\n0 raise 0 read next k\n",
+        b"trace 1 64\n0 load_cur\n0 try_shared 0\n0 load_word 0 0\n0 raise 0 read get k\n0 load_cur\n0 raise 0 read next\n0 load_cur\n0 raise 0 read next k\n0 load_cur\n0 raise 0 read rev k\n",
         Verdict::Yes {
-            events: 8,
+            events: 10,
             crashes: 0,
         },
     ),

@@ -4,11 +4,12 @@ use Rattle.cx_base.specs.Store.{IsKey}
 use Rattle.plain_text.specs.Words.{first_word, rest_of, is_word}
 use Rattle.doc_model.specs.WordParts.{is_key}
 use Rattle.doc_model.specs.declared.operations.Op.{Op}
-use Rattle.doc_model.specs.declared.operations.Op.TheVariants.{Get, Next, Count}
+use Rattle.doc_model.specs.declared.operations.Op.TheVariants.{Get, Next, Count, Rev}
 
--- a command of a script asks for an operation that only reads: `get KEY`, `next`, `next KEY` or `count`
+-- a command of a script asks for an operation that only reads: `get KEY`, `rev KEY`, `next`, `next KEY` or `count`
 abbrev pub AsksReading : Op → List ℕ → Type 0
 AsksReading (Get key) text = (text ≡ codes "get " ++ key) × IsKey key
+AsksReading (Rev key) text = (text ≡ codes "rev " ++ key) × IsKey key
 AsksReading (Next []) text = text ≡ codes "next"
 AsksReading (Next (b ∷ above)) text = (text ≡ codes "next " ++ (b ∷ above)) × IsKey (b ∷ above)
 AsksReading Count text = text ≡ codes "count"
@@ -19,9 +20,9 @@ AsksReading op text = ⊥
 abbrev pub keyed : (List ℕ → Op) → List ℕ → Option Op
 keyed make key = if is_key key then Some (make key) else None
 
-abbrev pub get_of : Option (List ℕ) → Option Op
-get_of None = None
-get_of (Some key) = keyed Get key
+abbrev pub keyed_of : (List ℕ → Op) → Option (List ℕ) → Option Op
+keyed_of make None = None
+keyed_of make (Some key) = keyed make key
 
 abbrev pub next_of : Option (List ℕ) → Option Op
 next_of None = Some (Next [])
@@ -29,7 +30,8 @@ next_of (Some key) = keyed Next key
 
 unfoldable pub reading_by : List ℕ → Option (List ℕ) → Option Op
 reading_by verb rest =
-    if is_word (codes "get") verb then get_of rest
+    if is_word (codes "get") verb then keyed_of Get rest
+    else if is_word (codes "rev") verb then keyed_of Rev rest
     else if is_word (codes "next") verb then next_of rest
     else if is_word (codes "count") verb && not (is_some rest) then Some Count
     else None

@@ -13,7 +13,7 @@ use Rattle.cx_core.specs.declared.kinds.Kind.TheVariants.{WriteCell, Link, Look,
 use Rattle.doc_model.specs.WordParts.{is_key}
 use Rattle.doc_model.specs.Words.{op_words}
 use Rattle.doc_model.specs.declared.operations.Op.{Op}
-use Rattle.doc_model.specs.declared.operations.Op.TheVariants.{Put, Del, Add, Get, Next, Count}
+use Rattle.doc_model.specs.declared.operations.Op.TheVariants.{Put, Del, Add, Get, Next, Count, PutIf, Rev}
 use Rattle.doc_model.proofs.WordTexts.{key_from_test, key_passes}
 use Rattle.plain_text.specs.LineGrammar.{ReadsLines}
 use Rattle.plain_text.specs.Number.{number_of}
@@ -21,7 +21,7 @@ use Rattle.plain_text.specs.Words.{first_word, rest_of, is_word}
 use Rattle.plain_text.proofs.LineByLine.{no_value}
 use Rattle.plain_text.proofs.Numerals.{number_of-decimal, decimal-number_of}
 use Rattle.plain_text.proofs.WordCuts.{decimal_unspaced, named, spaced, unspaced, word_alone, word_cut, word_is}
-use Rattle.trace_text.specs.Commands.{AsksReading, get_of, next_of, reading_by, reading_of}
+use Rattle.trace_text.specs.Commands.{AsksReading, keyed_of, next_of, reading_by, reading_of}
 use Rattle.trace_text.specs.Kinds.{EndsIn, IsKindText, kind_name, kind_numbers, kind_with_one, kind_with_three, kind_with_two, kind_without, numbered, numbers_text, with_first, with_second, with_third}
 use Rattle.trace_text.specs.Reading.{below, caller_of, crash_of, event_of, head_behind, head_of, head_within, judged, kind_by, kind_of, load_behind, load_of, marked, place_of, raise_behind, raise_of, read_behind, what_behind, what_of, with_head, with_step}
 use Rattle.trace_text.specs.Reasons.{reason_for}
@@ -244,11 +244,12 @@ flat_three : (a b c : ℕ) (end_ : List ℕ) → numbers_text (a ∷ b ∷ c ∷
 flat_three a b c end_ =
     ap (λ (t : List ℕ). 32 ∷ t) (append_assoc (decimal a) (numbers_text (b ∷ c ∷ [])) end_) ∙ ap (λ (t : List ℕ). 32 ∷ (decimal a ++ t)) (flat_two b c end_)
 
-get_is : (rest : Option (List ℕ)) (op : Op) → get_of rest ≡ Some op → AsksReading op (codes "get" ++ rest_text rest)
-get_is None op e = absurd (none-some op e)
-get_is (Some key) op e =
-    let is = cond_some (is_key key) (Get key) op e in
-    subst (λ (o : Op). AsksReading o (codes "get " ++ key)) is.1 (refl, key_from_test key is.0)
+keyed_is : (make : List ℕ → Op) (verb : List ℕ) (rest : Option (List ℕ)) (op : Op) → ((key : List ℕ) → IsKey key → AsksReading (make key) (verb ++ 32 ∷ key))
+    → keyed_of make rest ≡ Some op → AsksReading op (verb ++ rest_text rest)
+keyed_is make verb None op asks e = absurd (none-some op e)
+keyed_is make verb (Some key) op asks e =
+    let is = cond_some (is_key key) (make key) op e in
+    subst (λ (o : Op). AsksReading o (verb ++ 32 ∷ key)) is.1 (asks key (key_from_test key is.0))
 
 keyed_next : (key : List ℕ) → IsKey key → AsksReading (Next key) (codes "next " ++ key)
 keyed_next [] k = let some : 1 ≤ 0 = k.some in absurd (omega arith)
@@ -269,13 +270,17 @@ reading_by_is : (verb : List ℕ) (rest : Option (List ℕ)) (op : Op) → readi
 unfolding reading_by
 reading_by_is verb rest op e =
     elim (cases_Bool (is_word (codes "get") verb)) [
-      | inl hit ↦ subst (λ (v : List ℕ). AsksReading op (v ++ rest_text rest)) (sym (word_is (codes "get") verb hit)) (get_is rest op (rw hit at e))
-      | inr miss ↦
-          elim (cases_Bool (is_word (codes "next") verb)) [
-            | inl hit ↦ subst (λ (v : List ℕ). AsksReading op (v ++ rest_text rest)) (sym (word_is (codes "next") verb hit)) (next_is rest op (rw (miss, hit) at e))
-            | inr miss_too ↦
-                let is = count_is (is_word (codes "count") verb) rest op (rw (miss, miss_too) at e) in
-                subst (λ (v : List ℕ). AsksReading op (v ++ rest_text rest)) (sym (word_is (codes "count") verb is.0)) is.1
+      | inl hit ↦ subst (λ (v : List ℕ). AsksReading op (v ++ rest_text rest)) (sym (word_is (codes "get") verb hit)) (keyed_is Get (codes "get") rest op (λ key k. (refl, k)) (rw hit at e))
+      | inr no_get ↦
+          elim (cases_Bool (is_word (codes "rev") verb)) [
+            | inl hit ↦ subst (λ (v : List ℕ). AsksReading op (v ++ rest_text rest)) (sym (word_is (codes "rev") verb hit)) (keyed_is Rev (codes "rev") rest op (λ key k. (refl, k)) (rw (no_get, hit) at e))
+            | inr no_rev ↦
+                elim (cases_Bool (is_word (codes "next") verb)) [
+                  | inl hit ↦ subst (λ (v : List ℕ). AsksReading op (v ++ rest_text rest)) (sym (word_is (codes "next") verb hit)) (next_is rest op (rw (no_get, no_rev, hit) at e))
+                  | inr no_next ↦
+                      let is = count_is (is_word (codes "count") verb) rest op (rw (no_get, no_rev, no_next) at e) in
+                      subst (λ (v : List ℕ). AsksReading op (v ++ rest_text rest)) (sym (word_is (codes "count") verb is.0)) is.1
+                ]
           ]
     ]
 
@@ -447,12 +452,14 @@ as_three name text end_ a b c spelled ends =
 reading_again : (op : Op) (text : List ℕ) → AsksReading op text → reading_of text ≡ Some op
 unfolding reading_of reading_by
 reading_again (Get key) text (spelled, k) = rw (spelled, key_passes key k) refl
+reading_again (Rev key) text (spelled, k) = rw (spelled, key_passes key k) refl
 reading_again (Next []) text spelled = rw spelled refl
 reading_again (Next (b ∷ above)) text (spelled, k) = rw (spelled, key_passes (b ∷ above) k) refl
 reading_again Count text spelled = rw spelled refl
 reading_again (Put key document) text asks = absurd asks
 reading_again (Del key) text asks = absurd asks
 reading_again (Add key amount) text asks = absurd asks
+reading_again (PutIf key revision document) text asks = absurd asks
 
 read_again : (code : ℕ) (op : Op) (command : List ℕ) → Fit code → AsksReading op command
     → raise_of (Some (decimal code ++ 32 ∷ (codes "read " ++ command))) ≡ Some (Raise code (Some (op_words op)))

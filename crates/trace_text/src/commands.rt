@@ -3,7 +3,7 @@
 ghost use Rattle.std.specs.Prelude.{◌≡◌, IfOk, IfSome};
 ghost use Rattle.std.specs.Option.{option_copied};
 ghost use Rattle.doc_model.specs.Meaning.{IsOp};
-ghost use Rattle.trace_text.specs.Commands.{get_of, next_of, reading_by, reading_of};
+ghost use Rattle.trace_text.specs.Commands.{keyed_of, next_of, reading_by, reading_of};
 
 use cx_base::Bytes;
 use doc_model::{Op, is_key};
@@ -29,6 +29,9 @@ fn read_by_verb(alloc: Global, verb: &[u8], rest: Option<&[u8]>) -> Result<Optio
     if is_word(b"get", verb) {
         return read_get(alloc, rest);
     }
+    if is_word(b"rev", verb) {
+        return read_rev(alloc, rest);
+    }
     if is_word(b"next", verb) {
         return read_next(alloc, rest);
     }
@@ -39,11 +42,23 @@ fn read_by_verb(alloc: Global, verb: &[u8], rest: Option<&[u8]>) -> Result<Optio
 }
 
 fn read_get(alloc: Global, key: Option<&[u8]>) -> Result<Option<Op>, AllocError>
-    ensures value { IfOk result (λ op. op ≡ get_of (option_copied key.entry)) }
+    ensures value { IfOk result (λ op. op ≡ keyed_of Op.Get (option_copied key.entry)) }
     ensures limits { IfOk result (λ op. IfSome op IsOp) }
 {
     match key {
         Some(key) if is_key(key) => Ok(Some(Op::Get {
+            key: Bytes::of(alloc, key)?,
+        })),
+        _ => Ok(None),
+    }
+}
+
+fn read_rev(alloc: Global, key: Option<&[u8]>) -> Result<Option<Op>, AllocError>
+    ensures value { IfOk result (λ op. op ≡ keyed_of Op.Rev (option_copied key.entry)) }
+    ensures limits { IfOk result (λ op. IfSome op IsOp) }
+{
+    match key {
+        Some(key) if is_key(key) => Ok(Some(Op::Rev {
             key: Bytes::of(alloc, key)?,
         })),
         _ => Ok(None),

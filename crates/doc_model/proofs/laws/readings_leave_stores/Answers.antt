@@ -1,4 +1,4 @@
-use Rattle.doc_model.proofs.Stores.{reading_leaves}
+use Rattle.doc_model.proofs.AfterSteps.{reading_leaves}
 use Rattle.doc_model.proofs.laws.readings_leave_stores.Goals as goal
 
 pub returns : goal.returns

@@ -15,7 +15,7 @@ loop-pair-preserved c =
     let k : ℕ = c.loop-pair.pair-index in
     let on : k + 1 ≡ suc k = omega arith in
     let next : take (k + 1) c.args.pairs.now ≡ take k c.args.pairs.now ++ c.pair-item.result ∷ [] =
-    ap (λ (n : ℕ). take n c.args.pairs.now) on ∙ take-suc c.args.pairs.now k c.pair-item.result c.loop-pair-test.true ∙ ap (λ (x : List ℕ × List ℕ). take k c.args.pairs.now ++ x ∷ []) (sym c.pair-item.is) in
+    ap (λ (n : ℕ). take n c.args.pairs.now) on ∙ take-suc c.args.pairs.now k c.pair-item.result c.loop-pair-test.true ∙ ap (λ (x : (List ℕ × List ℕ) × ℕ). take k c.args.pairs.now ++ x ∷ []) (sym c.pair-item.is) in
     let more : integer_sum (take (k + 1) c.args.pairs.now) ≡ integer_sum (take k c.args.pairs.now) +ℤ number_in c.pair-item.result =
     ap integer_sum next ∙ integer_sum-push (take k c.args.pairs.now) c.pair-item.result in
     let small : SFits w64 c.number_in.result = search rules in

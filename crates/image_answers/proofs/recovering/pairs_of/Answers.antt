@@ -2,7 +2,8 @@ use Rattle.std.proofs.Common.{◌≡◌, ◌∙◌, List, ℕ, ap, drop, subst, 
 use Rattle.std.proofs.lemmas.Result.{IfOk-weaker}
 use Rattle.cx_core.specs.Region.{object_part}
 use Rattle.doc_store.specs.ExactStep.{IsImage}
-use Rattle.index_checks.specs.Layout.{StandsFor}
+use Rattle.index_checks.specs.Reading.{StandsForRevised, revised_in}
+use Rattle.image_answers.specs.Documents.{HaveDocuments}
 use Rattle.image_answers.proofs.recovering.pairs_of.Goals as goal
 
 pub documents-requires : goal.documents-requires
@@ -11,9 +12,17 @@ documents-requires c =
     let (lines, lawful) = c.requires.lawful in
     record { lawful = (lines, subst (IsImage lines) (sym (c.split_at.ensures.back ∙ ap (drop 1168) c.as_slice.ensures)) lawful) }
 
+-- the triples read off the words
+have : (words : List ℕ) (triples : List ((List ℕ × List ℕ) × ℕ)) → StandsForRevised words (revised_in words) → triples ≡ (revised_in words).triples → HaveDocuments words triples
+have words triples stands is = (
+    (revised_in words).last,
+    subst (λ (ts : List ((List ℕ × List ℕ) × ℕ)). StandsForRevised words (record { last = (revised_in words).last; triples = ts })) (sym is) stands,
+)
+
 pub returns : goal.returns
 unfolding object_part
 returns c =
-    let part : c.split_at.result.1.now ≡ object_part c.args.base.now.words = c.split_at.ensures.back ∙ ap (drop 1168) c.as_slice.ensures in
-    IfOk-weaker c.documents.result (λ pairs. StandsFor c.split_at.result.1.now 1 pairs.items) (λ pairs. StandsFor (object_part c.args.base.now.words) 1 pairs.items)
-    (λ pairs is. subst (λ (ws : List ℕ). StandsFor ws 1 pairs.items) part is) c.documents.ensures.stands
+    let words : List ℕ = c.split_at.result.1.now in
+    let part : words ≡ object_part c.args.base.now.words = c.split_at.ensures.back ∙ ap (drop 1168) c.as_slice.ensures in
+    IfOk-weaker c.documents.result (λ pairs. pairs.items ≡ (revised_in words).triples) (λ pairs. HaveDocuments (object_part c.args.base.now.words) pairs.items)
+    (λ pairs is. subst (λ (ws : List ℕ). HaveDocuments ws pairs.items) part (have words pairs.items c.documents.ensures.stands is)) c.documents.ensures.pairs

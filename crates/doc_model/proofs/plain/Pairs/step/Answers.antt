@@ -1,4 +1,4 @@
-use Rattle.doc_model.proofs.Stores.{rise_after_step}
+use Rattle.doc_model.proofs.AfterSteps.{rise_after_step}
 use Rattle.doc_model.proofs.plain.Pairs.step.Goals as goal
 
 pub invariant_of-self : goal.invariant_of-self
