@@ -26,7 +26,7 @@ pub fn run_lives<R: Threads + Wait + Sync, G: Gate + Sync>(
     gate: &G,
 ) -> Result<Lived<Reply>, AllocError>
     requires { KeepsLimits IsOp 8 script.now }
-    ensures { IfOk result (HaveLived (document_meaning script.now.lines) script.now.lines 1 (IsImage script.now.lines) script.now.lives) }
+    ensures { IfOk result (HaveLived (document_meaning script.now.lines) script.now.lines 2 (IsImage script.now.lines) script.now.lives) }
 {
     if script.lives.is_empty() {
         return Ok(Lived::new(alloc));

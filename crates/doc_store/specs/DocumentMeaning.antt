@@ -6,7 +6,7 @@ use Rattle.doc_model.specs.Revisions.{RevisedStore, empty_store}
 use Rattle.doc_model.specs.Words.{HasIntegerAmount, HasWordNumber, IsReply, op_words, reply_words}
 use Rattle.doc_model.specs.declared.operations.Op.{Op}
 use Rattle.doc_model.specs.declared.operations.Reply.{Reply}
-use Rattle.doc_model.specs.declared.operations.Reply.TheVariants.{New, Replaced, Deleted, Absent, Doc, Sum, NotNumber, Overflow, NoRoom, Key, Number, Set, Stale, Revision}
+use Rattle.doc_model.specs.declared.operations.Reply.TheVariants.{Doc, Sum, Key, Number, Set, Stale, Revision}
 use Rattle.index_checks.specs.Reading.{StandsForRevised}
 use Rattle.typed_object.specs.Meaning.{Encoding, Meaning}
 

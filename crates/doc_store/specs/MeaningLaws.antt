@@ -1,11 +1,11 @@
 -- The steps of the document store are what its operations mean.
-use Rattle.std.proofs.Common.{◌≡◌, ◌^◌, ◌≤◌, ◌&&◌, ℕ, List, refl, ap, ◌∙◌}
+use Rattle.std.proofs.Common.{◌≡◌, ◌^◌, ◌≤◌, ◌&&◌, ℕ, refl, ap, ◌∙◌}
 use Rattle.cx_base.specs.Memory.{Words}
-use Rattle.doc_model.specs.Meaning.{IsOp, only_reads, reply_to}
-use Rattle.doc_model.specs.Words.{HasIntegerAmount, IsOpOf, op_words, reply_words}
+use Rattle.doc_model.specs.Meaning.{IsOp, only_reads}
+use Rattle.doc_model.specs.Words.{HasIntegerAmount, IsOpOf, op_words}
 use Rattle.doc_model.specs.declared.operations.Op.{Op}
 use Rattle.doc_model.proofs.OpKinds.{op_words_fit}
-use Rattle.doc_store.specs.ExactStep.{IsImage, is_op_in, op_in, opening_image, reads_in, store_step}
+use Rattle.doc_store.specs.ExactStep.{IsImage, op_in, opening_image, reads_in, store_step}
 use Rattle.doc_store.specs.DocumentMeaning.{document_meaning}
 use Rattle.doc_store.specs.OpsRead.{op_is_read}
 use Rattle.doc_store.specs.ReplyWords.{told_by_words}

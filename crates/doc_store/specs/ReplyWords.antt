@@ -3,7 +3,7 @@ use Rattle.std.proofs.Common.{◌≡◌, ◌≤◌, length, get_or, refl, sym, a
 use Rattle.doc_model.specs.Words.{HasWordNumber, IsReply, reply_words}
 use Rattle.doc_model.specs.WordParts.{IsShortText, reply_with}
 use Rattle.doc_model.specs.declared.operations.Reply.{Reply}
-use Rattle.doc_model.specs.declared.operations.Reply.TheVariants.{New, Replaced, Deleted, Absent, Doc, Sum, NotNumber, Overflow, NoRoom, Key, Number, Set, Stale, Revision}
+use Rattle.doc_model.specs.declared.operations.Reply.TheVariants.{Doc, Sum, Key, Number, Set, Stale, Revision}
 use Rattle.doc_model.proofs.PartPlaces.{carried, key_length_in, document_length_in, parts_same}
 use Rattle.doc_model.proofs.ReplyKinds.{reply_again, reply_document, reply_document_text, reply_key, reply_key_text, reply_kind, reply_number, reply_words_are}
 use Rattle.doc_model.proofs.WordTexts.{no_text}

@@ -21,7 +21,7 @@ documents_from callers lines base = record { callers = callers; base = base; ste
 
 -- The verdict is of the trace, from this base on, and no other is. Where it is `Yes` each state is lawful, and nothing answered is lost.
 pub record IsVerdictFrom (base : Base) (trace : Trace) (verdict : Verdict) : Type 0 where
-  pub found : IsOnlyFound trace.lines 1 (IsImage trace.lines) (documents_from trace.callers trace.lines base) (opening_state trace.callers base) trace.steps verdict
+  pub found : IsOnlyFound trace.lines 2 (IsImage trace.lines) (documents_from trace.callers trace.lines base) (opening_state trace.callers base) trace.steps verdict
   pub safe : OnYes verdict (IsSafeTrace trace.lines (IsImage trace.lines) (documents_from trace.callers trace.lines base) (opening_state trace.callers base) trace.steps)
 
 -- what a verdict says, and as a text

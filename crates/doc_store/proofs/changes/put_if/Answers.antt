@@ -2,7 +2,7 @@ use Rattle.std.proofs.Common.{rules}
 use Rattle.cx_base.specs.Memory.{Becomes}
 use Rattle.cx_base.specs.Packing.{unpacked}
 use Rattle.cx_base.proofs.MemoryLemmas.{Becomes-weaker, Becomes-then}
-use Rattle.cx_base.proofs.ReadLemmas.{Becomes-from-read, Reads-with, always_read}
+use Rattle.cx_base.proofs.ReadLemmas.{Becomes-from-read, always_read}
 use Rattle.doc_model.specs.Meaning.{set_reply}
 use Rattle.doc_store.specs.ExactStep.{Exactly}
 use Rattle.index_checks.specs.Reading.{revised_in}

@@ -17,7 +17,7 @@ returns c =
     let words : base.words ≡ fresh_region (opening_image trace.lines) = c.in_ok-base.ensures.words ∙ ap (λ (n : ℕ). fresh_region (opening_image n)) c.of-store.ensures in
     let fresh : base ≡ fresh_base trace.lines = λ i. record { place = c.in_ok-base.ensures.place i; words = words i } in
     let here : IsVerdictFrom base trace verdict = record {
-      found = subst (λ (n : ℕ). IsOnlyFound n 1 (IsImage n) (documents_from trace.callers n base) (opening_state trace.callers base) trace.steps verdict) c.of-store.ensures c.in_ok-verdict.ensures.found;
+      found = subst (λ (n : ℕ). IsOnlyFound n 2 (IsImage n) (documents_from trace.callers n base) (opening_state trace.callers base) trace.steps verdict) c.of-store.ensures c.in_ok-verdict.ensures.found;
       safe = subst (λ (n : ℕ). OnYes verdict (IsSafeTrace n (IsImage n) (documents_from trace.callers n base) (opening_state trace.callers base) trace.steps)) c.of-store.ensures c.in_ok-verdict.ensures.safe;
     } in
     IfOk-weaker c.text_of.result (λ text. text.items ≡ verdict_text verdict) (λ text. IsTraceVerdict trace text.items)
