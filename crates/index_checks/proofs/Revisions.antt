@@ -5,12 +5,12 @@ use Rattle.std.proofs.lemmas.List.Elements.{All-nil, All-cons, All-head, All-tai
 use Rattle.cx_base.specs.Memory.{Words}
 use Rattle.cx_base.specs.Store.{Store, IsStore}
 use Rattle.cx_base.proofs.WordLemmas.{Words-at}
-use Rattle.doc_model.specs.Revisions.{RevisedStore, IsRevisedStore, pairs_in}
+use Rattle.doc_model.specs.Revisions.{IsRevisedStore, pairs_in}
 use Rattle.avl_words.specs.Tree.{items}
 use Rattle.avl_words.specs.Exact.{tree_in}
 use Rattle.avl_words.specs.Lines.{word_of}
 use Rattle.index_checks.specs.Lawful.{IsLawful}
-use Rattle.index_checks.specs.Layout.{Place, Placed, nodes_of, head_of, IsRevision, AreRevisions, StandsFor}
+use Rattle.index_checks.specs.Layout.{Place, Placed, nodes_of, head_of, IsRevision, StandsFor}
 use Rattle.index_checks.specs.Reading.{pair_at, triple_at, store_in, revised_in, StandsForRevised, HasOneRevisedStore}
 use Rattle.index_checks.proofs.LawfulWords.{nodes_read, store_is}
 

@@ -4,8 +4,11 @@
 //!
 //! - Whatever the words are, it is told exactly whether a balanced tree of so many nodes stands below a line: `is_balanced`; a walk gives each
 //!   node of such a tree once, in order: `InOrder`.
-//! - Whatever the words are, true exactly where a tree stands in them for some store with this version, and then for one only, which is read
-//!   off them: `lawful`; `lawful_words_have_one_store`, `words_stand_for_one_store`, `words_tell_their_store`; `pairs_of` lists it.
+//! - Whatever the words are, true exactly where a tree stands in them for some store with this version, of which there are two, and then for
+//!   one only, which is read off them: `lawful`; `lawful_words_have_one_store`, `words_stand_for_one_store`, `words_tell_their_store`;
+//!   `pairs_of` lists it.
+//! - In version 2 the header tells the last revision that was given, and each pair has a revision from 1 to it. Lawful words stand for exactly
+//!   one store with such revisions: `lawful_words_have_one_revised_store`. In version 1 there are none, and both versions share their check.
 //!
 //! Tested (`word_tests`): a tree over a vector; 83 hostile images (heights, balance, rings, shared children, keys out of order at a distance, a
 //! line in two places) and 7 lawful ones.

@@ -1,11 +1,10 @@
 -- The node of a key is taken out of the tree, and its lines are loose.
 use Rattle.std.proofs.Common.{◌≡◌, ◌≢◌, ◌^◌, ◌+◌, ◌-◌, ◌≤◌, ℕ, true, false, cond, List, [], ◌∷◌, ◌++◌, length, is_some, sym, ap, ap₂, subst, ◌∙◌, append_assoc, length-append, arith}
-use Rattle.std.specs.List.{flat_map, All}
-use Rattle.std.specs.declared.cmp.Ordering.TheVariants.{Less}
-use Rattle.std.proofs.lemmas.List.Elements.{All-append, All-head, All-tail}
+use Rattle.std.specs.List.{flat_map}
+use Rattle.std.proofs.lemmas.List.Elements.{All-head, All-tail}
 use Rattle.std.proofs.lemmas.List.Concat.{flat_map-append}
 use Rattle.cx_base.specs.Memory.{Becomes, Always}
-use Rattle.cx_base.specs.Store.{Store, IsStore, KeysRise, key_cmp, IsKey, IsDocument}
+use Rattle.cx_base.specs.Store.{Store}
 use Rattle.doc_model.specs.Meaning.{document_at, without_key}
 use Rattle.avl_words.specs.Tree.{Tree, items, Balanced, size}
 use Rattle.index_checks.proofs.Arranging.{tree_few}
@@ -21,17 +20,17 @@ use Rattle.avl_words.proofs.ExactWords.{tree_in_is}
 use Rattle.avl_words.proofs.ExactTrees.{AreThere, tree_header}
 use Rattle.index_checks.specs.Layout.{Place, lines_at, nodes_of, Arranged, StandsFor, IsIndex, head_of}
 use Rattle.index_checks.proofs.LawfulWords.{store_is}
-use Rattle.index_checks.proofs.Lines.{all_left, all_right}
+use Rattle.index_checks.proofs.Lines.{all_left}
 use Rattle.index_checks.proofs.OneStore.{placed_append}
-use Rattle.word_index.specs.Changes.{SameLine, LoosePair, HasLoosePair, IsRemoved}
+use Rattle.word_index.specs.Changes.{SameLine, LoosePair, HasLoosePair}
 use Rattle.word_index.specs.Exact.{order_in, with_one_less, node_at, with_cut, is_key_in, with_pair_given, with_key_removed}
 use Rattle.word_index.specs.Removal.{CanCut, Cuts}
 use Rattle.word_index.specs.Walk.{AtSpot}
 use Rattle.word_index.proofs.ExactGiving.{pair_is_given}
 use Rattle.word_index.proofs.Frames.{times, times_append, at_same}
 use Rattle.word_index.proofs.Relaying.{IsRelaid, relaid_words, relaid_once, relaid_there, loose_same, relaid}
-use Rattle.word_index.proofs.Splits.{document_there, without_itself, without_nothing}
-use Rattle.word_index.proofs.KeyPlaces.{tree_of, map_append, walk_end, HasPlace, spot_place, spot_none, spot_missing}
+use Rattle.word_index.proofs.Splits.{document_there, without_itself}
+use Rattle.word_index.proofs.KeyPlaces.{tree_of, map_append, walk_end, HasPlace, spot_place, spot_missing}
 use Rattle.index_checks.proofs.Revisions.{triples_of}
 use Rattle.word_index.proofs.Triples.{HasTriples, removed_at, triples_without}
 

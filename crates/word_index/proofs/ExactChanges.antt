@@ -1,5 +1,5 @@
 -- What a removal leaves are the exact words of its meaning.
-use Rattle.std.proofs.Common.{◌≡◌, ℕ, Bool, true, false, cond, List, ◌++◌, is_some, inl, inr, refl, sym, ap, ap₂, subst, ◌∙◌}
+use Rattle.std.proofs.Common.{◌≡◌, ℕ, Bool, true, false, cond, List, is_some, inl, inr, refl, sym, ap, ap₂, subst, ◌∙◌}
 use Rattle.std.proofs.lemmas.Bool.{cases_eq}
 use Rattle.cx_base.specs.Store.{Store}
 use Rattle.doc_model.specs.Meaning.{document_at, without_key}
@@ -9,7 +9,7 @@ use Rattle.avl_words.specs.Words.{root}
 use Rattle.index_checks.specs.Layout.{head_of, IsRevision, StandsFor, IsIndex}
 use Rattle.index_checks.specs.Reading.{revised_in}
 use Rattle.index_checks.proofs.LawfulWords.{store_is}
-use Rattle.index_checks.proofs.Revisions.{triples_of, triples_read, last_read}
+use Rattle.index_checks.proofs.Revisions.{triples_of}
 use Rattle.word_index.specs.Changes.{IsRemoved}
 use Rattle.word_index.specs.Exact.{order_in, node_at, with_cut, with_pair_given, is_key_in, with_key_removed}
 use Rattle.word_index.proofs.Cutting.{cut_is, removed_stands}

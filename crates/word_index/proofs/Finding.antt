@@ -1,6 +1,5 @@
 -- The revision of a key where the walk to it ends.
 use Rattle.std.proofs.Common.{false, ◌≡◌, ◌≢◌, ℕ, List, ◌∷◌, ◌++◌, Some, None, sym, ap, ap₂, ◌∙◌}
-use Rattle.doc_model.specs.Revisions.{revision_at}
 use Rattle.avl_words.specs.Lines.{word_of}
 use Rattle.index_checks.specs.Layout.{IsIndex}
 use Rattle.index_checks.specs.Reading.{revised_in}

@@ -1,7 +1,7 @@
 -- Words of version 1 become words of version 2.
-use Rattle.std.proofs.Common.{◌≡◌, ◌≢◌, ◌+◌, ◌*◌, ◌^◌, ◌<◌, ◌≤◌, ℕ, zero, suc, cond, eqb, List, [], ◌∷◌, ◌++◌, length, get_or, map, set, refl, sym, ap, ap₂, subst, ◌∙◌, lit<, arith}
+use Rattle.std.proofs.Common.{◌≡◌, ◌+◌, ◌*◌, ◌<◌, ◌≤◌, ℕ, zero, suc, cond, eqb, List, [], ◌∷◌, ◌++◌, length, get_or, map, refl, sym, ap, ap₂, subst, ◌∙◌, lit<, arith}
 use Rattle.std.specs.List.{All}
-use Rattle.std.proofs.lemmas.List.{append-nil, append_assoc, get_or-set_same, get_or-set_other, length-set}
+use Rattle.std.proofs.lemmas.List.{append_assoc, get_or-set_same, get_or-set_other, length-set}
 use Rattle.std.proofs.lemmas.List.Elements.{All-nil, All-cons}
 use Rattle.cx_base.specs.Memory.{Words}
 use Rattle.cx_base.specs.Store.{Store}
@@ -14,7 +14,7 @@ use Rattle.index_checks.specs.Lawful.{IsLawful, head_in}
 use Rattle.index_checks.specs.Layout.{Place, Placed, nodes_of, Head, head_of, IsRevision, Arranged, StandsFor}
 use Rattle.index_checks.specs.Order.{in_order, HasTree, IsNoted, AreNoted, to_come}
 use Rattle.index_checks.specs.Reading.{StandsForRevised}
-use Rattle.index_checks.proofs.Arranging.{arranged_tree, arranged_nodes, arranged_count}
+use Rattle.index_checks.proofs.Arranging.{arranged_tree, arranged_nodes}
 use Rattle.index_checks.proofs.OneStore.{placed_append, placed_count}
 use Rattle.index_checks.proofs.Orders.{tree_of}
 use Rattle.index_checks.proofs.Revisions.{triples_of}
@@ -22,7 +22,7 @@ use Rattle.word_index.specs.Upgrading.{with_first_revisions, upgraded_in, first_
 use Rattle.word_index.proofs.DocumentChanges.{told_is}
 use Rattle.word_index.proofs.Renewing.{stands_linked, around, with_lines}
 use Rattle.word_index.proofs.Taking.{header_stored}
-use Rattle.word_index.proofs.Triples.{Triple, HasTriples, StandsWith, IsHeaded, headed_arranged, stands_again}
+use Rattle.word_index.proofs.Triples.{Triple, IsHeaded, headed_arranged, stands_again}
 
 -- the new header
 unfoldable pub with_header : List ℕ → List ℕ

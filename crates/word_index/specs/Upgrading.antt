@@ -1,5 +1,5 @@
 -- Words of version 1 become words of version 2.
-use Rattle.std.specs.Prelude.{◌≡◌, ℕ, List, [], ◌∷◌, map}
+use Rattle.std.specs.Prelude.{ℕ, List, [], ◌∷◌, map}
 use Rattle.cx_base.specs.Memory.{Words}
 use Rattle.cx_base.specs.Store.{Store}
 use Rattle.doc_model.specs.Revisions.{RevisedStore}

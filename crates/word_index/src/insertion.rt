@@ -72,12 +72,7 @@ fn lines_in_use<M: Memory>(mem: &mut M) -> Result<u64, Halt>
 }
 
 /// Writes a node, as a leaf, and the blocks of a pair with a revision into new lines, and gives the node.
-fn write_pair<M: Memory>(
-    mem: &mut M,
-    key: &Key,
-    doc: &Doc<'_>,
-    revision: u64,
-) -> Result<u64, Halt>
+fn write_pair<M: Memory>(mem: &mut M, key: &Key, doc: &Doc<'_>, revision: u64) -> Result<u64, Halt>
     requires memory { CanStore M.Memory mem.old (λ ws. CanTake ws (pair_lines (unpacked key.now.len key.now.words, unpacked doc.now.len doc.now.words.now))) }
     requires key { IsPacked 8 key.now.len key.now.words }
     ensures changes { Changes M.Memory mem.old mem.new result (λ node. PairWritten (unpacked key.now.len key.now.words, unpacked doc.now.len doc.now.words.now) revision node) }

@@ -3,11 +3,15 @@
 //!
 //! A balanced tree of pairs. What is said holds for every pair that stands, over any memory.
 //!
-//! - `find`, `least_above`, `count` and `read_document` answer what the list of pairs answers, and leave the words: `done`, `kept`.
+//! - `find`, `least_above`, `count` and `read_document` answer what the list of pairs answers, and leave the words: `done`, `kept`. The node
+//!   that `find` gives tells the key's revision, which `rev_at` reads; `last_revision` reads the last one that was given.
 //! - The words after `insert` and `remove` are a function of the words before them, and so is the answer: `changes`.
 //! - These words stand for the store with the pair, and NoRoom comes exactly where it would not have room, with nothing changed; for the store
-//!   without the key; and are as many words of 64 bits as before: `documents_are_put`, `keys_are_removed`.
+//!   without the key; and are as many words of 64 bits as before: `documents_are_put`, `keys_are_removed`. A pair that is put gets the next
+//!   revision, which becomes the last one given; every other pair keeps its own: `revised` of both laws.
 //! - After `format_index` they stand for the empty store, and are a function of those before: `changes`, `exact`.
+//! - Lawful words of version 1 become words of version 2 with the same pairs, each with revision 1, and 1 is the last one given; every other
+//!   word is as it was: `upgrade_index` (`migrated`, `exact`).
 //! - Each of `find`, `least_above`, `insert` and `remove` visits so few nodes that 2^visits is at most 2(n + 1)^2 for n pairs before the call:
 //!   `visits` of the same calls, of the last two where they return; where they halt, for some words that may have been there: `walked`. Each
 //!   comparison of a key is a visit that is counted: `order_at` (`counted`).
@@ -35,8 +39,8 @@ mod walk;
 pub use answers::{find, least_above, read_document};
 pub use format::format_index;
 pub use index_checks::{
-    lawful, lawful_words_have_one_revised_store, lawful_words_have_one_store, pairs_of, words_stand_for_one_store,
-    words_tell_their_store,
+    lawful, lawful_words_have_one_revised_store, lawful_words_have_one_store, pairs_of,
+    words_stand_for_one_store, words_tell_their_store,
 };
 pub use insertion::{Inserted, insert};
 pub use laws::{documents_are_put, keys_are_removed};

@@ -5,11 +5,12 @@ use doc_model::Pair;
 use index_checks::{lawful, pairs_of};
 use std::alloc::{AllocError, Global};
 use std::test::Fail;
+use word_index::upgrade_index;
 
 // Eight letters x.
 const XS: u64 = 0x7878_7878_7878_7878;
 
-// Twenty-one lines with the pairs a to e, each node before its blocks: b is the root, over a and d, which is over c and
+// Twenty-one lines of version 1 with the pairs a to e, each node before its blocks: b is the root, over a and d, which is over c and
 // e. The document of e has two blocks. Two lines are given back: their words behind the first, and the words of the last
 // two lines, are not looked at.
 const IMAGE: [u64; 168] = [
@@ -39,9 +40,18 @@ const IMAGE: [u64; 168] = [
 // What is changed of the image: words, each by its line and its place.
 type Lie = &'static [(usize, usize, u64)];
 
-static HEADERS: [Lie; 19] = [
-    // another version
-    &[(0, 0, 2)],
+// What makes the image one of version 2: each pair has revision 1, which is the last one given.
+const UPGRADE: Lie = &[
+    (0, 0, 2),
+    (0, 6, 1),
+    (1, 7, 1),
+    (4, 7, 1),
+    (7, 7, 1),
+    (10, 7, 1),
+    (13, 7, 1),
+];
+
+static HEADERS: [Lie; 17] = [
     // no root
     &[(0, 1, 0)],
     // no root, and no pair is counted
@@ -74,10 +84,83 @@ static HEADERS: [Lie; 19] = [
     &[(0, 5, 6)],
     // pairs without end are counted
     &[(0, 5, u64::MAX)],
-    // a sixth word
-    &[(0, 6, 1)],
     // a seventh word
     &[(0, 7, 1)],
+];
+
+// What is a lie in version 1 alone.
+static FIRST_VERSION: [Lie; 7] = [
+    // another version
+    &[(0, 0, 2)],
+    // no version
+    &[(0, 0, 0)],
+    // a last revision
+    &[(0, 6, 1)],
+    // a revision
+    &[(4, 7, 1)],
+    // a last revision, and the revision of the first node
+    &[(0, 6, 1), (1, 7, 1)],
+    // all revisions
+    &[
+        (0, 6, 1),
+        (1, 7, 1),
+        (4, 7, 1),
+        (7, 7, 1),
+        (10, 7, 1),
+        (13, 7, 1),
+    ],
+    // the greatest last revision
+    &[(0, 6, u64::MAX)],
+];
+
+// What is a lie in version 2 alone.
+static SECOND_VERSION: [Lie; 13] = [
+    // another version
+    &[(0, 0, 1)],
+    // a version that never was
+    &[(0, 0, 3)],
+    // no revision was given
+    &[(0, 6, 0)],
+    // a revision of 0, at each node
+    &[(1, 7, 0)],
+    &[(4, 7, 0)],
+    &[(7, 7, 0)],
+    &[(10, 7, 0)],
+    &[(13, 7, 0)],
+    // a revision behind the last one given, at a leaf, at the root and at the last node
+    &[(1, 7, 2)],
+    &[(4, 7, 2)],
+    &[(13, 7, 2)],
+    // the greatest revision, behind the last one given
+    &[(0, 6, u64::MAX - 1), (7, 7, u64::MAX)],
+    // revisions of version 1
+    &[
+        (0, 6, 0),
+        (1, 7, 0),
+        (4, 7, 0),
+        (7, 7, 0),
+        (10, 7, 0),
+        (13, 7, 0),
+    ],
+];
+
+// What is no lie in version 2.
+static REVISIONS: [Lie; 4] = [
+    // revisions up to the last one given
+    &[
+        (0, 6, 9),
+        (1, 7, 9),
+        (4, 7, 1),
+        (7, 7, 3),
+        (10, 7, 2),
+        (13, 7, 5),
+    ],
+    // a last revision that no pair has
+    &[(0, 6, 2)],
+    // two pairs with one revision, and the greatest one
+    &[(0, 6, u64::MAX), (1, 7, u64::MAX), (13, 7, u64::MAX)],
+    // another word of a given-back line
+    &[(17, 7, 0), (18, 7, u64::MAX)],
 ];
 
 static TREES: [Lie; 25] = [
@@ -169,7 +252,7 @@ static TREES: [Lie; 25] = [
     &[(1, 0, 0x2000_0000_0000_0001)],
 ];
 
-static PAIRS: [Lie; 13] = [
+static PAIRS: [Lie; 12] = [
     // equal keys, of a node and its child
     &[(2, 1, 0x62)],
     // equal keys at a distance
@@ -193,8 +276,6 @@ static PAIRS: [Lie; 13] = [
     ],
     // a key before the one that it goes on from
     &[(2, 1, 0x6261), (1, 4, 2), (5, 1, 0x61)],
-    // a node's last word
-    &[(4, 7, 1)],
     // both keys in one block
     &[(4, 3, 2)],
     // the key's block is the document's
@@ -281,30 +362,51 @@ static TRUTHS: [Lie; 7] = [
     &[(0, 1, 10), (10, 0, 4), (10, 2, 3), (4, 1, 7), (4, 2, 2)],
 ];
 
-// The words of the image with its lie.
-fn told(lie: Lie) -> Option<[u64; 168]> {
-    let mut words = IMAGE;
+// Tells a lie: false where there is no such word.
+fn tell(words: &mut [u64; 168], lie: Lie) -> bool {
     for (line, place, word) in lie {
         if *line >= 21 || *place >= 8 {
-            return None;
+            return false;
         }
         words[8 * *line + *place] = *word;
+    }
+    true
+}
+
+// The words of the image of a version with its lie.
+fn told(version: u64, lie: Lie) -> Option<[u64; 168]> {
+    let mut words = IMAGE;
+    if version != 1 && !tell(&mut words, UPGRADE) {
+        return None;
+    }
+    if !tell(&mut words, lie) {
+        return None;
     }
     Some(words)
 }
 
-// Whether so many words of the image with its lie, up to all, are lawful.
-fn is_lawful(alloc: Global, lie: Lie, count: usize) -> Result<Option<bool>, AllocError> {
-    match told(lie) {
-        Some(words) if count <= 168 => Ok(Some(lawful(alloc, &words[..count], 1)?)),
+// Whether so many words of the image of a version with its lie, up to all, are lawful.
+fn is_lawful(
+    alloc: Global,
+    version: u64,
+    lie: Lie,
+    count: usize,
+) -> Result<Option<bool>, AllocError> {
+    match told(version, lie) {
+        Some(words) if count <= 168 => Ok(Some(lawful(alloc, &words[..count], version)?)),
         _ => Ok(None),
     }
 }
 
-// The first lie that is told otherwise.
-fn first_other_lie(alloc: Global, lies: &[Lie], truth: bool) -> Result<Option<usize>, AllocError> {
+// The first lie that is told otherwise in a version.
+fn first_other_lie(
+    alloc: Global,
+    version: u64,
+    lies: &[Lie],
+    truth: bool,
+) -> Result<Option<usize>, AllocError> {
     for (i, lie) in lies.iter().enumerate() {
-        if is_lawful(alloc, lie, 168)? != Some(truth) {
+        if is_lawful(alloc, version, lie, 168)? != Some(truth) {
             return Ok(Some(i));
         }
     }
@@ -327,9 +429,78 @@ const COUNTS: [(usize, bool); 11] = [
 ];
 
 // The first number of words of the image that is told otherwise.
-fn first_other_count(alloc: Global, rows: &[(usize, bool)]) -> Result<Option<usize>, AllocError> {
+fn first_other_count(
+    alloc: Global,
+    version: u64,
+    rows: &[(usize, bool)],
+) -> Result<Option<usize>, AllocError> {
     for (i, (count, truth)) in rows.iter().enumerate() {
-        if is_lawful(alloc, &[], *count)? != Some(*truth) {
+        if is_lawful(alloc, version, &[], *count)? != Some(*truth) {
+            return Ok(Some(i));
+        }
+    }
+    Ok(None)
+}
+
+// Whether what is a lie in both versions is found in one, and what is none is not.
+fn are_told(alloc: Global, version: u64) -> Result<bool, AllocError> {
+    Ok(
+        first_other_lie(alloc, version, &HEADERS, false)?.is_none()
+            && first_other_lie(alloc, version, &TREES, false)?.is_none()
+            && first_other_lie(alloc, version, &PAIRS, false)?.is_none()
+            && first_other_lie(alloc, version, &TEXTS, false)?.is_none()
+            && first_other_lie(alloc, version, &GIVEN_BACK, false)?.is_none()
+            && first_other_lie(alloc, version, &TRUTHS, true)?.is_none()
+            && first_other_count(alloc, version, &COUNTS)?.is_none(),
+    )
+}
+
+#[test]
+fn lies_are_found(rt: HostRuntime) -> Result<(), Fail> {
+    let alloc = rt.alloc();
+    holds(&rt, are_told(alloc, 1)?);
+    holds(&rt, are_told(alloc, 2)?);
+    Ok(())
+}
+
+#[test]
+fn each_version_has_its_own_lies(rt: HostRuntime) -> Result<(), Fail> {
+    let alloc = rt.alloc();
+    holds(
+        &rt,
+        first_other_lie(alloc, 1, &FIRST_VERSION, false)?.is_none(),
+    );
+    holds(
+        &rt,
+        first_other_lie(alloc, 2, &SECOND_VERSION, false)?.is_none(),
+    );
+    holds(&rt, first_other_lie(alloc, 2, &REVISIONS, true)?.is_none());
+    Ok(())
+}
+
+// Words of a version that never was, with the revisions of version 1 or of version 2.
+const NO_VERSION: [(u64, Lie); 4] = [
+    (0, &[(0, 0, 0)]),
+    (3, &[(0, 0, 3)]),
+    (u64::MAX, &[(0, 0, u64::MAX)]),
+    (
+        0,
+        &[
+            (0, 0, 0),
+            (0, 6, 0),
+            (1, 7, 0),
+            (4, 7, 0),
+            (7, 7, 0),
+            (10, 7, 0),
+            (13, 7, 0),
+        ],
+    ),
+];
+
+// The first of them that is lawful.
+fn first_of_no_version(alloc: Global, rows: &[(u64, Lie)]) -> Result<Option<usize>, AllocError> {
+    for (i, (version, lie)) in rows.iter().enumerate() {
+        if is_lawful(alloc, *version, lie, 168)? != Some(false) {
             return Ok(Some(i));
         }
     }
@@ -337,15 +508,46 @@ fn first_other_count(alloc: Global, rows: &[(usize, bool)]) -> Result<Option<usi
 }
 
 #[test]
-fn lies_are_found(rt: HostRuntime) -> Result<(), Fail> {
+fn there_is_no_other_version(rt: HostRuntime) -> Result<(), Fail> {
+    holds(&rt, first_of_no_version(rt.alloc(), &NO_VERSION)?.is_none());
+    Ok(())
+}
+
+// Whether words of version 1 become these words of version 2.
+fn becomes(alloc: Global, words: &mut [u64], wanted: &[u64]) -> Result<bool, AllocError> {
+    if !lawful(alloc, words, 1)? {
+        return Ok(false);
+    }
+    upgrade_index(words);
+    Ok(&*words == wanted)
+}
+
+// The first truth of which another than the header's words and the nodes' last words changes, or of these not all.
+fn first_other_upgrade(alloc: Global, truths: &[Lie]) -> Result<Option<usize>, AllocError> {
+    for (i, truth) in truths.iter().enumerate() {
+        let (Some(mut words), Some(wanted)) = (told(1, truth), told(2, truth)) else {
+            return Ok(Some(i));
+        };
+        if !becomes(alloc, &mut words, &wanted)? {
+            return Ok(Some(i));
+        }
+    }
+    Ok(None)
+}
+
+#[test]
+fn words_are_upgraded(rt: HostRuntime) -> Result<(), Fail> {
     let alloc = rt.alloc();
-    holds(&rt, first_other_lie(alloc, &HEADERS, false)?.is_none());
-    holds(&rt, first_other_lie(alloc, &TREES, false)?.is_none());
-    holds(&rt, first_other_lie(alloc, &PAIRS, false)?.is_none());
-    holds(&rt, first_other_lie(alloc, &TEXTS, false)?.is_none());
-    holds(&rt, first_other_lie(alloc, &GIVEN_BACK, false)?.is_none());
-    holds(&rt, first_other_lie(alloc, &TRUTHS, true)?.is_none());
-    holds(&rt, first_other_count(alloc, &COUNTS)?.is_none());
+    holds(&rt, first_other_upgrade(alloc, &TRUTHS)?.is_none());
+    // where there are no pairs too, 1 is the last revision
+    holds(
+        &rt,
+        becomes(
+            alloc,
+            &mut [1, 0, 0, 1, 0, 0, 0, 0],
+            &[2, 0, 0, 1, 0, 0, 1, 0],
+        )?,
+    );
     Ok(())
 }
 
@@ -358,16 +560,21 @@ const LISTED: [(&[u8], &[u8]); 5] = [
     (b"e", &[b'x'; 57]),
 ];
 
-// Whether the words of a lie hold these pairs.
-fn lists(alloc: Global, lie: Lie, rows: &[(&[u8], &[u8])]) -> Result<bool, AllocError> {
-    let Some(words) = told(lie) else {
+// Whether the words of a lie in version 2 hold these pairs, with these revisions.
+fn lists(
+    alloc: Global,
+    lie: Lie,
+    rows: &[(&[u8], &[u8])],
+    revisions: &[u64],
+) -> Result<bool, AllocError> {
+    let Some(words) = told(2, lie) else {
         return Ok(false);
     };
-    if !lawful(alloc, &words, 1)? {
+    if !lawful(alloc, &words, 2)? {
         return Ok(false);
     }
     let pairs = pairs_of(alloc, &words)?;
-    Ok(pairs.len() == rows.len() && are_listed(&pairs, rows))
+    Ok(pairs.len() == rows.len() && are_listed(&pairs, rows) && have_revisions(&pairs, revisions))
 }
 
 // Whether the first pairs are these.
@@ -380,10 +587,22 @@ fn are_listed(pairs: &[Pair], rows: &[(&[u8], &[u8])]) -> bool {
     true
 }
 
-// Both trees of the pairs list them in the order of their keys.
+// Whether the first pairs have these revisions.
+fn have_revisions(pairs: &[Pair], revisions: &[u64]) -> bool {
+    for (pair, revision) in pairs.iter().zip(revisions) {
+        if pair.revision != *revision {
+            return false;
+        }
+    }
+    true
+}
+
+// Both trees of the pairs list them in the order of their keys, each with its revision.
 #[test]
 fn pairs_are_listed_in_order(rt: HostRuntime) -> Result<(), Fail> {
-    holds(&rt, lists(rt.alloc(), TRUTHS[0], &LISTED)?);
-    holds(&rt, lists(rt.alloc(), TRUTHS[6], &LISTED)?);
+    let alloc = rt.alloc();
+    holds(&rt, lists(alloc, TRUTHS[0], &LISTED, &[1; 5])?);
+    holds(&rt, lists(alloc, TRUTHS[6], &LISTED, &[1; 5])?);
+    holds(&rt, lists(alloc, REVISIONS[0], &LISTED, &[9, 1, 3, 2, 5])?);
     Ok(())
 }

@@ -1,4 +1,4 @@
-use Rattle.std.proofs.Common.{arith, refl, ◌≡◌, ◌↔◌, IsTrue, ◌∙◌, take, sym, subst}
+use Rattle.std.proofs.Common.{arith, refl, ◌≡◌, ◌↔◌, IsTrue, take, sym, subst}
 use Rattle.std.proofs.lemmas.Bool.{false≢true}
 use Rattle.std.specs.declared.cmp.Ordering.TheVariants.{Less}
 use Rattle.cx_base.specs.Store.{key_cmp}

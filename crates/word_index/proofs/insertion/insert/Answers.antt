@@ -1,13 +1,13 @@
 use Rattle.std.proofs.Common.{◌≡◌, ◌*◌, ℕ, false, List, ap, ◌∙◌, rules}
-use Rattle.cx_base.specs.Memory.{Words, Becomes, Reads, Always}
+use Rattle.cx_base.specs.Memory.{Words, Reads, Always}
 use Rattle.cx_base.specs.Packing.{unpacked}
 use Rattle.cx_base.specs.Store.{Store, lines_of}
 use Rattle.cx_base.proofs.MemoryLemmas.{Becomes-then}
-use Rattle.cx_base.proofs.ReadLemmas.{Becomes-from-read, always_read, Reads-then, always_with}
+use Rattle.cx_base.proofs.ReadLemmas.{Becomes-from-read, always_read, Reads-then}
 use Rattle.index_checks.specs.Layout.{StandsFor, IsIndex}
 use Rattle.word_index.specs.Exact.{inserted_in, with_document}
 use Rattle.word_index.specs.Insertion.{IsKnown, LinesAt}
-use Rattle.word_index.specs.Walk.{AtSpot, FewVisits}
+use Rattle.word_index.specs.Walk.{AtSpot}
 use Rattle.word_index.proofs.Cutting.{visits_read}
 use Rattle.word_index.proofs.Inserting.{can_have_node}
 use Rattle.avl_words.proofs.Memories.{changed, storable, loadable}

@@ -12,7 +12,7 @@ read_document-requires-clause-memory g c =
     record {
       sized = search rules;
       all = always_read c.requires.lawful c.in_ok-found.ensures.finds.done (λ ws i r. found_node ws key c.in-Some.node i
-          (λ version store s. subst (λ o. IsFound ws key o store) c.in-Some.is (r version store s)));
+          (λ version store s. subst (λ o. IsFound ws key o store) c.in-Some.is (r.node version store s)));
     }
 
 pub returns-in_default-clause-lawful : goal.returns-in_default-clause-lawful
