@@ -4,11 +4,11 @@ use Rattle.std.specs.Fmt.{decimal}
 use Rattle.std.specs.Option.{option_map_or}
 use Rattle.std.proofs.lemmas.List.{append_cancel_left}
 use Rattle.std.proofs.lemmas.List.Elements.{All-head, All-tail, All-filter, All-map}
-use Rattle.cx_base.specs.Store.{Store, IsStore}
+use Rattle.doc_model.specs.Revisions.{RevisedStore, IsRevisedStore}
 use Rattle.doc_model.specs.Meaning.{IsOp, reply_to, store_after}
 use Rattle.doc_model.specs.declared.operations.Op.{Op}
 use Rattle.doc_model.specs.declared.operations.Reply.{Reply}
-use Rattle.doc_model.proofs.Stores.{IsStore-after}
+use Rattle.doc_model.proofs.AfterSteps.{IsRevisedStore-after}
 use Rattle.life_records.specs.Lives.{Names, store_at, HasReply}
 use Rattle.life_records.specs.Scripts.{own_ops, named_op}
 use Rattle.life_records.specs.Records.{Command, JournalLine, Life}
@@ -28,7 +28,7 @@ abbrev pub bare : JournalLine Reply → JournalLine Reply
 bare line = record line { reply = None }
 
 -- A line whose command the life has. Its reply, if it tells one, is that of the store before it.
-pub record IsTold (lines : ℕ) (store : Store) (life : Life Op) (line : JournalLine Reply) : Type 0 where
+pub record IsTold (lines : ℕ) (store : RevisedStore) (life : Life Op) (line : JournalLine Reply) : Type 0 where
   pub op : Op
   pub is : named_op life line.client line.command ≡ Some op
   pub reply : IsNoneOr (reply_to lines store op) line.reply
@@ -36,7 +36,7 @@ pub record IsTold (lines : ℕ) (store : Store) (life : Life Op) (line : Journal
   pub numbers : HasLineNumbers line
 
 -- such lines, one after another
-abbrev pub AreTold : ℕ → Store → Life Op → List (JournalLine Reply) → Type 0
+abbrev pub AreTold : ℕ → RevisedStore → Life Op → List (JournalLine Reply) → Type 0
 AreTold lines store life [] = Unit {0}
 AreTold lines store life (line ∷ journal) =
     (told : IsTold lines store life line) × AreTold lines (store_after lines store told.op) life journal
@@ -58,7 +58,7 @@ named_within life client (suc before) op ops is =
     slice_get-All IsOp (own_ops client life.commands) before op
     (All-map IsOp (λ (c : Command Op). c.op) _ (All-filter (λ (c : Command Op). c.client == client) (λ (c : Command Op). IsOp c.op) life.commands ops)) is
 
-store_at-cons : (lines : ℕ) (store : Store) (life : Life Op) (line : JournalLine Reply) (journal : List (JournalLine Reply)) (i : ℕ) (op : Op)
+store_at-cons : (lines : ℕ) (store : RevisedStore) (life : Life Op) (line : JournalLine Reply) (journal : List (JournalLine Reply)) (i : ℕ) (op : Op)
     → named_op life line.client line.command ≡ Some op
     → store_at (document_meaning lines) store life (line ∷ journal) (suc i) ≡ store_at (document_meaning lines) (store_after lines store op) life journal i
 store_at-cons lines store life line journal i op is = rw is
@@ -69,7 +69,7 @@ none_or r None same = inl refl
 none_or r (Some told) same = inr (ap Some same)
 
 -- the replies by place are those of the stores one after another
-pub AreTold-from_places : (lines : ℕ) (store : Store) (life : Life Op) (journal : List (JournalLine Reply)) → IsStore store → All (λ (c : Command Op). IsOp c.op) life.commands
+pub AreTold-from_places : (lines : ℕ) (store : RevisedStore) (life : Life Op) (journal : List (JournalLine Reply)) → IsRevisedStore store → All (λ (c : Command Op). IsOp c.op) life.commands
     → All (λ line. Names life line.client line.command) journal → All HasLineNumbers journal
     → ((i : ℕ) (line : JournalLine Reply) → slice_get journal i ≡ Some line →
     IfSome line.reply (HasReply (document_meaning lines) (store_at (document_meaning lines) store life journal i) (named_op life line.client line.command)))
@@ -86,7 +86,7 @@ AreTold-from_places lines store life (line ∷ journal) s ops named numbers repl
         plain = reply_plain lines store op.0 s;
         numbers = All-head HasLineNumbers line journal numbers;
       },
-      AreTold-from_places lines (store_after lines store op.0) life journal (IsStore-after lines store op.0 s is_op) ops
+      AreTold-from_places lines (store_after lines store op.0) life journal (IsRevisedStore-after lines store op.0 s is_op) ops
           (All-tail (λ line. Names life line.client line.command) line journal named)
           (All-tail HasLineNumbers line journal numbers)
           (λ i next is. rw (← store_at-cons lines store life line journal i op.0 op.1) (replies (suc i) next is)),
@@ -109,7 +109,7 @@ same_op_named : (life : Life Op) (a b : JournalLine Reply) → a.client ≡ b.cl
 same_op_named life a b client command = ap (λ n. named_op life n a.command) client ∙ ap (named_op life b.client) command
 
 -- the operations of lines are the same where their names are
-same_op : (lines : ℕ) (store : Store) (life : Life Op) (a b : JournalLine Reply) (told : IsTold lines store life a) (other : IsTold lines store life b)
+same_op : (lines : ℕ) (store : RevisedStore) (life : Life Op) (a b : JournalLine Reply) (told : IsTold lines store life a) (other : IsTold lines store life b)
     → a.client ≡ b.client → a.command ≡ b.command → told.op ≡ other.op
 same_op lines store life a b told other client command =
     let first = told.is in let second = other.is in
@@ -119,7 +119,7 @@ same_op lines store life a b told other client command =
 same_line : (a b : JournalLine Reply) → a.ticket ≡ b.ticket → a.client ≡ b.client → a.command ≡ b.command → a.reply ≡ b.reply → a ≡ b
 same_line a b ticket client command reply = λ i. record { ticket = ticket i; client = client i; command = command i; reply = reply i }
 
-same_first : (lines : ℕ) (store : Store) (life : Life Op) (a b : JournalLine Reply) (x y : List ℕ)
+same_first : (lines : ℕ) (store : RevisedStore) (life : Life Op) (a b : JournalLine Reply) (x y : List ℕ)
     → IsTold lines store life a → IsTold lines store life b
     → journal_text document_wording life a ++ x ≡ journal_text document_wording life b ++ y → (bare a ≡ bare b) × (x ≡ y)
 same_first lines store life a b x y told other e =
@@ -149,7 +149,7 @@ no_line life line x y numbers outside e =
     (sym (journal_text-append life line x) ∙ e)
 
 -- journals with the same text, told from one store on, are the same but for replies, and so is what follows
-pub same_journals : (lines : ℕ) (store : Store) (life : Life Op) (a b : List (JournalLine Reply)) (x y : List ℕ)
+pub same_journals : (lines : ℕ) (store : RevisedStore) (life : Life Op) (a b : List (JournalLine Reply)) (x y : List ℕ)
     → AreTold lines store life a → AreTold lines store life b → BeginsOutside x → BeginsOutside y
     → flat_map (journal_text document_wording life) a ++ x ≡ flat_map (journal_text document_wording life) b ++ y → (map bare a ≡ map bare b) × (x ≡ y)
 same_journals lines store life [] [] x y told others x_outside y_outside e = (refl, e)
@@ -183,7 +183,7 @@ same_reply r a b (inr some) (inl none) same = let h : true ≡ false = rw (some,
 same_reply r a b (inr some) (inr also) same = some ∙ sym also
 
 -- journals that are the same but for replies, and tell a reply where one test passes that looks at no reply, are the same
-pub same_replies : (lines : ℕ) (store : Store) (life : Life Op) (test : JournalLine Reply → Bool) → ((line : JournalLine Reply) → test (bare line) ≡ test line)
+pub same_replies : (lines : ℕ) (store : RevisedStore) (life : Life Op) (test : JournalLine Reply → Bool) → ((line : JournalLine Reply) → test (bare line) ≡ test line)
     → (a b : List (JournalLine Reply)) → AreTold lines store life a → AreTold lines store life b
     → All (IsAnsweredBy test) a → All (IsAnsweredBy test) b → map bare a ≡ map bare b → a ≡ b
 same_replies lines store life test blind [] [] told others answered also same = refl

@@ -1,16 +1,17 @@
 -- Lives are read off their report.
-use Rattle.std.proofs.Common.{◌≡◌, ◌≢◌, ℕ, suc, ◌+◌, ◌-◌, ◌≤◌, Bool, true, false, not, eqb, List, [], ◌∷◌, ◌++◌, length, take, map, get_or, All, flat_map, codes, Option, None, Some, IsSome, is_some, sym, ap, ◌∙◌, subst, refl, inl, inr, arith, lit≤, append_assoc}
+use Rattle.std.proofs.Common.{◌≡◌, ◌≢◌, ℕ, suc, ◌+◌, ◌-◌, ◌≤◌, Bool, true, false, not, eqb, List, [], ◌∷◌, ◌++◌, length, take, map, get_or, All, flat_map, codes, Option, None, Some, IsSome, is_some, sym, ap, ◌∙◌, subst, refl, inl, inr, arith, lit≤, lit<, append_assoc}
 use Rattle.std.specs.Fmt.{decimal}
 use Rattle.std.specs.List.{cons_option}
 use Rattle.std.proofs.lemmas.Bool.{cases_Bool, eqb-true, ne_eqb}
 use Rattle.std.proofs.lemmas.List.{append_cancel_left, length-map}
 use Rattle.std.proofs.lemmas.List.Elements.{All-nil, All-cons, All-head, All-tail}
 use Rattle.std.proofs.lemmas.List.Folds.{list_any_none}
-use Rattle.cx_base.specs.Store.{Store, IsStore, IsKey, IsDocument}
+use Rattle.cx_base.specs.Store.{IsKey, IsDocument}
+use Rattle.doc_model.specs.Revisions.{RevisedStore, IsRevisedStore, empty_store}
 use Rattle.doc_model.specs.Meaning.{IsOp, store_after}
 use Rattle.doc_model.specs.declared.operations.Op.{Op}
 use Rattle.doc_model.specs.declared.operations.Reply.{Reply}
-use Rattle.doc_model.proofs.Stores.{IsStore-after}
+use Rattle.doc_model.proofs.AfterSteps.{IsRevisedStore-after}
 use Rattle.life_records.specs.Limits.{KeepsLimits}
 use Rattle.life_records.specs.Lives.{IsLegal, IsLegalLife, IsLegalRead, IsEndedEntry, HasReply, AreLivesFrom, AreLegalLives, HasNumbers, AreNumbers, has_stop, ops_of, store_after_all, store_at}
 use Rattle.life_records.specs.Scripts.{named_op}
@@ -101,7 +102,7 @@ abbrev AreOps : Life Op → Type 0
 AreOps life = All (λ (c : Command Op). IsOp c.op) life.commands
 
 -- what legality says of a journal's lines
-AreTold-from_legal : (lines place : ℕ) (store : Store) (life : Life Op) (told : LifeRecord Reply) → IsStore store → AreOps life
+AreTold-from_legal : (lines place : ℕ) (store : RevisedStore) (life : Life Op) (told : LifeRecord Reply) → IsRevisedStore store → AreOps life
     → IsLegal (document_meaning lines) place store life told → HasNumbers told → AreTold lines store life told.journal
 AreTold-from_legal lines place store life told s ops legal numbers =
     AreTold-from_places lines store life told.journal s ops legal.interleaved.named numbers.journal legal.replies
@@ -134,7 +135,7 @@ entry_answered line answered stops are (inr (next, none, stopped)) =
     rw (none, next, stopped) refl
 
 -- the entries that tell a reply are those of clients that were not stopped in them
-journal_answered : (lines place : ℕ) (store : Store) (life : Life Op) (told : LifeRecord Reply) → IsLegal (document_meaning lines) place store life told
+journal_answered : (lines place : ℕ) (store : RevisedStore) (life : Life Op) (told : LifeRecord Reply) → IsLegal (document_meaning lines) place store life told
     → All (IsAnsweredBy (is_answered told.stops)) told.journal
 journal_answered lines place store life told legal k d below =
     let named = legal.interleaved.named k d below in
@@ -148,7 +149,7 @@ ops_of-bare life (line ∷ journal) (suc n) = ap (cons_option (named_op life lin
 ops_of-bare life _ _ = refl
 
 -- a read is legal beside a journal whatever the journal's replies are
-bare_read : (lines place : ℕ) (store : Store) (life : Life Op) (journal : List (JournalLine Reply)) (line : ReadLine Reply)
+bare_read : (lines place : ℕ) (store : RevisedStore) (life : Life Op) (journal : List (JournalLine Reply)) (line : ReadLine Reply)
     → IsLegalRead (document_meaning lines) place store life journal line → IsLegalRead (document_meaning lines) place store life (map bare journal) line
 bare_read lines place store life journal line legal = record {
   named = legal.named;
@@ -159,7 +160,7 @@ bare_read lines place store life journal line legal = record {
       (sym (ops_of-bare life journal (line.place - place))) legal.reply;
 }
 
-reads_read_off : (lines place : ℕ) (store : Store) (life : Life Op) (told : LifeRecord Reply) → IsLegal (document_meaning lines) place store life told → HasNumbers told
+reads_read_off : (lines place : ℕ) (store : RevisedStore) (life : Life Op) (told : LifeRecord Reply) → IsLegal (document_meaning lines) place store life told → HasNumbers told
     → All (IsReadOff lines place store life (map bare told.journal)) told.reads
 reads_read_off lines place store life told legal numbers k d below =
     record { legal = bare_read lines place store life told.journal (get_or told.reads k d) (legal.legal_reads k d below); numbers = numbers.reads k d below }
@@ -173,10 +174,10 @@ ops_within life [] ops = All-nil IsOp
 ops_within life (line ∷ journal) ops =
     cons_within (named_op life line.client line.command) (ops_of life journal) (λ op is. named_within life line.client line.command op ops is) (ops_within life journal ops)
 
-IsStore-after_all : (lines : ℕ) (store : Store) (ops : List Op) → IsStore store → All IsOp ops → IsStore (store_after_all (document_meaning lines) store ops)
-IsStore-after_all lines store [] s all = s
-IsStore-after_all lines store (op ∷ ops) s all =
-    IsStore-after_all lines (store_after lines store op) ops (IsStore-after lines store op s (All-head IsOp op ops all)) (All-tail IsOp op ops all)
+IsRevisedStore-after_all : (lines : ℕ) (store : RevisedStore) (ops : List Op) → IsRevisedStore store → All IsOp ops → IsRevisedStore (store_after_all (document_meaning lines) store ops)
+IsRevisedStore-after_all lines store [] s all = s
+IsRevisedStore-after_all lines store (op ∷ ops) s all =
+    IsRevisedStore-after_all lines (store_after lines store op) ops (IsRevisedStore-after lines store op s (All-head IsOp op ops all)) (All-tail IsOp op ops all)
 
 -- ---- records
 
@@ -201,7 +202,7 @@ same_parts a b clients from journal reads stops fulls choice kept documents =
     λ i. record { clients = clients i; from = from i; journal = journal i; reads = reads i; stops = stops i; fulls = fulls i; choice = choice i; kept = kept i; documents = documents i }
 
 -- records with the same text, legal at one place with one store, are the same, and so is what follows
-same_record : (number lines place : ℕ) (store : Store) (life : Life Op) (a b : LifeRecord Reply) (x y : List ℕ) → IsStore store → AreOps life
+same_record : (number lines place : ℕ) (store : RevisedStore) (life : Life Op) (a b : LifeRecord Reply) (x y : List ℕ) → IsRevisedStore store → AreOps life
     → IsLegalLife (document_meaning lines) place store life a → IsLegalLife (document_meaning lines) place store life b → HasNumbers a → HasNumbers b
     → record_text document_wording number life a ++ x ≡ record_text document_wording number life b ++ y → (a ≡ b) × (x ≡ y)
 same_record number lines place store life a b x y s ops legal other fits others_fit e =
@@ -236,7 +237,7 @@ same_record number lines place store life a b x y s ops legal other fits others_
     (same_parts a b clients from same_journal reads.0 stops.0 fulls.0 (legal.choice ∙ sym other.choice) power.0 power.1, power.2)
 
 -- lives of which the first begins at one place with one store
-same_lives : (number lines place : ℕ) (store : Store) (lives : List (Life Op)) (a b : List (LifeRecord Reply)) → IsStore store → All AreOps lives
+same_lives : (number lines place : ℕ) (store : RevisedStore) (lives : List (Life Op)) (a b : List (LifeRecord Reply)) → IsRevisedStore store → All AreOps lives
     → AreLivesFrom (document_meaning lines) place store lives a → AreLivesFrom (document_meaning lines) place store lives b → AreNumbers a → AreNumbers b
     → records_text document_wording number lives a ≡ records_text document_wording number lives b → a ≡ b
 same_lives number lines place store [] [] [] s ops legal others fits others_fit e = refl
@@ -248,18 +249,25 @@ same_lives number lines place store (life ∷ lives) (told ∷ a) (other ∷ b) 
     legal.0 others.0 (All-head HasNumbers told a fits) (All-head HasNumbers other b others_fit) e in
     let P : LifeRecord Reply → Type 0 = λ r. AreLivesFrom (document_meaning lines) (place + r.kept) (store_at (document_meaning lines) store life r.journal r.kept) lives b in
     let first : told ≡ other = found.0 in
-    let next : IsStore (store_at (document_meaning lines) store life told.journal told.kept) =
-    IsStore-after_all lines store (ops_of life (take told.kept told.journal)) s (ops_within life (take told.kept told.journal) own) in
+    let next : IsRevisedStore (store_at (document_meaning lines) store life told.journal told.kept) =
+    IsRevisedStore-after_all lines store (ops_of life (take told.kept told.journal)) s (ops_within life (take told.kept told.journal) own) in
     let rest : a ≡ b = same_lives (number + 1) lines (place + told.kept) (store_at (document_meaning lines) store life told.journal told.kept) lives a b
     next (All-tail AreOps life lives ops)
     legal.1 (subst P (sym found.0) others.1) (All-tail HasNumbers told a fits) (All-tail HasNumbers other b others_fit) found.1 in
     cc
 same_lives number lines place store _ _ b s ops legal others fits others_fit e = absurd others
 
+-- the store before the first life
+nothing_written : IsRevisedStore empty_store
+nothing_written = record {
+  pairs = record { rising = tt; keys = All-nil (λ (p : List ℕ × List ℕ). IsKey p.0); documents = All-nil (λ (p : List ℕ × List ℕ). IsDocument p.1) };
+  fits = lit< tt;
+  given = All-nil (λ (t : (List ℕ × List ℕ) × ℕ). (1 ≤ t.1) × (t.1 ≤ 0));
+}
+
 -- the lives of a script are read off its report
 pub same_reports : (script : Script Op) (a b : List (LifeRecord Reply)) → KeepsLimits IsOp 8 script
     → AreLegalLives (document_meaning script.lines) script a → AreLegalLives (document_meaning script.lines) script b → AreNumbers a → AreNumbers b → report_of script a ≡ report_of script b → a ≡ b
 same_reports script a b limits legal others fits others_fit e =
-    same_lives 0 script.lines 0 [] script.lives a b
-    (record { rising = tt; keys = All-nil (λ (p : List ℕ × List ℕ). IsKey p.0); documents = All-nil (λ (p : List ℕ × List ℕ). IsDocument p.1) })
+    same_lives 0 script.lines 0 empty_store script.lives a b nothing_written
     (λ k d below i c within. ((limits.each k d below).commands i c within).op) legal others fits others_fit e

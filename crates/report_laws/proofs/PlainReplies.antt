@@ -5,12 +5,13 @@ use Rattle.std.specs.Option.{option_map, option_map_or}
 use Rattle.std.specs.Ordering.{is_eq}
 use Rattle.std.proofs.lemmas.Bool.{ne_eqb, eq-eqb, true≢false}
 use Rattle.std.proofs.lemmas.List.Elements.{All-head, All-tail}
-use Rattle.cx_base.specs.Store.{Store, IsStore, IsDocument, key_cmp}
-use Rattle.doc_model.specs.Meaning.{document_at, number_at, has_room, with_pair, add_reply, least_key, pairs_above, reply_to}
+use Rattle.cx_base.specs.Store.{Store, IsDocument, key_cmp}
+use Rattle.doc_model.specs.Meaning.{document_at, number_at, standing_revision, has_room, with_pair, add_reply, set_reply, least_key, pairs_above, reply_to}
+use Rattle.doc_model.specs.Revisions.{RevisedStore, IsRevisedStore, pairs_in, next_revision, revision_at}
 use Rattle.doc_model.specs.declared.operations.Op.{Op}
-use Rattle.doc_model.specs.declared.operations.Op.TheVariants.{Put, Del, Add, Get, Next, Count}
+use Rattle.doc_model.specs.declared.operations.Op.TheVariants.{Put, Del, Add, Get, Next, Count, PutIf, Rev}
 use Rattle.doc_model.specs.declared.operations.Reply.{Reply}
-use Rattle.doc_model.specs.declared.operations.Reply.TheVariants.{New, Replaced, Deleted, Absent, Doc, Sum, Overflow, NoRoom}
+use Rattle.doc_model.specs.declared.operations.Reply.TheVariants.{New, Replaced, Deleted, Absent, Doc, Sum, Overflow, NoRoom, Set, Stale, Revision}
 use Rattle.doc_text.specs.Report.{reply_text}
 
 -- the document that a reply tells, if it tells one, is within the limits
@@ -46,16 +47,24 @@ add_plain : (lines : ℕ) (store : Store) (key : List ℕ) (amount : ℤ) (befor
 add_plain lines store key amount None = tt
 add_plain lines store key amount (Some before) = sum_plain _ _ _
 
+revision_plain : (revision : Option ℕ) → IsPlain (option_map_or Revision revision Absent)
+revision_plain None = tt
+revision_plain (Some revision) = tt
+
 -- the reply to an operation
-pub reply_plain : (lines : ℕ) (store : Store) (op : Op) → IsStore store → IsPlain (reply_to lines store op)
+pub reply_plain : (lines : ℕ) (store : RevisedStore) (op : Op) → IsRevisedStore store → IsPlain (reply_to lines store op)
 reply_plain lines store (Put key document) s =
-    either_plain (has_room lines (with_pair key document store)) (cond (is_some (document_at key store)) Replaced New) NoRoom
-    (either_plain (is_some (document_at key store)) Replaced New tt tt) tt
-reply_plain lines store (Del key) s = either_plain (is_some (document_at key store)) Deleted Absent tt tt
-reply_plain lines store (Add key amount) s = add_plain lines store key amount (number_at key store)
-reply_plain lines store (Get key) s = found_plain key store s.documents
-reply_plain lines store (Next above) s = least_plain (pairs_above above store)
+    either_plain (has_room lines (with_pair key document (pairs_in store))) (cond (is_some (document_at key (pairs_in store))) Replaced New) NoRoom
+    (either_plain (is_some (document_at key (pairs_in store))) Replaced New tt tt) tt
+reply_plain lines store (Del key) s = either_plain (is_some (document_at key (pairs_in store))) Deleted Absent tt tt
+reply_plain lines store (Add key amount) s = add_plain lines (pairs_in store) key amount (number_at key (pairs_in store))
+reply_plain lines store (Get key) s = found_plain key (pairs_in store) s.pairs.documents
+reply_plain lines store (Next above) s = least_plain (pairs_above above (pairs_in store))
 reply_plain lines store Count s = tt
+reply_plain lines store (PutIf key revision document) s =
+    either_plain (eqb (standing_revision key store) revision) (set_reply lines store key document) (Stale (standing_revision key store))
+    (either_plain (has_room lines (with_pair key document (pairs_in store))) (Set (next_revision store.last)) NoRoom tt tt) tt
+reply_plain lines store (Rev key) s = revision_plain (revision_at key store)
 
 -- ---- the end of a line
 

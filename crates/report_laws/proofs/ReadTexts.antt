@@ -2,7 +2,7 @@
 use Rattle.std.proofs.Common.{◌≡◌, ℕ, ◌-◌, ◌^◌, ◌<◌, List, [], ◌∷◌, ◌++◌, codes, Some, sym, ap, ◌∙◌, refl, lit≤, append_assoc}
 use Rattle.std.specs.Fmt.{decimal}
 use Rattle.std.proofs.lemmas.List.{append_cancel_left}
-use Rattle.cx_base.specs.Store.{Store}
+use Rattle.doc_model.specs.Revisions.{RevisedStore}
 use Rattle.doc_model.specs.Meaning.{reply_to}
 use Rattle.doc_model.specs.declared.operations.Op.{Op}
 use Rattle.doc_model.specs.declared.operations.Reply.{Reply}
@@ -34,13 +34,13 @@ same_line : (a b : ReadLine Reply) → a.client ≡ b.client → a.command ≡ b
 same_line a b client command place reply = λ i. record { client = client i; command = command i; place = place i; reply = reply i }
 
 -- the reply of a read is that of the store at its place
-has_reply : (lines place : ℕ) (store : Store) (life : Life Op) (journal : List (JournalLine Reply)) (line : ReadLine Reply)
+has_reply : (lines place : ℕ) (store : RevisedStore) (life : Life Op) (journal : List (JournalLine Reply)) (line : ReadLine Reply)
     → IsLegalRead (document_meaning lines) place store life journal line
     → (op : Op) → named_op life line.client line.command ≡ Some op
     → line.reply ≡ reply_to lines (store_at (document_meaning lines) store life journal (line.place - place)) op
 has_reply lines place store life journal line legal op is = rw is at legal.reply
 
-same_reply : (lines place : ℕ) (store : Store) (life : Life Op) (journal : List (JournalLine Reply)) (a b : ReadLine Reply)
+same_reply : (lines place : ℕ) (store : RevisedStore) (life : Life Op) (journal : List (JournalLine Reply)) (a b : ReadLine Reply)
     → IsLegalRead (document_meaning lines) place store life journal a → IsLegalRead (document_meaning lines) place store life journal b
     → a.client ≡ b.client → a.command ≡ b.command → a.place ≡ b.place → a.reply ≡ b.reply
 same_reply lines place store life journal a b legal other client command at =
@@ -51,7 +51,7 @@ same_reply lines place store life journal a b legal other client command at =
     ∙ ap (λ n. reply_to lines (store_at (document_meaning lines) store life journal (n - place)) op.0) at
     ∙ sym (has_reply lines place store life journal b other op.0 (sym same ∙ op.1))
 
-same_first : (lines place : ℕ) (store : Store) (life : Life Op) (journal : List (JournalLine Reply)) (a b : ReadLine Reply) (x y : List ℕ)
+same_first : (lines place : ℕ) (store : RevisedStore) (life : Life Op) (journal : List (JournalLine Reply)) (a b : ReadLine Reply) (x y : List ℕ)
     → IsLegalRead (document_meaning lines) place store life journal a → IsLegalRead (document_meaning lines) place store life journal b
     → HasReadNumbers a → HasReadNumbers b
     → read_text document_wording life a ++ x ≡ read_text document_wording life b ++ y → a ≡ b
@@ -75,11 +75,11 @@ same_first lines place store life journal a b x y legal other fits others_fit e 
     same_line a b client.0 command.0 at.0 (same_reply lines place store life journal a b legal other client.0 command.0 at.0)
 
 -- a read that may have been answered so beside one journal, with its numbers
-pub record IsReadOff (lines place : ℕ) (store : Store) (life : Life Op) (journal : List (JournalLine Reply)) (line : ReadLine Reply) : Type 0 where
+pub record IsReadOff (lines place : ℕ) (store : RevisedStore) (life : Life Op) (journal : List (JournalLine Reply)) (line : ReadLine Reply) : Type 0 where
   pub legal : IsLegalRead (document_meaning lines) place store life journal line
   pub numbers : HasReadNumbers line
 
-pub reads_read : (lines place : ℕ) (store : Store) (life : Life Op) (journal : List (JournalLine Reply))
+pub reads_read : (lines place : ℕ) (store : RevisedStore) (life : Life Op) (journal : List (JournalLine Reply))
     → AreReadOff (read_text document_wording life) 114 (IsReadOff lines place store life journal)
 reads_read lines place store life journal = record {
   begins = λ line. (_, refl);

@@ -1,10 +1,10 @@
 -- What a script comes to, and the texts that tell of it.
 use Rattle.std.specs.Prelude.{◌≡◌, ℕ, List, [], ◌∷◌, Option, Some, None}
-use Rattle.cx_base.specs.Store.{Store}
 use Rattle.cx_core.specs.declared.entry.Base.{Base}
 use Rattle.cx_core.specs.declared.entry.Image.{Image}
 use Rattle.cx_rule.specs.Ending.{Ending}
 use Rattle.cx_lives.specs.Lives.{AreTold, HaveEnded, HaveLeft, begun_by}
+use Rattle.doc_model.specs.Revisions.{RevisedStore, empty_store}
 use Rattle.doc_model.specs.declared.operations.Op.{Op}
 use Rattle.doc_model.specs.declared.operations.Reply.{Reply}
 use Rattle.doc_store.specs.DocumentMeaning.{document_meaning}
@@ -41,17 +41,17 @@ pub record IsLastImage (script : Script Op) (trails : List Ending) (text : List 
   pub image : Option Image
   pub base : Option Base
   pub left : HaveLeft script.lines script.lives trails image
-  pub ends : HaveEnded (document_meaning script.lines) script.lines 1 (IsImage script.lines)
+  pub ends : HaveEnded (document_meaning script.lines) script.lines 2 (IsImage script.lines)
       (begun_by (document_meaning script.lines) (nothing_begun (document_meaning script.lines)) script.lives records) script.lives image base
   pub text_is : text ≡ text_left image
 
 -- the store that a first life leaves
-abbrev pub store_left : ℕ → Life Op → LifeRecord Reply → Store
-store_left lines life told = store_at (document_meaning lines) [] life told.journal told.kept
+abbrev pub store_left : ℕ → Life Op → LifeRecord Reply → RevisedStore
+store_left lines life told = store_at (document_meaning lines) empty_store life told.journal told.kept
 
 -- The text tells in four lines of a legal life of the script that a load makes. The documents and their sum are those of the store that
 -- it left.
 pub record IsSummary (from clients ops : ℕ) (trails : List Ending) (text : List ℕ) : Type 0 where
   pub record_of : LifeRecord Reply
   pub are : AreRecords (generated_script from clients ops) trails (record_of ∷ [])
-  pub summary : text ≡ summary_text record_of (store_left (generated_script from clients ops).lines (generated_life from clients ops) record_of)
+  pub summary : text ≡ summary_text record_of (store_left (generated_script from clients ops).lines (generated_life from clients ops) record_of).triples

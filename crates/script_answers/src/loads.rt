@@ -1,15 +1,15 @@
 //! A load: a script that is made and run, and told of in four lines.
 
 ghost use Rattle.std.specs.Prelude.{◌≡◌, [], ◌∷◌, IfOk};
-ghost use Rattle.cx_base.specs.Store.{Store};
 ghost use Rattle.cx_core.specs.Base.{LawfulBase};
 ghost use Rattle.cx_core.specs.Region.{object_part};
 ghost use Rattle.cx_lives.specs.Lives.{HaveLived};
+ghost use Rattle.doc_model.specs.Revisions.{RevisedStore};
 ghost use Rattle.doc_store.specs.DocumentMeaning.{document_meaning};
 ghost use Rattle.doc_store.specs.ExactStep.{IsImage};
 ghost use Rattle.doc_text.specs.Generated.{IsLoad, generated_life};
 ghost use Rattle.doc_text.specs.Summary.{summary_text};
-ghost use Rattle.index_checks.specs.Layout.{StandsFor};
+ghost use Rattle.index_checks.specs.Reading.{StandsForRevised};
 ghost use Rattle.life_records.specs.declared.record.LifeRecord as record_life;
 ghost use Rattle.script_answers.specs.Texts.{IsSummary, store_left};
 
@@ -51,8 +51,8 @@ fn text_of_life(
     ops: u64,
     lived: &Lived<Reply>,
 ) -> Result<Vec<u8>, AllocError>
-    requires { HaveLived (document_meaning 1024) 1024 1 (IsImage 1024) (generated_life from clients ops ∷ []) lived.now }
-    ensures { (told : record_life.LifeRecord Reply) → lived.now.records ≡ told ∷ [] → IfOk result (λ text. text.items ≡ summary_text told (store_left 1024 (generated_life from clients ops) told)) }
+    requires { HaveLived (document_meaning 1024) 1024 2 (IsImage 1024) (generated_life from clients ops ∷ []) lived.now }
+    ensures { (told : record_life.LifeRecord Reply) → lived.now.records ≡ told ∷ [] → IfOk result (λ text. text.items ≡ summary_text told (store_left 1024 (generated_life from clients ops) told).triples) }
 {
     let _ = (from, clients, ops);
     let [told] = lived.records.as_slice() else {
@@ -68,7 +68,7 @@ fn text_of_life(
 // The pairs of the store that a base stands for.
 fn pairs_of(alloc: Global, base: &Base) -> Result<Vec<Pair>, AllocError>
     requires { LawfulBase 1024 (IsImage 1024) base.now }
-    ensures { (store : Store) → StandsFor (object_part base.now.words) 1 store → IfOk result (λ pairs. pairs.items ≡ store) }
+    ensures { (store : RevisedStore) → StandsForRevised (object_part base.now.words) store → IfOk result (λ pairs. pairs.items ≡ store.triples) }
 {
     let (_, part) = base.words.as_slice().split_at(OBJECT_START as usize);
     documents(alloc, part)
