@@ -10,11 +10,7 @@ use fifo_object::Fifo;
 use std::alloc::{AllocError, Global};
 
 /// So many sessions of an empty document store in so many lines.
-pub fn open_documents(
-    alloc: Global,
-    lines: u64,
-    count: usize,
-) -> Result<Vec<Box<Content>>, i32> {
+pub fn open_documents(alloc: Global, lines: u64, count: usize) -> Result<Vec<Box<Content>>, i32> {
     if !may_open(lines, count) {
         return Err(BAD_SIZE);
     }
@@ -71,10 +67,7 @@ fn as_documents(
     Ok(contents)
 }
 
-fn as_queue(
-    alloc: Global,
-    sessions: Vec<Session<Fifo>>,
-) -> Result<Vec<Box<Content>>, AllocError> {
+fn as_queue(alloc: Global, sessions: Vec<Session<Fifo>>) -> Result<Vec<Box<Content>>, AllocError> {
     let mut contents = Vec::new(alloc);
     for session in sessions {
         contents.push(Box::new(alloc, Content::Queue(session))?)?;
