@@ -7,6 +7,9 @@
 
 enum { THREADS = 4, ADDS = 20000, TEXTS = 5000 };
 
+/* Under a tool that slows all down, `tests short` makes fewer rounds. */
+static int adds = ADDS, texts = TEXTS;
+
 #define CHECK(test)                                                       \
     do {                                                                  \
         if (!(test)) {                                                    \
@@ -211,13 +214,13 @@ static void *add_and_read(void *at) {
     char text[1025];
     long last = 0, found;
     int i;
-    for (i = 0; i < ADDS && !w->wrong; i++) {
+    for (i = 0; i < adds && !w->wrong; i++) {
         add_once(w);
         if (githoppu_get(&w->session, "sold", &reply) != GITHOPPU_DONE || reply.word[0] != GITHOPPU_DOC)
             w->wrong = 3;
         githoppu_document(&reply, text);
         found = strtol(text, NULL, 10);
-        if (found <= last || found < i + 1 || found > THREADS * ADDS)
+        if (found <= last || found < i + 1 || found > THREADS * adds)
             w->wrong = 4;
         last = found;
     }
@@ -250,7 +253,7 @@ static void test_adding_threads(void) {
     on_threads(workers, sessions, add_and_read);
     DO(githoppu_get(&sessions[0], "sold", &reply), GITHOPPU_DOC);
     githoppu_document(&reply, text);
-    CHECK(strtol(text, NULL, 10) == (long)THREADS * ADDS);
+    CHECK(strtol(text, NULL, 10) == (long)THREADS * adds);
     githoppu_close(sessions, THREADS);
 }
 
@@ -264,7 +267,7 @@ static void *push_or_pop(void *at) {
     int i, from, which, last[THREADS / 2];
     for (i = 0; i < THREADS / 2; i++)
         last[i] = -1;
-    for (i = 0; i < TEXTS && !w->wrong;) {
+    for (i = 0; i < texts && !w->wrong;) {
         if (w->number % 2 == 0) {
             snprintf(text, sizeof text, "%d:%d", w->number / 2, i);
             if (githoppu_push(&w->session, text, &reply) != GITHOPPU_DONE)
@@ -294,7 +297,7 @@ static void test_queue_threads(void) {
     CHECK(githoppu_open_queue(64, sessions, THREADS) == GITHOPPU_DONE);
     on_threads(workers, sessions, push_or_pop);
     for (i = 0; i < THREADS / 2; i++)
-        for (k = 0; k < TEXTS; k++)
+        for (k = 0; k < texts; k++)
             CHECK(arrived[i][k] == 1);
     DO(githoppu_len(&sessions[0], &reply), GITHOPPU_LENGTH);
     CHECK(githoppu_length(&reply) == 0);
@@ -345,7 +348,9 @@ static void test_calls_take_none(void) {
     githoppu_close(s, 2);
 }
 
-int main(void) {
+int main(int count, char **words) {
+    if (count > 1 && strcmp(words[1], "short") == 0)
+        adds = texts = 300;
     test_sizes();
     test_documents();
     test_queue();
