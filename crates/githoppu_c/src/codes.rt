@@ -1,5 +1,8 @@
 //! What the calls answer, as numbers.
 
+ghost use Rattle.std.specs.Prelude.{◌≡◌};
+ghost use Rattle.githoppu_c.specs.Contents as spec;
+
 use c_sessions::Called;
 use cx_service::StartFault;
 
@@ -23,7 +26,9 @@ pub const BAD_SIZE: i32 = 7;
 pub const NO_MEMORY: i32 = 8;
 
 /// The number of what a call came to.
-pub fn code_of(called: Called) -> i32 {
+pub fn code_of(called: Called) -> i32
+    ensures { result ≡ spec.code_of called }
+{
     match called {
         Called::Done => DONE,
         Called::Pending => PENDING,

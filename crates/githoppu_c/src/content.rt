@@ -1,7 +1,7 @@
 //! What C holds.
 
 ghost use Rattle.std.specs.Prelude.{◌≤◌};
-ghost use Rattle.githoppu_c.specs.Contents.{IsCallable};
+ghost use Rattle.githoppu_c.specs.Contents.{Calls, Finishes, IsCallable};
 
 use c_sessions::{Called, Session};
 use doc_store::DocStore;
@@ -19,7 +19,8 @@ impl Content {
     pub fn call(&mut self, op: &[u64; 144], reply: &mut [u64; 144], tries: u64) -> Called
         requires callable { IsCallable self.old }
         requires tries { 1 ≤ tries }
-        ensures { IsCallable self.new }
+        ensures callable { IsCallable self.new }
+        ensures calls { Calls op.now tries self.old result self.new reply.new }
     {
         match self {
             Content::Documents(session) => session.call(op, reply, tries),
@@ -31,7 +32,8 @@ impl Content {
     pub fn finish(&mut self, reply: &mut [u64; 144], tries: u64) -> Called
         requires callable { IsCallable self.old }
         requires tries { 1 ≤ tries }
-        ensures { IsCallable self.new }
+        ensures callable { IsCallable self.new }
+        ensures finishes { Finishes tries self.old result self.new reply.new }
     {
         match self {
             Content::Documents(session) => session.finish(reply, tries),

@@ -2,7 +2,7 @@
 //! service, and C gives each to one call at a time.
 #![tactic(auto)]
 
-ghost use Rattle.githoppu_c.specs.Contents.{IsCallable};
+ghost use Rattle.githoppu_c.specs.Contents.{Answers, Calls, Finishes, IsCallable};
 
 mod codes;
 mod content;
@@ -52,6 +52,7 @@ pub extern "C" fn githoppu_call(
     out: &mut *mut u8,
 ) -> i32
     requires { IsCallable session.content }
+    ensures { Answers (λ n called after. Calls op.now n session.content called after reply.new) result }
 {
     let mut content = session.into_box();
     let called = content.call(op, reply, tries.clamp(1, MOST));
@@ -68,6 +69,7 @@ pub extern "C" fn githoppu_finish(
     out: &mut *mut u8,
 ) -> i32
     requires { IsCallable session.content }
+    ensures { Answers (λ n called after. Finishes n session.content called after reply.new) result }
 {
     let mut content = session.into_box();
     let called = content.finish(reply, tries.clamp(1, MOST));
