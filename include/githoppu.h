@@ -100,6 +100,11 @@ enum githoppu_reply {
     GITHOPPU_NO_ROOM = 9,      /* of put and add: there are not as many lines; nothing is changed */
     GITHOPPU_KEY = 10,         /* of next: the key */
     GITHOPPU_COUNT = 11        /* of count: how many documents there are */
+    /* revisions begin */
+    , GITHOPPU_SET = 12,       /* of putif: the document is put */
+    GITHOPPU_STALE = 13,       /* of putif: the key has another revision; nothing is changed */
+    GITHOPPU_REVISION = 14     /* of rev: the key's revision */
+    /* revisions end */
 };
 
 /* Word 0 of a reply of a queue. */
@@ -228,6 +233,18 @@ static inline int githoppu_next(void **session, const char *above, githoppu_word
 static inline int githoppu_count(void **session, githoppu_words *reply) {
     return githoppu_document_call(session, 6, "", "", 0, 0, reply);
 }
+
+/* revisions begin */
+/* Puts a document at a key where the key has this revision: SET, STALE or NO_ROOM. */
+static inline int githoppu_putif(void **session, const char *key, const char *document, size_t length, uint64_t revision, githoppu_words *reply) {
+    return githoppu_document_call(session, 7, key, document, length, (int64_t)revision, reply);
+}
+
+/* Reads the revision of a key: REVISION (githoppu_number). */
+static inline int githoppu_rev(void **session, const char *key, githoppu_words *reply) {
+    return githoppu_document_call(session, 8, key, "", 0, 0, reply);
+}
+/* revisions end */
 
 /* The words of an operation of a queue. DONE or TOO_LONG. */
 static inline int githoppu_queue_op(githoppu_words *op, uint64_t kind, const char *text) {

@@ -124,6 +124,26 @@ static void test_documents(void) {
     githoppu_close(s, 1);
 }
 
+/* revisions begin */
+static void test_revisions(void) {
+    void *s[1];
+    githoppu_words reply;
+    uint64_t first;
+    CHECK(githoppu_open(64, s, 1) == GITHOPPU_DONE);
+    CHECK(githoppu_rev(s, "fruit", &reply) == GITHOPPU_DONE);
+    if (reply.word[0] != GITHOPPU_NO_OPERATION) {
+        DO(githoppu_put(s, "fruit", "\"apple\"", 7, &reply), GITHOPPU_NEW);
+        DO(githoppu_rev(s, "fruit", &reply), GITHOPPU_REVISION);
+        first = githoppu_number(&reply);
+        DO(githoppu_putif(s, "fruit", "\"pear\"", 6, first, &reply), GITHOPPU_SET);
+        DO(githoppu_putif(s, "fruit", "\"plum\"", 6, first, &reply), GITHOPPU_STALE);
+        DO(githoppu_rev(s, "fruit", &reply), GITHOPPU_REVISION);
+        CHECK(githoppu_number(&reply) != first);
+    }
+    githoppu_close(s, 1);
+}
+/* revisions end */
+
 static void test_queue(void) {
     void *s[2];
     githoppu_words reply;
@@ -353,6 +373,7 @@ int main(int count, char **words) {
         adds = texts = 300;
     test_sizes();
     test_documents();
+    test_revisions();
     test_queue();
     test_wrong_turns();
     test_refused(githoppu_open, 1);

@@ -50,6 +50,22 @@ fn documents_are_kept() {
     assert_eq!(s.get("umlaut"), Ok(Some("ü".to_string())));
 }
 
+// revisions begin
+#[test]
+fn a_revision_is_compared() {
+    use githoppu::PutIf;
+    let mut s = Store::open(64, 1).unwrap().pop().unwrap();
+    // a store without revisions takes these words for no operation
+    if s.revision("fruit") == Err(Error::NoOperation) {
+        return;
+    }
+    assert_eq!(s.put("fruit", "1"), Ok(Put::New));
+    let first = s.revision("fruit").unwrap();
+    assert_eq!(s.put_if("fruit", "2", first), Ok(PutIf::Set));
+    assert_eq!(s.put_if("fruit", "3", first), Ok(PutIf::Stale));
+}
+// revisions end
+
 #[test]
 fn a_queue_is_first_in_first_out() {
     let mut s = Queue::open(64, 2).unwrap();
