@@ -42,7 +42,7 @@ enum githoppu_status {
     GITHOPPU_AGAIN = 2,       /* others were in the way, and nothing is linked: call again */
     GITHOPPU_FULL = 3,        /* nothing is linked: another session still needs the last 16 operations of this one; yield, and call again */
     GITHOPPU_WORN = 4,        /* nothing is linked: the store has had 2^40 operations, and takes no more; it can still be read */
-    GITHOPPU_STOPPED = 5,     /* the session made 2^64 - 1 steps, and makes no more */
+    GITHOPPU_STOPPED = 5,     /* the session has come to its limit of steps; sessions here have none, so it does not come */
     GITHOPPU_OUT_OF_TURN = 6, /* a call while an operation is pending, or a finish while none is: nothing is changed */
     GITHOPPU_BAD_SIZE = 7,    /* an open: the lines are not 64 to 16,384, or the sessions not 1 to 8 */
     GITHOPPU_NO_MEMORY = 8,   /* an open: malloc gave no memory; what was taken is given back */

@@ -37,7 +37,7 @@ pub enum Error {
     Busy,
     /// The store has had 2^40 operations, and takes no more.
     Worn,
-    /// The session made 2^64 - 1 steps, and makes no more.
+    /// The session has come to its limit of steps. Sessions here have none.
     Stopped,
     /// The document is no UTF-8; `get_bytes` gives it.
     NoText,
