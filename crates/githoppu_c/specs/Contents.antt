@@ -1,5 +1,7 @@
 -- What C holds, and what a call of it answers.
-use Rattle.std.specs.Prelude.{◌≡◌, ◌≤◌, ◌^◌, ℕ, ℤ, pos, List}
+use Rattle.std.specs.Prelude.{◌≡◌, ◌≤◌, ◌^◌, ℕ, ℤ, pos, All, List, length}
+use Rattle.std.specs.Global.{Global}
+use Rattle.std_alloc.specs.declared.boxed.Box.{Box}
 use Rattle.c_sessions.specs.Sessions.{CallsIn, FinishesIn, IsReady}
 use Rattle.c_sessions.specs.declared.steps.Called.{Called}
 use Rattle.c_sessions.specs.declared.steps.Called.TheVariants.{Done, Pending, Again, Full, Worn, Stopped, OutOfTurn}
@@ -10,6 +12,11 @@ use Rattle.githoppu_c.specs.declared.content.Content.TheVariants.{Documents, Que
 abbrev pub IsCallable : Content → Type 0
 IsCallable (Documents session) = IsReady session
 IsCallable (Queue session) = IsReady session
+
+-- so many boxes, each of a session that may be called
+pub record AreCallable (count : ℕ) (boxes : List (Box Content Global)) : Type 0 where
+  pub all : length boxes ≡ count
+  pub each : All (λ (b : Box Content Global). IsCallable b.value) boxes
 
 -- a call of this operation, in so many tries, came to this
 abbrev pub Calls : List ℕ → ℕ → Content → Called → Content → List ℕ → Type 0

@@ -1,6 +1,8 @@
 //! Sessions are opened, and put where C wants them.
 
-ghost use Rattle.std.specs.Prelude.{◌≤◌, IsTrue};
+ghost use Rattle.std.specs.Prelude.{◌≤◌, IfOk, IsTrue, length, ℕ};
+ghost use Rattle.c_sessions.specs.Sessions.{AreReady};
+ghost use Rattle.githoppu_c.specs.Contents.{AreCallable};
 
 use crate::codes::{BAD_SIZE, NO_MEMORY, code_of_fault};
 use crate::content::Content;
@@ -10,7 +12,9 @@ use fifo_object::Fifo;
 use std::alloc::{AllocError, Global};
 
 /// So many sessions of an empty document store in so many lines.
-pub fn open_documents(alloc: Global, lines: u64, count: usize) -> Result<Vec<Box<Content>>, i32> {
+pub fn open_documents(alloc: Global, lines: u64, count: usize) -> Result<Vec<Box<Content>>, i32>
+    ensures { IfOk result (λ boxes. AreCallable count boxes.items) }
+{
     if !may_open(lines, count) {
         return Err(BAD_SIZE);
     }
@@ -21,7 +25,9 @@ pub fn open_documents(alloc: Global, lines: u64, count: usize) -> Result<Vec<Box
 }
 
 /// So many sessions of an empty queue in so many lines.
-pub fn open_queue(alloc: Global, lines: u64, count: usize) -> Result<Vec<Box<Content>>, i32> {
+pub fn open_queue(alloc: Global, lines: u64, count: usize) -> Result<Vec<Box<Content>>, i32>
+    ensures { IfOk result (λ boxes. AreCallable count boxes.items) }
+{
     if !may_open(lines, count) {
         return Err(BAD_SIZE);
     }
@@ -49,17 +55,24 @@ fn may_open(lines: u64, count: usize) -> bool
     lines >= 64 && lines <= 16384 && count >= 1 && count <= 8
 }
 
-fn boxed(made: Result<Vec<Box<Content>>, AllocError>) -> Result<Vec<Box<Content>>, i32> {
+/// What was made, or the number of want of memory.
+fn boxed(made: Result<Vec<Box<Content>>, AllocError>) -> Result<Vec<Box<Content>>, i32>
+    ensures { (count : ℕ) → IfOk made (λ boxes. AreCallable count boxes.items) → IfOk result (λ boxes. AreCallable count boxes.items) }
+{
     match made {
         Ok(contents) => Ok(contents),
         Err(_) => Err(NO_MEMORY),
     }
 }
 
+/// A box for each session of a document store.
 fn as_documents(
     alloc: Global,
     sessions: Vec<Session<DocStore>>,
-) -> Result<Vec<Box<Content>>, AllocError> {
+) -> Result<Vec<Box<Content>>, AllocError>
+    requires { AreReady (length sessions.items) sessions.items }
+    ensures { IfOk result (λ boxes. AreCallable (length sessions.items) boxes.items) }
+{
     let mut contents = Vec::new(alloc);
     for session in sessions {
         contents.push(Box::new(alloc, Content::Documents(session))?)?;
@@ -67,7 +80,11 @@ fn as_documents(
     Ok(contents)
 }
 
-fn as_queue(alloc: Global, sessions: Vec<Session<Fifo>>) -> Result<Vec<Box<Content>>, AllocError> {
+/// A box for each session of a queue.
+fn as_queue(alloc: Global, sessions: Vec<Session<Fifo>>) -> Result<Vec<Box<Content>>, AllocError>
+    requires { AreReady (length sessions.items) sessions.items }
+    ensures { IfOk result (λ boxes. AreCallable (length sessions.items) boxes.items) }
+{
     let mut contents = Vec::new(alloc);
     for session in sessions {
         contents.push(Box::new(alloc, Content::Queue(session))?)?;
