@@ -1,0 +1,387 @@
+/* Tests of the library, in C11 and in C++: what each operation answers, wrong use, threads, and memory that is refused. The program is
+ * linked with malloc, realloc and free wrapped, so that the library's blocks are counted and one of them can be refused. */
+#include "githoppu.h"
+#include <pthread.h>
+#include <stdio.h>
+#include <stdlib.h>
+
+enum { THREADS = 4, ADDS = 20000, TEXTS = 5000 };
+
+/* Under a tool that slows all down, `tests short` makes fewer rounds. */
+static int adds = ADDS, texts = TEXTS;
+
+#define CHECK(test)                                                       \
+    do {                                                                  \
+        if (!(test)) {                                                    \
+            fprintf(stderr, "%s:%d: %s\n", __FILE__, __LINE__, #test);    \
+            exit(1);                                                      \
+        }                                                                 \
+    } while (0)
+
+#define DO(call, kind)                                    \
+    do {                                                  \
+        CHECK((call) == GITHOPPU_DONE);                   \
+        CHECK(reply.word[0] == (uint64_t)(kind));         \
+    } while (0)
+
+/* ---- the blocks of memory; only the main thread opens and closes ---- */
+
+static long taken, given, refused_at;
+
+#ifdef __cplusplus
+extern "C" {
+#endif
+void *__real_malloc(size_t size);
+void *__real_realloc(void *block, size_t size);
+void __real_free(void *block);
+void *__wrap_malloc(size_t size);
+void *__wrap_realloc(void *block, size_t size);
+void __wrap_free(void *block);
+
+void *__wrap_malloc(size_t size) {
+    if (++taken == refused_at)
+        return NULL;
+    return __real_malloc(size);
+}
+
+void *__wrap_realloc(void *block, size_t size) {
+    if (block == NULL)
+        return __wrap_malloc(size);
+    if (++taken == refused_at)
+        return NULL;
+    given++;
+    return __real_realloc(block, size);
+}
+
+void __wrap_free(void *block) {
+    if (block != NULL)
+        given++;
+    __real_free(block);
+}
+#ifdef __cplusplus
+}
+#endif
+
+/* ---- one session ---- */
+
+static void test_sizes(void) {
+    void *slots[9];
+    int i;
+    for (i = 0; i < 9; i++)
+        slots[i] = &slots[i];
+    CHECK(githoppu_open(63, slots, 1) == GITHOPPU_BAD_SIZE);
+    CHECK(githoppu_open(16385, slots, 1) == GITHOPPU_BAD_SIZE);
+    CHECK(githoppu_open(64, slots, 0) == GITHOPPU_BAD_SIZE);
+    CHECK(githoppu_open(64, slots, 9) == GITHOPPU_BAD_SIZE);
+    CHECK(githoppu_open(UINT64_MAX, slots, 1) == GITHOPPU_BAD_SIZE);
+    CHECK(githoppu_open_queue(63, slots, 1) == GITHOPPU_BAD_SIZE);
+    CHECK(githoppu_open_queue(64, slots, 9) == GITHOPPU_BAD_SIZE);
+    for (i = 0; i < 9; i++)
+        CHECK(slots[i] == (void *)&slots[i]);
+}
+
+static void test_documents(void) {
+    void *s[1];
+    githoppu_words reply;
+    char text[1025], long_key[66];
+    int i;
+    CHECK(githoppu_open(64, s, 1) == GITHOPPU_DONE);
+    DO(githoppu_get(s, "fruit", &reply), GITHOPPU_ABSENT);
+    DO(githoppu_put(s, "fruit", "\"apple\"", 7, &reply), GITHOPPU_NEW);
+    DO(githoppu_put(s, "fruit", "\"pear\"", 6, &reply), GITHOPPU_REPLACED);
+    DO(githoppu_get(s, "fruit", &reply), GITHOPPU_DOC);
+    CHECK(githoppu_document(&reply, text) == 6 && strcmp(text, "\"pear\"") == 0);
+    DO(githoppu_add(s, "fruit", 1, &reply), GITHOPPU_NOT_NUMBER);
+    DO(githoppu_add(s, "sold", INT64_MAX, &reply), GITHOPPU_SUM);
+    CHECK(githoppu_sum(&reply) == INT64_MAX);
+    DO(githoppu_add(s, "sold", 1, &reply), GITHOPPU_OVERFLOW);
+    DO(githoppu_add(s, "sold", -5, &reply), GITHOPPU_SUM);
+    CHECK(githoppu_sum(&reply) == INT64_MAX - 5);
+    DO(githoppu_next(s, "", &reply), GITHOPPU_KEY);
+    CHECK(githoppu_key(&reply, text) == 5 && strcmp(text, "fruit") == 0);
+    DO(githoppu_next(s, "fruit", &reply), GITHOPPU_KEY);
+    CHECK(githoppu_key(&reply, text) == 4 && strcmp(text, "sold") == 0);
+    DO(githoppu_next(s, "sold", &reply), GITHOPPU_ABSENT);
+    DO(githoppu_count(s, &reply), GITHOPPU_COUNT);
+    CHECK(githoppu_number(&reply) == 2);
+    DO(githoppu_del(s, "fruit", &reply), GITHOPPU_DELETED);
+    DO(githoppu_del(s, "fruit", &reply), GITHOPPU_ABSENT);
+    memset(text, 'x', 1024);
+    for (i = 0; i < 3; i++) {
+        long_key[0] = (char)('a' + i);
+        long_key[1] = 0;
+        DO(githoppu_put(s, long_key, text, 1024, &reply), i < 2 ? GITHOPPU_NEW : GITHOPPU_NO_ROOM);
+    }
+    /* what is no operation */
+    DO(githoppu_put(s, "", "1", 1, &reply), GITHOPPU_NO_OPERATION);
+    DO(githoppu_put(s, "a key", "1", 1, &reply), GITHOPPU_NO_OPERATION);
+    DO(githoppu_put(s, "key", "", 0, &reply), GITHOPPU_NO_OPERATION);
+    DO(githoppu_put(s, "key", "\n", 1, &reply), GITHOPPU_NO_OPERATION);
+    memset(long_key, 'k', 65);
+    long_key[65] = 0;
+    CHECK(githoppu_get(s, long_key, &reply) == GITHOPPU_TOO_LONG);
+    CHECK(githoppu_put(s, "key", text, 1025, &reply) == GITHOPPU_TOO_LONG);
+    githoppu_close(s, 1);
+}
+
+/* revisions begin */
+static void test_revisions(void) {
+    void *s[1];
+    githoppu_words reply;
+    uint64_t first;
+    CHECK(githoppu_open(64, s, 1) == GITHOPPU_DONE);
+    CHECK(githoppu_rev(s, "fruit", &reply) == GITHOPPU_DONE);
+    if (reply.word[0] != GITHOPPU_NO_OPERATION) {
+        DO(githoppu_put(s, "fruit", "\"apple\"", 7, &reply), GITHOPPU_NEW);
+        DO(githoppu_rev(s, "fruit", &reply), GITHOPPU_REVISION);
+        first = githoppu_number(&reply);
+        DO(githoppu_putif(s, "fruit", "\"pear\"", 6, first, &reply), GITHOPPU_SET);
+        DO(githoppu_putif(s, "fruit", "\"plum\"", 6, first, &reply), GITHOPPU_STALE);
+        DO(githoppu_rev(s, "fruit", &reply), GITHOPPU_REVISION);
+        CHECK(githoppu_number(&reply) != first);
+    }
+    githoppu_close(s, 1);
+}
+/* revisions end */
+
+static void test_queue(void) {
+    void *s[2];
+    githoppu_words reply;
+    char text[58];
+    int i;
+    CHECK(githoppu_open_queue(64, s, 2) == GITHOPPU_DONE);
+    DO(githoppu_pop(&s[0], &reply), GITHOPPU_EMPTY);
+    DO(githoppu_peek(&s[0], &reply), GITHOPPU_EMPTY);
+    for (i = 0; i < 64; i++) {
+        snprintf(text, sizeof text, "text-%d", i);
+        DO(githoppu_push(&s[i % 2], text, &reply), i < 63 ? GITHOPPU_PUSHED : GITHOPPU_QUEUE_FULL);
+    }
+    DO(githoppu_len(&s[1], &reply), GITHOPPU_LENGTH);
+    CHECK(githoppu_length(&reply) == 63);
+    DO(githoppu_peek(&s[1], &reply), GITHOPPU_TEXT);
+    CHECK(githoppu_text(&reply, text) == 6 && strcmp(text, "text-0") == 0);
+    DO(githoppu_pop(&s[0], &reply), GITHOPPU_TEXT);
+    DO(githoppu_pop(&s[1], &reply), GITHOPPU_TEXT);
+    CHECK(githoppu_text(&reply, text) == 6 && strcmp(text, "text-1") == 0);
+    DO(githoppu_push(&s[0], "", &reply), GITHOPPU_NO_QUEUE_OPERATION);
+    memset(text, 't', 57);
+    text[57] = 0;
+    CHECK(githoppu_push(&s[0], text, &reply) == GITHOPPU_TOO_LONG);
+    text[56] = 0;
+    DO(githoppu_push(&s[0], text, &reply), GITHOPPU_PUSHED);
+    githoppu_close(s, 2);
+}
+
+static void test_wrong_turns(void) {
+    void *s[1], *none = NULL;
+    githoppu_handle handle;
+    githoppu_words op, reply;
+    size_t i;
+    CHECK(githoppu_open(64, s, 1) == GITHOPPU_DONE);
+    for (i = 0; i < 144; i++)
+        reply.word[i] = 7;
+    CHECK(githoppu_end(s, &reply) == GITHOPPU_OUT_OF_TURN);
+    for (i = 0; i < 144; i++)
+        CHECK(reply.word[i] == 7);
+    DO(githoppu_count(s, &reply), GITHOPPU_COUNT);
+    CHECK(githoppu_end(s, &reply) == GITHOPPU_OUT_OF_TURN);
+    CHECK(githoppu_count(&none, &reply) == GITHOPPU_NO_SESSION);
+    CHECK(githoppu_end(&none, &reply) == GITHOPPU_NO_SESSION);
+    /* no tries are one */
+    CHECK(githoppu_document_op(&op, 3, "sold", "", 0, 2) == GITHOPPU_DONE);
+    handle.at = s[0];
+    CHECK(githoppu_call(handle, op.word, reply.word, 0, s) == GITHOPPU_DONE);
+    CHECK(githoppu_sum(&reply) == 2);
+    githoppu_close(s, 1);
+    CHECK(s[0] == NULL);
+    githoppu_close(s, 1);
+}
+
+/* ---- threads ---- */
+
+struct worker {
+    void *session;
+    int number, wrong;
+    long pending;
+};
+
+/* Adds 1 in one try at a time, and is out of turn wherever an addition stands. */
+static void add_once(struct worker *w) {
+    githoppu_words op, reply;
+    int status;
+    githoppu_document_op(&op, 3, "sold", "", 0, 1);
+    for (;;) {
+        githoppu_handle handle;
+        handle.at = w->session;
+        status = githoppu_call(handle, op.word, reply.word, 1, &w->session);
+        if (status != GITHOPPU_AGAIN && status != GITHOPPU_FULL)
+            break;
+        GITHOPPU_YIELD();
+    }
+    if (status == GITHOPPU_PENDING) {
+        w->pending++;
+        if (githoppu_do(&w->session, &op, &reply) != GITHOPPU_OUT_OF_TURN)
+            w->wrong = 1;
+        status = githoppu_end(&w->session, &reply);
+    }
+    if (status != GITHOPPU_DONE || reply.word[0] != GITHOPPU_SUM)
+        w->wrong = 2;
+}
+
+static void *add_and_read(void *at) {
+    struct worker *w = (struct worker *)at;
+    githoppu_words reply;
+    char text[1025];
+    long last = 0, found;
+    int i;
+    for (i = 0; i < adds && !w->wrong; i++) {
+        add_once(w);
+        if (githoppu_get(&w->session, "sold", &reply) != GITHOPPU_DONE || reply.word[0] != GITHOPPU_DOC)
+            w->wrong = 3;
+        githoppu_document(&reply, text);
+        found = strtol(text, NULL, 10);
+        if (found <= last || found < i + 1 || found > THREADS * adds)
+            w->wrong = 4;
+        last = found;
+    }
+    return NULL;
+}
+
+static void on_threads(struct worker *workers, void **sessions, void *(*work)(void *)) {
+    pthread_t threads[THREADS];
+    int i;
+    for (i = 0; i < THREADS; i++) {
+        workers[i].session = sessions[i];
+        workers[i].number = i;
+        workers[i].wrong = 0;
+        workers[i].pending = 0;
+        CHECK(pthread_create(&threads[i], NULL, work, &workers[i]) == 0);
+    }
+    for (i = 0; i < THREADS; i++) {
+        CHECK(pthread_join(threads[i], NULL) == 0);
+        sessions[i] = workers[i].session;
+        CHECK(workers[i].wrong == 0);
+    }
+}
+
+static void test_adding_threads(void) {
+    void *sessions[THREADS];
+    struct worker workers[THREADS];
+    githoppu_words reply;
+    char text[1025];
+    CHECK(githoppu_open(64, sessions, THREADS) == GITHOPPU_DONE);
+    on_threads(workers, sessions, add_and_read);
+    DO(githoppu_get(&sessions[0], "sold", &reply), GITHOPPU_DOC);
+    githoppu_document(&reply, text);
+    CHECK(strtol(text, NULL, 10) == (long)THREADS * adds);
+    githoppu_close(sessions, THREADS);
+}
+
+static unsigned char arrived[THREADS / 2][TEXTS];
+
+/* Even threads push their texts, odd ones pop: each text comes once, and those of a thread in order. */
+static void *push_or_pop(void *at) {
+    struct worker *w = (struct worker *)at;
+    githoppu_words reply;
+    char text[57];
+    int i, from, which, last[THREADS / 2];
+    for (i = 0; i < THREADS / 2; i++)
+        last[i] = -1;
+    for (i = 0; i < texts && !w->wrong;) {
+        if (w->number % 2 == 0) {
+            snprintf(text, sizeof text, "%d:%d", w->number / 2, i);
+            if (githoppu_push(&w->session, text, &reply) != GITHOPPU_DONE)
+                w->wrong = 1;
+            i += reply.word[0] == GITHOPPU_PUSHED;
+        } else {
+            if (githoppu_pop(&w->session, &reply) != GITHOPPU_DONE)
+                w->wrong = 2;
+            if (reply.word[0] != GITHOPPU_TEXT)
+                continue;
+            githoppu_text(&reply, text);
+            if (sscanf(text, "%d:%d", &from, &which) != 2 || last[from] >= which)
+                w->wrong = 3;
+            else
+                arrived[from][which]++, last[from] = which;
+            i++;
+        }
+    }
+    return NULL;
+}
+
+static void test_queue_threads(void) {
+    void *sessions[THREADS];
+    struct worker workers[THREADS];
+    githoppu_words reply;
+    int i, k;
+    CHECK(githoppu_open_queue(64, sessions, THREADS) == GITHOPPU_DONE);
+    on_threads(workers, sessions, push_or_pop);
+    for (i = 0; i < THREADS / 2; i++)
+        for (k = 0; k < texts; k++)
+            CHECK(arrived[i][k] == 1);
+    DO(githoppu_len(&sessions[0], &reply), GITHOPPU_LENGTH);
+    CHECK(githoppu_length(&reply) == 0);
+    githoppu_close(sessions, THREADS);
+}
+
+/* ---- memory ---- */
+
+/* Refuses each block of an open in turn: NO_MEMORY, nothing is kept, and no slot is written. */
+static void test_refused(int32_t (*open)(uint64_t, void **, size_t), size_t count) {
+    void *slots[8];
+    long which, before;
+    int status = GITHOPPU_NO_MEMORY;
+    size_t i;
+    for (which = 1; status == GITHOPPU_NO_MEMORY; which++) {
+        for (i = 0; i < count; i++)
+            slots[i] = slots;
+        before = taken - given;
+        refused_at = taken + which;
+        status = open(64, slots, count);
+        /* the one that was refused is counted, and was not taken */
+        if (status == GITHOPPU_NO_MEMORY) {
+            CHECK(taken >= refused_at && taken - given == before + 1);
+            given++;
+            for (i = 0; i < count; i++)
+                CHECK(slots[i] == (void *)slots);
+        }
+        refused_at = 0;
+    }
+    CHECK(status == GITHOPPU_DONE && which > 4);
+    githoppu_close(slots, count);
+    CHECK(taken - given == before);
+}
+
+/* Calls take no memory. */
+static void test_calls_take_none(void) {
+    void *s[2];
+    githoppu_words reply;
+    long before;
+    int i;
+    CHECK(githoppu_open(64, s, 2) == GITHOPPU_DONE);
+    before = taken;
+    for (i = 0; i < 200; i++) {
+        DO(githoppu_add(&s[i % 2], "sold", 1, &reply), GITHOPPU_SUM);
+        DO(githoppu_get(&s[i % 2], "sold", &reply), GITHOPPU_DOC);
+    }
+    CHECK(taken == before);
+    githoppu_close(s, 2);
+}
+
+int main(int count, char **words) {
+    if (count > 1 && strcmp(words[1], "short") == 0)
+        adds = texts = 300;
+    test_sizes();
+    test_documents();
+    test_revisions();
+    test_queue();
+    test_wrong_turns();
+    test_refused(githoppu_open, 1);
+    test_refused(githoppu_open, 8);
+    test_refused(githoppu_open_queue, 3);
+    test_calls_take_none();
+    test_adding_threads();
+    test_queue_threads();
+    puts("the C tests passed");
+    return 0;
+}

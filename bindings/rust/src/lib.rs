@@ -1,0 +1,250 @@
+//! A document store and a bounded queue that 1 to 8 sessions share, from Rust: safe types over the library's functions.
+//!
+//! A session is `Send` and not `Sync`: it goes to a thread, and one call at a time has it. Calls try again while others are in the way; they
+//! take no lock. Dropping the last session drops the store.
+//!
+//! ```
+//! let mut sessions = githoppu::Store::open(64, 2)?;
+//! let mut other = sessions.pop().unwrap();
+//! let seller = std::thread::spawn(move || other.add("sold", 2));
+//! sessions[0].add("sold", 1)?;
+//! seller.join().unwrap()?;
+//! assert_eq!(sessions[0].get("sold")?, Some("3".to_string()));
+//! # Ok::<(), githoppu::Error>(())
+//! ```
+
+mod raw;
+mod session;
+mod words;
+
+use session::Pointer;
+use std::fmt;
+use words::{document_in, document_op, key_in, queue_op, text_in};
+
+/// Why there is no answer. Nothing is changed by a call that ends with one.
+#[derive(Clone, Copy, Debug, PartialEq, Eq)]
+pub enum Error {
+    /// The lines are not 64 to 16,384, or the sessions not 1 to 8.
+    BadSize,
+    /// There is no memory.
+    NoMemory,
+    /// A key above 64 bytes, a document above 1,024, or a text above 56.
+    TooLong,
+    /// A key is 1 to 64 visible ASCII characters, a document 1 to 1,024 bytes of which none is a control character, and a text of a queue 1 to 56
+    /// visible ASCII characters.
+    NoOperation,
+    /// Others were in the way more than a million times.
+    Busy,
+    /// The store has had 2^40 operations, and takes no more.
+    Worn,
+    /// The session has come to its limit of steps. Sessions here have none.
+    Stopped,
+    /// The document is no UTF-8; `get_bytes` gives it.
+    NoText,
+    /// An answer that this version does not know.
+    Unknown(i32),
+}
+
+impl Error {
+    fn of(status: i32) -> Error {
+        match status {
+            raw::AGAIN | raw::FULL => Error::Busy,
+            raw::WORN => Error::Worn,
+            raw::STOPPED => Error::Stopped,
+            raw::BAD_SIZE => Error::BadSize,
+            raw::NO_MEMORY => Error::NoMemory,
+            other => Error::Unknown(other),
+        }
+    }
+}
+
+impl fmt::Display for Error {
+    fn fmt(&self, f: &mut fmt::Formatter<'_>) -> fmt::Result {
+        match self {
+            Error::BadSize => f.write_str("the lines are not 64 to 16384, or the sessions not 1 to 8"),
+            Error::NoMemory => f.write_str("no memory"),
+            Error::TooLong => f.write_str("a key, a document or a text is too long"),
+            Error::NoOperation => f.write_str("no operation has such a key, document or text"),
+            Error::Busy => f.write_str("others were in the way"),
+            Error::Worn => f.write_str("the store takes no further operation"),
+            Error::Stopped => f.write_str("the session makes no further step"),
+            Error::NoText => f.write_str("the document is no text"),
+            Error::Unknown(status) => write!(f, "the library answered {status}"),
+        }
+    }
+}
+
+impl std::error::Error for Error {}
+
+/// What a put comes to.
+#[derive(Clone, Copy, Debug, PartialEq, Eq)]
+pub enum Put {
+    New,
+    Replaced,
+    /// There are not as many lines; nothing is changed.
+    NoRoom,
+}
+
+/// What an addition comes to.
+#[derive(Clone, Copy, Debug, PartialEq, Eq)]
+pub enum Add {
+    /// The sum, which is the key's document now.
+    Sum(i64),
+    /// The document is no whole number; nothing is changed.
+    NotNumber,
+    /// The sum has no 64 bits; nothing is changed.
+    Overflow,
+    /// There are not as many lines; nothing is changed.
+    NoRoom,
+}
+
+/// A document store, which lives as long as one of its sessions.
+pub struct Store;
+
+impl Store {
+    /// So many sessions of an empty store in so many lines of 64 bytes. A document takes one line, and one for each 56 bytes of its key and of its
+    /// text; the first line is the store's own.
+    pub fn open(lines: u64, sessions: usize) -> Result<Vec<Session>, Error> {
+        let pointers = Pointer::open(raw::githoppu_open, lines, sessions)?;
+        Ok(pointers.into_iter().map(Session).collect())
+    }
+}
+
+/// A session of a document store.
+pub struct Session(Pointer);
+
+impl Session {
+    /// Puts a document at a key.
+    pub fn put(&mut self, key: &str, document: &str) -> Result<Put, Error> {
+        let reply = self.0.ask(&document_op(1, key, document.as_bytes(), 0)?)?;
+        match reply[0] {
+            1 => Ok(Put::New),
+            2 => Ok(Put::Replaced),
+            9 => Ok(Put::NoRoom),
+            other => Err(Error::Unknown(other as i32)),
+        }
+    }
+
+    /// Deletes the document of a key: whether there was one.
+    pub fn del(&mut self, key: &str) -> Result<bool, Error> {
+        let reply = self.0.ask(&document_op(2, key, &[], 0)?)?;
+        Ok(reply[0] == 3)
+    }
+
+    /// Adds to the number that is the document of a key, and is 0 where there is none.
+    pub fn add(&mut self, key: &str, amount: i64) -> Result<Add, Error> {
+        let reply = self.0.ask(&document_op(3, key, &[], amount)?)?;
+        match reply[0] {
+            6 => Ok(Add::Sum(reply[3] as i64)),
+            7 => Ok(Add::NotNumber),
+            8 => Ok(Add::Overflow),
+            9 => Ok(Add::NoRoom),
+            other => Err(Error::Unknown(other as i32)),
+        }
+    }
+
+    /// The document of a key, as bytes.
+    pub fn get_bytes(&mut self, key: &str) -> Result<Option<Vec<u8>>, Error> {
+        let reply = self.0.ask(&document_op(4, key, &[], 0)?)?;
+        Ok((reply[0] == 5).then(|| document_in(&reply)))
+    }
+
+    /// The document of a key.
+    pub fn get(&mut self, key: &str) -> Result<Option<String>, Error> {
+        match self.get_bytes(key)? {
+            Some(bytes) => String::from_utf8(bytes).map(Some).map_err(|_| Error::NoText),
+            None => Ok(None),
+        }
+    }
+
+    /// The least key above one, or above none where that is "".
+    pub fn next(&mut self, above: &str) -> Result<Option<String>, Error> {
+        let reply = self.0.ask(&document_op(5, above, &[], 0)?)?;
+        Ok((reply[0] == 10).then(|| String::from_utf8_lossy(&key_in(&reply)).into_owned()))
+    }
+
+    /// How many documents there are.
+    pub fn count(&mut self) -> Result<u64, Error> {
+        Ok(self.0.ask(&document_op(6, "", &[], 0)?)?[3])
+    }
+}
+
+// revisions begin
+/// What a put at a revision comes to.
+#[derive(Clone, Copy, Debug, PartialEq, Eq)]
+pub enum PutIf {
+    Set,
+    /// The key has another revision; nothing is changed.
+    Stale,
+    /// There are not as many lines; nothing is changed.
+    NoRoom,
+}
+
+impl Session {
+    /// Puts a document at a key where the key has this revision.
+    pub fn put_if(&mut self, key: &str, document: &str, revision: u64) -> Result<PutIf, Error> {
+        let reply = self.0.ask(&document_op(7, key, document.as_bytes(), revision as i64)?)?;
+        match reply[0] {
+            12 => Ok(PutIf::Set),
+            13 => Ok(PutIf::Stale),
+            9 => Ok(PutIf::NoRoom),
+            other => Err(Error::Unknown(other as i32)),
+        }
+    }
+
+    /// The revision of a key.
+    pub fn revision(&mut self, key: &str) -> Result<u64, Error> {
+        let reply = self.0.ask(&document_op(8, key, &[], 0)?)?;
+        match reply[0] {
+            14 => Ok(reply[3]),
+            other => Err(Error::Unknown(other as i32)),
+        }
+    }
+}
+// revisions end
+
+/// A bounded queue of texts, which lives as long as one of its sessions.
+pub struct Queue;
+
+impl Queue {
+    /// So many sessions of an empty queue in so many lines of 64 bytes, each of which but the first holds a text.
+    pub fn open(lines: u64, sessions: usize) -> Result<Vec<QueueSession>, Error> {
+        let pointers = Pointer::open(raw::githoppu_open_queue, lines, sessions)?;
+        Ok(pointers.into_iter().map(QueueSession).collect())
+    }
+}
+
+/// A session of a queue.
+pub struct QueueSession(Pointer);
+
+impl QueueSession {
+    /// Puts a text behind the last one: whether there was room.
+    pub fn push(&mut self, text: &str) -> Result<bool, Error> {
+        Ok(self.0.ask(&queue_op(1, text)?)?[0] == 1)
+    }
+
+    /// Takes the text at the front.
+    pub fn pop(&mut self) -> Result<Option<String>, Error> {
+        self.front(2)
+    }
+
+    /// The text at the front.
+    pub fn peek(&mut self) -> Result<Option<String>, Error> {
+        self.front(3)
+    }
+
+    /// How many texts there are.
+    pub fn len(&mut self) -> Result<u64, Error> {
+        Ok(self.0.ask(&queue_op(4, "")?)?[1])
+    }
+
+    /// Whether there is none.
+    pub fn is_empty(&mut self) -> Result<bool, Error> {
+        Ok(self.len()? == 0)
+    }
+
+    fn front(&mut self, kind: u64) -> Result<Option<String>, Error> {
+        let reply = self.0.ask(&queue_op(kind, "")?)?;
+        Ok((reply[0] == 3).then(|| String::from_utf8_lossy(&text_in(&reply)).into_owned()))
+    }
+}

@@ -1,0 +1,137 @@
+//! What each operation answers, wrong use, and threads.
+
+use githoppu::{Add, Error, Put, Queue, QueueSession, Session, Store};
+use std::thread;
+
+const THREADS: usize = 4;
+const ADDS: i64 = 20_000;
+const TEXTS: usize = 5_000;
+
+const fn goes_to_a_thread<T: Send>() {}
+
+const _: () = goes_to_a_thread::<Session>();
+const _: () = goes_to_a_thread::<QueueSession>();
+
+#[test]
+fn sizes_are_refused() {
+    for (lines, count) in [(63, 1), (16_385, 1), (64, 0), (64, 9), (u64::MAX, 8)] {
+        assert_eq!(Store::open(lines, count).err(), Some(Error::BadSize));
+        assert_eq!(Queue::open(lines, count).err(), Some(Error::BadSize));
+    }
+}
+
+#[test]
+fn documents_are_kept() {
+    let mut s = Store::open(64, 1).unwrap().pop().unwrap();
+    assert_eq!(s.get("fruit"), Ok(None));
+    assert_eq!(s.put("fruit", "\"apple\""), Ok(Put::New));
+    assert_eq!(s.put("fruit", "\"pear\""), Ok(Put::Replaced));
+    assert_eq!(s.get("fruit"), Ok(Some("\"pear\"".to_string())));
+    assert_eq!(s.add("fruit", 1), Ok(Add::NotNumber));
+    assert_eq!(s.add("sold", i64::MAX), Ok(Add::Sum(i64::MAX)));
+    assert_eq!(s.add("sold", 1), Ok(Add::Overflow));
+    assert_eq!(s.add("sold", -5), Ok(Add::Sum(i64::MAX - 5)));
+    assert_eq!(s.next(""), Ok(Some("fruit".to_string())));
+    assert_eq!(s.next("fruit"), Ok(Some("sold".to_string())));
+    assert_eq!(s.next("sold"), Ok(None));
+    assert_eq!(s.count(), Ok(2));
+    assert_eq!(s.del("fruit"), Ok(true));
+    assert_eq!(s.del("fruit"), Ok(false));
+    let long = "x".repeat(1024);
+    assert_eq!(s.put("a", &long), Ok(Put::New));
+    assert_eq!(s.put("b", &long), Ok(Put::New));
+    assert_eq!(s.put("c", &long), Ok(Put::NoRoom));
+    assert_eq!(s.put("", "1"), Err(Error::NoOperation));
+    assert_eq!(s.put("a key", "1"), Err(Error::NoOperation));
+    assert_eq!(s.put("key", "\n"), Err(Error::NoOperation));
+    assert_eq!(s.get(&"k".repeat(65)), Err(Error::TooLong));
+    assert_eq!(s.put("key", &"x".repeat(1025)), Err(Error::TooLong));
+    assert_eq!(s.put("umlaut", "ü"), Ok(Put::New));
+    assert_eq!(s.get("umlaut"), Ok(Some("ü".to_string())));
+}
+
+// revisions begin
+#[test]
+fn a_revision_is_compared() {
+    use githoppu::PutIf;
+    let mut s = Store::open(64, 1).unwrap().pop().unwrap();
+    // a store without revisions takes these words for no operation
+    if s.revision("fruit") == Err(Error::NoOperation) {
+        return;
+    }
+    assert_eq!(s.put("fruit", "1"), Ok(Put::New));
+    let first = s.revision("fruit").unwrap();
+    assert_eq!(s.put_if("fruit", "2", first), Ok(PutIf::Set));
+    assert_eq!(s.put_if("fruit", "3", first), Ok(PutIf::Stale));
+}
+// revisions end
+
+#[test]
+fn a_queue_is_first_in_first_out() {
+    let mut s = Queue::open(64, 2).unwrap();
+    assert_eq!(s[0].pop(), Ok(None));
+    assert_eq!(s[0].peek(), Ok(None));
+    for i in 0..64 {
+        assert_eq!(s[i % 2].push(&format!("text-{i}")), Ok(i < 63));
+    }
+    assert_eq!(s[1].len(), Ok(63));
+    assert_eq!(s[1].peek(), Ok(Some("text-0".to_string())));
+    assert_eq!(s[0].pop(), Ok(Some("text-0".to_string())));
+    assert_eq!(s[1].pop(), Ok(Some("text-1".to_string())));
+    assert_eq!(s[0].push(""), Err(Error::NoOperation));
+    assert_eq!(s[0].push(&"t".repeat(57)), Err(Error::TooLong));
+    assert_eq!(s[0].push(&"t".repeat(56)), Ok(true));
+}
+
+fn add_and_read(session: &mut Session) {
+    let mut last = 0;
+    for i in 1..=ADDS {
+        assert!(matches!(session.add("sold", 1), Ok(Add::Sum(_))));
+        let found: i64 = session.get("sold").unwrap().unwrap().parse().unwrap();
+        assert!(found > last && found >= i && found <= THREADS as i64 * ADDS);
+        last = found;
+    }
+}
+
+#[test]
+fn four_threads_add() {
+    let mut sessions = Store::open(64, THREADS).unwrap();
+    thread::scope(|scope| {
+        for session in &mut sessions {
+            scope.spawn(move || add_and_read(session));
+        }
+    });
+    assert_eq!(sessions[0].get("sold"), Ok(Some((THREADS as i64 * ADDS).to_string())));
+}
+
+#[test]
+fn four_threads_queue() {
+    let mut sessions = Queue::open(64, THREADS).unwrap();
+    let (producers, consumers) = sessions.split_at_mut(THREADS / 2);
+    let mut arrived: Vec<String> = thread::scope(|scope| {
+        for (i, session) in producers.iter_mut().enumerate() {
+            scope.spawn(move || {
+                for k in 0..TEXTS {
+                    while !session.push(&format!("{i}:{k}")).unwrap() {}
+                }
+            });
+        }
+        let takers: Vec<_> = consumers
+            .iter_mut()
+            .map(|session| {
+                scope.spawn(move || {
+                    let mut texts = Vec::new();
+                    while texts.len() < TEXTS {
+                        texts.extend(session.pop().unwrap());
+                    }
+                    texts
+                })
+            })
+            .collect();
+        takers.into_iter().flat_map(|taker| taker.join().unwrap()).collect()
+    });
+    arrived.sort();
+    let mut sent: Vec<String> = (0..THREADS / 2).flat_map(|i| (0..TEXTS).map(move |k| format!("{i}:{k}"))).collect();
+    sent.sort();
+    assert_eq!(arrived, sent);
+}

@@ -1,0 +1,67 @@
+-- What a call comes to: the service's answer, by what it was asked.
+use Rattle.std.specs.Prelude.{◌≡◌, ◌⊎◌, ℕ, List}
+use Rattle.cx_rule.specs.Running.{IsSeatOf, Running}
+use Rattle.cx_rule.specs.Seats.{Seated}
+use Rattle.cx_core.specs.declared.local.FullNote.{FullNote}
+use Rattle.cx_service.specs.Callers.{IsCallerOf, IsLinkedOf}
+use Rattle.cx_service.specs.declared.close.Handed.{Handed}
+use Rattle.cx_service.specs.declared.close.Handed.TheVariants.{Idle, Linked, Stopped}
+use Rattle.cx_service.specs.declared.drive.Driven.TheVariants.{Done as DrivenDone, Pending as DrivenPending, Halted as DrivenHalted}
+use Rattle.cx_service.specs.declared.lookup.ReadTried.TheVariants.{Read, Pending as ReadPending, Halted as ReadHalted}
+use Rattle.cx_service.specs.declared.submit.Submitted.TheVariants.{Linked as Entered, Again as EnteredAgain, Full as EnteredFull, Worn as EnteredWorn, Halted as EnteredHalted}
+use Rattle.cx_service.specs.Drives.{Drives}
+use Rattle.cx_service.specs.Lookups.{Looks}
+use Rattle.cx_service.specs.Submits.{Submits}
+use Rattle.c_sessions.specs.declared.steps.Called.{Called}
+use Rattle.c_sessions.specs.declared.steps.Called.TheVariants.{Done, Pending, Again, Full, Worn, Stopped as CalledStopped, OutOfTurn}
+
+-- what stands of a caller of this service
+abbrev pub IsHanded : {O : Type 0} → Running O → Handed → Type 0
+IsHanded r (Idle caller) = IsCallerOf r caller
+IsHanded r (Linked linked) = IsLinkedOf r linked
+IsHanded r (Stopped stopped) = IsSeatOf r stopped.seat
+
+-- driving a linked entry in so many turns comes to this, with this reply where it is done
+abbrev pub DrivesTo : {O : Type 0} → Running O → ℕ → Seated → Called → Handed → List ℕ → Type 0
+DrivesTo r tries before Done (Idle after) reply = (ticket : ℕ) × Drives r tries before (DrivenDone after (record { ticket = ticket; reply = reply }))
+DrivesTo r tries before Pending (Linked after) reply = Drives r tries before (DrivenPending after)
+DrivesTo r tries before CalledStopped (Stopped after) reply = Drives r tries before (DrivenHalted after)
+DrivesTo r tries before called after reply = ⊥
+
+-- a read beside the queue comes to this
+abbrev pub LooksTo : {O : Type 0} → Running O → List ℕ → ℕ → Seated → Called → Handed → List ℕ → Type 0
+LooksTo r op tries before Done (Idle after) reply = (place : ℕ) × Looks r op tries before (Read after (record { place = place; reply = reply }))
+LooksTo r op tries before Again (Idle after) reply = Looks r op tries before (ReadPending after)
+LooksTo r op tries before CalledStopped (Stopped after) reply = Looks r op tries before (ReadHalted after)
+LooksTo r op tries before called after reply = ⊥
+
+-- an operation is not entered into the queue
+abbrev pub EntersNot : {O : Type 0} → Running O → List ℕ → ℕ → Seated → Called → Handed → Type 0
+EntersNot r op tries before Again (Idle after) = Submits r op tries before (EnteredAgain after)
+EntersNot r op tries before Full (Idle after) = (note : FullNote) × Submits r op tries before (EnteredFull after note)
+EntersNot r op tries before Worn (Idle after) = Submits r op tries before (EnteredWorn after)
+EntersNot r op tries before CalledStopped (Stopped after) = Submits r op tries before (EnteredHalted after)
+EntersNot r op tries before called after = ⊥
+
+-- it is entered, and driven to this
+pub record EntersAndDrives {O : Type 0} (r : Running O) (op : List ℕ) (tries : ℕ) (before : Seated) (called : Called) (after : Handed) (reply : List ℕ) : Type 0 where
+  pub linked : Seated
+  pub entered : Submits r op tries before (Entered linked)
+  pub driven : DrivesTo r tries linked called after reply
+
+abbrev pub EntersTo : {O : Type 0} → Running O → List ℕ → ℕ → Seated → Called → Handed → List ℕ → Type 0
+EntersTo r op tries before called after reply = EntersAndDrives r op tries before called after reply ⊎ EntersNot r op tries before called after
+
+-- a call of a caller with no call under way: entered into the queue, or read beside it
+abbrev pub Calls : {O : Type 0} → Running O → List ℕ → ℕ → Seated → Called → Handed → List ℕ → Type 0
+Calls r op tries before called after reply = EntersTo r op tries before called after reply ⊎ LooksTo r op tries before called after reply
+
+-- so in any state: out of turn where an entry is linked or the caller is stopped, and then nothing is changed
+abbrev pub CallsFrom : {O : Type 0} → Running O → List ℕ → ℕ → Handed → Called → Handed → List ℕ → Type 0
+CallsFrom r op tries (Idle before) called after reply = Calls r op tries before called after reply
+CallsFrom r op tries before called after reply = (called ≡ OutOfTurn) × (after ≡ before)
+
+-- and finishing: out of turn where no entry is linked
+abbrev pub FinishesFrom : {O : Type 0} → Running O → ℕ → Handed → Called → Handed → List ℕ → Type 0
+FinishesFrom r tries (Linked before) called after reply = DrivesTo r tries before called after reply
+FinishesFrom r tries before called after reply = (called ≡ OutOfTurn) × (after ≡ before)

@@ -1,0 +1,70 @@
+//! A caller of a shared service, with its share of the service.
+
+ghost use Rattle.std.specs.Prelude.{◌≡◌, ◌≤◌};
+ghost use Rattle.std.specs.Arc.{arc_value};
+ghost use Rattle.c_sessions.specs.Calls.{IsHanded};
+ghost use Rattle.c_sessions.specs.Sessions.{CallsIn, FinishesIn, IsReady};
+
+use crate::steps::{Called, end, go_on};
+use cx_base::Object;
+use cx_service::{Handed, Service};
+use std::alloc::Global;
+use std::sync::Arc;
+
+/// A share of a service, and what stands of one of its callers. Between calls something always does.
+#[derive(Drop)]
+pub struct Session<O: Object> {
+    service: Arc<Service<O>, Global>,
+    handed: Option<Handed>,
+}
+
+impl<O: Object> Session<O> {
+    /// A session of what stands of a caller.
+    pub fn of(service: Arc<Service<O>, Global>, handed: Handed) -> Session<O>
+        requires { IsHanded (arc_value service) handed }
+        ensures ready { IsReady result }
+        ensures of { arc_value result.service ≡ arc_value service }
+    {
+        Session {
+            service,
+            handed: Some(handed),
+        }
+    }
+
+    /// Does an operation, in so many tries. The reply is written where the call is done, and nothing of it else.
+    pub fn call(&mut self, op: &[u64; 144], reply: &mut [u64; 144], tries: u64) -> Called
+        requires ready { IsReady self.old }
+        requires tries { 1 ≤ tries }
+        ensures ready { IsReady self.new }
+        ensures calls { CallsIn op.now tries self.old result self.new reply.new }
+    {
+        let Some(handed) = self.handed.take() else {
+            unreachable!()
+        };
+        let (handed, called) = go_on(&self.service, handed, op, reply, tries);
+        self.handed = Some(handed);
+        called
+    }
+
+    /// Drives the linked entry to its answer, in so many turns.
+    pub fn finish(&mut self, reply: &mut [u64; 144], tries: u64) -> Called
+        requires ready { IsReady self.old }
+        requires tries { 1 ≤ tries }
+        ensures ready { IsReady self.new }
+        ensures finishes { FinishesIn tries self.old result self.new reply.new }
+    {
+        let Some(handed) = self.handed.take() else {
+            unreachable!()
+        };
+        let (handed, called) = end(&self.service, handed, reply, tries);
+        self.handed = Some(handed);
+        called
+    }
+}
+
+const fn goes_to_a_thread<T: Send>() {}
+
+/// A session may go to another thread, where its object may be shared by threads.
+pub const fn sessions_cross_threads<O: Object + Send + Sync>() {
+    goes_to_a_thread::<Session<O>>();
+}

@@ -1,0 +1,154 @@
+//! What a call does with what stands of a caller.
+
+ghost use Rattle.std.specs.Prelude.{◌≤◌, IsTrue};
+ghost use Rattle.cx_service.specs.Callers.{IsCallerOf, IsLinkedOf};
+ghost use Rattle.c_sessions.specs.Calls.{Calls, CallsFrom, DrivesTo, EntersTo, FinishesFrom, IsHanded, LooksTo};
+
+use cx_base::Object;
+use cx_service::{Caller, Driven, Handed, Linked, ReadTried, Service, Submitted};
+
+/// What a call comes to.
+#[derive(Clone, Copy, Debug, PartialEq, Eq, Drop)]
+pub enum Called {
+    /// It is answered, and the reply is there.
+    Done,
+    /// The entry is linked and not answered yet.
+    Pending,
+    /// Others were in the way, and nothing is linked.
+    Again,
+    /// No cell of the caller is idle: another caller needs entries in them. Nothing is linked.
+    Full,
+    /// There is no further ticket.
+    Worn,
+    /// The caller has come to its limit of steps.
+    Stopped,
+    /// An entry is linked that is not answered, or none is where one is to be finished.
+    OutOfTurn,
+}
+
+/// Does an operation of a caller with no call under way.
+pub(crate) fn go_on<O: Object>(
+    service: &Service<O>,
+    handed: Handed,
+    op: &[u64; 144],
+    reply: &mut [u64; 144],
+    tries: u64,
+) -> (Handed, Called)
+    requires ready { IsHanded service.now handed }
+    requires tries { 1 ≤ tries }
+    ensures ready { IsHanded service.now result.0 }
+    ensures calls { CallsFrom service.now op.now tries handed result.1 result.0 reply.new }
+{
+    match handed {
+        Handed::Idle(caller) => ask(service, caller, op, reply, tries),
+        other => (other, Called::OutOfTurn),
+    }
+}
+
+/// Drives the entry of a caller that has one.
+pub(crate) fn end<O: Object>(
+    service: &Service<O>,
+    handed: Handed,
+    reply: &mut [u64; 144],
+    tries: u64,
+) -> (Handed, Called)
+    requires ready { IsHanded service.now handed }
+    requires tries { 1 ≤ tries }
+    ensures ready { IsHanded service.now result.0 }
+    ensures finishes { FinishesFrom service.now tries handed result.1 result.0 reply.new }
+{
+    match handed {
+        Handed::Linked(linked) => drive(service, linked, reply, tries),
+        other => (other, Called::OutOfTurn),
+    }
+}
+
+/// Asks an operation of a caller with no call under way: beside the queue where it only reads.
+fn ask<O: Object>(
+    service: &Service<O>,
+    caller: Caller,
+    op: &[u64; 144],
+    reply: &mut [u64; 144],
+    tries: u64,
+) -> (Handed, Called)
+    requires caller { IsCallerOf service.now caller }
+    requires tries { 1 ≤ tries }
+    ensures ready { IsHanded service.now result.0 }
+    ensures calls { Calls service.now op.now tries caller result.1 result.0 reply.new }
+{
+    if service.object().reads(op) {
+        look(service, caller, op, reply, tries)
+    } else {
+        enter(service, caller, op, reply, tries)
+    }
+}
+
+/// Reads beside the queue.
+fn look<O: Object>(
+    service: &Service<O>,
+    caller: Caller,
+    op: &[u64; 144],
+    reply: &mut [u64; 144],
+    tries: u64,
+) -> (Handed, Called)
+    requires caller { IsCallerOf service.now caller }
+    requires reads { IsTrue (O.only_reads service.now.object op.now) }
+    requires tries { 1 ≤ tries }
+    ensures ready { IsHanded service.now result.0 }
+    ensures looks { LooksTo service.now op.now tries caller result.1 result.0 reply.new }
+{
+    match service.try_read(caller, op, tries) {
+        ReadTried::Read(back, seen) => {
+            let told = seen.reply;
+            *reply = told;
+            (Handed::Idle(back), Called::Done)
+        }
+        ReadTried::Pending(back) => (Handed::Idle(back), Called::Again),
+        ReadTried::Halted(stopped) => (Handed::Stopped(stopped), Called::Stopped),
+    }
+}
+
+/// Enters an operation into the queue, and drives it to its answer.
+fn enter<O: Object>(
+    service: &Service<O>,
+    caller: Caller,
+    op: &[u64; 144],
+    reply: &mut [u64; 144],
+    tries: u64,
+) -> (Handed, Called)
+    requires caller { IsCallerOf service.now caller }
+    requires tries { 1 ≤ tries }
+    ensures ready { IsHanded service.now result.0 }
+    ensures enters { EntersTo service.now op.now tries caller result.1 result.0 reply.new }
+{
+    match service.submit(caller, op, tries) {
+        Submitted::Linked(linked) => drive(service, linked, reply, tries),
+        Submitted::Again(back) => (Handed::Idle(back), Called::Again),
+        Submitted::Full(back, _) => (Handed::Idle(back), Called::Full),
+        Submitted::Worn(back) => (Handed::Idle(back), Called::Worn),
+        Submitted::Halted(stopped) => (Handed::Stopped(stopped), Called::Stopped),
+    }
+}
+
+/// Drives a linked entry to its answer.
+fn drive<O: Object>(
+    service: &Service<O>,
+    linked: Linked,
+    reply: &mut [u64; 144],
+    tries: u64,
+) -> (Handed, Called)
+    requires linked { IsLinkedOf service.now linked }
+    requires tries { 1 ≤ tries }
+    ensures ready { IsHanded service.now result.0 }
+    ensures drives { DrivesTo service.now tries linked result.1 result.0 reply.new }
+{
+    match service.drive(linked, tries) {
+        Driven::Done(back, answer) => {
+            let told = answer.reply;
+            *reply = told;
+            (Handed::Idle(back), Called::Done)
+        }
+        Driven::Pending(back) => (Handed::Linked(back), Called::Pending),
+        Driven::Halted(stopped) => (Handed::Stopped(stopped), Called::Stopped),
+    }
+}

@@ -1,0 +1,14 @@
+use Rattle.std.proofs.Common.{rules}
+use Rattle.githoppu_c.proofs.githoppu_call.Goals as goal
+
+pub returns : goal.returns
+returns c = record {
+  tries = c.clamp.result;
+  some = search rules;
+  most = search rules;
+  called = c.call-called.result;
+  after = c.call-called.new.self;
+  callable = c.call-called.ensures.callable;
+  comes_to = search rules;
+  is = search rules;
+}

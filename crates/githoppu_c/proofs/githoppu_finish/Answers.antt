@@ -1,0 +1,14 @@
+use Rattle.std.proofs.Common.{rules}
+use Rattle.githoppu_c.proofs.githoppu_finish.Goals as goal
+
+pub returns : goal.returns
+returns c = record {
+  tries = c.clamp.result;
+  some = search rules;
+  most = search rules;
+  called = c.finish-called.result;
+  after = c.finish-called.new.self;
+  callable = c.finish-called.ensures.callable;
+  comes_to = search rules;
+  is = search rules;
+}

@@ -1,0 +1,52 @@
+-- What C holds, and what a call of it answers.
+use Rattle.std.specs.Prelude.{◌≡◌, ◌≤◌, ◌^◌, ℕ, ℤ, pos, All, List, length}
+use Rattle.std.specs.Global.{Global}
+use Rattle.std_alloc.specs.declared.boxed.Box.{Box}
+use Rattle.c_sessions.specs.Sessions.{CallsIn, FinishesIn, IsReady}
+use Rattle.c_sessions.specs.declared.steps.Called.{Called}
+use Rattle.c_sessions.specs.declared.steps.Called.TheVariants.{Done, Pending, Again, Full, Worn, Stopped, OutOfTurn}
+use Rattle.githoppu_c.specs.declared.content.Content.{Content}
+use Rattle.githoppu_c.specs.declared.content.Content.TheVariants.{Documents, Queue}
+
+-- a session that may be called
+abbrev pub IsCallable : Content → Type 0
+IsCallable (Documents session) = IsReady session
+IsCallable (Queue session) = IsReady session
+
+-- so many boxes, each of a session that may be called
+pub record AreCallable (count : ℕ) (boxes : List (Box Content Global)) : Type 0 where
+  pub all : length boxes ≡ count
+  pub each : All (λ (b : Box Content Global). IsCallable b.value) boxes
+
+-- a call of this operation, in so many tries, came to this
+abbrev pub Calls : List ℕ → ℕ → Content → Called → Content → List ℕ → Type 0
+Calls op tries (Documents before) called (Documents after) reply = CallsIn op tries before called after reply
+Calls op tries (Queue before) called (Queue after) reply = CallsIn op tries before called after reply
+Calls op tries before called after reply = ⊥
+
+-- and so did finishing, in so many turns
+abbrev pub Finishes : ℕ → Content → Called → Content → List ℕ → Type 0
+Finishes tries (Documents before) called (Documents after) reply = FinishesIn tries before called after reply
+Finishes tries (Queue before) called (Queue after) reply = FinishesIn tries before called after reply
+Finishes tries before called after reply = ⊥
+
+-- the number of what a call came to
+abbrev pub code_of : Called → ℤ
+code_of Done = pos 0
+code_of Pending = pos 1
+code_of Again = pos 2
+code_of Full = pos 3
+code_of Worn = pos 4
+code_of Stopped = pos 5
+code_of OutOfTurn = pos 6
+
+-- what C is answered: the number of what some tries came to, which left a session that may be called
+pub record Answers (come_to : ℕ → Called → Content → Type 0) (code : ℤ) : Type 0 where
+  pub tries : ℕ
+  pub some : 1 ≤ tries
+  pub most : tries ≤ 2 ^ 20
+  pub called : Called
+  pub after : Content
+  pub callable : IsCallable after
+  pub comes_to : come_to tries called after
+  pub is : code ≡ code_of called

@@ -1,0 +1,40 @@
+//! What C holds.
+ghost use Rattle.std.specs.Prelude.{◌≡◌};
+ghost use Rattle.githoppu_c.specs.declared.content.Content.{Content};
+ghost use Rattle.githoppu_c.specs.Sealed.{content_coded, handle_owns};
+
+use crate::content::Content;
+use crate::raw_box::RawBox;
+use std::alloc::Global;
+use std::marker::Model;
+
+/// What C holds of the library: a pointer to a box.
+#[repr(C)]
+#[derive(Drop)]
+pub struct Handle {
+    at: *mut u8,
+    alloc: Global,
+    pub ghost content: { Content } by { content_coded },
+}
+
+impl Model for Handle {
+    ghost also_owns = { λ h. handle_owns h.alloc h.at h.content };
+}
+
+impl Handle {
+    /// The box that it was made of.
+    pub fn into_box(self) -> Box<Content>
+        ensures { result.value ≡ self.content }
+    {
+        self.into_raw_box().into_box()
+    }
+
+    fn into_raw_box(self) -> RawBox<Content, Global>
+        ensures { result.value ≡ self.content }
+    {
+        RawBox {
+            ptr: self.at as *mut Content,
+            alloc: self.alloc,
+        }
+    }
+}

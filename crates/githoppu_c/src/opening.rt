@@ -1,0 +1,93 @@
+//! Sessions are opened, and put where C wants them.
+
+ghost use Rattle.std.specs.Prelude.{◌≤◌, IfOk, IsTrue, length, ℕ};
+ghost use Rattle.c_sessions.specs.Sessions.{AreReady};
+ghost use Rattle.githoppu_c.specs.Contents.{AreCallable};
+
+use crate::codes::{BAD_SIZE, NO_MEMORY, code_of_fault};
+use crate::content::Content;
+use c_sessions::{Session, open};
+use doc_store::DocStore;
+use fifo_object::Fifo;
+use std::alloc::{AllocError, Global};
+
+/// So many sessions of an empty document store in so many lines.
+pub fn open_documents(alloc: Global, lines: u64, count: usize) -> Result<Vec<Box<Content>>, i32>
+    ensures { IfOk result (λ boxes. AreCallable count boxes.items) }
+{
+    if !may_open(lines, count) {
+        return Err(BAD_SIZE);
+    }
+    match open(alloc, DocStore::of(lines), count as u32) {
+        Ok(sessions) => boxed(as_documents(alloc, sessions)),
+        Err(fault) => Err(code_of_fault(fault)),
+    }
+}
+
+/// So many sessions of an empty queue in so many lines.
+pub fn open_queue(alloc: Global, lines: u64, count: usize) -> Result<Vec<Box<Content>>, i32>
+    ensures { IfOk result (λ boxes. AreCallable count boxes.items) }
+{
+    if !may_open(lines, count) {
+        return Err(BAD_SIZE);
+    }
+    match open(alloc, Fifo::of(lines), count as u32) {
+        Ok(sessions) => boxed(as_queue(alloc, sessions)),
+        Err(fault) => Err(code_of_fault(fault)),
+    }
+}
+
+/// Puts each session into a slot.
+pub fn hand_out(sessions: Vec<Box<Content>>, slots: &mut [*mut u8]) {
+    let mut at = 0;
+    for session in sessions {
+        if at < slots.len() {
+            slots[at] = Box::into_raw(session) as *mut u8;
+            at += 1;
+        }
+    }
+}
+
+/// Whether there may be an object of so many lines with so many sessions.
+fn may_open(lines: u64, count: usize) -> bool
+    ensures { IsTrue result → (64 ≤ lines) × (lines ≤ 16384) × (1 ≤ count) × (count ≤ 8) }
+{
+    lines >= 64 && lines <= 16384 && count >= 1 && count <= 8
+}
+
+/// What was made, or the number of want of memory.
+fn boxed(made: Result<Vec<Box<Content>>, AllocError>) -> Result<Vec<Box<Content>>, i32>
+    ensures { (count : ℕ) → IfOk made (λ boxes. AreCallable count boxes.items) → IfOk result (λ boxes. AreCallable count boxes.items) }
+{
+    match made {
+        Ok(contents) => Ok(contents),
+        Err(_) => Err(NO_MEMORY),
+    }
+}
+
+/// A box for each session of a document store.
+fn as_documents(
+    alloc: Global,
+    sessions: Vec<Session<DocStore>>,
+) -> Result<Vec<Box<Content>>, AllocError>
+    requires { AreReady (length sessions.items) sessions.items }
+    ensures { IfOk result (λ boxes. AreCallable (length sessions.items) boxes.items) }
+{
+    let mut contents = Vec::new(alloc);
+    for session in sessions {
+        contents.push(Box::new(alloc, Content::Documents(session))?)?;
+    }
+    Ok(contents)
+}
+
+/// A box for each session of a queue.
+fn as_queue(alloc: Global, sessions: Vec<Session<Fifo>>) -> Result<Vec<Box<Content>>, AllocError>
+    requires { AreReady (length sessions.items) sessions.items }
+    ensures { IfOk result (λ boxes. AreCallable (length sessions.items) boxes.items) }
+{
+    let mut contents = Vec::new(alloc);
+    for session in sessions {
+        contents.push(Box::new(alloc, Content::Queue(session))?)?;
+    }
+    Ok(contents)
+}

@@ -1,0 +1,28 @@
+//! A box by its pointer and its allocator, in sight of this crate.
+
+ghost use Rattle.std.specs.Prelude.{◌≡◌};
+ghost use Rattle.std.specs.Box.Ownership.{box_owns};
+
+use std::alloc::Allocator;
+use std::marker::Model;
+
+/// What a box owns, behind a raw pointer.
+pub struct RawBox<T, A: Allocator> {
+    pub(crate) ptr: *mut T,
+    pub(crate) alloc: A,
+    pub ghost value: { T },
+}
+
+impl<T, A: Allocator> Model for RawBox<T, A> {
+    ghost also_owns = { λ b. box_owns (A.dealloc_token b.alloc) T.row b.ptr b.value };
+}
+
+impl<T, A: Allocator> RawBox<T, A> {
+    /// The box.
+    pub fn into_box(self) -> Box<T, A>
+        ensures { result.value ≡ self.value }
+    {
+        let RawBox { ptr, alloc } = self;
+        unsafe { Box::from_raw(alloc, ptr) }
+    }
+}
