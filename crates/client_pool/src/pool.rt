@@ -1,0 +1,46 @@
+//! A pool, and what its calls come to.
+
+use cx_base::Object;
+use cx_core::FullNote;
+use cx_service::{Answer, Seen, Service};
+use seat_pool::Line;
+
+/// A service whose callers clients share. It is shared by threads.
+#[derive(Drop)]
+pub struct Pool<O: Object> {
+    pub(crate) service: Service<O>,
+    pub(crate) line: Line,
+    pub(crate) probe: [u64; 144],
+}
+
+/// What an update comes to.
+#[derive(Clone, Copy, Debug, PartialEq, Eq, Drop)]
+pub enum Pooled {
+    /// The entry is applied and durable: its ticket, and the reply.
+    Done(Answer),
+    /// No cell of the caller is idle: the note names another caller that needs entries in them. The client keeps its caller.
+    Full(FullNote),
+    /// There is no further ticket. The client keeps its caller.
+    Worn,
+    /// The caller's step limit was reached: the ticket of its linked entry that no call has answered. The client keeps it, and makes no further call.
+    Stopped { linked: Option<u64> },
+    /// There is no memory for the answer, and nothing was done.
+    Memory,
+}
+
+/// What a read comes to.
+#[derive(Clone, Copy, Debug, PartialEq, Eq, Drop)]
+pub enum PooledRead {
+    /// It is answered beside the queue: its place, and the reply there.
+    Read(Seen),
+    /// It is answered as an entry of the queue: its ticket, and the reply.
+    Queued(Answer),
+    /// No cell of the caller is idle: the note names another caller that needs entries in them. The client keeps its caller.
+    Full(FullNote),
+    /// There is no further ticket. The client keeps its caller.
+    Worn,
+    /// The caller's step limit was reached: the ticket of its linked entry that no call has answered. The client keeps it, and makes no further call.
+    Stopped { linked: Option<u64> },
+    /// There is no memory for the answer, and nothing was done.
+    Memory,
+}
