@@ -1,5 +1,5 @@
 -- A caller that is out with a client.
-use Rattle.std.proofs.Common.{◌≡◌, ◌<◌, ◌≤◌, ◌+◌, ◌^◌, ◌⊎◌, inr, ℕ, List, [], ◌∷◌, ◌++◌, append_assoc, drop, length, sym, refl, ap, ◌∙◌, subst, arith, Option, Some, None, slice_get}
+use Rattle.std.proofs.Common.{◌≡◌, ◌<◌, ◌≤◌, ◌+◌, ◌^◌, ◌⊎◌, inl, inr, ⊎_elim, ℕ, List, [], ◌∷◌, ◌++◌, append_assoc, drop, length, sym, refl, ap, ◌∙◌, subst, arith, Option, Some, None, slice_get}
 use Rattle.std.proofs.lemmas.List.{append-nil}
 use Rattle.atomic_table.specs.Seated.{TableId}
 use Rattle.crossbeam_queue.specs.Passes.{view}
@@ -13,8 +13,10 @@ use Rattle.cx_rule.specs.Seats.{Seated}
 use Rattle.cx_service.specs.Callers.{IsCallerOf, StoppedSeat}
 use Rattle.cx_service.specs.Lookups.{ReadAnswered, ReadHalted, ReadKeeps, ReadPending}
 use Rattle.cx_service.specs.Submits.{entry_at}
-use Rattle.cx_service.specs.Updates.{KeepsLists, UpdateDone, UpdateFull, UpdateHalted, UpdateWorn}
+use Rattle.cx_service.specs.Updates.{KeepsLists, ReadQueues, ReadStops, UpdateDone, UpdateFull, UpdateHalted, UpdateWorn, Updates}
 use Rattle.cx_service.specs.declared.close.Handed.TheVariants.{Idle, Stopped}
+use Rattle.cx_service.specs.declared.update.Updated.{Updated}
+use Rattle.cx_service.specs.declared.update.Updated.TheVariants.{Done as UpdatedDone, Full as UpdatedFull, Worn as UpdatedWorn, Halted as UpdatedHalted}
 use Rattle.cx_turns.specs.declared.lookup.Seen.{Seen}
 use Rattle.seat_pool.specs.Gathering.{Gathers, StaysIdle}
 use Rattle.seat_pool.specs.Pooling.{HasLimit, IsFirstOf, IsHomeOf, calls_of, given_from, limits_at, told_with, total, with_given, with_taken}
@@ -23,7 +25,7 @@ use Rattle.seat_pool.specs.declared.hand.Told.{Told}
 use Rattle.seat_pool.specs.declared.lent.Lent.{Lent}
 use Rattle.seat_pool.proofs.Poolings.{total_both}
 use Rattle.seat_pool.proofs.Telling.{are_kept, are_shown, are_told, same_calls}
-use Rattle.client_pool.specs.Lending.{HaltsReading, HoldsIdle, HoldsKept, IsLentTo, IsOut, IsPart, KeepsFull, KeepsStopped, KeepsWorn, ShowsRead, TellsEntry, TellsSame}
+use Rattle.client_pool.specs.Lending.{ComesTo, HaltsReading, HoldsIdle, HoldsKept, IsLentTo, IsOut, IsPart, IsSettled, KeepsFull, KeepsStopped, KeepsWorn, ShowsRead, TellsEntry, TellsSame}
 
 module _ {O : Type 0} (r : Running O) where
   pub stays : (x : Seated) → IsCallerOf r x → StaysIdle r x x
@@ -207,6 +209,25 @@ module _ {O : Type 0} (r : Running O) where
       limit_of (view lent.pass) x y out.holds a.keeps.number a.keeps.limit,
       (are_shown r out.holds.taken y [] (view lent.pass) out.holds.held (read_on op out.holds.taken x y seen out.holds.idle a)).0,
     )
+
+    comes : (op : List ℕ) (x : Seated) (u : Updated) → Updates r op x u → ComesTo r op x u
+    comes op x (UpdatedDone y answer) is = is
+    comes op x (UpdatedFull y note) is = is
+    comes op x (UpdatedWorn y) is = is
+    comes op x (UpdatedHalted s) is = inl is
+
+    -- a read that entered the queue
+    pub queues_settled : (op : List ℕ) (floor : ℕ) (lent : Lent) (x : Seated) → IsOut r table lent x → floor ≤ x.known.local.front → (u : Updated) → ReadQueues r op x u → IsSettled r table op floor lent u
+    queues_settled op floor lent x out from u q = record {
+      asked = q.refused;
+      out = out_on lent x q.refused out (refused_on 8 x x q.refused (stays x out.holds.idle.caller) q.pending);
+      from = (let kept = q.pending.keeps.front in omega (arith, from, kept));
+      comes = comes op q.refused u q.entered;
+    }
+
+    pub reads_settled : (op : List ℕ) (floor : ℕ) (lent : Lent) (x : Seated) → IsOut r table lent x → floor ≤ x.known.local.front → (s : StoppedSeat) → ReadStops r op x s → IsSettled r table op floor lent (UpdatedHalted s)
+    reads_settled op floor lent x out from s stops =
+        ⊎_elim (λ h. record { asked = x; out = out; from = from; comes = inr h.0 }) (queues_settled op floor lent x out from (UpdatedHalted s)) stops.lists
 
     -- it was given back, and its entry told
     pub entry_told : (op : List ℕ) (floor : ℕ) (before after : Lent) (x y : Seated) (answer : Answer) → IsOut r table before x → floor ≤ x.known.local.front → UpdateDone r op x y answer → y.known.local.front ≤ 2 ^ 40 → after.kept ≡ None
