@@ -4,6 +4,7 @@ ghost use Rattle.std.specs.Prelude.{◌≡◌};
 ghost use Rattle.client_pool.specs.Lending.{is_live};
 
 use crate::call::Answered;
+use crate::pool::FormerClient;
 use crossbeam_queue::Pass;
 use cx_service::{Caller, Handed};
 use seat_pool::{Hand, Lent};
@@ -24,6 +25,7 @@ pub struct Client {
 pub(crate) struct Closing {
     pub(crate) rest: Pass<Caller, Hand>,
     pub(crate) lents: Vec<Lent>,
+    pub(crate) former: Vec<FormerClient>,
     pub(crate) gathered: Vec<Handed>,
     pub(crate) out: Vec<Handed>,
 }

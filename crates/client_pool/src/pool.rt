@@ -1,8 +1,9 @@
 //! A pool, and what its calls come to.
 
+use crate::call::Answered;
 use cx_base::Object;
 use cx_core::FullNote;
-use cx_service::{Answer, Seen, Service};
+use cx_service::{Answer, Handed, Seen, Service};
 use seat_pool::Line;
 
 /// A service whose callers clients share. It is shared by threads.
@@ -11,6 +12,22 @@ pub struct Pool<O: Object> {
     pub(crate) service: Service<O>,
     pub(crate) line: Line,
     pub(crate) probe: [u64; 144],
+}
+
+/// What a client was, whose pool was to be closed: no caller is lent to it any more.
+#[derive(Drop)]
+pub struct FormerClient {
+    pub number: u32,
+    pub floor: u64,
+    pub answers: Vec<Answered>,
+}
+
+/// A pool that was not closed for want of memory: its service and all callers, of caller 0 first, and what its clients were answered.
+#[derive(Drop)]
+pub struct PoolKept<O: Object> {
+    pub service: Service<O>,
+    pub callers: Vec<Handed>,
+    pub clients: Vec<FormerClient>,
 }
 
 /// What an update comes to.

@@ -68,13 +68,15 @@ impl<O: Object> Pool<O> {
             lent,
             closing,
         } = last;
-        let Some(Closing {
-            rest,
-            lents,
-            former,
-            gathered,
-            out,
-        }) = closing
+        let Some(
+            Closing {
+                rest,
+                lents,
+                former,
+                gathered,
+                out,
+            },
+        ) = closing
         else {
             unreachable!()
         };

@@ -3,7 +3,8 @@
 ghost use Rattle.std.specs.Prelude.{◌≡◌, ◌<◌, ◌≤◌, [], IfErr, IfOk, IsTrue, map};
 ghost use Rattle.crossbeam_queue.specs.Passes.{view, IsPassOf, ruled_capacity};
 ghost use Rattle.seat_pool.specs.Pooling.{IsHomeOf, IsOpened, cut_left};
-ghost use Rattle.client_pool.specs.Pools.{AreClients, AreNewCallers, HaveRoom, IsNewClient, IsPlaced, Opens};
+ghost use Rattle.client_pool.specs.Lending.{IsPool};
+ghost use Rattle.client_pool.specs.Pools.{AreNewCallers, AreNewClients, HaveRoom, IsNewClient, IsPlaced};
 
 use crate::client::{Client, Closing};
 use crate::pool::{FormerClient, Pool};
