@@ -1,2 +1,4 @@
 mod Calling
+mod Closing
 mod Lends
+mod Opening

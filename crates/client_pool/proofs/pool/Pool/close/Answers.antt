@@ -1,0 +1,16 @@
+use Rattle.std.proofs.Common.{ap, subst, ◌∙◌}
+use Rattle.seat_pool.specs.Gathering.{AreTold}
+use Rattle.client_pool.specs.declared.client.Client.{Client}
+use Rattle.client_pool.proofs.Closing.{all_of, lents_are}
+use Rattle.client_pool.proofs.pool.Pool.close.Goals as goal
+
+pub close-requires-clause-lents : goal.close-requires-clause-lents
+close-requires-clause-lents g c =
+    let are = all_of (λ (x : Client). x.lent) c.part_clients-lents.result.0.items c.push_reserved.new.self.items c.args.clients.items c.pop.new.self.items c.in-Some.last c.push_reserved.ensures.items c.part_clients-lents.ensures.lents.0 c.in-Some.ensures.items in
+    lents_are c.args.self.service c.args.self.line.table.shared.table_id c.push_reserved.new.self.items c.args.clients.items are c.requires.each
+
+pub returns-in-Ok-clause-remains : goal.returns-in-Ok-clause-remains
+returns-in-Ok-clause-remains g c =
+    let are = all_of (λ (x : Client). x.lent) c.part_clients-lents.result.0.items c.push_reserved.new.self.items c.args.clients.items c.pop.new.self.items c.in-Some.last c.push_reserved.ensures.items c.part_clients-lents.ensures.lents.0 c.in-Some.ensures.items in
+    let closed = c.in-Ok.ensures.remains in
+    record { handed = closed.0; leaves = closed.1; told = subst (λ l. AreTold c.args.self.service l closed.0) are closed.2 }
