@@ -1,6 +1,6 @@
 -- A client's calls, with one more.
-use Rattle.std.proofs.Common.{◌≡◌, ◌≤◌, ◌+◌, ℕ, List, [], ◌∷◌, ◌++◌, map, sym, refl, ap, ◌∙◌, subst, arith, Some, None}
-use Rattle.std.proofs.lemmas.List.{append-nil, map-append}
+use Rattle.std.proofs.Common.{◌≡◌, ◌≤◌, ◌+◌, ℕ, List, [], ◌∷◌, ◌++◌, map, sym, refl, ap, ◌∙◌, arith}
+use Rattle.std.proofs.lemmas.List.{map-append}
 use Rattle.atomic_table.specs.Seated.{TableId}
 use Rattle.crossbeam_queue.specs.Passes.{view}
 use Rattle.cx_core.specs.declared.local.Answer.{Answer}
@@ -8,11 +8,9 @@ use Rattle.cx_core.specs.declared.local.SeenRead.{SeenRead}
 use Rattle.cx_rule.specs.Running.{Running}
 use Rattle.cx_turns.specs.declared.lookup.Seen.{Seen}
 use Rattle.seat_pool.specs.Pooling.{total}
-use Rattle.seat_pool.specs.declared.hand.Hand.{Hand}
 use Rattle.seat_pool.specs.declared.hand.Told.{Told}
-use Rattle.seat_pool.specs.declared.lent.Lent.{Lent}
 use Rattle.seat_pool.proofs.Poolings.{total_both}
-use Rattle.client_pool.specs.Clients.{AreInTurn, HasCalls, HasMade, HasNoMore, HasRead, HasUpdated, IsSameClient, answered_by, entries_of, floor_after, next_of, place_of, reads_of}
+use Rattle.client_pool.specs.Clients.{AreInTurn, HasNoMore, HasRead, HasUpdated, IsSameClient, answered_by, entries_of, floor_after, next_of, place_of, reads_of}
 use Rattle.client_pool.specs.Lending.{IsLentTo, ShowsRead, TellsEntry, TellsSame}
 use Rattle.client_pool.specs.declared.call.Answered.{Answered}
 use Rattle.client_pool.specs.declared.call.Answered.TheVariants.{Read, Updated}

@@ -1,5 +1,5 @@
 -- A caller that is out with a client.
-use Rattle.std.proofs.Common.{◌≡◌, ◌<◌, ◌≤◌, ◌+◌, ◌^◌, ◌⊎◌, inl, inr, ⊎_elim, ℕ, List, [], ◌∷◌, ◌++◌, append_assoc, drop, length, sym, refl, ap, ◌∙◌, subst, arith, Option, Some, None, slice_get}
+use Rattle.std.proofs.Common.{◌≡◌, ◌<◌, ◌≤◌, ◌^◌, ◌⊎◌, inl, inr, ⊎_elim, ℕ, List, [], ◌∷◌, ◌++◌, append_assoc, drop, length, sym, refl, ap, ◌∙◌, subst, arith, Option, Some, None, slice_get}
 use Rattle.std.proofs.lemmas.List.{append-nil}
 use Rattle.atomic_table.specs.Seated.{TableId}
 use Rattle.crossbeam_queue.specs.Passes.{view}
@@ -19,7 +19,7 @@ use Rattle.cx_service.specs.declared.update.Updated.{Updated}
 use Rattle.cx_service.specs.declared.update.Updated.TheVariants.{Done as UpdatedDone, Full as UpdatedFull, Worn as UpdatedWorn, Halted as UpdatedHalted}
 use Rattle.cx_turns.specs.declared.lookup.Seen.{Seen}
 use Rattle.seat_pool.specs.Gathering.{Gathers, StaysIdle}
-use Rattle.seat_pool.specs.Pooling.{HasLimit, IsFirstOf, IsHomeOf, calls_of, given_from, limits_at, told_with, total, with_given, with_taken}
+use Rattle.seat_pool.specs.Pooling.{HasLimit, IsFirstOf, IsHomeOf, given_from, limits_at, told_with, total, with_given, with_taken}
 use Rattle.seat_pool.specs.declared.hand.Hand.{Hand}
 use Rattle.seat_pool.specs.declared.hand.Told.{Told}
 use Rattle.seat_pool.specs.declared.lent.Lent.{Lent}

@@ -1,12 +1,11 @@
 -- A pool that is opened: its callers are placed, and its clients made.
-use Rattle.std.proofs.Common.{◌≡◌, ◌<◌, ◌≤◌, ◌+◌, ◌-◌, ℕ, zero, suc, List, [], ◌∷◌, ◌++◌, length, map, sym, refl, ap, ◌∙◌, subst, arith, Option, Some, None, slice_get}
+use Rattle.std.proofs.Common.{◌≡◌, ◌<◌, ◌+◌, ℕ, zero, suc, List, [], ◌∷◌, ◌++◌, length, map, sym, refl, ap, ◌∙◌, subst, arith, Option, Some, None, slice_get}
 use Rattle.std.specs.Prelude.{All}
 use Rattle.std.specs.List.{range_with_len}
 use Rattle.std.proofs.lemmas.List.{length-append, map-append}
 use Rattle.std.proofs.lemmas.List.Elements.{All-head, All-push, All-tail}
 use Rattle.atomic_table.specs.Seated.{TableId}
 use Rattle.crossbeam_queue.specs.Passes.{view}
-use Rattle.cx_core.specs.declared.local.Answer.{Answer}
 use Rattle.cx_core.specs.declared.local.Linked.{Linked}
 use Rattle.cx_rule.specs.Running.{Running}
 use Rattle.cx_rule.specs.Seats.{Seated}
@@ -15,7 +14,6 @@ use Rattle.seat_pool.specs.Gathering.{IsRestOf}
 use Rattle.seat_pool.specs.Pooling.{HasLimit, calls_from, calls_of, cut_left, limits_at, total}
 use Rattle.seat_pool.specs.declared.hand.Hand.{Hand}
 use Rattle.seat_pool.specs.declared.hand.Home.{Home}
-use Rattle.seat_pool.specs.declared.hand.Told.{Told}
 use Rattle.seat_pool.specs.declared.lent.Lent.{Lent}
 use Rattle.seat_pool.proofs.Orderings.{range_push}
 use Rattle.client_pool.specs.Clients.{HasCalls, IsClientOf}

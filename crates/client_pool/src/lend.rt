@@ -1,8 +1,9 @@
 //! A caller is taken for a call of a client, and given back or kept.
 
-ghost use Rattle.std.specs.Prelude.{◌≡◌, ◌<◌, ◌≤◌, IsTrue, true};
+ghost use Rattle.std.specs.Prelude.{◌≡◌, ◌<◌, ◌≤◌, IsTrue, Some, true};
 ghost use Rattle.crossbeam_queue.specs.Passes.{view, IsPassOf};
 ghost use Rattle.cx_service.specs.Callers.{IsCallerOf};
+ghost use Rattle.cx_service.specs.declared.close.Handed.TheVariants as handed_cases;
 ghost use Rattle.seat_pool.specs.Pooling.{HasLimit, IsHomeOf, limits_at, with_taken};
 ghost use Rattle.client_pool.specs.Lending.{Begins, Catches, IsLentTo, IsOut, IsPool, IsSettled, Serves, TellsSame, is_live};
 
@@ -108,6 +109,16 @@ fn catch_up<O: Object, R: Wait>(
     unreachable!()
 }
 
+/// The client keeps a stopped caller. The result is its linked entry that no call has answered.
+fn keep_stopped(lent: &mut Lent, stopped: Stopped) -> Option<u64>
+    ensures kept { (lent.new.pass ≡ lent.old.pass) × (lent.new.kept ≡ Some (handed_cases.Stopped stopped)) }
+    ensures linked { result ≡ stopped.linked }
+{
+    let linked = stopped.linked();
+    lent.kept = Some(Handed::Stopped(stopped));
+    linked
+}
+
 /// Takes a caller that has seen all below the floor. The client keeps one whose step limit was reached: the result is then its linked entry that no
 /// call has answered.
 pub(crate) fn begin<O: Object, R: Wait>(
@@ -123,11 +134,7 @@ pub(crate) fn begin<O: Object, R: Wait>(
     let caller = take_for(rt, &pool.service, &pool.line, lent);
     match catch_up(rt, &pool.service, &pool.probe, caller, floor) {
         Caught::Up(caller) => Ok(caller),
-        Caught::Ended(stopped) => {
-            let linked = stopped.linked();
-            lent.kept = Some(Handed::Stopped(stopped));
-            Err(linked)
-        }
+        Caught::Ended(stopped) => Err(keep_stopped(lent, stopped)),
     }
 }
 
@@ -162,10 +169,6 @@ pub(crate) fn settle<O: Object, R: Wait>(
             lent.kept = Some(Handed::Idle(back));
             Served::Worn
         }
-        Updated::Halted(stopped) => {
-            let linked = stopped.linked();
-            lent.kept = Some(Handed::Stopped(stopped));
-            Served::Halted(linked)
-        }
+        Updated::Halted(stopped) => Served::Halted(keep_stopped(lent, stopped)),
     }
 }

@@ -18,9 +18,11 @@ mod lend;
 mod look;
 mod open;
 mod pool;
+mod threads;
 mod update;
 
 pub use call::{Answered, Call};
 pub use client::Client;
 pub use open::Unopened;
 pub use pool::{FormerClient, Pool, PoolKept, Pooled, PooledRead};
+pub use threads::cross_threads;

@@ -1,6 +1,4 @@
-use Rattle.std.proofs.Common.{Some, refl, subst, sym}
-use Rattle.cx_service.specs.declared.close.Handed.TheVariants.{Stopped}
-use Rattle.seat_pool.specs.declared.lent.Lent.{Lent}
+use Rattle.std.proofs.Common.{subst, sym}
 use Rattle.client_pool.specs.Lending.{KeepsStopped}
 use Rattle.client_pool.proofs.Lends.{read_stopped, stopped_since}
 use Rattle.client_pool.proofs.lend.begin.Goals as goal
@@ -11,8 +9,9 @@ returns-in-Ended g c =
     let table = c.args.pool.now.line.table.shared.table_id in
     let out = c.take_for-caller.ensures in
     let mid = c.take_for-caller.new.lent in
+    let after = c.keep_stopped.new.lent in
+    let kept = c.keep_stopped.ensures in
     let s = c.in-Ended.stopped in
-    let after : Lent = record { pass = mid.pass; kept = Some (Stopped s) } in
-    subst (λ l. KeepsStopped r table c.args.lent.now after l) (sym c.linked-linked.ensures)
+    subst (λ l. KeepsStopped r table c.args.lent.now after l) (sym kept.linked)
     (stopped_since r table c.args.lent.now mid after out.same s.linked
-    (read_stopped r table mid after refl c.args.pool.now.probe s c.take_for-caller.result out.out c.in-Ended.ensures refl))
+    (read_stopped r table mid after kept.kept.0 c.args.pool.now.probe s c.take_for-caller.result out.out c.in-Ended.ensures kept.kept.1))

@@ -1,4 +1,4 @@
-use Rattle.client_pool.proofs.Lends.{read_on, refused_on, stays}
+use Rattle.client_pool.proofs.Lends.{stays}
 use Rattle.client_pool.proofs.lend.catch_up.Goals as goal
 
 pub loop-init : goal.loop-init

@@ -1,5 +1,4 @@
-use Rattle.std.proofs.Common.{◌≤◌, ◌^◌, Some, refl, subst, sym}
-use Rattle.cx_service.specs.declared.close.Handed.TheVariants.{Stopped}
+use Rattle.std.proofs.Common.{◌≤◌, ◌^◌, subst, sym}
 use Rattle.seat_pool.specs.declared.lent.Lent.{Lent}
 use Rattle.client_pool.specs.Lending.{ComesTo, KeepsStopped, TellsEntry}
 use Rattle.client_pool.proofs.Lends.{done_back, entry_told, settled_stopped}
@@ -28,6 +27,7 @@ returns-in-Halted g c =
     let table = c.args.pool.now.line.table.shared.table_id in
     let u = c.requires.updated in
     let s = c.in-Halted.stopped in
-    let after : Lent = record { pass = c.args.lent.now.pass; kept = Some (Stopped s) } in
-    subst (λ l. KeepsStopped r table c.args.lent.now after l) (sym c.linked-linked.ensures)
-    (settled_stopped r table c.args.lent.now after refl c.args.op.now s u.asked u.out (subst (ComesTo r c.args.op.now u.asked) c.in-Halted.is u.comes) refl)
+    let after = c.keep_stopped.new.lent in
+    let kept = c.keep_stopped.ensures in
+    subst (λ l. KeepsStopped r table c.args.lent.now after l) (sym kept.linked)
+    (settled_stopped r table c.args.lent.now after kept.kept.0 c.args.op.now s u.asked u.out (subst (ComesTo r c.args.op.now u.asked) c.in-Halted.is u.comes) kept.kept.1)

@@ -1,7 +1,7 @@
-use Rattle.std.proofs.Common.{◌≤◌, subst, sym}
+use Rattle.std.proofs.Common.{subst, sym}
 use Rattle.seat_pool.specs.declared.lent.Lent.{Lent}
 use Rattle.client_pool.specs.Lending.{IsSettled, ShowsRead}
-use Rattle.client_pool.proofs.Lends.{queues_settled, read_back, read_shown, reads_settled}
+use Rattle.client_pool.proofs.Lends.{queues_settled, read_shown, reads_settled}
 use Rattle.client_pool.proofs.look.look.Goals as goal
 use Rattle.client_pool.proofs.look.look.Goals.{in-Queued, in-Full, in-Worn, in-Halted}
 

@@ -1,8 +1,6 @@
-use Rattle.std.proofs.Common.{◌≡◌, ◌+◌, ◌-◌, ◌<◌, ◌≤◌, [], ap, arith, length, refl, subst, sym, Some, vec_capacity, ◌∙◌}
-use Rattle.std.proofs.lemmas.List.Elements.{All-nil}
+use Rattle.std.proofs.Common.{◌≡◌, ◌+◌, ◌-◌, ◌<◌, arith, refl, subst, Some}
 use Rattle.crossbeam_queue.specs.Passes.{view}
-use Rattle.client_pool.specs.Clients.{HasCalls, IsClientOf}
-use Rattle.client_pool.specs.Pools.{IsNewClient, IsPlaced}
+use Rattle.client_pool.specs.Pools.{IsPlaced}
 use Rattle.client_pool.specs.declared.client.Client.{Client}
 use Rattle.client_pool.specs.declared.client.Closing.{Closing}
 use Rattle.client_pool.proofs.Opening.{AreMade, all_made, made_more, placed_more, rest_of}

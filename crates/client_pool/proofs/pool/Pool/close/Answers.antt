@@ -1,4 +1,4 @@
-use Rattle.std.proofs.Common.{ap, subst, ◌∙◌}
+use Rattle.std.proofs.Common.{subst}
 use Rattle.seat_pool.specs.Gathering.{AreTold}
 use Rattle.client_pool.specs.declared.client.Client.{Client}
 use Rattle.client_pool.proofs.Closing.{all_of, lents_are}
