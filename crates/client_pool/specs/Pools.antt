@@ -1,6 +1,6 @@
 -- What opening a pool comes to, and closing it.
 use Rattle.std.specs.Prelude.{◌≡◌, ◌+◌, ◌≤◌, ℕ, List, [], ◌∷◌, ◌++◌, All, Some, None, length, map, vec_capacity}
-use Rattle.std.specs.List.{range_with_len}
+use Rattle.std.specs.List.{AllZip, range_with_len}
 use Rattle.atomic_table.specs.Seated.{TableId}
 use Rattle.crossbeam_queue.specs.Passes.{view}
 use Rattle.cx_core.specs.State.{Instance}
@@ -15,7 +15,9 @@ use Rattle.seat_pool.specs.Gathering.{AreTold, IsRestOf}
 use Rattle.seat_pool.specs.Pooling.{IsHomeOf, all_parts}
 use Rattle.seat_pool.specs.declared.hand.Hand.{Hand}
 use Rattle.seat_pool.specs.declared.lent.Lent.{Lent}
+use Rattle.client_pool.specs.Answers.{AreAnswered}
 use Rattle.client_pool.specs.Clients.{HasCalls, IsClientOf}
+use Rattle.client_pool.specs.declared.call.Call.{Call}
 use Rattle.client_pool.specs.declared.client.Client.{Client}
 use Rattle.client_pool.specs.declared.client.Closing.{Closing}
 use Rattle.client_pool.specs.declared.open.Rooms.{Rooms}
@@ -94,11 +96,13 @@ lents_of clients = map (λ (c : Client). c.lent) clients
 abbrev pub former_of : Client → FormerClient
 former_of c = record { number = c.number; floor = c.floor; answers = c.answers }
 
--- What a closed pool leaves of its service: all callers were handed to its closing, each once, with the account of the clients' calls.
+-- What a closed pool leaves of its service: all callers were handed to its closing, each once, with the account of the clients' calls. Whatever calls the
+-- clients made, one list each, are the history's.
 pub record IsClosed {O : Type 0} (r : Running O) (instance : Instance) (clients : List Client) (remains : Remains) : Type 0 where
   pub handed : List Handed
   pub leaves : Leaves r instance (seats_of handed) remains
   pub told : AreTold r (lents_of clients) handed
+  pub answered : (calls : List (List Call)) → AllZip (HasCalls r) clients calls → AreAnswered instance remains.trail.history calls
 
 -- a pool that was not closed: the service, all callers and what the clients were
 pub record IsLeftOpen {O : Type 0} (r : Running O) (clients : List Client) (kept : PoolKept O) : Type 0 where
