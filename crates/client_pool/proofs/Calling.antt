@@ -1,0 +1,109 @@
+-- A client's calls, with one more.
+use Rattle.std.proofs.Common.{◌≡◌, ◌≤◌, ◌+◌, ℕ, List, [], ◌∷◌, ◌++◌, map, sym, refl, ap, ◌∙◌, arith}
+use Rattle.std.proofs.lemmas.List.{map-append}
+use Rattle.atomic_table.specs.Seated.{TableId}
+use Rattle.crossbeam_queue.specs.Passes.{view}
+use Rattle.cx_core.specs.declared.local.Answer.{Answer}
+use Rattle.cx_core.specs.declared.local.SeenRead.{SeenRead}
+use Rattle.cx_rule.specs.Running.{Running}
+use Rattle.cx_turns.specs.declared.lookup.Seen.{Seen}
+use Rattle.seat_pool.specs.Pooling.{total}
+use Rattle.seat_pool.specs.declared.hand.Told.{Told}
+use Rattle.seat_pool.proofs.Poolings.{total_both}
+use Rattle.client_pool.specs.Clients.{AreInTurn, HasNoMore, HasRead, HasUpdated, IsSameClient, answered_by, entries_of, floor_after, next_of, place_of, reads_of}
+use Rattle.client_pool.specs.Lending.{IsLentTo, ShowsRead, TellsEntry, TellsSame}
+use Rattle.client_pool.specs.declared.call.Answered.{Answered}
+use Rattle.client_pool.specs.declared.call.Answered.TheVariants.{Read, Updated}
+use Rattle.client_pool.specs.declared.call.Call.{Call}
+use Rattle.client_pool.specs.declared.call.Call.TheVariants.{Entry, Look}
+use Rattle.client_pool.specs.declared.client.Client.{Client}
+
+floor_more : (floor : ℕ) (calls : List Call) (call : Call) → floor_after floor (calls ++ call ∷ []) ≡ next_of call
+floor_more floor [] call = refl
+floor_more floor (c ∷ calls) call = floor_more (next_of c) calls call
+
+in_turn_more : (floor : ℕ) (calls : List Call) (call : Call) → AreInTurn floor calls → floor_after floor calls ≤ place_of call → AreInTurn floor (calls ++ call ∷ [])
+in_turn_more floor [] call turn from = (from, tt)
+in_turn_more floor (c ∷ calls) call turn from = (turn.0, in_turn_more (next_of c) calls call turn.1 from)
+
+entries_more : (calls : List Call) (told : Told) → entries_of (calls ++ Entry told ∷ []) ≡ entries_of calls ++ told ∷ []
+entries_more [] told = refl
+entries_more (Entry t ∷ calls) told = ap (λ (l : List Told). t ∷ l) (entries_more calls told)
+entries_more (Look x ∷ calls) told = entries_more calls told
+
+entries_same : (calls : List Call) (read : SeenRead) → entries_of (calls ++ Look read ∷ []) ≡ entries_of calls
+entries_same [] read = refl
+entries_same (Entry t ∷ calls) read = ap (λ (l : List Told). t ∷ l) (entries_same calls read)
+entries_same (Look x ∷ calls) read = entries_same calls read
+
+reads_same : (calls : List Call) (told : Told) → reads_of (calls ++ Entry told ∷ []) ≡ reads_of calls
+reads_same [] told = refl
+reads_same (Entry t ∷ calls) told = reads_same calls told
+reads_same (Look x ∷ calls) told = ap (λ (l : List SeenRead). x ∷ l) (reads_same calls told)
+
+reads_more : (calls : List Call) (read : SeenRead) → reads_of (calls ++ Look read ∷ []) ≡ reads_of calls ++ read ∷ []
+reads_more [] read = refl
+reads_more (Entry t ∷ calls) read = reads_more calls read
+reads_more (Look x ∷ calls) read = ap (λ (l : List SeenRead). x ∷ l) (reads_more calls read)
+
+module _ {O : Type 0} (r : Running O) (table : TableId) (before after : Client) where
+  -- an entry was told
+  pub updated : (op : List ℕ) (caller : ℕ) (answer : Answer) → TellsEntry r table op before.floor before.lent after.lent caller answer → IsSameClient before after
+      → after.answers.items ≡ before.answers.items ++ Updated caller answer ∷ [] → after.floor ≡ answer.ticket + 1 → HasUpdated r table op before after answer
+  updated op caller answer tells same answers floor =
+      let t = tells.told in
+      let mine : answered_by (Entry t) ≡ Updated caller answer = ap (λ n. Updated n t.answer) tells.is.0 ∙ ap (Updated caller) tells.is.1 in
+      let at : t.answer.ticket ≡ answer.ticket = ap (λ (a : Answer). a.ticket) tells.is.1 in
+      record {
+        told = t;
+        is = (tells.is.1, tells.is.2, tells.is.3);
+        made = record {
+          client = tells.lent;
+          same = same;
+          calls = λ calls has. record {
+            answers = answers ∙ ap (λ (l : List Answered). l ++ Updated caller answer ∷ []) has.answers ∙ ap (λ (a : Answered). map answered_by calls ++ a ∷ []) (sym mine) ∙ sym (map-append answered_by calls (Entry t ∷ []));
+            floor = floor ∙ ap (λ n. n + 1) (sym at) ∙ sym (floor_more r.base.place calls (Entry t));
+            in_turn = in_turn_more r.base.place calls (Entry t) has.in_turn (omega (arith, has.floor, tells.from, at));
+            told = tells.tells ∙ ap (λ (l : List Told). l ++ t ∷ []) has.told ∙ sym (entries_more calls t);
+            shown = λ h. (let same_ : total h (reads_of (calls ++ Entry t ∷ [])) ≡ total h (reads_of calls) = ap (total h) (reads_same calls t) in omega (arith, same_, has.shown h, tells.shows h));
+          };
+        };
+      }
+
+  -- nothing was told
+  pub no_more : IsLentTo r table after.lent → TellsSame before.lent after.lent → IsSameClient before after → after.answers.items ≡ before.answers.items → after.floor ≡ before.floor → HasNoMore r table before after
+  no_more lent tells same answers floor = record {
+    client = lent;
+    same = same;
+    answers = answers;
+    floor = floor;
+    calls = λ calls has. record {
+      answers = answers ∙ has.answers;
+      floor = floor ∙ has.floor;
+      in_turn = has.in_turn;
+      told = tells.told ∙ has.told;
+      shown = λ h. (let same_ : total h (view after.lent.pass).shown ≡ total h (view before.lent.pass).shown = ap (total h) tells.shown in omega (arith, same_, has.shown h));
+    };
+  }
+
+  -- a read was shown
+  pub read_more : (op : List ℕ) (seen : Seen) → ShowsRead r table op before.floor before.lent after.lent seen → IsSameClient before after
+      → after.answers.items ≡ before.answers.items ++ Read seen ∷ [] → after.floor ≡ seen.place → HasRead r table op before after seen
+  read_more op seen shows same answers floor =
+      let x = shows.read in
+      let mine : answered_by (Look x) ≡ Read seen = ap (λ p. Read (record { place = p; reply = x.reply })) shows.is.0 ∙ ap (λ (q : List ℕ). Read (record { place = seen.place; reply = q })) shows.is.2 in
+      record {
+        read = x;
+        is = shows.is;
+        made = record {
+          client = shows.lent;
+          same = same;
+          calls = λ calls has. record {
+            answers = answers ∙ ap (λ (l : List Answered). l ++ Read seen ∷ []) has.answers ∙ ap (λ (a : Answered). map answered_by calls ++ a ∷ []) (sym mine) ∙ sym (map-append answered_by calls (Look x ∷ []));
+            floor = floor ∙ sym shows.is.0 ∙ sym (floor_more r.base.place calls (Look x));
+            in_turn = in_turn_more r.base.place calls (Look x) has.in_turn (omega (arith, has.floor, shows.from, shows.is.0));
+            told = shows.tells ∙ has.told ∙ sym (entries_same calls x);
+            shown = λ h. (let same_ : total h (reads_of (calls ++ Look x ∷ [])) ≡ total h (reads_of calls ++ x ∷ []) = ap (total h) (reads_more calls x) in omega (arith, same_, total_both h (reads_of calls) (x ∷ []), has.shown h, shows.shows h));
+          };
+        };
+      }

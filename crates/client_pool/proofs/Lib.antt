@@ -1,0 +1,7 @@
+mod Calling
+mod Closing
+mod History
+mod Lends
+mod Opening
+mod Tickets
+mod Weights

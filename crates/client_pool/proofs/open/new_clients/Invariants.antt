@@ -1,0 +1,14 @@
+use Rattle.std.proofs.Common.{◌≤◌, vec_capacity}
+use Rattle.crossbeam_queue.specs.Passes.{view, IsPassOf}
+use Rattle.client_pool.specs.Pools.{IsPlaced}
+use Rattle.client_pool.proofs.Opening.{AreMade}
+use Rattle.client_pool.proofs.open.new_clients.Given as goal
+
+-- the first clients were made
+abbrev pub invariant-loop-number : goal.invariant-loop-number
+invariant-loop-number g l = record {
+  pass : IsPassOf l.line l.pass;
+  placed : IsPlaced l.service l.number (view l.pass);
+  room : l.count ≤ vec_capacity l.clients;
+  made : AreMade l.service l.line.table.shared.table_id l.number l.clients.items;
+}

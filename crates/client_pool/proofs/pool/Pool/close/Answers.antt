@@ -1,0 +1,20 @@
+use Rattle.std.proofs.Common.{refl, subst}
+use Rattle.seat_pool.specs.Gathering.{AreTold}
+use Rattle.client_pool.specs.declared.client.Client.{Client}
+use Rattle.cx_rule.specs.Running.{instance_at}
+use Rattle.client_pool.proofs.History.{are_answered}
+use Rattle.client_pool.proofs.Closing.{all_of, lents_are}
+use Rattle.client_pool.proofs.pool.Pool.close.Goals as goal
+
+pub close-requires-clause-lents : goal.close-requires-clause-lents
+close-requires-clause-lents g c =
+    let are = all_of (λ (x : Client). x.lent) c.part_clients-lents.result.0.items c.push_reserved.new.self.items c.args.clients.items c.pop.new.self.items c.in-Some.last c.push_reserved.ensures.items c.part_clients-lents.ensures.lents.0 c.in-Some.ensures.items in
+    lents_are c.args.self.service c.args.self.line.table.shared.table_id c.push_reserved.new.self.items c.args.clients.items are c.requires.each
+
+pub returns-in-Ok-clause-remains : goal.returns-in-Ok-clause-remains
+returns-in-Ok-clause-remains g c =
+    let are = all_of (λ (x : Client). x.lent) c.part_clients-lents.result.0.items c.push_reserved.new.self.items c.args.clients.items c.pop.new.self.items c.in-Some.last c.push_reserved.ensures.items c.part_clients-lents.ensures.lents.0 c.in-Some.ensures.items in
+    let closed = c.in-Ok.ensures.remains in
+    let told = subst (λ l. AreTold c.args.self.service l closed.0) are closed.2 in
+    let r = c.args.self.service in
+    record { handed = closed.0; leaves = closed.1; told = told; answered = are_answered r (instance_at r g.O.Object.step g.O.Object.only_reads) closed.0 c.in-Ok.remains c.args.clients.items refl closed.1 told }

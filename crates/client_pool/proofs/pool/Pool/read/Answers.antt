@@ -1,0 +1,34 @@
+use Rattle.std.proofs.Common.{◌++◌, ◌+◌, ◌∷◌, [], List, ap, refl, subst, ◌∙◌}
+use Rattle.client_pool.specs.Lending.{Serves}
+use Rattle.client_pool.specs.declared.call.Answered.{Answered}
+use Rattle.client_pool.specs.declared.call.Answered.TheVariants.{Read, Updated}
+use Rattle.client_pool.specs.declared.client.Client.{Client}
+use Rattle.client_pool.proofs.Calling.{read_more, updated}
+use Rattle.client_pool.proofs.Lends.{entry_since, read_since}
+use Rattle.client_pool.proofs.pool.Pool.read.Goals as goal
+
+pub returns-in-Found : goal.returns-in-Found
+returns-in-Found g c =
+    let r = c.args.self.now.service in
+    let table = c.args.self.now.line.table.shared.table_id in
+    let before = c.args.client.now in
+    let seen = c.in-Found.seen in
+    let after : Client = record { number = before.number; floor = seen.place; answers = c.push_reserved.new.self; lent = c.look.new.lent; closing = before.closing } in
+    read_more r table before after c.args.op.now seen
+    (read_since r table before.lent c.begin.new.lent after.lent c.in-Ok.ensures.1 c.args.op.now before.floor seen c.in-Found.ensures)
+    (record { number = refl; closing = refl })
+    (c.push_reserved.ensures.items ∙ ap (λ (l : List Answered). l ++ Read seen ∷ []) c.reserve.ensures.items) refl
+
+pub returns-in-Entered-Done : goal.returns-in-Entered-Done
+returns-in-Entered-Done g c =
+    let r = c.args.self.now.service in
+    let table = c.args.self.now.line.table.shared.table_id in
+    let before = c.args.client.now in
+    let caller = c.in-Entered-Done.caller in
+    let answer = c.in-Entered-Done.answer in
+    let after : Client = record { number = before.number; floor = answer.ticket + 1; answers = c.push_reserved-in-Entered-Done.new.self; lent = c.look.new.lent; closing = before.closing } in
+    updated r table before after c.args.op.now caller answer
+    (entry_since r table before.lent c.begin.new.lent after.lent c.in-Ok.ensures.1 c.args.op.now before.floor caller answer
+    (subst (Serves r table c.args.op.now before.floor c.begin.new.lent after.lent) c.in-Entered-Done.field-0-is c.in-Entered-Done.ensures))
+    (record { number = refl; closing = refl })
+    (c.push_reserved-in-Entered-Done.ensures.items ∙ ap (λ (l : List Answered). l ++ Updated caller answer ∷ []) c.reserve.ensures.items) refl

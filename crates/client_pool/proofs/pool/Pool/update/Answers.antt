@@ -1,0 +1,19 @@
+use Rattle.std.proofs.Common.{◌++◌, ◌+◌, ◌∷◌, [], List, ap, refl, ◌∙◌}
+use Rattle.client_pool.specs.declared.call.Answered.{Answered}
+use Rattle.client_pool.specs.declared.call.Answered.TheVariants.{Updated}
+use Rattle.client_pool.specs.declared.client.Client.{Client}
+use Rattle.client_pool.proofs.Calling.{updated}
+use Rattle.client_pool.proofs.Lends.{entry_since}
+use Rattle.client_pool.proofs.pool.Pool.update.Goals as goal
+
+pub returns-in-Done : goal.returns-in-Done
+returns-in-Done g c =
+    let r = c.args.self.now.service in
+    let table = c.args.self.now.line.table.shared.table_id in
+    let before = c.args.client.now in
+    let answer = c.in-Done.answer in
+    let after : Client = record { number = before.number; floor = answer.ticket + 1; answers = c.push_reserved.new.self; lent = c.enter.new.lent; closing = before.closing } in
+    updated r table before after c.args.op.now c.in-Done.caller answer
+    (entry_since r table before.lent c.begin.new.lent after.lent c.in-Ok.ensures.1 c.args.op.now before.floor c.in-Done.caller answer c.in-Done.ensures)
+    (record { number = refl; closing = refl })
+    (c.push_reserved.ensures.items ∙ ap (λ (l : List Answered). l ++ Updated c.in-Done.caller answer ∷ []) c.reserve.ensures.items) refl

@@ -1,0 +1,116 @@
+-- What a client of a pool is, and what a call of its comes to.
+use Rattle.std.specs.Prelude.{◌≡◌, ◌+◌, ◌≤◌, ℕ, List, [], ◌∷◌, ◌++◌, map}
+use Rattle.atomic_table.specs.Seated.{TableId}
+use Rattle.crossbeam_queue.specs.Passes.{view}
+use Rattle.cx_core.specs.declared.local.Answer.{Answer}
+use Rattle.cx_core.specs.declared.local.SeenRead.{SeenRead}
+use Rattle.cx_rule.specs.Running.{Running}
+use Rattle.cx_turns.specs.declared.lookup.Seen.{Seen}
+use Rattle.seat_pool.specs.Pooling.{total}
+use Rattle.seat_pool.specs.declared.hand.Told.{Told}
+use Rattle.client_pool.specs.declared.call.Answered.{Answered}
+use Rattle.client_pool.specs.declared.call.Answered.TheVariants.{Updated, Read}
+use Rattle.client_pool.specs.declared.call.Call.{Call}
+use Rattle.client_pool.specs.declared.call.Call.TheVariants.{Entry, Look}
+use Rattle.client_pool.specs.declared.client.Client.{Client}
+use Rattle.client_pool.specs.declared.pool.Pooled.{Pooled}
+use Rattle.client_pool.specs.declared.pool.Pooled.TheVariants.{Done, Full, Worn, Stopped, Memory}
+use Rattle.client_pool.specs.declared.pool.PooledRead.{PooledRead}
+use Rattle.client_pool.specs.declared.pool.PooledRead.TheVariants.{Read as ReadSeen, Queued, Full as FullRead, Worn as WornRead, Stopped as StoppedRead, Memory as MemoryRead}
+use Rattle.client_pool.specs.Lending.{IsLentTo, KeepsFull, KeepsStopped, KeepsWorn}
+
+-- what its client sees of a call
+abbrev pub answered_by : Call → Answered
+answered_by (Entry told) = Updated told.caller told.answer
+answered_by (Look read) = Read (record { place = read.place; reply = read.reply })
+
+-- where its answer holds, and below which place no later answer of the client does
+abbrev pub place_of : Call → ℕ
+place_of (Entry told) = told.answer.ticket
+place_of (Look read) = read.place
+
+abbrev pub next_of : Call → ℕ
+next_of (Entry told) = told.answer.ticket + 1
+next_of (Look read) = read.place
+
+-- the floor behind calls, from a floor on
+abbrev pub floor_after : ℕ → List Call → ℕ
+floor_after floor [] = floor
+floor_after floor (call ∷ calls) = floor_after (next_of call) calls
+
+-- each answer holds at or above the floor behind those before it
+abbrev pub AreInTurn : ℕ → List Call → Type 0
+AreInTurn floor [] = Unit {0}
+AreInTurn floor (call ∷ calls) = (floor ≤ place_of call) × AreInTurn (next_of call) calls
+
+-- the entries among calls, and the reads
+abbrev pub entries_of : List Call → List Told
+entries_of [] = []
+entries_of (Entry told ∷ calls) = told ∷ entries_of calls
+entries_of (Look read ∷ calls) = entries_of calls
+
+abbrev pub reads_of : List Call → List SeenRead
+reads_of [] = []
+reads_of (Entry told ∷ calls) = reads_of calls
+reads_of (Look read ∷ calls) = read ∷ reads_of calls
+
+-- A client of a service made these calls, in this order: its answers are theirs, it was told their entries and shown their reads, and no answer holds below
+-- one before it.
+pub record HasCalls {O : Type 0} (r : Running O) (client : Client) (calls : List Call) : Type 0 where
+  pub answers : client.answers.items ≡ map answered_by calls
+  pub floor : client.floor ≡ floor_after r.base.place calls
+  pub in_turn : AreInTurn r.base.place calls
+  pub told : (view client.lent.pass).told ≡ entries_of calls
+  pub shown : (h : SeenRead → ℕ) → total h (reads_of calls) ≤ total h (view client.lent.pass).shown
+
+-- a client between its calls
+abbrev pub IsClientOf : {O : Type 0} → Running O → TableId → Client → Type 0
+IsClientOf r table client = IsLentTo r table client.lent
+
+-- its number, and what it has for the closing
+pub record IsSameClient (before after : Client) : Type 0 where
+  pub number : after.number ≡ before.number
+  pub closing : after.closing ≡ before.closing
+
+-- the client made this call more
+pub record HasMade {O : Type 0} (r : Running O) (table : TableId) (before after : Client) (call : Call) : Type 0 where
+  pub client : IsClientOf r table after
+  pub same : IsSameClient before after
+  pub calls : (calls : List Call) → HasCalls r before calls → HasCalls r after (calls ++ call ∷ [])
+
+-- the call is an entry of this operation, with this answer
+pub record HasUpdated {O : Type 0} (r : Running O) (table : TableId) (op : List ℕ) (before after : Client) (answer : Answer) : Type 0 where
+  pub told : Told
+  pub is : (told.answer ≡ answer) × (told.entry.ticket ≡ answer.ticket) × (told.entry.entry.op ≡ op)
+  pub made : HasMade r table before after (Entry told)
+
+-- the call is a read of this operation, answered beside the queue
+pub record HasRead {O : Type 0} (r : Running O) (table : TableId) (op : List ℕ) (before after : Client) (seen : Seen) : Type 0 where
+  pub read : SeenRead
+  pub is : (read.place ≡ seen.place) × (read.op ≡ op) × (read.reply ≡ seen.reply)
+  pub made : HasMade r table before after (Look read)
+
+-- the client was answered nothing more: its answers and its floor are as before
+pub record HasNoMore {O : Type 0} (r : Running O) (table : TableId) (before after : Client) : Type 0 where
+  pub client : IsClientOf r table after
+  pub same : IsSameClient before after
+  pub answers : after.answers.items ≡ before.answers.items
+  pub floor : after.floor ≡ before.floor
+  pub calls : (calls : List Call) → HasCalls r before calls → HasCalls r after calls
+
+-- what an update of this operation comes to
+abbrev pub Updates : {O : Type 0} → Running O → TableId → List ℕ → Client → Client → Pooled → Type 0
+Updates r table op before after (Done answer) = HasUpdated r table op before after answer
+Updates r table op before after (Full note) = HasNoMore r table before after × KeepsFull r table before.lent after.lent note
+Updates r table op before after Worn = HasNoMore r table before after × KeepsWorn r table before.lent after.lent
+Updates r table op before after (Stopped linked) = HasNoMore r table before after × KeepsStopped r table before.lent after.lent linked
+Updates r table op before after Memory = HasNoMore r table before after × (after.lent ≡ before.lent)
+
+-- what a read of this operation comes to
+abbrev pub ReadsInAll : {O : Type 0} → Running O → TableId → List ℕ → Client → Client → PooledRead → Type 0
+ReadsInAll r table op before after (ReadSeen seen) = HasRead r table op before after seen
+ReadsInAll r table op before after (Queued answer) = HasUpdated r table op before after answer
+ReadsInAll r table op before after (FullRead note) = HasNoMore r table before after × KeepsFull r table before.lent after.lent note
+ReadsInAll r table op before after WornRead = HasNoMore r table before after × KeepsWorn r table before.lent after.lent
+ReadsInAll r table op before after (StoppedRead linked) = HasNoMore r table before after × KeepsStopped r table before.lent after.lent linked
+ReadsInAll r table op before after MemoryRead = HasNoMore r table before after × (after.lent ≡ before.lent)

@@ -1,0 +1,4 @@
+pub mod Answers
+pub mod Clients
+pub mod Lending
+pub mod Pools

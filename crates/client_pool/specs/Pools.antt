@@ -1,0 +1,112 @@
+-- What opening a pool comes to, and closing it.
+use Rattle.std.specs.Prelude.{◌≡◌, ◌+◌, ◌≤◌, ℕ, List, [], ◌∷◌, ◌++◌, All, Some, None, length, map, vec_capacity}
+use Rattle.std.specs.List.{AllZip, range_with_len}
+use Rattle.atomic_table.specs.Seated.{TableId}
+use Rattle.crossbeam_queue.specs.Passes.{view}
+use Rattle.cx_core.specs.State.{Instance}
+use Rattle.cx_rule.specs.Running.{Running}
+use Rattle.cx_rule.specs.Seats.{Seated}
+use Rattle.cx_service.specs.Callers.{IsCallerOf}
+use Rattle.cx_service.specs.Closes.{seats_of}
+use Rattle.cx_service.specs.declared.close.Handed.{Handed}
+use Rattle.cx_table.specs.Remains.{AreSeats, Leaves}
+use Rattle.cx_table.specs.declared.remains.Remains.{Remains}
+use Rattle.seat_pool.specs.Gathering.{AreTold, IsRestOf}
+use Rattle.seat_pool.specs.Pooling.{IsHomeOf, all_parts}
+use Rattle.seat_pool.specs.declared.hand.Hand.{Hand}
+use Rattle.seat_pool.specs.declared.lent.Lent.{Lent}
+use Rattle.client_pool.specs.Answers.{AreAnswered}
+use Rattle.client_pool.specs.Clients.{HasCalls, IsClientOf}
+use Rattle.client_pool.specs.declared.call.Call.{Call}
+use Rattle.client_pool.specs.declared.client.Client.{Client}
+use Rattle.client_pool.specs.declared.client.Closing.{Closing}
+use Rattle.client_pool.specs.declared.open.Rooms.{Rooms}
+use Rattle.client_pool.specs.declared.pool.FormerClient.{FormerClient}
+use Rattle.client_pool.specs.declared.pool.PoolKept.{PoolKept}
+
+-- a caller of the service that has linked no entry
+pub record IsNewCaller {O : Type 0} (r : Running O) (x : Seated) : Type 0 where
+  pub caller : IsCallerOf r x
+  pub none : x.known.local.own ≡ []
+
+-- all callers of the service, of caller 0 first, none of which has linked an entry
+pub record AreNewCallers {O : Type 0} (r : Running O) (callers : List Seated) : Type 0 where
+  pub each : All (IsNewCaller r) callers
+  pub numbers : map (λ (x : Seated). x.known.local.number) callers ≡ range_with_len 0 r.callers
+
+-- all callers were placed in the queue, and so many parts of the right to know the whole were given to clients
+pub record IsPlaced {O : Type 0} (r : Running O) (clients : ℕ) (v : Hand) : Type 0 where
+  pub home : IsHomeOf r v.home
+  pub parts : v.parts + clients ≡ all_parts
+  pub placed : v.placed ≡ range_with_len 0 r.callers
+  pub held : v.held ≡ []
+  pub told : v.told ≡ []
+  pub shown : v.shown ≡ []
+
+-- there is room for so many callers and clients
+pub record HaveRoom (callers clients : ℕ) (rooms : Rooms) : Type 0 where
+  pub made : (rooms.clients.items ≡ []) × (clients ≤ vec_capacity rooms.clients)
+  pub lents : (rooms.lents.items ≡ []) × (clients ≤ vec_capacity rooms.lents)
+  pub former : (rooms.former.items ≡ []) × (clients ≤ vec_capacity rooms.former)
+  pub gathered : (rooms.gathered.items ≡ []) × (callers ≤ vec_capacity rooms.gathered)
+  pub out : (rooms.out.items ≡ []) × (callers ≤ vec_capacity rooms.out)
+
+-- a client that has made no call
+pub record IsNewClient {O : Type 0} (r : Running O) (table : TableId) (number : ℕ) (client : Client) : Type 0 where
+  pub client_is : IsClientOf r table client
+  pub is : client.number ≡ number
+  pub keeps : client.lent.kept ≡ None
+  pub calls : HasCalls r client []
+
+-- what closing a pool of so many clients takes
+pub record IsClosing {O : Type 0} (r : Running O) (table : TableId) (clients : ℕ) (closing : Closing) : Type 0 where
+  pub pass : (closing.rest.table_id ≡ table) × (closing.rest.me.1 ≡ [])
+  pub rest : IsRestOf r (view closing.rest) clients
+  pub lents : (closing.lents.items ≡ []) × (clients ≤ vec_capacity closing.lents)
+  pub former : (closing.former.items ≡ []) × (clients ≤ vec_capacity closing.former)
+  pub gathered : (closing.gathered.items ≡ []) × (r.callers ≤ vec_capacity closing.gathered)
+  pub out : (closing.out.items ≡ []) × (r.callers ≤ vec_capacity closing.out)
+
+-- the last of clients has it
+pub record HasLast {O : Type 0} (r : Running O) (table : TableId) (clients : List Client) : Type 0 where
+  pub front : List Client
+  pub last : Client
+  pub are : clients ≡ front ++ last ∷ []
+  pub closing : Closing
+  pub has : last.closing ≡ Some closing
+  pub is : IsClosing r table (length clients) closing
+
+-- all clients of a pool, of client 0 first
+pub record AreClients {O : Type 0} (r : Running O) (table : TableId) (clients : List Client) : Type 0 where
+  pub each : All (IsClientOf r table) clients
+  pub numbers : map (λ (c : Client). c.number) clients ≡ range_with_len 0 (length clients)
+  pub ends : HasLast r table clients
+
+-- so many clients, none of which has made a call
+pub record AreNewClients {O : Type 0} (r : Running O) (table : TableId) (count : ℕ) (clients : List Client) : Type 0 where
+  pub clients_are : AreClients r table clients
+  pub count_is : length clients ≡ count
+  pub live : All (λ (c : Client). c.lent.kept ≡ None) clients
+  pub calls : All (λ (c : Client). HasCalls r c []) clients
+
+-- what was lent to clients, and what they are beside it
+abbrev pub lents_of : List Client → List Lent
+lents_of clients = map (λ (c : Client). c.lent) clients
+
+abbrev pub former_of : Client → FormerClient
+former_of c = record { number = c.number; floor = c.floor; answers = c.answers }
+
+-- What a closed pool leaves of its service: all callers were handed to its closing, each once, with the account of the clients' calls. Whatever calls the
+-- clients made, one list each, are the history's.
+pub record IsClosed {O : Type 0} (r : Running O) (instance : Instance) (clients : List Client) (remains : Remains) : Type 0 where
+  pub handed : List Handed
+  pub leaves : Leaves r instance (seats_of handed) remains
+  pub told : AreTold r (lents_of clients) handed
+  pub answered : (calls : List (List Call)) → AllZip (HasCalls r) clients calls → AreAnswered instance remains.trail.history calls
+
+-- a pool that was not closed: the service, all callers and what the clients were
+pub record IsLeftOpen {O : Type 0} (r : Running O) (clients : List Client) (kept : PoolKept O) : Type 0 where
+  pub service : kept.service ≡ r
+  pub seats : AreSeats r (seats_of kept.callers.items)
+  pub told : AreTold r (lents_of clients) kept.callers.items
+  pub former : kept.clients.items ≡ map former_of clients

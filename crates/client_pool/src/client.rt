@@ -1,0 +1,64 @@
+//! The clients of a pool.
+
+ghost use Rattle.std.specs.Prelude.{◌≡◌};
+ghost use Rattle.client_pool.specs.Lending.{is_live};
+
+use crate::call::Answered;
+use crate::pool::FormerClient;
+use crossbeam_queue::Pass;
+use cx_service::{Caller, Handed};
+use seat_pool::{Hand, Lent};
+
+/// One of those that share the callers of a service.
+#[derive(Drop)]
+pub struct Client {
+    pub(crate) number: u32,
+    pub(crate) floor: u64,
+    pub(crate) answers: Vec<Answered>,
+    pub(crate) lent: Lent,
+    pub(crate) closing: Option<Closing>,
+}
+
+/// What closing a pool takes: what is left of the queue's first pass, and room for all that is gathered. The last client has it, since no
+/// pass is shared by threads.
+#[derive(Drop)]
+pub(crate) struct Closing {
+    pub(crate) rest: Pass<Caller, Hand>,
+    pub(crate) lents: Vec<Lent>,
+    pub(crate) former: Vec<FormerClient>,
+    pub(crate) gathered: Vec<Handed>,
+    pub(crate) out: Vec<Handed>,
+}
+
+impl Client {
+    /// The client, from 0.
+    pub fn number(&self) -> u32
+        ensures { result ≡ self.now.number }
+    {
+        self.number
+    }
+
+    /// No later answer to the client holds below this place.
+    pub fn floor(&self) -> u64
+        ensures { result ≡ self.now.floor }
+    {
+        self.floor
+    }
+
+    /// What it was answered, in order.
+    pub fn answers(&self) -> &[Answered]
+        ensures { result.now ≡ self.now.answers.items }
+    {
+        self.answers.as_slice()
+    }
+
+    /// Whether it may make a further call: it keeps no stopped caller.
+    pub fn is_live(&self) -> bool
+        ensures { result ≡ is_live self.now.lent.kept }
+    {
+        match &self.lent.kept {
+            None | Some(Handed::Idle(_)) => true,
+            Some(Handed::Linked(_) | Handed::Stopped(_)) => false,
+        }
+    }
+}

@@ -1,0 +1,99 @@
+//! A pool is closed.
+
+ghost use Rattle.std.specs.Prelude.{◌≡◌, ◌≤◌, [], IfErr, IfOk, map, vec_capacity, vec_len};
+ghost use Rattle.cx_rule.specs.Running.{instance_at};
+ghost use Rattle.client_pool.specs.Pools.{AreClients, IsClosed, IsLeftOpen, former_of};
+
+use crate::client::{Client, Closing};
+use crate::pool::{FormerClient, Pool, PoolKept};
+use cx_base::Object;
+use cx_service::Kept;
+use cx_table::Remains;
+use seat_pool::Lent;
+use std::alloc::Global;
+use std::sync::Wait;
+
+/// What was lent to clients, and what else they are.
+fn part_clients(
+    clients: Vec<Client>,
+    mut lents: Vec<Lent>,
+    mut former: Vec<FormerClient>,
+) -> (Vec<Lent>, Vec<FormerClient>)
+    requires lents { (lents.items ≡ []) × (vec_len clients ≤ vec_capacity lents) }
+    requires former { (former.items ≡ []) × (vec_len clients ≤ vec_capacity former) }
+    ensures lents { (result.0.items ≡ map (λ c. c.lent) clients.items) × (vec_capacity result.0 ≡ vec_capacity lents) }
+    ensures former { (result.1.items ≡ map former_of clients.items) × (vec_capacity result.1 ≡ vec_capacity former) }
+{
+    for client in clients {
+        let Client {
+            number,
+            floor,
+            answers,
+            lent,
+            closing: _,
+        } = client;
+        lents.push_reserved(lent);
+        former.push_reserved(FormerClient {
+            number,
+            floor,
+            answers,
+        });
+    }
+    (lents, former)
+}
+
+impl<O: Object> Pool<O> {
+    /// Closes the pool and its service: all callers are gathered, those in the queue and those that clients keep, each once and in whatever state it is. The
+    /// calls that the clients were told are those that the callers show as answered, each once, but for at most one of each stopped caller, which was told to
+    /// nobody. `Err` is want of memory alone, and hands back the service, all its callers, of caller 0 first, and what the clients were answered.
+    pub fn close<R: Wait>(
+        self,
+        rt: &R,
+        alloc: Global,
+        clients: Vec<Client>,
+    ) -> Result<Remains, PoolKept<O>>
+        requires { AreClients self.service self.line.table.shared.table_id clients.items }
+        ensures remains { IfOk result (IsClosed self.service (instance_at self.service O.step O.only_reads) clients.items) }
+        ensures kept { IfErr result (IsLeftOpen self.service clients.items) }
+    {
+        let Pool { service, line, .. } = self;
+        let mut clients = clients;
+        let Some(last) = clients.pop() else {
+            unreachable!()
+        };
+        let Client {
+            number,
+            floor,
+            answers,
+            lent,
+            closing,
+        } = last;
+        let Some(
+            Closing {
+                rest,
+                lents,
+                former,
+                gathered,
+                out,
+            },
+        ) = closing
+        else {
+            unreachable!()
+        };
+        let (mut lents, mut former) = part_clients(clients, lents, former);
+        lents.push_reserved(lent);
+        former.push_reserved(FormerClient {
+            number,
+            floor,
+            answers,
+        });
+        match seat_pool::close(rt, alloc, service, line, rest, lents, gathered, out) {
+            Ok(remains) => Ok(remains),
+            Err(Kept { service, callers }) => Err(PoolKept {
+                service,
+                callers,
+                clients: former,
+            }),
+        }
+    }
+}

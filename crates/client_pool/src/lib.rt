@@ -1,0 +1,28 @@
+//! More clients than callers: a pool lends the callers of one service to up to 64 clients, each of which sees its own answers in order and reads what
+//! it wrote.
+//!
+//! - `Pool::open` puts the callers of a service into a queue, and makes the clients. A pool is shared by threads, and each client goes to one.
+//! - `update` and `read` take a caller out of the queue, see to it that it has seen what the client was answered before (the client's floor), make the call,
+//!   and give the caller back. A client that was answered Full or Worn keeps its caller for its next call, and one whose caller is stopped makes no
+//!   further call: so no caller is lost.
+//! - `close` gathers all callers and closes the service.
+//!
+//! Each client has one list of calls (`HasCalls` in `specs/Clients.antt`): what it was answered, with the entries and the reads that these are answers of. No
+//! answer of it holds below one before it.
+#![tactic(auto)]
+
+mod call;
+mod client;
+mod close;
+mod lend;
+mod look;
+mod open;
+mod pool;
+mod threads;
+mod update;
+
+pub use call::{Answered, Call};
+pub use client::Client;
+pub use open::Unopened;
+pub use pool::{FormerClient, Pool, PoolKept, Pooled, PooledRead};
+pub use threads::cross_threads;

@@ -1,0 +1,97 @@
+//! A read of a client.
+
+ghost use Rattle.std.specs.Prelude.{◌≡◌, ◌≤◌, IsTrue, true};
+ghost use Rattle.client_pool.specs.Clients.{IsClientOf, ReadsInAll};
+ghost use Rattle.client_pool.specs.Lending.{IsOut, IsPool, Looks, is_live};
+
+use crate::call::Answered;
+use crate::client::Client;
+use crate::lend::{Served, begin, settle};
+use crate::pool::{Pool, PooledRead};
+use cx_base::Object;
+use cx_service::{Caller, ReadDone, Seen, Updated};
+use seat_pool::{Lent, give};
+use std::sync::Wait;
+use std::thread;
+
+/// What an operation comes to that only reads.
+#[derive(Drop)]
+pub(crate) enum Looked {
+    /// It is answered beside the queue.
+    Found(Seen),
+    /// It entered the queue.
+    Entered(Served),
+}
+
+/// Reads by a caller that is out, until the place of what was read is not below the floor.
+fn look<O: Object, R: Wait>(
+    rt: &R,
+    pool: &Pool<O>,
+    lent: &mut Lent,
+    caller: Caller,
+    floor: u64,
+    op: &[u64; 144],
+) -> Looked
+    requires pool { IsPool O.only_reads pool.now }
+    requires out { IsOut pool.now.service pool.now.line.table.shared.table_id lent.old caller × (floor ≤ caller.known.local.front) }
+    requires reads { IsTrue (O.only_reads pool.now.service.object op.now) }
+    ensures { Looks pool.now.service pool.now.line.table.shared.table_id op.now floor lent.old lent.new result }
+{
+    let mut caller = caller;
+    for _ in rt.forever() {
+        let updated = match pool.service.read(rt, caller, op) {
+            ReadDone::Read(back, seen) => {
+                if seen.place >= floor {
+                    give(rt, &pool.service, &pool.line, &mut lent.pass, back);
+                    return Looked::Found(seen);
+                }
+                thread::yield_now();
+                caller = back;
+                continue;
+            }
+            ReadDone::Queued(back, answer) => Updated::Done(back, answer),
+            ReadDone::Full(back, note) => Updated::Full(back, note),
+            ReadDone::Worn(back) => Updated::Worn(back),
+            ReadDone::Halted(stopped) => Updated::Halted(stopped),
+        };
+        return Looked::Entered(settle(rt, pool, lent, floor, op, updated));
+    }
+    unreachable!()
+}
+
+impl<O: Object> Pool<O> {
+    /// Answers an operation that only reads for a client, by a caller that has seen all that the client was answered before: beside the queue, or as an entry
+    /// of it. A read whose place is below the client's floor is made again. It waits as `update` does, and `Full`, `Worn`, `Stopped` and `Memory` are as
+    /// there.
+    pub fn read<R: Wait>(&self, rt: &R, client: &mut Client, op: &[u64; 144]) -> PooledRead
+        requires pool { IsPool O.only_reads self.now }
+        requires client { IsClientOf self.now.service self.now.line.table.shared.table_id client.old × (is_live client.old.lent.kept ≡ true) }
+        requires reads { IsTrue (O.only_reads self.now.service.object op.now) }
+        ensures { ReadsInAll self.now.service self.now.line.table.shared.table_id op.now client.old client.new result }
+    {
+        if client.answers.reserve(1).is_err() {
+            return PooledRead::Memory;
+        }
+        let floor = client.floor;
+        match begin(rt, self, &mut client.lent, floor) {
+            Ok(caller) => match look(rt, self, &mut client.lent, caller, floor, op) {
+                Looked::Found(seen) => {
+                    client.answers.push_reserved(Answered::Read { seen });
+                    client.floor = seen.place;
+                    PooledRead::Read(seen)
+                }
+                Looked::Entered(Served::Done(caller, answer)) => {
+                    client
+                        .answers
+                        .push_reserved(Answered::Updated { caller, answer });
+                    client.floor = answer.ticket + 1;
+                    PooledRead::Queued(answer)
+                }
+                Looked::Entered(Served::Full(note)) => PooledRead::Full(note),
+                Looked::Entered(Served::Worn) => PooledRead::Worn,
+                Looked::Entered(Served::Halted(linked)) => PooledRead::Stopped { linked },
+            },
+            Err(linked) => PooledRead::Stopped { linked },
+        }
+    }
+}

@@ -1,0 +1,166 @@
+//! A pool is opened.
+
+ghost use Rattle.std.specs.Prelude.{◌≡◌, ◌<◌, ◌≤◌, [], IfErr, IfOk, IsTrue, map};
+ghost use Rattle.crossbeam_queue.specs.Passes.{view, IsPassOf, ruled_capacity};
+ghost use Rattle.seat_pool.specs.Pooling.{IsHomeOf, IsOpened, cut_left};
+ghost use Rattle.client_pool.specs.Lending.{IsPool};
+ghost use Rattle.client_pool.specs.Pools.{AreNewCallers, AreNewClients, HaveRoom, IsNewClient, IsPlaced};
+
+use crate::client::{Client, Closing};
+use crate::pool::{FormerClient, Pool};
+use crossbeam_queue::Pass;
+use cx_base::Object;
+use cx_service::{Caller, Handed, Service};
+use seat_pool::{Hand, Lent, Line, place, share};
+use std::alloc::{AllocError, Global};
+use std::sync::Wait;
+
+/// A pool that was not opened for want of memory: the service and its callers, as they were.
+#[derive(Drop)]
+pub struct Unopened<O: Object> {
+    pub service: Service<O>,
+    pub callers: Vec<Caller>,
+}
+
+/// Room for the clients, and for what closing the pool takes.
+#[derive(Drop)]
+pub(crate) struct Rooms {
+    pub(crate) clients: Vec<Client>,
+    pub(crate) lents: Vec<Lent>,
+    pub(crate) former: Vec<FormerClient>,
+    pub(crate) gathered: Vec<Handed>,
+    pub(crate) out: Vec<Handed>,
+}
+
+/// Room for so many callers and clients.
+fn rooms_for(alloc: Global, callers: usize, clients: usize) -> Result<Rooms, AllocError>
+    ensures { IfOk result (HaveRoom callers clients) }
+{
+    Ok(Rooms {
+        clients: Vec::with_capacity(alloc, clients)?,
+        lents: Vec::with_capacity(alloc, clients)?,
+        former: Vec::with_capacity(alloc, clients)?,
+        gathered: Vec::with_capacity(alloc, callers)?,
+        out: Vec::with_capacity(alloc, callers)?,
+    })
+}
+
+/// Places all callers of the service in its queue.
+fn place_all<O: Object, R: Wait>(
+    rt: &R,
+    service: &Service<O>,
+    line: &Line,
+    pass: Pass<Caller, Hand>,
+    callers: Vec<Caller>,
+) -> Pass<Caller, Hand>
+    requires pass { IsPassOf line.now pass × IsOpened service.now (map (λ c. c.known.local.limit) callers.items) (view pass) }
+    requires room { ruled_capacity line.now ≡ service.now.callers }
+    requires callers { AreNewCallers service.now callers.items }
+    ensures { IsPassOf line.now result × IsPlaced service.now 0 (view result) }
+{
+    let mut pass = pass;
+    for caller in callers {
+        place(rt, service, line, &mut pass, caller);
+    }
+    pass
+}
+
+/// A client that has made no call.
+fn new_client<O: Object>(
+    alloc: Global,
+    service: &Service<O>,
+    line: &Line,
+    pass: &mut Pass<Caller, Hand>,
+    number: u32,
+) -> Client
+    requires { IsPassOf line.now pass.old × IsHomeOf service.now (view pass.old).home × (1 < (view pass.old).parts) }
+    ensures pass { IsPassOf line.now pass.new × (view pass.new ≡ cut_left (view pass.old)) }
+    ensures client { IsNewClient service.now line.now.table.shared.table_id number result }
+{
+    Client {
+        number,
+        floor: service.place(),
+        answers: Vec::new(alloc),
+        lent: Lent {
+            pass: share(service, line, pass),
+            kept: None,
+        },
+        closing: None,
+    }
+}
+
+/// The clients of a pool. The last one has what closing it takes.
+fn new_clients<O: Object>(
+    alloc: Global,
+    service: &Service<O>,
+    line: &Line,
+    pass: Pass<Caller, Hand>,
+    rooms: Rooms,
+    count: u32,
+) -> Vec<Client>
+    requires pass { IsPassOf line.now pass × IsPlaced service.now 0 (view pass) }
+    requires rooms { HaveRoom service.now.callers count rooms }
+    requires count { (1 ≤ count) × (count ≤ 64) }
+    ensures { AreNewClients service.now line.now.table.shared.table_id count result.items }
+{
+    let mut pass = pass;
+    let Rooms {
+        mut clients,
+        lents,
+        former,
+        gathered,
+        out,
+    } = rooms;
+    for number in 0..count - 1 {
+        let client = new_client(alloc, service, line, &mut pass, number);
+        clients.push_reserved(client);
+    }
+    let mut last = new_client(alloc, service, line, &mut pass, count - 1);
+    last.closing = Some(Closing {
+        rest: pass,
+        lents,
+        former,
+        gathered,
+        out,
+    });
+    clients.push_reserved(last);
+    clients
+}
+
+impl<O: Object> Pool<O> {
+    /// Opens a pool: the callers of a service, which made no call that is answered, and so many clients of theirs. The probe is an operation that only reads.
+    /// `Err` is want of memory alone, and hands back what was given.
+    pub fn open<R: Wait>(
+        rt: &R,
+        alloc: Global,
+        service: Service<O>,
+        callers: Vec<Caller>,
+        clients: u32,
+        probe: [u64; 144],
+    ) -> Result<(Pool<O>, Vec<Client>), Unopened<O>>
+        requires callers { AreNewCallers service callers.items }
+        requires clients { (1 ≤ clients) × (clients ≤ 64) }
+        requires probe { IsTrue (O.only_reads service.object probe) }
+        ensures opened { IfOk result (λ r. (r.0.service ≡ service) × IsPool O.only_reads r.0 × AreNewClients service r.0.line.table.shared.table_id clients r.1.items) }
+        ensures kept { IfErr result (λ k. (k.service ≡ service) × (k.callers ≡ callers)) }
+    {
+        // a running service has a caller
+        let _lines = service.lines();
+        let Ok(rooms) = rooms_for(alloc, callers.len(), clients as usize) else {
+            return Err(Unopened { service, callers });
+        };
+        let Ok((line, pass)) = seat_pool::open(alloc, &service, callers.as_slice()) else {
+            return Err(Unopened { service, callers });
+        };
+        let pass = place_all(rt, &service, &line, pass, callers);
+        let clients = new_clients(alloc, &service, &line, pass, rooms, clients);
+        Ok((
+            Pool {
+                service,
+                line,
+                probe,
+            },
+            clients,
+        ))
+    }
+}

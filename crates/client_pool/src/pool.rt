@@ -1,0 +1,63 @@
+//! A pool, and what its calls come to.
+
+use crate::call::Answered;
+use cx_base::Object;
+use cx_core::FullNote;
+use cx_service::{Answer, Handed, Seen, Service};
+use seat_pool::Line;
+
+/// A service whose callers clients share. It is shared by threads.
+#[derive(Drop)]
+pub struct Pool<O: Object> {
+    pub(crate) service: Service<O>,
+    pub(crate) line: Line,
+    pub(crate) probe: [u64; 144],
+}
+
+/// What a client was, whose pool was to be closed: no caller is lent to it any more.
+#[derive(Drop)]
+pub struct FormerClient {
+    pub number: u32,
+    pub floor: u64,
+    pub answers: Vec<Answered>,
+}
+
+/// A pool that was not closed for want of memory: its service and all callers, of caller 0 first, and what its clients were answered.
+#[derive(Drop)]
+pub struct PoolKept<O: Object> {
+    pub service: Service<O>,
+    pub callers: Vec<Handed>,
+    pub clients: Vec<FormerClient>,
+}
+
+/// What an update comes to.
+#[derive(Clone, Copy, Debug, PartialEq, Eq, Drop)]
+pub enum Pooled {
+    /// The entry is applied and durable: its ticket, and the reply.
+    Done(Answer),
+    /// No cell of the caller is idle: the note names another caller that needs entries in them. The client keeps its caller.
+    Full(FullNote),
+    /// There is no further ticket. The client keeps its caller.
+    Worn,
+    /// The caller's step limit was reached: the ticket of its linked entry that no call has answered. The client keeps it, and makes no further call.
+    Stopped { linked: Option<u64> },
+    /// There is no memory for the answer, and nothing was done.
+    Memory,
+}
+
+/// What a read comes to.
+#[derive(Clone, Copy, Debug, PartialEq, Eq, Drop)]
+pub enum PooledRead {
+    /// It is answered beside the queue: its place, and the reply there.
+    Read(Seen),
+    /// It is answered as an entry of the queue: its ticket, and the reply.
+    Queued(Answer),
+    /// No cell of the caller is idle: the note names another caller that needs entries in them. The client keeps its caller.
+    Full(FullNote),
+    /// There is no further ticket. The client keeps its caller.
+    Worn,
+    /// The caller's step limit was reached: the ticket of its linked entry that no call has answered. The client keeps it, and makes no further call.
+    Stopped { linked: Option<u64> },
+    /// There is no memory for the answer, and nothing was done.
+    Memory,
+}

@@ -1,0 +1,62 @@
+//! An update of a client.
+
+ghost use Rattle.std.specs.Prelude.{◌≡◌, ◌≤◌, true};
+ghost use Rattle.client_pool.specs.Clients.{IsClientOf, Updates};
+ghost use Rattle.client_pool.specs.Lending.{IsOut, IsPool, Serves, is_live};
+
+use crate::call::Answered;
+use crate::client::Client;
+use crate::lend::{Served, begin, settle};
+use crate::pool::{Pool, Pooled};
+use cx_base::Object;
+use cx_service::Caller;
+use seat_pool::Lent;
+use std::sync::Wait;
+
+/// Enters an operation into the queue by a caller that is out.
+fn enter<O: Object, R: Wait>(
+    rt: &R,
+    pool: &Pool<O>,
+    lent: &mut Lent,
+    caller: Caller,
+    floor: u64,
+    op: &[u64; 144],
+) -> Served
+    requires pool { IsPool O.only_reads pool.now }
+    requires out { IsOut pool.now.service pool.now.line.table.shared.table_id lent.old caller × (floor ≤ caller.known.local.front) }
+    ensures { Serves pool.now.service pool.now.line.table.shared.table_id op.now floor lent.old lent.new result }
+{
+    let updated = pool.service.update(rt, caller, op);
+    settle(rt, pool, lent, floor, op, updated)
+}
+
+impl<O: Object> Pool<O> {
+    /// Enters an operation into the queue for a client, by a caller that has seen all that the client was answered before. It waits for a caller, and
+    /// for those who link and publish. `Full`, `Worn` and `Stopped` come only where the service answered the caller so in this call: the client keeps
+    /// it, and its answers and its floor are as before. `Memory` is want of room for the answer, and leaves all as it was.
+    pub fn update<R: Wait>(&self, rt: &R, client: &mut Client, op: &[u64; 144]) -> Pooled
+        requires pool { IsPool O.only_reads self.now }
+        requires client { IsClientOf self.now.service self.now.line.table.shared.table_id client.old × (is_live client.old.lent.kept ≡ true) }
+        ensures { Updates self.now.service self.now.line.table.shared.table_id op.now client.old client.new result }
+    {
+        if client.answers.reserve(1).is_err() {
+            return Pooled::Memory;
+        }
+        let floor = client.floor;
+        match begin(rt, self, &mut client.lent, floor) {
+            Ok(caller) => match enter(rt, self, &mut client.lent, caller, floor, op) {
+                Served::Done(caller, answer) => {
+                    client
+                        .answers
+                        .push_reserved(Answered::Updated { caller, answer });
+                    client.floor = answer.ticket + 1;
+                    Pooled::Done(answer)
+                }
+                Served::Full(note) => Pooled::Full(note),
+                Served::Worn => Pooled::Worn,
+                Served::Halted(linked) => Pooled::Stopped { linked },
+            },
+            Err(linked) => Pooled::Stopped { linked },
+        }
+    }
+}
