@@ -1,0 +1,65 @@
+#!/usr/bin/env python3
+"""Builds a static library over the libraries that stand built in this checkout: python3 tools/build_library.py githoppu_c
+
+`rt ci` proves a static library and leaves none, and `rt lib` after it would prove all that stands below once more. So this calls the compiler,
+`rattle build`, which proves the crate itself and loads what `rt ci` proved below it. Where a library below is not built it says so and ends
+with 2: then `rt lib` in the crate's folder is the way.
+"""
+import argparse
+import os
+import shutil
+import subprocess
+import sys
+from pathlib import Path
+
+ROOT = Path(__file__).resolve().parent.parent
+
+
+def lines_of(text):
+    """What stands in crates.txt: of each crate what its line names."""
+    named = {}
+    for line in text.splitlines():
+        name, colon, rest = line.partition("#")[0].partition(":")
+        if colon:
+            named[name.split()[0]] = rest.split()
+    return named
+
+
+def below(named, crate):
+    """The crates of the repository that a crate stands on, lowest first."""
+    found = []
+    for name in named[crate]:
+        if name in named:
+            found += [it for it in [*below(named, name), name] if it not in found]
+    return found
+
+
+def words_of(named, crate, kit):
+    """The compiler's words for a static library."""
+    rlib = {name: ROOT / "crates" / name / "out" / "rlib" for name in below(named, crate)}
+    words = ["--crate-name", crate, "src/lib.rt"]
+    for name in ["std", *named[crate]]:
+        words += ["--extern", f"{name}={rlib.get(name, kit / 'rlibs')}/{name}.rlib"]
+    for folder in [kit / "rlibs", *rlib.values()]:
+        words += ["-L", f"dependency={folder}"]
+    words += ["--antt-project", f"{kit}/rattle/logic/antt-project.json", "--logic-built", f"{kit}/logic_built"]
+    words += ["--links", f"{crate}=", "--crate-type", "staticlib", "--toolchain", f"{kit}/toolchain", "--backend", "llvm"]
+    return words, [name for name, folder in rlib.items() if not (folder / f"{name}.rlib").is_dir()]
+
+
+def build(crate):
+    named = lines_of((ROOT / "crates.txt").read_text(encoding="utf-8"))
+    kit = Path(os.path.realpath(shutil.which("rt"))).parent.parent
+    words, lacking = words_of(named, crate, kit)
+    if lacking:
+        print(f"not built: {' '.join(lacking)}", file=sys.stderr)
+        return 2
+    folder = ROOT / "crates" / crate
+    (folder / "out").mkdir(exist_ok=True)
+    return subprocess.run([kit / "bin" / "rattle", "build", *words, "-o", f"out/lib{crate}.a"], cwd=folder, stdout=sys.stderr).returncode
+
+
+if __name__ == "__main__":
+    parser = argparse.ArgumentParser(description=__doc__, formatter_class=argparse.RawDescriptionHelpFormatter)
+    parser.add_argument("crate")
+    sys.exit(build(parser.parse_args().crate))
