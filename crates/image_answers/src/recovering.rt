@@ -21,8 +21,8 @@ use recovery::{ImageFault, recover};
 use std::alloc::{AllocError, Global};
 
 /// What is recovered of documents from an image: the place of the root, the last command of each client with a number, and the
-/// pairs of the store, each with its revision. An image of version 1 is upgraded. A refusal names the first check that the image does not pass, in the order of `ImageFault`, and `Body` also where a slot with
-/// a number holds no reply of documents.
+/// pairs of the store, each with its revision. An image of version 1 is upgraded. A refusal names the first check that the image does not
+/// pass, in the order of `ImageFault`, and `Body` also where a slot with a number holds no reply of documents.
 pub fn recovered(alloc: Global, image: &Image) -> Result<Recovered, ImageFault>
     requires { IsReadable image.now.lines image.now }
     ensures { IsAnswerTo image.now result }
