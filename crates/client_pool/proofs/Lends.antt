@@ -171,10 +171,10 @@ module _ {O : Type 0} (r : Running O) where
       }
 
       pub full_kept : (x y : Seated) (note : FullNote) → IsOut r table before x → UpdateFull r x y note → after.kept ≡ Some (Idle y) → KeepsFull r table before after note
-      full_kept x y note out full keeps = record { lent = idle_again x y out (asked x y full.caller full.keeps) keeps; tells = tells_kept; asked = x; now = y; keeps = keeps; full = full }
+      full_kept x y note out full keeps = record { lent = idle_again x y out (asked x y full.caller full.keeps) keeps; tells = tells_kept; asked = x; held = subst (λ (u : Hand). HoldsIdle r u x) (sym w) out.holds; now = y; keeps = keeps; full = full }
 
       pub worn_kept : (x y : Seated) → IsOut r table before x → UpdateWorn r x y → after.kept ≡ Some (Idle y) → KeepsWorn r table before after
-      worn_kept x y out worn keeps = record { lent = idle_again x y out (asked x y worn.caller worn.keeps) keeps; tells = tells_kept; asked = x; now = y; keeps = keeps; worn = worn }
+      worn_kept x y out worn keeps = record { lent = idle_again x y out (asked x y worn.caller worn.keeps) keeps; tells = tells_kept; asked = x; held = subst (λ (u : Hand). HoldsIdle r u x) (sym w) out.holds; now = y; keeps = keeps; worn = worn }
 
       pub stopped_kept : (s : StoppedSeat) (x : Seated) (out : IsOut r table before x) → Gathers r (out.holds.taken ∷ []) (Stopped s ∷ []) → after.kept ≡ Some (Stopped s) → KeepsStopped r table before after s.linked
       stopped_kept s x out g keeps = record {
@@ -279,10 +279,10 @@ module _ {O : Type 0} (r : Running O) where
       }
 
       pub full_since : (note : FullNote) → KeepsFull r table mid after note → KeepsFull r table before after note
-      full_since note k = record { lent = k.lent; tells = tells_on before mid after same k.tells; asked = k.asked; now = k.now; keeps = k.keeps; full = k.full }
+      full_since note k = record { lent = k.lent; tells = tells_on before mid after same k.tells; asked = k.asked; held = k.held; now = k.now; keeps = k.keeps; full = k.full }
 
       pub worn_since : KeepsWorn r table mid after → KeepsWorn r table before after
-      worn_since k = record { lent = k.lent; tells = tells_on before mid after same k.tells; asked = k.asked; now = k.now; keeps = k.keeps; worn = k.worn }
+      worn_since k = record { lent = k.lent; tells = tells_on before mid after same k.tells; asked = k.asked; held = k.held; now = k.now; keeps = k.keeps; worn = k.worn }
 
       pub stopped_since : (linked : Option ℕ) → KeepsStopped r table mid after linked → KeepsStopped r table before after linked
       stopped_since linked k = record { lent = k.lent; tells = tells_on before mid after same k.tells; stopped = k.stopped; keeps = k.keeps; is = k.is }

@@ -1,5 +1,5 @@
 -- What a client of a pool is, and what a call of its comes to.
-use Rattle.std.specs.Prelude.{◌≡◌, ◌+◌, ◌≤◌, ℕ, List, [], ◌∷◌, ◌++◌, map}
+use Rattle.std.specs.Prelude.{◌≡◌, ◌+◌, ◌<◌, ◌≤◌, ℕ, List, [], ◌∷◌, ◌++◌, map, vec_capacity, vec_len}
 use Rattle.atomic_table.specs.Seated.{TableId}
 use Rattle.crossbeam_queue.specs.Passes.{view}
 use Rattle.cx_core.specs.declared.local.Answer.{Answer}
@@ -98,13 +98,18 @@ pub record HasNoMore {O : Type 0} (r : Running O) (table : TableId) (before afte
   pub floor : after.floor ≡ before.floor
   pub calls : (calls : List Call) → HasCalls r before calls → HasCalls r after calls
 
+-- there was no room for a further answer, and nothing was done
+pub record WantsRoom (before after : Client) : Type 0 where
+  pub full : vec_capacity before.answers < vec_len before.answers + 1
+  pub lent : after.lent ≡ before.lent
+
 -- what an update of this operation comes to
 abbrev pub Updates : {O : Type 0} → Running O → TableId → List ℕ → Client → Client → Pooled → Type 0
 Updates r table op before after (Done answer) = HasUpdated r table op before after answer
 Updates r table op before after (Full note) = HasNoMore r table before after × KeepsFull r table before.lent after.lent note
 Updates r table op before after Worn = HasNoMore r table before after × KeepsWorn r table before.lent after.lent
 Updates r table op before after (Stopped linked) = HasNoMore r table before after × KeepsStopped r table before.lent after.lent linked
-Updates r table op before after Memory = HasNoMore r table before after × (after.lent ≡ before.lent)
+Updates r table op before after Memory = HasNoMore r table before after × WantsRoom before after
 
 -- what a read of this operation comes to
 abbrev pub ReadsInAll : {O : Type 0} → Running O → TableId → List ℕ → Client → Client → PooledRead → Type 0
@@ -113,4 +118,4 @@ ReadsInAll r table op before after (Queued answer) = HasUpdated r table op befor
 ReadsInAll r table op before after (FullRead note) = HasNoMore r table before after × KeepsFull r table before.lent after.lent note
 ReadsInAll r table op before after WornRead = HasNoMore r table before after × KeepsWorn r table before.lent after.lent
 ReadsInAll r table op before after (StoppedRead linked) = HasNoMore r table before after × KeepsStopped r table before.lent after.lent linked
-ReadsInAll r table op before after MemoryRead = HasNoMore r table before after × (after.lent ≡ before.lent)
+ReadsInAll r table op before after MemoryRead = HasNoMore r table before after × WantsRoom before after

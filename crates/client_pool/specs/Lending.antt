@@ -104,20 +104,22 @@ pub record ShowsRead {O : Type 0} (r : Running O) (table : TableId) (op : List �
   pub tells : (view after.pass).told ≡ (view before.pass).told
   pub shows : (h : SeenRead → ℕ) → total h (view before.pass).shown + h read ≤ total h (view after.pass).shown
 
--- no cell of the caller is idle, and the client keeps it
+-- no cell of the caller that was asked is idle, and the client keeps it
 pub record KeepsFull {O : Type 0} (r : Running O) (table : TableId) (before after : Lent) (note : FullNote) : Type 0 where
   pub lent : IsLentTo r table after
   pub tells : TellsSame before after
   pub asked : Seated
+  pub held : HoldsIdle r (view after.pass) asked
   pub now : Seated
   pub keeps : after.kept ≡ Some (Idle now)
   pub full : UpdateFull r asked now note
 
--- there is no further ticket for the caller, and the client keeps it
+-- there is no further ticket for the caller that was asked, and the client keeps it
 pub record KeepsWorn {O : Type 0} (r : Running O) (table : TableId) (before after : Lent) : Type 0 where
   pub lent : IsLentTo r table after
   pub tells : TellsSame before after
   pub asked : Seated
+  pub held : HoldsIdle r (view after.pass) asked
   pub now : Seated
   pub keeps : after.kept ≡ Some (Idle now)
   pub worn : UpdateWorn r asked now
