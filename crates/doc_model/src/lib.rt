@@ -1,5 +1,5 @@
 //! The operations of the document store, their replies, and what each operation means: the reply and the next
-//! store, as a table over a list of pairs.
+//! store, as a table over a list of pairs, each with the revision that its last write gave it.
 //!
 //! - The plain program gives the reply and the next store of the table of meanings for every operation, and an `Err` leaves the store as it
 //!   was: `Pairs::step` (`reply`, `next`, `err`).

@@ -220,11 +220,12 @@ const DOCUMENT: [(u64, u64); 14] = [
     (2873, 49),
 ];
 
-// Images of a document store.
-const STORES: [(Written, Wanted); 8] = [
+// Images of a document store, of version 1 and of version 2.
+const STORES: [(Written, Wanted); 11] = [
     // no document, one, and none at the last place
     ((1, 3360, 0, &[(1168, 1), (1171, 1)]), Ok((0, 0, 0))),
     ((1, 3360, 3, &DOCUMENT), Ok((1, 1, 1))),
+    ((1, 3360, 0, &[(1168, 2), (1171, 1)]), Ok((0, 0, 0))),
     (
         (1, 3360, LAST, &[(0, 1 << 40), (1168, 1), (1171, 1)]),
         Ok((1 << 40, 0, 0)),
@@ -239,8 +240,13 @@ const STORES: [(Written, Wanted); 8] = [
         (2, 6720, 31, &[(5040, 6), (6208, 1)]),
         Err(ImageFault::Place { root: 7, region: 6 }),
     ),
+    (
+        (1, 3360, 0, &[(1168, 3)]),
+        Err(ImageFault::Version { found: 3 }),
+    ),
     // the first line never given is 0
     ((1, 3360, 0, &[(1168, 1)]), Err(ImageFault::Body)),
+    ((1, 3360, 0, &[(1168, 2)]), Err(ImageFault::Body)),
 ];
 
 #[test]

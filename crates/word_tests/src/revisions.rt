@@ -28,7 +28,11 @@ const SECOND_VERSION: [u64; 32] = [
 ];
 
 /// An image of version 1 upgraded, where it is lawful.
-fn upgraded(alloc: Global, store: &DocStore, image: &[u64]) -> Result<Option<Vec<u64>>, AllocError> {
+fn upgraded(
+    alloc: Global,
+    store: &DocStore,
+    image: &[u64],
+) -> Result<Option<Vec<u64>>, AllocError> {
     if !store.check_old(alloc, image)? {
         return Ok(None);
     }
@@ -38,13 +42,20 @@ fn upgraded(alloc: Global, store: &DocStore, image: &[u64]) -> Result<Option<Vec
 }
 
 /// Whether a lawful image has one document, with this revision.
-fn has_one(alloc: Global, store: &DocStore, image: &[u64], revision: u64) -> Result<bool, AllocError> {
+fn has_one(
+    alloc: Global,
+    store: &DocStore,
+    image: &[u64],
+    revision: u64,
+) -> Result<bool, AllocError> {
     if !store.check(alloc, image)? {
         return Ok(false);
     }
     let pairs = documents(alloc, image)?;
     Ok(match pairs.as_slice() {
-        [pair] => pair.key.as_slice() == b"a".as_slice() && pair.doc.as_slice() == b"1".as_slice() && pair.revision == revision,
+        [pair] => pair.key.as_slice() == b"a".as_slice()
+            && pair.doc.as_slice() == b"1".as_slice()
+            && pair.revision == revision,
         _ => false,
     })
 }
@@ -54,9 +65,15 @@ fn an_image_of_version_1_is_upgraded(rt: HostRuntime) -> Result<(), Fail> {
     let alloc = rt.alloc();
     let store = DocStore::of(4);
     holds(&rt, store.old_version() == Some(1));
-    holds(&rt, !store.check(alloc, &FIRST_VERSION)? && !store.check_old(alloc, &SECOND_VERSION)?);
+    holds(
+        &rt,
+        !store.check(alloc, &FIRST_VERSION)? && !store.check_old(alloc, &SECOND_VERSION)?,
+    );
     let words = upgraded(alloc, &store, &FIRST_VERSION)?;
-    holds(&rt, matches!(&words, Some(words) if words.as_slice() == SECOND_VERSION.as_slice()));
+    holds(
+        &rt,
+        matches!(&words, Some(words) if words.as_slice() == SECOND_VERSION.as_slice()),
+    );
     holds(&rt, has_one(alloc, &store, &SECOND_VERSION, 1)?);
     Ok(())
 }
@@ -82,7 +99,10 @@ const GREATEST: [(Row, Row); 7] = [
     ((7, "a", "2", 1), (12, "", "", 18446744073709551615)),
     ((8, "a", "", 0), (14, "", "", 18446744073709551615)),
     ((7, "a", "3", 1), (13, "", "", 18446744073709551615)),
-    ((7, "a", "3", 18446744073709551615), (12, "", "", 18446744073709551615)),
+    (
+        (7, "a", "3", 18446744073709551615),
+        (12, "", "", 18446744073709551615),
+    ),
     ((2, "a", "", 0), (3, "", "", 0)),
     ((7, "a", "4", 0), (12, "", "", 18446744073709551615)),
 ];
