@@ -372,7 +372,10 @@ fn is_same(one: &Reply, other: &Reply) -> bool {
         (Reply::Doc(a), Reply::Doc(b)) | (Reply::Key(a), Reply::Key(b)) => a.as_slice()
             == b.as_slice(),
         (Reply::Sum(a), Reply::Sum(b)) => a == b,
-        (Reply::Number(a), Reply::Number(b)) => a == b,
+        (Reply::Number(a), Reply::Number(b))
+        | (Reply::Set(a), Reply::Set(b))
+        | (Reply::Stale(a), Reply::Stale(b))
+        | (Reply::Revision(a), Reply::Revision(b)) => a == b,
         _ => false,
     }
 }

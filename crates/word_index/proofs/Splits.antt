@@ -1,5 +1,5 @@
 -- Pairs of a store below and above a key.
-use Rattle.std.proofs.Common.{◌≡◌, ℕ, Bool, true, false, cond, List, [], ◌∷◌, ◌++◌, Some, None, refl, sym, ap, ◌∙◌}
+use Rattle.std.proofs.Common.{◌≡◌, ℕ, true, false, cond, List, [], ◌∷◌, ◌++◌, Some, None, refl, sym, ap, ◌∙◌}
 use Rattle.std.specs.Option.{option_map}
 use Rattle.std.specs.List.{All, find, filter}
 use Rattle.std.specs.Ordering.{is_lt, is_eq}
@@ -8,18 +8,7 @@ use Rattle.std.proofs.lemmas.List.{append-nil}
 use Rattle.std.proofs.lemmas.List.Elements.{All-head, All-tail, All-weaker, filter-append}
 use Rattle.cx_base.specs.Store.{Store, key_cmp}
 use Rattle.doc_model.specs.Meaning.{document_at, pairs_below, pairs_above, without_key}
-use Rattle.doc_model.proofs.Order.{ties_itself, greater_from_above}
-
--- a test that all of a list pass, or none
-filter_all : {X : Type 0} (test : X → Bool) (xs : List X) → All (λ x. test x ≡ true) xs → filter test xs ≡ xs
-filter_all test [] all = refl
-filter_all test (x ∷ xs) all =
-    ap (λ b. cond b (x ∷ filter test xs) (filter test xs)) (All-head (λ x. test x ≡ true) x xs all) ∙ ap (λ s. x ∷ s) (filter_all test xs (All-tail (λ x. test x ≡ true) x xs all))
-
-filter_none : {X : Type 0} (test : X → Bool) (xs : List X) → All (λ x. test x ≡ false) xs → filter test xs ≡ []
-filter_none test [] all = refl
-filter_none test (x ∷ xs) all =
-    ap (λ b. cond b (x ∷ filter test xs) (filter test xs)) (All-head (λ x. test x ≡ false) x xs all) ∙ filter_none test xs (All-tail (λ x. test x ≡ false) x xs all)
+use Rattle.doc_model.proofs.Order.{filter_all, filter_none, ties_itself, greater_from_above}
 
 -- A list of what has keys, such as pairs, that is split at a key.
 module _ {X : Type 0} (key_of : X → List ℕ) (key : List ℕ) where

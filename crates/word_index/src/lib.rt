@@ -17,7 +17,8 @@
 //!   comparison of a key is a visit that is counted: `order_at` (`counted`).
 //! - Each call halts only where no access is left, and a memory without a limit has none afterwards: `halts`, `limited`.
 //!
-//! Tested (`word_tests`): keys put in, replaced by shorter and longer documents and taken out over a vector, to the last line.
+//! Tested (`word_tests`): keys put in, replaced by shorter and longer documents and taken out over a vector, to the last line, and their
+//! revisions, to the greatest; images of version 1 that are upgraded.
 #![tactic(auto)]
 
 mod answers;

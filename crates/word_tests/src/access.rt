@@ -182,7 +182,7 @@ static GROWING: [Limited; 20] = [
     (5000, DEL, 5000, b"", [NO_LIMIT, 0, NO_LIMIT, 264]),
 ];
 
-// 13 words hold 100 letters. The last of them gets four letters more, and the length changes.
+// Each put stores its revision in two words. 13 words hold 100 letters. The last of them gets four letters more, and the length changes.
 static OVER: [Limited; 4] = [
     (
         5,
@@ -196,21 +196,21 @@ static OVER: [Limited; 4] = [
         PUT,
         3,
         b"xxxxxxxxxxxxxxxxxxxxxxxxxxxxxxxxxxxxxxxxxxxxxxxxxxxxxxxxxxxxxxxxxxxxxxxxxxxxxxxxxxxxxxxxxxxxxxxxxxxx",
-        [NO_LIMIT, 0, 0, NO_LIMIT],
+        [NO_LIMIT, 2, 2, NO_LIMIT],
     ),
     (
         5,
         PUT,
         3,
         b"yyyyyyyyyyyyyyyyyyyyyyyyyyyyyyyyyyyyyyyyyyyyyyyyyyyyyyyyyyyyyyyyyyyyyyyyyyyyyyyyyyyyyyyyyyyyyyyyyyyy",
-        [NO_LIMIT, 13, 13, NO_LIMIT],
+        [NO_LIMIT, 15, 15, NO_LIMIT],
     ),
     (
         5,
         PUT,
         3,
         b"yyyyyyyyyyyyyyyyyyyyyyyyyyyyyyyyyyyyyyyyyyyyyyyyyyyyyyyyyyyyyyyyyyyyyyyyyyyyyyyyyyyyyyyyyyyyyyyyyyyyyyyy",
-        [NO_LIMIT, 2, 2, NO_LIMIT],
+        [NO_LIMIT, 4, 4, NO_LIMIT],
     ),
 ];
 

@@ -36,6 +36,8 @@ mod order;
 #[cfg(test)]
 mod plain;
 #[cfg(test)]
+mod revisions;
+#[cfg(test)]
 mod rows;
 #[cfg(test)]
 mod shapes;

@@ -14,7 +14,7 @@ use std::test::Fail;
 
 const DIGITS: [u8; 10] = *b"0123456789";
 
-const KINDS: [u64; 10] = [1, 1, 1, 1, 2, 3, 3, 4, 5, 6];
+const KINDS: [u64; 14] = [1, 1, 1, 1, 2, 3, 3, 4, 5, 6, 7, 7, 7, 8];
 
 /// Numbers that look thrown.
 #[derive(Drop)]
@@ -43,9 +43,10 @@ pub(crate) fn digit(n: u64) -> u8 {
     DIGITS[(n % 10) as usize]
 }
 
-/// The words of a command on one of 500 keys: a number, or up to 150 letters, is what is put.
+/// The words of a command on one of 500 keys: a number, or up to 150 letters, is what is put. Half of what is put on condition of a
+/// revision is put on condition that the key is missing.
 pub(crate) fn command(numbers: &mut Numbers) -> [u64; 144] {
-    let kind = KINDS[numbers.next(10) as usize];
+    let kind = KINDS[numbers.next(14) as usize];
     let n = numbers.next(500);
     let key = [b'k', digit(n / 100), digit(n / 10), digit(n)];
     let number = [digit(numbers.next(9) + 1), digit(numbers.next(10))];
@@ -54,13 +55,17 @@ pub(crate) fn command(numbers: &mut Numbers) -> [u64; 144] {
         1 if long < 30 => laid_out(1, &key, &number, 0),
         1 => laid_out(1, &key, &LETTERS[..long], 0),
         3 => laid_out(3, &key, &[], numbers.next(1000)),
+        7 if long < 75 => laid_out(7, &key, &number, 0),
+        7 => laid_out(7, &key, &number, numbers.next(10_000)),
         6 => laid_out(6, &[], &[], 0),
         _ => laid_out(kind, &key, &[], 0),
     }
 }
 
 fn same_pair(one: &Pair, other: &Pair) -> bool {
-    one.key.as_slice() == other.key.as_slice() && one.doc.as_slice() == other.doc.as_slice()
+    one.key.as_slice() == other.key.as_slice()
+        && one.doc.as_slice() == other.doc.as_slice()
+        && one.revision == other.revision
 }
 
 fn same_pairs(ones: &[Pair], others: &[Pair]) -> bool {

@@ -25,6 +25,8 @@ fn kind_of(op: &Op) -> u64 {
         Op::Get { .. } => 4,
         Op::Next { .. } => 5,
         Op::Count => 6,
+        Op::PutIf { .. } => 7,
+        Op::Rev { .. } => 8,
     }
 }
 
@@ -37,6 +39,8 @@ fn key_of(op: &Op) -> &[u8] {
         Op::Get { key } => key.as_slice(),
         Op::Next { above } => above.as_slice(),
         Op::Count => &[],
+        Op::PutIf { key, .. } => key.as_slice(),
+        Op::Rev { key } => key.as_slice(),
     }
 }
 
@@ -44,14 +48,16 @@ fn key_of(op: &Op) -> &[u8] {
 fn document_of(op: &Op) -> &[u8] {
     match op {
         Op::Put { doc, .. } => doc.as_slice(),
+        Op::PutIf { doc, .. } => doc.as_slice(),
         _ => &[],
     }
 }
 
-/// The amount that an operation has, or 0.
+/// The amount that an operation has, or the revision as one, or 0.
 fn amount_of(op: &Op) -> i64 {
     match op {
         Op::Add { amount, .. } => *amount,
+        Op::PutIf { revision, .. } => revision.cast_signed(),
         _ => 0,
     }
 }
@@ -73,7 +79,7 @@ fn is_read(alloc: Global, words: &[u64; 144], want: &Parts<'_>) -> Result<bool, 
     }
 }
 
-static OPERATIONS: [Changed; 44] = [
+static OPERATIONS: [Changed; 52] = [
     ((1, "a", " ", 0), &[], (1, b"a", b" ", 0)),
     ((1, "!~", "\u{FF}", 0), &[], (1, b"!~", b"\xC3\xBF", 0)),
     ((2, "a", "", 0), &[], (2, b"a", b"", 0)),
@@ -93,7 +99,19 @@ static OPERATIONS: [Changed; 44] = [
     ((5, "", "", 0), &[], (5, b"", b"", 0)),
     ((5, "a", "", 0), &[], (5, b"a", b"", 0)),
     ((6, "", "", 0), &[], (6, b"", b"", 0)),
+    ((7, "a", "1", 0), &[], (7, b"a", b"1", 0)),
+    (
+        (7, "a", "1", 18446744073709551615),
+        &[],
+        (7, b"a", b"1", -1),
+    ),
+    ((8, "a", "", 0), &[], (8, b"a", b"", 0)),
     // other kinds than a put have no more than they use
+    ((7, "a", "", 1), &[], (0, b"", b"", 0)),
+    ((7, "", "1", 1), &[], (0, b"", b"", 0)),
+    ((8, "", "", 0), &[], (0, b"", b"", 0)),
+    ((8, "a", "1", 0), &[], (0, b"", b"", 0)),
+    ((8, "a", "", 1), &[], (0, b"", b"", 0)),
     ((2, "a", "1", 0), &[], (0, b"", b"", 0)),
     ((2, "a", "", 1), &[], (0, b"", b"", 0)),
     ((3, "a", "1", 5), &[], (0, b"", b"", 0)),
@@ -116,7 +134,7 @@ static OPERATIONS: [Changed; 44] = [
     ((0, "", "", 0), &[], (0, b"", b"", 0)),
     // words of a put, some of them changed
     ((1, "a", "1", 0), &[(0, 0)], (0, b"", b"", 0)),
-    ((1, "a", "1", 0), &[(0, 7)], (0, b"", b"", 0)),
+    ((1, "a", "1", 0), &[(0, 9)], (0, b"", b"", 0)),
     ((1, "a", "1", 0), &[(0, 2)], (0, b"", b"", 0)),
     ((1, "a", "1", 0), &[(1, 0)], (0, b"", b"", 0)),
     ((1, "a", "1", 0), &[(1, 0), (8, 0)], (0, b"", b"", 0)),
@@ -202,7 +220,7 @@ fn words_are_read_as_operations(rt: HostRuntime) -> Result<(), Fail> {
 }
 
 // words, whether a reply has them, and its sum if it is one
-static REPLIES: [(Row, bool, i64); 23] = [
+static REPLIES: [(Row, bool, i64); 29] = [
     ((1, "", "", 0), true, 0),
     ((2, "", "", 0), true, 0),
     ((3, "", "", 0), true, 0),
@@ -217,7 +235,13 @@ static REPLIES: [(Row, bool, i64); 23] = [
     ((11, "", "", 0), true, 0),
     ((11, "", "", 18446744073709551615), true, 0),
     ((0, "", "", 0), false, 0),
-    ((12, "", "", 0), false, 0),
+    ((12, "", "", 7), true, 0),
+    ((13, "", "", 0), true, 0),
+    ((14, "", "", 18446744073709551615), true, 0),
+    ((15, "", "", 0), false, 0),
+    ((12, "a", "", 7), false, 0),
+    ((13, "", "1", 7), false, 0),
+    ((14, "a", "", 7), false, 0),
     ((1, "", "", 1), false, 0),
     ((4, "a", "", 0), false, 0),
     ((5, "", "", 0), false, 0),

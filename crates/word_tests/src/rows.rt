@@ -57,6 +57,9 @@ fn kind_of(reply: &Reply) -> u64 {
         Reply::NoRoom => 9,
         Reply::Key(_) => 10,
         Reply::Number(_) => 11,
+        Reply::Set(_) => 12,
+        Reply::Stale(_) => 13,
+        Reply::Revision(_) => 14,
     }
 }
 
@@ -80,7 +83,10 @@ fn document_of(reply: &Reply) -> &[u8] {
 fn number_of(reply: &Reply) -> u64 {
     match reply {
         Reply::Sum(sum) => sum.cast_unsigned(),
-        Reply::Number(number) => *number,
+        Reply::Number(number)
+        | Reply::Set(number)
+        | Reply::Stale(number)
+        | Reply::Revision(number) => *number,
         _ => 0,
     }
 }
@@ -307,7 +313,7 @@ static NO_NUMBERS: [(Row, Row); 6] = [
 ];
 
 // keys at the limit, and words that are no operation's
-static AT_THE_LIMITS: [(Row, Row); 10] = [
+static AT_THE_LIMITS: [(Row, Row); 12] = [
     (
         (
             1,
@@ -347,6 +353,8 @@ static AT_THE_LIMITS: [(Row, Row); 10] = [
     ((1, "a b", "1", 0), (0, "", "", 0)),
     ((1, "a", "", 0), (0, "", "", 0)),
     ((7, "", "", 0), (0, "", "", 0)),
+    ((8, "", "", 0), (0, "", "", 0)),
+    ((9, "", "", 0), (0, "", "", 0)),
     ((0, "", "", 0), (0, "", "", 0)),
     ((6, "", "", 1), (0, "", "", 0)),
     ((6, "", "", 0), (11, "", "", 1)),
@@ -391,7 +399,54 @@ static LEAST_KEYS: [(Row, Row); 7] = [
     ((6, "", "", 0), (11, "", "", 2)),
 ];
 
-static READINGS: [(Row, bool); 8] = [
+// each write of a key has the next revision, and a put on condition of another revision is stale
+static REVISIONS: [(Row, Row); 12] = [
+    ((7, "a", "1", 0), (12, "", "", 1)),
+    ((7, "a", "2", 0), (13, "", "", 1)),
+    ((1, "a", "3", 0), (2, "", "", 0)),
+    ((8, "a", "", 0), (14, "", "", 2)),
+    ((7, "a", "4", 2), (12, "", "", 3)),
+    ((4, "a", "", 0), (5, "", "4", 0)),
+    ((2, "a", "", 0), (3, "", "", 0)),
+    ((8, "a", "", 0), (4, "", "", 0)),
+    ((7, "a", "5", 3), (13, "", "", 0)),
+    ((1, "a", "5", 0), (1, "", "", 0)),
+    ((8, "a", "", 0), (14, "", "", 4)),
+    ((6, "", "", 0), (11, "", "", 1)),
+];
+
+// what is stale and has no room is stale, and what has no room is given no revision
+static STALE_WITHOUT_ROOM: [(Row, Row); 11] = [
+    ((1, "a", "1", 0), (1, "", "", 0)),
+    ((1, "b", "1", 0), (1, "", "", 0)),
+    ((7, "c", "1", 1), (13, "", "", 0)),
+    ((7, "c", "1", 0), (9, "", "", 0)),
+    (
+        (
+            7,
+            "a",
+            "xxxxxxxxxxxxxxxxxxxxxxxxxxxxxxxxxxxxxxxxxxxxxxxxxxxxxxxxx",
+            2,
+        ),
+        (13, "", "", 1),
+    ),
+    (
+        (
+            7,
+            "a",
+            "xxxxxxxxxxxxxxxxxxxxxxxxxxxxxxxxxxxxxxxxxxxxxxxxxxxxxxxxx",
+            1,
+        ),
+        (9, "", "", 0),
+    ),
+    ((8, "a", "", 0), (14, "", "", 1)),
+    ((2, "b", "", 0), (3, "", "", 0)),
+    ((7, "c", "1", 0), (12, "", "", 3)),
+    ((3, "a", "", 1), (6, "", "", 2)),
+    ((8, "a", "", 0), (14, "", "", 4)),
+];
+
+static READINGS: [(Row, bool); 11] = [
     ((1, "a", "1", 0), false),
     ((2, "a", "", 0), false),
     ((3, "a", "", 1), false),
@@ -400,6 +455,9 @@ static READINGS: [(Row, bool); 8] = [
     ((6, "", "", 0), true),
     ((4, "", "", 0), false),
     ((7, "", "", 0), false),
+    ((7, "a", "1", 4), false),
+    ((8, "a", "", 0), true),
+    ((8, "", "", 0), false),
 ];
 
 #[test]
@@ -411,6 +469,8 @@ fn commands_have_their_replies(rt: HostRuntime) -> Result<(), Fail> {
     holds(&rt, are_answered(alloc, 64, &FULL)?);
     holds(&rt, are_answered(alloc, 7, &SEVEN_LINES)?);
     holds(&rt, are_answered(alloc, 64, &LEAST_KEYS)?);
+    holds(&rt, are_answered(alloc, 64, &REVISIONS)?);
+    holds(&rt, are_answered(alloc, 7, &STALE_WITHOUT_ROOM)?);
     Ok(())
 }
 
@@ -428,5 +488,5 @@ fn are_told(store: &DocStore, rows: &[(Row, bool)]) -> bool {
 fn readings_are_told(rt: HostRuntime) {
     let store = DocStore::of(64);
     holds(&rt, are_told(&store, &READINGS));
-    holds(&rt, store.lines() == 64 && store.version() == 1);
+    holds(&rt, store.lines() == 64 && store.version() == 2);
 }

@@ -85,8 +85,8 @@ fn store_once(alloc: Global, lines: u64, commands: u64, more_than: u64) -> Resul
 // 256 lines are soon full, and 512 are not yet.
 #[test]
 fn an_operation_stores_each_word_that_changes_once(rt: HostRuntime) -> Result<(), Fail> {
-    holds(&rt, store_once(rt.alloc(), 256, 1000, 2000)?);
-    holds(&rt, store_once(rt.alloc(), 512, 300, 3000)?);
+    holds(&rt, store_once(rt.alloc(), 256, 1000, 1500)?);
+    holds(&rt, store_once(rt.alloc(), 512, 300, 2500)?);
     Ok(())
 }
 

@@ -1,0 +1,127 @@
+//! Images whose words are laid out by hand: one of version 1, and one whose last revision is the greatest.
+
+ghost use Rattle.std.specs.Prelude.{◌≡◌, ◌*◌, IsTrue, IfOk};
+ghost use Rattle.cx_base.specs.Memory.{Always};
+ghost use Rattle.doc_store.specs.ExactStep.{IsImage};
+
+use crate::holds::holds;
+use crate::rows::{Row, asked, words_of};
+use cx_base::{Memory, Object, VecMemory};
+use doc_store::{DocStore, documents};
+use std::alloc::{AllocError, Global};
+use std::test::Fail;
+
+// Four lines: the header, the node of one pair, the key 'a' and the document '1'.
+const FIRST_VERSION: [u64; 32] = [
+    1, 1, 0, 4, 0, 1, 0, 0, //
+    0, 0, 1, 2, 1, 3, 1, 0, //
+    0, 97, 0, 0, 0, 0, 0, 0, //
+    0, 49, 0, 0, 0, 0, 0, 0, //
+];
+
+// The same in version 2, with the revision that the pair gets.
+const SECOND_VERSION: [u64; 32] = [
+    2, 1, 0, 4, 0, 1, 1, 0, //
+    0, 0, 1, 2, 1, 3, 1, 1, //
+    0, 97, 0, 0, 0, 0, 0, 0, //
+    0, 49, 0, 0, 0, 0, 0, 0, //
+];
+
+/// An image of version 1 upgraded, where it is lawful.
+fn upgraded(
+    alloc: Global,
+    store: &DocStore,
+    image: &[u64],
+) -> Result<Option<Vec<u64>>, AllocError> {
+    if !store.check_old(alloc, image)? {
+        return Ok(None);
+    }
+    let mut words = Vec::from_slice(alloc, image)?;
+    store.upgrade(&mut words);
+    Ok(Some(words))
+}
+
+/// Whether a lawful image has one document, with this revision.
+fn has_one(
+    alloc: Global,
+    store: &DocStore,
+    image: &[u64],
+    revision: u64,
+) -> Result<bool, AllocError> {
+    if !store.check(alloc, image)? {
+        return Ok(false);
+    }
+    let pairs = documents(alloc, image)?;
+    Ok(match pairs.as_slice() {
+        [pair] => pair.key.as_slice() == b"a".as_slice()
+            && pair.doc.as_slice() == b"1".as_slice()
+            && pair.revision == revision,
+        _ => false,
+    })
+}
+
+#[test]
+fn an_image_of_version_1_is_upgraded(rt: HostRuntime) -> Result<(), Fail> {
+    let alloc = rt.alloc();
+    let store = DocStore::of(4);
+    holds(&rt, store.old_version() == Some(1));
+    holds(
+        &rt,
+        !store.check(alloc, &FIRST_VERSION)? && !store.check_old(alloc, &SECOND_VERSION)?,
+    );
+    let words = upgraded(alloc, &store, &FIRST_VERSION)?;
+    holds(
+        &rt,
+        matches!(&words, Some(words) if words.as_slice() == SECOND_VERSION.as_slice()),
+    );
+    holds(&rt, has_one(alloc, &store, &SECOND_VERSION, 1)?);
+    Ok(())
+}
+
+/// Whether each row is answered as told.
+fn are_answered_in<M: Memory>(store: &DocStore, mem: &mut M, rows: &[(Row, Row)]) -> bool
+    requires size { M.size mem.old ≡ 8 * store.now.lines }
+    requires writable { IsTrue (M.writable mem.old) }
+    requires lawful { Always (M.stands mem.old) (IsImage store.now.lines) }
+{
+    for (ask, want) in rows {
+        match asked(store, mem, &words_of(*ask)) {
+            Ok(reply) if reply == words_of(*want) => {}
+            _ => return false,
+        }
+    }
+    true
+}
+
+// The greatest number of 64 bits is given again.
+const GREATEST: [(Row, Row); 7] = [
+    ((8, "a", "", 0), (14, "", "", 1)),
+    ((7, "a", "2", 1), (12, "", "", 18446744073709551615)),
+    ((8, "a", "", 0), (14, "", "", 18446744073709551615)),
+    ((7, "a", "3", 1), (13, "", "", 18446744073709551615)),
+    (
+        (7, "a", "3", 18446744073709551615),
+        (12, "", "", 18446744073709551615),
+    ),
+    ((2, "a", "", 0), (3, "", "", 0)),
+    ((7, "a", "4", 0), (12, "", "", 18446744073709551615)),
+];
+
+/// Whether each row is answered as told in an image whose last revision is this one.
+fn are_answered_after(alloc: Global, last: u64, rows: &[(Row, Row)]) -> Result<bool, AllocError> {
+    let store = DocStore::of(4);
+    let mut words = SECOND_VERSION;
+    words[6] = last;
+    if !store.check(alloc, &words)? {
+        return Ok(false);
+    }
+    let mut mem = VecMemory::of(Vec::from_slice(alloc, &words)?, None);
+    Ok(are_answered_in(&store, &mut mem, rows))
+}
+
+#[test]
+fn the_greatest_revision_is_given_again(rt: HostRuntime) -> Result<(), Fail> {
+    holds(&rt, are_answered_after(rt.alloc(), u64::MAX, &GREATEST)?);
+    holds(&rt, !are_answered_after(rt.alloc(), 0, &[])?);
+    Ok(())
+}
