@@ -187,8 +187,9 @@ fn put_at<M: Memory>(
 }
 
 /// Puts a document at a key, in words of so many lines. `NoRoom` comes exactly where the store would then need more
-/// than `lines - 1` lines. Any other answer gives the pair the next revision, which becomes the last one given. `Halt` comes only where no access is left; the words may then be anything. The bound on
-/// visits holds of the words before, and where the call halts of some words that may have been there.
+/// than `lines - 1` lines. Any other answer gives the pair the next revision, which becomes the last one given. `Halt`
+/// comes only where no access is left; the words may then be anything. The bound on visits holds of the words before,
+/// and where the call halts of some words that may have been there.
 pub fn insert<M: Memory, L: Ledger>(
     mem: &mut M,
     lines: u64,
