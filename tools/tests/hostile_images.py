@@ -153,7 +153,7 @@ def old_images():
 
 
 def changed_old_words():
-    """Each old image with each word of the region that the root names raised by 1 in turn, with a name."""
+    """Each old image with each word of the region that the root names raised by 1 in turn, with a name: 8,624 images."""
     for name, image in old_images():
         for at in range(image.start, image.start + image.region_words):
             yield f"{name} with word {at} raised", with_word(image, at, (image.words.get(at, 0) + 1) % 2**64)
@@ -453,7 +453,7 @@ def mixed(count=400):
 
 def every_image():
     """Each image with a name, its text, and what is owed: the whole table."""
-    yield from ((name, image_text(image), answer_to(image)) for name, image in [*changed_words(), *changed_old_words(), *mixed()])
+    yield from ((name, image_text(image), answer_to(image)) for name, image in [*changed_words(), *old_images(), *changed_old_words(), *mixed()])
     yield from ((name, data, answer_of(data)) for name, data, _ in [*trees(), *slots()])
     yield from ((repr(data[:60]), data, answer_of(data)) for data in TEXTS)
 

@@ -85,6 +85,18 @@ class ReadImages(unittest.TestCase):
             image = hostile_images.with_word(good_image(), words + word, value)
             self.assertEqual((7, f"image refused: {fault}\n".encode()), answer_to(image))
 
+    def test_old_images(self):
+        """Every document has revision 1, which is the last one given, and for the rest all stays."""
+        found = [(name, recovered(image)) for name, image in hostile_images.old_images()]
+        self.assertEqual([("no_document", 0, 0), ("one_document", 1, 1), ("sixty_documents", 60, 75)],
+                         [(name, len(old.documents), old.place) for name, old in found])
+        for name, old in found:
+            with self.subTest(name):
+                self.assertEqual([1] * (1 + len(old.documents)), [old.last, *(revision for _, _, revision in old.documents)])
+        ends = [answer_to(image)[0] for _, image in hostile_images.changed_old_words()]
+        self.assertEqual(8_624, len(ends))
+        self.assertGreater(min(ends.count(0), ends.count(7)), 3_000)
+
     def test_mixed_images_come_to_each_end(self):
         ends = [answer_to(image)[1].split(b" ")[2 if answer_to(image)[0] else 0].split(b"\n")[0] for _, image in hostile_images.mixed()]
         for end in (b"size", b"root", b"version", b"place", b"body", b"recovered"):
@@ -157,7 +169,7 @@ class ProgramOnImages(unittest.TestCase):
     def test_hostile_images(self):
         wrong, count = hostile_images.first_wrong(random_lives.PROGRAM, hostile_images.every_image())
         self.assertIsNone(wrong)
-        self.assertGreaterEqual(count, 10_780)
+        self.assertGreaterEqual(count, 19_438)
 
     def test_image_then_recover(self):
         """What a run leaves is read as what a dictionary keeps of its commands, where one client runs them, and recovered so."""

@@ -142,7 +142,8 @@ pub(crate) fn first_wrong<R: Threads + Wait + Sync + AllocGlobal>(
 fn is_recovered<R: Threads + Wait + Sync + AllocGlobal>(rt: &R) -> Result<bool, AllocError> {
     let (code, trails, image) = ran(rt, "image", SCRIPT.as_bytes())?;
     let (again, none, sink) = ran(rt, "recover", image.written())?;
-    let text = b"recovered place 2 documents 1\nclient 0 applied 2 = replaced\ndocument a rev 2 2\n";
+    let text =
+        b"recovered place 2 documents 1\nclient 0 applied 2 = replaced\ndocument a rev 2 2\n";
     Ok(code == 0 && trails == 1 && again == 0 && none == 0 && sink.written() == text.as_slice())
 }
 

@@ -15,8 +15,8 @@ documents-requires c =
 -- the triples read off the words
 have : (words : List ℕ) (triples : List ((List ℕ × List ℕ) × ℕ)) → StandsForRevised words (revised_in words) → triples ≡ (revised_in words).triples → HaveDocuments words triples
 have words triples stands is = (
-    (revised_in words).last,
-    subst (λ (ts : List ((List ℕ × List ℕ) × ℕ)). StandsForRevised words (record { last = (revised_in words).last; triples = ts })) (sym is) stands,
+  (revised_in words).last,
+  subst (λ (ts : List ((List ℕ × List ℕ) × ℕ)). StandsForRevised words (record { last = (revised_in words).last; triples = ts })) (sym is) stands,
 )
 
 pub returns : goal.returns
