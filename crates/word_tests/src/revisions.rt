@@ -78,16 +78,30 @@ fn an_image_of_version_1_is_upgraded(rt: HostRuntime) -> Result<(), Fail> {
     Ok(())
 }
 
+/// Whether a row is answered as told.
+fn is_answered<M: Memory>(store: &DocStore, mem: &mut M, row: &(Row, Row)) -> bool
+    requires size { M.size mem.old ≡ 8 * store.now.lines }
+    requires writable { IsTrue (M.writable mem.old) }
+    requires lawful { Always (M.stands mem.old) (IsImage store.now.lines) }
+    ensures size { M.size mem.new ≡ 8 * store.now.lines }
+    ensures writable { IsTrue (M.writable mem.new) }
+    ensures lawful { IsTrue result → Always (M.stands mem.new) (IsImage store.now.lines) }
+{
+    match asked(store, mem, &words_of(row.0)) {
+        Ok(reply) => reply == words_of(row.1),
+        Err(_) => false,
+    }
+}
+
 /// Whether each row is answered as told.
 fn are_answered_in<M: Memory>(store: &DocStore, mem: &mut M, rows: &[(Row, Row)]) -> bool
     requires size { M.size mem.old ≡ 8 * store.now.lines }
     requires writable { IsTrue (M.writable mem.old) }
     requires lawful { Always (M.stands mem.old) (IsImage store.now.lines) }
 {
-    for (ask, want) in rows {
-        match asked(store, mem, &words_of(*ask)) {
-            Ok(reply) if reply == words_of(*want) => {}
-            _ => return false,
+    for row in rows {
+        if !is_answered(store, mem, row) {
+            return false;
         }
     }
     true
