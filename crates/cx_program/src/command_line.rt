@@ -3,6 +3,7 @@
 ghost use Rattle.std.specs.Prelude.{◌≡◌, ◌↔◌, [], ◌∷◌, map, string_bytes, All, Any, IfOk, IsTrue, true, false};
 ghost use Rattle.clap.specs.Faults.{fault_of};
 ghost use Rattle.clap.specs.Kinds.{FailsBy};
+ghost use Rattle.clap.specs.Simple.{new_shape, with_subcommand};
 ghost use Rattle.clap.specs.Words.{app_of, rule_of};
 ghost use Rattle.clap.specs.declared.builder.command.Command.TheViews.{out-Command as fields_of};
 ghost use Rattle.cx_program.specs.CommandLine.{HasForm, IsJudged, begins_with_hyphen, load_app, number_rule, program};
@@ -120,26 +121,28 @@ fn load_command<'a>(alloc: Global) -> Result<Command<'a>, AllocError>
         .arg(number(alloc, "ops"))
 }
 
+// The command line with one command more, which is a word alone. So one value of the parser lives at a time.
+fn with_lone<'a>(alloc: Global, line: Command<'a>, name: &'a str) -> Result<Command<'a>, AllocError>
+    ensures { IfOk result (λ command. app_of command ≡ with_subcommand (app_of line.entry) (new_shape name.entry.now)) }
+{
+    let command = line.subcommand(Command::new(alloc, name))?;
+    Ok(command)
+}
+
 // Reads the words as those of a command.
 fn matches<'a>(alloc: Global, words: &'a [String]) -> Result<ArgMatches<'a>, Error>
     ensures { FailsBy (fault_of program (map string_bytes words.entry.now)) result }
 {
-    let run = Command::new(alloc, "run");
-    let image = Command::new(alloc, "image");
-    let recover = Command::new(alloc, "recover");
-    let fifo = Command::new(alloc, "fifo");
-    let trace = Command::new(alloc, "trace");
-    let load = load_command(alloc)?;
-    Command::new(alloc, "cx_tool")
+    let bare = Command::new(alloc, "cx_tool")
         .no_binary_name(true)
         .disable_help_flag(true)
         .disable_help_subcommand(true)
-        .subcommand_required(true)
-        .subcommand(run)?
-        .subcommand(image)?
-        .subcommand(recover)?
-        .subcommand(fifo)?
-        .subcommand(trace)?
-        .subcommand(load)?
-        .try_get_matches_from(words)
+        .subcommand_required(true);
+    let with_run = with_lone(alloc, bare, "run")?;
+    let with_image = with_lone(alloc, with_run, "image")?;
+    let with_recover = with_lone(alloc, with_image, "recover")?;
+    let with_fifo = with_lone(alloc, with_recover, "fifo")?;
+    let with_trace = with_lone(alloc, with_fifo, "trace")?;
+    let load = load_command(alloc)?;
+    with_trace.subcommand(load)?.try_get_matches_from(words)
 }
