@@ -180,8 +180,8 @@ fn lay(words: &mut [u64], from: usize, bytes: &[u8]) {
     }
 }
 
-// The words of an operation.
-fn words_of(kind: u64, key: &[u8], document: &[u8], number: u64) -> [u64; 144] {
+/// The words of an operation on documents.
+pub(crate) fn words_of(kind: u64, key: &[u8], document: &[u8], number: u64) -> [u64; 144] {
     let mut words = [0; 144];
     put_word(&mut words, 0, kind);
     put_word(&mut words, 1, key.len() as u64);

@@ -1,16 +1,18 @@
 //! Images of an old version, made by hand: what is recovered from them, and a service that goes on from it.
 
 ghost use Rattle.std.specs.Prelude.{IsTrue};
+ghost use Rattle.cx_service.specs.Callers.{IsCallerOf};
 ghost use Rattle.recovery.specs.Recovery.{NumbersWithin};
 
 use crate::calls::{UPDATE, asked};
 use crate::holds::holds;
 use crate::later::LaterTally;
 use crate::starting::one_started;
-use crate::tasks::adds;
-use crate::written::{Written, image_of};
+use crate::tasks::{adds, words_of};
+use crate::written::{DOCUMENT, Written, image_of};
 use cx_core::{Base, slot_start};
-use cx_service::Handed;
+use cx_service::{Caller, Handed, Service};
+use doc_store::DocStore;
 use recovery::{ImageFault, recover};
 use std::alloc::{AllocError, Global};
 use std::test::Fail;
@@ -120,5 +122,62 @@ fn goes_on(alloc: Global, written: &Written, ticket: u64, sum: u64) -> Result<bo
 #[test]
 fn a_service_goes_on_from_an_old_image(rt: HostRuntime) -> Result<(), Fail> {
     holds(&rt, goes_on(rt.alloc(), &OLD, 1, 8)?);
+    Ok(())
+}
+
+// Documents of version 1: replica 1 at place 1.
+const OLD_DOCUMENT: Written = (1, 3360, 3, &DOCUMENT);
+
+// A command on the key a: its kind, its document and its number, and the ticket, kind and number of the reply.
+type Answered = (u64, &'static str, u64, (u64, u64, u64));
+
+// A pair of an old image has revision 1, so a put on condition of none is stale, and one on condition of 1 gives 2.
+const CONDITIONAL: [Answered; 4] = [
+    (7, "2", 0, (1, 13, 1)),
+    (7, "2", 1, (2, 12, 2)),
+    (8, "", 0, (3, 14, 2)),
+    (7, "3", 1, (4, 13, 2)),
+];
+
+// The first command that is answered with something else.
+fn first_other(service: &Service<DocStore>, caller: Caller, rows: &[Answered]) -> Option<usize>
+    requires { IsCallerOf service.now caller }
+{
+    let mut handed = Handed::Idle(caller);
+    for (i, (kind, document, number, want)) in rows.iter().enumerate() {
+        let op = words_of(*kind, b"a", document.as_bytes(), *number);
+        let (back, told) = asked(service, handed, &op, UPDATE);
+        handed = back;
+        if !told.is_updated(want.0) || (told.reply[0], told.reply[3]) != (want.1, want.2) {
+            return Some(i);
+        }
+    }
+    None
+}
+
+// Whether a service of documents that opens from what is recovered of an image answers so.
+fn documents_go_on(
+    alloc: Global,
+    written: &Written,
+    rows: &[Answered],
+) -> Result<bool, AllocError> {
+    let image = image_of(alloc, written)?;
+    let store = DocStore::of(64);
+    let Ok(base) = recover(alloc, &store, &image) else {
+        return Ok(false);
+    };
+    if !has_numbers_within(&base) {
+        return Ok(false);
+    }
+    let (service, caller) = one_started(alloc, store, &base)?;
+    Ok(first_other(&service, caller, rows).is_none())
+}
+
+#[test]
+fn documents_go_on_from_an_old_image(rt: HostRuntime) -> Result<(), Fail> {
+    holds(
+        &rt,
+        documents_go_on(rt.alloc(), &OLD_DOCUMENT, &CONDITIONAL)?,
+    );
     Ok(())
 }

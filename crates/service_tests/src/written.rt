@@ -202,8 +202,8 @@ fn images_are_recovered_from_the_region_that_the_root_names(rt: HostRuntime) -> 
     Ok(())
 }
 
-// The region of replica 1 at place 1, whose store has the document 1 under the key a.
-const DOCUMENT: [(u64, u64); 14] = [
+/// The region of replica 1 at place 1 in version 1, whose store has the document 1 under the key a.
+pub(crate) const DOCUMENT: [(u64, u64); 14] = [
     (1680, 1),
     (1688, 1),
     (1689, 1),
