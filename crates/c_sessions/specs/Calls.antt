@@ -1,5 +1,5 @@
 -- What a call comes to: the service's answer, by what it was asked.
-use Rattle.std.specs.Prelude.{◌≡◌, ◌⊎◌, ℕ, List}
+use Rattle.std.specs.Prelude.{◌≡◌, ◌⊎◌, ℕ, Bool, true, false, List}
 use Rattle.cx_rule.specs.Running.{IsSeatOf, Running}
 use Rattle.cx_rule.specs.Seats.{Seated}
 use Rattle.cx_core.specs.declared.local.FullNote.{FullNote}
@@ -52,14 +52,19 @@ pub record EntersAndDrives {O : Type 0} (r : Running O) (op : List ℕ) (tries :
 abbrev pub EntersTo : {O : Type 0} → Running O → List ℕ → ℕ → Seated → Called → Handed → List ℕ → Type 0
 EntersTo r op tries before called after reply = EntersAndDrives r op tries before called after reply ⊎ EntersNot r op tries before called after
 
--- a call of a caller with no call under way: entered into the queue, or read beside it
-abbrev pub Calls : {O : Type 0} → Running O → List ℕ → ℕ → Seated → Called → Handed → List ℕ → Type 0
-Calls r op tries before called after reply = EntersTo r op tries before called after reply ⊎ LooksTo r op tries before called after reply
+-- an operation that only reads is read beside the queue, and each other is entered
+abbrev pub AsksBy : {O : Type 0} → Bool → Running O → List ℕ → ℕ → Seated → Called → Handed → List ℕ → Type 0
+AsksBy true r op tries before called after reply = LooksTo r op tries before called after reply
+AsksBy false r op tries before called after reply = EntersTo r op tries before called after reply
+
+-- a call of a caller with no call under way: read beside the queue where the operation only reads, else entered
+abbrev pub Calls : {O : Type 0} → (O → List ℕ → Bool) → Running O → List ℕ → ℕ → Seated → Called → Handed → List ℕ → Type 0
+Calls reads r op tries before called after reply = AsksBy (reads r.object op) r op tries before called after reply
 
 -- so in any state: out of turn where an entry is linked or the caller is stopped, and then nothing is changed
-abbrev pub CallsFrom : {O : Type 0} → Running O → List ℕ → ℕ → Handed → Called → Handed → List ℕ → Type 0
-CallsFrom r op tries (Idle before) called after reply = Calls r op tries before called after reply
-CallsFrom r op tries before called after reply = (called ≡ OutOfTurn) × (after ≡ before)
+abbrev pub CallsFrom : {O : Type 0} → (O → List ℕ → Bool) → Running O → List ℕ → ℕ → Handed → Called → Handed → List ℕ → Type 0
+CallsFrom reads r op tries (Idle before) called after reply = Calls reads r op tries before called after reply
+CallsFrom reads r op tries before called after reply = (called ≡ OutOfTurn) × (after ≡ before)
 
 -- and finishing: out of turn where no entry is linked
 abbrev pub FinishesFrom : {O : Type 0} → Running O → ℕ → Handed → Called → Handed → List ℕ → Type 0

@@ -1,5 +1,5 @@
 -- Sessions between their calls, and what a call makes of one.
-use Rattle.std.specs.Prelude.{◌≡◌, ℕ, All, List, length, IfSome, Some}
+use Rattle.std.specs.Prelude.{◌≡◌, ℕ, Bool, All, List, length, IfSome, Some}
 use Rattle.std.specs.Arc.{arc_value}
 use Rattle.cx_service.specs.declared.close.Handed.{Handed}
 use Rattle.c_sessions.specs.declared.session.Session.{Session}
@@ -23,8 +23,8 @@ pub record Stands {O : Type 0} (before after : Session O) (come_to : Handed → 
   pub told : IfSome before.handed (λ b. IfSome after.handed (come_to b))
 
 -- a call of this operation, in so many tries, came to this
-abbrev pub CallsIn : {O : Type 0} → List ℕ → ℕ → Session O → Called → Session O → List ℕ → Type 0
-CallsIn op tries before called after reply = Stands before after (λ b a. CallsFrom (arc_value before.service) op tries b called a reply)
+abbrev pub CallsIn : {O : Type 0} → (O → List ℕ → Bool) → List ℕ → ℕ → Session O → Called → Session O → List ℕ → Type 0
+CallsIn reads op tries before called after reply = Stands before after (λ b a. CallsFrom reads (arc_value before.service) op tries b called a reply)
 
 -- and so did finishing, in so many turns
 abbrev pub FinishesIn : {O : Type 0} → ℕ → Session O → Called → Session O → List ℕ → Type 0

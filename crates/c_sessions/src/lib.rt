@@ -8,7 +8,9 @@
 mod opening;
 mod session;
 mod steps;
+mod tries;
 
 pub use opening::{open, open_from};
 pub use session::{Session, sessions_cross_threads};
 pub use steps::Called;
+pub use tries::Tries;

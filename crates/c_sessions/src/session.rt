@@ -1,11 +1,12 @@
 //! A caller of a shared service, with its share of the service.
 
-ghost use Rattle.std.specs.Prelude.{◌≡◌, ◌≤◌};
+ghost use Rattle.std.specs.Prelude.{◌≡◌};
 ghost use Rattle.std.specs.Arc.{arc_value};
 ghost use Rattle.c_sessions.specs.Calls.{IsHanded};
 ghost use Rattle.c_sessions.specs.Sessions.{CallsIn, FinishesIn, IsReady};
 
 use crate::steps::{Called, end, go_on};
+use crate::tries::Tries;
 use cx_base::Object;
 use cx_service::{Handed, Service};
 use std::alloc::Global;
@@ -32,11 +33,10 @@ impl<O: Object> Session<O> {
     }
 
     /// Does an operation, in so many tries. The reply is written where the call is done, and nothing of it else.
-    pub fn call(&mut self, op: &[u64; 144], reply: &mut [u64; 144], tries: u64) -> Called
+    pub fn call(&mut self, op: &[u64; 144], reply: &mut [u64; 144], tries: Tries) -> Called
         requires ready { IsReady self.old }
-        requires tries { 1 ≤ tries }
         ensures ready { IsReady self.new }
-        ensures calls { CallsIn op.now tries self.old result self.new reply.new }
+        ensures calls { CallsIn O.only_reads op.now tries.count self.old result self.new reply.new }
     {
         let Some(handed) = self.handed.take() else {
             unreachable!()
@@ -47,11 +47,10 @@ impl<O: Object> Session<O> {
     }
 
     /// Drives the linked entry to its answer, in so many turns.
-    pub fn finish(&mut self, reply: &mut [u64; 144], tries: u64) -> Called
+    pub fn finish(&mut self, reply: &mut [u64; 144], tries: Tries) -> Called
         requires ready { IsReady self.old }
-        requires tries { 1 ≤ tries }
         ensures ready { IsReady self.new }
-        ensures finishes { FinishesIn tries self.old result self.new reply.new }
+        ensures finishes { FinishesIn tries.count self.old result self.new reply.new }
     {
         let Some(handed) = self.handed.take() else {
             unreachable!()

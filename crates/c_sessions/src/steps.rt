@@ -1,9 +1,10 @@
 //! What a call does with what stands of a caller.
 
-ghost use Rattle.std.specs.Prelude.{◌≤◌, IsTrue};
+ghost use Rattle.std.specs.Prelude.{IsTrue};
 ghost use Rattle.cx_service.specs.Callers.{IsCallerOf, IsLinkedOf};
 ghost use Rattle.c_sessions.specs.Calls.{Calls, CallsFrom, DrivesTo, EntersTo, FinishesFrom, IsHanded, LooksTo};
 
+use crate::tries::Tries;
 use cx_base::Object;
 use cx_service::{Caller, Driven, Handed, Linked, ReadTried, Service, Submitted};
 
@@ -32,12 +33,11 @@ pub(crate) fn go_on<O: Object>(
     handed: Handed,
     op: &[u64; 144],
     reply: &mut [u64; 144],
-    tries: u64,
+    tries: Tries,
 ) -> (Handed, Called)
     requires ready { IsHanded service.now handed }
-    requires tries { 1 ≤ tries }
     ensures ready { IsHanded service.now result.0 }
-    ensures calls { CallsFrom service.now op.now tries handed result.1 result.0 reply.new }
+    ensures calls { CallsFrom O.only_reads service.now op.now tries.count handed result.1 result.0 reply.new }
 {
     match handed {
         Handed::Idle(caller) => ask(service, caller, op, reply, tries),
@@ -50,12 +50,11 @@ pub(crate) fn end<O: Object>(
     service: &Service<O>,
     handed: Handed,
     reply: &mut [u64; 144],
-    tries: u64,
+    tries: Tries,
 ) -> (Handed, Called)
     requires ready { IsHanded service.now handed }
-    requires tries { 1 ≤ tries }
     ensures ready { IsHanded service.now result.0 }
-    ensures finishes { FinishesFrom service.now tries handed result.1 result.0 reply.new }
+    ensures finishes { FinishesFrom service.now tries.count handed result.1 result.0 reply.new }
 {
     match handed {
         Handed::Linked(linked) => drive(service, linked, reply, tries),
@@ -69,12 +68,11 @@ fn ask<O: Object>(
     caller: Caller,
     op: &[u64; 144],
     reply: &mut [u64; 144],
-    tries: u64,
+    tries: Tries,
 ) -> (Handed, Called)
     requires caller { IsCallerOf service.now caller }
-    requires tries { 1 ≤ tries }
     ensures ready { IsHanded service.now result.0 }
-    ensures calls { Calls service.now op.now tries caller result.1 result.0 reply.new }
+    ensures calls { Calls O.only_reads service.now op.now tries.count caller result.1 result.0 reply.new }
 {
     if service.object().reads(op) {
         look(service, caller, op, reply, tries)
@@ -89,15 +87,14 @@ fn look<O: Object>(
     caller: Caller,
     op: &[u64; 144],
     reply: &mut [u64; 144],
-    tries: u64,
+    tries: Tries,
 ) -> (Handed, Called)
     requires caller { IsCallerOf service.now caller }
     requires reads { IsTrue (O.only_reads service.now.object op.now) }
-    requires tries { 1 ≤ tries }
     ensures ready { IsHanded service.now result.0 }
-    ensures looks { LooksTo service.now op.now tries caller result.1 result.0 reply.new }
+    ensures looks { LooksTo service.now op.now tries.count caller result.1 result.0 reply.new }
 {
-    match service.try_read(caller, op, tries) {
+    match service.try_read(caller, op, tries.count) {
         ReadTried::Read(back, seen) => {
             let told = seen.reply;
             *reply = told;
@@ -114,14 +111,13 @@ fn enter<O: Object>(
     caller: Caller,
     op: &[u64; 144],
     reply: &mut [u64; 144],
-    tries: u64,
+    tries: Tries,
 ) -> (Handed, Called)
     requires caller { IsCallerOf service.now caller }
-    requires tries { 1 ≤ tries }
     ensures ready { IsHanded service.now result.0 }
-    ensures enters { EntersTo service.now op.now tries caller result.1 result.0 reply.new }
+    ensures enters { EntersTo service.now op.now tries.count caller result.1 result.0 reply.new }
 {
-    match service.submit(caller, op, tries) {
+    match service.submit(caller, op, tries.count) {
         Submitted::Linked(linked) => drive(service, linked, reply, tries),
         Submitted::Again(back) => (Handed::Idle(back), Called::Again),
         Submitted::Full(back, _) => (Handed::Idle(back), Called::Full),
@@ -135,14 +131,13 @@ fn drive<O: Object>(
     service: &Service<O>,
     linked: Linked,
     reply: &mut [u64; 144],
-    tries: u64,
+    tries: Tries,
 ) -> (Handed, Called)
     requires linked { IsLinkedOf service.now linked }
-    requires tries { 1 ≤ tries }
     ensures ready { IsHanded service.now result.0 }
-    ensures drives { DrivesTo service.now tries linked result.1 result.0 reply.new }
+    ensures drives { DrivesTo service.now tries.count linked result.1 result.0 reply.new }
 {
-    match service.drive(linked, tries) {
+    match service.drive(linked, tries.count) {
         Driven::Done(back, answer) => {
             let told = answer.reply;
             *reply = told;

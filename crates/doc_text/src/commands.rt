@@ -6,6 +6,7 @@ ghost use Rattle.plain_text.specs.Words.{first_word, rest_of};
 ghost use Rattle.cx_base.specs.Store.{IsKey};
 ghost use Rattle.doc_model.specs.Meaning.{IsOp};
 ghost use Rattle.doc_text.specs.CommandLaws.{reads_commands, reads_pool_commands};
+ghost use Rattle.doc_text.specs.Document.{IsRead};
 ghost use Rattle.doc_text.specs.Grammar.{document_commands, pool_commands};
 ghost use Rattle.doc_text.specs.Reading.{verb_of, only_key, put_with, put_if_with, add_with, op_by_verb, asked_op};
 ghost use Rattle.script_text.specs.Reading.{then_ok};
@@ -113,8 +114,7 @@ impl CommandReader for PoolDocuments {
 /// The operation that the text behind a client asks for, or why it asks for none. `Err` is want of memory.
 fn read_asked(alloc: Global, text: Option<&[u8]>) -> Result<Result<Op, Reason>, AllocError>
     requires { IfSome text (λ t. IsUtf8 t.now) }
-    ensures value { IfOk result (λ read. read ≡ asked_op (option_copied text.entry)) }
-    ensures limits { IfOk result (λ read. IfOk read IsOp) }
+    ensures { IfOk result (IsRead IsOp (asked_op (option_copied text.entry))) }
 {
     let Some(text) = text else {
         return Ok(Err(Reason::Command));
@@ -130,8 +130,7 @@ fn read_words(
     words: Option<&[u8]>,
 ) -> Result<Result<Op, Reason>, AllocError>
     requires { IfSome words (λ t. IsUtf8 t.now) }
-    ensures value { IfOk result (λ read. read ≡ op_by_verb verb (option_copied words.entry)) }
-    ensures limits { IfOk result (λ read. IfOk read IsOp) }
+    ensures { IfOk result (IsRead IsOp (op_by_verb verb (option_copied words.entry))) }
 {
     match (verb, words) {
         (Some(Verb::Put), Some(words)) => read_put(alloc, words),
@@ -151,8 +150,7 @@ fn read_words(
 
 fn read_put(alloc: Global, words: &[u8]) -> Result<Result<Op, Reason>, AllocError>
     requires { IsUtf8 words.now }
-    ensures value { IfOk result (λ read. read ≡ put_with (first_word words.now) (rest_of words.now)) }
-    ensures limits { IfOk result (λ read. IfOk read IsOp) }
+    ensures { IfOk result (IsRead IsOp (put_with (first_word words.now) (rest_of words.now))) }
 {
     let (key, json) = split_word(words);
     let Some(json) = json else {
@@ -171,8 +169,7 @@ fn read_put(alloc: Global, words: &[u8]) -> Result<Result<Op, Reason>, AllocErro
 
 fn read_put_if(alloc: Global, words: &[u8]) -> Result<Result<Op, Reason>, AllocError>
     requires { IsUtf8 words.now }
-    ensures value { IfOk result (λ read. read ≡ put_if_with (first_word words.now) (rest_of words.now)) }
-    ensures limits { IfOk result (λ read. IfOk read IsOp) }
+    ensures { IfOk result (IsRead IsOp (put_if_with (first_word words.now) (rest_of words.now))) }
 {
     let (key, text) = split_word(words);
     let Some(text) = text else {
@@ -197,8 +194,7 @@ fn read_put_if(alloc: Global, words: &[u8]) -> Result<Result<Op, Reason>, AllocE
 }
 
 fn read_del(alloc: Global, words: &[u8]) -> Result<Result<Op, Reason>, AllocError>
-    ensures value { IfOk result (λ read. read ≡ then_ok Op.Del (only_key words.now)) }
-    ensures limits { IfOk result (λ read. IfOk read IsOp) }
+    ensures { IfOk result (IsRead IsOp (then_ok Op.Del (only_key words.now))) }
 {
     Ok(match read_key(alloc, words)? {
         Ok(key) => Ok(Op::Del { key }),
@@ -207,8 +203,7 @@ fn read_del(alloc: Global, words: &[u8]) -> Result<Result<Op, Reason>, AllocErro
 }
 
 fn read_add(alloc: Global, words: &[u8]) -> Result<Result<Op, Reason>, AllocError>
-    ensures value { IfOk result (λ read. read ≡ add_with (first_word words.now) (rest_of words.now)) }
-    ensures limits { IfOk result (λ read. IfOk read IsOp) }
+    ensures { IfOk result (IsRead IsOp (add_with (first_word words.now) (rest_of words.now))) }
 {
     let (key, amount) = split_word(words);
     let Some(amount) = amount else {
@@ -228,8 +223,7 @@ fn read_add(alloc: Global, words: &[u8]) -> Result<Result<Op, Reason>, AllocErro
 }
 
 fn read_get(alloc: Global, words: &[u8]) -> Result<Result<Op, Reason>, AllocError>
-    ensures value { IfOk result (λ read. read ≡ then_ok Op.Get (only_key words.now)) }
-    ensures limits { IfOk result (λ read. IfOk read IsOp) }
+    ensures { IfOk result (IsRead IsOp (then_ok Op.Get (only_key words.now))) }
 {
     Ok(match read_key(alloc, words)? {
         Ok(key) => Ok(Op::Get { key }),
@@ -238,8 +232,7 @@ fn read_get(alloc: Global, words: &[u8]) -> Result<Result<Op, Reason>, AllocErro
 }
 
 fn read_rev(alloc: Global, words: &[u8]) -> Result<Result<Op, Reason>, AllocError>
-    ensures value { IfOk result (λ read. read ≡ then_ok Op.Rev (only_key words.now)) }
-    ensures limits { IfOk result (λ read. IfOk read IsOp) }
+    ensures { IfOk result (IsRead IsOp (then_ok Op.Rev (only_key words.now))) }
 {
     Ok(match read_key(alloc, words)? {
         Ok(key) => Ok(Op::Rev { key }),
@@ -248,8 +241,7 @@ fn read_rev(alloc: Global, words: &[u8]) -> Result<Result<Op, Reason>, AllocErro
 }
 
 fn read_next(alloc: Global, words: &[u8]) -> Result<Result<Op, Reason>, AllocError>
-    ensures value { IfOk result (λ read. read ≡ then_ok Op.Next (only_key words.now)) }
-    ensures limits { IfOk result (λ read. IfOk read IsOp) }
+    ensures { IfOk result (IsRead IsOp (then_ok Op.Next (only_key words.now))) }
 {
     Ok(match read_key(alloc, words)? {
         Ok(above) => Ok(Op::Next { above }),
@@ -259,8 +251,7 @@ fn read_next(alloc: Global, words: &[u8]) -> Result<Result<Op, Reason>, AllocErr
 
 /// The key that is the only word left, or why it is none. `Err` is want of memory.
 fn read_key(alloc: Global, words: &[u8]) -> Result<Result<Bytes, Reason>, AllocError>
-    ensures value { IfOk result (λ read. read ≡ only_key words.now) }
-    ensures limits { IfOk result (λ read. IfOk read IsKey) }
+    ensures { IfOk result (IsRead IsKey (only_key words.now)) }
 {
     if !is_one_word(words) {
         return Ok(Err(Reason::Command));

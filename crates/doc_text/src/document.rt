@@ -4,7 +4,7 @@ ghost use Rattle.std.specs.Prelude.{◌≡◌, Err, IfOk, IfSome, IsUtf8};
 ghost use Rattle.serde_json.specs.Written.{has_float, items_have_float, members_have_float};
 ghost use Rattle.serde_json.specs.View.{view, items_view, members_view};
 ghost use Rattle.cx_base.specs.Store.{IsDocument};
-ghost use Rattle.doc_text.specs.Document.{document_of};
+ghost use Rattle.doc_text.specs.Document.{IsRead, document_of};
 
 use crate::measure::{MAX_DOCUMENT, refusal_unbuilt};
 use crate::script_parts::Reason;
@@ -15,8 +15,7 @@ use std::alloc::{AllocError, Global};
 /// The document that a JSON text is kept as, or why it is none. `Err` is want of memory.
 pub(crate) fn read_document(alloc: Global, json: &[u8]) -> Result<Result<Bytes, Reason>, AllocError>
     requires { IsUtf8 json.now }
-    ensures value { IfOk result (λ read. read ≡ document_of json.now) }
-    ensures limits { IfOk result (λ read. IfOk read IsDocument) }
+    ensures { IfOk result (IsRead IsDocument (document_of json.now)) }
 {
     if let Some(reason) = long_refusal(alloc, json)? {
         return Ok(Err(reason));

@@ -2,6 +2,8 @@
 use Rattle.std.specs.Prelude.{◌≡◌, ◌≤◌, ◌^◌, ℕ, ℤ, pos, All, List, length}
 use Rattle.std.specs.Global.{Global}
 use Rattle.std_alloc.specs.declared.boxed.Box.{Box}
+use Rattle.doc_store.specs.ExactStep.{reads_in}
+use Rattle.fifo_object.specs.Fifo.{fifo_reads}
 use Rattle.c_sessions.specs.Sessions.{CallsIn, FinishesIn, IsReady}
 use Rattle.c_sessions.specs.declared.steps.Called.{Called}
 use Rattle.c_sessions.specs.declared.steps.Called.TheVariants.{Done, Pending, Again, Full, Worn, Stopped, OutOfTurn}
@@ -20,8 +22,8 @@ pub record AreCallable (count : ℕ) (boxes : List (Box Content Global)) : Type 
 
 -- a call of this operation, in so many tries, came to this
 abbrev pub Calls : List ℕ → ℕ → Content → Called → Content → List ℕ → Type 0
-Calls op tries (Documents before) called (Documents after) reply = CallsIn op tries before called after reply
-Calls op tries (Queue before) called (Queue after) reply = CallsIn op tries before called after reply
+Calls op tries (Documents before) called (Documents after) reply = CallsIn (λ _. reads_in) op tries before called after reply
+Calls op tries (Queue before) called (Queue after) reply = CallsIn (λ _. fifo_reads) op tries before called after reply
 Calls op tries before called after reply = ⊥
 
 -- and so did finishing, in so many turns

@@ -1,9 +1,8 @@
 //! What C holds.
 
-ghost use Rattle.std.specs.Prelude.{◌≤◌};
 ghost use Rattle.githoppu_c.specs.Contents.{Calls, Finishes, IsCallable};
 
-use c_sessions::{Called, Session};
+use c_sessions::{Called, Session, Tries};
 use doc_store::DocStore;
 use fifo_object::Fifo;
 
@@ -16,11 +15,10 @@ pub enum Content {
 
 impl Content {
     /// Does an operation, in so many tries.
-    pub fn call(&mut self, op: &[u64; 144], reply: &mut [u64; 144], tries: u64) -> Called
+    pub fn call(&mut self, op: &[u64; 144], reply: &mut [u64; 144], tries: Tries) -> Called
         requires callable { IsCallable self.old }
-        requires tries { 1 ≤ tries }
         ensures callable { IsCallable self.new }
-        ensures calls { Calls op.now tries self.old result self.new reply.new }
+        ensures calls { Calls op.now tries.count self.old result self.new reply.new }
     {
         match self {
             Content::Documents(session) => session.call(op, reply, tries),
@@ -29,11 +27,10 @@ impl Content {
     }
 
     /// Drives the linked entry to its answer, in so many turns.
-    pub fn finish(&mut self, reply: &mut [u64; 144], tries: u64) -> Called
+    pub fn finish(&mut self, reply: &mut [u64; 144], tries: Tries) -> Called
         requires callable { IsCallable self.old }
-        requires tries { 1 ≤ tries }
         ensures callable { IsCallable self.new }
-        ensures finishes { Finishes tries self.old result self.new reply.new }
+        ensures finishes { Finishes tries.count self.old result self.new reply.new }
     {
         match self {
             Content::Documents(session) => session.finish(reply, tries),

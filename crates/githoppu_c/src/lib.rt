@@ -2,6 +2,7 @@
 //! service, and C gives each to one call at a time.
 #![tactic(auto)]
 
+ghost use Rattle.std.specs.Prelude.{◌≤◌, ◌^◌};
 ghost use Rattle.githoppu_c.specs.Contents.{Answers, Calls, Finishes, IsCallable};
 
 mod codes;
@@ -13,10 +14,20 @@ mod raw_box;
 use crate::codes::{DONE, code_of};
 use crate::handle::Handle;
 use crate::opening::{hand_out, open_documents, open_queue};
+use c_sessions::Tries;
 use std::alloc::Global;
 
 /// The most tries of a call.
 const MOST: u64 = 1 << 20;
+
+/// As many tries as are asked for, but at least one and not too many.
+fn tries_of(asked: u64) -> Tries
+    ensures { result.count ≤ 2 ^ 20 }
+{
+    Tries {
+        count: asked.clamp(1, MOST),
+    }
+}
 
 /// Opens an empty document store in so many lines, and puts a session into each slot. Where it is refused, no slot is written.
 #[unsafe(no_mangle)]
@@ -55,7 +66,7 @@ pub extern "C" fn githoppu_call(
     ensures { Answers (λ n called after. Calls op.now n session.content called after reply.new) result }
 {
     let mut content = session.into_box();
-    let called = content.call(op, reply, tries.clamp(1, MOST));
+    let called = content.call(op, reply, tries_of(tries));
     *out = Box::into_raw(content) as *mut u8;
     code_of(called)
 }
@@ -72,7 +83,7 @@ pub extern "C" fn githoppu_finish(
     ensures { Answers (λ n called after. Finishes n session.content called after reply.new) result }
 {
     let mut content = session.into_box();
-    let called = content.finish(reply, tries.clamp(1, MOST));
+    let called = content.finish(reply, tries_of(tries));
     *out = Box::into_raw(content) as *mut u8;
     code_of(called)
 }

@@ -1,7 +1,8 @@
 -- The commands that only read, as text.
-use Rattle.std.specs.Prelude.{◌≡◌, ℕ, List, [], ◌∷◌, ◌++◌, codes, Option, None, Some, is_some, ◌&&◌, not, if◌then◌else◌}
+use Rattle.std.specs.Prelude.{◌≡◌, ℕ, List, [], ◌∷◌, ◌++◌, codes, IfSome, Option, None, Some, is_some, ◌&&◌, not, if◌then◌else◌}
 use Rattle.cx_base.specs.Store.{IsKey}
 use Rattle.plain_text.specs.Words.{first_word, rest_of, is_word}
+use Rattle.doc_model.specs.Meaning.{IsOp}
 use Rattle.doc_model.specs.WordParts.{is_key}
 use Rattle.doc_model.specs.declared.operations.Op.{Op}
 use Rattle.doc_model.specs.declared.operations.Op.TheVariants.{Get, Next, Count, Rev}
@@ -38,3 +39,8 @@ reading_by verb rest =
 
 unfoldable pub reading_of : List ℕ → Option Op
 reading_of text = reading_by (first_word text) (rest_of text)
+
+-- what is asked for is read, and it keeps to the limits
+pub record IsRead (wanted read : Option Op) : Type 0 where
+  pub is : read ≡ wanted
+  pub within : IfSome read IsOp

@@ -1,9 +1,8 @@
 //! The commands that only read.
 
-ghost use Rattle.std.specs.Prelude.{◌≡◌, IfOk, IfSome};
+ghost use Rattle.std.specs.Prelude.{IfOk};
 ghost use Rattle.std.specs.Option.{option_copied};
-ghost use Rattle.doc_model.specs.Meaning.{IsOp};
-ghost use Rattle.trace_text.specs.Commands.{keyed_of, next_of, reading_by, reading_of};
+ghost use Rattle.trace_text.specs.Commands.{IsRead, keyed_of, next_of, reading_by, reading_of};
 
 use cx_base::Bytes;
 use doc_model::{Op, is_key};
@@ -13,8 +12,7 @@ use std::alloc::{AllocError, Global};
 /// The operation that a command asks for and that only reads. `Err` is want of memory.
 #[tactic(auto, unfolding(crate::specs::Commands::reading_of))]
 pub(crate) fn read_reading(alloc: Global, text: &[u8]) -> Result<Option<Op>, AllocError>
-    ensures value { IfOk result (λ op. op ≡ reading_of text.now) }
-    ensures limits { IfOk result (λ op. IfSome op IsOp) }
+    ensures { IfOk result (IsRead (reading_of text.now)) }
 {
     let (verb, rest) = split_word(text);
     read_by_verb(alloc, verb, rest)
@@ -23,8 +21,7 @@ pub(crate) fn read_reading(alloc: Global, text: &[u8]) -> Result<Option<Op>, All
 /// The same, by its verb and what stands behind it.
 #[tactic(auto, unfolding(crate::specs::Commands::reading_by))]
 fn read_by_verb(alloc: Global, verb: &[u8], rest: Option<&[u8]>) -> Result<Option<Op>, AllocError>
-    ensures value { IfOk result (λ op. op ≡ reading_by verb.now (option_copied rest.entry)) }
-    ensures limits { IfOk result (λ op. IfSome op IsOp) }
+    ensures { IfOk result (IsRead (reading_by verb.now (option_copied rest.entry))) }
 {
     if is_word(b"get", verb) {
         return read_get(alloc, rest);
@@ -42,8 +39,7 @@ fn read_by_verb(alloc: Global, verb: &[u8], rest: Option<&[u8]>) -> Result<Optio
 }
 
 fn read_get(alloc: Global, key: Option<&[u8]>) -> Result<Option<Op>, AllocError>
-    ensures value { IfOk result (λ op. op ≡ keyed_of Op.Get (option_copied key.entry)) }
-    ensures limits { IfOk result (λ op. IfSome op IsOp) }
+    ensures { IfOk result (IsRead (keyed_of Op.Get (option_copied key.entry))) }
 {
     match key {
         Some(key) if is_key(key) => Ok(Some(Op::Get {
@@ -54,8 +50,7 @@ fn read_get(alloc: Global, key: Option<&[u8]>) -> Result<Option<Op>, AllocError>
 }
 
 fn read_rev(alloc: Global, key: Option<&[u8]>) -> Result<Option<Op>, AllocError>
-    ensures value { IfOk result (λ op. op ≡ keyed_of Op.Rev (option_copied key.entry)) }
-    ensures limits { IfOk result (λ op. IfSome op IsOp) }
+    ensures { IfOk result (IsRead (keyed_of Op.Rev (option_copied key.entry))) }
 {
     match key {
         Some(key) if is_key(key) => Ok(Some(Op::Rev {
@@ -67,8 +62,7 @@ fn read_rev(alloc: Global, key: Option<&[u8]>) -> Result<Option<Op>, AllocError>
 
 /// Without a key, the operation asks for the least key of all.
 fn read_next(alloc: Global, key: Option<&[u8]>) -> Result<Option<Op>, AllocError>
-    ensures value { IfOk result (λ op. op ≡ next_of (option_copied key.entry)) }
-    ensures limits { IfOk result (λ op. IfSome op IsOp) }
+    ensures { IfOk result (IsRead (next_of (option_copied key.entry))) }
 {
     match key {
         None => Ok(Some(Op::Next {

@@ -3,7 +3,7 @@ use Rattle.githoppu_c.proofs.githoppu_finish.Goals as goal
 
 pub returns : goal.returns
 returns c = record {
-  tries = c.clamp.result;
+  tries = c.tries_of.result.count;
   some = search rules;
   most = search rules;
   called = c.finish-called.result;

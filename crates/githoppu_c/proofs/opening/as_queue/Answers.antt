@@ -13,5 +13,5 @@ loop-session-preserved c =
     record {
       each = subst (All (λ b. IsCallable b.value)) (sym c.in_ok-push.ensures.items) (All-push (λ b. IsCallable b.value) c.loop-session.contents.items c.in_ok-new.field-0 kept.each callable);
       left = All-tail IsReady c.in-Some.session rest left;
-      all = search rules
+      all = search rules;
     }
