@@ -3,7 +3,7 @@ use Rattle.std.proofs.Common.{◌≡◌, ℕ, List, [], ◌∷◌, map, refl, sy
 use Rattle.std.specs.Prelude.{All}
 use Rattle.std.specs.List.{range_with_len}
 use Rattle.std.proofs.lemmas.List.Elements.{All-cons, All-head, All-nil, All-tail}
-use Rattle.atomic_table.specs.Seated.{TableId}
+use Rattle.bounded_counters.specs.declared.counters.Counters.{Counters}
 use Rattle.cx_core.specs.declared.entry.Base.{Base}
 use Rattle.cx_rule.specs.Running.{Running}
 use Rattle.cx_rule.specs.Seats.{Seated}
@@ -12,6 +12,8 @@ use Rattle.cx_service.specs.Starts.{Starts}
 use Rattle.cx_table.specs.Remains.{opening_seat}
 use Rattle.client_pool.specs.Pools.{AreClients, AreNewCallers, AreNewClients, IsNewCaller}
 use Rattle.client_pool.specs.declared.client.Client.{Client}
+use Rattle.client_pool.specs.declared.pool.Pool.{Pool}
+use Rattle.pool_tests.specs.Tests.{AreAll}
 
 module _ {O : Type 0} where
   each_new : (r : Running O) (limits numbers : List ℕ) → All (IsCallerOf r) (map (opening_seat r limits) numbers) → All (IsNewCaller r) (map (opening_seat r limits) numbers)
@@ -29,5 +31,6 @@ module _ {O : Type 0} where
         numbers = starts.all.numbers;
       }
 
-  pub clients_of : (r s : Running O) (table : TableId) (count : ℕ) (clients : List Client) → s ≡ r → AreNewClients r table count clients → AreClients s table clients
-  clients_of r s table count clients same new = subst (λ x. AreClients x table clients) (sym same) new.clients_are
+-- and so are its clients
+pub clients_of : (pool : Pool Counters) (r : Running Counters) (count : ℕ) (clients : List Client) → pool.service ≡ r → AreNewClients r pool.line.table.shared.table_id count clients → AreAll pool clients
+clients_of pool r count clients same new = subst (λ (x : Running Counters). AreClients x pool.line.table.shared.table_id clients) (sym same) new.clients_are

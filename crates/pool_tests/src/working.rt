@@ -108,7 +108,7 @@ fn on_threads<R: Wait + Threads + Sync>(
         rt,
         clients,
         &|client: Client| -> Client
-            requires { IsOf pool.entry.now client }
+            requires { Counts pool.now × IsOf pool.now client }
             ensures { IsBack pool.entry.now client result }
         { works(rt, pool, client, additions) },
     )

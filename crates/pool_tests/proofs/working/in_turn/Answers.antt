@@ -1,4 +1,4 @@
-use Rattle.std.proofs.Common.{rules, ◌≡◌, [], ◌∷◌, ◌++◌, subst, sym}
+use Rattle.std.proofs.Common.{rules, ◌≡◌, ◌∙◌, [], ◌∷◌, ◌++◌, ap, append_assoc, subst, sym}
 use Rattle.std.specs.List.{AllZip}
 use Rattle.std.specs.Vec.Iter.{into_iter_items}
 use Rattle.std.proofs.lemmas.List.Elements.{All-rest, AllZip-push}
@@ -14,6 +14,6 @@ loop-client-preserved g c =
     let next : into_iter_items c.loop-client.client-iterator ≡ client ∷ into_iter_items c.next.new.self = search rules in
     record {
       back = subst (AllZip (IsBack pool) (c.loop-client.yielded ++ client ∷ [])) (sym more) (AllZip-push (IsBack pool) c.loop-client.yielded c.loop-client.worked.items client c.works.result inv.back c.works.ensures);
-      all = search rules;
+      all = append_assoc c.loop-client.yielded (client ∷ []) (into_iter_items c.next.new.self) ∙ ap (λ l. c.loop-client.yielded ++ l) (sym next) ∙ inv.all;
       rest = All-rest (IsOf pool) client (into_iter_items c.next.new.self) (into_iter_items c.loop-client.client-iterator) next inv.rest;
     }
