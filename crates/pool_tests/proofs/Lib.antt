@@ -1,0 +1,2 @@
+mod ClientsBack
+mod NewCallers
