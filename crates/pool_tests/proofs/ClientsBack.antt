@@ -1,11 +1,11 @@
 -- Clients that call come back, and are all the clients of their pool.
-use Rattle.std.proofs.Common.{◌≡◌, ◌<◌, ℕ, suc, List, [], ◌∷◌, ◌++◌, length, get_or, map, refl, sym, ap, ap₂, ◌∙◌, subst, arith}
+use Rattle.std.proofs.Common.{◌≡◌, ◌<◌, ℕ, suc, List, [], ◌∷◌, ◌++◌, length, get_or, map, refl, ap, ap₂, ◌∙◌, subst, arith}
 use Rattle.std.specs.Prelude.{All}
 use Rattle.std.specs.List.{AllZip, range_with_len}
 use Rattle.std.proofs.lemmas.List.Elements.{All-cons, All-nil, length_all_zip}
 use Rattle.bounded_counters.specs.declared.counters.Counters.{Counters}
 use Rattle.client_pool.specs.Clients.{ReadsInAll, Updates}
-use Rattle.client_pool.specs.Pools.{AreClients, IsClosing}
+use Rattle.client_pool.specs.Pools.{IsClosing}
 use Rattle.client_pool.specs.declared.client.Client.{Client}
 use Rattle.client_pool.specs.declared.pool.Pool.{Pool}
 use Rattle.client_pool.specs.declared.pool.Pooled.{Pooled}
