@@ -54,7 +54,10 @@ fn told(client: &Client, row: &Row) -> Option<Sum> {
         return None;
     }
     let mut before = 0u64;
-    let mut sum = Sum { added: 0, queued: 0 };
+    let mut sum = Sum {
+        added: 0,
+        queued: 0,
+    };
     for (i, answered) in answers.iter().enumerate() {
         let is_read = i as u64 == row.additions;
         let (found, is_entry) = seen(answered, before, is_read)?;
@@ -70,7 +73,10 @@ fn told(client: &Client, row: &Row) -> Option<Sum> {
 
 /// The same of all clients.
 fn all_told(clients: &[Client], row: &Row) -> Option<Sum> {
-    let mut all = Sum { added: 0, queued: 0 };
+    let mut all = Sum {
+        added: 0,
+        queued: 0,
+    };
     for client in clients {
         let sum = told(client, row)?;
         all.added = all.added.wrapping_add(sum.added);
