@@ -99,12 +99,10 @@ enum githoppu_reply {
     GITHOPPU_OVERFLOW = 8,     /* of add: the sum has no 64 bits; nothing is changed */
     GITHOPPU_NO_ROOM = 9,      /* of put and add: there are not as many lines; nothing is changed */
     GITHOPPU_KEY = 10,         /* of next: the key */
-    GITHOPPU_COUNT = 11        /* of count: how many documents there are */
-    /* revisions begin */
-    , GITHOPPU_SET = 12,       /* of putif: the document is put */
-    GITHOPPU_STALE = 13,       /* of putif: the key has another revision; nothing is changed */
+    GITHOPPU_COUNT = 11,       /* of count: how many documents there are */
+    GITHOPPU_SET = 12,         /* of putif: the document is put; its new revision */
+    GITHOPPU_STALE = 13,       /* of putif: the key has another revision, which is told, 0 where it is missing; nothing is changed */
     GITHOPPU_REVISION = 14     /* of rev: the key's revision */
-    /* revisions end */
 };
 
 /* Word 0 of a reply of a queue. */
@@ -234,17 +232,15 @@ static inline int githoppu_count(void **session, githoppu_words *reply) {
     return githoppu_document_call(session, 6, "", "", 0, 0, reply);
 }
 
-/* revisions begin */
-/* Puts a document at a key where the key has this revision: SET, STALE or NO_ROOM. */
+/* Puts a document at a key where the key has this revision, 0 where it is missing: SET, STALE (githoppu_number of both) or NO_ROOM. */
 static inline int githoppu_putif(void **session, const char *key, const char *document, size_t length, uint64_t revision, githoppu_words *reply) {
     return githoppu_document_call(session, 7, key, document, length, (int64_t)revision, reply);
 }
 
-/* Reads the revision of a key: REVISION (githoppu_number). */
+/* Reads the revision of a key: REVISION (githoppu_number) or ABSENT. */
 static inline int githoppu_rev(void **session, const char *key, githoppu_words *reply) {
     return githoppu_document_call(session, 8, key, "", 0, 0, reply);
 }
-/* revisions end */
 
 /* The words of an operation of a queue. DONE or TOO_LONG. */
 static inline int githoppu_queue_op(githoppu_words *op, uint64_t kind, const char *text) {

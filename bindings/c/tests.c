@@ -124,25 +124,23 @@ static void test_documents(void) {
     githoppu_close(s, 1);
 }
 
-/* revisions begin */
 static void test_revisions(void) {
     void *s[1];
     githoppu_words reply;
-    uint64_t first;
     CHECK(githoppu_open(64, s, 1) == GITHOPPU_DONE);
-    CHECK(githoppu_rev(s, "fruit", &reply) == GITHOPPU_DONE);
-    if (reply.word[0] != GITHOPPU_NO_OPERATION) {
-        DO(githoppu_put(s, "fruit", "\"apple\"", 7, &reply), GITHOPPU_NEW);
-        DO(githoppu_rev(s, "fruit", &reply), GITHOPPU_REVISION);
-        first = githoppu_number(&reply);
-        DO(githoppu_putif(s, "fruit", "\"pear\"", 6, first, &reply), GITHOPPU_SET);
-        DO(githoppu_putif(s, "fruit", "\"plum\"", 6, first, &reply), GITHOPPU_STALE);
-        DO(githoppu_rev(s, "fruit", &reply), GITHOPPU_REVISION);
-        CHECK(githoppu_number(&reply) != first);
-    }
+    DO(githoppu_rev(s, "fruit", &reply), GITHOPPU_ABSENT);
+    DO(githoppu_putif(s, "fruit", "\"apple\"", 7, 7, &reply), GITHOPPU_STALE);
+    CHECK(githoppu_number(&reply) == 0);
+    DO(githoppu_putif(s, "fruit", "\"apple\"", 7, 0, &reply), GITHOPPU_SET);
+    CHECK(githoppu_number(&reply) == 1);
+    DO(githoppu_put(s, "fruit", "\"pear\"", 6, &reply), GITHOPPU_REPLACED);
+    DO(githoppu_putif(s, "fruit", "\"plum\"", 6, 1, &reply), GITHOPPU_STALE);
+    CHECK(githoppu_number(&reply) == 2);
+    DO(githoppu_putif(s, "fruit", "\"plum\"", 6, 2, &reply), GITHOPPU_SET);
+    DO(githoppu_rev(s, "fruit", &reply), GITHOPPU_REVISION);
+    CHECK(githoppu_number(&reply) == 3);
     githoppu_close(s, 1);
 }
-/* revisions end */
 
 static void test_queue(void) {
     void *s[2];

@@ -169,39 +169,39 @@ impl Session {
     }
 }
 
-// revisions begin
 /// What a put at a revision comes to.
 #[derive(Clone, Copy, Debug, PartialEq, Eq)]
 pub enum PutIf {
-    Set,
-    /// The key has another revision; nothing is changed.
-    Stale,
+    /// The document is put, and this is its revision.
+    Set(u64),
+    /// The key has this other revision, 0 where it is missing; nothing is changed.
+    Stale(u64),
     /// There are not as many lines; nothing is changed.
     NoRoom,
 }
 
 impl Session {
-    /// Puts a document at a key where the key has this revision.
+    /// Puts a document at a key where the key has this revision, 0 where it is missing.
     pub fn put_if(&mut self, key: &str, document: &str, revision: u64) -> Result<PutIf, Error> {
         let reply = self.0.ask(&document_op(7, key, document.as_bytes(), revision as i64)?)?;
         match reply[0] {
-            12 => Ok(PutIf::Set),
-            13 => Ok(PutIf::Stale),
+            12 => Ok(PutIf::Set(reply[3])),
+            13 => Ok(PutIf::Stale(reply[3])),
             9 => Ok(PutIf::NoRoom),
             other => Err(Error::Unknown(other as i32)),
         }
     }
 
-    /// The revision of a key.
-    pub fn revision(&mut self, key: &str) -> Result<u64, Error> {
+    /// The revision of a key, where it is there.
+    pub fn revision(&mut self, key: &str) -> Result<Option<u64>, Error> {
         let reply = self.0.ask(&document_op(8, key, &[], 0)?)?;
         match reply[0] {
-            14 => Ok(reply[3]),
+            14 => Ok(Some(reply[3])),
+            4 => Ok(None),
             other => Err(Error::Unknown(other as i32)),
         }
     }
 }
-// revisions end
 
 /// A bounded queue of texts, which lives as long as one of its sessions.
 pub struct Queue;

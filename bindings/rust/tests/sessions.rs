@@ -50,21 +50,19 @@ fn documents_are_kept() {
     assert_eq!(s.get("umlaut"), Ok(Some("ü".to_string())));
 }
 
-// revisions begin
 #[test]
 fn a_revision_is_compared() {
     use githoppu::PutIf;
     let mut s = Store::open(64, 1).unwrap().pop().unwrap();
-    // a store without revisions takes these words for no operation
-    if s.revision("fruit") == Err(Error::NoOperation) {
-        return;
-    }
-    assert_eq!(s.put("fruit", "1"), Ok(Put::New));
-    let first = s.revision("fruit").unwrap();
-    assert_eq!(s.put_if("fruit", "2", first), Ok(PutIf::Set));
-    assert_eq!(s.put_if("fruit", "3", first), Ok(PutIf::Stale));
+    assert_eq!(s.revision("fruit"), Ok(None));
+    assert_eq!(s.put_if("fruit", "1", 7), Ok(PutIf::Stale(0)));
+    assert_eq!(s.put_if("fruit", "1", 0), Ok(PutIf::Set(1)));
+    assert_eq!(s.put("fruit", "2"), Ok(Put::Replaced));
+    assert_eq!(s.put_if("fruit", "3", 1), Ok(PutIf::Stale(2)));
+    assert_eq!(s.put_if("fruit", "3", 2), Ok(PutIf::Set(3)));
+    assert_eq!(s.revision("fruit"), Ok(Some(3)));
+    assert_eq!(s.get("fruit"), Ok(Some("3".to_string())));
 }
-// revisions end
 
 #[test]
 fn a_queue_is_first_in_first_out() {
