@@ -1,6 +1,7 @@
 -- Sessions between their calls, and what a call makes of one.
 use Rattle.std.specs.Prelude.{◌≡◌, ℕ, Bool, All, List, length, IfSome, Some}
 use Rattle.std.specs.Arc.{arc_value}
+use Rattle.cx_rule.specs.Running.{Running}
 use Rattle.cx_service.specs.declared.close.Handed.{Handed}
 use Rattle.c_sessions.specs.declared.session.Session.{Session}
 use Rattle.c_sessions.specs.declared.steps.Called.{Called}
@@ -12,10 +13,16 @@ pub record IsReady {O : Type 0} (s : Session O) : Type 0 where
   pub is : s.handed ≡ Some handed
   pub of : IsHanded (arc_value s.service) handed
 
--- so many sessions, each ready
+-- a session of this service, ready
+pub record IsReadyOf {O : Type 0} (r : Running O) (s : Session O) : Type 0 where
+  pub same : arc_value s.service ≡ r
+  pub ready : IsReady s
+
+-- so many sessions of one service, each ready
 pub record AreReady {O : Type 0} (count : ℕ) (sessions : List (Session O)) : Type 0 where
   pub all : length sessions ≡ count
-  pub each : All IsReady sessions
+  pub service : Running O
+  pub each : All (IsReadyOf service) sessions
 
 -- the session after it has the same share, and this stands of its caller
 pub record Stands {O : Type 0} (before after : Session O) (come_to : Handed → Handed → Type 0) : Type 0 where
