@@ -1,7 +1,11 @@
 -- Sessions between their calls, and what a call makes of one.
-use Rattle.std.specs.Prelude.{◌≡◌, ℕ, Bool, All, List, length, IfSome, Some}
+use Rattle.std.specs.Prelude.{◌≡◌, ℕ, Bool, All, List, length, map, IfSome, Some}
+use Rattle.std.specs.List.{range_with_len}
+use Rattle.std.specs.Option.{option_map_or}
 use Rattle.std.specs.Arc.{arc_value}
 use Rattle.cx_rule.specs.Running.{Running}
+use Rattle.cx_rule.specs.Seats.{Seated}
+use Rattle.cx_service.specs.Closes.{seat_of}
 use Rattle.cx_service.specs.declared.close.Handed.{Handed}
 use Rattle.c_sessions.specs.declared.session.Session.{Session}
 use Rattle.c_sessions.specs.declared.steps.Called.{Called}
@@ -18,11 +22,22 @@ pub record IsReadyOf {O : Type 0} (r : Running O) (s : Session O) : Type 0 where
   pub same : arc_value s.service ≡ r
   pub ready : IsReady s
 
--- so many sessions of one service, each ready
+-- the number of a session's caller
+abbrev pub number_in : {O : Type 0} → Session O → ℕ
+number_in s = option_map_or (λ h. (seat_of h).known.local.number) s.handed 0
+
+-- ready sessions of one service, for each of these callers one, in order
+pub record AreReadyOf {O : Type 0} (callers : List Seated) (sessions : List (Session O)) : Type 0 where
+  pub service : Running O
+  pub each : All (IsReadyOf service) sessions
+  pub numbers : map number_in sessions ≡ map (λ (x : Seated). x.known.local.number) callers
+
+-- so many ready sessions of one service, of caller 0 first
 pub record AreReady {O : Type 0} (count : ℕ) (sessions : List (Session O)) : Type 0 where
   pub all : length sessions ≡ count
   pub service : Running O
   pub each : All (IsReadyOf service) sessions
+  pub numbers : map number_in sessions ≡ range_with_len 0 count
 
 -- the session after it has the same share, and this stands of its caller
 pub record Stands {O : Type 0} (before after : Session O) (come_to : Handed → Handed → Type 0) : Type 0 where

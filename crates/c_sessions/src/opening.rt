@@ -5,7 +5,7 @@ ghost use Rattle.std.specs.Arc.{arc_value};
 ghost use Rattle.cx_core.specs.Base.{LawfulBase};
 ghost use Rattle.cx_service.specs.Callers.{IsCallerOf};
 ghost use Rattle.cx_service.specs.Starts.{AreFewCallers, AreFewLines};
-ghost use Rattle.c_sessions.specs.Sessions.{AreReady};
+ghost use Rattle.c_sessions.specs.Sessions.{AreReady, AreReadyOf};
 
 use crate::session::Session;
 use cx_base::Object;
@@ -48,14 +48,14 @@ pub fn open_from<O: Object>(
     }
 }
 
-/// A session for each caller of a service.
+/// A session for each caller of a service, in order.
 fn shared<O: Object>(
     alloc: Global,
     service: Service<O>,
     callers: Vec<Caller>,
 ) -> Result<Vec<Session<O>>, AllocError>
     requires { All (IsCallerOf service) callers.items }
-    ensures { IfOk result (λ sessions. AreReady (length callers.items) sessions.items) }
+    ensures { IfOk result (λ sessions. AreReadyOf callers.items sessions.items) }
 {
     let service = Arc::new(alloc, service)?;
     let mut sessions = Vec::new(alloc);

@@ -1,6 +1,6 @@
 //! A caller of a shared service, with its share of the service.
 
-ghost use Rattle.std.specs.Prelude.{◌≡◌};
+ghost use Rattle.std.specs.Prelude.{◌≡◌, Some};
 ghost use Rattle.std.specs.Arc.{arc_value};
 ghost use Rattle.c_sessions.specs.Calls.{IsHanded};
 ghost use Rattle.c_sessions.specs.Sessions.{CallsIn, FinishesIn, IsReady};
@@ -24,7 +24,7 @@ impl<O: Object> Session<O> {
     pub fn of(service: Arc<Service<O>, Global>, handed: Handed) -> Session<O>
         requires { IsHanded (arc_value service) handed }
         ensures ready { IsReady result }
-        ensures of { arc_value result.service ≡ arc_value service }
+        ensures of { (arc_value result.service ≡ arc_value service) × (result.handed ≡ Some handed) }
     {
         Session {
             service,

@@ -1,10 +1,20 @@
-use Rattle.std.proofs.Common.{ap, length, ◌∙◌}
-use Rattle.std.proofs.lemmas.List.FromFn.{length-map-range_with_len}
+use Rattle.std.proofs.Common.{◌≡◌, ap, map, ◌∙◌}
+use Rattle.std.specs.List.{range_with_len}
+use Rattle.std.proofs.lemmas.List.FromFn.{length-range_with_len}
+use Rattle.cx_rule.specs.Running.{Running}
+use Rattle.c_sessions.specs.Sessions.{number_in}
+use Rattle.c_sessions.proofs.Numbers.{as_many}
 use Rattle.c_sessions.proofs.opening.open_from.Goals as goal
 
 pub returns-in-Ok-shared : goal.returns-in-Ok-shared
-returns-in-Ok-shared g c = record {
-  all = c.in-Ok-shared.ensures.all ∙ (ap length c.in_ok-service.ensures.opened ∙ length-map-range_with_len _ 0 c.args.callers);
-  service = c.in-Ok-shared.ensures.service;
-  each = c.in-Ok-shared.ensures.each;
-}
+returns-in-Ok-shared g c =
+    let started = c.in_ok-service.ensures in
+    let sessions = c.in-Ok-shared.sessions.items in
+    let numbers : map number_in sessions ≡ range_with_len 0 c.args.callers =
+    c.in-Ok-shared.ensures.numbers ∙ started.all.numbers ∙ ap (λ (r : Running g.row.O.Denot). range_with_len 0 r.callers) started.is in
+    record {
+      all = as_many sessions (range_with_len 0 c.args.callers) numbers ∙ length-range_with_len 0 c.args.callers;
+      service = c.in-Ok-shared.ensures.service;
+      each = c.in-Ok-shared.ensures.each;
+      numbers = numbers;
+    }
