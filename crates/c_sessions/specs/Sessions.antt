@@ -6,7 +6,10 @@ use Rattle.std.specs.Arc.{arc_value}
 use Rattle.cx_rule.specs.Running.{Running}
 use Rattle.cx_rule.specs.Seats.{Seated}
 use Rattle.cx_service.specs.Closes.{seat_of}
+use Rattle.cx_service.specs.Starts.{IsStartFault}
 use Rattle.cx_service.specs.declared.close.Handed.{Handed}
+use Rattle.cx_service.specs.declared.start.StartFault.{StartFault}
+use Rattle.cx_service.specs.declared.start.StartFault.TheVariants.{Memory}
 use Rattle.c_sessions.specs.declared.session.Session.{Session}
 use Rattle.c_sessions.specs.declared.steps.Called.{Called}
 use Rattle.c_sessions.specs.Calls.{CallsFrom, FinishesFrom, IsHanded}
@@ -38,6 +41,12 @@ pub record AreReady {O : Type 0} (count : ℕ) (sessions : List (Session O)) : T
   pub service : Running O
   pub each : All (IsReadyOf service) sessions
   pub numbers : map number_in sessions ≡ range_with_len 0 count
+
+-- Why a service of so many callers of an object of so many lines is not opened: the first number that is wrong, or want of memory, which may come
+-- before the numbers are looked at.
+abbrev pub IsOpenFault : ℕ → ℕ → StartFault → Type 0
+IsOpenFault callers lines Memory = Unit {0}
+IsOpenFault callers lines fault = IsStartFault callers lines fault
 
 -- the session after it has the same share, and this stands of its caller
 pub record Stands {O : Type 0} (before after : Session O) (come_to : Handed → Handed → Type 0) : Type 0 where

@@ -1,11 +1,11 @@
 //! A service is opened, with a session for each of its callers.
 
-ghost use Rattle.std.specs.Prelude.{◌≡◌, All, IfOk, length};
+ghost use Rattle.std.specs.Prelude.{◌≡◌, All, IfOk, MatchResult, length};
 ghost use Rattle.std.specs.Arc.{arc_value};
 ghost use Rattle.cx_core.specs.Base.{LawfulBase};
 ghost use Rattle.cx_service.specs.Callers.{IsCallerOf};
 ghost use Rattle.cx_service.specs.Starts.{AreFewCallers, AreFewLines};
-ghost use Rattle.c_sessions.specs.Sessions.{AreReady, AreReadyOf};
+ghost use Rattle.c_sessions.specs.Sessions.{AreReady, AreReadyOf, IsOpenFault};
 
 use crate::session::Session;
 use cx_base::Object;
@@ -14,13 +14,14 @@ use cx_service::{Caller, Handed, Service, StartFault};
 use std::alloc::{AllocError, Global};
 use std::sync::Arc;
 
-/// The sessions of a new service of so many callers over the object as it opens, of caller 0 first. All memory is taken here.
+/// The sessions of a new service of so many callers over the object as it opens, of caller 0 first. All memory is taken here. A
+/// fault drops the object.
 pub fn open<O: Object>(
     alloc: Global,
     object: O,
     callers: u32,
 ) -> Result<Vec<Session<O>>, StartFault>
-    ensures { IfOk result (λ sessions. AreReady callers sessions.items) }
+    ensures { MatchResult result (λ sessions. AreReady callers sessions.items) (IsOpenFault callers (O.line_count object)) }
 {
     let Ok(base) = Base::fresh(alloc, &object) else {
         return Err(StartFault::Memory);
@@ -36,7 +37,7 @@ pub fn open_from<O: Object>(
     base: &Base,
 ) -> Result<Vec<Session<O>>, StartFault>
     requires { AreFewCallers callers → AreFewLines (O.line_count object) → LawfulBase (O.line_count object) (O.lawful object) base.now }
-    ensures { IfOk result (λ sessions. AreReady callers sessions.items) }
+    ensures { MatchResult result (λ sessions. AreReady callers sessions.items) (IsOpenFault callers (O.line_count object)) }
 {
     let Ok(limits) = Vec::from_elem(alloc, u64::MAX, callers as usize) else {
         return Err(StartFault::Memory);

@@ -1,5 +1,5 @@
 -- What C holds, and what a call of it answers.
-use Rattle.std.specs.Prelude.{◌≡◌, ◌≤◌, ◌^◌, ℕ, ℤ, pos, All, List, length}
+use Rattle.std.specs.Prelude.{◌≡◌, ◌⊎◌, ◌≤◌, ◌^◌, ℕ, ℤ, pos, All, List, length}
 use Rattle.std.specs.Global.{Global}
 use Rattle.std_alloc.specs.declared.boxed.Box.{Box}
 use Rattle.doc_store.specs.ExactStep.{reads_in}
@@ -19,6 +19,26 @@ IsCallable (Queue session) = IsReady session
 pub record AreCallable (count : ℕ) (boxes : List (Box Content Global)) : Type 0 where
   pub all : length boxes ≡ count
   pub each : All (λ (b : Box Content Global). IsCallable b.value) boxes
+
+-- what may be opened: an object of 64 to 16,384 lines, with 1 to 8 sessions
+pub record MayOpen (lines count : ℕ) : Type 0 where
+  pub least : 64 ≤ lines
+  pub most : lines ≤ 16384
+  pub some : 1 ≤ count
+  pub few : count ≤ 8
+
+-- why it is not opened, as a number: the sizes are wrong, or they are right and there is no memory
+abbrev pub Refuses : ℕ → ℕ → ℤ → Type 0
+Refuses lines count code = ((¬ MayOpen lines count) × (code ≡ pos 7)) ⊎ (MayOpen lines count × (code ≡ pos 8))
+
+-- what C is answered
+abbrev pub Opens : ℕ → ℕ → ℤ → Type 0
+Opens lines count code = (MayOpen lines count × (code ≡ pos 0)) ⊎ Refuses lines count code
+
+-- so many boxes of sessions that may be called, of an object that may be opened
+pub record AreOpened (lines count : ℕ) (boxes : List (Box Content Global)) : Type 0 where
+  pub may : MayOpen lines count
+  pub callable : AreCallable count boxes
 
 -- a call of this operation, in so many tries, came to this
 abbrev pub Calls : List ℕ → ℕ → Content → Called → Content → List ℕ → Type 0

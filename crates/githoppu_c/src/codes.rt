@@ -4,7 +4,6 @@ ghost use Rattle.std.specs.Prelude.{◌≡◌};
 ghost use Rattle.githoppu_c.specs.Contents as spec;
 
 use c_sessions::Called;
-use cx_service::StartFault;
 
 /// Done, and the reply is there.
 pub const DONE: i32 = 0;
@@ -37,13 +36,5 @@ pub fn code_of(called: Called) -> i32
         Called::Worn => WORN,
         Called::Stopped => STOPPED,
         Called::OutOfTurn => OUT_OF_TURN,
-    }
-}
-
-/// The number of a fault in opening.
-pub fn code_of_fault(fault: StartFault) -> i32 {
-    match fault {
-        StartFault::Callers { .. } | StartFault::Lines { .. } => BAD_SIZE,
-        StartFault::Memory => NO_MEMORY,
     }
 }

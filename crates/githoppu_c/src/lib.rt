@@ -3,7 +3,8 @@
 #![tactic(auto)]
 
 ghost use Rattle.std.specs.Prelude.{◌≤◌, ◌^◌};
-ghost use Rattle.githoppu_c.specs.Contents.{Answers, Calls, Finishes, IsCallable};
+ghost use Rattle.std.specs.Prelude.{length};
+ghost use Rattle.githoppu_c.specs.Contents.{Answers, Calls, Finishes, IsCallable, Opens};
 
 mod codes;
 mod content;
@@ -31,7 +32,9 @@ fn tries_of(asked: u64) -> Tries
 
 /// Opens an empty document store in so many lines, and puts a session into each slot. Where it is refused, no slot is written.
 #[unsafe(no_mangle)]
-pub extern "C" fn githoppu_open(alloc: Global, lines: u64, sessions: &mut [*mut u8]) -> i32 {
+pub extern "C" fn githoppu_open(alloc: Global, lines: u64, sessions: &mut [*mut u8]) -> i32
+    ensures { Opens lines (length sessions.old) result }
+{
     match open_documents(alloc, lines, sessions.len()) {
         Ok(made) => {
             hand_out(made, sessions);
@@ -43,7 +46,9 @@ pub extern "C" fn githoppu_open(alloc: Global, lines: u64, sessions: &mut [*mut 
 
 /// Opens an empty queue in so many lines, and puts a session into each slot. Where it is refused, no slot is written.
 #[unsafe(no_mangle)]
-pub extern "C" fn githoppu_open_queue(alloc: Global, lines: u64, sessions: &mut [*mut u8]) -> i32 {
+pub extern "C" fn githoppu_open_queue(alloc: Global, lines: u64, sessions: &mut [*mut u8]) -> i32
+    ensures { Opens lines (length sessions.old) result }
+{
     match open_queue(alloc, lines, sessions.len()) {
         Ok(made) => {
             hand_out(made, sessions);

@@ -1,10 +1,10 @@
 //! Sessions are opened, and put where C wants them.
 
-ghost use Rattle.std.specs.Prelude.{◌≤◌, IfOk, IsTrue, length, ℕ};
+ghost use Rattle.std.specs.Prelude.{◌↔◌, IfOk, IsTrue, MatchResult, length, ℕ};
 ghost use Rattle.c_sessions.specs.Sessions.{AreReady};
-ghost use Rattle.githoppu_c.specs.Contents.{AreCallable};
+ghost use Rattle.githoppu_c.specs.Contents.{AreCallable, AreOpened, MayOpen, Refuses};
 
-use crate::codes::{BAD_SIZE, NO_MEMORY, code_of_fault};
+use crate::codes::{BAD_SIZE, NO_MEMORY};
 use crate::content::Content;
 use c_sessions::{Session, open};
 use doc_store::DocStore;
@@ -13,27 +13,29 @@ use std::alloc::{AllocError, Global};
 
 /// So many sessions of an empty document store in so many lines.
 pub fn open_documents(alloc: Global, lines: u64, count: usize) -> Result<Vec<Box<Content>>, i32>
-    ensures { IfOk result (λ boxes. AreCallable count boxes.items) }
+    ensures { MatchResult result (λ boxes. AreOpened lines count boxes.items) (Refuses lines count) }
 {
     if !may_open(lines, count) {
         return Err(BAD_SIZE);
     }
     match open(alloc, DocStore::of(lines), count as u32) {
         Ok(sessions) => boxed(as_documents(alloc, sessions)),
-        Err(fault) => Err(code_of_fault(fault)),
+        // the sizes are right
+        Err(_) => Err(NO_MEMORY),
     }
 }
 
 /// So many sessions of an empty queue in so many lines.
 pub fn open_queue(alloc: Global, lines: u64, count: usize) -> Result<Vec<Box<Content>>, i32>
-    ensures { IfOk result (λ boxes. AreCallable count boxes.items) }
+    ensures { MatchResult result (λ boxes. AreOpened lines count boxes.items) (Refuses lines count) }
 {
     if !may_open(lines, count) {
         return Err(BAD_SIZE);
     }
     match open(alloc, Fifo::of(lines), count as u32) {
         Ok(sessions) => boxed(as_queue(alloc, sessions)),
-        Err(fault) => Err(code_of_fault(fault)),
+        // the sizes are right
+        Err(_) => Err(NO_MEMORY),
     }
 }
 
@@ -50,14 +52,14 @@ pub fn hand_out(sessions: Vec<Box<Content>>, slots: &mut [*mut u8]) {
 
 /// Whether there may be an object of so many lines with so many sessions.
 fn may_open(lines: u64, count: usize) -> bool
-    ensures { IsTrue result → (64 ≤ lines) × (lines ≤ 16384) × (1 ≤ count) × (count ≤ 8) }
+    ensures { IsTrue result ↔ MayOpen lines count }
 {
     lines >= 64 && lines <= 16384 && count >= 1 && count <= 8
 }
 
 /// What was made, or the number of want of memory.
 fn boxed(made: Result<Vec<Box<Content>>, AllocError>) -> Result<Vec<Box<Content>>, i32>
-    ensures { (count : ℕ) → IfOk made (λ boxes. AreCallable count boxes.items) → IfOk result (λ boxes. AreCallable count boxes.items) }
+    ensures { (lines count : ℕ) → MayOpen lines count → IfOk made (λ boxes. AreCallable count boxes.items) → MatchResult result (λ boxes. AreOpened lines count boxes.items) (Refuses lines count) }
 {
     match made {
         Ok(contents) => Ok(contents),
