@@ -9,7 +9,7 @@ import re
 import sys
 from pathlib import Path
 
-FUNCTION = re.compile(r"^\s*(?:pub(?:\([a-z]+\))?\s+)?(?:const\s+)?(?:unsafe\s+)?fn\s+([a-z_0-9]+)")
+FUNCTION = re.compile(r'^\s*(?:pub(?:\([a-z]+\))?\s+)?(?:const\s+)?(?:unsafe\s+)?(?:extern\s+"C"\s+)?fn\s+([a-z_0-9]+)')
 CLAUSE = re.compile(r"^\s*(requires|ensures)\s+(?:([a-z_0-9]+)\s+)?\{")
 
 
