@@ -57,6 +57,22 @@ pub trait Object: Drop {
         requires lawful { Always (M.stands mem.old) (lawful self.now) }
         ensures { Changes M.Memory mem.old mem.new result (λ reply before now. step self.now before op.now ≡ (now, reply)) };
 
+    /// Does one step as `run` does, and puts the reply where the caller has it: 144 words are not moved where the object makes them there.
+    fn run_into<M: Memory>(
+        &self,
+        mem: &mut M,
+        op: &[u64; 144],
+        reply: &mut [u64; 144],
+    ) -> Result<(), Halt>
+        requires size { M.size mem.old ≡ 8 * line_count self.now }
+        requires writable { IsTrue (M.writable mem.old) }
+        requires lawful { Always (M.stands mem.old) (lawful self.now) }
+        ensures { Changes M.Memory mem.old mem.new result (λ _ before now. step self.now before op.now ≡ (now, reply.new)) }
+    {
+        *reply = self.run(mem, op)?;
+        Ok(())
+    }
+
     /// Gives the reply to an operation that only reads, and stores nothing. `Halt` comes only where no access is
     /// left.
     fn query<M: Memory>(&self, mem: &mut M, op: &[u64; 144]) -> Result<[u64; 144], Halt>

@@ -5,7 +5,7 @@ use Rattle.std.proofs.lemmas.List.{append-nil, take-append-drop, length-append, 
 use Rattle.cx_base.specs.Memory.{Loaded, Stored, Becomes, Always, overwritten}
 use Rattle.cx_core.specs.Inside.{Inside, inside_store}
 use Rattle.cx_core.specs.Region.{place_of, slot_start, object_part}
-use Rattle.cx_core.specs.Step.{full_step_of, OnPart}
+use Rattle.cx_core.specs.Step.{IsStepped, full_step_of, OnPart}
 use Rattle.cx_core.specs.declared.entry.Entry.{Entry}
 
 module _ {Key : Type 0} where
@@ -85,16 +85,20 @@ module _ {Key : Type 0} where
 step_of_changes : (step : List ℕ → List ℕ → List ℕ × List ℕ) (entry : Entry) (place : ℕ) (reply ws a b c d : List ℕ) →
     slice_index ws 0 ≡ place → OnPart 1168 (λ before now. step before entry.op ≡ (now, reply)) ws a →
     b ≡ slice_set a (slot_start entry.caller) entry.number → c ≡ overwritten (slot_start entry.caller + 1) reply b → d ≡ slice_set c 0 (place + 1) →
-    d ≡ full_step_of step entry ws
+    IsStepped step entry reply ws d
 unfolding overwritten full_step_of object_part
 step_of_changes step entry place reply ws a b c d at_place done number told last =
     let slot = slot_start entry.caller in
     let image : drop 1168 a ≡ (step (drop 1168 ws) entry.op).0 = ap (λ p. p.0) (sym done.part) in
     let answer : reply ≡ (step (drop 1168 ws) entry.op).1 = ap (λ p. p.1) (sym done.part) in
     let object : a ≡ overwritten 1168 (step (drop 1168 ws) entry.op).0 ws = done.rest ∙ ap (λ vs. overwritten 1168 vs ws) image in
-    last
-    ∙ ap (λ n. slice_set c 0 (n + 1)) (sym at_place)
-    ∙ ap (λ xs. slice_set xs 0 (place_of ws + 1)) (told ∙ ap (overwritten (slot + 1) reply) number ∙ ap (λ vs. overwritten (slot + 1) vs (slice_set a slot entry.number)) answer ∙ ap (λ xs. overwritten (slot + 1) (step (drop 1168 ws) entry.op).1 (slice_set xs slot entry.number)) object)
+    record {
+      words =
+          last
+          ∙ ap (λ n. slice_set c 0 (n + 1)) (sym at_place)
+          ∙ ap (λ xs. slice_set xs 0 (place_of ws + 1)) (told ∙ ap (overwritten (slot + 1) reply) number ∙ ap (λ vs. overwritten (slot + 1) vs (slice_set a slot entry.number)) answer ∙ ap (λ xs. overwritten (slot + 1) (step (drop 1168 ws) entry.op).1 (slice_set xs slot entry.number)) object);
+      replied = answer;
+    }
 
 module _ {Key : Type 0} where
   -- what these five do to the pairs that stand
@@ -105,7 +109,7 @@ module _ {Key : Type 0} where
       Becomes m₂ m₃ (λ before now. now ≡ slice_set before slot entry.number) →
       Becomes m₃ m₄ (λ before now. now ≡ overwritten (slot + 1) reply before) →
       Stored 0 (place + 1) m₄ new →
-      Becomes old new (λ before now. now ≡ full_step_of step entry before)
+      Becomes old new (IsStepped step entry reply)
   full_step_done step entry place slot reply there loaded object number told stored = record {
     from = λ first now s. (
         let d = stored.back first now s in

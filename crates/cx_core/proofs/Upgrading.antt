@@ -54,7 +54,7 @@ module _ (region part : List ℕ) (long : 1168 ≤ length region) where
       ∙ sym (words_in_front front (drop 1168 region) front_long at n within)
       ∙ ap (λ (ws : List ℕ). take n (drop at ws)) whole
 
-  same_reply : (caller : ℕ) → caller < 8 → slot_reply caller (front ++ part) ≡ slot_reply caller region
+  pub same_reply : (caller : ℕ) → caller < 8 → slot_reply caller (front ++ part) ≡ slot_reply caller region
   unfolding slot_reply
   same_reply caller few = same_words (slot_start caller + 1) 144 (omega (arith, few))
 

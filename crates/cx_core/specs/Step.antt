@@ -12,6 +12,11 @@ full_step_of step entry region =
     let done = step (object_part region) entry.op in
     overwritten 0 ((place_of region + 1) ∷ []) (overwritten (slot_start entry.caller) (entry.number ∷ done.1) (overwritten 1168 done.0 region))
 
+-- the words after the full step of an entry, and the object's reply to it
+pub record IsStepped (step : List ℕ → List ℕ → List ℕ × List ℕ) (entry : Entry) (reply before now : List ℕ) : Type 0 where
+  pub words : now ≡ full_step_of step entry before
+  pub replied : reply ≡ (step (object_part before) entry.op).1
+
 -- the words from a place on are so related, and the words in front are kept
 pub record OnPart (from : ℕ) (R : List ℕ → List ℕ → Type 0) (before now : List ℕ) : Type 0 where
   pub part : R (drop from before) (drop from now)

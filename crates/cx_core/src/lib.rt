@@ -2,7 +2,7 @@
 //! of its events and of the lawful state.
 //!
 //! - A full step over any object and any writable memory of a region is the full step of its definition, for every pair that stands, and halts
-//!   only where no access is left: `full_step` (`done`, `halts`).
+//!   only where no access is left: `full_step` (`done`, `halts`); and the object's reply stands where the caller wants it: `full_step_into`.
 //! - A part of a memory is a memory, and what stands around it is kept: `Memory for Part`.
 //! - The first base has place 0, no results and the object's opening image, and is lawful: `Base::fresh`.
 //! - The full image after a place is the base's words and then one full step after another: `full_image_begins`, `full_image_goes_on`.
@@ -40,4 +40,4 @@ pub use local::{
 };
 pub use part::Part;
 pub use region::{HEAD_LINES, LINE_WORDS, OBJECT_START, slot_start};
-pub use step::{format_part, full_step};
+pub use step::{format_part, full_step, full_step_into};

@@ -4,7 +4,7 @@ ghost use Rattle.std.specs.Prelude.{◌≡◌, ◌^◌, ◌<◌};
 ghost use Rattle.cx_base.specs.Calls.{Changes};
 ghost use Rattle.cx_base.specs.Memory.{Always};
 ghost use Rattle.cx_core.specs.Region.{place_of, object_part};
-ghost use Rattle.cx_core.specs.Step.{HasRegion, OnPart, full_step_of};
+ghost use Rattle.cx_core.specs.Step.{HasRegion, IsStepped, OnPart, full_step_of};
 
 use crate::entry::Entry;
 use crate::part::Part;
@@ -21,11 +21,29 @@ pub fn full_step<O: Object, M: Memory>(object: &O, mem: &mut M, entry: &Entry) -
     requires caller { entry.now.caller < 8 }
     ensures { Changes M.Memory mem.old mem.new result (λ _ before now. now ≡ full_step_of (O.step object.now) entry.now before) }
 {
+    let mut reply = [0; 144];
+    full_step_into(object, mem, entry, &mut reply)
+}
+
+/// The full step of an entry, as `full_step` does it, and the object's reply to it put where the caller has it, so that it need not be loaded
+/// from the slot. `Halt` comes only where no access is left.
+pub fn full_step_into<O: Object, M: Memory>(
+    object: &O,
+    mem: &mut M,
+    entry: &Entry,
+    reply: &mut [u64; 144],
+) -> Result<(), Halt>
+    requires region { HasRegion M.Memory (O.line_count object.now) mem.old }
+    requires place { Always (M.stands mem.old) (λ region. place_of region < 2 ^ 40) }
+    requires lawful { Always (M.stands mem.old) (λ region. O.lawful object.now (object_part region)) }
+    requires caller { entry.now.caller < 8 }
+    ensures { Changes M.Memory mem.old mem.new result (λ _ before now. IsStepped (O.step object.now) entry.now reply.new before now) }
+{
     let place = load_below(mem, PLACE_AT, PLACE_END)?;
-    let reply = run_part(object, mem, &entry.op)?;
+    run_part(object, mem, &entry.op, reply)?;
     let slot = slot_start(entry.caller);
     store_word(mem, slot, entry.number)?;
-    store_words(mem, slot + 1, &reply)?;
+    store_words(mem, slot + 1, reply)?;
     mem.store(PLACE_AT, place + 1)?;
     Ok(())
 }
@@ -35,10 +53,11 @@ fn run_part<O: Object, M: Memory>(
     object: &O,
     mem: &mut M,
     op: &[u64; 144],
-) -> Result<[u64; 144], Halt>
+    reply: &mut [u64; 144],
+) -> Result<(), Halt>
     requires region { HasRegion M.Memory (O.line_count object.now) mem.old }
     requires lawful { Always (M.stands mem.old) (λ region. O.lawful object.now (object_part region)) }
-    ensures { Changes M.Memory mem.old mem.new result (λ reply. OnPart OBJECT_START (λ before now. O.step object.now before op.now ≡ (now, reply))) }
+    ensures { Changes M.Memory mem.old mem.new result (λ _. OnPart OBJECT_START (λ before now. O.step object.now before op.now ≡ (now, reply.new))) }
 {
     let len = LINE_WORDS * object.lines();
     let mut part = Part {
@@ -46,7 +65,7 @@ fn run_part<O: Object, M: Memory>(
         from: OBJECT_START,
         len,
     };
-    object.run(&mut part, op)
+    object.run_into(&mut part, op, reply)
 }
 
 /// Makes the opening image in the object part of a region.

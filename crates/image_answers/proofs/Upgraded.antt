@@ -2,9 +2,9 @@
 use Rattle.std.proofs.Common.{◌≡◌, ◌≢◌, ◌∙◌, ◌⊎◌, ◌+◌, ◌≤◌, ◌<◌, inl, inr, ℕ, Bool, true, cond, List, ◌++◌, Option, Some, length, nat_eq, refl, sym, ap, subst, drop, take, arith, eq-eqb}
 use Rattle.std.specs.Option.{option_eq}
 use Rattle.std.proofs.lemmas.Bool.{cases_Bool}
-use Rattle.std.proofs.lemmas.List.{drop-append-le, drop_at, length-append, length-drop, length-take-le, take-append-drop, take-append-le}
+use Rattle.std.proofs.lemmas.List.{drop_at, length-append, length-take-le}
 use Rattle.cx_base.specs.OldFormat.{OldFormat}
-use Rattle.cx_core.proofs.Upgrading.{own_stays, same_word}
+use Rattle.cx_core.proofs.Upgrading.{own_stays, same_reply, same_word}
 use Rattle.cx_core.specs.Recovered.{is_old, upgraded_region, version_of}
 use Rattle.cx_core.specs.Region.{object_part, slot_number, slot_reply, slot_start}
 use Rattle.doc_store.specs.ExactStep.{IsImage, first_format}
@@ -15,25 +15,11 @@ begins_old : (old : OldFormat) (region : List ℕ) → old.version ≡ Some (ver
 begins_old old region same =
     subst (λ (v : Option ℕ). option_eq nat_eq v (Some (version_of region)) ≡ true) (sym same) (eq-eqb (version_of region) (version_of region) refl)
 
-words_in_front : (front part : List ℕ) (at n : ℕ) → at + n ≤ length front → take n (drop at (front ++ part)) ≡ take n (drop at front)
-words_in_front front part at n within =
-    ap (take n) (drop-append-le at front part (omega (arith, within)))
-    ∙ take-append-le n (drop at front) part (omega (arith, length-drop at front, within))
-
 -- another object part
 module _ (region part : List ℕ) (long : 1168 ≤ length region) where
   pub part_there : object_part (take 1168 region ++ part) ≡ part
   unfolding object_part
   part_there = drop_at (take 1168 region) part 1168 (length-take-le 1168 region long)
-
-  reply_stays : (client : ℕ) → client < 8 → slot_reply client (take 1168 region ++ part) ≡ slot_reply client region
-  unfolding slot_reply
-  reply_stays client few =
-      let at : ℕ = slot_start client + 1 in
-      let front = length-take-le 1168 region long in
-      words_in_front (take 1168 region) part at 144 (omega (arith, few, front))
-      ∙ sym (words_in_front (take 1168 region) (drop 1168 region) at 144 (omega (arith, few, front)))
-      ∙ ap (λ (ws : List ℕ). take 144 (drop at ws)) (take-append-drop 1168 region)
 
   whole_front : 1168 ≤ length (take 1168 region ++ part)
   whole_front = omega (arith, length-append (take 1168 region) part, length-take-le 1168 region long)
@@ -67,7 +53,7 @@ slots_stay : (old : OldFormat) (region : List ℕ) (client : ℕ) → 1168 ≤ l
 slots_stay old region client long few =
     let part : List ℕ = old.upgraded (object_part region) in
     elim (cases_Bool (is_old old region)) [
-      | inl is ↦ rw is (same_word region part long (slot_start client) (omega (arith, few)), reply_stays region part long client few)
+      | inl is ↦ rw is (same_word region part long (slot_start client) (omega (arith, few)), same_reply region part long client few)
       | inr other ↦ rw other (refl, refl)
     ]
 
