@@ -37,6 +37,7 @@ import held_reader
 import plain_judge
 import random_faults
 import random_lives
+import random_pools
 import random_queues
 import record_trace
 import stopped_clients
@@ -389,8 +390,13 @@ class Statuses(unittest.TestCase):
             script = ROWS / "room.script"
             self.assertEqual((f"{script}, line 1: the line is none of a report\n", 1), said_by(draw_life.main, [script]))
             self.assertEqual((f"{out}: No such file or directory\n", 2), said_by(draw_life.main, [out]))
-            for words in ([], ["-o"], [report, "-o"], [report, out], ["-o", out]):
-                self.assertEqual(("usage: draw_life.py REPORT [-o FILE]\n", 2), said_by(draw_life.main, words))
+            for words in ([], ["-o"], [report, "-o"], [report, out], ["-o", out], ["--texts"], [report, "--texts", "--texts"]):
+                self.assertEqual(("usage: draw_life.py [--texts] REPORT [-o FILE]\n", 2), said_by(draw_life.main, words))
+            long = Path(folder) / "long.report"
+            long.write_bytes(random_pools.random_report(random.Random(1), 20, 40)[1])
+            for words in ([long], ["--texts", long], [long, "--texts"]):
+                picture, status = said_by(draw_life.main, words)
+                self.assertEqual(("--texts" in words, "draw_life.py --texts has them" not in picture, 0), ('class="code"' in picture,) * 2 + (status,))
 
 
 class Scripts(unittest.TestCase):
@@ -663,11 +669,21 @@ class Pictures(unittest.TestCase):
             text = random_lives.script_text(choice, clients, lives, commands // lives, cuts=clients > 1)
             yield f"{clients} clients, {lives} lives, {commands}", random_lives.report_text(choice, read_script(text))
             yield f"a queue, {clients} clients, {lives} lives, {commands}", random_queues.random_report(choice, clients, lives, commands // lives)[1]
+        for clients, commands in itertools.product((9, 20, 24, 25, 64), (20, 120)):
+            yield f"{clients} clients share callers, {commands}", random_pools.random_report(random.Random(clients), clients, commands)[1]
+
+    def pictures(self):
+        """Each report, with its picture, and with the one that has texts where that is another."""
+        for name, report in self.reports():
+            picture, with_texts = draw_life.drawn(report), draw_life.drawn(report, texts=True)
+            yield name, report, picture
+            if picture != with_texts and len(picture) < 100_000:
+                yield f"{name}, with texts", report, with_texts
 
     def test_marks(self):
-        for name, report in self.reports():
+        for name, report, picture in self.pictures():
             with self.subTest(name):
-                self.assertEqual(self.expected(report), self.marks(draw_life.drawn(report)))
+                self.assertEqual(self.expected(report), self.marks(picture))
 
     def test_pictures_of_the_documents_are_these(self):
         """After a change of the drawing: tools/draw_life.py docs/pictures/NAME.report -o docs/pictures/NAME.svg"""
@@ -675,28 +691,52 @@ class Pictures(unittest.TestCase):
             with self.subTest(report.stem):
                 self.assertEqual(draw_life.drawn(report.read_bytes()), report.with_suffix(".svg").read_text(encoding="utf-8"))
 
-    def test_long_reports_have_no_texts(self):
+    def test_long_reports_have_no_texts_and_say_so(self):
         for name, report in self.reports():
-            picture = draw_life.drawn(report)
-            rows = len(draw_life.rows_of(read_report(report)))
+            picture, with_texts = draw_life.drawn(report), draw_life.drawn(report, texts=True)
+            lives = read_report(report).lives
+            commands = sum(len(life.entries) + len(life.reads) for life in lives)
+            clients = max((life.head.clients for life in lives), default=0)
+            few = commands <= draw_life.MOST_COMMANDS_WITH_TEXT and clients <= draw_life.MOST_LANES_WITH_TEXT
             with self.subTest(name):
-                self.assertEqual(rows <= draw_life.MOST_ROWS_WITH_TEXT and " = " in report.decode(), 'class="code"' in picture)
+                self.assertEqual(few, "--texts" not in picture)
+                self.assertEqual(few, picture == with_texts)
+                self.assertEqual(few and " = " in report.decode(), 'class="code"' in picture)
+                self.assertEqual(few and bool(lives), "The choice is" in picture)
+
+    def test_headings(self):
+        """Over the lanes stands what they are, reads have their places apart, and a column goes on with its life."""
+        for name, report, picture in self.pictures():
+            texts = [(element.text, x + float(element.get("x"))) for element, x, _ in self.elements(picture) if element.tag.endswith("}text")]
+            lives = read_report(report).lives
+            heads = sum(text == "ticket" for text, _ in texts)
+            with self.subTest(name):
+                self.assertEqual(heads, sum(text == "client" for text, _ in texts))
+                self.assertEqual(heads, len(lives) + sum(text is not None and text.endswith(", continued") for text, _ in texts))
+                if 'class="code"' in picture:
+                    ends = {text: x for text, x in texts if text in ("ticket", "place")}
+                    places = sorted(read.place for life in lives for read in life.reads)
+                    self.assertEqual(places, sorted(int(text) for text, x in texts if text and text.isdigit() and x == ends.get("place")))
+
+    def test_what_was_lost_says_so_in_its_line(self):
+        picture = draw_life.drawn((PICTURES / "two_shops.report").read_bytes())
+        self.assertIn('unanswered</tspan><tspan class="lost">  lost</tspan></text>', picture)
+        self.assertEqual(1, picture.count('<tspan class="lost">'))
 
     def test_no_text_is_small(self):
         sizes = [float(size) for size in re.findall(r"font-size: ([0-9.]+)px", draw_life.STYLE)]
         self.assertGreaterEqual(min(sizes), 11)
 
     def test_labels_do_not_overlap(self):
-        for name, report in self.reports():
-            boxes = [self.box(*found) for found in self.elements(draw_life.drawn(report)) if found[0].tag.endswith("}text")]
+        for name, _, picture in self.pictures():
+            boxes = [self.box(*found) for found in self.elements(picture) if found[0].tag.endswith("}text")]
             with self.subTest(name):
                 for one, other in itertools.combinations(boxes, 2):
                     apart = one[2] <= other[0] or other[2] <= one[0] or one[3] <= other[1] or other[3] <= one[1]
                     self.assertTrue(apart, (one, other))
 
     def test_all_lies_within_the_picture(self):
-        for name, report in self.reports():
-            picture = draw_life.drawn(report)
+        for name, _, picture in self.pictures():
             root = ElementTree.fromstring(picture)
             wide, high = float(root.get("width")), float(root.get("height"))
             self.assertEqual(f"0 0 {wide:g} {high:g}", root.get("viewBox"))
