@@ -1,8 +1,13 @@
 #!/usr/bin/env python3
-"""Tests of the table, the words and the plot of performance.py, without a measurement."""
+"""Tests of the table, the words and the plot of performance.py, without a measurement.
+
+Example: python3 bench/test_performance.py
+Status 0 where all passed, else 1.
+"""
 import itertools
 import os
 import re
+import sys
 import tempfile
 import unittest
 import xml.etree.ElementTree as ElementTree
@@ -195,4 +200,6 @@ class Pictures(unittest.TestCase):
 
 
 if __name__ == "__main__":
+    if sys.argv[1:2] in (["-h"], ["--help"]):
+        sys.exit(print(__doc__))
     unittest.main()

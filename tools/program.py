@@ -13,3 +13,8 @@ def built():
     """The newer of the two programs; the path of the proved one, where there is none."""
     there = [path for path in (PROVED, UNPROVED) if path.exists()]
     return max(there, key=lambda path: path.stat().st_mtime, default=PROVED)
+
+
+def is_proved(program):
+    """Whether a program is there and is the proved one: the tests run no other, since they hold its threads and refuse it memory."""
+    return program == PROVED and program.exists()

@@ -1,7 +1,11 @@
 #!/usr/bin/env python3
 """Tests of the tools, and of the built program: python3 tools/test_tools.py [--with-program]
 
-No network is needed. Where the program is not built, the tests that run it are skipped; with --with-program they fail there.
+No network is needed. The program is the one that the gate or `tools/build --proved` leaves. Where there is none, the tests that run it are skipped; with
+--with-program, as the gate has it, they fail there. A class or a test alone is named by further words.
+
+Example: python3 tools/test_tools.py Pictures
+Status 0 where all passed, else 1.
 """
 import contextlib
 import io
@@ -41,11 +45,14 @@ import random_pools
 import random_queues
 import record_trace
 import stopped_clients
+import told
 from end_tests import Ends
+from help_tests import Helps
 from image_tests import ImageExplanations, ProgramOnImages, ReadImages, usage
 from plain_core import Core
 from pool_tests import PoolTexts
 from pool_text import read_pool_script
+from program import is_proved
 from queue_tests import ProgramOnQueues, QueueTexts
 from queue_text import read_queue_script
 from report_text import Fault, read_report, split_reply
@@ -528,10 +535,10 @@ class Program(unittest.TestCase):
     """The built program: statuses, and what is written."""
 
     def setUp(self):
-        if not random_lives.PROGRAM.exists():
+        if not is_proved(random_lives.PROGRAM):
             if MUST_RUN:
-                self.fail(f"{random_lives.PROGRAM} is not there")
-            self.skipTest("the program is not built")
+                self.fail(f"there is no proved program, or a newer one without a proof: {random_lives.PROGRAM}")
+            self.skipTest("the program is not built and proved")
 
     def ran(self, words, script):
         """The status, what is written, and how many bytes of the script are read."""
@@ -912,6 +919,8 @@ class TracesTest(unittest.TestCase):
 
 
 if __name__ == "__main__":
-    if not (MUST_RUN or random_lives.PROGRAM.exists()):
-        print(f"{random_lives.PROGRAM} is not built: the tests that run it are skipped", file=sys.stderr)
+    if told.helped(__doc__, sys.argv[1:]):
+        sys.exit(0)
+    if not (MUST_RUN or is_proved(random_lives.PROGRAM)):
+        print("there is no proved program (tools/build --proved): the tests that run it are skipped", file=sys.stderr)
     unittest.main(argv=[word for word in sys.argv if word != WITH_PROGRAM])

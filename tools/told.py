@@ -12,7 +12,7 @@ def helped(text, words):
     return False
 
 
-def wanted(text, words, counts):
+def asked_words(text, words, counts):
     """The words, where there are as many as one of the counts; else ends with what the tool is for: 0 where that was asked, 2 else."""
     if helped(text, words):
         sys.exit(0)
