@@ -213,6 +213,8 @@ def page(measured, options, where, left_out, found):
         "",
         f"![Calls a second by share of reads]({PICTURE})",
         "",
+        "The picture is drawn from the table below: the others' calls are ours times their ratio.",
+        "",
         "## The figures",
         "",
         f"{where}. Medians of {options.rounds} rounds of {options.ms} milliseconds, in which all run in turn (`bench/performance.py`; the others "

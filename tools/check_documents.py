@@ -25,8 +25,8 @@ LINK = re.compile(r"\]\(([^)#\s]+)\)")
 ENDINGS = ("rt", "antt", "py", "md", "txt", "script", "report", "svg", "json", "edit", "rs", "toml")
 PATH = re.compile(rf"[\w.*-]+(?:/[\w.*-]+)+/?|[\w-]+\.(?:{'|'.join(ENDINGS)})")
 PLACE = re.compile(r"\b[A-Z]{2,}\b")
-# the toolchain's own line, and a form of JSON
-FOREIGN = {"kit", "logic", "dac8208d650f15bf", "u00xx"}
+# the toolchain's own line and a command of it, and a form of JSON
+FOREIGN = {"kit", "logic", "dac8208d650f15bf", "plant", "u00xx"}
 
 
 def paths_of(root):
