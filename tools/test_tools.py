@@ -46,6 +46,7 @@ import random_queues
 import record_trace
 import stopped_clients
 import told
+from build_tests import Builds
 from end_tests import Ends
 from help_tests import Helps
 from image_tests import ImageExplanations, ProgramOnImages, ReadImages, usage
