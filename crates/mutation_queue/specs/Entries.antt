@@ -59,7 +59,7 @@ pub record Looked {O : Type 0} (r : Running O) (ticket cell : ℕ) (before after
 -- the words of an entry were read, all within the limit, and what is noted fits what is there
 pub record ReadsWords {O : Type 0} (o : Ghosts O) (r : Running O) (caller ticket : ℕ) (words : List ℕ) (before after : Seated) : Type 0 where
   pub seat : after ≡ with_read caller ticket words before
-  pub fits : Fitting r.lines (o.lawful r.object) r.base after.known
+  pub fits : Fitting r.lines (o.lawful r.object) r.base (o.step r.object) after.known
   pub within : (n : ℕ) → n < 145 → EndsAfter n before.known.local → ⊥
 
 -- the limit was come to before all words were read
