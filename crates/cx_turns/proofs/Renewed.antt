@@ -9,10 +9,10 @@ use Rattle.cx_rule.specs.Seats.{Seated}
 use Rattle.cx_table.specs.Right.{Right}
 use Rattle.cx_turns.specs.Keeping.{Others, no_others, others}
 use Rattle.cx_turns.specs.Preparing.{Prepares}
-use Rattle.cx_turns.specs.Replaying.{IsBroughtUp, ShowsReply, beside_bringing}
+use Rattle.cx_turns.specs.Replaying.{IsBroughtUp, beside_bringing}
 use Rattle.cx_turns.specs.Turns.{unguarded}
 use Rattle.cx_turns.proofs.Working.{rights_kept}
-use Rattle.replica.specs.Replays.{noted_place}
+use Rattle.replica.specs.Replays.{ShowsReply, noted_place}
 use Rattle.strong_trylock.specs.Ends.{Downgrades}
 use Rattle.strong_trylock.specs.Held.{AllRights, all_rights, no_rights}
 

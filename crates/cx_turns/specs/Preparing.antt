@@ -7,9 +7,8 @@ use Rattle.cx_rule.specs.Running.{Running}
 use Rattle.cx_rule.specs.Seats.{Seated}
 use Rattle.cx_table.specs.Tokens.{IsDowngradedOf}
 use Rattle.cx_turns.specs.declared.preparing.Prepared.{Prepared}
-use Rattle.cx_turns.specs.Replaying.{ShowsReply}
 use Rattle.cx_turns.specs.Turns.{TurnRefused}
-use Rattle.replica.specs.Replays.{noted_place}
+use Rattle.replica.specs.Replays.{ShowsReply, noted_place}
 use Rattle.strong_trylock.specs.Held.{all_rights, no_rights}
 
 -- The caller's only right is a downgraded one, on a replica that it brought up to a place above a ticket and made durable. What

@@ -2,14 +2,11 @@
 use Rattle.std.specs.Prelude.{◌≡◌, ◌^◌, ◌<◌, ◌⊎◌, ℕ, List, [], ◌∷◌, None}
 use Rattle.std.specs.Option.{option_map}
 use Rattle.cx_base.specs.Memory.{Becomes}
-use Rattle.cx_base.specs.Noted.{Note}
 use Rattle.cx_base.specs.declared.object.Object.{Ghosts}
-use Rattle.cx_core.specs.declared.entry.Base.{Base}
 use Rattle.cx_core.specs.declared.entry.Entry.{Entry}
 use Rattle.cx_core.specs.declared.local.HeldShared.{HeldShared}
 use Rattle.cx_core.specs.declared.local.Protection.TheVariants.{Unprotected}
 use Rattle.cx_core.specs.History.{IsLawfulEntry}
-use Rattle.cx_core.specs.Region.{slot_reply}
 use Rattle.cx_rule.specs.Fitting.{Fits, HasEntry, entries_of}
 use Rattle.cx_rule.specs.Running.{Running}
 use Rattle.cx_rule.specs.Seats.{IsWithinLimit, Seated}
@@ -19,7 +16,7 @@ use Rattle.mutation_queue.specs.Entries.{IsNotedEntry, ReadsEntry}
 use Rattle.replica.specs.Flushes.{IsFlushed}
 use Rattle.replica.specs.Held.{IsHeld, beside_held, but_words}
 use Rattle.replica.specs.Regions.{HasPlace}
-use Rattle.replica.specs.Replays.{IsImage, IsReady, noted_place}
+use Rattle.replica.specs.Replays.{IsImage, IsReady, ShowsReply, noted_place}
 
 -- a replica held shared but for what is loaded of it
 abbrev pub but_loads : HeldShared → HeldShared
@@ -54,10 +51,6 @@ pub record FindsNext (ticket : ℕ) (entry : Entry) (before after : Seated) : Ty
   pub small : ticket < 2 ^ 40
   pub found : (after ≡ before) ⊎ ReadsEntry entry.caller ticket (entry.number ∷ entry.op) before after
 
--- whatever fits the accesses of a replica, the last entry of this caller there has this reply
-abbrev pub ShowsReply : ℕ → (List ℕ → Type 0) → Base → List Note → ℕ → List ℕ → Type 0
-ShowsReply lines lawful base accesses number reply = (first now : List ℕ) → Fits lines lawful base accesses first now → slot_reply number now ≡ reply
-
 -- A replica held exclusively is the image after a place above a ticket, no word of it is dirty, and the caller's last entry there
 -- has this reply.
 pub record IsBroughtUp {O : Type 0} (o : Ghosts O) (r : Running O) (held : Right) (ticket : ℕ) (seat : Seated) (reply : List ℕ) : Type 0 where
@@ -72,6 +65,11 @@ pub record IsBroughtUp {O : Type 0} (o : Ghosts O) (r : Running O) (held : Right
 pub record IsReplayed {O : Type 0} (o : Ghosts O) (r : Running O) (held : Right) (ticket : ℕ) (seat : Seated) : Type 0 where
   pub ready : IsReady o r held (noted_place seat) seat
   pub place : ticket < noted_place seat
+
+-- An entry of this caller was applied to a replica held exclusively, which is the image after this place and has this reply for that caller.
+pub record IsApplied {O : Type 0} (o : Ghosts O) (r : Running O) (held : Right) (at caller : ℕ) (reply : List ℕ) (seat : Seated) : Type 0 where
+  pub ready : IsReady o r held at seat
+  pub replied : ShowsReply (o.line_count r.object) (o.lawful r.object) r.base seat.known.accesses caller reply
 
 -- It is the image after the place that it had, no word of it is dirty, and the caller's last entry there has this reply.
 pub record IsSettled {O : Type 0} (o : Ghosts O) (r : Running O) (held : Right) (before after : Seated) (reply : List ℕ) : Type 0 where

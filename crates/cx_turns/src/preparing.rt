@@ -78,7 +78,8 @@ fn finish<O: Object>(
     ensures prepared { MatchResult result (Prepares O.Object shared.now ticket seat.old seat.new) (λ _. HaltsTurn seat.old seat.new) }
     ensures turns { Turns shared.now beside_turn seat.old seat.new }
 {
-    let reply = bring_up(shared, seat, &held, ticket)?;
+    let mut reply = [0; 144];
+    bring_up(shared, seat, &held, ticket, &mut reply)?;
     let held = downgrade(shared, seat, held)?;
     Ok(Prepared { held, reply })
 }

@@ -14,8 +14,8 @@ use Rattle.cx_core.specs.declared.entry.Entry.{Entry}
 use Rattle.cx_core.specs.declared.local.Linked.{Linked}
 use Rattle.cx_core.specs.Base.{LawfulBase}
 use Rattle.cx_core.specs.History.{IsLawfulEntry}
-use Rattle.cx_core.specs.Region.{object_part, place_of}
-use Rattle.cx_core.specs.Step.{full_step_of}
+use Rattle.cx_core.specs.Region.{object_part, place_of, slot_reply}
+use Rattle.cx_core.specs.Step.{IsStepped}
 use Rattle.cx_core.proofs.HistoryLemmas.{ObjectLaws}
 use Rattle.cx_core.proofs.KeepLemmas as keep
 use Rattle.cx_rule.specs.declared.rule.Known.{Known}
@@ -27,7 +27,7 @@ use Rattle.cx_table.specs.Right.{Right}
 use Rattle.replica.specs.Held.{Accesses}
 use Rattle.replica.specs.Regions.{HasPlace}
 use Rattle.replica.proofs.RegionLaws.{loaded_place}
-use Rattle.replica.specs.Replays.{Accessed, CanStep, ComesNext, IsImage, IsReady, StoresNone, noted_place}
+use Rattle.replica.specs.Replays.{Accessed, CanStep, ComesNext, IsImage, IsReady, ShowsReply, StoresNone, noted_place}
 
 -- ---- the place that was noted
 
@@ -73,11 +73,11 @@ module _ (lines : ℕ) (lawful : List ℕ → Type 0) (base : Base) (step : List
   pub image_object : (known : Known) → IsImage lines lawful base step known → (first now : List ℕ) → Fits lines lawful base known.accesses first now → lawful (object_part now)
   image_object known image first now f = (image.law first now f).object
 
-  -- a full step leads to the next image
-  steps_on : ObjectLaws lines lawful step → (old new : Known) (entry : Entry) → entries_of new ≡ entries_of old → IsImage lines lawful base step old → HasEntry (entries_of old) (place_noted 0 old.accesses) entry → IsLawfulEntry (place_noted 0 old.accesses) entry → place_noted 0 old.accesses < 2 ^ 40 →
-      Becomes (Fits lines lawful base old.accesses) (Fits lines lawful base new.accesses) (λ before now. now ≡ full_step_of step entry before) →
-      (first now : List ℕ) → Fits lines lawful base new.accesses first now → ReplayedTo step (entries_of new) first (place_noted 0 old.accesses + 1) now × LawfulBase lines lawful (base_of now) × (place_of now ≡ place_noted 0 old.accesses + 1)
-  steps_on laws old new entry same image noted is small becomes first now f =
+  -- a full step leads to the next image, in which the entry's caller has the reply
+  steps_on : ObjectLaws lines lawful step → (old new : Known) (entry : Entry) (reply : List ℕ) → entries_of new ≡ entries_of old → IsImage lines lawful base step old → HasEntry (entries_of old) (place_noted 0 old.accesses) entry → IsLawfulEntry (place_noted 0 old.accesses) entry → place_noted 0 old.accesses < 2 ^ 40 →
+      Becomes (Fits lines lawful base old.accesses) (Fits lines lawful base new.accesses) (IsStepped step entry reply) →
+      (first now : List ℕ) → Fits lines lawful base new.accesses first now → ReplayedTo step (entries_of new) first (place_noted 0 old.accesses + 1) now × LawfulBase lines lawful (base_of now) × (place_of now ≡ place_noted 0 old.accesses + 1) × (slot_reply entry.caller now ≡ reply)
+  steps_on laws old new entry reply same image noted is small becomes first now f =
       let ticket = place_noted 0 old.accesses in
       let b = becomes.from first now f in
       let before = b.0 in
@@ -88,18 +88,20 @@ module _ (lines : ℕ) (lawful : List ℕ → Type 0) (base : Base) (step : List
       let part_lawful = laws.keeps part entry.op law.object is.op in
       let next : Base = record { place = place_of before + 1; words = now } in
       let kept = keep.keeps lines lawful step (base_of before) entry next law (omega (arith, at)) is.caller is.some (omega (arith, at, most))
-      part_lawful (laws.shape (step part entry.op).0 part_lawful) (laws.replies part entry.op law.object is.op) refl b.2 in
+      part_lawful (laws.shape (step part entry.op).0 part_lawful) (laws.replies part entry.op law.object is.op) refl b.2.words in
       let place : place_of now ≡ place_of before + 1 = kept.lawful_next.at_place in (
-        subst (λ es. ReplayedTo step es first (ticket + 1) now) (sym same) (with_entry (ticket + 1) now ticket before entry refl b.2 noted (image.replayed first before b.1)),
+        subst (λ es. ReplayedTo step es first (ticket + 1) now) (sym same) (with_entry (ticket + 1) now ticket before entry refl b.2.words noted (image.replayed first before b.1)),
         subst (λ q. LawfulBase lines lawful (let x : Base = record { place = q; words = now } in x)) (sym place) kept.lawful_next,
         place ∙ ap (λ p. p + 1) at,
+        kept.reply ∙ sym b.2.replied,
       )
 
   -- so it is the image after the next place
-  next_image : ObjectLaws lines lawful step → (old new : Known) (entry : Entry) → entries_of new ≡ entries_of old → HasPlace new.accesses → SomeFits lines lawful base new.accesses → IsImage lines lawful base step old → HasEntry (entries_of old) (place_noted 0 old.accesses) entry → IsLawfulEntry (place_noted 0 old.accesses) entry → place_noted 0 old.accesses < 2 ^ 40 →
-      Becomes (Fits lines lawful base old.accesses) (Fits lines lawful base new.accesses) (λ before now. now ≡ full_step_of step entry before) → IsImage lines lawful base step new × (place_noted 0 new.accesses ≡ place_noted 0 old.accesses + 1)
-  next_image laws old new entry same begun some image noted is small becomes =
-      let on = steps_on laws old new entry same image noted is small becomes in
+  next_image : ObjectLaws lines lawful step → (old new : Known) (entry : Entry) (reply : List ℕ) → entries_of new ≡ entries_of old → HasPlace new.accesses → SomeFits lines lawful base new.accesses → IsImage lines lawful base step old → HasEntry (entries_of old) (place_noted 0 old.accesses) entry → IsLawfulEntry (place_noted 0 old.accesses) entry → place_noted 0 old.accesses < 2 ^ 40 →
+      Becomes (Fits lines lawful base old.accesses) (Fits lines lawful base new.accesses) (IsStepped step entry reply) →
+      IsImage lines lawful base step new × (place_noted 0 new.accesses ≡ place_noted 0 old.accesses + 1) × ShowsReply lines lawful base new.accesses entry.caller reply
+  next_image laws old new entry reply same begun some image noted is small becomes =
+      let on = steps_on laws old new entry reply same image noted is small becomes in
       let place : place_noted 0 new.accesses ≡ place_noted 0 old.accesses + 1 =
       ∥∥₁_elim some (hlevel props) (λ p. (let f = p.2 in sym (noted_at new.accesses begun p.0 p.1 f) ∙ (on p.0 p.1 f).2)) in (
         record {
@@ -108,6 +110,7 @@ module _ (lines : ℕ) (lawful : List ℕ → Type 0) (base : Base) (step : List
           law = λ first now f. (on first now f).1;
         },
         place,
+        λ first now f. (on first now f).3,
       )
 
   -- what was only loaded from stays the image after the same place
@@ -170,9 +173,10 @@ module _ {O : Type 0} (o : Ghosts O) (r : Running O) (held : Right) where
   }
 
   -- whether it was done or not
-  pub steps_ready : {X E : Type 0} (entry : Entry) (before after : Seated) → ObjectLaws (o.line_count r.object) (o.lawful r.object) (o.step r.object) → (result : Result X E) → IsImage (o.line_count r.object) (o.lawful r.object) r.base (o.step r.object) before.known → ComesNext entry before → Accessed o r held before after →
-      OnOk result (Becomes (Fits (o.line_count r.object) (o.lawful r.object) r.base before.known.accesses) (Fits (o.line_count r.object) (o.lawful r.object) r.base after.known.accesses) (λ first now. now ≡ full_step_of (o.step r.object) entry first)) → OnOk result (IsReady o r held (noted_place before + 1) after)
-  steps_ready entry before after laws (Ok x) image next leaves becomes =
-      let on = next_image (o.line_count r.object) (o.lawful r.object) r.base (o.step r.object) laws before.known after.known entry (ap (λ (s : Seated). entries_of s.known) leaves.rest) leaves.begun leaves.still.some image next.had next.lawful next.small becomes in
-      record { is_held = leaves.still; image = on.0; place = on.1 }
-  steps_ready entry before after laws (Err e) image next leaves becomes = tt
+  pub steps_ready : {X E : Type 0} (entry : Entry) (reply : List ℕ) (before after : Seated) → ObjectLaws (o.line_count r.object) (o.lawful r.object) (o.step r.object) → (result : Result X E) → IsImage (o.line_count r.object) (o.lawful r.object) r.base (o.step r.object) before.known → ComesNext entry before → Accessed o r held before after →
+      OnOk result (Becomes (Fits (o.line_count r.object) (o.lawful r.object) r.base before.known.accesses) (Fits (o.line_count r.object) (o.lawful r.object) r.base after.known.accesses) (IsStepped (o.step r.object) entry reply)) →
+      OnOk result (IsReady o r held (noted_place before + 1) after × ShowsReply (o.line_count r.object) (o.lawful r.object) r.base after.known.accesses entry.caller reply)
+  steps_ready entry reply before after laws (Ok x) image next leaves becomes =
+      let on = next_image (o.line_count r.object) (o.lawful r.object) r.base (o.step r.object) laws before.known after.known entry reply (ap (λ (s : Seated). entries_of s.known) leaves.rest) leaves.begun leaves.still.some image next.had next.lawful next.small becomes in
+      (record { is_held = leaves.still; image = on.0; place = on.1 }, on.2)
+  steps_ready entry reply before after laws (Err e) image next leaves becomes = tt

@@ -7,7 +7,7 @@ use Rattle.cx_core.specs.declared.entry.Base.{Base}
 use Rattle.cx_core.specs.declared.entry.Entry.{Entry}
 use Rattle.cx_core.specs.Base.{LawfulBase}
 use Rattle.cx_core.specs.History.{IsLawfulEntry}
-use Rattle.cx_core.specs.Region.{object_part, place_of}
+use Rattle.cx_core.specs.Region.{object_part, place_of, slot_reply}
 use Rattle.cx_rule.specs.declared.rule.Known.{Known}
 use Rattle.cx_rule.specs.Fitting.{Fits, HasEntry, IsReplayedToPlace, base_of, entries_of}
 use Rattle.cx_rule.specs.Running.{Running}
@@ -36,6 +36,10 @@ pub record IsReady {O : Type 0} (o : Ghosts O) (r : Running O) (held : Right) (a
   pub is_held : IsHeld (o.line_count r.object) r (o.lawful r.object) seat held
   pub image : IsImage (o.line_count r.object) (o.lawful r.object) r.base (o.step r.object) seat.known
   pub place : noted_place seat ≡ at
+
+-- whatever fits the accesses of a replica, the last entry of this caller there has this reply
+abbrev pub ShowsReply : ℕ → (List ℕ → Type 0) → Base → List Note → ℕ → List ℕ → Type 0
+ShowsReply lines lawful base accesses number reply = (first now : List ℕ) → Fits lines lawful base accesses first now → slot_reply number now ≡ reply
 
 -- the caller has an entry with the place of the replica held exclusively as its ticket, and it is one that may come there
 pub record ComesNext (entry : Entry) (seat : Seated) : Type 0 where

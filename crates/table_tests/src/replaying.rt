@@ -229,7 +229,8 @@ fn sees_held<O: Object>(
 {
     let mut region = ReadRegion::of(shared, seat, held);
     let place = place(&mut region)?;
-    let (number, reply) = outcome(&mut region, 0)?;
+    let mut reply = [0; 144];
+    let number = outcome(&mut region, 0, &mut reply)?;
     let words = [region.load(0)?, region.load(1)?];
     Ok(place == want.place && number == want.number && reply == want.reply && words == want.words)
 }

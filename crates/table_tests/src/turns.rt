@@ -77,7 +77,7 @@ fn replay_protected<O: Object>(
     let Protected::Kept = protect(shared, seat, place)? else {
         return Err(Halt);
     };
-    replay_to(shared, seat, held, ticket)?;
+    replay_to(shared, seat, held, ticket, &mut [0; 144])?;
     unprotect(shared, seat)?;
     Ok(())
 }
