@@ -52,7 +52,7 @@ fn renew<O: Object>(
     held: Exclusive,
     ticket: u64,
 ) -> Result<Option<Prepared>, Halt>
-    requires taken { IsTaken (O.line_count shared.now.object) shared.now (O.lawful shared.now.object) seat.old held }
+    requires taken { IsTaken (O.line_count shared.now.object) shared.now (O.lawful shared.now.object) (O.step shared.now.object) seat.old held }
     requires alone { others seat.old.known.local ≡ no_others }
     requires ready { MayKeep ticket seat.old }
     ensures prepared { IfOk result (TriesPrepare O.Object shared.now ticket seat.old seat.new) }

@@ -171,8 +171,11 @@ read_noted ticket words before after entry read is =
     }
 
 -- what really is there tells that an entry that was read may come at its ticket
-pub notes_entry : {lines : ℕ} {lawful : List ℕ → Type 0} {base : Base} {step : List ℕ → List ℕ → List ℕ × List ℕ} (caller ticket : ℕ) (words : List ℕ) (before after : Seated) → Fitting lines lawful base step after.known → base.place ≤ ticket → ticket < 2 ^ 40 → ReadsEntry caller ticket words before after →
-    NotesEntry caller ticket words after
-notes_entry caller ticket words before after fits from below read entry of is =
-    let noted = read_noted ticket words before after entry (subst (λ k. ReadsEntry k ticket words before after) (sym of) read) is in
-    record { noted = noted; lawful = fits.entries ticket entry from noted; small = below }
+pub notes_entry : {O : Type 0} (o : Ghosts O) (r : Running O) (caller ticket : ℕ) (words : List ℕ) (before after : Seated) → Fitting r.lines (o.lawful r.object) r.base (o.step r.object) after.known → r.base.place ≤ ticket → ticket < 2 ^ 40 → ReadsEntry caller ticket words before after →
+    NotesEntry o r caller ticket words after
+notes_entry o r caller ticket words before after fits from below read = record {
+  each = λ entry of is. (
+      let noted = read_noted ticket words before after entry (subst (λ k. ReadsEntry k ticket words before after) (sym of) read) is in
+      record { noted = noted; lawful = fits.entries ticket entry from noted; small = below });
+  fits = fits;
+}
