@@ -28,7 +28,7 @@ mod updating;
 
 pub use keeping::{keep, unguard};
 pub use lookup::{Seen, read_turn};
-pub use preparing::{Prepared, prepare};
+pub use preparing::prepare;
 pub use reading::{query_held, query_part, read_current};
 pub use replaying::{own_outcome, replay_to};
 pub use taking::take_any;
