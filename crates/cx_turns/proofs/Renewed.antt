@@ -23,7 +23,7 @@ with_others exclusive o = record { exclusive = exclusive; shared = o.shared; pas
 
 pub finished : {O : Type 0} (o : Ghosts O) (r : Running O) (ticket : ℕ) (before mid after : Seated) (held token : Right) (reply : List ℕ) →
     others before.known.local ≡ no_others → exclusive_on before.known.local ≡ Some held.replica → IsBroughtUp o r held ticket mid reply → beside_bringing mid ≡ beside_bringing before → Downgrades r o.step o.only_reads held.replica mid after token →
-    Prepares o r ticket before after (record { held = token; reply = reply })
+    Prepares o r ticket reply before after token
 unfolding with_others
 finished o r ticket before mid after held token reply alone holds brought work d =
     let free : all_rights before ≡ record no_rights { exclusive = Some held.replica } =
