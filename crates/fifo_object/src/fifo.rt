@@ -59,79 +59,68 @@ impl Fifo {
     }
 
     /// Puts an item behind the last.
-    fn push<M: Memory>(&self, mem: &mut M, item: &[u64], reply: &mut [u64; 144]) -> Result<(), Halt>
+    fn push<M: Memory>(&self, mem: &mut M, item: &[u64]) -> Result<[u64; 144], Halt>
         requires holds { HoldsFifo M.Memory self.now.lines mem.old }
         requires writable { IsTrue (M.writable mem.old) }
         requires item { length item.now ≡ 8 }
-        ensures { Changes M.Memory mem.old mem.new result (λ _ before now. push_step self.now.lines item.now before ≡ (now, reply.new)) }
+        ensures { Changes M.Memory mem.old mem.new result (λ reply before now. push_step self.now.lines item.now before ≡ (now, reply)) }
     {
         let ends = self.ends(mem)?;
         if self.lines - 1 <= ends.count {
-            reply_of(2, &NO_ITEM, reply);
-            return Ok(());
+            return Ok(words_of(2, &NO_ITEM));
         }
         let place = (ends.head + ends.count) % (self.lines - 1);
         store_words(mem, 8 * (place + 1), item)?;
         mem.store(COUNT_AT, ends.count + 1)?;
-        reply_of(1, &NO_ITEM, reply);
-        Ok(())
+        Ok(words_of(1, &NO_ITEM))
     }
 
     /// Takes the item at the front.
-    fn pop<M: Memory>(&self, mem: &mut M, reply: &mut [u64; 144]) -> Result<(), Halt>
+    fn pop<M: Memory>(&self, mem: &mut M) -> Result<[u64; 144], Halt>
         requires holds { HoldsFifo M.Memory self.now.lines mem.old }
         requires writable { IsTrue (M.writable mem.old) }
-        ensures { Changes M.Memory mem.old mem.new result (λ _ before now. pop_step self.now.lines before ≡ (now, reply.new)) }
+        ensures { Changes M.Memory mem.old mem.new result (λ reply before now. pop_step self.now.lines before ≡ (now, reply)) }
     {
         let ends = self.ends(mem)?;
         if ends.count == 0 {
-            reply_of(4, &NO_ITEM, reply);
-            return Ok(());
+            return Ok(words_of(4, &NO_ITEM));
         }
-        self.item_reply(mem, ends.head, reply)?;
+        let reply = self.item_reply(mem, ends.head)?;
         mem.store(HEAD_AT, (ends.head + 1) % (self.lines - 1))?;
         mem.store(COUNT_AT, ends.count - 1)?;
-        Ok(())
+        Ok(reply)
     }
 
     /// Tells the item at the front.
-    fn peek<M: Memory>(&self, mem: &mut M, reply: &mut [u64; 144]) -> Result<(), Halt>
+    fn peek<M: Memory>(&self, mem: &mut M) -> Result<[u64; 144], Halt>
         requires { HoldsFifo M.Memory self.now.lines mem.old }
-        ensures { Finds M.Memory mem.old mem.new result (λ _ now. reply.new ≡ front_words now) }
+        ensures { Finds M.Memory mem.old mem.new result (λ reply now. reply ≡ front_words now) }
     {
         let ends = self.ends(mem)?;
         if ends.count == 0 {
-            reply_of(4, &NO_ITEM, reply);
-            return Ok(());
+            return Ok(words_of(4, &NO_ITEM));
         }
-        self.item_reply(mem, ends.head, reply)
+        self.item_reply(mem, ends.head)
     }
 
-    /// Makes the reply that is the item at a place.
-    fn item_reply<M: Memory>(
-        &self,
-        mem: &mut M,
-        place: u64,
-        reply: &mut [u64; 144],
-    ) -> Result<(), Halt>
+    /// The reply that is the item at a place.
+    fn item_reply<M: Memory>(&self, mem: &mut M, place: u64) -> Result<[u64; 144], Halt>
         requires size { M.size mem.old ≡ 8 * self.now.lines }
         requires place { place < self.now.lines - 1 }
-        ensures { Finds M.Memory mem.old mem.new result (λ _ now. reply.new ≡ spec.words_of 3 (item_at now place)) }
+        ensures { Finds M.Memory mem.old mem.new result (λ reply now. reply ≡ spec.words_of 3 (item_at now place)) }
     {
         let mut item = [0; 8];
         mem.load_words(8 * (place + 1), &mut item)?;
-        reply_of(3, &item, reply);
-        Ok(())
+        Ok(words_of(3, &item))
     }
 
     /// Tells the number of items.
-    fn len<M: Memory>(&self, mem: &mut M, reply: &mut [u64; 144]) -> Result<(), Halt>
+    fn len<M: Memory>(&self, mem: &mut M) -> Result<[u64; 144], Halt>
         requires size { M.size mem.old ≡ 8 * self.now.lines }
-        ensures { Finds M.Memory mem.old mem.new result (λ _ now. reply.new ≡ spec.words_of 5 (spec.number_item (count_in now))) }
+        ensures { Finds M.Memory mem.old mem.new result (λ reply now. reply ≡ spec.words_of 5 (spec.number_item (count_in now))) }
     {
         let count = mem.load(COUNT_AT)?;
-        reply_of(5, &item_of_number(count), reply);
-        Ok(())
+        Ok(words_of(5, &item_of_number(count)))
     }
 
     /// Whether words have a header.
@@ -169,14 +158,6 @@ impl Fifo {
     {
         words.len() as u64 == 8 * self.lines && self.has_header(words) && self.has_items(words)
     }
-}
-
-/// Makes the reply of a kind and an item.
-fn reply_of(kind: u64, item: &[u64], reply: &mut [u64; 144])
-    requires { length item.now ≡ 8 }
-    ensures { reply.new ≡ spec.words_of kind item.now }
-{
-    *reply = words_of(kind, item);
 }
 
 /// Whether what stands at a place is a text.
@@ -237,40 +218,19 @@ impl Object for Fifo {
     }
 
     fn run<M: Memory>(&self, mem: &mut M, op: &[u64; 144]) -> Result<[u64; 144], Halt> {
-        let mut reply = [0; 144];
-        self.run_into(mem, op, &mut reply)?;
-        Ok(reply)
-    }
-
-    fn run_into<M: Memory>(
-        &self,
-        mem: &mut M,
-        op: &[u64; 144],
-        reply: &mut [u64; 144],
-    ) -> Result<(), Halt> {
         match kind_in(op) {
-            1 => self.push(mem, &op[1..9], reply),
-            2 => self.pop(mem, reply),
-            3 => self.peek(mem, reply),
-            4 => self.len(mem, reply),
-            _ => {
-                *reply = [0; 144];
-                Ok(())
-            }
+            1 => self.push(mem, &op[1..9]),
+            2 => self.pop(mem),
+            3 => self.peek(mem),
+            4 => self.len(mem),
+            _ => Ok([0; 144]),
         }
     }
 
     fn query<M: Memory>(&self, mem: &mut M, op: &[u64; 144]) -> Result<[u64; 144], Halt> {
-        let mut reply = [0; 144];
         match kind_in(op) {
-            3 => {
-                self.peek(mem, &mut reply)?;
-                Ok(reply)
-            }
-            _ => {
-                self.len(mem, &mut reply)?;
-                Ok(reply)
-            }
+            3 => self.peek(mem),
+            _ => self.len(mem),
         }
     }
 
