@@ -52,7 +52,7 @@ fn settle<O: Object>(
 ) -> Result<(), Halt>
     requires ready { IsReady O.Object shared.now held.now (noted_place seat.old) seat.old }
     requires given { IsTrue replied → ShowsReply (O.line_count shared.now.object) (O.lawful shared.now.object) shared.now.base seat.old.known.accesses seat.old.known.local.number reply.old }
-    ensures settled { MatchResult result (IsSettled O.Object shared.now held.now seat.old seat.new reply.new) (λ _. IsAtLimit seat.new.known.local) }
+    ensures settled { MatchResult result (λ _. IsSettled O.Object shared.now held.now seat.old seat.new reply.new) (λ _. IsAtLimit seat.new.known.local) }
     ensures keeps { Keeps shared.now beside_work seat.old seat.new }
 {
     own_reply(shared, seat, held, replied, reply)?;
