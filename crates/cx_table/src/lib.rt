@@ -34,6 +34,7 @@ mod ring_steps;
 mod root_steps;
 mod run_steps;
 mod seat;
+mod set_steps;
 mod shared;
 mod steps;
 mod threads;
