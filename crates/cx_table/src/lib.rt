@@ -27,6 +27,7 @@ mod events;
 mod gather;
 mod lock_steps;
 mod make;
+mod own_sets;
 mod raise_step;
 mod region_steps;
 mod remains;
