@@ -24,7 +24,7 @@ set_reads_from k t from i = ReadSet k t (from + i)
 pub data Runs {O : Type 0} (r : Running O) (step : O → List ℕ → List ℕ → List ℕ × List ℕ) (reads : O → List ℕ → Bool) (lawful : List ℕ → Type 0) (kinds : ℕ → Kind) : List ℕ → Seated → Seated → Type 0 where
   no_step : (words : List ℕ) (before after : Seated) → words ≡ [] → after ≡ before → Runs r step reads lawful kinds words before after
   one_more_step : (words : List ℕ) (before after : Seated) (first : List ℕ) (found : ℕ) (mid : Seated) → words ≡ first ++ found ∷ [] → Runs r step reads lawful kinds first before mid → Steps r step reads (kinds (length first)) found mid after →
-      Fitting r.lines lawful r.base after.known → Runs r step reads lawful kinds words before after
+      Fitting r.lines lawful r.base (step r.object) after.known → Runs r step reads lawful kinds words before after
 
 -- they teach their caller's seat this
 pub data TeachesRun (instance : Instance) (kinds : ℕ → Kind) : List ℕ → Me ℕ (List Known) → Me ℕ (List Known) → Type 0 where

@@ -141,7 +141,7 @@ some_map f (Some x) = refl
 
 -- what really is there fits what was noted
 pub raised_fits : {O : Type 0} (line_count : O → ℕ) (lawful : O → List ℕ → Type 0) (step : O → List ℕ → List ℕ → List ℕ × List ℕ) (reads : O → List ℕ → Bool) (r : Running O) (code : ℕ) (answers : List Answer) (read : Option (List ℕ × List ℕ)) (known : Known) (me' : Me ℕ (List Known)) →
-    IsRunning line_count lawful r → ObjectLaws r.lines (lawful r.object) (step r.object) → TeachesRaised (instance_at r step reads) code answers read known me' → Fitting r.lines (lawful r.object) r.base (known_of me'.0)
+    IsRunning line_count lawful r → ObjectLaws r.lines (lawful r.object) (step r.object) → TeachesRaised (instance_at r step reads) code answers read known me' → Fitting r.lines (lawful r.object) r.base (step r.object) (known_of me'.0)
 raised_fits line_count lawful step reads r code answers read known me' running laws taught =
-    subst (Fitting r.lines (lawful r.object) r.base) (sym (ap (λ (m : Me ℕ (List Known)). known_of m.0) taught.knows))
+    subst (Fitting r.lines (lawful r.object) r.base (step r.object)) (sym (ap (λ (m : Me ℕ (List Known)). known_of m.0) taught.knows))
     (fitting r.lines (lawful r.object) (instance_at r step reads) laws running.base (known_answered (instance_at r step reads) code answers read known) taught.behind)

@@ -1,4 +1,4 @@
-use Rattle.std.proofs.Common.{◌≤◌, refl, subst, sym}
+use Rattle.std.proofs.Common.{◌≤◌, arith, refl, subst, sym}
 use Rattle.replica.proofs.Replaying.{image_from}
 use Rattle.cx_turns.proofs.replaying.replay_to.Goals as goal
 
@@ -11,5 +11,6 @@ loop-at-init g c =
       later = subst (λ p. shared.base.place ≤ p) (sym at) (image_from (g.O.Object.line_count shared.object) (g.O.Object.lawful shared.object) shared.base (g.O.Object.step shared.object) c.args.seat.now.known c.requires.ready.is_held.some c.requires.ready.image);
       linked = c.requires.linked;
       protected = λ t from to. c.requires.protected t (subst (λ p. p ≤ t) at from) to;
+      replied = λ applied. absurd (omega (arith, applied));
       work = refl;
     }
