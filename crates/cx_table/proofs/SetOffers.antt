@@ -9,7 +9,7 @@ use Rattle.cx_core.specs.QueueEvents.{cell_of, entry_in}
 use Rattle.cx_core.specs.SetEvents.{CanWriteSet, IsUnoffered, offer_of}
 use Rattle.cx_core.proofs.HistoryLemmas.{ObjectLaws}
 use Rattle.cx_rule.specs.declared.rule.Known.{Known}
-use Rattle.cx_rule.specs.Having.{IsOwnSet}
+use Rattle.cx_rule.specs.Fitting.{IsOwnSet}
 use Rattle.cx_rule.specs.Learns.{LearnsBy}
 use Rattle.cx_rule.specs.Offers.{TellsOffer}
 use Rattle.cx_rule.specs.Running.{IsRunning, Running, instance_at}

@@ -3,7 +3,7 @@
 ghost use Rattle.std.specs.Prelude.{◌≡◌, ◌+◌, ◌<◌, ◌↔◌, IfSome, IsTrue, Some, slice_index};
 ghost use Rattle.cx_core.specs.QueueEvents.{cell_of};
 ghost use Rattle.cx_core.specs.SetEvents.{CanWriteSet};
-ghost use Rattle.cx_rule.specs.Having.{IsOwnSet};
+ghost use Rattle.cx_rule.specs.Fitting.{IsOwnSet};
 
 use crate::seat::CallerSeat;
 use cx_core::SeenOffer;

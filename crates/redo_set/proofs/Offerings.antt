@@ -21,8 +21,7 @@ use Rattle.cx_core.proofs.ListLemmas.{slice_get-set_other, slice_get-set_same}
 use Rattle.core_queue.proofs.SetKinds.{unoffered_parts}
 use Rattle.cx_rule.specs.declared.rule.Known.{Known}
 use Rattle.cx_rule.specs.declared.rule.Noted.{Noted}
-use Rattle.cx_rule.specs.Fitting.{Chain, HasEntry, entries_of, start, with_entry, with_set as by_set}
-use Rattle.cx_rule.specs.Having.{FitsOn, IsOwnSet, has_of}
+use Rattle.cx_rule.specs.Fitting.{Chain, FitsOn, HasEntry, entries_of, has_of, start, with_entry, with_set as by_set}
 use Rattle.cx_rule.specs.Offers.{TellsOffer, TellsSet}
 use Rattle.cx_rule.specs.Running.{IsSeatOf, Running}
 use Rattle.cx_rule.specs.Seats.{HasCells, Seated, stepped}

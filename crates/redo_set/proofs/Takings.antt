@@ -64,10 +64,10 @@ module _ {O : Type 0} (o : Ghosts O) (r : Running O) where
   pub words_none : (ticket from : ℕ) (s after : Seated) → after ≡ s → ReadsWords o r ticket from [] s after
   words_none ticket from s after same = record {
     seat = same ∙ none_is s ∙ (λ k. with_notes s.known.local.seen_offer (sym same k).known.local.steps [] s);
-    fits = λ f. subst (λ (x : Seated). Fitting r.lines (o.lawful r.object) r.base x.known) (sym same) f;
+    fits = λ f. subst (λ (x : Seated). Fitting r.lines (o.lawful r.object) r.base (o.step r.object) x.known) (sym same) f;
   }
 
-  pub words_more : (cell ticket from : ℕ) (ws : List ℕ) (v i : ℕ) (s t after : Seated) → ReadsWords o r ticket from ws s t → i ≡ from + length ws → after ≡ stepped (instance_at r o.step o.only_reads) (ReadSet cell ticket i) t v → Fitting r.lines (o.lawful r.object) r.base after.known →
+  pub words_more : (cell ticket from : ℕ) (ws : List ℕ) (v i : ℕ) (s t after : Seated) → ReadsWords o r ticket from ws s t → i ≡ from + length ws → after ≡ stepped (instance_at r o.step o.only_reads) (ReadSet cell ticket i) t v → Fitting r.lines (o.lawful r.object) r.base (o.step r.object) after.known →
       ReadsWords o r ticket from (ws ++ v ∷ []) s after
   words_more cell ticket from ws v i s t after was at step fits =
       let seen = s.known.local.seen_offer in

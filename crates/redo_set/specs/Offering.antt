@@ -5,7 +5,7 @@ use Rattle.cx_core.specs.declared.kinds.Kind.TheVariants.{WriteSet}
 use Rattle.cx_core.specs.QueueEvents.{cell_of}
 use Rattle.cx_core.specs.SetEvents.{CanWriteSet}
 use Rattle.cx_rule.specs.declared.rule.Known.{Known}
-use Rattle.cx_rule.specs.Having.{has_of}
+use Rattle.cx_rule.specs.Fitting.{has_of}
 use Rattle.cx_rule.specs.Running.{IsSeatOf, Running}
 use Rattle.cx_rule.specs.Seats.{Seated}
 use Rattle.cx_rule.specs.Steps.{Steps}

@@ -37,7 +37,7 @@ with_notes seen steps notes s = record s { known = record s.known { local = reco
 -- words of a set were read, from an index on, and noted, and nothing else changed but the steps
 pub record ReadsWords {O : Type 0} (o : Ghosts O) (r : Running O) (ticket from : ℕ) (words : List ℕ) (before after : Seated) : Type 0 where
   pub seat : after ≡ with_notes before.known.local.seen_offer after.known.local.steps (set_notes ticket from words) before
-  pub fits : Fitting r.lines (o.lawful r.object) r.base before.known → Fitting r.lines (o.lawful r.object) r.base after.known
+  pub fits : Fitting r.lines (o.lawful r.object) r.base (o.step r.object) before.known → Fitting r.lines (o.lawful r.object) r.base (o.step r.object) after.known
 
 -- nothing changed but the steps and the offer last seen, and there may be more notes of sets
 pub record LeavesTaking (before after : Seated) : Type 0 where
@@ -49,4 +49,4 @@ pub record LeavesTaking (before after : Seated) : Type 0 where
 pub record Takes {O : Type 0} (o : Ghosts O) (r : Running O) (cell ticket : ℕ) (set : List ℕ) (after : Seated) (taken : Bool) : Type 0 where
   pub offered : IsTrue taken ↔ ShowsOffer after.known.local.seen_offer cell ticket
   pub noted : IsTrue taken → IsNotedSet after.known.sets ticket set
-  pub fits : IsTrue taken → Fitting r.lines (o.lawful r.object) r.base after.known
+  pub fits : IsTrue taken → Fitting r.lines (o.lawful r.object) r.base (o.step r.object) after.known

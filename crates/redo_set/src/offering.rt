@@ -26,7 +26,7 @@ pub fn offer<O: Object>(
     requires may { MayOffer shared.now cell ticket seat.old }
     requires told { TellsSet shared.now.lines (O.lawful shared.now.object) shared.now.base (O.step shared.now.object) seat.old.known ticket set.now }
     ensures offered { OnOk result (OffersSet cell ticket set.now seat.old seat.new) }
-    ensures fits { OnOk result (Fitting shared.now.lines (O.lawful shared.now.object) shared.now.base seat.new.known) }
+    ensures fits { OnOk result (Fitting shared.now.lines (O.lawful shared.now.object) shared.now.base (O.step shared.now.object) seat.new.known) }
     ensures has { HasStill seat.old.known seat.new.known }
     ensures seat { IsSeatOf shared.now seat.new }
     ensures halts { OnErr result (WritesSet cell seat.old seat.new × IsAtLimit seat.new.known.local) }

@@ -1,6 +1,6 @@
 use Rattle.std.proofs.Common.{◌<◌, ap, subst, ◌∙◌}
 use Rattle.cx_core.specs.QueueEvents.{cell_of}
-use Rattle.cx_rule.specs.Having.{IsOwnSet}
+use Rattle.cx_rule.specs.Fitting.{IsOwnSet}
 use Rattle.cx_rule.specs.Seats.{Seated}
 use Rattle.cx_table.proofs.SetOffers.{own_set}
 use Rattle.cx_table.proofs.seat.CallerSeat.offered_cell.Goals as goal
