@@ -1,7 +1,6 @@
 -- Writing a set beside the cell of an own entry, word after word, and offering it.
 use Rattle.std.proofs.Common.{◌≡◌, ◌≢◌, ◌+◌, ◌*◌, ◌++◌, ◌<◌, ◌≤◌, inl, inr, ℕ, List, [], length, get_or, set, slice_index, slice_set, refl, sym, ap, subst, ◌∙◌, arith, append-nil, Option, Some, None}
-use Rattle.std.proofs.Math.Logic.{∥∥₁_elim}
-use Rattle.std.proofs.Props.{props}
+use Rattle.std.proofs.Math.Logic.{∥∥₁_map}
 use Rattle.std.proofs.lemmas.Bool.{cases_eq}
 use Rattle.std.proofs.lemmas.List.{get_or-set_other, get_or-set_same, length-set, set-get_or, set-set}
 use Rattle.std.proofs.lemmas.Option.{get_or_from_slice_get, same_Some, slice_get_within}
@@ -54,15 +53,22 @@ module _ (lines : ℕ) (lawful : List ℕ → Type 0) (base : Base) (step : List
         few = subst (λ n. n ≤ 256) (sym count) tells.few;
         within = λ m below. (let less : m < slice_index pairs 0 = omega (arith, below, count) in subst (λ n. n < length base.words) (sym (same (2 * m + 1) (omega (arith, less)))) (tells.within m less));
         leads = λ first now fits.
-            ∥∥₁_elim (tells.leads first now (subst (λ (ns : List Note). FitsOn lines lawful base step (has_of k) ns first now) accesses (fits_still k'.accesses first now fits))) (hlevel props) (λ x. ∣ record {
+            ∥∥₁_map (tells.leads first now (subst (λ (ns : List Note). FitsOn lines lawful base step (has_of k) ns first now) accesses (fits_still k'.accesses first now fits))) (λ x. record {
               before = x.before;
               from = chain_still still.entry still.set first ticket x.before x.from;
               to = chain_still still.entry still.set first (ticket + 1) now x.to;
               leads = ap (λ n. stored n set x.before) count ∙ stored_same (slice_index pairs 0) pairs set x.before (λ i some below. same i below) ∙ x.leads;
-            } ∣₁);
+            });
       }
 
 -- ---- the set of a cell
+
+-- so many words of the set were written
+pub record HasWritten (j : ℕ) (pairs : List ℕ) (i : ℕ) (s t : Seated) : Type 0 where
+  pub words : List ℕ
+  pub long : length words ≡ 513
+  pub same : (n : ℕ) → n < i → slice_index words n ≡ slice_index pairs n
+  pub is : t ≡ with_set j words (cell_of s.known.local j).offer t.known.local.steps s
 
 module _ (s : Seated) (j : ℕ) (can : CanWriteSet s.known.local j) (cells : HasCells s.known.local) where
   abbrev old : Cell
@@ -109,18 +115,11 @@ module _ (s : Seated) (j : ℕ) (can : CanWriteSet s.known.local j) (cells : Has
   none_put : s ≡ with_set j old.set old.offer s.known.local.steps s
   none_put = ap (λ (cs : List Cell). celled cs s.known.local.steps s.known.noted) (sym (set-get_or s.known.local.cells j no_cell))
 
-  -- so many words of the set were written
-  pub record HasWritten (pairs : List ℕ) (i : ℕ) (t : Seated) : Type 0 where
-    pub words : List ℕ
-    pub long : length words ≡ 513
-    pub same : (n : ℕ) → n < i → slice_index words n ≡ slice_index pairs n
-    pub is : t ≡ with_set j words old.offer t.known.local.steps s
-
-  pub written_none : (pairs : List ℕ) → length old.set ≡ 513 → HasWritten pairs 0 s
+  pub written_none : (pairs : List ℕ) → length old.set ≡ 513 → HasWritten j pairs 0 s s
   written_none pairs long = record { words = old.set; long = long; same = λ n below. absurd (omega arith); is = none_put }
 
   -- one word more is there already
-  pub written_kept : (pairs : List ℕ) (i v : ℕ) (t u : Seated) → v ≡ slice_index pairs i → HasWritten pairs i t → slice_index (cell_of t.known.local j).set i ≡ v → u ≡ t → HasWritten pairs (i + 1) u
+  pub written_kept : (pairs : List ℕ) (i v : ℕ) (t u : Seated) → v ≡ slice_index pairs i → HasWritten j pairs i s t → slice_index (cell_of t.known.local j).set i ≡ v → u ≡ t → HasWritten j pairs (i + 1) s u
   written_kept pairs i v t u value was here same_seat = record {
     words = was.words;
     long = was.long;
@@ -132,7 +131,7 @@ module _ (s : Seated) (j : ℕ) (can : CanWriteSet s.known.local j) (cells : Has
   }
 
   -- or was written
-  pub written_more : (instance : Instance) (pairs : List ℕ) (i v : ℕ) (t u : Seated) → i < 513 → v ≡ slice_index pairs i → HasWritten pairs i t → u ≡ stepped instance (WriteSet j i v) t 0 → HasWritten pairs (i + 1) u
+  pub written_more : (instance : Instance) (pairs : List ℕ) (i v : ℕ) (t u : Seated) → i < 513 → v ≡ slice_index pairs i → HasWritten j pairs i s t → u ≡ stepped instance (WriteSet j i v) t 0 → HasWritten j pairs (i + 1) s u
   written_more instance pairs i v t u below value was step =
       let new = set was.words i v in
       let cell = put_cell was.words old.offer t.known.local.steps t was.is in
@@ -156,7 +155,7 @@ module _ (s : Seated) (j : ℕ) (can : CanWriteSet s.known.local j) (cells : Has
       }
 
   -- the set was offered
-  pub offered_now : (instance : Instance) (ticket : ℕ) (pairs : List ℕ) (t u : Seated) → old.ticket ≡ Some ticket → HasWritten pairs (2 * slice_index pairs 0 + 1) t → u ≡ stepped instance (Offer j) t 0 → OffersSet j ticket pairs s u
+  pub offered_now : (instance : Instance) (ticket : ℕ) (pairs : List ℕ) (t u : Seated) → old.ticket ≡ Some ticket → HasWritten j pairs (2 * slice_index pairs 0 + 1) s t → u ≡ stepped instance (Offer j) t 0 → OffersSet j ticket pairs s u
   offered_now instance ticket pairs t u named was step =
       let cell = put_cell was.words old.offer t.known.local.steps t was.is in
       let word : offer_of old.ticket old.offer ≡ ticket + 1 = ap (λ o. offer_of o old.offer) named in
@@ -177,7 +176,7 @@ module _ (s : Seated) (j : ℕ) (can : CanWriteSet s.known.local j) (cells : Has
       }
 
   -- what was written may be offered
-  pub tells_written : (lines : ℕ) (lawful : List ℕ → Type 0) (base : Base) (step : List ℕ → List ℕ → List ℕ × List ℕ) (ticket : ℕ) (pairs : List ℕ) (t : Seated) → old.ticket ≡ Some ticket → HasWritten pairs (2 * slice_index pairs 0 + 1) t →
+  pub tells_written : (lines : ℕ) (lawful : List ℕ → Type 0) (base : Base) (step : List ℕ → List ℕ → List ℕ × List ℕ) (ticket : ℕ) (pairs : List ℕ) (t : Seated) → old.ticket ≡ Some ticket → HasWritten j pairs (2 * slice_index pairs 0 + 1) s t →
       TellsSet lines lawful base step s.known ticket pairs → TellsOffer lines lawful base step t.known j
   tells_written lines lawful base step ticket pairs t named was tells other other_is =
       let cell = put_cell was.words old.offer t.known.local.steps t was.is in
@@ -186,7 +185,7 @@ module _ (s : Seated) (j : ℕ) (can : CanWriteSet s.known.local j) (cells : Has
       subst (λ n. TellsSet lines lawful base step t.known n (cell_of t.known.local j).set) same (subst (TellsSet lines lawful base step t.known ticket) (sym (ap (λ (c : Cell). c.set) cell)) told)
 
   -- a step that the limit did not allow changes nothing more
-  pub writes_of : (pairs : List ℕ) (i : ℕ) (t u : Seated) → HasWritten pairs i t → u ≡ t → WritesSet j s u
+  pub writes_of : (pairs : List ℕ) (i : ℕ) (t u : Seated) → HasWritten j pairs i s t → u ≡ t → WritesSet j s u
   writes_of pairs i t u was same = record { set = was.words; seat = same ∙ was.is ∙ (λ k. with_set j was.words old.offer (sym same k).known.local.steps s) }
 
   pub writes_still : (u : Seated) → WritesSet j s u → HasStill s.known u.known
