@@ -37,5 +37,3 @@ mod thread_tests;
 mod trylocks;
 #[cfg(test)]
 mod turns;
-#[cfg(test)]
-mod write_sets;
