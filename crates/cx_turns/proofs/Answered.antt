@@ -18,7 +18,7 @@ use Rattle.cx_rule.specs.Raises.{TellsAnswers, TellsReply}
 use Rattle.cx_rule.specs.Running.{Running}
 use Rattle.cx_rule.specs.Seats.{IsAtLimit, Seated, unanswered_ticket}
 use Rattle.cx_rule.specs.Steps.{Halts, Steps}
-use Rattle.cx_rule.specs.Fitting.{entries_of}
+use Rattle.cx_rule.specs.Fitting.{has_of}
 use Rattle.cx_rule.proofs.Raising.{reply_still, tells_one}
 use Rattle.cx_table.specs.Right.{Right, WonRight}
 use Rattle.cx_table.specs.Tokens.{IsWonOf}
@@ -39,7 +39,7 @@ module _ {O : Type 0} (o : Ghosts O) (r : Running O) (ticket : ℕ) (reply : Lis
   -- what stays as it is beside a publication
   still_told : (before after : Seated) → beside_publish after ≡ beside_publish before → TellsReply r.lines (o.lawful r.object) r.base (o.step r.object) before.known ticket reply → TellsReply r.lines (o.lawful r.object) r.base (o.step r.object) after.known ticket reply
   still_told before after rest tells =
-      reply_still r.lines (o.lawful r.object) r.base (o.step r.object) before.known after.known ticket reply (ap (λ (s : Seated). entries_of s.known) rest) (ap (λ (s : Seated). s.known.accesses) rest) (ap (λ (s : Seated). s.known.local.number) rest) tells
+      reply_still r.lines (o.lawful r.object) r.base (o.step r.object) before.known after.known ticket reply (ap (λ (s : Seated). has_of s.known) rest) (ap (λ (s : Seated). s.known.accesses) rest) (ap (λ (s : Seated). s.known.local.number) rest) tells
 
   still_last : (before after : Seated) → beside_publish after ≡ beside_publish before → unanswered_ticket before.known.local ≡ Some ticket → unanswered_ticket after.known.local ≡ Some ticket
   still_last before after rest last = ap (λ (s : Seated). unanswered_ticket s.known.local) rest ∙ last

@@ -19,8 +19,8 @@ pub record Prepares {O : Type 0} (o : Ghosts O) (r : Running O) (ticket : ℕ) (
   pub place : ticket < noted_place after
   pub rights : all_rights after ≡ record no_rights { downgraded = Some held.replica }
   pub replayed : IsReplayedToPlace r.lines (o.lawful r.object) r.base (o.step r.object) after.known
-  pub reply : ShowsReply r.lines (o.lawful r.object) r.base after.known.accesses after.known.local.number answer
-  pub some : SomeFits r.lines (o.lawful r.object) r.base after.known.accesses
+  pub reply : ShowsReply r.lines (o.lawful r.object) r.base (o.step r.object) after.known after.known.local.number answer
+  pub some : SomeFits r.lines (o.lawful r.object) r.base (o.step r.object) after.known
   pub protection : after.known.local.protection ≡ Unprotected
   pub refused : after.known.local.refused ≡ []
   pub met : after.known.local.met ≡ before.known.local.met

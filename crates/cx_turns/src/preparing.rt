@@ -45,7 +45,7 @@ fn renew<O: Object>(
     ticket: u64,
     reply: &mut [u64; 144],
 ) -> Result<Option<Downgraded>, Halt>
-    requires taken { IsTaken (O.line_count shared.now.object) shared.now (O.lawful shared.now.object) seat.old held }
+    requires taken { IsTaken (O.line_count shared.now.object) shared.now (O.lawful shared.now.object) (O.step shared.now.object) seat.old held }
     requires alone { others seat.old.known.local ≡ no_others }
     requires ready { MayKeep ticket seat.old }
     ensures prepared { IfOk result (TriesPrepare O.Object shared.now ticket reply.new seat.old seat.new) }

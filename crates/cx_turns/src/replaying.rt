@@ -4,7 +4,7 @@ ghost use Rattle.std.specs.Prelude.{◌+◌, ◌<◌, ◌∷◌, ◌≡◌, ◌�
 ghost use Rattle.cx_base.specs.Memory.{Reads};
 ghost use Rattle.cx_core.specs.Region.{slot_reply};
 ghost use Rattle.cx_core.specs.RingEvents.{Protects};
-ghost use Rattle.cx_rule.specs.Fitting.{Fits};
+ghost use Rattle.cx_rule.specs.Fitting.{FitsKnown};
 ghost use Rattle.cx_rule.specs.Seats.{IsAtLimit};
 ghost use Rattle.cx_turns.specs.Keeping.{IsKept};
 ghost use Rattle.cx_turns.specs.Replaying.{FindsNext, IsApplied, IsBroughtUp, IsReplayed, IsSettled, LoadsOnly, ReadsNext, beside_bringing, beside_work};
@@ -51,7 +51,7 @@ fn settle<O: Object>(
     reply: &mut [u64; 144],
 ) -> Result<(), Halt>
     requires ready { IsReady O.Object shared.now held.now (noted_place seat.old) seat.old }
-    requires given { IsTrue replied → ShowsReply (O.line_count shared.now.object) (O.lawful shared.now.object) shared.now.base seat.old.known.accesses seat.old.known.local.number reply.old }
+    requires given { IsTrue replied → ShowsReply (O.line_count shared.now.object) (O.lawful shared.now.object) shared.now.base (O.step shared.now.object) seat.old.known seat.old.known.local.number reply.old }
     ensures settled { MatchResult result (λ _. IsSettled O.Object shared.now held.now seat.old seat.new reply.new) (λ _. IsAtLimit seat.new.known.local) }
     ensures keeps { Keeps shared.now beside_work seat.old seat.new }
 {
@@ -69,8 +69,8 @@ fn own_reply<O: Object>(
     reply: &mut [u64; 144],
 ) -> Result<(), Halt>
     requires ready { IsReady O.Object shared.now held.now (noted_place seat.old) seat.old }
-    requires given { IsTrue replied → ShowsReply (O.line_count shared.now.object) (O.lawful shared.now.object) shared.now.base seat.old.known.accesses seat.old.known.local.number reply.old }
-    ensures reply { MatchResult result (λ _. ShowsReply (O.line_count shared.now.object) (O.lawful shared.now.object) shared.now.base seat.new.known.accesses seat.new.known.local.number reply.new) (λ _. IsAtLimit seat.new.known.local) }
+    requires given { IsTrue replied → ShowsReply (O.line_count shared.now.object) (O.lawful shared.now.object) shared.now.base (O.step shared.now.object) seat.old.known seat.old.known.local.number reply.old }
+    ensures reply { MatchResult result (λ _. ShowsReply (O.line_count shared.now.object) (O.lawful shared.now.object) shared.now.base (O.step shared.now.object) seat.new.known seat.new.known.local.number reply.new) (λ _. IsAtLimit seat.new.known.local) }
     ensures ready { IsReady O.Object shared.now held.now (noted_place seat.old) seat.new }
     ensures rest { beside_held held.now.replica seat.new ≡ beside_held held.now.replica seat.old }
 {
@@ -95,7 +95,7 @@ pub fn replay_to<O: Object>(
     requires linked { ticket < seat.old.known.local.front }
     requires protected { (t : ℕ) → noted_place seat.old ≤ t → t ≤ ticket → Protects t seat.old.known.local.protection }
     ensures replayed { MatchResult result (λ _. IsReplayed O.Object shared.now held.now ticket seat.new) (λ _. IsAtLimit seat.new.known.local) }
-    ensures replied { IfOk result (λ own. IsTrue own → ShowsReply (O.line_count shared.now.object) (O.lawful shared.now.object) shared.now.base seat.new.known.accesses seat.new.known.local.number reply.new) }
+    ensures replied { IfOk result (λ own. IsTrue own → ShowsReply (O.line_count shared.now.object) (O.lawful shared.now.object) shared.now.base (O.step shared.now.object) seat.new.known seat.new.known.local.number reply.new) }
     ensures keeps { Keeps shared.now beside_work seat.old seat.new }
 {
     // tickets are few
@@ -148,7 +148,7 @@ fn find_next<O: Object>(
 ) -> Result<(), Halt>
     requires may { MayRead shared.now ticket seat.old }
     requires later { shared.now.base.place ≤ ticket }
-    ensures found { MatchResult result (λ _. FindsNext ticket next.new seat.old seat.new) (λ _. IsAtLimit seat.new.known.local) }
+    ensures found { MatchResult result (λ _. FindsNext O.Object shared.now ticket next.new seat.old seat.new) (λ _. IsAtLimit seat.new.known.local) }
     ensures keeps { Keeps shared.now beside_work seat.old seat.new }
 {
     // callers and tickets are few
@@ -171,7 +171,7 @@ fn read_next<O: Object>(
 ) -> Result<(), Halt>
     requires may { MayRead shared.now ticket seat.old }
     requires later { shared.now.base.place ≤ ticket }
-    ensures read { MatchResult result (λ _. ReadsNext ticket next.new seat.old seat.new) (λ _. IsAtLimit seat.new.known.local) }
+    ensures read { MatchResult result (λ _. ReadsNext O.Object shared.now ticket next.new seat.old seat.new) (λ _. IsAtLimit seat.new.known.local) }
     ensures keeps { Keeps shared.now beside_work seat.old seat.new }
 {
     let caller = entry(shared, seat, ticket, words)?;
@@ -198,7 +198,7 @@ pub fn own_outcome<O: Object>(
     reply: &mut [u64; 144],
 ) -> Result<(), Halt>
     requires ready { IsReady O.Object shared.now held.now (noted_place seat.old) seat.old }
-    ensures reply { MatchResult result (λ _. ShowsReply (O.line_count shared.now.object) (O.lawful shared.now.object) shared.now.base seat.new.known.accesses seat.new.known.local.number reply.new) (λ _. IsAtLimit seat.new.known.local) }
+    ensures reply { MatchResult result (λ _. ShowsReply (O.line_count shared.now.object) (O.lawful shared.now.object) shared.now.base (O.step shared.now.object) seat.new.known seat.new.known.local.number reply.new) (λ _. IsAtLimit seat.new.known.local) }
     ensures ready { IsReady O.Object shared.now held.now (noted_place seat.old) seat.new }
     ensures rest { beside_held held.now.replica seat.new ≡ beside_held held.now.replica seat.old }
 {
@@ -212,9 +212,9 @@ fn load_own<O: Object>(
     held: &Exclusive,
     reply: &mut [u64; 144],
 ) -> Result<(), Halt>
-    requires held { IsHeld (O.line_count shared.now.object) shared.now (O.lawful shared.now.object) seat.old held.now }
+    requires held { IsHeld (O.line_count shared.now.object) shared.now (O.lawful shared.now.object) (O.step shared.now.object) seat.old held.now }
     requires begun { HasPlace seat.old.known.accesses }
-    ensures read { MatchResult result (λ _. Reads (Fits (O.line_count shared.now.object) (O.lawful shared.now.object) shared.now.base seat.old.known.accesses) (Fits (O.line_count shared.now.object) (O.lawful shared.now.object) shared.now.base seat.new.known.accesses) (λ region. slot_reply seat.old.known.local.number region ≡ reply.new)) (λ _. left_of seat.new.known.local ≡ Some 0) }
+    ensures read { MatchResult result (λ _. Reads (FitsKnown (O.line_count shared.now.object) (O.lawful shared.now.object) shared.now.base (O.step shared.now.object) seat.old.known) (FitsKnown (O.line_count shared.now.object) (O.lawful shared.now.object) shared.now.base (O.step shared.now.object) seat.new.known) (λ region. slot_reply seat.old.known.local.number region ≡ reply.new)) (λ _. left_of seat.new.known.local ≡ Some 0) }
     ensures loads { LoadsOnly O.Object shared.now held.now seat.old seat.new }
 {
     // callers are few

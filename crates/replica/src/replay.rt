@@ -4,7 +4,7 @@
 ghost use Rattle.std.specs.Prelude.{◌≡◌, ◌+◌, ◌<◌, OnErr, OnOk, IfOk, Some};
 ghost use Rattle.cx_base.specs.Memory.{Becomes};
 ghost use Rattle.cx_core.specs.Step.{IsStepped};
-ghost use Rattle.cx_rule.specs.Fitting.{Fits};
+ghost use Rattle.cx_rule.specs.Fitting.{FitsKnown};
 ghost use Rattle.cx_rule.specs.Steps.{Halts};
 ghost use Rattle.replica.specs.Held.{IsHeld, LeavesHeld, left_of};
 ghost use Rattle.replica.specs.Regions.{SameRegion, region_fixed};
@@ -26,7 +26,7 @@ pub fn begin<O: Object>(
     seat: &mut CallerSeat,
     held: &Exclusive,
 ) -> Result<u64, Halt>
-    requires held { IsHeld (O.line_count shared.now.object) shared.now (O.lawful shared.now.object) seat.old held.now }
+    requires held { IsHeld (O.line_count shared.now.object) shared.now (O.lawful shared.now.object) (O.step shared.now.object) seat.old held.now }
     requires unchanged { StoresNone seat.old.known.accesses }
     ensures ready { IfOk result (λ place. IsReady O.Object shared.now held.now place seat.new) }
     ensures leaves { LeavesHeld O.Object shared.now held.now seat.old seat.new }
@@ -48,7 +48,7 @@ pub fn apply<O: Object>(
     requires ready { IsReady O.Object shared.now held.now (noted_place seat.old) seat.old }
     requires next { ComesNext entry.now seat.old }
     ensures ready { OnOk result (IsReady O.Object shared.now held.now (noted_place seat.old + 1) seat.new) }
-    ensures replied { OnOk result (ShowsReply (O.line_count shared.now.object) (O.lawful shared.now.object) shared.now.base seat.new.known.accesses entry.now.caller reply.new) }
+    ensures replied { OnOk result (ShowsReply (O.line_count shared.now.object) (O.lawful shared.now.object) shared.now.base (O.step shared.now.object) seat.new.known entry.now.caller reply.new) }
     ensures halts { OnErr result (left_of seat.new.known.local ≡ Some 0) }
     ensures leaves { Accessed O.Object shared.now held.now seat.old seat.new }
 {
@@ -63,10 +63,10 @@ fn step_held<O: Object>(
     entry: &Entry,
     reply: &mut [u64; 144],
 ) -> Result<(), Halt>
-    requires held { IsHeld (O.line_count shared.now.object) shared.now (O.lawful shared.now.object) seat.old held.now }
+    requires held { IsHeld (O.line_count shared.now.object) shared.now (O.lawful shared.now.object) (O.step shared.now.object) seat.old held.now }
     requires can { CanStep O.Object shared.now seat.old }
     requires caller { entry.now.caller < 8 }
-    ensures done { OnOk result (Becomes (Fits (O.line_count shared.now.object) (O.lawful shared.now.object) shared.now.base seat.old.known.accesses) (Fits (O.line_count shared.now.object) (O.lawful shared.now.object) shared.now.base seat.new.known.accesses) (IsStepped (O.step shared.now.object) entry.now reply.new)) }
+    ensures done { OnOk result (Becomes (FitsKnown (O.line_count shared.now.object) (O.lawful shared.now.object) shared.now.base (O.step shared.now.object) seat.old.known) (FitsKnown (O.line_count shared.now.object) (O.lawful shared.now.object) shared.now.base (O.step shared.now.object) seat.new.known) (IsStepped (O.step shared.now.object) entry.now reply.new)) }
     ensures halts { OnErr result (left_of seat.new.known.local ≡ Some 0) }
     ensures leaves { Accessed O.Object shared.now held.now seat.old seat.new }
 {

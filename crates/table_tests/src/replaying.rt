@@ -32,7 +32,7 @@ fn take<O: Object>(
     requires free { IsFree shared.now seat.old }
     requires sized { IsSized (O.line_count shared.now.object) shared.now }
     requires few { r < 2 * shared.now.callers }
-    ensures taken { IfOk result (λ o. IfSome o (λ held. IsTaken (O.line_count shared.now.object) shared.now (O.lawful shared.now.object) seat.new held)) }
+    ensures taken { IfOk result (λ o. IfSome o (λ held. IsTaken (O.line_count shared.now.object) shared.now (O.lawful shared.now.object) (O.step shared.now.object) seat.new held)) }
     ensures keeps { IfOk result (λ o. IfSome o (λ _. Keeps seat.old seat.new)) }
 {
     let (_, right) = shared.try_exclusive(seat, r)?;

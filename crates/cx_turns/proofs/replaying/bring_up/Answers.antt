@@ -1,8 +1,8 @@
-use Rattle.std.proofs.Common.{ap, refl, subst, sym}
-use Rattle.cx_rule.specs.Fitting.{entries_of}
+use Rattle.std.proofs.Common.{ap, refl}
+use Rattle.cx_rule.specs.Fitting.{has_of}
 use Rattle.cx_rule.specs.Seats.{Seated}
-use Rattle.cx_turns.proofs.Kept.{held_same, image_same}
-use Rattle.replica.specs.Replays.{ShowsReply}
+use Rattle.cx_turns.proofs.Kept.{held_same, shows_same}
+use Rattle.replica.specs.Laws.{image_same}
 use Rattle.cx_turns.proofs.replaying.bring_up.Goals as goal
 
 pub settle-requires : goal.settle-requires
@@ -11,14 +11,16 @@ settle-requires g c =
     let e = c.in_ok-unguard.ensures.leaves in
     let done = c.in_ok-replied.ensures in
     let was = done.replayed.ready in
+    let mid = c.replay_to.new.seat in
+    let last = c.unguard.new.seat in
     let accesses = ap (λ (s : Seated). s.known.accesses) e.rest in
+    let has = ap (λ (s : Seated). has_of s.known) e.rest in
     let number = ap (λ (s : Seated). s.known.local.number) e.rest in
-    let shows = ShowsReply (g.O.Object.line_count t.object) (g.O.Object.lawful t.object) t.base in
     record {
       ready = record {
-        is_held = held_same g.O.Object t c.replay_to.new.seat c.unguard.new.seat c.args.held.now e.of (ap (λ (s : Seated). s.known.local.exclusive) e.rest) number accesses was.is_held;
-        image = image_same g.O.Object t c.replay_to.new.seat c.unguard.new.seat c.args.held.now accesses (ap (λ (s : Seated). entries_of s.known) e.rest) was.image;
+        is_held = held_same g.O.Object t mid last c.args.held.now e.of (ap (λ (s : Seated). s.known.local.exclusive) e.rest) number has accesses was.is_held;
+        image = image_same (g.O.Object.line_count t.object) (g.O.Object.lawful t.object) t.base (g.O.Object.step t.object) mid.known last.known has accesses was.image;
         place = refl;
       };
-      given = λ own. subst (λ n. shows c.unguard.new.seat.known.accesses n c.replay_to.new.reply) (sym number) (subst (λ xs. shows xs c.replay_to.new.seat.known.local.number c.replay_to.new.reply) (sym accesses) (done.replied own));
+      given = λ own. shows_same g.O.Object t mid last c.args.held.now has accesses number c.replay_to.new.reply (done.replied own);
     }

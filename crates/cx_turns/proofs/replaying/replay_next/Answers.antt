@@ -11,7 +11,7 @@ apply-requires g c =
     let ready = ready_found g.O.Object c.args.shared.now c.args.at next c.args.seat.now now c.args.held.now e.keeps.seat e.found c.requires.ready in
     record {
       ready = record { is_held = ready.is_held; image = ready.image; place = refl };
-      next = found_next c.args.at next c.args.seat.now now e.found ready.place;
+      next = found_next g.O.Object c.args.shared.now c.args.at next c.args.seat.now now e.found ready.place;
     }
 
 pub returns-in_err-apply-clause-keeps : goal.returns-in_err-apply-clause-keeps

@@ -21,4 +21,4 @@ pub returns-clause-replied : goal.returns-clause-replied
 returns-clause-replied g c own =
     let shared = c.args.shared.now in
     let i = c.loop-at.invariant in
-    subst (λ n. ShowsReply (g.O.Object.line_count shared.object) (g.O.Object.lawful shared.object) shared.base c.loop-at.seat.known.accesses n c.loop-at.reply) (eqb-true c.loop-at.next.caller c.number.result own ∙ c.number.ensures.value) (i.replied (omega arith))
+    subst (λ n. ShowsReply (g.O.Object.line_count shared.object) (g.O.Object.lawful shared.object) shared.base (g.O.Object.step shared.object) c.loop-at.seat.known n c.loop-at.reply) (eqb-true c.loop-at.next.caller c.number.result own ∙ c.number.ensures.value) (i.replied (omega arith))
