@@ -1,0 +1,10 @@
+use Rattle.std.proofs.Common.{◌≡◌, ◌++◌, map}
+use Rattle.std.specs.Vec.Iter.{into_iter_items}
+use Rattle.service_parts.proofs.working.parted.Given as goal
+
+-- the first callers are taken out
+abbrev pub invariant-loop-worked : goal.invariant-loop-worked
+invariant-loop-worked g l = record {
+  made : l.callers.items ≡ map (λ w. w.caller) l.yielded;
+  all : l.yielded ++ into_iter_items l.worked-iterator ≡ l.fn.all.items;
+}

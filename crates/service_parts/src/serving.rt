@@ -1,0 +1,86 @@
+//! One life of a service: from a base to what it leaves.
+
+ghost use Rattle.std.specs.Prelude.{◌≡◌, ◌≤◌, IfOk};
+ghost use Rattle.cx_core.specs.Merge.{IsHistory};
+ghost use Rattle.cx_service.specs.Callers.{IsCallerOf};
+ghost use Rattle.cx_service.specs.Closes.{seats_of};
+ghost use Rattle.cx_service.specs.Starts.{AreFewCallers};
+ghost use Rattle.cx_table.specs.Remains.{AreSeats, locals_of};
+ghost use Rattle.service_parts.specs.Callers.{AreCallers, IsHandedBy};
+ghost use Rattle.service_parts.specs.Lives.{IsLeftBy, IsOpen, MayServe};
+
+use crate::working::{Worked, work_together};
+use cx_base::Object;
+use cx_core::Base;
+use cx_service::{Caller, Handed, Service, StartFault};
+use cx_table::Remains;
+use std::alloc::{AllocError, Global};
+use std::thread::Threads;
+
+/// No limit of steps, for each of 8 callers.
+const NO_LIMITS: [u64; 8] = [u64::MAX; 8];
+
+/// A service of 1 to 8 callers without limits that starts from a base, and its callers. `Err` is want of memory.
+pub fn started<O: Object>(
+    alloc: Global,
+    object: O,
+    callers: u32,
+    base: &Base,
+) -> Result<(Service<O>, Vec<Caller>), AllocError>
+    requires callers { AreFewCallers callers }
+    requires may { MayServe O.Object object base.now }
+    ensures open { IfOk result (λ r. IsOpen O.Object object r.0) }
+    ensures callers { IfOk result (λ r. AreCallers r.0 r.1.items) }
+{
+    let limits = &NO_LIMITS[..callers as usize];
+    match Service::start(alloc, object, callers, limits, base) {
+        Ok(started) => Ok(started),
+        Err(StartFault::Memory) => Err(AllocError),
+        Err(StartFault::Callers { .. } | StartFault::Lines { .. }) => unreachable!(),
+    }
+}
+
+/// Closes a service, whose callers are handed in, of caller 0 first: what it leaves. Its history has each caller's entries, each once and
+/// in order. `Err` is want of memory, and drops the service.
+pub fn closed<O: Object>(
+    alloc: Global,
+    service: Service<O>,
+    callers: Vec<Handed>,
+) -> Result<Remains, AllocError>
+    requires open { IsOpen O.Object service.object service }
+    requires callers { AreSeats service (seats_of callers.items) }
+    ensures history { IfOk result (λ r. IsHistory service.base.place r.trail.history (locals_of (seats_of callers.items))) }
+    ensures left { IfOk result (IsLeftBy O.Object service.object) }
+{
+    match service.close(alloc, callers) {
+        Ok(remains) => Ok(remains),
+        Err(_) => Err(AllocError),
+    }
+}
+
+/// One life of a service of 1 to 8 callers: it starts from a base, each caller works on a thread of its own, and it is closed. What the
+/// workers told, of caller 0 first, and what is left. `Err` is want of memory, and gives nothing back.
+pub fn serve<
+    O: Object + Send + Sync,
+    R: Threads + Sync,
+    T: Send + Drop,
+    F: Fn(&Service<O>, Caller) -> Worked<T> + Sync,
+>(
+    rt: &R,
+    alloc: Global,
+    object: O,
+    callers: u32,
+    base: &Base,
+    work: &F,
+) -> Result<(Vec<T>, Remains), AllocError>
+    requires callers { AreFewCallers callers }
+    requires may { MayServe O.Object object base.now }
+    requires works { (s : _) (caller : _) → s.now.object ≡ object → IsCallerOf s.now caller → F.pre work.now s caller }
+    requires back { (s : _) (caller : _) (worked : _) → s.now.object ≡ object → IsCallerOf s.now caller → F.post work.now s caller worked → IsHandedBy s.now caller worked.caller }
+    ensures { IfOk result (λ r. IsLeftBy O.Object object r.1) }
+{
+    let (service, callers) = started(alloc, object, callers, base)?;
+    let (handed, told) = work_together(rt, alloc, &service, callers, work)?;
+    let remains = closed(alloc, service, handed)?;
+    Ok((told, remains))
+}
