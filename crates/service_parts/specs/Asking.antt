@@ -1,6 +1,5 @@
 -- What an operation comes to that is asked for until it is answered.
 use Rattle.std.specs.Prelude.{◌≡◌, ◌⊎◌, ℕ, List, length}
-use Rattle.cx_core.specs.declared.local.Answer.{Answer}
 use Rattle.cx_rule.specs.Running.{Running}
 use Rattle.cx_rule.specs.Seats.{Seated}
 use Rattle.cx_service.specs.Callers.{IsCallerOf, IsStoppedOf, StoppedSeat}
@@ -8,9 +7,7 @@ use Rattle.cx_service.specs.Updates.{KeepsLists, LinksEntry}
 use Rattle.cx_turns.specs.Answering.{with_answer, with_read}
 use Rattle.service_parts.specs.Callers.{IsBack}
 use Rattle.service_parts.specs.declared.asking.Asked.{Asked}
-use Rattle.service_parts.specs.declared.asking.Asked.TheVariants.{Answered, Worn, Stopped}
-use Rattle.service_parts.specs.declared.asking.Looked.{Looked}
-use Rattle.service_parts.specs.declared.asking.Looked.TheVariants.{Told, Worn as WornLook, Stopped as StoppedLook}
+use Rattle.service_parts.specs.declared.asking.Asked.TheVariants.{Told, Worn, Stopped}
 
 -- the operation is done, and nothing else: the caller has one entry more, and one answer more, which is told
 pub record IsAnswered {O : Type 0} (r : Running O) (op : List ℕ) (ticket : ℕ) (reply : List ℕ) (before after : Seated) : Type 0 where
@@ -27,19 +24,13 @@ pub record IsStoppedIn {O : Type 0} (r : Running O) (before : Seated) (after : S
   pub caller : IsStoppedOf r after.seat
   pub number : after.seat.known.local.number ≡ before.known.local.number
 
--- what an operation comes to
+-- a reading is answered beside the queue: the caller has one read more, of this operation
+pub record IsReadBeside (op reply : List ℕ) (before after : Seated) : Type 0 where
+  pub place : ℕ
+  pub reads : after.known.local.seen_reads ≡ with_read place op reply (length before.known.local.answered) before.known.local.seen_reads
+
+-- what an operation comes to; one that is told is answered beside the queue, or as an entry of it
 abbrev pub IsAsked : {O : Type 0} → Running O → List ℕ → Seated → Asked → Type 0
-IsAsked r op before (Answered after answer) = IsBack r before after × IsAnswered r op answer.ticket answer.reply before after
+IsAsked r op before (Told after reply) = IsBack r before after × (IsReadBeside op reply before after ⊎ ((ticket : ℕ) × IsAnswered r op ticket reply before after))
 IsAsked r op before (Worn after) = IsLeftAlone r before after
 IsAsked r op before (Stopped after) = IsStoppedIn r before after
-
--- a reading is answered beside the queue: the caller has one read more, of this operation
-abbrev pub IsReadBeside : List ℕ → List ℕ → Seated → Seated → Type 0
-IsReadBeside op reply before after =
-    (place : ℕ) × (after.known.local.seen_reads ≡ with_read place op reply (length before.known.local.answered) before.known.local.seen_reads)
-
--- what a reading comes to; one that is told is answered beside the queue, or as an entry of it
-abbrev pub IsLooked : {O : Type 0} → Running O → List ℕ → Seated → Looked → Type 0
-IsLooked r op before (Told after reply) = IsBack r before after × (IsReadBeside op reply before after ⊎ ((ticket : ℕ) × IsAnswered r op ticket reply before after))
-IsLooked r op before (WornLook after) = IsLeftAlone r before after
-IsLooked r op before (StoppedLook after) = IsStoppedIn r before after

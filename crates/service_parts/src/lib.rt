@@ -1,8 +1,8 @@
 //! What a program over a service of its own object needs beside the service: calls that go on until they are answered, a life in which
 //! each caller works on a thread of its own, and what a loss of power keeps of it.
 //!
-//! - An operation is done once and its answer told: `ask` (`IsAsked`); a reading is answered beside the queue or in it: `look`
-//!   (`IsLooked`). Both hand the same caller back.
+//! - An operation is done once and its reply told, or a reading is answered beside the queue; the same caller is handed back: `ask`
+//!   (`IsAsked`).
 //! - Workers that hand their callers back leave all the callers of the service: `work_together` (`handed`).
 //! - What was left by a life is recovered, with every answer in it, by the object that it was of: `serve` (`IsLeftBy`), `recovered`.
 #![tactic(auto)]
@@ -12,7 +12,7 @@ mod recovering;
 mod serving;
 mod working;
 
-pub use asking::{Asked, Looked, ask, look};
+pub use asking::{Asked, ask};
 pub use recovering::recovered;
 pub use serving::{closed, serve, started};
 pub use working::{Worked, work_together};

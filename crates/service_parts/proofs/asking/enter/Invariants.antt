@@ -1,6 +1,6 @@
 use Rattle.cx_service.specs.Callers.{IsCallerOf}
 use Rattle.cx_service.specs.Updates.{KeepsLists}
-use Rattle.service_parts.proofs.asking.ask.Given as goal
+use Rattle.service_parts.proofs.asking.enter.Given as goal
 
 -- the same caller, in no call, with nothing done
 abbrev pub invariant-loop : goal.invariant-loop
