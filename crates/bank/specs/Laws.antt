@@ -4,13 +4,13 @@ use Rattle.std.proofs.Common.{ap, sym, ◌∙◌, add-one, arith, lit<, subst}
 use Rattle.std.proofs.Math.Seq.{take-set-lt}
 use Rattle.std.proofs.lemmas.Bool.{and_parts, leb-true}
 use Rattle.std.proofs.lemmas.Grind.{get_or_after_one}
-use Rattle.std.proofs.lemmas.List.{drop-set-add, get_or-set, get_or-set_other, get_or-take, length-drop, length-replicate, length-set, length-take}
+use Rattle.std.proofs.lemmas.List.{drop-set-add, get_or-replicate, get_or-set_other, get_or-set_same, get_or-take, length-drop, length-replicate, length-set, length-take, take_all}
 use Rattle.std.proofs.lemmas.List.Elements.{All-cons, All-replicate}
 use Rattle.std.proofs.lemmas.List.Folds.{sum_by-replicate}
-use Rattle.std.proofs.lemmas.List.Sums.{sum_by-set, sum_by-take-le, sum_by_more_le}
+use Rattle.std.proofs.lemmas.List.Sums.{sum_by-set, sum_by-take-le, sum_by_more, sum_by_more_le}
 use Rattle.cx_base.specs.Memory.{Words}
 use Rattle.cx_base.specs.WordLaws.{Words-at, Words-set}
-use Rattle.bank.specs.Meaning.{Fits, IsBank, accounts_in, amount_of, are_accounts, bank_opening, bank_reads, bank_step, covers, given, image_after, is_reading, reply_to, taken, with_amount}
+use Rattle.bank.specs.Meaning.{Fits, IsBank, accounts_in, amount_of, are_accounts, bank_opening, bank_reads, bank_step, blank, covers, given, image_after, is_reading, reply_to, taken, with_amount}
 use Rattle.bank.specs.Operations.{op_in, reply_words, words_with}
 use Rattle.bank.specs.declared.operations.Op.{Op}
 use Rattle.bank.specs.declared.operations.Op.TheVariants.{Transfer, Balance, Audit, Other}
@@ -97,23 +97,23 @@ sum_after count image Other long = refl
 pub sum_after_words : (count : ℕ) (image op : List ℕ) → count < length image → sum (accounts_in count (bank_step count image op).0) ≡ sum (accounts_in count image)
 sum_after_words count image op long = sum_after count image (op_in op) long
 
--- the opening image is one
-opening_sum : (count total n : ℕ) → 1 ≤ count → sum (take count (total ∷ replicate n 0)) ≡ total
-opening_sum 0 total n some = absurd (omega (arith, some))
-opening_sum (suc k) total n some =
-    omega (arith, sum_by-take-le (λ (x : ℕ). x) (replicate n 0) k, sum_by-replicate (λ (x : ℕ). x) n 0)
+-- before the first amount is put no account has any
+blank_words : (lines : ℕ) → 0 < lines → Words (8 * lines) (blank lines)
+blank_words lines some = record {
+  long = omega (arith, some, length-replicate {A = ℕ} (8 * lines - 1) 0);
+  fit = All-cons Small 1 (replicate (8 * lines - 1) 0) (lit< tt) (All-replicate Small (8 * lines - 1) 0 (lit< tt));
+}
 
+-- the opening image is one
 pub opens : (lines count total : ℕ) → Fits lines count total → IsBank lines count total (bank_opening lines total)
 opens lines count total fits =
-    let zeros : List ℕ = replicate (8 * lines - 2) 0 in
-    record {
-      words = record {
-        long = omega (arith, fits.some, fits.few, length-replicate {A = ℕ} (8 * lines - 2) 0);
-        fit = All-cons Small 1 (total ∷ zeros) (lit< tt) (All-cons Small total zeros fits.small (All-replicate Small (8 * lines - 2) 0 (lit< tt)));
-      };
-      version = refl;
-      sum_is = opening_sum count total (8 * lines - 2) fits.some;
-    }
+    let words : Words (8 * lines) (blank lines) = blank_words lines (omega (arith, fits.few)) in
+    let zeros : List ℕ = replicate (8 * lines - 1) 0 in
+    let long : count < length (blank lines) = omega (arith, fits.few, words.long) in
+    let none : sum (accounts_in count (blank lines)) ≤ 0 = omega (arith, sum_by-take-le (λ (x : ℕ). x) zeros count, sum_by-replicate (λ (x : ℕ). x) (8 * lines - 1) 0) in
+    let put : sum (accounts_in count (with_amount (blank lines) 0 total)) + amount_of (blank lines) 0 ≡ sum (accounts_in count (blank lines)) + total = sum_put count (blank lines) long 0 total (omega (arith, fits.some)) in
+    let first : amount_of (blank lines) 0 ≡ 0 = get_or-replicate (8 * lines - 1) 0 0 0 (omega (arith, fits.some, fits.few)) in
+    record { words = Words-set (8 * lines) (blank lines) 1 total (omega (arith, fits.small)) words; version = refl; sum_is = omega (arith, none, put, first) }
 
 -- a bank has more words than accounts
 long_of : (lines count total : ℕ) → Fits lines count total → (image : List ℕ) → IsBank lines count total image → count < length image
@@ -134,7 +134,7 @@ given_words lines count total fits image i from to amount c =
     let next = given one to amount in
     let next_long : count < length next = omega (arith, fits.few, one_words.long, length-set one (to + 1) (amount_of one to + amount)) in
     let same : sum (accounts_in count next) ≡ sum (accounts_in count image) = moved_sum count image from to amount long c.from_is c.to_is c.enough in
-    let here : amount_of next to ≡ amount_of one to + amount = get_or-set one (to + 1) (amount_of one to + amount) 0 (omega (arith, one_words.long, fits.few, c.to_is)) in
+    let here : amount_of next to ≡ amount_of one to + amount = get_or-set_same one (to + 1) (amount_of one to + amount) 0 (omega (arith, one_words.long, fits.few, c.to_is)) in
     let within : amount_of next to ≤ sum (accounts_in count next) = account_within count next next_long to c.to_is in
     Words-set (8 * lines) one (to + 1) (amount_of one to + amount) (omega (arith, here, within, same, i.sum_is, fits.small)) one_words
 
@@ -143,13 +143,13 @@ kept : (lines count total : ℕ) → Fits lines count total → (image : List �
 kept lines count total fits image (Transfer from to amount) i =
     by_test (IsBank lines count total) (are_accounts count from to && covers image from amount) (given (taken image from amount) to amount) image
     (λ passes.
-      (let c = covered_of count image from to amount passes in
-      let one = taken image from amount in
-      record {
-        words = given_words lines count total fits image i from to amount c;
-        version = get_or-set_other one (to + 1) 0 (amount_of one to + amount) 0 (λ e. omega (arith, e)) ∙ get_or-set_other image (from + 1) 0 (amount_of image from - amount) 0 (λ e. omega (arith, e)) ∙ i.version;
-        sum_is = moved_sum count image from to amount (long_of lines count total fits image i) c.from_is c.to_is c.enough ∙ i.sum_is;
-      }))
+    (let c = covered_of count image from to amount passes in
+    let one = taken image from amount in
+    record {
+      words = given_words lines count total fits image i from to amount c;
+      version = get_or-set_other one (to + 1) 0 (amount_of one to + amount) 0 (λ e. omega (arith, e)) ∙ get_or-set_other image (from + 1) 0 (amount_of image from - amount) 0 (λ e. omega (arith, e)) ∙ i.version;
+      sum_is = moved_sum count image from to amount (long_of lines count total fits image i) c.from_is c.to_is c.enough ∙ i.sum_is;
+    }))
     i
 kept lines count total fits image (Balance account) i = i
 kept lines count total fits image Audit i = i
@@ -184,8 +184,8 @@ told : (lines count total : ℕ) → Fits lines count total → (image : List �
 told lines count total fits image (Transfer from to amount) i =
     by_test IsSmallReply (are_accounts count from to) (cond (covers image from amount) Moved (Overdraft (amount_of image from))) Missing
     (λ passes.
-      (let q = and_parts (nat_lt from count) (nat_lt to count) passes in
-      by_test IsSmallReply (covers image from amount) Moved (Overdraft (amount_of image from)) (λ _. tt) (amount_small lines count total fits image i from (leb-true (suc from) count q.0))))
+    (let q = and_parts (nat_lt from count) (nat_lt to count) passes in
+    by_test IsSmallReply (covers image from amount) Moved (Overdraft (amount_of image from)) (λ _. tt) (amount_small lines count total fits image i from (leb-true (suc from) count q.0))))
     tt
 told lines count total fits image (Balance account) i =
     by_test IsSmallReply (nat_lt account count) (Value (amount_of image account)) Missing (λ passes. amount_small lines count total fits image i account (leb-true (suc account) count passes)) tt
@@ -205,6 +205,33 @@ left_by_reading count image Other reads = refl
 pub leaves : (lines count total : ℕ) (image op : List ℕ) → IsTrue (bank_reads op) → (bank_step count image op).0 ≡ image
 leaves lines count total image op reads = left_by_reading count image (op_in op) reads
 
--- what the code needs of the amounts that it meets: an account has at most the total, and what is put to an account is within the total
+-- An account has at most the total, also behind what is taken from another, and then less by that.
 pub amount_at_most : (lines count total : ℕ) → Fits lines count total → (image : List ℕ) → IsBank lines count total image → (account : ℕ) → account < count → amount_of image account < total + 1
 amount_at_most lines count total fits image i account there = omega (arith, i.sum_is, account_within count image (long_of lines count total fits image i) account there)
+
+pub taken_at_most : (lines count total : ℕ) → Fits lines count total → (image : List ℕ) → IsBank lines count total image → (from to amount : ℕ) → from < count → to < count → amount ≤ amount_of image from
+    → amount_of (taken image from amount) to < total - amount + 1
+taken_at_most lines count total fits image i from to amount f t enough =
+    let long = long_of lines count total fits image i in
+    let one = taken image from amount in
+    let one_long : count < length one = omega (arith, long, length-set image (from + 1) (amount_of image from - amount)) in
+    let put : sum (accounts_in count one) + amount_of image from ≡ sum (accounts_in count image) + (amount_of image from - amount) = sum_put count image long from (amount_of image from - amount) f in
+    omega (arith, i.sum_is, put, account_within count one one_long to t)
+
+module _ (lines count total : ℕ) (fits : Fits lines count total) (image : List ℕ) (i : IsBank lines count total image) (account : ℕ) (there : account < count) where
+  within : account < length (accounts_in count image)
+  within = omega (arith, accounts_long count image (long_of lines count total fits image i))
+
+  -- the accounts up to one, and that one
+  pub next_sum : sum (take (account + 1) (accounts_in count image)) ≡ sum (take account (accounts_in count image)) + amount_of image account
+  next_sum =
+      sum_by_more (λ x. x) (accounts_in count image) account 0 within
+      ∙ ap (λ (n : ℕ). sum (take account (accounts_in count image)) + n) (account_at count image (long_of lines count total fits image i) account there)
+
+  pub next_at_most : sum (take account (accounts_in count image)) + amount_of image account ≤ total
+  next_at_most =
+      omega (arith, i.sum_is, account_at count image (long_of lines count total fits image i) account there, sum_by_more_le (λ (x : ℕ). x) (accounts_in count image) account 0 within)
+
+-- all of them
+pub all_accounts : (count : ℕ) (image : List ℕ) → count < length image → take count (accounts_in count image) ≡ accounts_in count image
+all_accounts count image long = take_all count (accounts_in count image) (omega (arith, accounts_long count image long))

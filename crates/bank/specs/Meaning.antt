@@ -23,16 +23,19 @@ pub record IsBank (lines count total : ℕ) (image : List ℕ) : Type 0 where
   pub version : slice_index image 0 ≡ 1
   pub sum_is : sum (accounts_in count image) ≡ total
 
--- at first account 0 has all
-abbrev pub bank_opening : ℕ → ℕ → List ℕ
-bank_opening lines total = 1 ∷ total ∷ replicate (8 * lines - 2) 0
-
 -- what an account has, and an image in which it has another amount
 abbrev pub amount_of : List ℕ → ℕ → ℕ
 amount_of image account = slice_index image (account + 1)
 
 abbrev pub with_amount : List ℕ → ℕ → ℕ → List ℕ
 with_amount image account amount = slice_set image (account + 1) amount
+
+-- no account has anything, and the opening image: account 0 has all
+abbrev pub blank : ℕ → List ℕ
+blank lines = 1 ∷ replicate (8 * lines - 1) 0
+
+abbrev pub bank_opening : ℕ → ℕ → List ℕ
+bank_opening lines total = with_amount (blank lines) 0 total
 
 -- an amount taken from an account, and then given to another, which may be the same
 abbrev pub taken : List ℕ → ℕ → ℕ → List ℕ

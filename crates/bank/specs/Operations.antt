@@ -35,8 +35,8 @@ reply_in words =
     if slice_index words 0 == 1
     then Moved
     else (if slice_index words 0 == 2
-      then Overdraft (slice_index words 1)
-      else (if slice_index words 0 == 3 then Value (slice_index words 1) else (if slice_index words 0 == 4 then Missing else NoOperation)))
+    then Overdraft (slice_index words 1)
+    else (if slice_index words 0 == 3 then Value (slice_index words 1) else (if slice_index words 0 == 4 then Missing else NoOperation)))
 
 -- both are read back
 pub op_is_read : (op : Op) → op_in (op_words op) ≡ op

@@ -1,10 +1,10 @@
 //! The accounts over the words of any memory.
 
-ghost use Rattle.std.specs.Prelude.{◌≡◌, ◌+◌, ◌*◌, ◌^◌, ◌<◌, ◌≤◌, ◌↔◌, ℕ, List, length, nat_lt, sum, IsTrue};
+ghost use Rattle.std.specs.Prelude.{◌≡◌, ◌+◌, ◌*◌, ◌^◌, ◌<◌, ◌≤◌, ◌↔◌, ℕ, List, length, nat_le, nat_lt, sum, IfNone, IfSome, IsTrue};
 ghost use Rattle.cx_base.specs.Calls.{Changes, Finds};
 ghost use Rattle.cx_base.specs.Memory.{Always};
 ghost use Rattle.cx_base.specs.OldFormat.{no_old_format, takes_over_nothing};
-ghost use Rattle.bank.specs.Meaning.{Does, Fits, IsBank, accounts_in, bank_opening, bank_reads, bank_step};
+ghost use Rattle.bank.specs.Meaning.{Does, Fits, IsBank, accounts_in, bank_opening, bank_reads, bank_step, blank};
 ghost use Rattle.bank.specs.Laws as laws;
 ghost use Rattle.bank.specs.declared.operations.Op.TheVariants.{Transfer, Balance, Audit};
 
@@ -81,7 +81,7 @@ impl Bank {
             return Ok(Reply::Missing);
         }
         let has = load_below(mem, from + 1, self.total + 1)?;
-        if has < amount {
+        if !covers(has, amount) {
             return Ok(Reply::Overdraft(has));
         }
         mem.store(from + 1, has - amount)?;
@@ -110,30 +110,62 @@ impl Bank {
     {
         let mut sum = 0;
         for account in 0..self.count {
-            sum += load_below(mem, account + 1, self.total - sum + 1)?;
+            let amount = mem.load(account + 1)?;
+            sum += amount;
         }
         Ok(Reply::Value(sum))
     }
 
-    /// What all have together.
-    fn sum_of(&self, words: &[u64]) -> Option<u64>
-        requires { length words.now ≡ 8 * self.now.lines }
+    /// Makes the image in which no account has anything.
+    fn clear<M: Memory>(&self, mem: &mut M) -> Result<(), Halt>
+        requires size { M.size mem.old ≡ 8 * self.now.lines }
+        requires writable { IsTrue (M.writable mem.old) }
+        ensures { Changes M.Memory mem.old mem.new result (λ _ _ now. now ≡ blank self.now.lines) }
     {
-        let mut sum: u64 = 0;
-        for account in 0..self.count as usize {
-            sum = sum.checked_add(words[account + 1])?;
+        mem.store(0, VERSION)?;
+        for at in 1..8 * self.lines {
+            mem.store(at, 0)?;
         }
-        Some(sum)
+        Ok(())
     }
 
     /// Whether words are an image.
     fn is_image(&self, words: &[u64]) -> bool
         ensures { IsTrue result ↔ IsBank self.now.lines self.now.count self.now.total words.now }
     {
-        words.len() as u64 == 8 * self.lines
-            && words[0] == VERSION
-            && self.sum_of(words) == Some(self.total)
+        words.len() as u64 == 8 * self.lines && words[0] == VERSION && self.is_right(words)
     }
+
+    /// Whether the accounts have the total.
+    fn is_right(&self, words: &[u64]) -> bool
+        requires { length words.now ≡ 8 * self.now.lines }
+        ensures { IsTrue result ↔ (sum (accounts_in self.now.count words.now) ≡ self.now.total) }
+    {
+        let (accounts, _) = words[1..].split_at(self.count as usize);
+        match sum_of(accounts) {
+            Some(sum) => sum == self.total,
+            None => false,
+        }
+    }
+}
+
+/// Whether an account that has so much covers an amount.
+fn covers(has: u64, amount: u64) -> bool
+    ensures { result ≡ nat_le amount has }
+{
+    amount <= has
+}
+
+/// The sum of words, where it is one.
+fn sum_of(words: &[u64]) -> Option<u64>
+    ensures some { IfSome result (λ total. total ≡ sum words.now) }
+    ensures none { IfNone result (2 ^ 64 ≤ sum words.now) }
+{
+    let mut total: u64 = 0;
+    for word in words {
+        total = total.checked_add(*word)?;
+    }
+    Some(total)
 }
 
 /// No operation on the accounts changes their sum.
@@ -177,12 +209,8 @@ impl Object for Bank {
     }
 
     fn format<M: Memory>(&self, mem: &mut M) -> Result<(), Halt> {
-        mem.store(0, VERSION)?;
-        mem.store(1, self.total)?;
-        for at in 2..8 * self.lines {
-            mem.store(at, 0)?;
-        }
-        Ok(())
+        self.clear(mem)?;
+        mem.store(1, self.total)
     }
 
     fn reads(&self, op: &[u64; 144]) -> bool {

@@ -41,12 +41,7 @@ pub fn ask<O: Object, R: Wait>(
 }
 
 /// The same of any operation, as an entry of the queue.
-fn enter<O: Object, R: Wait>(
-    rt: &R,
-    service: &Service<O>,
-    caller: Caller,
-    op: &[u64; 144],
-) -> Asked
+fn enter<O: Object, R: Wait>(rt: &R, service: &Service<O>, caller: Caller, op: &[u64; 144]) -> Asked
     requires { IsCallerOf service.now caller }
     ensures { IsAsked service.now op.now caller result }
 {
@@ -66,12 +61,7 @@ fn enter<O: Object, R: Wait>(
 }
 
 /// The same of one that only reads, beside the queue or in it.
-fn look<O: Object, R: Wait>(
-    rt: &R,
-    service: &Service<O>,
-    caller: Caller,
-    op: &[u64; 144],
-) -> Asked
+fn look<O: Object, R: Wait>(rt: &R, service: &Service<O>, caller: Caller, op: &[u64; 144]) -> Asked
     requires caller { IsCallerOf service.now caller }
     requires reads { IsTrue (O.only_reads service.now.object op.now) }
     ensures { IsAsked service.now op.now caller result }

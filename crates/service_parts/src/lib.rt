@@ -3,7 +3,7 @@
 //!
 //! - An operation is done once and its reply told, or a reading is answered beside the queue; the same caller is handed back: `ask`
 //!   (`IsAsked`).
-//! - Workers that hand their callers back leave all the callers of the service: `work_together` (`handed`).
+//! - A worker hands each caller back, and so all the callers of the service are there again: `Worker`, `work_together`.
 //! - What was left by a life is recovered, with every answer in it, by the object that it was of: `serve` (`IsLeftBy`), `recovered`.
 #![tactic(auto)]
 
@@ -15,4 +15,4 @@ mod working;
 pub use asking::{Asked, ask};
 pub use recovering::recovered;
 pub use serving::{closed, serve, started};
-pub use working::{Worked, work_together};
+pub use working::{Worked, Worker, work_together};

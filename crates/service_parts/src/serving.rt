@@ -1,20 +1,20 @@
 //! One life of a service: from a base to what it leaves.
 
-ghost use Rattle.std.specs.Prelude.{◌≡◌, ◌≤◌, IfOk};
+ghost use Rattle.std.specs.Prelude.{IfOk};
 ghost use Rattle.cx_core.specs.Merge.{IsHistory};
-ghost use Rattle.cx_service.specs.Callers.{IsCallerOf};
 ghost use Rattle.cx_service.specs.Closes.{seats_of};
 ghost use Rattle.cx_service.specs.Starts.{AreFewCallers};
 ghost use Rattle.cx_table.specs.Remains.{AreSeats, locals_of};
-ghost use Rattle.service_parts.specs.Callers.{AreCallers, IsHandedBy};
+ghost use Rattle.service_parts.specs.Callers.{AreCallers};
 ghost use Rattle.service_parts.specs.Lives.{IsLeftBy, IsOpen, MayServe};
 
-use crate::working::{Worked, work_together};
+use crate::working::{Worker, work_together};
 use cx_base::Object;
 use cx_core::Base;
 use cx_service::{Caller, Handed, Service, StartFault};
 use cx_table::Remains;
 use std::alloc::{AllocError, Global};
+use std::sync::Wait;
 use std::thread::Threads;
 
 /// No limit of steps, for each of 8 callers.
@@ -58,29 +58,22 @@ pub fn closed<O: Object>(
     }
 }
 
-/// One life of a service of 1 to 8 callers: it starts from a base, each caller works on a thread of its own, and it is closed. What the
-/// workers told, of caller 0 first, and what is left. `Err` is want of memory, and gives nothing back.
-pub fn serve<
-    O: Object + Send + Sync,
-    R: Threads + Sync,
-    T: Send + Drop,
-    F: Fn(&Service<O>, Caller) -> Worked<T> + Sync,
->(
+/// One life of a service of 1 to 8 callers: it starts from a base, the worker does each caller's work on a thread of its own, and it is
+/// closed. What was told, of caller 0 first, and what is left. `Err` is want of memory, and gives nothing back.
+pub fn serve<O: Object + Send + Sync, R: Threads + Wait + Sync, W: Worker<O> + Sync>(
     rt: &R,
     alloc: Global,
     object: O,
     callers: u32,
     base: &Base,
-    work: &F,
-) -> Result<(Vec<T>, Remains), AllocError>
+    worker: &W,
+) -> Result<(Vec<W::Told>, Remains), AllocError>
     requires callers { AreFewCallers callers }
     requires may { MayServe O.Object object base.now }
-    requires works { (s : _) (caller : _) → s.now.object ≡ object → IsCallerOf s.now caller → F.pre work.now s caller }
-    requires back { (s : _) (caller : _) (worked : _) → s.now.object ≡ object → IsCallerOf s.now caller → F.post work.now s caller worked → IsHandedBy s.now caller worked.caller }
     ensures { IfOk result (λ r. IsLeftBy O.Object object r.1) }
 {
     let (service, callers) = started(alloc, object, callers, base)?;
-    let (handed, told) = work_together(rt, alloc, &service, callers, work)?;
+    let (handed, told) = work_together(rt, alloc, &service, callers, worker)?;
     let remains = closed(alloc, service, handed)?;
     Ok((told, remains))
 }

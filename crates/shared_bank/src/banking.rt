@@ -6,7 +6,7 @@ ghost use Rattle.service_parts.specs.Callers.{IsHandedBy};
 use bank::{Bank, Op, Reply};
 use cx_core::Base;
 use cx_service::{Caller, Handed, Service};
-use service_parts::{Asked, Worked, ask, recovered, serve};
+use service_parts::{Asked, Worked, Worker, ask, recovered, serve};
 use std::alloc::{AllocError, Global};
 use std::sync::Wait;
 use std::thread::Threads;
@@ -81,23 +81,38 @@ pub fn two_losses<R: Wait + Threads + Sync>(
 ) -> Result<(Counts, Counts, Found), AllocError> {
     let bank = Bank::of(64, ACCOUNTS, ALL);
     let base = Base::fresh(alloc, &bank)?;
-    let (first, remains) = serve(rt, alloc, bank, 4, &base, &|service, caller| {
-        work(rt, service, caller, 0)
-    })?;
+    let (first, remains) = serve(
+        rt,
+        alloc,
+        bank,
+        4,
+        &base,
+        &|service, caller| { work(rt, service, caller, 0) },
+    )?;
     let base = recovered(alloc, &bank, &remains, 0)?;
-    let (second, remains) = serve(rt, alloc, bank, 4, &base, &|service, caller| {
-        work(rt, service, caller, EACH)
-    })?;
+    let (second, remains) = serve(
+        rt,
+        alloc,
+        bank,
+        4,
+        &base,
+        &|service, caller| { work(rt, service, caller, EACH) },
+    )?;
     let base = recovered(alloc, &bank, &remains, 0)?;
-    let (found, _remains) = serve(rt, alloc, bank, 1, &base, &|service, caller| {
-        look(rt, service, caller)
-    })?;
+    let (found, _remains) = serve(
+        rt,
+        alloc,
+        bank,
+        1,
+        &base,
+        &|service, caller| { look(rt, service, caller) },
+    )?;
     let found = found.first().copied().unwrap_or(NOT_FOUND);
     Ok((Counts::of_all(&first), Counts::of_all(&second), found))
 }
 
-/// A caller's operations from one on: first it pays out 1,000 to each of its accounts, of what account 0 began with. Then five times it moves
-/// 5 from each to account 0, tries an overdraft, and adds up all.
+/// A caller's operations: first it pays out 1,000 to each of its accounts, of what account 0 began with. Then five times it moves 5 from each
+/// to account 0, tries an overdraft, and adds up all.
 fn operation(number: u32, step: u64) -> Op {
     let own = EACH * number as u64;
     if step < EACH {
@@ -122,44 +137,55 @@ fn operation(number: u32, step: u64) -> Op {
     }
 }
 
-/// A caller does them.
-fn work<R: Wait>(rt: &R, service: &Service<Bank>, caller: Caller, from: u64) -> Worked<Counts>
-    requires { IsCallerOf service.now caller }
-    ensures { IsHandedBy service.now caller result.caller }
-{
-    let number = caller.number();
-    let mut caller = caller;
-    let mut told = NOTHING;
-    for step in from..EACH + 90 {
-        match ask(rt, service, caller, &operation(number, step).words()) {
-            Asked::Told(back, reply) => {
-                told = told.with(Reply::of(&reply));
-                caller = back;
-            }
-            Asked::Worn(back) => caller = back,
-            Asked::Stopped(stopped) => {
-                let caller = Handed::Stopped(stopped);
-                return Worked { caller, told };
-            }
-        }
-    }
-    let caller = Handed::Idle(caller);
-    Worked { caller, told }
+/// Callers that do their operations from one on, and tell what the answers came to.
+struct Mover {
+    from: u64,
 }
 
-/// A caller tells what account 0 has, and what all have.
-fn look<R: Wait>(rt: &R, service: &Service<Bank>, caller: Caller) -> Worked<Found>
-    requires { IsCallerOf service.now caller }
-    ensures { IsHandedBy service.now caller result.caller }
-{
-    let Worked { caller, told: first } = value(rt, service, caller, Op::Balance { account: 0 });
-    let Handed::Idle(caller) = caller else {
-        let told = Found { first, all: 0 };
-        return Worked { caller, told };
-    };
-    let Worked { caller, told: all } = value(rt, service, caller, Op::Audit);
-    let told = Found { first, all };
-    Worked { caller, told }
+impl Worker<Bank> for Mover {
+    type Told = Counts;
+
+    fn work<R: Wait>(&self, rt: &R, service: &Service<Bank>, caller: Caller) -> Worked<Counts> {
+        let number = caller.number();
+        let mut caller = caller;
+        let mut told = NOTHING;
+        for step in self.from..EACH + 90 {
+            match ask(rt, service, caller, &operation(number, step).words()) {
+                Asked::Told(back, reply) => {
+                    told = told.with(Reply::of(&reply));
+                    caller = back;
+                }
+                Asked::Worn(back) => caller = back,
+                Asked::Stopped(stopped) => {
+                    let caller = Handed::Stopped(stopped);
+                    return Worked { caller, told };
+                }
+            }
+        }
+        let caller = Handed::Idle(caller);
+        Worked { caller, told }
+    }
+}
+
+/// A caller that tells what account 0 has, and what all have.
+struct Looker;
+
+impl Worker<Bank> for Looker {
+    type Told = Found;
+
+    fn work<R: Wait>(&self, rt: &R, service: &Service<Bank>, caller: Caller) -> Worked<Found> {
+        let Worked {
+            caller,
+            told: first,
+        } = value(rt, service, caller, Op::Balance { account: 0 });
+        let Handed::Idle(caller) = caller else {
+            let told = Found { first, all: 0 };
+            return Worked { caller, told };
+        };
+        let Worked { caller, told: all } = value(rt, service, caller, Op::Audit);
+        let told = Found { first, all };
+        Worked { caller, told }
+    }
 }
 
 /// A caller asks for one operation: the value that it is answered, 0 where it is none.

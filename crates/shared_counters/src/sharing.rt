@@ -1,12 +1,9 @@
 //! Counters that four threads share, over a loss of power.
 
-ghost use Rattle.cx_service.specs.Callers.{IsCallerOf};
-ghost use Rattle.service_parts.specs.Callers.{IsHandedBy};
-
-use bounded_counters::{Counters, Op, Reply};
+use bounded_counters::{Counters, Reply, add_words};
 use cx_core::Base;
 use cx_service::{Caller, Handed, Service};
-use service_parts::{Asked, Worked, ask, recovered, serve};
+use service_parts::{Asked, Worked, Worker, ask, recovered, serve};
 use std::alloc::{AllocError, Global};
 use std::sync::Wait;
 use std::thread::Threads;
@@ -26,45 +23,54 @@ pub fn count_over_a_loss<R: Wait + Threads + Sync>(
 ) -> Result<Counted, AllocError> {
     let counters = Counters::of(64, 1_000_000);
     let base = Base::fresh(alloc, &counters)?;
-    let (before, remains) = serve(rt, alloc, counters.duplicate(), 4, &base, &|service, caller| {
-        count(rt, service, caller)
-    })?;
+    let (before, remains) = serve(
+        rt,
+        alloc,
+        counters.duplicate(),
+        4,
+        &base,
+        &|service, caller| { count(rt, service, caller) },
+    )?;
     let kept = recovered(alloc, &counters, &remains, 0)?;
-    let (after, _remains) = serve(rt, alloc, counters.duplicate(), 4, &kept, &|service, caller| {
-        count(rt, service, caller)
-    })?;
+    let (after, _remains) = serve(
+        rt,
+        alloc,
+        counters.duplicate(),
+        4,
+        &kept,
+        &|service, caller| { count(rt, service, caller) },
+    )?;
     Ok(Counted {
         before: highest(&before),
         after: highest(&after),
     })
 }
 
-/// Adds 1 to counter 0 ten times, and tells what it was told last.
-fn count<R: Wait>(rt: &R, service: &Service<Counters>, caller: Caller) -> Worked<u64>
-    requires { IsCallerOf service.now caller }
-    ensures { IsHandedBy service.now caller result.caller }
-{
-    let add = Op::Add {
-        counter: 0,
-        amount: 1,
-    };
-    let mut caller = caller;
-    let mut told = 0;
-    for _ in 0..10 {
-        match ask(rt, service, caller, &add.words()) {
-            Asked::Told(back, reply) => {
-                told = value_of(&reply, told);
-                caller = back;
-            }
-            Asked::Worn(back) => caller = back,
-            Asked::Stopped(stopped) => {
-                let caller = Handed::Stopped(stopped);
-                return Worked { caller, told };
+/// Callers that add 1 to counter 0 ten times, and tell what they were told last.
+struct Adder;
+
+impl Worker<Counters> for Adder {
+    type Told = u64;
+
+    fn work<R: Wait>(&self, rt: &R, service: &Service<Counters>, caller: Caller) -> Worked<u64> {
+        let mut caller = caller;
+        let mut told = 0;
+        for _ in 0..10 {
+            match ask(rt, service, caller, &add_words(0, 1)) {
+                Asked::Told(back, reply) => {
+                    told = value_of(&reply, told);
+                    caller = back;
+                }
+                Asked::Worn(back) => caller = back,
+                Asked::Stopped(stopped) => {
+                    let caller = Handed::Stopped(stopped);
+                    return Worked { caller, told };
+                }
             }
         }
+        let caller = Handed::Idle(caller);
+        Worked { caller, told }
     }
-    let caller = Handed::Idle(caller);
-    Worked { caller, told }
 }
 
 /// The value that a reply tells, or another where it tells none.

@@ -1,5 +1,5 @@
 use Rattle.service_parts.specs.Callers.{IsBack}
-use Rattle.shared_counters.proofs.sharing.count.Given as goal
+use Rattle.shared_counters.proofs.sharing.AdderWorkerCounters.work.Given as goal
 
 -- the same caller, in no call
 abbrev pub invariant-loop : goal.invariant-loop

@@ -1,5 +1,5 @@
 use Rattle.service_parts.specs.Callers.{IsBack}
-use Rattle.shared_bank.proofs.banking.work.Given as goal
+use Rattle.shared_bank.proofs.banking.MoverWorkerBank.work.Given as goal
 
 -- the same caller, in no call
 abbrev pub invariant-loop-step : goal.invariant-loop-step

@@ -1,0 +1,10 @@
+use Rattle.std.proofs.Common.{arith}
+use Rattle.service_parts.proofs.Working.{seats_after}
+use Rattle.service_parts.proofs.working.all_work.Goals as goal
+
+pub returns : goal.returns
+returns g c =
+    let all = c.in_ok-all.all in
+    let e = c.in_ok-all.ensures in
+    let v = c.args.callers in
+    seats_after c.args.service.now (λ w. w.caller) v.items all.items (omega (arith, e.long, all.ok.0, v.ok.0)) (λ k d x below. e.each k d x (omega (arith, below, v.ok.0))) c.requires.all
