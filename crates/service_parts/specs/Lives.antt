@@ -24,7 +24,7 @@ pub record IsOpen {O : Type 0} (o : Ghosts O) (object : O) (table : Running O) :
 pub record IsLeftBy {O : Type 0} (o : Ghosts O) (object : O) (r : Remains) : Type 0 where
   pub table : Running O
   pub seats : List Seated
-  pub open : IsOpen o object table
+  pub service : IsOpen o object table
   pub leaves : Leaves table (instance_at table o.step o.only_reads) seats r
 
 -- What is recovered by choice of what such a service left: the object after a front of its history, which has all that was answered.

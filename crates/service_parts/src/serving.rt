@@ -29,7 +29,7 @@ pub fn started<O: Object>(
 ) -> Result<(Service<O>, Vec<Caller>), AllocError>
     requires callers { AreFewCallers callers }
     requires may { MayServe O.Object object base.now }
-    ensures open { IfOk result (λ r. IsOpen O.Object object r.0) }
+    ensures service { IfOk result (λ r. IsOpen O.Object object r.0) }
     ensures callers { IfOk result (λ r. AreCallers r.0 r.1.items) }
 {
     let limits = &NO_LIMITS[..callers as usize];
@@ -47,7 +47,7 @@ pub fn closed<O: Object>(
     service: Service<O>,
     callers: Vec<Handed>,
 ) -> Result<Remains, AllocError>
-    requires open { IsOpen O.Object service.object service }
+    requires service { IsOpen O.Object service.object service }
     requires callers { AreSeats service (seats_of callers.items) }
     ensures history { IfOk result (λ r. IsHistory service.base.place r.trail.history (locals_of (seats_of callers.items))) }
     ensures left { IfOk result (IsLeftBy O.Object service.object) }

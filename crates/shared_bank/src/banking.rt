@@ -81,32 +81,11 @@ pub fn two_losses<R: Wait + Threads + Sync>(
 ) -> Result<(Counts, Counts, Found), AllocError> {
     let bank = Bank::of(64, ACCOUNTS, ALL);
     let base = Base::fresh(alloc, &bank)?;
-    let (first, remains) = serve(
-        rt,
-        alloc,
-        bank,
-        4,
-        &base,
-        &|service, caller| { work(rt, service, caller, 0) },
-    )?;
+    let (first, remains) = serve(rt, alloc, bank, 4, &base, &Mover { from: 0 })?;
     let base = recovered(alloc, &bank, &remains, 0)?;
-    let (second, remains) = serve(
-        rt,
-        alloc,
-        bank,
-        4,
-        &base,
-        &|service, caller| { work(rt, service, caller, EACH) },
-    )?;
+    let (second, remains) = serve(rt, alloc, bank, 4, &base, &Mover { from: EACH })?;
     let base = recovered(alloc, &bank, &remains, 0)?;
-    let (found, _remains) = serve(
-        rt,
-        alloc,
-        bank,
-        1,
-        &base,
-        &|service, caller| { look(rt, service, caller) },
-    )?;
+    let (found, _remains) = serve(rt, alloc, bank, 1, &base, &Looker)?;
     let found = found.first().copied().unwrap_or(NOT_FOUND);
     Ok((Counts::of_all(&first), Counts::of_all(&second), found))
 }

@@ -23,23 +23,9 @@ pub fn count_over_a_loss<R: Wait + Threads + Sync>(
 ) -> Result<Counted, AllocError> {
     let counters = Counters::of(64, 1_000_000);
     let base = Base::fresh(alloc, &counters)?;
-    let (before, remains) = serve(
-        rt,
-        alloc,
-        counters.duplicate(),
-        4,
-        &base,
-        &|service, caller| { count(rt, service, caller) },
-    )?;
+    let (before, remains) = serve(rt, alloc, counters.duplicate(), 4, &base, &Adder)?;
     let kept = recovered(alloc, &counters, &remains, 0)?;
-    let (after, _remains) = serve(
-        rt,
-        alloc,
-        counters.duplicate(),
-        4,
-        &kept,
-        &|service, caller| { count(rt, service, caller) },
-    )?;
+    let (after, _remains) = serve(rt, alloc, counters.duplicate(), 4, &kept, &Adder)?;
     Ok(Counted {
         before: highest(&before),
         after: highest(&after),

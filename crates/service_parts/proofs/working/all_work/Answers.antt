@@ -1,5 +1,5 @@
 use Rattle.std.proofs.Common.{arith}
-use Rattle.service_parts.proofs.Working.{seats_after}
+use Rattle.service_parts.proofs.HandedBack.{seats_after}
 use Rattle.service_parts.proofs.working.all_work.Goals as goal
 
 pub returns : goal.returns
