@@ -45,5 +45,5 @@ module _ {O : Type 0} (o : Ghosts O) where
         record {
           enough = omega (arith, lines, left.service.opened.enough);
           small = omega (arith, lines, left.service.opened.small);
-          base = subst (λ (x : O). LawfulBase (o.line_count x) (o.lawful x) base) left.service.object_is kept.again;
+          lawful = subst (λ (x : O). LawfulBase (o.line_count x) (o.lawful x) base) left.service.object_is kept.again;
         }

@@ -13,7 +13,7 @@ use Rattle.cx_base.specs.declared.object.Object.{Ghosts}
 pub record MayServe {O : Type 0} (o : Ghosts O) (object : O) (base : Base) : Type 0 where
   pub enough : 64 ≤ o.line_count object
   pub small : o.line_count object ≤ 16384
-  pub base : LawfulBase (o.line_count object) (o.lawful object) base
+  pub lawful : LawfulBase (o.line_count object) (o.lawful object) base
 
 -- a service is of this object, and opened from a lawful base
 pub record IsOpen {O : Type 0} (o : Ghosts O) (object : O) (table : Running O) : Type 0 where
