@@ -1,2 +1,3 @@
 mod HandedBack
 mod KeptLemmas
+mod OpenLemmas

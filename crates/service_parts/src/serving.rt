@@ -5,6 +5,7 @@ ghost use Rattle.cx_core.specs.Merge.{IsHistory};
 ghost use Rattle.cx_service.specs.Closes.{seats_of};
 ghost use Rattle.cx_service.specs.Starts.{AreFewCallers};
 ghost use Rattle.cx_table.specs.Remains.{AreSeats, locals_of};
+ghost use Rattle.recovery.specs.Kept.{IsOpened};
 ghost use Rattle.service_parts.specs.Callers.{AreCallers};
 ghost use Rattle.service_parts.specs.Lives.{IsLeftBy, IsOpen, MayServe};
 
@@ -34,7 +35,7 @@ pub fn started<O: Object>(
 {
     let limits = &NO_LIMITS[..callers as usize];
     match Service::start(alloc, object, callers, limits, base) {
-        Ok(started) => Ok(started),
+        Ok((service, callers)) => Ok((service, callers)),
         Err(StartFault::Memory) => Err(AllocError),
         Err(StartFault::Callers { .. } | StartFault::Lines { .. }) => unreachable!(),
     }
@@ -47,7 +48,7 @@ pub fn closed<O: Object>(
     service: Service<O>,
     callers: Vec<Handed>,
 ) -> Result<Remains, AllocError>
-    requires service { IsOpen O.Object service.object service }
+    requires service { IsOpened O.line_count O.lawful service }
     requires callers { AreSeats service (seats_of callers.items) }
     ensures history { IfOk result (λ r. IsHistory service.base.place r.trail.history (locals_of (seats_of callers.items))) }
     ensures left { IfOk result (IsLeftBy O.Object service.object) }
