@@ -33,17 +33,17 @@ module _ {O : Type 0} (o : Ghosts O) where
     -- so it is by an equal object
     pub recovered_of : Recovers → (image : Image) → IsLeftOf r choice image → (answer : Result Base ImageFault) → Answers object image answer → MatchResult answer (IsKeptOf left choice) (λ fault. fault ≡ Memory)
     recovered_of law image left_of answer is =
-        law left.table left.seats r choice image answer left.service.opened left.leaves left_of (subst (λ (x : O). Answers x image answer) (sym left.service.object_is) is)
+        law left.table left.seats r choice image answer left.opened left.leaves left_of (subst (λ (x : O). Answers x image answer) (sym left.object_is) is)
 
     pub readable_of : (image : Image) → IsReadable (o.line_count left.table.object) image → IsReadable (o.line_count object) image
-    readable_of image = subst (λ (x : O). IsReadable (o.line_count x) image) left.service.object_is
+    readable_of image = subst (λ (x : O). IsReadable (o.line_count x) image) left.object_is
 
     -- and from what is kept the next service may start
     pub may_of : (base : Base) → IsKeptOf left choice base → MayServe o object base
     may_of base kept =
-        let lines : left.table.lines ≡ o.line_count object = left.service.opened.lines ∙ ap o.line_count left.service.object_is in
+        let lines : left.table.lines ≡ o.line_count object = left.opened.lines ∙ ap o.line_count left.object_is in
         record {
-          enough = omega (arith, lines, left.service.opened.enough);
-          small = omega (arith, lines, left.service.opened.small);
-          lawful = subst (λ (x : O). LawfulBase (o.line_count x) (o.lawful x) base) left.service.object_is kept.again;
+          enough = omega (arith, lines, left.opened.enough);
+          small = omega (arith, lines, left.opened.small);
+          lawful = subst (λ (x : O). LawfulBase (o.line_count x) (o.lawful x) base) left.object_is kept.again;
         }

@@ -15,17 +15,26 @@ pub record MayServe {O : Type 0} (o : Ghosts O) (object : O) (base : Base) : Typ
   pub small : o.line_count object ≤ 16384
   pub lawful : LawfulBase (o.line_count object) (o.lawful object) base
 
--- a service is of this object, and opened from a lawful base
-pub record IsOpen {O : Type 0} (o : Ghosts O) (object : O) (table : Running O) : Type 0 where
+-- a service is of this object, of so many callers, and opened from this base, which is lawful
+pub record IsOpen {O : Type 0} (o : Ghosts O) (object : O) (callers : ℕ) (base : Base) (table : Running O) : Type 0 where
   pub object_is : table.object ≡ object
+  pub callers_are : table.callers ≡ callers
+  pub base_is : table.base ≡ base
   pub opened : IsOpened o.line_count o.lawful table
 
--- that is what such a service left when it was closed
+-- what a service of this object left when it was closed, which opened from a lawful base
 pub record IsLeftBy {O : Type 0} (o : Ghosts O) (object : O) (r : Remains) : Type 0 where
   pub table : Running O
   pub seats : List Seated
-  pub service : IsOpen o object table
+  pub object_is : table.object ≡ object
+  pub opened : IsOpened o.line_count o.lawful table
   pub leaves : Leaves table (instance_at table o.step o.only_reads) seats r
+
+-- it was of so many callers, and opened from this base
+pub record IsServed {O : Type 0} (o : Ghosts O) (object : O) (callers : ℕ) (base : Base) (r : Remains) : Type 0 where
+  pub left : IsLeftBy o object r
+  pub callers_are : left.table.callers ≡ callers
+  pub base_is : left.table.base ≡ base
 
 -- What is recovered by choice of what such a service left: the object after a front of its history, which has all that was answered.
 abbrev pub IsKeptOf : {O : Type 0} {o : Ghosts O} {object : O} {r : Remains} → IsLeftBy o object r → ℕ → Base → Type 0

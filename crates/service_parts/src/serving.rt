@@ -1,13 +1,13 @@
 //! One life of a service: from a base to what it leaves.
 
-ghost use Rattle.std.specs.Prelude.{IfOk};
+ghost use Rattle.std.specs.Prelude.{◌≡◌, IfOk, length};
 ghost use Rattle.cx_core.specs.Merge.{IsHistory};
 ghost use Rattle.cx_service.specs.Closes.{seats_of};
 ghost use Rattle.cx_service.specs.Starts.{AreFewCallers};
 ghost use Rattle.cx_table.specs.Remains.{AreSeats, locals_of};
 ghost use Rattle.recovery.specs.Kept.{IsOpened};
 ghost use Rattle.service_parts.specs.Callers.{AreCallers};
-ghost use Rattle.service_parts.specs.Lives.{IsLeftBy, IsOpen, MayServe};
+ghost use Rattle.service_parts.specs.Lives.{IsOpen, IsServed, MayServe};
 
 use crate::working::{Worker, work_together};
 use cx_base::Object;
@@ -30,8 +30,9 @@ pub fn started<O: Object>(
 ) -> Result<(Service<O>, Vec<Caller>), AllocError>
     requires callers { AreFewCallers callers }
     requires may { MayServe O.Object object base.now }
-    ensures service { IfOk result (λ r. IsOpen O.Object object r.0) }
+    ensures service { IfOk result (λ r. IsOpen O.Object object callers base.now r.0) }
     ensures callers { IfOk result (λ r. AreCallers r.0 r.1.items) }
+    ensures count { IfOk result (λ r. length r.1.items ≡ callers) }
 {
     let limits = &NO_LIMITS[..callers as usize];
     match Service::start(alloc, object, callers, limits, base) {
@@ -51,7 +52,7 @@ pub fn closed<O: Object>(
     requires service { IsOpened O.line_count O.lawful service }
     requires callers { AreSeats service (seats_of callers.items) }
     ensures history { IfOk result (λ r. IsHistory service.base.place r.trail.history (locals_of (seats_of callers.items))) }
-    ensures left { IfOk result (IsLeftBy O.Object service.object) }
+    ensures left { IfOk result (IsServed O.Object service.object service.callers service.base) }
 {
     match service.close(alloc, callers) {
         Ok(remains) => Ok(remains),
@@ -60,7 +61,7 @@ pub fn closed<O: Object>(
 }
 
 /// One life of a service of 1 to 8 callers: it starts from a base, the worker does each caller's work on a thread of its own, and it is
-/// closed. What was told, of caller 0 first, and what is left. `Err` is want of memory, and gives nothing back.
+/// closed. What each told, of caller 0 first, and what is left. `Err` is want of memory, and gives nothing back.
 pub fn serve<O: Object + Send + Sync, R: Threads + Wait + Sync, W: Worker<O> + Sync>(
     rt: &R,
     alloc: Global,
@@ -71,7 +72,8 @@ pub fn serve<O: Object + Send + Sync, R: Threads + Wait + Sync, W: Worker<O> + S
 ) -> Result<(Vec<W::Told>, Remains), AllocError>
     requires callers { AreFewCallers callers }
     requires may { MayServe O.Object object base.now }
-    ensures { IfOk result (λ r. IsLeftBy O.Object object r.1) }
+    ensures told { IfOk result (λ r. length r.0.items ≡ callers) }
+    ensures served { IfOk result (λ r. IsServed O.Object object callers base.now r.1) }
 {
     let (service, callers) = started(alloc, object, callers, base)?;
     let (handed, told) = work_together(rt, alloc, &service, callers, worker)?;

@@ -1,6 +1,6 @@
 //! A worker for each caller, each on a thread of its own.
 
-ghost use Rattle.std.specs.Prelude.{◌≡◌, ◌<◌, ℕ, IfOk, map, slice_index_or, vec_len};
+ghost use Rattle.std.specs.Prelude.{◌≡◌, ◌<◌, ℕ, IfOk, length, map, slice_index_or, vec_len};
 ghost use Rattle.cx_service.specs.Callers.{IsCallerOf};
 ghost use Rattle.cx_service.specs.Closes.{seats_of};
 ghost use Rattle.cx_table.specs.Remains.{AreSeats};
@@ -40,7 +40,8 @@ pub fn work_together<O: Object + Send + Sync, R: Threads + Wait + Sync, W: Worke
     worker: &W,
 ) -> Result<(Vec<Handed>, Vec<W::Told>), AllocError>
     requires { AreCallers service.now callers.items }
-    ensures { IfOk result (λ r. AreSeats service.now (seats_of r.0.items)) }
+    ensures handed { IfOk result (λ r. AreSeats service.now (seats_of r.0.items)) }
+    ensures told { IfOk result (λ r. length r.1.items ≡ length callers.items) }
 {
     let all = all_work(rt, service, callers, worker)?;
     parted(alloc, all)
@@ -54,7 +55,8 @@ fn all_work<O: Object + Send + Sync, R: Threads + Wait + Sync, W: Worker<O> + Sy
     worker: &W,
 ) -> Result<Vec<Worked<W::Told>>, AllocError>
     requires { AreCallers service.now callers.items }
-    ensures { IfOk result (λ v. AreSeats service.now (seats_of (map (λ w. w.caller) v.items))) }
+    ensures handed { IfOk result (λ v. AreSeats service.now (seats_of (map (λ w. w.caller) v.items))) }
+    ensures count { IfOk result (λ v. length v.items ≡ length callers.items) }
 {
     let all = each_works(rt, service, callers, worker)?;
     Ok(all)
@@ -83,7 +85,8 @@ fn each_works<O: Object + Send + Sync, R: Threads + Wait + Sync, W: Worker<O> + 
 
 /// The callers and what was told, taken apart.
 fn parted<T: Drop>(alloc: Global, all: Vec<Worked<T>>) -> Result<(Vec<Handed>, Vec<T>), AllocError>
-    ensures { IfOk result (λ r. r.0.items ≡ map (λ w. w.caller) all.items) }
+    ensures callers { IfOk result (λ r. r.0.items ≡ map (λ w. w.caller) all.items) }
+    ensures told { IfOk result (λ r. length r.1.items ≡ length all.items) }
 {
     let mut callers = Vec::new(alloc);
     let mut tellings = Vec::new(alloc);

@@ -6,13 +6,13 @@ use Rattle.service_parts.proofs.recovering.recovered.Goals as goal
 pub crash_image-requires : goal.crash_image-requires
 crash_image-requires g c =
     let left = c.requires in
-    c.closed_tables_are_whole.ensures.whole left.table left.seats c.args.remains.now left.service.opened left.leaves
+    c.closed_tables_are_whole.ensures.whole left.table left.seats c.args.remains.now left.opened left.leaves
 
 pub recover-requires : goal.recover-requires
 recover-requires g c =
     let left = c.requires in
     readable_of g.O.Object c.args.object.now c.args.remains.now c.args.choice left c.in_ok-image.image
-    (c.closed_tables_are_whole.ensures.readable left.table left.seats c.args.remains.now c.args.choice c.in_ok-image.image left.service.opened left.leaves c.in_ok-image.ensures)
+    (c.closed_tables_are_whole.ensures.readable left.table left.seats c.args.remains.now c.args.choice c.in_ok-image.image left.opened left.leaves c.in_ok-image.ensures)
 
 pub unreachable-requires : goal.unreachable-requires
 unreachable-requires g c =

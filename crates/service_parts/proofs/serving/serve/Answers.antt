@@ -1,5 +1,8 @@
-use Rattle.service_parts.proofs.OpenLemmas.{left_of}
+use Rattle.std.proofs.Common.{◌∙◌}
+use Rattle.service_parts.proofs.OpenLemmas.{served_of}
 use Rattle.service_parts.proofs.serving.serve.Goals as goal
 
-pub returns-in_ok-remains : goal.returns-in_ok-remains
-returns-in_ok-remains g c = left_of g.O.Object c.args.object c.in_ok-service-callers.service.object c.in_ok-remains.remains c.in_ok-service-callers.ensures.service.object_is c.in_ok-remains.ensures.left
+pub returns-in_ok-remains-clause-served : goal.returns-in_ok-remains-clause-served
+returns-in_ok-remains-clause-served g c =
+    let s = c.in_ok-service-callers.ensures in
+    served_of g.O.Object c.args.object c.args.callers c.args.base.now c.in_ok-service-callers.service c.in_ok-remains.remains s.service c.in_ok-remains.ensures.left
