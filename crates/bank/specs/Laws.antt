@@ -1,6 +1,6 @@
 -- The laws of the bank as an object, and that no step changes the sum.
-use Rattle.std.specs.Prelude.{◌≡◌, ◌+◌, ◌-◌, ◌*◌, ◌^◌, ◌<◌, ◌≤◌, ◌==◌, ◌&&◌, nat_le, nat_lt, ℕ, suc, Bool, true, false, cond, List, ◌∷◌, All, drop, length, replicate, slice_index, slice_set, sum, take, IsTrue, refl}
-use Rattle.std.proofs.Common.{ap, sym, ◌∙◌, add-one, arith, lit<, subst}
+use Rattle.std.specs.Prelude.{◌≡◌, ◌+◌, ◌-◌, ◌*◌, ◌^◌, ◌<◌, ◌≤◌, ◌&&◌, nat_lt, ℕ, suc, Bool, true, false, cond, List, ◌∷◌, drop, length, replicate, slice_index, slice_set, sum, take, IsTrue, refl}
+use Rattle.std.proofs.Common.{ap, sym, ◌∙◌, arith, lit<}
 use Rattle.std.proofs.Math.Seq.{take-set-lt}
 use Rattle.std.proofs.lemmas.Bool.{and_parts, leb-true}
 use Rattle.std.proofs.lemmas.Grind.{get_or_after_one}
@@ -9,7 +9,7 @@ use Rattle.std.proofs.lemmas.List.Elements.{All-cons, All-replicate}
 use Rattle.std.proofs.lemmas.List.Folds.{sum_by-replicate}
 use Rattle.std.proofs.lemmas.List.Sums.{sum_by-set, sum_by-take-le, sum_by_more, sum_by_more_le}
 use Rattle.cx_base.specs.Memory.{Words}
-use Rattle.cx_base.specs.WordLaws.{Words-at, Words-set}
+use Rattle.cx_base.specs.WordLaws.{Words-set}
 use Rattle.bank.specs.Meaning.{Fits, IsBank, accounts_in, amount_of, are_accounts, bank_opening, bank_reads, bank_step, blank, covers, given, image_after, is_reading, reply_to, taken, with_amount}
 use Rattle.bank.specs.Operations.{op_in, reply_words, words_with}
 use Rattle.bank.specs.declared.operations.Op.{Op}

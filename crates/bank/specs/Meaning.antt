@@ -1,5 +1,5 @@
 -- What the operations mean, and which images there are.
-use Rattle.std.specs.Prelude.{◌≡◌, ◌+◌, ◌-◌, ◌*◌, ◌^◌, ◌<◌, ◌≤◌, ◌&&◌, nat_le, nat_lt, ℕ, Bool, true, false, List, ◌∷◌, ◌++◌, drop, replicate, slice_index, slice_set, sum, take, if◌then◌else◌}
+use Rattle.std.specs.Prelude.{◌≡◌, ◌+◌, ◌-◌, ◌*◌, ◌^◌, ◌<◌, ◌≤◌, ◌&&◌, nat_le, nat_lt, ℕ, Bool, true, false, List, ◌∷◌, drop, replicate, slice_index, slice_set, sum, take, if◌then◌else◌}
 use Rattle.cx_base.specs.Memory.{Words}
 use Rattle.bank.specs.Operations.{op_in, reply_words}
 use Rattle.bank.specs.declared.operations.Op.{Op}

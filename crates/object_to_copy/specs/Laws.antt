@@ -9,8 +9,6 @@ use Rattle.object_to_copy.specs.Meaning.{IsImage, image_after, is_reading, numbe
 use Rattle.object_to_copy.specs.Operations.{op_in, reply_words, words_with}
 use Rattle.object_to_copy.specs.declared.operations.Op.{Op}
 use Rattle.object_to_copy.specs.declared.operations.Op.TheVariants.{Raise, Read, Other}
-use Rattle.object_to_copy.specs.declared.operations.Reply.{Reply}
-use Rattle.object_to_copy.specs.declared.operations.Reply.TheVariants.{Value, NoOperation}
 
 -- numbers of 64 bits
 abbrev Small : ℕ → Type 0

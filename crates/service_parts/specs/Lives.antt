@@ -1,5 +1,5 @@
 -- A service that opened from a lawful base, and what it left when it was closed.
-use Rattle.std.specs.Prelude.{◌≡◌, ◌≤◌, ℕ, Bool, List}
+use Rattle.std.specs.Prelude.{◌≡◌, ◌≤◌, ℕ, List}
 use Rattle.cx_core.specs.declared.entry.Base.{Base}
 use Rattle.cx_core.specs.Base.{LawfulBase}
 use Rattle.cx_rule.specs.Running.{Running, instance_at}
