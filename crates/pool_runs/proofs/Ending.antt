@@ -62,7 +62,7 @@ module _ {O Op Reply Store : Type 0} (lines_in : O → ℕ) (images : O → List
   abbrev flagged : LifeRecord Reply
   flagged = with_kept told (next.place - base.place) items
 
-  at_base : service.base.place ≡ base.place
+  pub at_base : service.base.place ≡ base.place
   at_base = ap (λ (b : Base). b.place) is.from
 
   abbrev pub recorded : IsPoolRecorded m inst closed.s closed.law.history m.opening life flagged

@@ -69,9 +69,11 @@ pub(crate) fn gather<O: TypedObject>(
     let _ = life;
     works_begin::<O::Op, O::Reply>();
     works_go_on::<O::Op, O::Reply>();
+    let clients = Vec::new(alloc);
+    let lines = Lines::new(alloc);
     let mut all = Gathered {
-        clients: Vec::new(alloc),
-        lines: Lines::new(alloc),
+        clients,
+        lines,
         never: false,
     };
     let mut works = works;

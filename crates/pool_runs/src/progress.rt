@@ -60,7 +60,8 @@ pub(crate) fn make<O: TypedObject, R: Wait>(
     op_is_a_value(object, &command.op);
     let op = object.words_of(&command.op);
     let reads = is_reading(object, &command.op, &op);
-    match ask(rt, pool, client, &op, reads)? {
+    let asked = ask(rt, pool, client, &op, reads)?;
+    match asked {
         Asked::Done(answer) => {
             let is_reply = note_entry(alloc, object, lines, command.client, number, &answer)?;
             Ok(is_reply)

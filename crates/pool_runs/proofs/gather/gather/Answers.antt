@@ -1,9 +1,23 @@
-use Rattle.std.proofs.Common.{◌≡◌, ◌∙◌, ◌+◌, ◌∷◌, List, Result, Ok, ap, arith, length, length-append, subst, []}
+use Rattle.std.proofs.Common.{false, ◌≡◌, ◌∙◌, ◌+◌, ◌∷◌, List, Result, Ok, ap, arith, length, length-append, refl, subst, sym, []}
 use Rattle.std.specs.declared.alloc.AllocError.{AllocError}
+use Rattle.client_pool.specs.declared.client.Client.{Client}
 use Rattle.pool_runs.specs.Working.{AreNumbered}
 use Rattle.pool_runs.specs.declared.work.Served.{Served}
 use Rattle.pool_runs.proofs.Joining.{gathered_more, gathered_none}
 use Rattle.pool_runs.proofs.gather.gather.Goals as goal
+
+pub loop-works-init : goal.loop-works-init
+loop-works-init g c =
+    let m = g.O.TypedObject.meaning c.args.object.now in
+    let life = c.args.life.now in
+    let r = c.args.pool.now.service in
+    let table = c.args.pool.now.line.table.shared.table_id in
+    let none = c.new-clients.ensures.items in
+    record {
+      gathered = gathered_none m life r table (record { clients = c.new-clients.result; lines = c.new-lines.result; never = false }) (c.works_begin.ensures m.encoding life) none c.new-lines.ensures.entries c.new-lines.ensures.reads refl;
+      rest = subst (λ (cs : List Client). AreNumbered m life r table (length cs) c.args.works.items) (sym none) c.requires;
+      count = omega (arith, ap length none, c.args.works.ok.0);
+    }
 
 pub loop-works-preserved : goal.loop-works-preserved
 loop-works-preserved g c =

@@ -7,7 +7,7 @@ use Rattle.cx_rule.specs.Running.{Running}
 use Rattle.cx_rule.specs.Seats.{Seated}
 use Rattle.life_laws.proofs.TypedSteps.{typed_steps}
 use Rattle.life_records.specs.Journal.{IsByTicket}
-use Rattle.life_records.specs.Records.{JournalLine}
+use Rattle.life_records.specs.Records.{JournalLine, LifeRecord}
 use Rattle.pool_runs.proofs.Joining.{numbered}
 use Rattle.pool_runs.proofs.Living.{met, never}
 use Rattle.pool_runs.proofs.Opening.{all_clients, all_new}
@@ -80,6 +80,17 @@ returns g c =
     } in
     let all : length f.clients.items ≡ life.clients =
     omega (arith, c.in_ok-clients.ensures.all, c.in_ok-works.ensures.len, c.in-Ok.clients.ok.0, c.in-Ok.ensures.opened.2.count_is, c.clients-count.ensures) in
-    subst (λ x. HasMet m g.O.Object.step g.O.Object.only_reads life x _ c.in-Ok-close.remains) same
-    (met m g.O.Object.step g.O.Object.only_reads life r c.in-Ok.pool.line.table.shared.table_id f gathered c.in-Ok-close.remains closed all lines _ (subst (IsByTicket es) (sym c.of-journal.ensures) sorted) c.of-reads.ensures c.clients-count.ensures c.choice-choice.ensures
+    let told : LifeRecord g.row.O-Reply.Denot = record {
+      clients = c.clients-count.result;
+      from = c.in-Ok-close.remains.first;
+      journal = c.of-journal.result;
+      reads = c.of-reads.result;
+      stops = c.new-stops.result;
+      fulls = c.new-fulls.result;
+      choice = c.choice-choice.result;
+      kept = 0;
+      documents = 0;
+    } in
+    subst (λ x. HasMet m g.O.Object.step g.O.Object.only_reads life x told c.in-Ok-close.remains) same
+    (met m g.O.Object.step g.O.Object.only_reads life r c.in-Ok.pool.line.table.shared.table_id f gathered c.in-Ok-close.remains closed all lines told (subst (IsByTicket es) (sym c.of-journal.ensures) sorted) c.of-reads.ensures c.clients-count.ensures c.choice-choice.ensures
     closed.leaves.first c.new-stops.ensures c.new-fulls.ensures)
