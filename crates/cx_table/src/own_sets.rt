@@ -39,7 +39,11 @@ impl CallerSeat {
     {
         let _ = &self.seat;
         let j = self.ticket_cell(ticket)?;
-        if self.is_offered(j, ticket) { Some(j) } else { None }
+        if self.is_offered(j, ticket) {
+            Some(j)
+        } else {
+            None
+        }
     }
 
     /// The cell of the caller's own entry with a ticket, where a cell has it and its set may still be written and offered.
@@ -48,7 +52,11 @@ impl CallerSeat {
     {
         let _ = &self.seat;
         let j = self.ticket_cell(ticket)?;
-        if self.is_offered(j, ticket) { None } else { Some(j) }
+        if self.is_offered(j, ticket) {
+            None
+        } else {
+            Some(j)
+        }
     }
 
     /// Whether the offer word of a cell is the one for a ticket.

@@ -117,14 +117,7 @@ impl<O: Object> Shared<O> {
     }
 
     /// Loads words of a set, as events of the seat's caller.
-    fn read_set_each(
-        &self,
-        seat: &mut Seat<u8, View>,
-        k: u64,
-        t: u64,
-        from: u64,
-        into: &mut [u64],
-    )
+    fn read_set_each(&self, seat: &mut Seat<u8, View>, k: u64, t: u64, from: u64, into: &mut [u64])
         requires one { IsOfOne self.now seat.old.table_id seat.old.me }
         requires within { from + length into.old ≤ 513 }
         requires guard { (i : ℕ) → i < 513 → Guard (instance_at self.now O.step O.only_reads) unseen (ReadSet k t i) (known_of seat.old.me.0).local }

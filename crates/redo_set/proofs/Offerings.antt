@@ -1,33 +1,30 @@
 -- Writing a set beside the cell of an own entry, word after word, and offering it.
-use Rattle.std.proofs.Common.{◌≡◌, ◌≢◌, ◌+◌, ◌*◌, ◌++◌, ◌<◌, ◌≤◌, inl, inr, ℕ, List, [], length, get_or, set, slice_index, slice_set, refl, sym, ap, subst, ◌∙◌, arith, append-nil, Option, Some, None}
+use Rattle.std.proofs.Common.{◌≡◌, ◌≢◌, ◌+◌, ◌*◌, ◌++◌, ◌<◌, ◌≤◌, inl, inr, ℕ, List, [], length, get_or, set, slice_index, sym, ap, subst, ◌∙◌, arith, append-nil, Some, None}
 use Rattle.std.proofs.Math.Logic.{∥∥₁_map}
 use Rattle.std.proofs.lemmas.Bool.{cases_eq}
 use Rattle.std.proofs.lemmas.List.{get_or-set_other, get_or-set_same, length-set, set-get_or, set-set}
-use Rattle.std.proofs.lemmas.Option.{get_or_from_slice_get, same_Some, slice_get_within}
-use Rattle.std.specs.List.{slice_get}
+use Rattle.std.proofs.lemmas.Option.{get_or_from_slice_get, same_Some}
 use Rattle.cx_base.specs.Noted.{Note}
 use Rattle.cx_core.specs.declared.entry.Base.{Base}
 use Rattle.cx_core.specs.declared.entry.Entry.{Entry}
 use Rattle.cx_core.specs.declared.kinds.Kind.TheVariants.{Offer, WriteSet}
 use Rattle.cx_core.specs.declared.local.Cell.{Cell}
 use Rattle.cx_core.specs.declared.local.Linked.{Linked}
-use Rattle.cx_core.specs.declared.local.Local.{Local}
 use Rattle.cx_core.specs.QueueEvents.{cell_of}
 use Rattle.cx_core.specs.SetEvents.{CanWriteSet, IsUnoffered, offer_of}
 use Rattle.cx_core.specs.State.{Instance, one_more}
 use Rattle.cx_core.specs.WriteSet.{stored}
-use Rattle.cx_core.proofs.ListLemmas.{slice_get-set_other, slice_get-set_same}
+use Rattle.cx_core.proofs.ListLemmas.{slice_get-set_other}
 use Rattle.core_queue.proofs.SetKinds.{unoffered_parts}
 use Rattle.cx_rule.specs.declared.rule.Known.{Known}
 use Rattle.cx_rule.specs.declared.rule.Noted.{Noted}
 use Rattle.cx_rule.specs.Fitting.{Chain, FitsOn, HasEntry, entries_of, has_of, start, with_entry, with_set as by_set}
 use Rattle.cx_rule.specs.Offers.{TellsOffer, TellsSet}
-use Rattle.cx_rule.specs.Running.{IsSeatOf, Running}
 use Rattle.cx_rule.specs.Seats.{HasCells, Seated, stepped}
-use Rattle.redo_set.specs.Offering.{HasStill, MayOffer, OffersSet, WritesSet, with_set}
+use Rattle.redo_set.specs.Offering.{HasStill, OffersSet, WritesSet, with_set}
 use Rattle.redo_set.proofs.SetLaws.{stored_same}
 
-abbrev no_cell : Cell
+abbrev pub no_cell : Cell
 no_cell = record { words = []; ticket = None; set = []; offer = 0 }
 
 -- ---- what a seat has

@@ -1,6 +1,6 @@
 -- Reading a write set, word after word.
-use Rattle.std.proofs.Common.{◌≡◌, ◌+◌, ◌*◌, ◌<◌, ◌≤◌, ℕ, zero, suc, Bool, List, [], ◌∷◌, ◌++◌, length, slice_index, refl, sym, ap, subst, ◌∙◌, arith, append-nil, zero-add, length-append, Option, Some}
-use Rattle.std.proofs.lemmas.List.{append_assoc}
+use Rattle.std.proofs.Common.{◌≡◌, ◌+◌, ◌*◌, ◌<◌, ◌≤◌, ℕ, zero, suc, List, [], ◌∷◌, ◌++◌, length, slice_index, refl, sym, ap, subst, ◌∙◌, arith, append-nil, zero-add, length-append, take, Option, Some}
+use Rattle.std.proofs.lemmas.List.{append_assoc, get_or-take, get_or_append_left}
 use Rattle.std.specs.List.{slice_get}
 use Rattle.cx_base.specs.declared.object.Object.{Ghosts}
 use Rattle.cx_core.specs.declared.kinds.Kind.TheVariants.{LoadOffer, ReadSet}
@@ -49,7 +49,7 @@ looked_is instance cell ticket found s after step =
     step ∙ (λ k. seat_with s (Some (record { cell = cell; ticket = ticket; word = found })) (one_more s.known.local.steps) (append-nil s.known.noted k) (sym (append-nil s.known.sets) k))
 
 -- one word more was read
-read_one : (instance : Instance) (cell ticket i v : ℕ) (seen : Option SeenOffer) (steps : ℕ) (notes : List SetNoted) (s t after : Seated) → t ≡ with_notes seen steps notes s → after ≡ stepped instance (ReadSet cell ticket i) t v →
+pub read_one : (instance : Instance) (cell ticket i v : ℕ) (seen : Option SeenOffer) (steps : ℕ) (notes : List SetNoted) (s t after : Seated) → t ≡ with_notes seen steps notes s → after ≡ stepped instance (ReadSet cell ticket i) t v →
     after ≡ with_notes seen (one_more steps) (notes ++ note ticket i v ∷ []) s
 read_one instance cell ticket i v seen steps notes s t after is step =
     step ∙ ap (λ x. stepped instance (ReadSet cell ticket i) x v) is
@@ -108,3 +108,14 @@ whole_noted ticket count pairs set sets notes are long few same =
           let here = noted_at ticket 0 i (count ∷ pairs) at ∙ ap (λ k. Some (note ticket k (slice_index (count ∷ pairs) i))) (zero-add i) ∙ ap (λ w. Some (note ticket i w)) (sym (same i within)) in
           (length sets + i, ap (λ ns. slice_get ns (length sets + i)) are ∙ behind sets (set_notes ticket 0 (count ∷ pairs)) i _ here));
     }
+
+-- words that were put behind the first of a list
+pub put_behind : (size count i : ℕ) (now pairs post rest : List ℕ) → i < size → 0 < length now → slice_index now 0 ≡ count → i < length pairs + 1 →
+    slice_index (take size ((take 1 now ++ (pairs ++ post)) ++ rest)) i ≡ slice_index (count ∷ pairs) i
+put_behind size count i [] pairs post rest within some first below = absurd (omega arith)
+put_behind size count zero (x ∷ now) pairs post rest within some first below = get_or-take size (x ∷ ((pairs ++ post) ++ rest)) 0 0 within ∙ first
+put_behind size count (suc i) (x ∷ now) pairs post rest within some first below =
+    let here : i < length pairs = omega arith in
+    get_or-take size (x ∷ ((pairs ++ post) ++ rest)) (suc i) 0 within
+    ∙ get_or_append_left (pairs ++ post) rest 0 i (omega (arith, here, length-append pairs post))
+    ∙ get_or_append_left pairs post 0 i here

@@ -36,7 +36,8 @@ pub fn offer<O: Object>(
     for i in 0..2 * set.len() + 1 {
         write_differing(shared, seat, cell, i, set.word(i))?;
     }
-    shared.offer(seat, cell)
+    shared.offer(seat, cell)?;
+    Ok(())
 }
 
 /// Writes a word into the set of a cell where it differs from the one there.

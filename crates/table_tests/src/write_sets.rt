@@ -118,10 +118,12 @@ fn is_not_taken(alloc: Global) -> Result<bool, AllocError> {
         ticket: 0,
         word: 0,
     };
-    Ok(is_written
-        && matches!(found, Some(Ok(false)))
-        && second.seen_offer() == Some(seen)
-        && second.steps() == 4)
+    Ok(
+        is_written
+            && matches!(found, Some(Ok(false)))
+            && second.seen_offer() == Some(seen)
+            && second.steps() == 4,
+    )
 }
 
 // Whether a caller with a limit of steps writes as many of the words as that allows: 147 steps link its entry.

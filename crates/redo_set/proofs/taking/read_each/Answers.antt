@@ -1,13 +1,12 @@
-use Rattle.std.proofs.Common.{◌+◌, ◌<◌, List, ℕ, length, take, refl, sym, ap, ◌∙◌, subst, arith}
-use Rattle.std.proofs.lemmas.List.{length-set, length-take, take_all}
+use Rattle.std.proofs.Common.{◌+◌, ◌<◌, List, ℕ, length, take, refl, sym, ◌∙◌, subst, arith}
+use Rattle.std.proofs.lemmas.List.{length-set, length-take}
 use Rattle.cx_core.specs.declared.kinds.Kind.TheVariants.{ReadSet}
 use Rattle.cx_core.specs.Events.{Guard}
 use Rattle.cx_rule.specs.Running.{instance_at}
-use Rattle.cx_rule.specs.Seats.{IsAtLimit, Seated, unseen}
+use Rattle.cx_rule.specs.Seats.{Seated, unseen}
 use Rattle.cx_table.proofs.Runs.{take_set}
-use Rattle.redo_set.specs.Taking.{LeavesTaking, ReadsWords, set_notes}
-use Rattle.redo_set.proofs.Results.{on_err}
-use Rattle.redo_set.proofs.Takings.{leaves_of, words_more, words_none}
+use Rattle.redo_set.specs.Taking.{ReadsWords}
+use Rattle.redo_set.proofs.Takings.{words_more, words_none}
 use Rattle.redo_set.proofs.taking.read_each.Goals as goal
 
 pub loop-i-init : goal.loop-i-init
