@@ -42,8 +42,7 @@ pub(crate) fn bring_up<O: Object>(
     Ok(())
 }
 
-/// Makes a replica held exclusively durable that is the image after its place. The reply to the caller's last entry in it is read, where
-/// it was not given by that entry's step.
+/// Makes a replica held exclusively durable that is the image after its place, once the caller has the reply to its last entry there.
 fn settle<O: Object>(
     shared: &Shared<O>,
     seat: &mut CallerSeat,
@@ -56,11 +55,29 @@ fn settle<O: Object>(
     ensures settled { MatchResult result (λ _. IsSettled O.Object shared.now held.now seat.old seat.new reply.new) (λ _. IsAtLimit seat.new.known.local) }
     ensures keeps { Keeps shared.now beside_work seat.old seat.new }
 {
-    if !replied {
-        own_outcome(shared, seat, held, reply)?;
-    }
+    own_reply(shared, seat, held, replied, reply)?;
     flush(shared, seat, held)?;
     Ok(())
+}
+
+/// Reads the reply to the caller's own last entry in a replica held exclusively, where the caller does not have it.
+fn own_reply<O: Object>(
+    shared: &Shared<O>,
+    seat: &mut CallerSeat,
+    held: &Exclusive,
+    replied: bool,
+    reply: &mut [u64; 144],
+) -> Result<(), Halt>
+    requires ready { IsReady O.Object shared.now held.now (noted_place seat.old) seat.old }
+    requires given { IsTrue replied → ShowsReply (O.line_count shared.now.object) (O.lawful shared.now.object) shared.now.base (O.step shared.now.object) seat.old.known seat.old.known.local.number reply.old }
+    ensures reply { MatchResult result (λ _. ShowsReply (O.line_count shared.now.object) (O.lawful shared.now.object) shared.now.base (O.step shared.now.object) seat.new.known seat.new.known.local.number reply.new) (λ _. IsAtLimit seat.new.known.local) }
+    ensures ready { IsReady O.Object shared.now held.now (noted_place seat.old) seat.new }
+    ensures rest { beside_held held.now.replica seat.new ≡ beside_held held.now.replica seat.old }
+{
+    if replied {
+        return Ok(());
+    }
+    own_outcome(shared, seat, held, reply)
 }
 
 /// Applies the entries from the place of a replica held exclusively up to a ticket, in order, the caller's own from the seat's memory, and
@@ -84,6 +101,9 @@ pub fn replay_to<O: Object>(
     // tickets are few
     let _front = seat.front();
     let place = seat.noted_place();
+    if ticket < place {
+        return Ok(false);
+    }
     let mut words = [0; 145];
     let mut next = Entry {
         caller: 0,
@@ -93,7 +113,7 @@ pub fn replay_to<O: Object>(
     for at in place..ticket + 1 {
         replay_next(shared, seat, held, at, &mut words, &mut next, reply)?;
     }
-    Ok(place <= ticket && next.caller == seat.number())
+    Ok(next.caller == seat.number())
 }
 
 /// Applies the entry of the place of a replica held exclusively, which is found in memory of the caller's.

@@ -2,7 +2,6 @@
 use Rattle.std.proofs.Common.{◌≡◌, ◌+◌, ◌/◌, ◌^◌, ◌<◌, ◌≤◌, ℕ, zero, suc, Bool, List, [], ◌∷◌, ◌++◌, length, slice_get, slice_index, refl, sym, ap, subst, ◌∙◌, arith, append-nil, zero-add, inr, Some}
 use Rattle.std.proofs.lemmas.List.{append_assoc, length-append}
 use Rattle.cx_base.specs.declared.object.Object.{Ghosts}
-use Rattle.cx_core.specs.declared.entry.Base.{Base}
 use Rattle.cx_core.specs.declared.entry.Entry.{Entry}
 use Rattle.cx_core.specs.declared.kinds.Kind.TheVariants.{ReadCell}
 use Rattle.cx_core.specs.declared.local.Local.{Local}

@@ -13,7 +13,7 @@ use Rattle.cx_core.specs.declared.entry.Base.{Base}
 use Rattle.cx_core.specs.declared.entry.Entry.{Entry}
 use Rattle.cx_core.specs.Base.{LawfulBase}
 use Rattle.cx_core.specs.History.{IsLawfulEntry}
-use Rattle.cx_core.specs.Region.{object_part, place_of, slot_reply}
+use Rattle.cx_core.specs.Region.{object_part, place_of}
 use Rattle.cx_core.specs.Step.{IsStepped}
 use Rattle.cx_core.specs.WriteSet.{stored}
 use Rattle.cx_core.proofs.HistoryLemmas.{ObjectLaws}

@@ -1,6 +1,6 @@
 -- What follows for a replica held exclusively from the steps that take it, and from those that note more of entries.
-use Rattle.std.specs.Prelude.{◌≡◌, ◌<◌, ℕ, Bool, cond, All, List, [], ◌++◌, refl, Option, Some, None}
-use Rattle.std.proofs.Common.{inl, inr, ap, sym, subst, ◌∙◌, eq-eqb}
+use Rattle.std.specs.Prelude.{◌≡◌, ◌<◌, ℕ, Bool, cond, All, List, [], refl, Option, Some, None}
+use Rattle.std.proofs.Common.{ap, sym, subst, ◌∙◌, eq-eqb}
 use Rattle.std.proofs.lemmas.List.Elements.{All-nil}
 use Rattle.std.proofs.lemmas.Option.{none-some}
 use Rattle.std.specs.Option.{option_map}
