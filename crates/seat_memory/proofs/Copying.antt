@@ -33,6 +33,7 @@ copy_moved instance r found k c long some agree behind is =
       place = is.place ∙ noted_place k.accesses 0 first.0 None none first.1 ∙ sym (noted_place (loads_of (loaded_of k.local.shared)) 0 first.0 None none first.2);
       marks = is.marks;
       cells = is.cells;
+      sets = is.sets;
       words = λ i below there. (
           let a = agree i below in
           let n = length c.words in
