@@ -1,4 +1,4 @@
-use Rattle.cx_lives.proofs.Calling.{reads_ask, update_done, update_full, update_halted, update_worn}
+use Rattle.cx_lives.proofs.Calling.{reads_ask}
 use Rattle.cx_lives.proofs.calls.ask_once.Goals as goal
 
 pub returns-then-reads : goal.returns-then-reads
