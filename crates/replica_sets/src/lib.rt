@@ -3,9 +3,9 @@
 //! Nothing stands on it yet.
 //!
 //! - The set of the ticket that is the replica's place makes it the image after the next place, where its caller has that set: read whole,
-//!   or offered in an own cell. It is stored pair by pair, with no load: `store_set` (`ready`).
+//!   or offered in an own cell. It is stored pair by pair, with no load: `store_set` (`ready`), and from the seat's memory `store_own_set`.
 #![tactic(auto)]
 
 mod storing;
 
-pub use storing::store_set;
+pub use storing::{store_own_set, store_set};
