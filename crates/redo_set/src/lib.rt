@@ -13,7 +13,11 @@
 #![tactic(auto)]
 
 mod apply;
+mod offering;
 mod set;
+mod taking;
 
 pub use apply::apply_set;
+pub use offering::offer;
 pub use set::WriteSet;
+pub use taking::take;
