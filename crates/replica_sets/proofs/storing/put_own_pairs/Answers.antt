@@ -1,6 +1,6 @@
-use Rattle.std.proofs.Common.{◌≡◌, ◌+◌, ◌*◌, ◌<◌, slice_index, ap, refl, subst, sym, ◌∙◌, arith, rules}
+use Rattle.std.proofs.Common.{◌≡◌, ◌+◌, ◌*◌, ◌<◌, slice_index, ap, subst, sym, ◌∙◌, arith}
 use Rattle.cx_base.specs.Memory.{Becomes}
-use Rattle.cx_base.proofs.MemoryLemmas.{Becomes-same, Becomes-store, Becomes-weaker}
+use Rattle.cx_base.proofs.MemoryLemmas.{Becomes-store}
 use Rattle.cx_core.specs.QueueEvents.{cell_of}
 use Rattle.cx_core.specs.Region.{region_words}
 use Rattle.cx_core.specs.WriteSet.{stored}
