@@ -1,7 +1,6 @@
 -- What a look, an offer and a set that was taken leave of a replica that is the image after its place.
-use Rattle.std.proofs.Common.{All, inl, inr, ◌≡◌, ◌<◌, ◌⊎◌, ◌++◌, ℕ, List, [], ap, sym, subst, ◌∙◌, Option}
+use Rattle.std.proofs.Common.{All, inl, inr, ◌≡◌, ◌<◌, ◌⊎◌, ◌++◌, ℕ, List, [], ap, sym, subst, ◌∙◌, Option, None}
 use Rattle.cx_base.specs.declared.object.Object.{Ghosts}
-use Rattle.cx_core.specs.declared.local.SeenOffer.{SeenOffer}
 use Rattle.cx_core.specs.declared.local.SeenSlot.{SeenSlot}
 use Rattle.cx_core.specs.Region.{region_words}
 use Rattle.cx_core.specs.Rights.{held_dirty}
@@ -17,12 +16,13 @@ use Rattle.cx_table.specs.Right.{Right}
 use Rattle.cx_table.specs.Tokens.{IsExclusiveOf}
 use Rattle.mutation_queue.specs.Entries.{with_look}
 use Rattle.redo_set.specs.Taking.{LeavesTaking, with_notes}
-use Rattle.replica.specs.Held.{IsHeld}
+use Rattle.replica.specs.Held.{IsHeld, beside_held}
 use Rattle.replica.specs.Laws.{image_more, image_same}
 use Rattle.replica.specs.Replays.{IsReady, noted_place}
+use Rattle.replica_sets.specs.Offered.{LeavesOffered, beside_offered}
 
 -- what a seat has, with these notes of sets
-has_with : Known → List SetNoted → Has
+abbrev has_with : Known → List SetNoted → Has
 has_with known sets = record { entry = HasEntry (entries_of known); set = λ t pairs. IsNotedSet sets t pairs ⊎ IsOwnSet known.local.cells t pairs }
 
 -- where further words of sets are noted, what is had is had still
@@ -81,3 +81,17 @@ module _ {O : Type 0} (o : Ghosts O) (r : Running O) (held : Right) (at : ℕ) w
         image = image_same (o.line_count r.object) (o.lawful r.object) r.base (o.step r.object) before.known after.known has accesses was.image;
         place = ap noted_place l.seat ∙ was.place;
       }
+
+-- a seat beside what work on the replica held exclusively changes, beside what is seen and noted of sets too
+abbrev beside_both : Seated → Seated
+beside_both b = record b { known = record b.known { local = record b.known.local { seen_slot = None; seen_offer = None }; sets = [] } }
+
+module _ {O : Type 0} (r : Running O) (replica : ℕ) where
+  pub leaves_looked : (seen : Option SeenSlot) (before after : Seated) → IsSeatOf r after → after ≡ with_look seen before → LeavesOffered r replica before after
+  leaves_looked seen before after of is = record { seat = of; rest = ap (beside_offered replica) is }
+
+  pub leaves_taken : (before mid after : Seated) → LeavesOffered r replica before mid → IsSeatOf r after → LeavesTaking mid after → LeavesOffered r replica before after
+  leaves_taken before mid after was of l = record { seat = of; rest = ap (beside_offered replica) l.seat ∙ was.rest }
+
+  pub leaves_stored : (before mid after : Seated) → LeavesOffered r replica before mid → IsSeatOf r after → beside_held replica after ≡ beside_held replica mid → LeavesOffered r replica before after
+  leaves_stored before mid after was of same = record { seat = of; rest = ap beside_both same ∙ was.rest }

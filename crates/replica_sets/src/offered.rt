@@ -30,7 +30,8 @@ pub fn replay_offered<O: Object>(
     ensures leaves { LeavesOffered shared.now held.now.replica seat.old seat.new }
 {
     let cell = see_cell(shared, seat, ticket)?;
-    if !take(shared, seat, cell, ticket, set)? {
+    let taken = take(shared, seat, cell, ticket, set)?;
+    if !taken {
         return Ok(false);
     }
     store_set(shared, seat, held, set)?;
