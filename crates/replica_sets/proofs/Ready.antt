@@ -8,18 +8,20 @@ use Rattle.cx_core.proofs.ListLemmas.{slice_get-append_left}
 use Rattle.core_queue.specs.declared.notes.SetNoted.{SetNoted}
 use Rattle.core_queue.specs.NotedSets.{IsNotedSet}
 use Rattle.cx_rule.specs.declared.rule.Known.{Known}
-use Rattle.cx_rule.specs.Fitting.{Fitting, Has, IsOwnSet, HasEntry, SomeFits, entries_of, has_of}
+use Rattle.cx_rule.specs.Fitting.{Fitting, FitsOn, Has, IsOwnSet, HasEntry, SomeFits, entries_of, has_of}
 use Rattle.cx_rule.specs.Running.{IsSeatOf, Running}
 use Rattle.cx_rule.specs.Seats.{Seated}
-use Rattle.cx_rule.proofs.HasMore.{HasMore, some_same}
+use Rattle.cx_rule.proofs.HasMore.{HasMore, fits_more, some_same}
 use Rattle.cx_table.specs.Right.{Right}
 use Rattle.cx_table.specs.Tokens.{IsExclusiveOf}
 use Rattle.mutation_queue.specs.Entries.{with_look}
+use Rattle.redo_set.specs.Offering.{HasStill, with_set}
 use Rattle.redo_set.specs.Taking.{LeavesTaking, with_notes}
 use Rattle.replica.specs.Held.{IsHeld, beside_held}
 use Rattle.replica.specs.Laws.{image_more, image_same}
-use Rattle.replica.specs.Replays.{IsReady, noted_place}
+use Rattle.replica.specs.Replays.{IsReady, ShowsReply, noted_place}
 use Rattle.replica_sets.specs.Offered.{LeavesOffered, beside_offered}
+use Rattle.replica_sets.specs.Own.{HasApplied, LeavesOwn, beside_own}
 
 -- what a seat has, with these notes of sets
 abbrev has_with : Known → List SetNoted → Has
@@ -95,3 +97,37 @@ module _ {O : Type 0} (r : Running O) (replica : ℕ) where
 
   pub leaves_stored : (before mid after : Seated) → LeavesOffered r replica before mid → IsSeatOf r after → beside_held replica after ≡ beside_held replica mid → LeavesOffered r replica before after
   leaves_stored before mid after was of same = record { seat = of; rest = ap beside_both same ∙ was.rest }
+
+abbrev beside_cells : Seated → Seated
+beside_cells b = record b { known = record b.known { local = record b.known.local { cells = [] } } }
+
+module _ {O : Type 0} (r : Running O) (replica : ℕ) where
+  pub leaves_held : (before after : Seated) → IsSeatOf r after → beside_held replica after ≡ beside_held replica before → LeavesOwn r replica before after
+  leaves_held before after of same = record { seat = of; rest = ap beside_cells same }
+
+  -- words of an own set were written, or it was offered
+  pub leaves_set : (before mid after : Seated) (j : ℕ) (set : List ℕ) (offer steps : ℕ) → LeavesOwn r replica before mid → IsSeatOf r after → after ≡ with_set j set offer steps mid → LeavesOwn r replica before after
+  leaves_set before mid after j set offer steps was of is = record { seat = of; rest = ap (beside_own replica) is ∙ was.rest }
+
+-- an own set was offered
+pub applied_offered : {O : Type 0} (o : Ghosts O) (r : Running O) (held : Right) (at caller : ℕ) (reply : List ℕ) (before after : Seated) (j : ℕ) (set : List ℕ) (offer steps : ℕ) → IsSeatOf r after → after ≡ with_set j set offer steps before →
+    HasStill before.known after.known → Fitting r.lines (o.lawful r.object) r.base (o.step r.object) after.known → HasApplied o r held at caller reply before → HasApplied o r held at caller reply after
+applied_offered o r held at caller reply before after j set offer steps of is still fits was =
+    let lines = o.line_count r.object in
+    let held_before = was.ready.is_held in
+    let more : HasMore (has_of before.known) (has_of after.known) = record { entry = still.entry; set = still.set } in
+    let accesses : after.known.accesses ≡ before.known.accesses = ap (λ (s : Seated). s.known.accesses) is in
+    record {
+      ready = record {
+        is_held = record {
+          sized = held_before.sized;
+          of = of;
+          right = subst (λ s. IsExclusiveOf r.callers s held) (sym is) (let right : IsExclusiveOf r.callers (with_set j set offer steps before) held = record { few = held_before.right.few; caller = held_before.right.caller; holds = held_before.right.holds } in right);
+          some = subst (λ n. SomeFits n (o.lawful r.object) r.base (o.step r.object) after.known) held_before.sized.lines_are fits.exclusive;
+          dirty = subst (λ (s : Seated). All (λ i. i < region_words lines) (held_dirty s.known.local.exclusive)) (sym is) held_before.dirty;
+        };
+        image = image_more lines (o.lawful r.object) r.base (o.step r.object) before.known after.known more accesses was.ready.image;
+        place = ap noted_place is ∙ was.ready.place;
+      };
+      replied = λ first now f. was.replied first now (fits_more lines (o.lawful r.object) r.base (o.step r.object) (has_of before.known) (has_of after.known) more before.known.accesses first now (subst (λ xs. FitsOn lines (o.lawful r.object) r.base (o.step r.object) (has_of after.known) xs first now) accesses f));
+    }
