@@ -37,3 +37,5 @@ mod thread_tests;
 mod trylocks;
 #[cfg(test)]
 mod turns;
+#[cfg(test)]
+mod write_sets;
