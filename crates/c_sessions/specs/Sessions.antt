@@ -13,12 +13,14 @@ use Rattle.cx_service.specs.declared.start.StartFault.TheVariants.{Memory}
 use Rattle.c_sessions.specs.declared.session.Session.{Session}
 use Rattle.c_sessions.specs.declared.steps.Called.{Called}
 use Rattle.c_sessions.specs.Calls.{CallsFrom, FinishesFrom, IsHanded}
+use Rattle.c_sessions.specs.Handing.{IsExitOf}
 
--- something stands of the session's caller
+-- something stands of the session's caller, and the session can be closed
 pub record IsReady {O : Type 0} (s : Session O) : Type 0 where
   pub handed : Handed
   pub is : s.handed ≡ Some handed
   pub of : IsHanded (arc_value s.service) handed
+  pub exit : IsExitOf (arc_value s.service) s.exit
 
 -- a session of this service, ready
 pub record IsReadyOf {O : Type 0} (r : Running O) (s : Session O) : Type 0 where

@@ -4,16 +4,28 @@ use Rattle.std.specs.Global.{Global}
 use Rattle.std_alloc.specs.declared.boxed.Box.{Box}
 use Rattle.doc_store.specs.ExactStep.{reads_in}
 use Rattle.fifo_object.specs.Fifo.{fifo_reads}
+use Rattle.cx_rule.specs.Running.{Running}
+use Rattle.cx_service.specs.Closes.{seats_of}
+use Rattle.cx_table.specs.Remains.{AreSeats}
+use Rattle.doc_store.specs.declared.store.DocStore.{DocStore}
+use Rattle.fifo_object.specs.declared.fifo.Fifo.{Fifo}
 use Rattle.c_sessions.specs.Sessions.{CallsIn, FinishesIn, IsReady}
 use Rattle.c_sessions.specs.declared.steps.Called.{Called}
-use Rattle.c_sessions.specs.declared.steps.Called.TheVariants.{Done, Pending, Again, Full, Worn, Stopped, OutOfTurn}
+use Rattle.c_sessions.specs.declared.steps.Called.TheVariants.{OutOfTurn}
+use Rattle.githoppu_c.specs.Codes.{code_of}
+use Rattle.githoppu_c.specs.Objects.{IsClosedQueue, IsClosedStore}
 use Rattle.githoppu_c.specs.declared.content.Content.{Content}
-use Rattle.githoppu_c.specs.declared.content.Content.TheVariants.{Documents, Queue}
+use Rattle.githoppu_c.specs.declared.content.Content.TheVariants.{Documents, Queue, KeptDocuments, KeptQueue, ClosedDocuments, ClosedQueue, Gone}
 
--- a session that may be called
+-- what C may call: a session that is ready, a service with all its callers that is still to be closed, and what a closed one left
 abbrev pub IsCallable : Content → Type 0
 IsCallable (Documents session) = IsReady session
 IsCallable (Queue session) = IsReady session
+IsCallable (KeptDocuments kept) = AreSeats kept.service (seats_of kept.callers.items)
+IsCallable (KeptQueue kept) = AreSeats kept.service (seats_of kept.callers.items)
+IsCallable (ClosedDocuments remains) = (r : Running DocStore) × IsClosedStore r remains
+IsCallable (ClosedQueue remains) = (r : Running Fifo) × IsClosedQueue r remains
+IsCallable Gone = Unit {0}
 
 -- so many boxes, each of a session that may be called
 pub record AreCallable (count : ℕ) (boxes : List (Box Content Global)) : Type 0 where
@@ -40,27 +52,25 @@ pub record AreOpened (lines count : ℕ) (boxes : List (Box Content Global)) : T
   pub may : MayOpen lines count
   pub callable : AreCallable count boxes
 
+-- what is no session was called out of turn, and is as it was
+abbrev pub IsNoTurn : Content → Called → Content → Type 0
+IsNoTurn before called after = (called ≡ OutOfTurn) × (after ≡ before)
+
 -- a call of this operation, in so many tries, came to this
 abbrev pub Calls : List ℕ → ℕ → Content → Called → Content → List ℕ → Type 0
 Calls op tries (Documents before) called (Documents after) reply = CallsIn (λ _. reads_in) op tries before called after reply
+Calls op tries (Documents before) called after reply = ⊥
 Calls op tries (Queue before) called (Queue after) reply = CallsIn (λ _. fifo_reads) op tries before called after reply
-Calls op tries before called after reply = ⊥
+Calls op tries (Queue before) called after reply = ⊥
+Calls op tries before called after reply = IsNoTurn before called after
 
 -- and so did finishing, in so many turns
 abbrev pub Finishes : ℕ → Content → Called → Content → List ℕ → Type 0
 Finishes tries (Documents before) called (Documents after) reply = FinishesIn tries before called after reply
+Finishes tries (Documents before) called after reply = ⊥
 Finishes tries (Queue before) called (Queue after) reply = FinishesIn tries before called after reply
-Finishes tries before called after reply = ⊥
-
--- the number of what a call came to
-abbrev pub code_of : Called → ℤ
-code_of Done = pos 0
-code_of Pending = pos 1
-code_of Again = pos 2
-code_of Full = pos 3
-code_of Worn = pos 4
-code_of Stopped = pos 5
-code_of OutOfTurn = pos 6
+Finishes tries (Queue before) called after reply = ⊥
+Finishes tries before called after reply = IsNoTurn before called after
 
 -- what C is answered: the number of what some tries came to, which left a session that may be called
 pub record Answers (come_to : ℕ → Called → Content → Type 0) (code : ℤ) : Type 0 where

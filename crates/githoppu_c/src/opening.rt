@@ -68,7 +68,7 @@ fn boxed(made: Result<Vec<Box<Content>>, AllocError>) -> Result<Vec<Box<Content>
 }
 
 /// A box for each session of a document store.
-fn as_documents(
+pub(crate) fn as_documents(
     alloc: Global,
     sessions: Vec<Session<DocStore>>,
 ) -> Result<Vec<Box<Content>>, AllocError>
@@ -83,7 +83,7 @@ fn as_documents(
 }
 
 /// A box for each session of a queue.
-fn as_queue(alloc: Global, sessions: Vec<Session<Fifo>>) -> Result<Vec<Box<Content>>, AllocError>
+pub(crate) fn as_queue(alloc: Global, sessions: Vec<Session<Fifo>>) -> Result<Vec<Box<Content>>, AllocError>
     requires { AreReady (length sessions.items) sessions.items }
     ensures { IfOk result (λ boxes. AreCallable (length sessions.items) boxes.items) }
 {
