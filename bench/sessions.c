@@ -96,7 +96,7 @@ static double least(int threads, int reads, int on_a_store) {
         }
         double took = seconds(on_a_store ? sessions : NULL, threads, reads);
         if (on_a_store)
-            githoppu_close(sessions, (size_t)threads);
+            githoppu_give_up(sessions, (size_t)threads);
         if (took < best)
             best = took;
     }
