@@ -1,6 +1,6 @@
 -- Each move keeps the rule.
 use Rattle.std.proofs.Common.{◌≡◌, ℕ, zero, suc, List, [], ◌∷◌, ◌++◌, set, sym, refl, ap, ◌∙◌, subst, inl, inr, ⊎_elim}
-use Rattle.std.specs.Prelude.{All, Option, Some, None}
+use Rattle.std.specs.Prelude.{All, IfSome, Option, Some, None}
 use Rattle.std.specs.Arc.{arc_value}
 use Rattle.std.proofs.lemmas.List.Elements.{All-head, All-nil, All-push, All-tail}
 use mathlib.Core.Option.{some, some-injective, some-ne-none}
@@ -8,6 +8,8 @@ use lib.ListN.{get_elem?}
 use Rattle.crossbeam_queue.specs.Fifo.{Forks, Pops, Pushes}
 use Rattle.crossbeam_queue.proofs.Lists.{at_set, at_snoc}
 use Rattle.cx_rule.specs.Running.{Running}
+use Rattle.cx_service.specs.declared.close.Handed.{Handed}
+use Rattle.c_sessions.specs.Calls.{IsHanded}
 use Rattle.c_sessions.specs.Rule.{Gathers, IsHandedInAt, Keeps, fresh, opened, with_given}
 use Rattle.c_sessions.specs.declared.rule.HandedIn.{HandedIn}
 use Rattle.c_sessions.specs.declared.rule.Knows.{Knows}
@@ -37,21 +39,30 @@ module _ {O : Type 0} where
   pub begins : Gathers {O = O} [] (fresh ∷ [])
   begins = inl (refl, refl)
 
-  -- the first pass learns the service, and so does the one that is made of it
-  pub opens : (pass : ℕ) (r : Running O) → Forks Gathers pass fresh (opened (Some r)) (opened (Some r))
-  opens zero r items views (inl new) at =
-      subst (λ (l : List (HandedIn O)). Gathers l (set views 0 (opened (Some r)) ++ opened (Some r) ∷ [])) (sym new.0)
-      (subst (λ (l : List (Knows O)). Gathers [] (set l 0 (opened (Some r)) ++ opened (Some r) ∷ [])) (sym new.1) (inr (record {
-        service = r;
-        each = All-nil (IsHandedInAt (Some r));
-        known = known_snoc r (opened (Some r) ∷ []) (opened (Some r)) refl one;
-      })))
+  -- the first pass learns the service by a share that it puts into the queue
+  pub opens : (n pass : ℕ) (v : Knows O) (x : HandedIn O) → v ≡ fresh → x.handed ≡ None → Pushes Gathers n pass v x (λ w. w ≡ opened (Some (arc_value x.service)))
+  opens n pass v x new none items views short (inr k) at = absurd (none_known k.service (sym (ap (λ (u : Knows O). u.home) new) ∙ k.known pass v at))
+  opens n pass v x new none items views short (inl empty) at =
+      let r = arc_value x.service in let w = opened (Some r) in (
+        w,
+        inr (record {
+          service = r;
+          each = subst (λ (l : List (HandedIn O)). All (IsHandedInAt (Some r)) (l ++ x ∷ [])) (sym empty.0) (All-push (IsHandedInAt (Some r)) [] x (All-nil (IsHandedInAt (Some r))) share);
+          known = alone views pass empty.1 at;
+        }),
+        refl,
+      )
     where
-      one : Known r (opened (Some r) ∷ [])
-      one zero u e = sym (ap (λ (y : Knows O). y.home) (some-injective (opened (Some r)) u e))
-      one (suc j) u e = absurd (some-ne-none u (sym e))
-  opens (suc pass) r items views (inl new) at = absurd (some-ne-none fresh (sym at ∙ ap (λ l. get_elem? l (suc pass)) new.1))
-  opens pass r items views (inr k) at = absurd (none_known k.service (k.known pass fresh at))
+      share : IsHandedInAt (Some (arc_value x.service)) x
+      share = record { share = refl; handed = subst (λ (h : Option Handed). IfSome h (IsHanded (arc_value x.service))) (sym none) tt }
+
+      alone : (us : List (Knows O)) (k : ℕ) → us ≡ fresh ∷ [] → get_elem? us k ≡ some v → Known (arc_value x.service) (set us k (opened (Some (arc_value x.service))))
+      alone us zero one here = subst (λ (l : List (Knows O)). Known (arc_value x.service) (set l 0 (opened (Some (arc_value x.service))))) (sym one) only
+        where
+          only : Known (arc_value x.service) (opened (Some (arc_value x.service)) ∷ [])
+          only zero u e = sym (ap (λ (y : Knows O). y.home) (some-injective (opened (Some (arc_value x.service))) u e))
+          only (suc j) u e = absurd (some-ne-none u (sym e))
+      alone us (suc k) one here = absurd (some-ne-none v (sym here ∙ ap (λ l. get_elem? l (suc k)) one))
 
   -- a pass is made of one that knows the service
   pub parts : (pass : ℕ) (r : Running O) (v : Knows O) → v.home ≡ Some r → Forks Gathers pass v v (opened v.home)

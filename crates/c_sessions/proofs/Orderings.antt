@@ -31,9 +31,6 @@ map_twice : (xs : List Handed) → map (λ (s : Seated). s.known.local.number) (
 map_twice [] = refl
 map_twice (x ∷ xs) = ap (λ l. number_of x ∷ l) (map_twice xs)
 
-pub not_none : (n : ℕ) (b : Bool) → b ≡ false → b ≡ (n == 0) → 0 < n
-not_none n b is test = grind (arith, nat_tests)
-
 pub is_none : (n : ℕ) (b : Bool) → b ≡ true → b ≡ (n == 0) → n ≡ 0
 is_none n b is test = grind (arith, nat_tests)
 

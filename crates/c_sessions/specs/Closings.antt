@@ -1,5 +1,5 @@
 -- What closing a session comes to.
-use Rattle.std.specs.Prelude.{◌≡◌, ℕ, Bool, List}
+use Rattle.std.specs.Prelude.{◌≡◌, ◌<◌, ℕ, Bool, List}
 use Rattle.std.specs.Arc.{arc_value}
 use Rattle.cx_rule.specs.Running.{Running, instance_at}
 use Rattle.cx_rule.specs.Seats.{Seated}
@@ -25,9 +25,9 @@ module _ {O : Type 0} (line_count : O → ℕ) (lawful : O → List ℕ → Type
     pub all : AreSeats r seats
     pub leaves : Leaves r (instance_at r step reads) seats remains
 
-  -- the last session closes the service
+  -- the last session closes the service; where there are others, the service has further callers
   abbrev pub ClosesTo : Running O → Closing O → Type 0
-  ClosesTo r Others = Unit {0}
+  ClosesTo r Others = 1 < r.callers
   ClosesTo r (Again session) = ⊥
   ClosesTo r (Closed remains) = IsClosedOf r remains
   ClosesTo r (ClosingKept kept) = IsKeptOf r kept

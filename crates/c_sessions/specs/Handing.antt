@@ -25,6 +25,7 @@ pub record IsOpen {O : Type 0} (r : Running O) (callers : ℕ) (handover : Hando
 -- the caller lies in the queue, or it is handed back and nothing is changed
 pub record HandsInTo {O : Type 0} (handover : Handover O) (before : Pass (HandedIn O) (Knows O)) (given : HandedIn O) (answer : Result (Unit {0}) (HandedIn O)) (after : Pass (HandedIn O) (Knows O)) : Type 0 where
   pub of : IsPassOf handover.line after
+  pub home : (view after).home ≡ (view before).home
   pub told : MatchResult answer (λ _. view after ≡ with_given (view before) given) (λ back. (back ≡ given) × (view after ≡ view before))
 
 -- an empty list with room for so many

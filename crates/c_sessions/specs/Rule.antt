@@ -1,5 +1,5 @@
 -- The rule of the queue in which the callers of one service are handed in.
-use Rattle.std.specs.Prelude.{◌≡◌, ◌⊎◌, ℕ, List, [], ◌∷◌, ◌++◌, All, Option, Some, None}
+use Rattle.std.specs.Prelude.{◌≡◌, ◌⊎◌, ℕ, List, [], ◌∷◌, ◌++◌, All, IfSome, Option, Some, None}
 use Rattle.std.specs.Arc.{arc_value}
 use mathlib.Core.Option.{some}
 use lib.ListN.{get_elem?}
@@ -8,10 +8,10 @@ use Rattle.c_sessions.specs.Calls.{IsHanded}
 use Rattle.c_sessions.specs.declared.rule.HandedIn.{HandedIn}
 use Rattle.c_sessions.specs.declared.rule.Knows.{Knows}
 
--- a caller of the service that a pass knows, with its share of it
+-- a share of the service that a pass knows, with what stands of a caller of that service, if it is one that is handed in
 pub record IsHandedInAt {O : Type 0} (home : Option (Running O)) (x : HandedIn O) : Type 0 where
   pub share : home ≡ Some (arc_value x.service)
-  pub handed : IsHanded (arc_value x.service) x.handed
+  pub handed : IfSome x.handed (IsHanded (arc_value x.service))
 
 abbrev pub knows : {O : Type 0} → Option (Running O) → List (HandedIn O) → Knows O
 knows home given = record { home = home; given = given }

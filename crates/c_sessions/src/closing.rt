@@ -1,9 +1,10 @@
 //! Sessions are closed one by one, in any order and by any thread. The last one closes the service.
 
 ghost use Rattle.std.specs.Prelude.{◌≡◌, MatchResult};
+ghost use Rattle.cx_rule.specs.Running.{Running};
 ghost use Rattle.cx_service.specs.Closes.{seats_of};
 ghost use Rattle.cx_table.specs.Remains.{AreSeats};
-ghost use Rattle.c_sessions.specs.Closings.{Closes, ClosesTo, IsClosedOf, IsKeptOf};
+ghost use Rattle.c_sessions.specs.Closings.{Closes, ClosesTo, IsClosedOf};
 ghost use Rattle.c_sessions.specs.Handing.{IsExitOf};
 ghost use Rattle.c_sessions.specs.Sessions.{IsReady};
 
@@ -45,9 +46,6 @@ impl<O: Object> Session<O> {
             exit,
             handed,
         } = self;
-        let Some(handed) = handed else {
-            unreachable!()
-        };
         let Exit {
             handover,
             mut pass,
@@ -61,9 +59,16 @@ impl<O: Object> Session<O> {
                 gathered,
                 out,
             };
-            return Closing::Again(Session::of(back.service, exit, back.handed));
+            return Closing::Again(Session {
+                service: back.service,
+                exit,
+                handed: back.handed,
+            });
         }
-        if handover.came.fetch_add(1, Ordering::SeqCst) != u64::from(handover.callers) - 1 {
+        let came = handover.came.fetch_add(1, Ordering::SeqCst);
+        let last = u64::from(handover.callers) - 1;
+        // of one caller there are no others
+        if came != last && last > 0 {
             return Closing::Others;
         }
         let exit = Exit {
@@ -78,6 +83,7 @@ impl<O: Object> Session<O> {
 
 /// Closes the service whose callers are all handed in.
 fn all_in<O: Object>(alloc: Global, exit: Exit<O>) -> Closing<O>
+    requires { (r : Running O) × IsExitOf r exit }
     ensures { (r : Running O) → IsExitOf r exit → ClosesTo O.line_count O.lawful O.step O.only_reads r result }
 {
     let Exit {

@@ -28,13 +28,13 @@ pub(crate) fn gather<O: Object>(
 {
     let mut gathered = gathered;
     let HandedIn { service, handed } = handover.take(pass)?;
-    gathered.push_reserved(handed);
+    gathered.push_reserved(handed?);
     for taken in 1..handover.callers as usize {
         let HandedIn {
             service: _,
             handed,
         } = handover.take(pass)?;
-        gathered.push_reserved(handed);
+        gathered.push_reserved(handed?);
     }
     Some((service, gathered))
 }

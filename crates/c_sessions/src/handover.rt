@@ -1,16 +1,17 @@
 //! Where the callers of a service lie that are handed in, until the last one comes.
 
-ghost use Rattle.std.specs.Prelude.{◌≡◌, ◌<◌, IfOk, IfSome, Some};
+ghost use Rattle.std.specs.Prelude.{◌≡◌, ◌<◌, IfOk, IfSome};
+ghost use Rattle.std.specs.Arc.{arc_value};
 ghost use Rattle.crossbeam_queue.specs.Passes.{view, IsPassOf};
 ghost use Rattle.c_sessions.specs.Handing.{HandsInTo, IsOpen, IsPassIn};
 ghost use Rattle.c_sessions.specs.Rule.{IsHandedInAt};
 
-use crate::rule::{Gives, HandedIn, Known, Knows, Line, Opens, Parts, Takes};
+use crate::rule::{Gives, HandedIn, Knows, Line, Opens, Parts, Takes};
 use crossbeam_queue::Pass;
 use cx_base::Object;
 use cx_service::Service;
 use std::alloc::{AllocError, Global};
-use std::marker::Brand;
+use std::sync::Arc;
 use std::sync::atomic::AtomicU64;
 
 /// How often a caller is put into the queue before its session is given back. Each other caller is in the way at most once.
@@ -24,30 +25,27 @@ pub struct Handover<O: Object> {
     pub(crate) callers: u32,
 }
 
-/// An empty queue for so many callers of a service, and a pass of it.
+/// An empty queue for so many callers of a service, and a pass of it. `Err` is want of memory.
 pub(crate) fn open_for<O: Object>(
     alloc: Global,
-    service: &Service<O>,
+    service: &Arc<Service<O>, Global>,
     callers: u32,
 ) -> Result<(Handover<O>, Pass<HandedIn<O>, Knows<O>>), AllocError>
     requires { 0 < callers }
-    ensures { IfOk result (λ q. IsOpen service.now callers q.0 q.1) }
+    ensures { IfOk result (λ q. IsOpen (arc_value service.now) callers q.0 q.1) }
 {
-    open_by::<O, Brand>(alloc, service, callers)
-}
-
-fn open_by<O: Object, K: Known<O>>(
-    alloc: Global,
-    service: &Service<O>,
-    callers: u32,
-) -> Result<(Handover<O>, Pass<HandedIn<O>, Knows<O>>), AllocError>
-    requires some { 0 < callers }
-    requires home { K.home ≡ Some service.now }
-    ensures { IfOk result (λ q. IsOpen service.now callers q.0 q.1) }
-{
-    let _ = service;
     let (line, mut pass) = Line::ruled(alloc, callers as usize)?;
-    let _other = line.another::<Opens<K>>(&mut pass);
+    let share = HandedIn {
+        service: Arc::try_clone(service)?,
+        handed: None,
+    };
+    // nobody is in the way of these two
+    if line.try_push_as::<Opens>(&mut pass, share).is_err() {
+        return Err(AllocError);
+    }
+    if line.try_pop_as::<Takes>(&mut pass).is_none() {
+        return Err(AllocError);
+    }
     let handover = Handover {
         line,
         came: AtomicU64::new(0),

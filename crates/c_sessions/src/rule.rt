@@ -6,14 +6,14 @@ use cx_base::Object;
 use cx_service::{Handed, Service};
 use std::alloc::Global;
 use std::collections::LinkedList;
-use std::marker::{Brand, PhantomData};
 use std::sync::Arc;
 
-/// A caller that is handed in, with its share of the service. Who has all of them has all shares, so the service is nobody's else.
+/// A caller that is handed in, with its share of the service: who has all of them has all shares, so the service is nobody's else. Where the queue
+/// is opened, a share goes through it alone, by which the first pass learns the service.
 #[derive(Drop)]
 pub struct HandedIn<O: Object> {
     pub service: Arc<Service<O>, Global>,
-    pub handed: Handed,
+    pub handed: Option<Handed>,
 }
 
 /// What a pass knows: the service, and what it put into the queue. No value of it is made.
@@ -36,31 +36,15 @@ impl<O: Object> Protocol<HandedIn<O>, Knows<O>> for OfOneService {
 /// The queue.
 pub type Line<O> = RuledArrayQueue<HandedIn<O>, Knows<O>, OfOneService>;
 
-/// Which service it is. A call picks it.
-pub trait Known<O: Object> {
-    ghost use Rattle.std.specs.Prelude.{Option};
-    ghost use Rattle.cx_rule.specs.Running.{Running};
+/// A share is put into the new queue, and the first pass learns the service.
+pub(crate) struct Opens;
 
-    ghost home: { Option (Running O) };
-}
-
-impl<O: Object> Known<O> for Brand {
-    ghost use Rattle.std.specs.Prelude.{None};
-
-    ghost home = { None };
-}
-
-/// The first pass learns the service.
-pub(crate) struct Opens<K> {
-    by: PhantomData<K>,
-}
-
-impl<O: Object, K: Known<O>> Split<Knows<O>> for Opens<K> {
+impl<O: Object> Outcome<HandedIn<O>, Knows<O>> for Opens {
+    ghost use Rattle.std.specs.Prelude.{◌≡◌, Some};
+    ghost use Rattle.std.specs.Arc.{arc_value};
     ghost use Rattle.c_sessions.specs.Rule.{opened};
 
-    ghost left = { λ v. opened K.home };
-
-    ghost right = { λ v. opened K.home };
+    ghost then = { λ v x w. w ≡ opened (Some (arc_value x.service)) };
 }
 
 /// A pass is made of another.
