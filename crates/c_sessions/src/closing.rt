@@ -38,7 +38,7 @@ impl<O: Object> Session<O> {
     /// Closes the session. Its caller is handed in, in whatever state it is. The session that is closed last takes all callers of the
     /// service out, and closes it.
     pub fn close(self, alloc: Global) -> Closing<O>
-        requires ready { IsReady self }
+        requires { IsReady self }
         ensures { Closes O.line_count O.lawful O.step O.only_reads self result }
     {
         let Session {

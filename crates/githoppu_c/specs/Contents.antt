@@ -9,7 +9,7 @@ use Rattle.cx_service.specs.Closes.{seats_of}
 use Rattle.cx_table.specs.Remains.{AreSeats}
 use Rattle.doc_store.specs.declared.store.DocStore.{DocStore}
 use Rattle.fifo_object.specs.declared.fifo.Fifo.{Fifo}
-use Rattle.c_sessions.specs.Sessions.{CallsIn, FinishesIn, IsReady}
+use Rattle.c_sessions.specs.Sessions.{CallsIn, FinishesIn, IsReady, IsReadyOf}
 use Rattle.c_sessions.specs.declared.steps.Called.{Called}
 use Rattle.c_sessions.specs.declared.steps.Called.TheVariants.{OutOfTurn}
 use Rattle.githoppu_c.specs.Codes.{code_of}
@@ -27,10 +27,19 @@ IsCallable (ClosedDocuments remains) = (r : Running DocStore) × IsClosedStore r
 IsCallable (ClosedQueue remains) = (r : Running Fifo) × IsClosedQueue r remains
 IsCallable Gone = Unit {0}
 
--- so many boxes, each of a session that may be called
-pub record AreCallable (count : ℕ) (boxes : List (Box Content Global)) : Type 0 where
+-- a session of this store, or of this queue
+abbrev pub IsStoreOf : Running DocStore → Content → Type 0
+IsStoreOf r (Documents session) = IsReadyOf r session
+IsStoreOf r content = ⊥
+
+abbrev pub IsQueueOf : Running Fifo → Content → Type 0
+IsQueueOf r (Queue session) = IsReadyOf r session
+IsQueueOf r content = ⊥
+
+-- so many boxes, with this in each
+pub record AreBoxes (is : Content → Type 0) (count : ℕ) (boxes : List (Box Content Global)) : Type 0 where
   pub all : length boxes ≡ count
-  pub each : All (λ (b : Box Content Global). IsCallable b.value) boxes
+  pub each : All (λ (b : Box Content Global). is b.value) boxes
 
 -- what may be opened: an object of 64 to 16,384 lines, with 1 to 8 sessions
 pub record MayOpen (lines count : ℕ) : Type 0 where
@@ -47,10 +56,13 @@ Refuses lines count code = ((¬ MayOpen lines count) × (code ≡ pos 7)) ⊎ (M
 abbrev pub Opens : ℕ → ℕ → ℤ → Type 0
 Opens lines count code = (MayOpen lines count × (code ≡ pos 0)) ⊎ Refuses lines count code
 
--- so many boxes of sessions that may be called, of an object that may be opened
-pub record AreOpened (lines count : ℕ) (boxes : List (Box Content Global)) : Type 0 where
+-- so many boxes of sessions of one service of an object in so many lines that may be opened
+pub record AreOpened {O : Type 0} (is : Running O → Content → Type 0) (lines count : ℕ) (boxes : List (Box Content Global)) : Type 0 where
   pub may : MayOpen lines count
-  pub callable : AreCallable count boxes
+  pub service : Running O
+  pub callers_are : service.callers ≡ count
+  pub lines_are : service.lines ≡ lines
+  pub of : AreBoxes (is service) count boxes
 
 -- what is no session was called out of turn, and is as it was
 abbrev pub IsNoTurn : Content → Called → Content → Type 0

@@ -1,6 +1,7 @@
 //! Sessions of a service that is taken up from words.
 
 ghost use Rattle.std.specs.Prelude.{◌↔◌, IsTrue, MatchResult, length};
+ghost use Rattle.githoppu_c.specs.Contents.{IsQueueOf, IsStoreOf};
 ghost use Rattle.githoppu_c.specs.Objects.{IsQueueFault, IsQueueIn, IsStoreFault, IsStoreIn};
 ghost use Rattle.githoppu_c.specs.Recoveries.{AreFew, AreRecovered, RefusesWords};
 
@@ -20,7 +21,7 @@ pub fn recover_documents(
     words: &[u64],
     count: usize,
 ) -> Result<Vec<Box<Content>>, i32>
-    ensures { MatchResult result (λ boxes. AreRecovered (IsStoreIn words.now) count boxes.items) (RefusesWords 1 (IsStoreFault words.now) words.now count) }
+    ensures { MatchResult result (λ boxes. AreRecovered IsStoreOf (IsStoreIn words.now) count boxes.items) (RefusesWords 1 (IsStoreFault words.now) words.now count) }
 {
     if !are_few(count) {
         return Err(BAD_SIZE);
@@ -45,7 +46,7 @@ pub fn recover_documents(
 
 /// So many sessions of the queue that words say.
 pub fn recover_queue(alloc: Global, words: &[u64], count: usize) -> Result<Vec<Box<Content>>, i32>
-    ensures { MatchResult result (λ boxes. AreRecovered (IsQueueIn words.now) count boxes.items) (RefusesWords 2 (IsQueueFault words.now) words.now count) }
+    ensures { MatchResult result (λ boxes. AreRecovered IsQueueOf (IsQueueIn words.now) count boxes.items) (RefusesWords 2 (IsQueueFault words.now) words.now count) }
 {
     if !are_few(count) {
         return Err(BAD_SIZE);
