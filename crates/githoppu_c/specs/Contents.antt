@@ -84,11 +84,17 @@ Finishes tries (Queue before) called (Queue after) reply = FinishesIn tries befo
 Finishes tries (Queue before) called after reply = ⊥
 Finishes tries before called after reply = IsNoTurn before called after
 
--- what C is answered: the number of what some tries came to, which left a session that may be called
-pub record Answers (come_to : ℕ → Called → Content → Type 0) (code : ℤ) : Type 0 where
-  pub tries : ℕ
+-- as many tries as are asked for, but at least 1 and at most 2^20
+pub record IsTriesFor (asked tries : ℕ) : Type 0 where
   pub some : 1 ≤ tries
   pub most : tries ≤ 2 ^ 20
+  pub few : (tries ≤ asked) ⊎ (tries ≡ 1)
+  pub all : (asked ≤ tries) ⊎ (tries ≡ 2 ^ 20)
+
+-- what C is answered: the number of what these tries came to, which left what may be called
+pub record Answers (asked : ℕ) (come_to : ℕ → Called → Content → Type 0) (code : ℤ) : Type 0 where
+  pub tries : ℕ
+  pub asked_for : IsTriesFor asked tries
   pub called : Called
   pub after : Content
   pub callable : IsCallable after

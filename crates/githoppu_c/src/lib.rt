@@ -2,10 +2,9 @@
 //! service, and C gives each to one call at a time.
 #![tactic(auto)]
 
-ghost use Rattle.std.specs.Prelude.{◌≤◌, ◌^◌};
 ghost use Rattle.std.specs.Prelude.{length};
 ghost use Rattle.githoppu_c.specs.Closings.{ClosesAs, Images};
-ghost use Rattle.githoppu_c.specs.Contents.{Answers, Calls, Finishes, IsCallable, Opens};
+ghost use Rattle.githoppu_c.specs.Contents.{Answers, Calls, Finishes, IsCallable, IsTriesFor, Opens};
 ghost use Rattle.githoppu_c.specs.Objects.{IsQueueFault, IsQueueIn, IsStoreFault, IsStoreIn};
 ghost use Rattle.githoppu_c.specs.Recoveries.{Recovers};
 ghost use Rattle.githoppu_c.specs.declared.content.Content as content_type;
@@ -33,7 +32,7 @@ const MOST: u64 = 1 << 20;
 
 /// As many tries as are asked for, but at least one and not too many.
 fn tries_of(asked: u64) -> Tries
-    ensures { result.count ≤ 2 ^ 20 }
+    ensures { IsTriesFor asked result.count }
 {
     Tries {
         count: asked.clamp(1, MOST),
@@ -78,7 +77,7 @@ pub extern "C" fn githoppu_call(
     out: &mut *mut u8,
 ) -> i32
     requires { IsCallable session.content }
-    ensures { Answers (λ n called after. Calls op.now n session.content called after reply.new) result }
+    ensures { Answers tries (λ n called after. Calls op.now n session.content called after reply.new) result }
 {
     let mut content = session.into_box();
     let called = content.call(op, reply, tries_of(tries));
@@ -95,7 +94,7 @@ pub extern "C" fn githoppu_finish(
     out: &mut *mut u8,
 ) -> i32
     requires { IsCallable session.content }
-    ensures { Answers (λ n called after. Finishes n session.content called after reply.new) result }
+    ensures { Answers tries (λ n called after. Finishes n session.content called after reply.new) result }
 {
     let mut content = session.into_box();
     let called = content.finish(reply, tries_of(tries));
