@@ -2,6 +2,9 @@
 """Random legal reports of clients that share callers.
 
     random_pools.py CLIENTS COMMANDS SEED     writes one, to draw
+
+Example: random_pools.py 20 40 1
+Status 0; 2 where the words are others.
 """
 import random
 import sys
@@ -12,6 +15,7 @@ sys.path[:0] = [str(TESTS), str(TESTS.parent)]
 
 from pool_text import read_pool_script
 from random_lives import report_text, script_text
+from told import asked_words
 
 
 def random_report(choice, clients, commands):
@@ -21,5 +25,5 @@ def random_report(choice, clients, commands):
 
 
 if __name__ == "__main__":
-    CLIENTS, COMMANDS, SEED = map(int, sys.argv[1:])
+    CLIENTS, COMMANDS, SEED = map(int, asked_words(__doc__, sys.argv[1:], (3,)))
     sys.stdout.buffer.write(random_report(random.Random(SEED), CLIENTS, COMMANDS)[1])
