@@ -30,10 +30,7 @@ pub(crate) fn gather<O: Object>(
     let HandedIn { service, handed } = handover.take(pass)?;
     gathered.push_reserved(handed?);
     for taken in 1..handover.callers as usize {
-        let HandedIn {
-            service: _,
-            handed,
-        } = handover.take(pass)?;
+        let HandedIn { service: _, handed } = handover.take(pass)?;
         gathered.push_reserved(handed?);
     }
     Some((service, gathered))

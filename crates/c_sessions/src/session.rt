@@ -24,11 +24,7 @@ pub struct Session<O: Object> {
 
 impl<O: Object> Session<O> {
     /// A session of what stands of a caller.
-    pub(crate) fn of(
-        service: Arc<Service<O>, Global>,
-        exit: Exit<O>,
-        handed: Handed,
-    ) -> Session<O>
+    pub(crate) fn of(service: Arc<Service<O>, Global>, exit: Exit<O>, handed: Handed) -> Session<O>
         requires handed { IsHanded (arc_value service) handed }
         requires exit { IsExitOf (arc_value service) exit }
         ensures ready { IsReady result }

@@ -9,6 +9,7 @@ use cx_table::Remains;
 
 /// The kinds of objects in images.
 pub const DOCUMENTS: u64 = 1;
+
 pub const QUEUE: u64 = 2;
 
 /// Writes what a loss of power leaves, by choice, where there are as many words as it takes, which are told.

@@ -24,8 +24,7 @@ use crate::opening::{hand_out, open_documents, open_queue};
 use crate::recovering::{recover_documents, recover_queue};
 use c_sessions::Tries;
 use std::alloc::Global;
-use std::mem;
-use std::ptr;
+use std::{mem, ptr};
 
 /// The most tries of a call.
 const MOST: u64 = 1 << 20;
@@ -141,11 +140,7 @@ pub extern "C" fn githoppu_image(
 
 /// Takes up a document store from the words of an image, and puts a session into each slot. Where it is refused, no slot is written.
 #[unsafe(no_mangle)]
-pub extern "C" fn githoppu_recover(
-    alloc: Global,
-    words: &[u64],
-    sessions: &mut [*mut u8],
-) -> i32
+pub extern "C" fn githoppu_recover(alloc: Global, words: &[u64], sessions: &mut [*mut u8]) -> i32
     ensures { Recovers 1 (IsStoreIn words.now) (IsStoreFault words.now) words.now (length sessions.old) result }
 {
     match recover_documents(alloc, words, sessions.len()) {

@@ -81,7 +81,10 @@ pub(crate) fn as_documents(
 }
 
 /// A box for each session of a queue.
-pub(crate) fn as_queue(alloc: Global, sessions: Vec<Session<Fifo>>) -> Result<Vec<Box<Content>>, AllocError>
+pub(crate) fn as_queue(
+    alloc: Global,
+    sessions: Vec<Session<Fifo>>,
+) -> Result<Vec<Box<Content>>, AllocError>
     ensures { (r : Running fifo_type.Fifo) → All (IsReadyOf r) sessions.items → IfOk result (λ boxes. AreBoxes (IsQueueOf r) (length sessions.items) boxes.items) }
 {
     let mut contents = Vec::new(alloc);
