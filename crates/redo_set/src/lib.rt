@@ -15,8 +15,8 @@
 //!   there, and offered. What the seat had it has still, and what really is there fits; with `Halt` nothing is offered: `offer` (`offered`:
 //!   `OffersSet`; `has`: `HasStill`; `halts`: `WritesSet`).
 //!
-//! Tested (`word_tests`): one address noted twice, each limit of its two stores, one set that is emptied and used again, and 256 pairs with a
-//! 257th that is refused; (`table_tests`) a set that is written at each limit of steps, and found not to be offered at each limit.
+//! Tested (`table_tests`): one address noted twice, each limit of its two stores, one set that is emptied and used again, and 256 pairs with a
+//! 257th that is refused; a set that is written at each limit of steps, and found not to be offered at each limit.
 #![tactic(auto)]
 
 mod apply;
