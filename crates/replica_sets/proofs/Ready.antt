@@ -19,7 +19,7 @@ use Rattle.redo_set.specs.Offering.{HasStill, with_set}
 use Rattle.redo_set.specs.Taking.{LeavesTaking, with_notes}
 use Rattle.replica.specs.Held.{IsHeld, beside_held}
 use Rattle.replica.specs.Laws.{image_more, image_same}
-use Rattle.replica.specs.Replays.{IsReady, ShowsReply, noted_place}
+use Rattle.replica.specs.Replays.{IsReady, noted_place}
 use Rattle.replica_sets.specs.Offered.{LeavesOffered, beside_offered}
 use Rattle.replica_sets.specs.Own.{HasApplied, LeavesOwn, beside_own}
 

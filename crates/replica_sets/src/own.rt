@@ -1,7 +1,7 @@
 //! The caller's own entries on a replica held exclusively: an older one by its own set, and one that is done for the first time by its step,
 //! whose write set is then offered.
 
-ghost use Rattle.std.specs.Prelude.{◌+◌, ◌<◌, ◌≡◌, ◌×◌, IsTrue, MatchResult};
+ghost use Rattle.std.specs.Prelude.{◌+◌, ◌<◌, IsTrue, MatchResult};
 ghost use Rattle.cx_core.specs.QueueEvents.{cell_of};
 ghost use Rattle.cx_core.specs.Region.{region_words};
 ghost use Rattle.cx_rule.specs.Fitting.{IsSetWithin};

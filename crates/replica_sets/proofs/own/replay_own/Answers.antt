@@ -1,8 +1,6 @@
-use Rattle.std.proofs.Common.{◌+◌, ◌∙◌, ap, inr, refl, subst, sym}
+use Rattle.std.proofs.Common.{inr, refl, subst, sym}
 use Rattle.cx_core.specs.QueueEvents.{cell_of}
 use Rattle.cx_rule.specs.Fitting.{has_of}
-use Rattle.replica_sets.specs.Offered.{LeavesOffered}
-use Rattle.replica_sets.proofs.Ready.{leaves_stored}
 use Rattle.replica_sets.proofs.own.replay_own.Goals as goal
 
 pub store_own_set-requires : goal.store_own_set-requires
