@@ -1,0 +1,2 @@
+//! A life whose clients share the callers of one service, run on threads.
+#![tactic(auto)]
