@@ -55,11 +55,11 @@ pub(crate) struct Seats {
 impl Seats {
     /// So many as a word writes, in decimal without sign and without leading zeros. None exactly where it writes no number of
     /// 1 to 8.
-    pub(crate) fn read(count: &str) -> Option<Seats>
-        ensures some { IfSome result (λ seats. IsPoolOf seats.count (codes "pool" ∷ count.now ∷ [])) }
-        ensures none { IfNone result ((n : ℕ) → IsPoolOf n (codes "pool" ∷ count.now ∷ []) → ⊥) }
+    pub(crate) fn read(word: &str) -> Option<Seats>
+        ensures some { IfSome result (λ seats. IsPoolOf seats.count (codes "pool" ∷ word.now ∷ [])) }
+        ensures none { IfNone result ((n : ℕ) → IsPoolOf n (codes "pool" ∷ word.now ∷ []) → ⊥) }
     {
-        let count = number_of(count.as_bytes())?;
+        let count = number_of(word.as_bytes())?;
         if count == 0 || count > MAX_SEATS {
             return None;
         }
