@@ -1,6 +1,7 @@
 -- What a script of a pool comes to, and the text that tells of it.
 use Rattle.std.specs.Prelude.{◌≡◌, ◌≤◌, ℕ, List, [], ◌∷◌}
 use Rattle.cx_rule.specs.Ending.{Ending}
+use Rattle.cx_table.specs.declared.remains.Remains.{Remains}
 use Rattle.doc_model.specs.Meaning.{IsOp}
 use Rattle.doc_model.specs.declared.operations.Op.{Op}
 use Rattle.doc_model.specs.declared.operations.Reply.{Reply}
@@ -27,6 +28,11 @@ AreOfPool m seats [] [] [] = Unit {0}
 AreOfPool m seats (life ∷ []) (told ∷ []) (trail ∷ []) =
     IsPoolLife m life told × IsPoolTold m.encoding life seats trail told × IsBaseOf m trail.base (nothing_begun m)
 AreOfPool m seats lives records trails = ⊥
+
+-- so it is of the record of a script's one life, and of what its service left
+pub record RunsPool (seats : ℕ) (script : Script Op) (told : LifeRecord Reply) (remains : Remains) : Type 0 where
+  pub are : AreOfPool (document_meaning script.lines) seats script.lives (told ∷ []) (remains.trail ∷ [])
+  pub callers : remains.callers ≡ seats
 
 -- The text is the report of such records.
 pub record IsPoolReport (seats : ℕ) (script : Script Op) (trails : List Ending) (text : List ℕ) : Type 0 where
