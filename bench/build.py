@@ -1,5 +1,5 @@
 #!/usr/bin/env python3
-"""Builds a program of bench/programs: python3 bench/build.py service_bench, or table_bench.
+"""Builds a program of bench/programs: python3 bench/build.py service_bench, table_bench, fifo_bench or pool_bench.
 
 Programs that are only timed stand outside `crates/`, since the gate would prove them each time. Their texts end in `.txt`, as the gate
 reads every other .rt and .antt file. They are proved here, like any program, in a copy of the crates beside the checkout, in a folder of its
