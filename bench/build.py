@@ -1,9 +1,12 @@
 #!/usr/bin/env python3
-"""Builds a program of bench/programs: python3 bench/build.py service_bench, table_bench, fifo_bench or pool_bench.
+"""Builds a program of bench/programs: python3 bench/build.py PROGRAM
 
 Programs that are only timed stand outside `crates/`, since the gate would prove them each time. Their texts end in `.txt`, as the gate
 reads every other .rt and .antt file. They are proved here, like any program, in a copy of the crates beside the checkout, in a folder of its
 name and `-bench`; what was proved of the libraries on this machine is taken over.
+
+Example: python3 bench/build.py service_bench
+Status 0 where the program is built, 2 where there is none of that name, else that of `rt run`.
 """
 import argparse
 import shutil

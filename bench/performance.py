@@ -2,18 +2,23 @@
 """Our service beside what a user would take instead: a page in markdown with words, a table and a plot.
 
     performance.py [--doc FILE] [--rounds N] [--ms M] [--threads 1,2,4] [--reads 0,50,..] [--sizes LINESxKEYS,..]
+    performance.py --redraw --doc FILE
 
 Build the programs first: python3 bench/build.py service_bench
                           cd bench/peers && cargo build --release --offline
 
 `--doc docs/PERFORMANCE.md` writes the page there, and the plot into `pictures` beside it; else the page is printed. All takes some 3 minutes.
-The section on a queue, which queue_performance.py writes at the end of the page, stays there.
+The section on a queue, which queue_performance.py writes at the end of the page, stays there. With --redraw nothing is measured: the plot is
+drawn anew from the table of the page that is there. It shows calls a second; of a peer they are ours, by the table, times its ratio.
 
 In each round the service and each peer run in turn, so that what else the machine does is met by all alike; who begins changes from
 round to round. A figure is the median over rounds of the ratio within a round. Throughput is calls by wall time in the callers'
 threads, and processor time is that of those threads: making and filling a store is not counted. Each runs for about M milliseconds:
 the service makes one store, and as many updates as a short run before told. A size that some program does not take is left out, and
 said.
+
+Example: python3 bench/performance.py --rounds 1 --threads 2 --sizes 1024x100
+Status 0 where the page or the plot is written; 1 where a program is not built or no size was measured; 2 where the words are others.
 """
 import argparse
 import functools
@@ -152,14 +157,26 @@ def steps_by_part(found, call, of, last):
     return table_of([[f"Part of {call}", "Steps"], ["--", "--:"], *rows, ["all", f"{whole:.1f}"]])
 
 
-def panels(measured):
-    """A panel for each size and number of threads: each form's throughput by that of the region under a mutex."""
+def figures_in(text):
+    """What the table of a page tells: of each setting the calls a second of each form, of all threads together."""
     found = {}
-    for setting, rounds in measured.items():
+    for line in text.split("\n"):
+        cells = [cell.strip().split(" ")[0].replace(",", "") for cell in line.strip("|").split("|")]
+        if len(cells) == 4 + len(FORMS) and cells[0].isdigit():
+            ours = 1000 * float(cells[4])
+            ratios = [1.0, *map(float, cells[5:])]
+            found[Setting(*map(int, cells[:4]))] = {form: ours * ratio for form, ratio in zip(FORMS, ratios)}
+    return found
+
+
+def panels(figures):
+    """A panel for each size and number of threads: each form's calls a second."""
+    found = {}
+    for setting, calls in figures.items():
         place = (f"{setting.lines:,} lines, {setting.keys:,} keys", thread_words(setting.threads))
-        panel = found.setdefault(place, Panel(*place, {form: [] for form in FORMS if form != REGION}))
+        panel = found.setdefault(place, Panel(*place, {form: [] for form in FORMS}))
         for form, points in panel.lines.items():
-            points.append((setting.reads, median_ratio(rounds, form, REGION)))
+            points.append((setting.reads, calls[form]))
     return list(found.values())
 
 
@@ -194,7 +211,9 @@ def page(measured, options, where, left_out, found):
         "",
         comparison({FORMS[peer]: shares(measured, peer) for peer in FORMS if peer != OURS}),
         "",
-        f"![Throughput by share of reads]({PICTURE})",
+        f"![Calls a second by share of reads]({PICTURE})",
+        "",
+        "The picture is drawn from the table below: the others' calls are ours times their ratio.",
         "",
         "## The figures",
         "",
@@ -226,6 +245,13 @@ def written(name, text):
         file.write(text)
 
 
+def draw_plot(name):
+    """Draws the plot of a page beside it."""
+    with open(name, encoding="utf-8") as file:
+        found = figures_in(file.read())
+    written(os.path.join(os.path.dirname(name), PICTURE), drawn(panels(found), FORMS))
+
+
 def queue_section(name):
     """The section on a queue of the page that is there, or nothing."""
     if not os.path.exists(name):
@@ -246,16 +272,23 @@ def pairs(text):
 def options_of(words):
     parser = argparse.ArgumentParser(description=__doc__, formatter_class=argparse.RawDescriptionHelpFormatter)
     parser.add_argument("--doc", metavar="FILE")
+    parser.add_argument("--redraw", action="store_true")
     parser.add_argument("--rounds", type=int, default=LEAST_ROUNDS)
     parser.add_argument("--ms", type=int, default=100)
     parser.add_argument("--threads", type=numbers, default=[1, 2, 4])
     parser.add_argument("--reads", type=numbers, default=[0, 50, 90, 99, 100])
     parser.add_argument("--sizes", type=pairs, default=[(1024, 100), (1024, 1000), (16384, 100), (16384, 1000)])
-    return parser.parse_args(words)
+    options = parser.parse_args(words)
+    if options.redraw and not options.doc:
+        parser.error("--redraw wants --doc")
+    return options
 
 
 def main(words):
     options = options_of(words)
+    if options.redraw:
+        draw_plot(options.doc)
+        return
     for program in (SERVICE, PEERS):
         if not os.path.exists(program):
             sys.exit(f"{os.path.relpath(program)} is not there\n\n{__doc__}")
@@ -271,7 +304,7 @@ def main(words):
     text = page(measured, options, where, [size for size in options.sizes if size not in sizes], parts(1))
     if options.doc:
         written(options.doc, text + queue_section(options.doc))
-        written(os.path.join(os.path.dirname(options.doc), PICTURE), drawn(panels(measured), FORMS, REGION))
+        draw_plot(options.doc)
     else:
         print(text, end="")
 

@@ -5,7 +5,11 @@ Build the program first: python3 bench/build.py table_bench
 The time of a link includes one reading of the clock. Each link is won, or lost to the other thread and tried again. Loads, stores
 and persists are of words of replicas held, a replica for each thread; a persist is of a word just stored, and includes the store.
 An addition and a document put are full steps on a replica held, and over plain words in the same run.
+
+Example: python3 bench/running_table.py
+Status 0 where the lines are printed, 1 where the program is not built, 2 where there are words.
 """
+import argparse
 import os
 import subprocess
 import sys
@@ -46,6 +50,7 @@ def memory():
 
 
 if __name__ == "__main__":
+    argparse.ArgumentParser(description=__doc__, formatter_class=argparse.RawDescriptionHelpFormatter).parse_args()
     if not os.path.exists(TABLE):
         sys.exit(__doc__)
     time_of("look", 20_000_000)

@@ -1,13 +1,17 @@
 #!/usr/bin/env python3
 """Seconds and peak memory of `cx_tool run` for lives of clients, for scripts of every command, and for long documents.
 
-Build the program first: cd crates/cx_tool && rt run -- run < ../../examples/first.script
+Build the program first: tools/build --proved. One without a proof is slower, so it is none to measure.
 
 Many commands are made in one life, by one client and by 8, with all 8 raising one number by its revision, and in many lives of 8 clients, each
 with a service that is started and closed, and a loss of power. Lives without commands show what that costs alone; a script of the same size in
 comments shows what reading its bytes costs alone. The texts of one line are as long as an input may be, and no documents, or short ones; of some
 the value would take many times the memory of its text.
+
+Example: python3 bench/scripts.py
+Status 0 where the lines are printed, 1 where the program is not built, 2 where there are words.
 """
+import argparse
 import os
 import subprocess
 import sys
@@ -104,6 +108,7 @@ def measure(name, data):
 
 
 if __name__ == "__main__":
+    argparse.ArgumentParser(description=__doc__, formatter_class=argparse.RawDescriptionHelpFormatter).parse_args()
     if not os.path.exists(TOOL):
         sys.exit(__doc__)
     measure("a life of one client and one command, 64 lines", lives(64, 1, 1, one_command))

@@ -8,6 +8,9 @@ the machine. `--rounds N` sets how many.
 
 The parts are those of 16 updates of one caller, and of 64 reads after them, made one after another on a thread of its own, between
 which the steps and the clock are read. What it takes to read the clock is in each part's time once.
+
+Example: python3 bench/service.py --rounds 3
+Status 0 where the tables are printed, 1 where the program is not built, 2 where the words are others.
 """
 import argparse
 import os
@@ -107,11 +110,11 @@ def table(rows):
 
 
 if __name__ == "__main__":
-    if not os.path.exists(BENCH):
-        sys.exit(__doc__)
     parser = argparse.ArgumentParser(description=__doc__, formatter_class=argparse.RawDescriptionHelpFormatter)
     parser.add_argument("--rounds", type=int, default=LEAST_ROUNDS)
     rounds = parser.parse_args().rounds
+    if not os.path.exists(BENCH):
+        sys.exit(__doc__)
     head = ["threads", "reads in 100", "calls", "cpu ns a call", "wall ns a call", "submit steps", "drive steps", "read steps"]
     table([head] + [row(rounds, threads, reads) for threads in (1, 2, 4) for reads in (0, 50, 100)])
     print()

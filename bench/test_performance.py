@@ -1,7 +1,13 @@
 #!/usr/bin/env python3
-"""Tests of the table, the words and the plot of performance.py, without a measurement."""
+"""Tests of the table, the words and the plot of performance.py, without a measurement.
+
+Example: python3 bench/test_performance.py
+Status 0 where all passed, else 1.
+"""
 import itertools
+import os
 import re
+import sys
 import tempfile
 import unittest
 import xml.etree.ElementTree as ElementTree
@@ -120,8 +126,10 @@ class Pictures(unittest.TestCase):
             "below": lambda form, reads: 0.01 * (form + 1) + reads / 200,
         }
         for (name, ratio), sizes, threads in itertools.product(ratios.items(), (SIZES[:1], SIZES), ([4], [1, 2], [1, 2, 4])):
-            panels = performance.panels(measured(sizes, threads, ratio))
-            picture = ElementTree.fromstring(performance_plot.drawn(panels, FORMS, REGION))
+            figures = performance.figures_in(performance.markdown(measured(sizes, threads, ratio)))
+            self.assertEqual(len(sizes) * len(threads) * len(READS), len(figures))
+            panels = performance.panels(figures)
+            picture = ElementTree.fromstring(performance_plot.drawn(panels, FORMS))
             yield f"{name}, {len(sizes)} sizes, {threads} threads", picture, len(panels)
 
     def box(self, element):
@@ -130,6 +138,9 @@ class Pictures(unittest.TestCase):
         wide = len(element.text) * max((WIDTHS.get(word, 6.9) for word in kind), default=6.9)
         left = float(element.get("x")) - wide * (1 if "right" in kind else 0.5 if "middle" in kind else 0)
         top = float(element.get("y")) - 10
+        if "up" in kind:
+            x, y = float(element.get("x")), float(element.get("y"))
+            return x - 10, y - wide / 2, x + 3, y + wide / 2
         return left, top, left + wide, top + 13
 
     def frames(self, picture):
@@ -162,22 +173,33 @@ class Pictures(unittest.TestCase):
             frames = list(self.frames(picture))
             marks = [group for group in picture.iter(f"{SVG}g") if group.find(f"{SVG}title") is not None]
             with self.subTest(name):
-                self.assertEqual((panels, panels * 3 * len(READS)), (len(frames), len(marks)))
+                self.assertEqual((panels, panels * len(FORMS) * len(READS)), (len(frames), len(marks)))
                 for mark in marks:
                     x, y = map(float, re.findall(r"[-0-9.]+", mark.get("transform")))
                     inside = [left < x < right and top - 0.1 <= y <= bottom + 0.1 for left, top, right, bottom in frames]
                     self.assertEqual(1, sum(inside), (x, y))
 
     def test_heights_are_ratios(self):
-        scale = performance_plot.Scale([0.02, 4])
-        self.assertEqual([0.02, 0.05, 0.1, 0.2, 0.5, 1, 2, 5], scale.marks)
-        self.assertAlmostEqual(scale.down(0.1) - scale.down(0.2), scale.down(1) - scale.down(2))
-        self.assertAlmostEqual(0, scale.down(5))
-        self.assertAlmostEqual(performance_plot.PANEL_HEIGHT, scale.down(0.02))
+        scale = performance_plot.Scale([20_000, 4_000_000])
+        self.assertEqual([20_000, 50_000, 100_000, 200_000, 500_000, 1e6, 2e6, 5e6], scale.marks)
+        self.assertEqual(["20 k", "500 k", "1 M", "5 M", "200"], [performance_plot.count_words(mark) for mark in (2e4, 5e5, 1e6, 5e6, 200)])
+        self.assertAlmostEqual(scale.down(1e5) - scale.down(2e5), scale.down(1e6) - scale.down(2e6))
+        self.assertAlmostEqual(0, scale.down(5e6))
+        self.assertAlmostEqual(performance_plot.PANEL_HEIGHT, scale.down(20_000))
+
+    def test_the_plot_shows_what_the_page_says(self):
+        with open(os.path.join(performance.HERE, "..", "docs", "PERFORMANCE.md"), encoding="utf-8") as file:
+            text = file.read()
+        figures = performance.figures_in(text)
+        self.assertEqual(text.count("\n| 1,024 | 100 | ") + text.count("\n| 16,384 | "), len(figures))
+        with open(os.path.join(performance.HERE, "..", "docs", performance.PICTURE), encoding="utf-8") as file:
+            self.assertEqual(performance_plot.drawn(performance.panels(figures), FORMS), file.read())
 
     def test_no_text_is_small(self):
         self.assertGreaterEqual(min(float(size) for size in re.findall(r"font-size: ([0-9.]+)px", performance_plot.STYLE)), 12)
 
 
 if __name__ == "__main__":
+    if sys.argv[1:2] in (["-h"], ["--help"]):
+        sys.exit(print(__doc__))
     unittest.main()

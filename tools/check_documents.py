@@ -3,13 +3,18 @@
 
 The head of a crate is what the comment says that its src/lib.rt begins with. What stands between backticks is looked up: a path has to exist; a name, with its parts apart at `::` and `.`, has to stand as a whole word in a
 source, as an item, a clause's label, a crate or a word that a format fixes. Links of pages have to lead to a file. Each that is found nowhere
-is a line `FILE:LINE: NAME`, and the status is 1 where there is one. A word in capitals stands for what a reader puts there; `*` for anything, as does what
+is a line `FILE:LINE: NAME`. A word in capitals stands for what a reader puts there; `*` for anything, as does what
 is left out before `_`; what a build makes, under `out`, is not looked for.
+
+Example: python3 tools/check_documents.py
+Status 0 where all are found, 1 where one is not, 2 where the words are others.
 """
 import os
 import re
 import sys
 from pathlib import Path
+
+from told import asked_words
 
 PAGES = ("README.md", "docs/*.md", "tools/README.md", "crates/*/src/lib.rt")
 HEAD = re.compile(r"^//!.*$", re.M)
@@ -20,8 +25,8 @@ LINK = re.compile(r"\]\(([^)#\s]+)\)")
 ENDINGS = ("rt", "antt", "py", "md", "txt", "script", "report", "svg", "json", "edit", "rs", "toml")
 PATH = re.compile(rf"[\w.*-]+(?:/[\w.*-]+)+/?|[\w-]+\.(?:{'|'.join(ENDINGS)})")
 PLACE = re.compile(r"\b[A-Z]{2,}\b")
-# the toolchain's own line, and a form of JSON
-FOREIGN = {"kit", "logic", "dac8208d650f15bf", "u00xx"}
+# the toolchain's own line and a command of it, and a form of JSON
+FOREIGN = {"kit", "logic", "dac8208d650f15bf", "plant", "u00xx"}
 
 
 def paths_of(root):
@@ -85,4 +90,5 @@ def main(root):
 
 
 if __name__ == "__main__":
-    sys.exit(main(Path(sys.argv[1] if len(sys.argv) > 1 else Path(__file__).parent.parent).resolve()))
+    WORDS = asked_words(__doc__, sys.argv[1:], (0, 1))
+    sys.exit(main(Path(WORDS[0] if WORDS else Path(__file__).parent.parent).resolve()))

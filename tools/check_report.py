@@ -8,6 +8,7 @@
 Both are read by docs/FORMATS.md alone, and every reply is worked out anew over a plain dictionary, or a plain list of texts: this program shares no line
 with the one that wrote the report. Any number of lives and clients is judged.
 
+Example: check_report.py examples/two_shops.script docs/pictures/two_shops.report
 Status 0 and `legal: ..` where the report is one of legal lives; status 1 and `line N: WHY` with the first line that is not;
 status 2 where the script is none; status 3 where a file cannot be read, or the words are others.
 """
@@ -20,12 +21,15 @@ from pool_text import read_pool_script
 from queue_text import read_queue_script
 from report_text import UNANSWERED, Fault, read_report
 from script_text import LARGEST_INPUT, Refusal, TooLong, read_script
+from told import helped
 
 CELLS = 16
 OTHER_SCRIPTS = {"--fifo": read_queue_script, "--pool": read_pool_script}
 
 
 def main(words):
+    if helped(__doc__, words):
+        return 0
     read = read_script
     if words and words[0] in OTHER_SCRIPTS:
         read, words = OTHER_SCRIPTS[words[0]], words[1:]

@@ -3,11 +3,16 @@
 
 For each crate that is no tests' crate: the lines of its sources (without the comments that files begin with), specs and proofs, its functions,
 their clauses, the clauses a function, the most of one function, and how many of the clauses in a hundred are distinct. The last row is
-all of them together. With --worst N the N functions with the most clauses come after it.
+all of them together. With --worst N the N functions with the most clauses come after it. TOP is the repository's folder, this one if none is said.
+
+Example: python3 tools/clauses.py --worst 20
+Status 0.
 """
 import re
 import sys
 from pathlib import Path
+
+from told import helped
 
 FUNCTION = re.compile(r'^\s*(?:pub(?:\([a-z]+\))?\s+)?(?:const\s+)?(?:unsafe\s+)?(?:extern\s+"C"\s+)?fn\s+([a-z_0-9]+)')
 CLAUSE = re.compile(r"^\s*(requires|ensures)\s+(?:([a-z_0-9]+)\s+)?\{")
@@ -39,6 +44,8 @@ def functions_of(text):
 
 
 def main(words):
+    if helped(__doc__, words):
+        return 0
     worst = 0
     if "--worst" in words:
         at = words.index("--worst")
@@ -66,6 +73,7 @@ def main(words):
     print(f"sources, specs and proofs: {sum(sum(r[1]) for r in rows)} lines")
     for file, name, clauses in sorted(everything, key=lambda f: -len(f[2]))[:worst]:
         print(f"{len(clauses):>3} {file} {name}")
+    return 0
 
 
 def clauses_of(functions):
@@ -74,4 +82,4 @@ def clauses_of(functions):
 
 
 if __name__ == "__main__":
-    main(sys.argv[1:])
+    sys.exit(main(sys.argv[1:]))

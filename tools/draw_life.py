@@ -1,31 +1,39 @@
 #!/usr/bin/env python3
-"""Draws the lives of a report as an SVG.
+"""Draws the lives of a report as an SVG: of documents, of a queue, and of clients that share callers.
 
-    draw_life.py REPORT [-o FILE]
+    draw_life.py [--texts] REPORT [-o FILE]
 
 The history runs downwards along one line. Each client has a lane beside it. An entry stands at its ticket, and a read at its
 place: behind all entries with lower tickets. Where power was lost the entries that were not kept stand in a hatched band, and
-the next life goes on from the last one kept. A report of more than 60 rows, or of more than 24 clients, is drawn in columns and without
-texts. The picture is as wide as its texts, from 480 to 800, or as its lanes.
+the next life goes on from the last one kept. A report of more than 30 commands, or of more than 24 clients, is drawn in columns and without
+texts, and says so; with --texts it has them. The picture is as wide as its texts, from 480 to 800, or as its lanes.
 
 Without -o the picture goes to standard output. It has a background of its own, so that it can be shown on a light page and on a dark one.
-Status 1 and `line N: WHY` where the report has a line that is none; status 2 where a file cannot be read or written, or the
-words are others.
+
+Example: draw_life.py docs/pictures/two_shops.report -o /tmp/two_shops.svg
+Status 0 where there is a picture; 1 and `line N: WHY` where the report has a line that is none; 2 where a file cannot be read or written, or
+the words are others.
 """
 import sys
+import textwrap
 import unicodedata
-from dataclasses import dataclass
+from dataclasses import dataclass, replace
 from pathlib import Path
 from xml.sax.saxutils import escape, quoteattr
 
 from report_text import UNANSWERED, Entry, Fault, Full, Read, Stop, read_report, split_reply
+from told import helped
 
 WIDTH = 800
 MARGIN = 16
-MOST_ROWS_WITH_TEXT = 60
-# lanes as wide as marks with texts want them, and as many as leave room for texts
+MOST_COMMANDS_WITH_TEXT = 30
+# lanes as wide as marks with texts want them, lanes as wide as their numbers, and as many as leave room for texts
 MOST_WIDE_LANES = 8
-MOST_LANES_WITH_TEXT = 24
+MOST_SMALL_LANES = 10
+MOST_NUMBERED_LANES = MOST_LANES_WITH_TEXT = 24
+NUMBERED_LANE = 17
+# of more lanes each so many-th has its number
+NUMBERED_APART = 5
 
 INK = "#1f2328"
 SOFT_INK = "#57606a"
@@ -49,6 +57,7 @@ text {{ font-family: {SANS}; font-size: 12px; fill: {INK} }}
 .right {{ text-anchor: end }}
 .middle {{ text-anchor: middle }}
 .lane {{ stroke: {RULE}; stroke-width: 1.5 }}
+.lane.named {{ stroke: {SOFT_INK} }}
 .guide {{ stroke: {GUIDE}; stroke-width: 1 }}
 .history {{ stroke: {SOFT_INK}; stroke-width: 2; fill: none }}
 .dropped {{ stroke-dasharray: 3 3 }}
@@ -57,6 +66,7 @@ text {{ font-family: {SANS}; font-size: 12px; fill: {INK} }}
 .read {{ fill: {READ}; stroke: {READ_EDGE}; stroke-width: 1.2 }}
 .stop, .power {{ fill: none; stroke: {ENDED}; stroke-width: 2.2 }}
 .full {{ fill: #ffffff; stroke: {ENDED}; stroke-width: 2 }}
+.lost {{ fill: {ENDED} }}
 """
 
 
@@ -73,22 +83,28 @@ class Look:
     mark: float
 
 
-WITH_TEXTS = Look(texts=True, row=22, head=50, cut=26, power=40, lane=24, mark=5.5)
-WITH_MANY_LANES = Look(texts=True, row=22, head=50, cut=26, power=40, lane=13, mark=4.4)
-WITHOUT_TEXTS = Look(texts=False, row=10, head=48, cut=8, power=58, lane=13, mark=3.2)
-# from a column's left edge, with texts and without
-TICKETS_END, HISTORY, FIRST_LANE = 44, 54, 96
-SMALL_TICKETS_END, SMALL_HISTORY, SMALL_FIRST_LANE = 34, 42, 58
+WITH_TEXTS = Look(texts=True, row=22, head=64, cut=26, power=40, lane=24, mark=5.5)
+WITHOUT_TEXTS = Look(texts=False, row=10, head=64, cut=8, power=58, lane=13, mark=3.2)
+# from a column's left edge: where tickets end; from there to where places do, to the history, and to the first lane behind it
+TICKETS_END, TO_PLACES_END, TO_HISTORY, TO_FIRST_LANE = 44, 40, 10, 40
+SMALL_TICKETS_END, SMALL_TO_HISTORY, SMALL_TO_FIRST_LANE = 38, 8, 20
 WAY_BACK = -2
 COLUMN_GAP = 14
 NAMED = ("entry", "read", "ended")
 NARROWEST_COLUMN = 170
-LANES_AGAIN = 18
+# two columns of the most lanes that have their numbers
+WIDEST_COLUMNS = 980
+LANES_AGAIN = 46
 LEAST_HEIGHT = 160
 NARROW = "fijlrt ,:()"
 NARROWEST = 480
+# what texts have at the least, however many lanes stand before them
+LEAST_TEXT = 400
 CODE_LETTER = 7.6
-LOST_WIDTH = 34
+LOST = "  lost"
+NOTE_LETTER = 6.0
+NOTE_LINE = 16
+CHOICE_NOTE = "The choice is the number behind 'power' in the script: it picks what a loss of power leaves of what was not durable yet."
 
 
 @dataclass
@@ -141,28 +157,38 @@ def place_of(item):
     return item.ticket if isinstance(item, Entry) else item.place
 
 
-def ticket_text(item):
-    return str(item.ticket) if isinstance(item, Entry) else f"at {item.place}"
+def why_without_texts(commands, clients):
+    """Why a picture has no texts, or None where there is room for them: few commands, and lanes of not too many clients."""
+    if commands > MOST_COMMANDS_WITH_TEXT:
+        return f"more than {MOST_COMMANDS_WITH_TEXT} commands"
+    return f"more than {MOST_LANES_WITH_TEXT} clients" if clients > MOST_LANES_WITH_TEXT else None
 
 
-def look_for(rows, clients):
-    """With texts where there is room for them: few rows, and lanes of not too many clients."""
-    if rows > MOST_ROWS_WITH_TEXT or clients > MOST_LANES_WITH_TEXT:
-        return WITHOUT_TEXTS
-    return WITH_TEXTS if clients <= MOST_WIDE_LANES else WITH_MANY_LANES
+def look_for(texts, clients):
+    """With texts or without; lanes are as wide as the numbers above them want it."""
+    look = WITH_TEXTS if texts else WITHOUT_TEXTS
+    if clients <= (MOST_WIDE_LANES if texts else MOST_SMALL_LANES):
+        return look
+    lane = NUMBERED_LANE if clients <= MOST_NUMBERED_LANES else WITHOUT_TEXTS.lane
+    return replace(look, lane=lane, mark=min(look.mark, 4.4))
 
 
 class Picture:
     """Puts the rows into columns, and draws them."""
 
-    def __init__(self, report):
+    def __init__(self, report, texts=False):
         self.report = report
         self.rows = rows_of(report)
         self.clients = max((life.head.clients for life in report.lives), default=1)
-        self.look = look_for(len(self.rows), self.clients)
-        self.tickets_end, self.history, self.first_lane = self.gutter()
+        why = why_without_texts(sum(row.kind in ("entry", "read") for row in self.rows), self.clients)
+        self.look = look_for(texts or not why, self.clients)
+        self.notes = [f"There are {why}, so texts are left out: draw_life.py --texts has them."]
+        if self.look.texts:
+            self.notes = [CHOICE_NOTE] if report.lives else []
+        self.tickets_end, self.places_end, self.history, self.first_lane = self.gutter()
         self.names = max((CODE_LETTER * len(row.item.name) for row in self.rows if row.kind in NAMED), default=0) + 14
-        self.width = self.width_for_texts() if self.look.texts else max(WIDTH, round(self.column_width()) + 2 * MARGIN)
+        self.columns = 1 if self.look.texts else max(1, (self.widest() - 2 * MARGIN + COLUMN_GAP) // self.column_width())
+        self.width = self.width_for_texts() if self.look.texts else self.width_for_columns()
         self.parts = []
         self.bottom = MARGIN
         self.put_rows()
@@ -173,33 +199,42 @@ class Picture:
     # where things stand
 
     def gutter(self):
-        """Where, from a column's left edge, tickets end, the history runs, and the first lane does."""
-        texts = [ticket_text(row.item) for row in self.rows if row.kind in ("entry", "read")]
-        longest = max((len(text) for text in texts if self.look.texts or text.isdigit()), default=0)
-        more = max(0, 6.8 * longest - 34)
-        if self.look.texts:
-            return TICKETS_END + more, HISTORY + more, FIRST_LANE + more
-        return SMALL_TICKETS_END + more, SMALL_HISTORY + more, SMALL_FIRST_LANE + more
+        """Where, from a column's left edge, tickets end, places do, the history runs, and the first lane does."""
+        tickets, places = (max((6.8 * len(str(place_of(row.item))) for row in self.rows if row.kind == kind), default=0) for kind in ("entry", "read"))
+        if not self.look.texts:
+            end = SMALL_TICKETS_END + max(0, tickets - SMALL_TICKETS_END)
+            return end, end, end + SMALL_TO_HISTORY, end + SMALL_TO_HISTORY + SMALL_TO_FIRST_LANE
+        end = TICKETS_END + max(0, tickets - 34)
+        places_end = end + max(TO_PLACES_END, places + 8) if places else end
+        return end, places_end, places_end + TO_HISTORY, places_end + TO_HISTORY + TO_FIRST_LANE
+
+    def widest(self):
+        """How wide a picture of columns may be: wider where there are more lanes than small ones."""
+        return WIDTH if self.clients <= MOST_SMALL_LANES else WIDEST_COLUMNS
+
+    def width_for_columns(self):
+        """As wide as the columns, and at least as others."""
+        return max(WIDTH, round(self.columns * self.column_width() - COLUMN_GAP) + 2 * MARGIN)
 
     def width_for_texts(self):
-        """As wide as the longest row and the legend want it, up to WIDTH."""
+        """As wide as the longest row and the legend want it, up to WIDTH, or to what leaves room for texts."""
         start = MARGIN + self.first_lane + self.look.lane * (self.clients - 1) + 20
         ends = [start + width_of(power_words(row.item)) + 90 for row in self.rows if row.kind == "power"]
         ends += [start + self.names + width_of(ended_words(row.item)) for row in self.rows if row.kind == "ended"]
         for row in self.rows:
             if row.kind in ("entry", "read"):
                 letters = sum(map(columns_of, row.item.rest)) + 1
-                ends.append(start + self.names + CODE_LETTER * letters + (LOST_WIDTH if row.lost else 0))
+                ends.append(start + self.names + CODE_LETTER * (letters + (len(LOST) if row.lost else 0)))
         kinds = {kind_of(row) for row in self.rows}
         ends.append(MARGIN + sum(legend_width(words) for kind, words, _ in LEGEND if kind in kinds))
-        return min(WIDTH, max(NARROWEST, round(max(ends)) + MARGIN))
+        return min(max(WIDTH, round(start) + LEAST_TEXT), max(NARROWEST, round(max(ends)) + MARGIN))
 
     def put_rows(self):
         """Gives each row its place: one column with texts, and else as many as fit beside each other."""
         heights = {"head": self.look.head, "cut": self.look.cut, "power": self.look.power}
         for row in self.rows:
             row.height = heights.get(row.kind, self.look.row)
-        columns = 1 if self.look.texts else max(1, (WIDTH - 2 * MARGIN + COLUMN_GAP) // self.column_width())
+        columns = self.columns
         tallest = max(sum(row.height for row in self.rows) / columns + LANES_AGAIN, LEAST_HEIGHT)
         left, top = MARGIN, MARGIN
         put = []
@@ -278,7 +313,7 @@ class Picture:
             end = self.end_of_lane(rows, client)
             if end > top:
                 x = self.lane(first, client)
-                self.line(x, top, x, end, "lane")
+                self.line(x, top, x, end, "lane named" if self.clients > MOST_NUMBERED_LANES and self.has_number(client) else "lane")
         x = first.left + self.history
         end = last.top + 14 if last.kind == "power" else last.bottom
         if lost:
@@ -320,22 +355,32 @@ class Picture:
     def draw_head(self, row):
         head = row.item
         clients = f"{head.clients} client" + ("s" if head.clients > 1 else "")
-        y = row.top + 18
         if self.look.texts:
-            self.pair(row.left + self.history + 14, y, f"Life {head.index}", f"{clients}, from place {head.place}")
-            self.text(row.left + self.tickets_end, row.bottom - 10, "ticket", "small soft right")
+            self.pair(row.left + self.history + 14, row.top + 18, f"Life {head.index}", f"{clients}, from place {head.place}")
+            if self.places_end > self.tickets_end:
+                self.text(row.left + self.places_end, row.bottom - 10, "place", "small soft right")
             self.text(self.text_left(row), row.bottom - 10, "command = reply, by client and command", "small soft")
         else:
             self.text(row.left + self.history + 10, row.top + 12, f"Life {head.index}", "strong")
-            self.text(row.left + self.history + 10, row.top + 26, f"from place {head.place}", "small soft")
-        self.draw_clients(row, row.bottom - 10)
+            self.text(row.left + self.history + 10, row.top + 25, f"from place {head.place}", "small soft")
+        self.draw_headings(row, row.bottom - 10)
 
     def draw_lanes(self, row):
-        self.draw_clients(row, row.bottom - 5)
+        self.text(row.left + self.history + 10, row.top + 12, f"Life {row.item.index}, continued", "strong")
+        self.draw_headings(row, row.bottom - 6)
 
-    def draw_clients(self, row, y):
+    def draw_headings(self, row, y):
+        """What stands above the tickets, and above the lanes: a word, and the clients' numbers."""
+        self.text(row.left + self.tickets_end, y, "ticket", "small soft right")
+        middle = (self.lane(row, 0) + self.lane(row, row.item.clients - 1)) / 2
+        self.text(middle, y - 13, "client", "small soft middle")
         for client in range(row.item.clients):
-            self.text(self.lane(row, client), y, str(client), "small soft middle")
+            if self.has_number(client):
+                self.text(self.lane(row, client), y, str(client), "small soft middle")
+
+    def has_number(self, client):
+        """Whether the lane of a client has its number above it: each, unless there are too many for it."""
+        return self.clients <= MOST_NUMBERED_LANES or client % NUMBERED_APART == 0
 
     def draw_entry(self, row):
         unanswered = row.item.rest.endswith(f" = {UNANSWERED}")
@@ -357,12 +402,16 @@ class Picture:
         self.add(f'<g transform="translate({x:g} {row.middle:g})">{shape.format(title=title)}</g>')
 
     def draw_ticket(self, row):
-        """The ticket or place beside the history; without texts, each tenth ticket."""
+        """The ticket or the place beside the history; without texts, each tenth ticket."""
+        is_entry = isinstance(row.item, Entry)
         if self.look.texts:
             self.line(row.left + self.history, row.middle, self.text_left(row) - 6, row.middle, "guide")
-        if self.look.texts or isinstance(row.item, Entry) and row.item.ticket % 10 == 0:
-            self.text(row.left + self.tickets_end, row.middle + 4, ticket_text(row.item), "small soft right")
-        if isinstance(row.item, Entry):
+            end = self.tickets_end if is_entry else self.places_end
+            self.text(row.left + end, row.middle + 4, str(place_of(row.item)), "small soft right")
+        elif is_entry and row.item.ticket % 10 == 0:
+            self.line(row.left + self.history, row.middle, self.text_left(row) - 12, row.middle, "guide")
+            self.text(row.left + self.tickets_end, row.middle + 4, str(row.item.ticket), "small soft right")
+        if is_entry:
             x = row.left + self.history
             self.line(x - 4, row.middle, x + 4, row.middle, "history")
 
@@ -373,15 +422,14 @@ class Picture:
         name = row.item.name
         command, reply = split_reply(row.item.line, row.item.rest)
         start = left + self.names
-        right = self.width - MARGIN - (LOST_WIDTH if row.lost else 0)
-        asked, answered = fitted(command, reply, int((right - start) / CODE_LETTER))
+        lost = LOST if row.lost else ""
+        asked, answered = fitted(command, reply, int((self.width - MARGIN - start) / CODE_LETTER) - len(lost))
         self.text(left, row.middle + 4, name, "code soft")
         self.add(
             f'<text x="{start:g}" y="{row.middle + 4:g}" class="code" xml:space="preserve">{clean(asked)}'
-            f'<tspan class="soft"> = </tspan><tspan class="strong">{clean(answered)}</tspan></text>'
+            f'<tspan class="soft"> = </tspan><tspan class="strong">{clean(answered)}</tspan>'
+            f'{f"""<tspan class="lost">{lost}</tspan>""" if lost else ""}</text>'
         )
-        if row.lost:
-            self.text(self.width - MARGIN - 6, row.middle + 4, "lost", "small soft right")
 
     def draw_cut(self, row):
         y = row.top + self.look.cut / 2
@@ -424,6 +472,10 @@ class Picture:
                 self.text(x + 15, y + 4, words)
                 x += legend_width(words)
         self.bottom = y + 14
+        for words in self.notes:
+            for part in textwrap.wrap(words, int((self.width - 2 * MARGIN - 8) / NOTE_LETTER)):
+                self.bottom += NOTE_LINE
+                self.text(MARGIN + 1, self.bottom - 4, part, "small soft")
 
     def document(self):
         height = self.bottom + MARGIN / 2
@@ -464,7 +516,7 @@ def power_words(power):
 def ended_words(item):
     """How a client ended."""
     if isinstance(item, Stop):
-        return f"stopped after {item.steps} steps: {item.fate}"
+        return f"stopped after {item.steps} steps, its command {item.fate}"
     return f"gave up: holder {item.holder}, need {item.need}, ticket {item.ticket}"
 
 
@@ -544,8 +596,8 @@ def fitted(command, reply, columns):
     return cut_to(command, columns - 3 - sum(map(columns_of, reply))), reply
 
 
-def drawn(data):
-    """The picture of a report; raises Fault where it has a line that is none."""
+def drawn(data, texts=False):
+    """The picture of a report, with texts where they are wanted or there is room; raises Fault where it has a line that is none."""
     report = read_report(data)
     if report.fault:
         raise report.fault
@@ -558,17 +610,19 @@ def drawn(data):
         most = 64 if len(report.lives) == 1 else 8
         if life.head.clients > most:
             raise Fault(life.head.line, f"a life has {most} clients at the most")
-    return Picture(report).draw()
+    return Picture(report, texts).draw()
 
 
 def main(words):
-    paths = paths_of(words)
-    if paths is None:
-        print("usage: draw_life.py REPORT [-o FILE]", file=sys.stderr)
+    if helped(__doc__, words):
+        return 0
+    asked = asked_in(words)
+    if asked is None:
+        print("usage: draw_life.py [--texts] REPORT [-o FILE]", file=sys.stderr)
         return 2
-    report, out = paths
+    report, out, texts = asked
     try:
-        picture = drawn(Path(report).read_bytes())
+        picture = drawn(Path(report).read_bytes(), texts)
         if out:
             Path(out).write_text(picture, encoding="utf-8")
         else:
@@ -582,14 +636,16 @@ def main(words):
     return 0
 
 
-def paths_of(words):
-    """The report and the file for its picture, or None for that; None where the words are others."""
-    out = None
+def asked_in(words):
+    """The report, the file for its picture, or None for that, and whether texts are wanted; None where the words are others."""
+    words, out, texts = list(words), None, "--texts" in words
+    if texts:
+        words.remove("--texts")
     if "-o" in words[:-1]:
         at = words.index("-o")
         out = words[at + 1]
-        words = words[:at] + words[at + 2 :]
-    return (words[0], out) if len(words) == 1 and words[0] != "-o" else None
+        del words[at : at + 2]
+    return (words[0], out, texts) if len(words) == 1 and words[0] not in ("-o", "--texts") else None
 
 
 if __name__ == "__main__":

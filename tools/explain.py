@@ -6,10 +6,11 @@
     explain.py [--program PATH] --image IMAGE_TEXT
     explain.py --status NUMBER
 
-The program is the one given, or the one built under crates/cx_tool/out. What it refuses is shown with its line, the column, which
+The program is the one given, or the one that tools/build sees to. What it refuses is shown with its line, the column, which
 counts characters from 1, and the row of the grammar of docs/FORMATS.md that it breaks. Of an image that does not pass a check it is
 said at which word, what was found there, and what was wanted. The last form says what a status of the program means.
 
+Example: explain.py examples/two_shops.script
 Status 0 where the script or the image is accepted, 1 where it is refused, 2 where the program could not be run or ended for another cause.
 """
 import re
@@ -19,11 +20,11 @@ import unicodedata
 from pathlib import Path
 
 from image_text import BadImage, place_of, read_image, recovered
+from program import HOW_TO_BUILD, built
 from queue_text import read_queue_script
 from script_text import LARGEST_INPUT, Refusal, TooLong, raw_lines, read_script, words_of
+from told import helped
 
-BUILT = Path(__file__).resolve().parent.parent / "crates" / "cx_tool" / "out" / "cx_tool"
-HOW_TO_BUILD = "build it: cd crates/cx_tool && rt run -- run < ../../examples/first.script"
 SHOWN = 72
 REFUSAL = re.compile(rb"refused line ([1-9][0-9]{0,8}): ([a-z0-9]+)\n")
 REFUSED_IMAGE = re.compile(rb"image refused: ([a-z]+[ 0-9]*)\n")
@@ -243,10 +244,12 @@ OTHER_TEXTS = {"--fifo": ("fifo", explained_queue), "--image": ("recover", expla
 
 
 def main(words):
+    if helped(__doc__, words):
+        return 0
     if words[:1] == ["--status"] and len(words) == 2 and words[1].isascii() and words[1].isdigit():
         print(meaning(int(words[1])))
         return 0
-    program = BUILT
+    program = built()
     if words[:1] == ["--program"] and len(words) > 1:
         program, words = Path(words[1]), words[2:]
     asked, explain = "run", explained

@@ -4,10 +4,13 @@
 With no command it runs `rt ci --anew`, which takes nothing from earlier runs. What the command prints goes on as it comes; the table comes
 last, on standard error: for each crate the seconds of its own proof, of the proof of its tests, and of its edits (the check that they begin
 with included), then what is left (programs and tests that are built and run, and the command itself), and all in minutes; and each edit that took over
-15 seconds. The status is the command's.
+15 seconds.
 
 The gate prints no times. So the prover's processes are looked at while they run, twice a second, by Linux's /proc: what one takes after
 the last look is counted as left. Only what this run proved is seen: what is kept of earlier runs costs nothing here.
+
+Example: python3 tools/gate_minutes.py rt ci publish
+Status 0 where the command ends with 0: it is the command's.
 """
 import os
 import resource
@@ -15,6 +18,8 @@ import subprocess
 import sys
 import threading
 from pathlib import Path
+
+from told import helped
 
 PAUSE = 0.5
 # what an edit may take
@@ -114,6 +119,8 @@ def table(seen, total):
 
 
 def main(words):
+    if helped(__doc__, words):
+        return 0
     child = subprocess.Popen(words or ["rt", "ci", "--anew"])
     seen, over = {}, threading.Event()
 

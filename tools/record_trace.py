@@ -1,12 +1,17 @@
+#!/usr/bin/env python3
 """Writes a random trace of a core over documents, and says what is found of it.
 
-    python3 tools/record_trace.py CALLERS LINES SEED [--wrong N] [--check FILE]
+    record_trace.py CALLERS LINES SEED [--steps N] [--wrong N] [--check FILE]
 
 The trace goes to standard output and what is found of it to standard error, as the program says it: `yes events E crashes K`,
 `no line N: guard` or `no line N: place P`, and `refused line N: REASON` for a text that is none. With `--wrong N` so many changes are made
 afterwards: a line left out or doubled, an event swapped with the next of another caller, an argument changed, a place one too high or too
 low. With `--steps N` it has so many lines behind the first, 300 if nothing is said. With `--check FILE` the trace is
-read from that file instead, and where a line fails it is shown with what its caller knew, or with the codes that a loss of power may leave."""
+read from that file instead, and where a line fails it is shown with what its caller knew, or with the codes that a loss of power may leave.
+
+Example: record_trace.py 3 64 5 --wrong 1
+Status 0, whatever is found of the trace; 1 where a file cannot be read, 2 where the words are others.
+"""
 import argparse
 import random
 import re
@@ -360,7 +365,7 @@ def displaced(chosen, lines):
 
 
 def main():
-    parser = argparse.ArgumentParser()
+    parser = argparse.ArgumentParser(description=__doc__, formatter_class=argparse.RawDescriptionHelpFormatter)
     parser.add_argument("callers", type=int)
     parser.add_argument("lines", type=int)
     parser.add_argument("seed", type=int)

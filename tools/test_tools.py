@@ -1,11 +1,14 @@
 #!/usr/bin/env python3
 """Tests of the tools, and of the built program: python3 tools/test_tools.py [--with-program]
 
-No network is needed. Where the program is not built, the tests that run it are skipped; with --with-program they fail there.
+No network is needed. The program is the one that the gate or `tools/build --proved` leaves. Where there is none, the tests that run it are skipped; with
+--with-program, as the gate has it, they fail there. A class or a test alone is named by further words.
+
+Example: python3 tools/test_tools.py Pictures
+Status 0 where all passed, else 1.
 """
 import contextlib
 import io
-import itertools
 import json
 import os
 import random
@@ -14,12 +17,10 @@ import subprocess
 import sys
 import tempfile
 import unittest
-import xml.etree.ElementTree as ElementTree
 from pathlib import Path
 
 TOOLS = Path(__file__).resolve().parent
 TESTS = TOOLS / "tests"
-ROWS = TESTS / "rows"
 ROOT = TOOLS.parent
 PICTURES = ROOT / "docs" / "pictures"
 EXAMPLES = ROOT / "examples"
@@ -41,14 +42,20 @@ import random_pools
 import random_queues
 import record_trace
 import stopped_clients
+import told
+from build_tests import Builds
 from end_tests import Ends
+from help_tests import Helps
 from image_tests import ImageExplanations, ProgramOnImages, ReadImages, usage
+from picture_tests import Pictures
 from plain_core import Core
 from pool_tests import PoolTexts, ProgramOnPools, pool_rows
 from pool_text import read_pool_script
+from program import is_proved
 from queue_tests import ProgramOnQueues, QueueTexts
 from queue_text import read_queue_script
 from report_text import Fault, read_report, split_reply
+from row_files import ROWS, legal_rows, row
 from script_text import Refusal, TooLong, read_script
 from trace_tests import PlainTraces, ProgramOnTraces
 from wrong_reports import WRONG
@@ -160,19 +167,9 @@ IN_A_LIFE = {
 }
 
 
-def row(name):
-    return tuple((ROWS / f"{name}.{kind}").read_bytes() for kind in ("script", "report"))
-
-
 def reports_of(name):
     """The reports of a row: NAME.report, and NAME.2.report and so on where the order of the clients is free."""
     return [path.read_bytes() for path in sorted(ROWS.glob("*.report")) if path.name.split(".")[0] == name]
-
-
-def legal_rows():
-    """Each report of a row, with its name and its script."""
-    for path in sorted(ROWS.glob("*.report")):
-        yield path.stem, (ROWS / f"{path.name.split('.')[0]}.script").read_bytes(), path.read_bytes()
 
 
 def judged(script, report):
@@ -390,8 +387,13 @@ class Statuses(unittest.TestCase):
             script = ROWS / "room.script"
             self.assertEqual((f"{script}, line 1: the line is none of a report\n", 1), said_by(draw_life.main, [script]))
             self.assertEqual((f"{out}: No such file or directory\n", 2), said_by(draw_life.main, [out]))
-            for words in ([], ["-o"], [report, "-o"], [report, out], ["-o", out]):
-                self.assertEqual(("usage: draw_life.py REPORT [-o FILE]\n", 2), said_by(draw_life.main, words))
+            for words in ([], ["-o"], [report, "-o"], [report, out], ["-o", out], ["--texts"], [report, "--texts", "--texts"]):
+                self.assertEqual(("usage: draw_life.py [--texts] REPORT [-o FILE]\n", 2), said_by(draw_life.main, words))
+            long = Path(folder) / "long.report"
+            long.write_bytes(random_pools.random_report(random.Random(1), 20, 40)[1])
+            for words in ([long], ["--texts", long], [long, "--texts"]):
+                picture, status = said_by(draw_life.main, words)
+                self.assertEqual(("--texts" in words, "draw_life.py --texts has them" not in picture, 0), ('class="code"' in picture,) * 2 + (status,))
 
 
 class Scripts(unittest.TestCase):
@@ -523,10 +525,10 @@ class Program(unittest.TestCase):
     """The built program: statuses, and what is written."""
 
     def setUp(self):
-        if not random_lives.PROGRAM.exists():
+        if not is_proved(random_lives.PROGRAM):
             if MUST_RUN:
-                self.fail(f"{random_lives.PROGRAM} is not there")
-            self.skipTest("the program is not built")
+                self.fail(f"there is no proved program, or a newer one without a proof: {random_lives.PROGRAM}")
+            self.skipTest("the program is not built and proved")
 
     def ran(self, words, script):
         """The status, what is written, and how many bytes of the script are read."""
@@ -627,141 +629,6 @@ class Program(unittest.TestCase):
             if reason != "commands":
                 with self.subTest(reason):
                     self.assertEqual(random_lives.Refused(line, reason), random_lives.answer_of_program(random_lives.PROGRAM, script))
-
-
-class Pictures(unittest.TestCase):
-    def elements(self, picture):
-        """The elements of a picture but those of its legend, each with the x and y that it is moved by."""
-        root = ElementTree.fromstring(picture)
-        found = []
-        pending = [(root, 0.0, 0.0)]
-        while pending:
-            element, x, y = pending.pop()
-            moved = re.fullmatch(r"translate\((\S+) (\S+)\)", element.get("transform", ""))
-            if moved:
-                x, y = x + float(moved[1]), y + float(moved[2])
-            if element.get("class") != "legend":
-                found.append((element, x, y))
-                pending.extend((child, x, y) for child in element)
-        return found
-
-    def marks(self, picture):
-        counts = dict.fromkeys(["entry", "entry unanswered", "read", "stop", "full", "power"], 0)
-        for element, _, _ in self.elements(picture):
-            if element.get("class") in counts:
-                counts[element.get("class")] += 1
-        return counts
-
-    def expected(self, report):
-        lives = read_report(report).lives
-        entries = [entry for life in lives for entry in life.entries]
-        unanswered = sum(entry.rest.endswith(" = unanswered") for entry in entries)
-        return {
-            "entry": len(entries) - unanswered,
-            "entry unanswered": unanswered,
-            "read": sum(len(life.reads) for life in lives),
-            "stop": sum(len(life.stops) for life in lives),
-            "full": sum(len(life.fulls) for life in lives),
-            "power": len(lives),
-        }
-
-    def reports(self):
-        for name, _, report in legal_rows():
-            yield name, report
-        for clients, lives, commands in itertools.product((1, 2, 8), (1, 3), (12, 30, 300)):
-            choice = random.Random(clients * 1_000 + lives * 100 + commands)
-            text = random_lives.script_text(choice, clients, lives, commands // lives, cuts=clients > 1)
-            yield f"{clients} clients, {lives} lives, {commands}", random_lives.report_text(choice, read_script(text))
-            yield f"a queue, {clients} clients, {lives} lives, {commands}", random_queues.random_report(choice, clients, lives, commands // lives)[1]
-
-    def test_marks(self):
-        for name, report in self.reports():
-            with self.subTest(name):
-                self.assertEqual(self.expected(report), self.marks(draw_life.drawn(report)))
-
-    def test_pictures_of_the_documents_are_these(self):
-        """After a change of the drawing: tools/draw_life.py docs/pictures/NAME.report -o docs/pictures/NAME.svg"""
-        for report in PICTURES.glob("*.report"):
-            with self.subTest(report.stem):
-                self.assertEqual(draw_life.drawn(report.read_bytes()), report.with_suffix(".svg").read_text(encoding="utf-8"))
-
-    def test_long_reports_have_no_texts(self):
-        for name, report in self.reports():
-            picture = draw_life.drawn(report)
-            rows = len(draw_life.rows_of(read_report(report)))
-            with self.subTest(name):
-                self.assertEqual(rows <= draw_life.MOST_ROWS_WITH_TEXT and " = " in report.decode(), 'class="code"' in picture)
-
-    def test_no_text_is_small(self):
-        sizes = [float(size) for size in re.findall(r"font-size: ([0-9.]+)px", draw_life.STYLE)]
-        self.assertGreaterEqual(min(sizes), 11)
-
-    def test_labels_do_not_overlap(self):
-        for name, report in self.reports():
-            boxes = [self.box(*found) for found in self.elements(draw_life.drawn(report)) if found[0].tag.endswith("}text")]
-            with self.subTest(name):
-                for one, other in itertools.combinations(boxes, 2):
-                    apart = one[2] <= other[0] or other[2] <= one[0] or one[3] <= other[1] or other[3] <= one[1]
-                    self.assertTrue(apart, (one, other))
-
-    def test_all_lies_within_the_picture(self):
-        for name, report in self.reports():
-            picture = draw_life.drawn(report)
-            root = ElementTree.fromstring(picture)
-            wide, high = float(root.get("width")), float(root.get("height"))
-            self.assertEqual(f"0 0 {wide:g} {high:g}", root.get("viewBox"))
-            with self.subTest(name):
-                for element, x, y in self.elements(picture):
-                    for at_x, at_y in self.corners(element, x, y):
-                        self.assertTrue(0 <= at_x <= wide and 0 <= at_y <= high, ElementTree.tostring(element))
-
-    def corners(self, element, x, y):
-        """Points that bound an element: of the background's rectangle, of texts, lines, marks and paths; none for what is not drawn."""
-        kind = element.tag.rpartition("}")[2]
-        if kind == "text":
-            left, top, right, bottom, _ = self.box(element, x, y)
-            return [(left, top), (right, bottom)]
-        if kind == "circle":
-            radius = float(element.get("r")) + 1
-            return [(x - radius, y - radius), (x + radius, y + radius)]
-        if kind == "line" and element.get("class"):
-            return [(float(element.get(f"x{end}")), float(element.get(f"y{end}"))) for end in "12"]
-        if kind == "rect":
-            left, top = float(element.get("x")), float(element.get("y"))
-            return [(left, top), (left + float(element.get("width")), top + float(element.get("height")))]
-        return self.points(element.get("d"), x, y) if kind == "path" else []
-
-    def points(self, path, x, y):
-        """The points of a path of absolute moves and lines."""
-        found, at = [], [0.0, 0.0]
-        for letter, numbers in re.findall(r"([MLHV])([-0-9. ]+)", path):
-            parts = list(map(float, numbers.split()))
-            at = {"H": [parts[0], at[1]], "V": [at[0], parts[0]]}.get(letter, parts)
-            found.append((x + at[0], y + at[1]))
-        return found
-
-    def box(self, element, x, y):
-        """About the rectangle that a text takes, by letters as wide as those of common fonts, and its words."""
-        kind = element.get("class", "").split()
-        words = "".join(element.itertext())
-        wide = len(words) * (7.55 if "code" in kind else 6.0 if "small" in kind else 6.6)
-        left = x + float(element.get("x")) - wide * (1 if "right" in kind else 0.5 if "middle" in kind else 0)
-        top = y + float(element.get("y")) - 9
-        return left, top, left + wide, top + 11, words
-
-    def test_strange_letters(self):
-        script = HEAD + '0 put a "<&>\u3042\ufffe\x7f\x85"\n'.encode() + b"0 get a\n"
-        text = '"<&>\u3042\ufffe\x7f\x85"'
-        report = f"life 0 clients 1 from 0\n0 0.1 put a {text} = new\nread 0.2 at 1 get a = {text}\npower 0 kept 1 of 1 documents 1\n"
-        self.assertTrue(judged(script, report.encode()).startswith("legal"))
-        self.assertEqual(1, self.marks(draw_life.drawn(report.encode()))["entry"])
-
-    def test_wrong_reports_are_refused(self):
-        empty = b"life 0 clients 9 from 0\npower 0 kept 0 of 0 documents 0\n"
-        too_many = empty.replace(b" 9 ", b" 65 ", 1), empty + empty.replace(b"life 0", b"life 1", 1)
-        for report in (b"life 0 clients 1 from 0\n", *too_many, b"x\n"):
-            with self.assertRaises(Fault):
-                draw_life.drawn(report)
 
 
 class ClausesTest(unittest.TestCase):
@@ -882,6 +749,8 @@ class TracesTest(unittest.TestCase):
 
 
 if __name__ == "__main__":
-    if not (MUST_RUN or random_lives.PROGRAM.exists()):
-        print(f"{random_lives.PROGRAM} is not built: the tests that run it are skipped", file=sys.stderr)
+    if told.helped(__doc__, sys.argv[1:]):
+        sys.exit(0)
+    if not (MUST_RUN or is_proved(random_lives.PROGRAM)):
+        print("there is no proved program (tools/build --proved): the tests that run it are skipped", file=sys.stderr)
     unittest.main(argv=[word for word in sys.argv if word != WITH_PROGRAM])

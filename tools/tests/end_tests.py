@@ -7,11 +7,12 @@ from pathlib import Path
 import random_lives
 import real_ends
 import refused_memory
+from program import is_proved
 
 TOOLS = Path(__file__).resolve().parent.parent
 
 
-@unittest.skipUnless(random_lives.PROGRAM.exists(), "the program is not built")
+@unittest.skipUnless(is_proved(random_lives.PROGRAM), "the program is not built and proved")
 class Ends(unittest.TestCase):
     def test_real_ends(self):
         names = []

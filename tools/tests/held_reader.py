@@ -5,7 +5,11 @@
 
 A read is entered where it was refused eight times, each time because the current replica was another between two steps of the reader. At
 full speed that does not come. Here the parent of the program holds its first thread, which works for the reader, before each instruction
-that changes a shared word, as a debugger does it (Linux on x86-64), so that the others publish between two steps of the reader.
+that changes a shared word, as a debugger does it (Linux on x86-64), so that the others publish between two steps of the reader. The program is
+the one given, or the proved one (tools/build --proved): one without a proof has checks at each access, and does not come to it.
+
+Example: held_reader.py
+Status 0, and 1 where the program cannot be held or its report is wrong; 2 where the words are others.
 """
 import ctypes
 import os
@@ -21,9 +25,10 @@ TESTS = Path(__file__).resolve().parent
 sys.path[:0] = [str(TESTS), str(TESTS.parent)]
 
 import check_report
-from random_lives import PROGRAM
+from program import PROVED
 from report_text import Fault, read_report
 from script_text import read_script
+from told import asked_words
 
 CLIENTS = 8
 # of each client that adds, and of the reader, which reads until the others go and it is held
@@ -167,7 +172,7 @@ def threads(process):
     return len(os.listdir(f"/proc/{process}/task"))
 
 
-def queued_reads(program=PROGRAM):
+def queued_reads(program=PROVED):
     """How many reads of a run were entered into the queue. Its report is legal, or a Fault is raised."""
     if sys.platform != "linux" or platform.machine() != "x86_64":
         raise NotHeld("no Linux on x86-64")
@@ -182,7 +187,7 @@ def queued_reads(program=PROGRAM):
 
 
 def main(words):
-    print(f"{queued_reads(*words)} reads entered into the queue")
+    print(f"{queued_reads(*asked_words(__doc__, words, (0, 1)))} reads entered into the queue")
     return 0
 
 

@@ -1,9 +1,14 @@
+#!/usr/bin/env python3
 """Images that no run leaves: every word of a good one changed, and of old ones that a run left, several things wrong, trees and texts with
 one thing wrong, and texts that are none of an image.
 
     hostile_images.py [PROGRAM]
 
-gives each to the program and compares status and text with the reading of image_text.py.
+gives each to the program and compares status and text with the reading of image_text.py. The program is the one given, or the one that
+tools/build sees to.
+
+Example: hostile_images.py
+Status 0 where each was answered as docs/FORMATS.md has it, 1 at the first that was not, 2 where the words are others.
 """
 import random
 import subprocess
@@ -16,10 +21,12 @@ TOOLS = Path(__file__).resolve().parent.parent
 sys.path[:0] = [str(TOOLS)]
 
 from image_text import OLD_VERSION, PART, SLOT_WORDS, VERSION, BadImage, Image, image_text, read_image, recovered, recovered_text
+from program import built
 from script_text import Refusal
+from told import asked_words
 
 OLD_IMAGES = Path(__file__).resolve().parent / "old_images"
-PROGRAM = TOOLS.parent / "crates" / "cx_tool" / "out" / "cx_tool"
+PROGRAM = built()
 MOST_SECONDS = 20
 VALUES = (0, 1, 2**63, 2**64 - 1)
 PAIRS = [(b"apple", b"7"), (b"k" * 57, b"[" + b"1," * 64 + b"2]"), (b"plum", b'"' + b"\xc3\xa9" * 30 + b'"')]
@@ -473,6 +480,7 @@ def first_wrong(program, images, at_once=4):
 
 
 def main(words):
+    words = asked_words(__doc__, words, (0, 1))
     wrong, count = first_wrong(Path(words[0]) if words else PROGRAM, every_image())
     print(wrong or f"{count} images answered as docs/FORMATS.md has it")
     return 1 if wrong else 0

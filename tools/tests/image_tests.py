@@ -14,6 +14,7 @@ import random_lives
 from hostile_images import SLOTS, TEXTS, TREES, answer_of, answer_to, good_image, image_text
 from image_text import BadImage, read_image, recovered
 from plain_store import Store
+from program import is_proved
 from script_text import Refusal, TooLong, read_script
 
 ROWS = Path(__file__).resolve().parent / "rows"
@@ -147,7 +148,7 @@ class ImageExplanations(unittest.TestCase):
         self.assertEqual("status 139: the program was ended by signal 11", explain.meaning(139))
 
 
-@unittest.skipUnless(random_lives.PROGRAM.exists(), "the program is not built")
+@unittest.skipUnless(is_proved(random_lives.PROGRAM), "the program is not built and proved")
 @unittest.skipUnless("recover" in usage(), "docs/FORMATS.md has no word for images")
 class ProgramOnImages(unittest.TestCase):
     """The built program on images."""

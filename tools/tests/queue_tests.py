@@ -11,6 +11,7 @@ import explain
 import plain_judge
 import random_faults
 import random_queues
+from program import is_proved
 from queue_text import read_queue_script
 from random_lives import PROGRAM, Refused, Seen, answer_of_program
 from report_text import Fault, read_report, split_reply
@@ -220,7 +221,7 @@ def in_and_out(report):
     return put, taken, report.lives[-1].power.size if report.lives else 0
 
 
-@unittest.skipUnless(PROGRAM.exists(), "the program is not built")
+@unittest.skipUnless(is_proved(PROGRAM), "the program is not built and proved")
 class ProgramOnQueues(unittest.TestCase):
     """The built program on scripts of a queue."""
 

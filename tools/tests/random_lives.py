@@ -5,6 +5,10 @@
                                         and every other one with a fault: the report of each must be legal, and the
                                         refusal of each the one that docs/FORMATS.md names
     random_lives.py report CLIENTS LIVES COMMANDS SEED      writes a legal report, to draw, with COMMANDS commands in each life
+
+The program is the one given, or the one that tools/build sees to.
+Example: random_lives.py 600
+Status 0 where each is as it must be, 1 at the first that is not, which is shown, 2 where the words are others.
 """
 import random
 import subprocess
@@ -19,10 +23,12 @@ sys.path.insert(0, str(TOOLS))
 import check_report
 from plain_queue import opening
 from plain_store import Store
+from program import built
 from report_text import UNANSWERED, Fault, read_report
 from script_text import Refusal, raw_lines, read_script
+from told import asked_words
 
-PROGRAM = TOOLS.parent / "crates" / "cx_tool" / "out" / "cx_tool"
+PROGRAM = built()
 MOST_COMMANDS = 200
 MOST_SECONDS = 120
 DOCUMENTS = ["0", "-3", "12", '"a text"', '{"name": "pear", "price": 95}', "[ 1, 2,3 ]", "null", "9223372036854775807", '"x = new"']
@@ -270,7 +276,7 @@ def compare(count, seen, program=PROGRAM):
 
 
 def main(words):
-    if words and words[0] == "report":
+    if asked_words(__doc__, words, (1, 2, 5))[0] == "report":
         clients, lives, commands, seed = map(int, words[1:])
         choice = random.Random(seed)
         sys.stdout.buffer.write(report_text(choice, read_script(script_text(choice, clients, lives, commands, cuts=True))))

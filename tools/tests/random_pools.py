@@ -5,6 +5,10 @@
                                         one with a fault: the report of each must be legal, and the refusal of each the
                                         one that docs/FORMATS.md names
     random_pools.py report CLIENTS COMMANDS SEED    writes a legal report, to draw
+
+The program is the one given, or the one that tools/build sees to.
+Example: random_pools.py report 20 40 1
+Status 0 where each is as it must be, 1 at the first that is not, which is shown, 2 where the words are others.
 """
 import random
 import sys
@@ -14,7 +18,9 @@ TESTS = Path(__file__).resolve().parent
 sys.path[:0] = [str(TESTS), str(TESTS.parent)]
 
 from pool_text import read_pool_script
+from program import needed
 from random_lives import PROGRAM, Asked, Seen, disagreement, report_text, script_text, spoiled
+from told import asked_words
 
 MOST_SEATS = 8
 MOST_COMMANDS = 1_600
@@ -50,12 +56,12 @@ def random_report(choice, clients, commands):
 
 
 def main(words):
-    if words and words[0] == "report":
+    if asked_words(__doc__, words, (1, 2, 4))[0] == "report":
         clients, commands, seed = map(int, words[1:])
         sys.stdout.buffer.write(random_report(random.Random(seed), clients, commands)[1])
         return 0
     seen = Seen()
-    found = compare(int(words[0]), seen, *words[1:])
+    found = compare(int(words[0]), seen, needed(*words[1:]))
     print(found or seen)
     return 1 if found else 0
 

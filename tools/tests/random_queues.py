@@ -5,6 +5,10 @@
                                         one with a fault: the report of each must be legal, and the refusal of each the
                                         one that docs/FORMATS.md names
     random_queues.py report CLIENTS LIVES COMMANDS SEED     writes a legal report, to draw, with COMMANDS commands in each life
+
+The program is the one given, or the one that tools/build sees to.
+Example: random_queues.py 500
+Status 0 where each is as it must be, 1 at the first that is not, which is shown, 2 where the words are others.
 """
 import random
 import sys
@@ -15,6 +19,7 @@ sys.path[:0] = [str(TESTS), str(TESTS.parent)]
 
 from queue_text import read_queue_script
 from random_lives import PROGRAM, Asked, Seen, disagreement, report_text, spoiled
+from told import asked_words
 
 FIFO = Asked("fifo", read_queue_script)
 MOST_COMMANDS = 1_600
@@ -70,7 +75,7 @@ def random_report(choice, clients, lives, commands):
 
 
 def main(words):
-    if words and words[0] == "report":
+    if asked_words(__doc__, words, (1, 2, 5))[0] == "report":
         clients, lives, commands, seed = map(int, words[1:])
         sys.stdout.buffer.write(random_report(random.Random(seed), clients, lives, commands)[1])
         return 0

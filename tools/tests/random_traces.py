@@ -4,6 +4,10 @@
     random_traces.py COUNT [PROGRAM]     runs COUNT random traces of 1 to 8 callers through `trace`, every other one with up to three
                                          changes; what the program writes must be what the plain model of the core finds
     random_traces.py arguments           the same, of each kind of event with each argument at its ends
+
+The program is the one given, or the one that tools/build sees to.
+Example: random_traces.py 2000
+Status 0 where both agree, 1 at the first trace on which they do not, 2 where the words are others.
 """
 import random
 import subprocess
@@ -15,9 +19,11 @@ TOOLS = Path(__file__).resolve().parent.parent
 sys.path.insert(0, str(TOOLS))
 
 from plain_core import WORD, Core
+from program import built
 from record_trace import NUMBERS, Recorder, found_in, wrong
+from told import asked_words
 
-PROGRAM = TOOLS.parent / "crates" / "cx_tool" / "out" / "cx_tool"
+PROGRAM = built()
 MOST_SECONDS = 120
 ENDS = [0, 1, 15, 16, 144, 145, 512, 513, 1679, 1680, 2**40, 2**40 + 1, WORD - 1]
 # What stands in front of an event: nothing; a caller that holds a replica alone; one that shares it; an entry of its own, that it may read
@@ -93,6 +99,7 @@ def compare(texts, seen, program=PROGRAM):
 
 
 def main(words):
+    words = asked_words(__doc__, words, (1, 2))
     seen = Seen()
     texts = texts_of_arguments() if words[0] == "arguments" else map(random_trace, range(int(words[0])))
     found = compare(texts, seen, *words[1:])

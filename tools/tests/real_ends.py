@@ -4,7 +4,10 @@
     real_ends.py [PROGRAM]
 
 Each case compares the status and what was written. A read that fails gives 4 and nothing; a write that fails gives 5 and a front of the
-text; a slow end gives the whole text. The program never ends by a signal.
+text; a slow end gives the whole text. The program never ends by a signal. It is the one given, or the one that tools/build sees to.
+
+Example: real_ends.py
+Status 0 where each case is as owed, 1 where one is not, 2 where the words are others.
 """
 import fcntl
 import os
@@ -16,7 +19,12 @@ import time
 from pathlib import Path
 
 TESTS = Path(__file__).resolve().parent
-PROGRAM = TESTS.parent.parent / "crates" / "cx_tool" / "out" / "cx_tool"
+sys.path[:0] = [str(TESTS.parent)]
+
+from program import built
+from told import asked_words
+
+PROGRAM = built()
 MOST_SECONDS = 30
 SCRIPT = (TESTS / "rows" / "written_read_back.script").read_bytes()
 REPORT = (TESTS / "rows" / "written_read_back.report").read_bytes()
@@ -240,6 +248,7 @@ def each_case(program):
 
 
 def main(words):
+    words = asked_words(__doc__, words, (0, 1))
     failed = 0
     for name, wrong in each_case(Path(words[0]).resolve() if words else PROGRAM):
         failed += wrong is not None

@@ -5,7 +5,11 @@
 
 Where memory is refused the program ends with status 6 and has written nothing, or with status 0 and a legal text; where a thread is
 refused it ends with status 0 and a legal text. It never hangs, and never ends by a signal. A C compiler, `cc`, makes the library that
-refuses (refuse.c); without one there is nothing to run.
+refuses (refuse.c); without one there is nothing to run. The program is the one given, or the proved one (tools/build --proved): one without a proof
+has an allocator of its own, which refuses nothing.
+
+Example: refused_memory.py
+Status 0 where each run ended so, 1 where one did not, 2 where the words are others.
 """
 import os
 import shutil
@@ -20,10 +24,11 @@ sys.path[:0] = [str(TESTS.parent), str(TESTS)]
 import check_report
 import hostile_images
 from image_text import read_image, recovered
+from program import PROVED
 from report_text import Fault, read_report
 from script_text import read_script
+from told import asked_words
 
-PROGRAM = TESTS.parent.parent / "crates" / "cx_tool" / "out" / "cx_tool"
 MOST_SECONDS = 20
 TWO_SHOPS = (TESTS / "rows" / "ordinary_use.script").read_bytes()
 LOADED = b"clients 2\nupdates 6\ndocuments 6\nsum 105\n"
@@ -110,7 +115,8 @@ def known(program):
 
 
 def main(words):
-    program = Path(words[0]).resolve() if words else PROGRAM
+    words = asked_words(__doc__, words, (0, 1))
+    program = Path(words[0]).resolve() if words else PROVED
     with tempfile.TemporaryDirectory() as folder:
         library = compiled(folder)
         if library is None:

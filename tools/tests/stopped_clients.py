@@ -6,7 +6,10 @@
 What the next life reads is the sum of what the commands added that were answered or kept, by the lines of the report itself, and each
 report is legal. The tables: one client stopped after 0, 1, 2 and so on steps, up to the first run in which it is not stopped; both stopped,
 at each pair of steps of a coarse grid, and at each pair near the steps at which what comes of a client's command changes. Each for four
-choices of what the loss of power leaves of words that were not yet durable.
+choices of what the loss of power leaves of words that were not yet durable. The program is the one given, or the one that tools/build sees to.
+
+Example: stopped_clients.py
+Status 0 where each report is legal and each sum right, 1 where one is not, 2 where the words are others.
 """
 import itertools
 import re
@@ -24,6 +27,7 @@ import check_report
 from random_lives import MOST_SECONDS, PROGRAM
 from report_text import Fault, read_report
 from script_text import read_script
+from told import asked_words
 
 CHOICES = range(4)
 AMOUNTS = (1, 2)
@@ -168,7 +172,7 @@ def sum_of(all_met):
 
 
 def main(words):
-    one, both = run_tables(*words)
+    one, both = run_tables(*asked_words(__doc__, words, (0, 1)))
     print(f"one stopped: {one}\nboth stopped: {both}")
     for script, status, report in [*one.wrong, *both.wrong][:3]:
         print(f"status {status}\n{script.decode()}{report.decode()}")

@@ -6,6 +6,7 @@ from pathlib import Path
 
 import random_lives
 import random_traces
+from program import is_proved
 from record_trace import MOST_LINES, explanation, found_in
 
 ROWS = Path(__file__).resolve().parent / "rows"
@@ -60,10 +61,10 @@ class ProgramOnTraces(unittest.TestCase):
     """The built program on traces, beside the plain model."""
 
     def setUp(self):
-        if not random_lives.PROGRAM.exists():
+        if not is_proved(random_lives.PROGRAM):
             if "--with-program" in sys.argv:
-                self.fail(f"{random_lives.PROGRAM} is not there")
-            self.skipTest("the program is not built")
+                self.fail(f"there is no proved program: {random_lives.PROGRAM}")
+            self.skipTest("the program is not built and proved")
 
     def test_rows(self):
         rows = trace_rows()

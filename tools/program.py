@@ -1,0 +1,20 @@
+"""Where the program stands that the tools run."""
+from pathlib import Path
+
+CRATE = Path(__file__).resolve().parent.parent / "crates" / "cx_tool"
+# left by the gate, and by `rt run`
+PROVED = CRATE / "out" / "cx_tool"
+# made by tools/build
+UNPROVED = CRATE / "out" / "unproved" / "cx_tool"
+HOW_TO_BUILD = "build it: tools/build"
+
+
+def built():
+    """The newer of the two programs; the path of the proved one, where there is none."""
+    there = [path for path in (PROVED, UNPROVED) if path.exists()]
+    return max(there, key=lambda path: path.stat().st_mtime, default=PROVED)
+
+
+def is_proved(program):
+    """Whether a program is there and is the proved one: the tests run no other, since they hold its threads and refuse it memory."""
+    return program == PROVED and program.exists()
