@@ -5,3 +5,4 @@ mod Lends
 mod Opening
 mod Tickets
 mod Weights
+mod Whole

@@ -1,7 +1,7 @@
 use Rattle.std.proofs.Common.{◌≡◌, ◌∙◌, sym, ap, subst, map, string_bytes, codes, ℕ, List, [], ◌∷◌, arith}
 use Rattle.cx_program.specs.Commands.{command_of}
-use Rattle.cx_program.specs.Words.{IsLoadOf}
-use Rattle.cx_program.proofs.Forms.{are_of_load, none_of_load, one_or_four, one_word}
+use Rattle.cx_program.specs.Words.{IsLoadOf, IsPoolOf}
+use Rattle.cx_program.proofs.Forms.{are_of_load, are_of_pool, none_of_load, none_of_pool, one_two_or_four, one_word}
 use Rattle.cx_program.proofs.command_line.asked_by.Goals as goal
 
 pub returns-in-None : goal.returns-in-None
@@ -17,4 +17,4 @@ returns-in-len1 c =
     subst (λ (words : List (List ℕ)). (command_of c.asked_alone.result).asked words) (ap (λ (word : List ℕ). word ∷ []) c.as_str.ensures.value ∙ sym are) c.asked_alone.ensures
 
 pub returns-in_default : goal.returns-in_default
-returns-in_default c asked asks = absurd (one_or_four c.args.words.now c.requires (λ one. omega (arith, one)) (λ four. omega (arith, four)))
+returns-in_default c asked asks = absurd (one_two_or_four c.args.words.now c.requires (λ one. omega (arith, one)) (λ two. omega (arith, two)) (λ four. omega (arith, four)))
