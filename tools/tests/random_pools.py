@@ -18,6 +18,7 @@ TESTS = Path(__file__).resolve().parent
 sys.path[:0] = [str(TESTS), str(TESTS.parent)]
 
 from pool_text import read_pool_script
+from program import needed
 from random_lives import PROGRAM, Asked, Seen, disagreement, report_text, script_text, spoiled
 from told import asked_words
 
@@ -60,7 +61,7 @@ def main(words):
         sys.stdout.buffer.write(random_report(random.Random(seed), clients, commands)[1])
         return 0
     seen = Seen()
-    found = compare(int(words[0]), seen, *words[1:])
+    found = compare(int(words[0]), seen, needed(*words[1:]))
     print(found or seen)
     return 1 if found else 0
 
