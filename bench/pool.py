@@ -10,6 +10,9 @@ are reads (0, 50 and 90, where none is said). In each round 8 and 64 clients run
 median over rounds. Throughput is commands by the time from when all may begin until the last client's last command. "Last by mean" is the time of the slowest client's
 last command by the mean of all clients' last ones. Making and filling a pool is not counted. The machine has to be quiet: the load before is
 printed.
+
+Example: python3 bench/pool.py --rounds 1 --reads 50
+Status 0 where the figures are printed, 1 where the program is not built, 2 where the words are others.
 """
 import argparse
 import os

@@ -2,8 +2,8 @@
 """Says how often contracts say a thing: python3 tools/clauses.py [TOP] [--worst N]
 
 For each crate that is no tests' crate: the lines of its sources (without the comments that files begin with), specs and proofs, its functions,
-their clauses, the clauses a function, the most of one function, and how many of the clauses in a hundred are distinct. The last row is
-all of them together. With --worst N the N functions with the most clauses come after it. TOP is the repository's folder, this one if none is said.
+their clauses, the clauses a function, the most of one function, how many of the clauses in a hundred are distinct, and the wrong edits under
+`must-fail/`. The last row is all of them together. With --worst N the N functions with the most clauses come after it. TOP is the repository's folder, this one if none is said.
 
 Example: python3 tools/clauses.py --worst 20
 Status 0.
@@ -61,15 +61,16 @@ def main(words):
         for source in sorted((crate / "src").rglob("*.rt")):
             functions += [(f"{crate.name}/src/{source.name}", *f) for f in functions_of(source.read_text(encoding="utf-8"))]
         sizes = [lines_under(crate / part) for part in ("src", "specs", "proofs")]
-        rows.append((crate.name, sizes, functions))
+        rows.append((crate.name, sizes, functions, len(list(crate.glob("must-fail/*.edit")))))
         everything += functions
-    print(f"{'crate':<18}{'src':>7}{'specs':>7}{'proofs':>8}{'functions':>11}{'clauses':>9}{'each':>7}{'most':>6}{'distinct':>10}")
-    for name, sizes, functions in sorted(rows, key=lambda row: -clauses_of(row[2])) + [("all", [sum(r[1][i] for r in rows) for i in range(3)], everything)]:
+    print(f"{'crate':<18}{'src':>7}{'specs':>7}{'proofs':>8}{'functions':>11}{'clauses':>9}{'each':>7}{'most':>6}{'distinct':>10}{'edits':>7}")
+    whole = ("all", [sum(row[1][i] for row in rows) for i in range(3)], everything, sum(row[3] for row in rows))
+    for name, sizes, functions, edits in sorted(rows, key=lambda row: -clauses_of(row[2])) + [whole]:
         clauses = [c for f in functions for c in f[2]]
         each = len(clauses) / len(functions) if functions else 0
         most = max((len(f[2]) for f in functions), default=0)
         distinct = 100 * len(set(clauses)) // len(clauses) if clauses else 100
-        print(f"{name:<18}{sizes[0]:>7}{sizes[1]:>7}{sizes[2]:>8}{len(functions):>11}{len(clauses):>9}{each:>7.2f}{most:>6}{distinct:>10}")
+        print(f"{name:<18}{sizes[0]:>7}{sizes[1]:>7}{sizes[2]:>8}{len(functions):>11}{len(clauses):>9}{each:>7.2f}{most:>6}{distinct:>10}{edits:>7}")
     print(f"sources, specs and proofs: {sum(sum(r[1]) for r in rows)} lines")
     for file, name, clauses in sorted(everything, key=lambda f: -len(f[2]))[:worst]:
         print(f"{len(clauses):>3} {file} {name}")

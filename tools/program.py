@@ -1,4 +1,5 @@
 """Where the program stands that the tools run."""
+import sys
 from pathlib import Path
 
 CRATE = Path(__file__).resolve().parent.parent / "crates" / "cx_tool"
@@ -13,6 +14,15 @@ def built():
     """The newer of the two programs; the path of the proved one, where there is none."""
     there = [path for path in (PROVED, UNPROVED) if path.exists()]
     return max(there, key=lambda path: path.stat().st_mtime, default=PROVED)
+
+
+def needed(program=None):
+    """The program that is given, or else the one built; where it is not there, all ends with 2."""
+    path = Path(program) if program else built()
+    if not path.exists():
+        print(f"no program at {path}; {HOW_TO_BUILD}{' --proved' if program == PROVED else ''}", file=sys.stderr)
+        sys.exit(2)
+    return path.resolve()
 
 
 def is_proved(program):

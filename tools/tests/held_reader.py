@@ -25,7 +25,7 @@ TESTS = Path(__file__).resolve().parent
 sys.path[:0] = [str(TESTS), str(TESTS.parent)]
 
 import check_report
-from program import PROVED
+from program import PROVED, needed
 from report_text import Fault, read_report
 from script_text import read_script
 from told import asked_words
@@ -187,7 +187,8 @@ def queued_reads(program=PROVED):
 
 
 def main(words):
-    print(f"{queued_reads(*asked_words(__doc__, words, (0, 1)))} reads entered into the queue")
+    words = asked_words(__doc__, words, (0, 1))
+    print(f"{queued_reads(needed(words[0] if words else PROVED))} reads entered into the queue")
     return 0
 
 

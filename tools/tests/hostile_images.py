@@ -21,12 +21,11 @@ TOOLS = Path(__file__).resolve().parent.parent
 sys.path[:0] = [str(TOOLS)]
 
 from image_text import OLD_VERSION, PART, SLOT_WORDS, VERSION, BadImage, Image, image_text, read_image, recovered, recovered_text
-from program import built
+from program import needed
 from script_text import Refusal
 from told import asked_words
 
 OLD_IMAGES = Path(__file__).resolve().parent / "old_images"
-PROGRAM = built()
 MOST_SECONDS = 20
 VALUES = (0, 1, 2**63, 2**64 - 1)
 PAIRS = [(b"apple", b"7"), (b"k" * 57, b"[" + b"1," * 64 + b"2]"), (b"plum", b'"' + b"\xc3\xa9" * 30 + b'"')]
@@ -481,7 +480,7 @@ def first_wrong(program, images, at_once=4):
 
 def main(words):
     words = asked_words(__doc__, words, (0, 1))
-    wrong, count = first_wrong(Path(words[0]) if words else PROGRAM, every_image())
+    wrong, count = first_wrong(needed(*words), every_image())
     print(wrong or f"{count} images answered as docs/FORMATS.md has it")
     return 1 if wrong else 0
 

@@ -23,7 +23,7 @@ sys.path.insert(0, str(TOOLS))
 import check_report
 from plain_queue import opening
 from plain_store import Store
-from program import built
+from program import built, needed
 from report_text import UNANSWERED, Fault, read_report
 from script_text import Refusal, raw_lines, read_script
 from told import asked_words
@@ -282,7 +282,7 @@ def main(words):
         sys.stdout.buffer.write(report_text(choice, read_script(script_text(choice, clients, lives, commands, cuts=True))))
         return 0
     seen = Seen()
-    found = compare(int(words[0]), seen, *words[1:])
+    found = compare(int(words[0]), seen, needed(*words[1:]))
     print(found or seen)
     return 1 if found else 0
 

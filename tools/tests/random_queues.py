@@ -17,6 +17,7 @@ from pathlib import Path
 TESTS = Path(__file__).resolve().parent
 sys.path[:0] = [str(TESTS), str(TESTS.parent)]
 
+from program import needed
 from queue_text import read_queue_script
 from random_lives import PROGRAM, Asked, Seen, disagreement, report_text, spoiled
 from told import asked_words
@@ -80,7 +81,7 @@ def main(words):
         sys.stdout.buffer.write(random_report(random.Random(seed), clients, lives, commands)[1])
         return 0
     seen = Seen()
-    found = compare(int(words[0]), seen, *words[1:])
+    found = compare(int(words[0]), seen, needed(*words[1:]))
     print(found or seen)
     return 1 if found else 0
 

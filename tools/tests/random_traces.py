@@ -19,7 +19,7 @@ TOOLS = Path(__file__).resolve().parent.parent
 sys.path.insert(0, str(TOOLS))
 
 from plain_core import WORD, Core
-from program import built
+from program import built, needed
 from record_trace import NUMBERS, Recorder, found_in, wrong
 from told import asked_words
 
@@ -102,7 +102,7 @@ def main(words):
     words = asked_words(__doc__, words, (1, 2))
     seen = Seen()
     texts = texts_of_arguments() if words[0] == "arguments" else map(random_trace, range(int(words[0])))
-    found = compare(texts, seen, *words[1:])
+    found = compare(texts, seen, needed(*words[1:]))
     print(found or seen)
     return 1 if found else 0
 

@@ -21,10 +21,9 @@ from pathlib import Path
 TESTS = Path(__file__).resolve().parent
 sys.path[:0] = [str(TESTS.parent)]
 
-from program import built
+from program import needed
 from told import asked_words
 
-PROGRAM = built()
 MOST_SECONDS = 30
 SCRIPT = (TESTS / "rows" / "written_read_back.script").read_bytes()
 REPORT = (TESTS / "rows" / "written_read_back.report").read_bytes()
@@ -250,7 +249,7 @@ def each_case(program):
 def main(words):
     words = asked_words(__doc__, words, (0, 1))
     failed = 0
-    for name, wrong in each_case(Path(words[0]).resolve() if words else PROGRAM):
+    for name, wrong in each_case(needed(*words)):
         failed += wrong is not None
         print(f"{name}: {wrong or 'as owed'}")
     return 1 if failed else 0

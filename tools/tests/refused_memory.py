@@ -24,7 +24,7 @@ sys.path[:0] = [str(TESTS.parent), str(TESTS)]
 import check_report
 import hostile_images
 from image_text import read_image, recovered
-from program import PROVED
+from program import PROVED, needed
 from report_text import Fault, read_report
 from script_text import read_script
 from told import asked_words
@@ -116,7 +116,7 @@ def known(program):
 
 def main(words):
     words = asked_words(__doc__, words, (0, 1))
-    program = Path(words[0]).resolve() if words else PROVED
+    program = needed(words[0] if words else PROVED)
     with tempfile.TemporaryDirectory() as folder:
         library = compiled(folder)
         if library is None:

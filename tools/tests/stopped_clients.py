@@ -24,6 +24,7 @@ TESTS = Path(__file__).resolve().parent
 sys.path[:0] = [str(TESTS), str(TESTS.parent)]
 
 import check_report
+from program import needed
 from random_lives import MOST_SECONDS, PROGRAM
 from report_text import Fault, read_report
 from script_text import read_script
@@ -172,7 +173,7 @@ def sum_of(all_met):
 
 
 def main(words):
-    one, both = run_tables(*asked_words(__doc__, words, (0, 1)))
+    one, both = run_tables(needed(*asked_words(__doc__, words, (0, 1))))
     print(f"one stopped: {one}\nboth stopped: {both}")
     for script, status, report in [*one.wrong, *both.wrong][:3]:
         print(f"status {status}\n{script.decode()}{report.decode()}")
