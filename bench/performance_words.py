@@ -69,8 +69,9 @@ def advice(figures):
     least = shares_at_all_sizes(figures)
     wins = [f"{share_words(share)} on {thread_words(count)}" for count, share in least.items() if share is not None]
     service = (
-        "**Take the service** where what was answered has to be there after a loss of power, or where a caller that is stopped must not shut "
-        "the others out at once: they read on, and update until no cell of theirs is free and they are told who keeps them. Behind a lock who "
+        "**Take the service** where what was answered has to be there after a loss of power (in the stated model of persistent memory, which is "
+        "held in words here: what ends with the process is gone, unless what is left was written to a file), or where a caller that is stopped "
+        "must not shut the others out at once: they read on, and update until no cell of theirs is free and they are told who keeps them. Behind a lock who "
         "is stopped shuts all out, and a loss of power in a change leaves it half made."
     )
     if wins:

@@ -13,8 +13,8 @@ use Rattle.replica.specs.Held.{IsHeld}
 use Rattle.replica.specs.Replays.{IsImage, IsReady, noted_place}
 
 -- a replica that is held still is
-pub held_protected : {O : Type 0} (lines : ℕ) (r : Running O) (lawful : List ℕ → Type 0) (before after : Seated) (held : Right) → IsSeatOf r after → but_protected after ≡ but_protected before → IsHeld lines r lawful step before held → IsHeld lines r lawful step after held
-held_protected lines r lawful before after held of same was =
+pub held_protected : {O : Type 0} (lines : ℕ) (r : Running O) (lawful : List ℕ → Type 0) (step : List ℕ → List ℕ → List ℕ × List ℕ) (before after : Seated) (held : Right) → IsSeatOf r after → but_protected after ≡ but_protected before → IsHeld lines r lawful step before held → IsHeld lines r lawful step after held
+held_protected lines r lawful step before after held of same was =
     let right = was.right in
     let there : IsExclusiveOf r.callers (but_protected before) held = record { few = right.few; caller = right.caller; holds = right.holds } in
     let here : IsExclusiveOf r.callers (but_protected after) held = subst (λ s. IsExclusiveOf r.callers s held) (sym same) there in
@@ -29,13 +29,13 @@ held_protected lines r lawful before after held of same was =
 -- one that is the image after its place still is
 pub image_protected : {O : Type 0} (lines : ℕ) (r : Running O) (lawful : List ℕ → Type 0) (step : List ℕ → List ℕ → List ℕ × List ℕ) (before after : Seated) → but_protected after ≡ but_protected before → IsImage lines lawful r.base step before.known → IsImage lines lawful r.base step after.known
 image_protected lines r lawful step before after same was =
-    let there : IsImage lines lawful r.base step (but_protected before).known = record { begun = was.begun; replayed = was.replayed; law = was.law } in
+    let there : IsImage lines lawful r.base step (but_protected before).known = record { begun = was.begun; replayed = was.replayed } in
     let here : IsImage lines lawful r.base step (but_protected after).known = subst (λ (s : Seated). IsImage lines lawful r.base step s.known) (sym same) there in
-    record { begun = here.begun; replayed = here.replayed; law = here.law }
+    record { begun = here.begun; replayed = here.replayed }
 
 pub ready_protected : {O : Type 0} (o : Ghosts O) (r : Running O) (before after : Seated) (held : Right) (at : ℕ) → IsSeatOf r after → but_protected after ≡ but_protected before → IsReady o r held at before → IsReady o r held at after
 ready_protected o r before after held at of same was = record {
-  is_held = held_protected (o.line_count r.object) r (o.lawful r.object) before after held of same was.is_held;
+  is_held = held_protected (o.line_count r.object) r (o.lawful r.object) (o.step r.object) before after held of same was.is_held;
   image = image_protected (o.line_count r.object) r (o.lawful r.object) (o.step r.object) before after same was.image;
   place = ap noted_place same ∙ was.place;
 }

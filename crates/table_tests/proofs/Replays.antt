@@ -13,12 +13,12 @@ use Rattle.cx_table.specs.Steps.{Steps}
 module _ (lines : ℕ) (lawful : List ℕ → Type 0) (base : Base) (step : List ℕ → List ℕ → List ℕ × List ℕ) (known : Known) where
   -- nothing was noted
   pub just_taken : known.accesses ≡ [] → IsReplayed lines lawful base step known
-  just_taken none first now fits = (place_of first, start (place_of first) now refl (subst (λ notes. NotesLead notes first now) none fits.leads))
+  just_taken none first now fits = (place_of first, start (place_of first) now refl (subst (λ notes. NotesLead notes first now) none fits.fits.leads))
 
   -- its place was loaded
   pub place_loaded : (word : ℕ) → known.accesses ≡ (false, 0, word) ∷ [] → IsReplayedToPlace lines lawful base step known
   place_loaded word one first now fits =
-      let leads = subst (λ notes. NotesLead notes first now) one fits.leads in
+      let leads = subst (λ notes. NotesLead notes first now) one fits.fits.leads in
       start (place_noted 0 known.accesses) now (ap (place_noted 0) one ∙ sym leads.0) leads.1
 
 -- the first load of a replica held exclusively, of its place

@@ -47,7 +47,7 @@ pub access_rights : (r : ℕ) (before after : Seated) → beside_held r after �
 access_rights r before after same = sym (held_rights r after) ∙ ap all_rights same ∙ held_rights r before
 
 pub took_it : {O : Type 0} (line_count : O → ℕ) (lawful : O → List ℕ → Type 0) (r : Running O) (step : O → List ℕ → List ℕ → List ℕ × List ℕ) (reads : O → List ℕ → Bool) (q : ℕ) (before after : Seated) (tried : ExclusiveTried) (held : Right) →
-    IsRunning line_count lawful r → all_rights before ≡ no_rights → TriesExclusive r step reads q before after tried → tried ≡ Got held → Fitting r.lines (lawful r.object) r.base after.known → TakesIt (line_count r.object) r (lawful r.object) after held
+    IsRunning line_count lawful r → all_rights before ≡ no_rights → TriesExclusive r step reads q before after tried → tried ≡ Got held → Fitting r.lines (lawful r.object) r.base (step r.object) after.known → TakesIt (line_count r.object) r (lawful r.object) (step r.object) after held
 took_it line_count lawful r step reads q before after tried held running free tries is fits =
     let a = subst (AnswersExclusive r.callers q tries.found before after) is tries.answer in
     record {

@@ -19,7 +19,7 @@ module _ {O : Type 0} (lines : ℕ) (r : Running O) (step : O → List ℕ → L
   taken_tried q found before after None sized s tried fits = tt
 
   pub shared_tried : (q found : ℕ) (after : Seated) (o : Result Right Right) → IsSized lines r → IsSeatOf r after → TriedShared r.callers q after found o → Fitting r.lines lawful r.base (step r.object) after.known → IfSome (result_ok o) (IsHeldShared lines r lawful after)
-  shared_tried q found after (Ok held) sized of tried fits = shared_held lines r lawful after held sized of tried.2 fits
+  shared_tried q found after (Ok held) sized of tried fits = shared_held lines r lawful step after held sized of tried.2 fits
   shared_tried q found after (Err mark) sized of tried fits = tt
 
 pub rest_words : (ws op : List ℕ) → length op ≡ 144 → ((i : ℕ) → slice_index ws i < 2 ^ 64) → op ≡ take 144 (drop 1 ws) → Words 144 op

@@ -10,7 +10,7 @@ use Rattle.replica.specs.Replays.{IsImage}
 use Rattle.strong_trylock.specs.Held.{all_rights, no_rights}
 
 -- it was just taken, and is the caller's only right
-pub record TakesIt {O : Type 0} (lines : ℕ) (r : Running O) (lawful : List ℕ → Type 0) (seat : Seated) (held : Right) : Type 0 where
+pub record TakesIt {O : Type 0} (lines : ℕ) (r : Running O) (lawful : List ℕ → Type 0) (step : List ℕ → List ℕ → List ℕ × List ℕ) (seat : Seated) (held : Right) : Type 0 where
   pub taken : IsTaken lines r lawful step seat held
   pub rights : all_rights seat ≡ record no_rights { exclusive = Some held.replica }
 

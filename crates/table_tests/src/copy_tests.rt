@@ -55,7 +55,7 @@ fn copy_beside<O: Object>(
     held: &Exclusive,
 ) -> Result<Option<Copied>, Halt>
     requires callers { shared.now.callers ≡ 2 }
-    requires taken { TakesIt (O.line_count shared.now.object) shared.now (O.lawful shared.now.object) seat.old held.now }
+    requires taken { TakesIt (O.line_count shared.now.object) shared.now (O.lawful shared.now.object) (O.step shared.now.object) seat.old held.now }
     requires target { held.now.replica ≡ 2 }
     ensures seat { IsSeatOf shared.now seat.new }
 {

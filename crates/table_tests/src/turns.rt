@@ -35,7 +35,7 @@ pub(crate) fn try_one<O: Object>(
     requires seat { IsSeatOf shared.now seat.old }
     requires free { all_rights seat.old ≡ no_rights }
     requires few { r < 2 * shared.now.callers }
-    ensures taken { IfOk result (λ o. IfSome o (λ held. TakesIt (O.line_count shared.now.object) shared.now (O.lawful shared.now.object) seat.new held)) }
+    ensures taken { IfOk result (λ o. IfSome o (λ held. TakesIt (O.line_count shared.now.object) shared.now (O.lawful shared.now.object) (O.step shared.now.object) seat.new held)) }
     ensures of { IfOk result (λ o. IfSome o (λ held. held.replica ≡ r)) }
     ensures refused { result ≡ Ok None → all_rights seat.new ≡ no_rights }
     ensures seat { IsSeatOf shared.now seat.new }

@@ -1,6 +1,6 @@
 use Rattle.std.proofs.Common.{true, subst, sym}
 use Rattle.cx_core.specs.Region.{region_words}
-use Rattle.cx_rule.specs.Fitting.{Fits}
+use Rattle.cx_rule.specs.Fitting.{FitsKnown}
 use Rattle.cx_rule.specs.Running.{Running}
 use Rattle.cx_rule.specs.Seats.{Seated}
 use Rattle.replica.specs.Stepping.{IsSteppable}

@@ -1,0 +1,85 @@
+-- What the operations mean, and which images there are.
+use Rattle.std.specs.Prelude.{◌≡◌, ◌+◌, ◌-◌, ◌*◌, ◌^◌, ◌<◌, ◌≤◌, ◌&&◌, nat_le, nat_lt, ℕ, Bool, true, false, List, ◌∷◌, drop, replicate, slice_index, slice_set, sum, take, if◌then◌else◌}
+use Rattle.cx_base.specs.Memory.{Words}
+use Rattle.bank.specs.Operations.{op_in, reply_words}
+use Rattle.bank.specs.declared.operations.Op.{Op}
+use Rattle.bank.specs.declared.operations.Op.TheVariants.{Transfer, Balance, Audit, Other}
+use Rattle.bank.specs.declared.operations.Reply.{Reply}
+use Rattle.bank.specs.declared.operations.Reply.TheVariants.{Moved, Overdraft, Value, Missing, NoOperation}
+
+-- so many accounts fit so many lines, and what they have together a word
+pub record Fits (lines count total : ℕ) : Type 0 where
+  pub some : 1 ≤ count
+  pub few : count < 8 * lines
+  pub small : total + 1 < 2 ^ 64
+
+-- what the accounts have: so many words behind the version
+abbrev pub accounts_in : ℕ → List ℕ → List ℕ
+accounts_in count image = take count (drop 1 image)
+
+-- an image in so many lines: the version, so many accounts, whose sum is the total, and any words behind them
+pub record IsBank (lines count total : ℕ) (image : List ℕ) : Type 0 where
+  pub words : Words (8 * lines) image
+  pub version : slice_index image 0 ≡ 1
+  pub sum_is : sum (accounts_in count image) ≡ total
+
+-- what an account has, and an image in which it has another amount
+abbrev pub amount_of : List ℕ → ℕ → ℕ
+amount_of image account = slice_index image (account + 1)
+
+abbrev pub with_amount : List ℕ → ℕ → ℕ → List ℕ
+with_amount image account amount = slice_set image (account + 1) amount
+
+-- no account has anything, and the opening image: account 0 has all
+abbrev pub blank : ℕ → List ℕ
+blank lines = 1 ∷ replicate (8 * lines - 1) 0
+
+abbrev pub bank_opening : ℕ → ℕ → List ℕ
+bank_opening lines total = with_amount (blank lines) 0 total
+
+-- an amount taken from an account, and then given to another, which may be the same
+abbrev pub taken : List ℕ → ℕ → ℕ → List ℕ
+taken image from amount = with_amount image from (amount_of image from - amount)
+
+abbrev pub given : List ℕ → ℕ → ℕ → List ℕ
+given image to amount = with_amount image to (amount_of image to + amount)
+
+-- whether there are both accounts, and whether the first one covers the amount
+abbrev pub are_accounts : ℕ → ℕ → ℕ → Bool
+are_accounts count from to = nat_lt from count && nat_lt to count
+
+abbrev pub covers : List ℕ → ℕ → ℕ → Bool
+covers image from amount = nat_le amount (amount_of image from)
+
+-- the reply to an operation, and the image after it
+abbrev pub reply_to : ℕ → List ℕ → Op → Reply
+reply_to count image (Transfer from to amount) =
+    if are_accounts count from to
+    then (if covers image from amount then Moved else Overdraft (amount_of image from))
+    else Missing
+reply_to count image (Balance account) = if nat_lt account count then Value (amount_of image account) else Missing
+reply_to count image Audit = Value (sum (accounts_in count image))
+reply_to count image Other = NoOperation
+
+abbrev pub image_after : ℕ → List ℕ → Op → List ℕ
+image_after count image (Transfer from to amount) =
+    if are_accounts count from to && covers image from amount then given (taken image from amount) to amount else image
+image_after count image _ = image
+
+-- one step: the image after an operation's words, and the reply's words
+abbrev pub bank_step : ℕ → List ℕ → List ℕ → List ℕ × List ℕ
+bank_step count image op = (image_after count image (op_in op), reply_words (reply_to count image (op_in op)))
+
+-- an operation was done on an image: this is its reply, and this the image after it
+pub record Does (count : ℕ) (op : Op) (reply : Reply) (before now : List ℕ) : Type 0 where
+  pub told : reply ≡ reply_to count before op
+  pub after : now ≡ image_after count before op
+
+-- whether an operation, or what words ask for, only reads
+abbrev pub is_reading : Op → Bool
+is_reading (Balance account) = true
+is_reading Audit = true
+is_reading _ = false
+
+abbrev pub bank_reads : List ℕ → Bool
+bank_reads op = is_reading (op_in op)

@@ -1,0 +1,3 @@
+mod HandedBack
+mod KeptLemmas
+mod OpenLemmas

@@ -1,0 +1,36 @@
+-- What an operation comes to that is asked for until it is answered.
+use Rattle.std.specs.Prelude.{◌≡◌, ◌⊎◌, ℕ, List, length}
+use Rattle.cx_rule.specs.Running.{Running}
+use Rattle.cx_rule.specs.Seats.{Seated}
+use Rattle.cx_service.specs.Callers.{IsCallerOf, IsStoppedOf, StoppedSeat}
+use Rattle.cx_service.specs.Updates.{KeepsLists, LinksEntry}
+use Rattle.cx_turns.specs.Answering.{with_answer, with_read}
+use Rattle.service_parts.specs.Callers.{IsBack}
+use Rattle.service_parts.specs.declared.asking.Asked.{Asked}
+use Rattle.service_parts.specs.declared.asking.Asked.TheVariants.{Told, Worn, Stopped}
+
+-- the operation is done, and nothing else: the caller has one entry more, and one answer more, which is told
+pub record IsAnswered {O : Type 0} (r : Running O) (op : List ℕ) (ticket : ℕ) (reply : List ℕ) (before after : Seated) : Type 0 where
+  pub links : LinksEntry r op ticket before after
+  pub answered : after.known.local.answered ≡ with_answer ticket reply before.known.local.answered
+
+-- nothing is done
+pub record IsLeftAlone {O : Type 0} (r : Running O) (before after : Seated) : Type 0 where
+  pub caller : IsCallerOf r after
+  pub keeps : KeepsLists before after
+
+-- the caller is stopped at its limit of steps
+pub record IsStoppedIn {O : Type 0} (r : Running O) (before : Seated) (after : StoppedSeat) : Type 0 where
+  pub caller : IsStoppedOf r after.seat
+  pub number : after.seat.known.local.number ≡ before.known.local.number
+
+-- a reading is answered beside the queue: the caller has one read more, of this operation
+pub record IsReadBeside (op reply : List ℕ) (before after : Seated) : Type 0 where
+  pub place : ℕ
+  pub reads : after.known.local.seen_reads ≡ with_read place op reply (length before.known.local.answered) before.known.local.seen_reads
+
+-- what an operation comes to; one that is told is answered beside the queue, or as an entry of it
+abbrev pub IsAsked : {O : Type 0} → Running O → List ℕ → Seated → Asked → Type 0
+IsAsked r op before (Told after reply) = IsBack r before after × (IsReadBeside op reply before after ⊎ ((ticket : ℕ) × IsAnswered r op ticket reply before after))
+IsAsked r op before (Worn after) = IsLeftAlone r before after
+IsAsked r op before (Stopped after) = IsStoppedIn r before after

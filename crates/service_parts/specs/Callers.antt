@@ -1,0 +1,35 @@
+-- Callers that are lent to workers and handed back.
+use Rattle.std.specs.Prelude.{◌≡◌, List, All}
+use Rattle.cx_rule.specs.Running.{IsSeatOf, Running}
+use Rattle.cx_rule.specs.Seats.{Seated}
+use Rattle.cx_service.specs.Callers.{IsCallerOf}
+use Rattle.cx_service.specs.Closes.{seat_of}
+use Rattle.cx_service.specs.declared.close.Handed.{Handed}
+use Rattle.cx_service.specs.declared.close.Handed.TheVariants.{Idle, Linked, Stopped}
+use Rattle.cx_table.specs.Remains.{AreSeats}
+
+-- the same caller of a service, in no call
+pub record IsBack {O : Type 0} (r : Running O) (before after : Seated) : Type 0 where
+  pub caller : IsCallerOf r after
+  pub number : after.known.local.number ≡ before.known.local.number
+
+-- the same caller of a service, in whatever state it is
+pub record IsSame {O : Type 0} (r : Running O) (before after : Seated) : Type 0 where
+  pub of : IsSeatOf r after
+  pub number : after.known.local.number ≡ before.known.local.number
+
+-- what stands of a caller that is handed back: in no call, or stopped
+abbrev pub IsHanded : {O : Type 0} → Running O → Handed → Type 0
+IsHanded r (Idle after) = IsCallerOf r after
+IsHanded r (Linked after) = IsSeatOf r after
+IsHanded r (Stopped after) = IsSeatOf r after.seat
+
+-- so the same caller is handed back
+pub record IsHandedBy {O : Type 0} (r : Running O) (before : Seated) (handed : Handed) : Type 0 where
+  pub same : IsSame r before (seat_of handed)
+  pub stands : IsHanded r handed
+
+-- all the callers of a service, of caller 0 first, none in a call
+pub record AreCallers {O : Type 0} (r : Running O) (seats : List Seated) : Type 0 where
+  pub each : All (IsCallerOf r) seats
+  pub all : AreSeats r seats

@@ -1,0 +1,3 @@
+pub mod Asking
+pub mod Callers
+pub mod Lives

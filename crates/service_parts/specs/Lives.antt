@@ -1,0 +1,41 @@
+-- A service that opened from a lawful base, and what it left when it was closed.
+use Rattle.std.specs.Prelude.{◌≡◌, ◌≤◌, ℕ, List}
+use Rattle.cx_core.specs.declared.entry.Base.{Base}
+use Rattle.cx_core.specs.Base.{LawfulBase}
+use Rattle.cx_rule.specs.Running.{Running, instance_at}
+use Rattle.cx_rule.specs.Seats.{Seated}
+use Rattle.cx_table.specs.declared.remains.Remains.{Remains}
+use Rattle.cx_table.specs.Remains.{Leaves}
+use Rattle.recovery.specs.Kept.{IsKeptBy, IsOpened}
+use Rattle.cx_base.specs.declared.object.Object.{Ghosts}
+
+-- what a service may start with: an object of 64 to 16,384 lines, and a base that is lawful for it
+pub record MayServe {O : Type 0} (o : Ghosts O) (object : O) (base : Base) : Type 0 where
+  pub enough : 64 ≤ o.line_count object
+  pub small : o.line_count object ≤ 16384
+  pub lawful : LawfulBase (o.line_count object) (o.lawful object) base
+
+-- a service is of this object, of so many callers, and opened from this base, which is lawful
+pub record IsOpen {O : Type 0} (o : Ghosts O) (object : O) (callers : ℕ) (base : Base) (table : Running O) : Type 0 where
+  pub object_is : table.object ≡ object
+  pub callers_are : table.callers ≡ callers
+  pub base_is : table.base ≡ base
+  pub opened : IsOpened o.line_count o.lawful table
+
+-- what a service of this object left when it was closed, which opened from a lawful base
+pub record IsLeftBy {O : Type 0} (o : Ghosts O) (object : O) (r : Remains) : Type 0 where
+  pub table : Running O
+  pub seats : List Seated
+  pub object_is : table.object ≡ object
+  pub opened : IsOpened o.line_count o.lawful table
+  pub leaves : Leaves table (instance_at table o.step o.only_reads) seats r
+
+-- it was of so many callers, and opened from this base
+pub record IsServed {O : Type 0} (o : Ghosts O) (object : O) (callers : ℕ) (base : Base) (r : Remains) : Type 0 where
+  pub left : IsLeftBy o object r
+  pub callers_are : left.table.callers ≡ callers
+  pub base_is : left.table.base ≡ base
+
+-- What is recovered by choice of what such a service left: the object after a front of its history, which has all that was answered.
+abbrev pub IsKeptOf : {O : Type 0} {o : Ghosts O} {object : O} {r : Remains} → IsLeftBy o object r → ℕ → Base → Type 0
+IsKeptOf {o = o} {r = r} left choice base = IsKeptBy o.line_count o.lawful o.step left.table left.seats r choice base

@@ -1,0 +1,99 @@
+//! A worker for each caller, each on a thread of its own.
+
+ghost use Rattle.std.specs.Prelude.{◌≡◌, ◌<◌, ℕ, IfOk, length, map, slice_index_or, vec_len};
+ghost use Rattle.cx_service.specs.Callers.{IsCallerOf};
+ghost use Rattle.cx_service.specs.Closes.{seats_of};
+ghost use Rattle.cx_table.specs.Remains.{AreSeats};
+ghost use Rattle.service_parts.specs.Callers.{AreCallers, IsHandedBy};
+
+use cx_base::Object;
+use cx_service::{Caller, Handed, Service};
+use std::alloc::{AllocError, Global};
+use std::sync::Wait;
+use std::thread::{Threads, map_vec};
+
+/// What a worker comes to: the caller that it was lent, in whatever state it is, and what it has to tell.
+#[derive(Drop)]
+pub struct Worked<T> {
+    pub caller: Handed,
+    pub told: T,
+}
+
+/// What the callers of a service do.
+pub trait Worker<O: Object> {
+    /// What each has to tell.
+    type Told: Send + Drop;
+
+    /// Does it for one caller, and hands that caller back. Each caller's runs on a thread of its own.
+    fn work<R: Wait>(&self, rt: &R, service: &Service<O>, caller: Caller) -> Worked<Self::Told>
+        requires { IsCallerOf service.now caller }
+        ensures { IsHandedBy service.now caller result.caller };
+}
+
+/// Gives each caller to the worker, all at once, and joins them: the callers, and what was told, in order. Where a thread cannot be started
+/// the calling thread does its work. `Err` is want of memory, and drops the callers.
+pub fn work_together<O: Object + Send + Sync, R: Threads + Wait + Sync, W: Worker<O> + Sync>(
+    rt: &R,
+    alloc: Global,
+    service: &Service<O>,
+    callers: Vec<Caller>,
+    worker: &W,
+) -> Result<(Vec<Handed>, Vec<W::Told>), AllocError>
+    requires { AreCallers service.now callers.items }
+    ensures handed { IfOk result (λ r. AreSeats service.now (seats_of r.0.items)) }
+    ensures told { IfOk result (λ r. length r.1.items ≡ length callers.items) }
+{
+    let all = all_work(rt, service, callers, worker)?;
+    parted(alloc, all)
+}
+
+/// What the workers come to.
+fn all_work<O: Object + Send + Sync, R: Threads + Wait + Sync, W: Worker<O> + Sync>(
+    rt: &R,
+    service: &Service<O>,
+    callers: Vec<Caller>,
+    worker: &W,
+) -> Result<Vec<Worked<W::Told>>, AllocError>
+    requires { AreCallers service.now callers.items }
+    ensures handed { IfOk result (λ v. AreSeats service.now (seats_of (map (λ w. w.caller) v.items))) }
+    ensures count { IfOk result (λ v. length v.items ≡ length callers.items) }
+{
+    let all = each_works(rt, service, callers, worker)?;
+    Ok(all)
+}
+
+/// What each comes to.
+fn each_works<O: Object + Send + Sync, R: Threads + Wait + Sync, W: Worker<O> + Sync>(
+    rt: &R,
+    service: &Service<O>,
+    callers: Vec<Caller>,
+    worker: &W,
+) -> Result<Vec<Worked<W::Told>>, AllocError>
+    requires { AreCallers service.now callers.items }
+    ensures long { IfOk result (λ v. vec_len v ≡ vec_len callers) }
+    ensures each { IfOk result (λ v. (i : ℕ) (d : _) (e : _) → i < vec_len callers → IsHandedBy service.now (slice_index_or callers.items i d) (slice_index_or v.items i e).caller) }
+{
+    map_vec(
+        rt,
+        callers,
+        &|caller: Caller| -> Worked<W::Told>
+            requires { IsCallerOf service.now caller }
+            ensures { IsHandedBy service.entry.now caller result.caller }
+        { worker.work(rt, service, caller) },
+    )
+}
+
+/// The callers and what was told, taken apart.
+fn parted<T: Drop>(alloc: Global, all: Vec<Worked<T>>) -> Result<(Vec<Handed>, Vec<T>), AllocError>
+    ensures callers { IfOk result (λ r. r.0.items ≡ map (λ w. w.caller) all.items) }
+    ensures told { IfOk result (λ r. length r.1.items ≡ length all.items) }
+{
+    let mut callers = Vec::new(alloc);
+    let mut tellings = Vec::new(alloc);
+    for worked in all {
+        let Worked { caller, told } = worked;
+        callers.push(caller)?;
+        tellings.push(told)?;
+    }
+    Ok((callers, tellings))
+}

@@ -1,0 +1,193 @@
+//! Callers of a bank, and their lives.
+
+ghost use Rattle.cx_service.specs.Callers.{IsCallerOf};
+ghost use Rattle.service_parts.specs.Callers.{IsHandedBy};
+
+use bank::{Bank, Op, Reply};
+use cx_core::Base;
+use cx_service::{Caller, Handed, Service};
+use service_parts::{Asked, Worked, Worker, ask, recovered, serve};
+use std::alloc::{AllocError, Global};
+use std::sync::Wait;
+use std::thread::Threads;
+
+/// The accounts, and what they have together. Each caller sees to 16 of them.
+const ACCOUNTS: u64 = 64;
+
+const EACH: u64 = 16;
+
+const ALL: u64 = 64_000;
+
+/// What answers came to: transfers, refused overdrafts, and audits that found what all have together.
+#[derive(Clone, Copy, Debug)]
+pub struct Counts {
+    pub moved: u64,
+    pub refused: u64,
+    pub right: u64,
+}
+
+/// What the last caller found.
+#[derive(Clone, Copy, Debug)]
+pub struct Found {
+    pub first: u64,
+    pub all: u64,
+}
+
+const NOT_FOUND: Found = Found { first: 0, all: 0 };
+
+const NOTHING: Counts = Counts {
+    moved: 0,
+    refused: 0,
+    right: 0,
+};
+
+impl Counts {
+    /// With one answer more.
+    fn with(self, reply: Reply) -> Counts {
+        match reply {
+            Reply::Moved => Counts {
+                moved: self.moved.wrapping_add(1),
+                ..self
+            },
+            Reply::Overdraft(_) => Counts {
+                refused: self.refused.wrapping_add(1),
+                ..self
+            },
+            Reply::Value(ALL) => Counts {
+                right: self.right.wrapping_add(1),
+                ..self
+            },
+            _ => self,
+        }
+    }
+
+    /// Those of all callers.
+    fn of_all(each: &[Counts]) -> Counts {
+        let mut all = NOTHING;
+        for one in each {
+            all.moved = all.moved.wrapping_add(one.moved);
+            all.refused = all.refused.wrapping_add(one.refused);
+            all.right = all.right.wrapping_add(one.right);
+        }
+        all
+    }
+}
+
+/// Four callers work, the power is lost, they go on, it is lost again, and one caller looks: what the four did in each life, and what the
+/// last one found.
+pub fn two_losses<R: Wait + Threads + Sync>(
+    rt: &R,
+    alloc: Global,
+) -> Result<(Counts, Counts, Found), AllocError> {
+    let bank = Bank::of(64, ACCOUNTS, ALL);
+    let base = Base::fresh(alloc, &bank)?;
+    let (first, remains) = serve(rt, alloc, bank, 4, &base, &Mover { from: 0 })?;
+    let base = recovered(alloc, &bank, &remains, 0)?;
+    let (second, remains) = serve(rt, alloc, bank, 4, &base, &Mover { from: EACH })?;
+    let base = recovered(alloc, &bank, &remains, 0)?;
+    let (found, _remains) = serve(rt, alloc, bank, 1, &base, &Looker)?;
+    let found = found.first().copied().unwrap_or(NOT_FOUND);
+    Ok((Counts::of_all(&first), Counts::of_all(&second), found))
+}
+
+/// A caller's operations: first it pays out 1,000 to each of its accounts, of what account 0 began with. Then five times it moves 5 from each
+/// to account 0, tries an overdraft, and adds up all.
+fn operation(number: u32, step: u64) -> Op {
+    let own = EACH * number as u64;
+    if step < EACH {
+        return Op::Transfer {
+            from: 0,
+            to: own + step,
+            amount: 1_000,
+        };
+    }
+    match (step - EACH) % 18 {
+        16 => Op::Transfer {
+            from: own + 15,
+            to: 0,
+            amount: 1_001,
+        },
+        17 => Op::Audit,
+        account => Op::Transfer {
+            from: own + account,
+            to: 0,
+            amount: 5,
+        },
+    }
+}
+
+/// Callers that do their operations from one on, and tell what the answers came to.
+struct Mover {
+    from: u64,
+}
+
+impl Worker<Bank> for Mover {
+    type Told = Counts;
+
+    fn work<R: Wait>(&self, rt: &R, service: &Service<Bank>, caller: Caller) -> Worked<Counts> {
+        let number = caller.number();
+        let mut caller = caller;
+        let mut told = NOTHING;
+        for step in self.from..EACH + 90 {
+            match ask(rt, service, caller, &operation(number, step).words()) {
+                Asked::Told(back, reply) => {
+                    told = told.with(Reply::of(&reply));
+                    caller = back;
+                }
+                Asked::Worn(back) => caller = back,
+                Asked::Stopped(stopped) => {
+                    let caller = Handed::Stopped(stopped);
+                    return Worked { caller, told };
+                }
+            }
+        }
+        let caller = Handed::Idle(caller);
+        Worked { caller, told }
+    }
+}
+
+/// A caller that tells what account 0 has, and what all have.
+struct Looker;
+
+impl Worker<Bank> for Looker {
+    type Told = Found;
+
+    fn work<R: Wait>(&self, rt: &R, service: &Service<Bank>, caller: Caller) -> Worked<Found> {
+        let Worked {
+            caller,
+            told: first,
+        } = value(rt, service, caller, Op::Balance { account: 0 });
+        let Handed::Idle(caller) = caller else {
+            let told = Found { first, all: 0 };
+            return Worked { caller, told };
+        };
+        let Worked { caller, told: all } = value(rt, service, caller, Op::Audit);
+        let told = Found { first, all };
+        Worked { caller, told }
+    }
+}
+
+/// A caller asks for one operation: the value that it is answered, 0 where it is none.
+fn value<R: Wait>(rt: &R, service: &Service<Bank>, caller: Caller, op: Op) -> Worked<u64>
+    requires { IsCallerOf service.now caller }
+    ensures { IsHandedBy service.now caller result.caller }
+{
+    match ask(rt, service, caller, &op.words()) {
+        Asked::Told(back, reply) => {
+            let caller = Handed::Idle(back);
+            let told = match Reply::of(&reply) {
+                Reply::Value(has) => has,
+                _ => 0,
+            };
+            Worked { caller, told }
+        }
+        Asked::Worn(back) => {
+            let caller = Handed::Idle(back);
+            Worked { caller, told: 0 }
+        }
+        Asked::Stopped(stopped) => {
+            let caller = Handed::Stopped(stopped);
+            Worked { caller, told: 0 }
+        }
+    }
+}

@@ -1,0 +1,29 @@
+//! 64 accounts that four threads share: money is paid out and moved, overdrafts are refused, and whoever adds up all accounts in between
+//! finds the same sum. The power is lost twice, and in a last life one caller looks at what is there.
+#![tactic(auto)]
+
+mod banking;
+
+use crate::banking::two_losses;
+use std::io;
+
+fn main(rt: HostRuntime) -> io::Result<()> {
+    match two_losses(&rt, rt.alloc()) {
+        Ok((first, second, last)) => {
+            println!(rt;
+                "four callers: {} transfers, {} overdrafts refused, {} audits found 64000",
+                first.moved, first.refused, first.right
+            )?;
+            println!(rt;
+                "after a loss of power: {} transfers, {} overdrafts refused, {} audits found 64000",
+                second.moved, second.refused, second.right
+            )?;
+            println!(rt;
+                "after another: account 0 has {}, all have {}",
+                last.first, last.all
+            )?;
+        }
+        Err(_) => println!(rt; "no memory")?,
+    }
+    Ok(())
+}
